@@ -1,0 +1,46 @@
+//! Why a text is refused.
+ghost use Rattle.std.specs.Prelude.{◌≡◌};
+
+use std::alloc::{AllocError, AllocFailed};
+use thiserror::Error;
+
+/// The growth of a list or a text was refused.
+#[derive(Clone, Copy, Debug, Drop, Error, PartialEq, Eq)]
+#[error("out of memory")]
+pub struct NoMemory;
+
+impl From<AllocError> for NoMemory {
+    fn from(_: AllocError) -> NoMemory {
+        NoMemory
+    }
+}
+
+impl<T: Drop> From<AllocFailed<T>> for NoMemory {
+    fn from(_: AllocFailed<T>) -> NoMemory {
+        NoMemory
+    }
+}
+
+/// Why a text has no file. Lines are counted from 1.
+#[derive(Clone, Copy, Debug, Drop, Error, PartialEq, Eq)]
+pub enum ReadFault {
+    /// The text is longer than 16,777,216 bytes.
+    #[error("input longer than 16777216 bytes")]
+    InputTooLong,
+    /// This line has no reading.
+    #[error("line {0}: not understood")]
+    BadLine(u32),
+    /// The growth of a list was refused.
+    #[error("out of memory")]
+    NoMemory,
+}
+
+impl From<NoMemory> for ReadFault {
+    ghost use Rattle.iloc_text.specs.declared.fault.ReadFault.TheVariants.{NoMemory as no_memory};
+
+    ghost from_gives = { λ _ fault. fault ≡ no_memory };
+
+    fn from(_: NoMemory) -> ReadFault {
+        ReadFault::NoMemory
+    }
+}

@@ -1,0 +1,110 @@
+//! Basic blocks, and the file that holds them.
+ghost use Rattle.std.specs.Prelude.{◌≡◌, ℕ, List, string_bytes};
+ghost use Rattle.iloc_text.specs.declared.op.Op.{Op};
+
+use std::marker::Model;
+
+use crate::op::Op;
+
+/// The name of a block: the bytes of its label without the colon.
+#[derive(Debug, Drop)]
+pub struct Name {
+    text: String,
+}
+
+impl Model for Name {
+    ghost Value = { List ℕ };
+
+    ghost view = { λ name. string_bytes name.text };
+}
+
+impl Name {
+    /// The name with this text.
+    pub fn new(text: String) -> Name
+        ensures { result ≡ string_bytes text }
+    {
+        Name { text }
+    }
+
+    /// The text of the name.
+    pub fn as_str(&self) -> &str
+        ensures { result.now ≡ self.now }
+    {
+        self.text.as_str()
+    }
+}
+
+/// The operations of a block, in order.
+#[derive(Debug, Drop)]
+pub struct Ops {
+    items: Vec<Op>,
+}
+
+impl Model for Ops {
+    ghost Value = { List Op };
+
+    ghost view = { λ ops. ops.items.items };
+}
+
+impl Ops {
+    /// These operations.
+    pub fn new(items: Vec<Op>) -> Ops
+        ensures { result ≡ items.items }
+    {
+        Ops { items }
+    }
+
+    /// The operations, lent.
+    pub fn as_slice(&self) -> &[Op]
+        ensures { result.now ≡ self.now }
+    {
+        self.items.as_slice()
+    }
+}
+
+/// A basic block: a straight run of operations under a label, or under none.
+#[derive(Debug, Drop)]
+pub struct Block {
+    /// What its label says; the block before the first label has none.
+    pub name: Option<Name>,
+    /// Its operations.
+    pub ops: Ops,
+}
+
+/// The blocks of a file, in order.
+#[derive(Debug, Drop)]
+pub struct Blocks {
+    items: Vec<Block>,
+}
+
+impl Model for Blocks {
+    ghost use Rattle.std.specs.Prelude.{List};
+    ghost use Rattle.iloc_text.specs.declared.file.Block.{Block};
+
+    ghost Value = { List Block };
+
+    ghost view = { λ blocks. blocks.items.items };
+}
+
+impl Blocks {
+    /// These blocks.
+    pub fn new(items: Vec<Block>) -> Blocks
+        ensures { result ≡ items.items }
+    {
+        Blocks { items }
+    }
+
+    /// The blocks, lent.
+    pub fn as_slice(&self) -> &[Block]
+        ensures { result.now ≡ self.now }
+    {
+        self.items.as_slice()
+    }
+}
+
+/// A file of basic blocks.
+#[derive(Debug, Drop)]
+pub struct IlocFile {
+    /// The blocks, in the order of their lines.
+    pub blocks: Blocks,
+}

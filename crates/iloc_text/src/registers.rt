@@ -1,0 +1,36 @@
+//! The registers that an operation uses and the one that it defines.
+ghost use Rattle.std.specs.Prelude.{◌≡◌};
+ghost use Rattle.iloc_text.specs.Registers.{used, defined};
+
+use arrayvec::ArrayVec;
+
+use crate::op::{Op, Reg};
+
+/// The registers whose values `op` uses, left to right as written; one that is written twice comes twice.
+pub fn uses(op: &Op) -> ArrayVec<Reg, 2>
+    ensures { result.items ≡ used op.now }
+{
+    let mut registers = ArrayVec::new();
+    match *op {
+        Op::LoadI { .. } | Op::Output { .. } => {}
+        Op::Store { value, addr } => {
+            registers.push(value);
+            registers.push(addr);
+        }
+        Op::Add { left, right, .. } => {
+            registers.push(left);
+            registers.push(right);
+        }
+    }
+    registers
+}
+
+/// The register that `op` defines, if it defines one.
+pub fn defines(op: &Op) -> Option<Reg>
+    ensures { result ≡ defined op.now }
+{
+    match *op {
+        Op::LoadI { dest, .. } | Op::Add { dest, .. } => Some(dest),
+        Op::Store { .. } | Op::Output { .. } => None,
+    }
+}
