@@ -5,3 +5,4 @@ pub mod fault;
 pub mod file;
 pub mod op;
 pub mod registers;
+pub mod spelling;
