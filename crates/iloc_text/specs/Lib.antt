@@ -1,2 +1,5 @@
 pub mod Registers
 pub mod Spelling
+pub mod Grammar
+pub mod Opcodes
+pub mod Scan

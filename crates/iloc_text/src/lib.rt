@@ -3,6 +3,10 @@
 
 pub mod fault;
 pub mod file;
+mod line;
 pub mod op;
+mod opcode;
+mod operation;
 pub mod registers;
+mod scan;
 pub mod spelling;

@@ -1,0 +1,87 @@
+//! The operation of a line, scanned with numbers that count as `ABOVE_LIMIT` where they are above the limit.
+ghost use Rattle.std.specs.Prelude.{◌≡◌, option_map};
+ghost use Rattle.iloc_text.specs.Scan.{number_to_register_at, register_to_register_at, registers_to_register_at, operands_at, operation_at, optional_operation_at};
+
+use crate::op::{Op, Reg};
+use crate::opcode::{Opcode, opcode_of};
+use crate::scan::{arrow_at, comma_at, is_word_byte, number_at, register_at, some_blanks_at, word_at};
+
+/// `number => register`.
+#[tactic(auto, unfolding(crate::specs::Scan::number_to_register_at))]
+fn number_to_register_at(bytes: &[u8]) -> Option<(u32, Reg, &[u8])>
+    ensures { option_map (λ found. (found.0, found.1, found.2.now)) result ≡ number_to_register_at bytes.now }
+{
+    let (value, rest) = number_at(bytes)?;
+    let (dest, rest) = register_at(arrow_at(rest)?)?;
+    Some((value, dest, rest))
+}
+
+/// `register => register`.
+#[tactic(auto, unfolding(crate::specs::Scan::register_to_register_at))]
+fn register_to_register_at(bytes: &[u8]) -> Option<(Reg, Reg, &[u8])>
+    ensures { option_map (λ found. (found.0, found.1, found.2.now)) result ≡ register_to_register_at bytes.now }
+{
+    let (source, rest) = register_at(bytes)?;
+    let (target, rest) = register_at(arrow_at(rest)?)?;
+    Some((source, target, rest))
+}
+
+/// `register, register => register`.
+#[tactic(auto, unfolding(crate::specs::Scan::registers_to_register_at))]
+fn registers_to_register_at(bytes: &[u8]) -> Option<(Reg, Reg, Reg, &[u8])>
+    ensures { option_map (λ found. (found.0, found.1, found.2, found.3.now)) result
+        ≡ registers_to_register_at bytes.now }
+{
+    let (left, rest) = register_at(bytes)?;
+    let (right, dest, rest) = register_to_register_at(comma_at(rest)?)?;
+    Some((left, right, dest, rest))
+}
+
+/// What stands behind the blanks behind an opcode.
+#[tactic(auto, unfolding(crate::specs::Scan::operands_at))]
+fn operands_at(opcode: Opcode, bytes: &[u8]) -> Option<(Op, &[u8])>
+    ensures { option_map (λ found. (found.0, found.1.now)) result ≡ operands_at opcode bytes.now }
+{
+    match opcode {
+        Opcode::LoadI => {
+            let (value, dest, rest) = number_to_register_at(bytes)?;
+            Some((Op::LoadI { value, dest }, rest))
+        }
+        Opcode::Store => {
+            let (value, addr, rest) = register_to_register_at(bytes)?;
+            Some((Op::Store { value, addr }, rest))
+        }
+        Opcode::Add => {
+            let (left, right, dest, rest) = registers_to_register_at(bytes)?;
+            Some((Op::Add { left, right, dest }, rest))
+        }
+        Opcode::Output => {
+            let (addr, rest) = number_at(bytes)?;
+            Some((Op::Output { addr }, rest))
+        }
+    }
+}
+
+/// An opcode, blanks, and what belongs behind them.
+#[tactic(auto, unfolding(crate::specs::Scan::operation_at))]
+fn operation_at(bytes: &[u8]) -> Option<(Op, &[u8])>
+    ensures { option_map (λ found. (found.0, found.1.now)) result ≡ operation_at bytes.now }
+{
+    let (word, rest) = word_at(bytes);
+    let opcode = opcode_of(word)?;
+    operands_at(opcode, some_blanks_at(rest)?)
+}
+
+/// An operation, or none where no word stands.
+#[tactic(auto, unfolding(crate::specs::Scan::optional_operation_at))]
+pub fn optional_operation_at(bytes: &[u8]) -> Option<(Option<Op>, &[u8])>
+    ensures { option_map (λ found. (found.0, found.1.now)) result ≡ optional_operation_at bytes.now }
+{
+    match bytes {
+        [first, ..] if is_word_byte(*first) => {
+            let (op, rest) = operation_at(bytes)?;
+            Some((Some(op), rest))
+        }
+        _ => Some((None, bytes)),
+    }
+}

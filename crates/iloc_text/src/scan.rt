@@ -1,0 +1,130 @@
+//! The tokens of a line. Each function reads one at the front of the bytes and gives what stands behind it.
+ghost use Rattle.std.specs.Prelude.{◌≡◌, ◌≤◌, ◌<◌, ◌-◌, ◌+◌, ◌*◌, option_map, length};
+ghost use Rattle.iloc_text.specs.Grammar.{is_blank};
+ghost use Rattle.iloc_text.specs.Scan.{after_blanks, some_blanks_at, capped, number_at, register_at, arrow_at, comma_at, after_word, word_of, is_word_byte};
+
+use crate::op::Reg;
+
+/// The least number above the limit of 2147483647. While a line is scanned it stands for every such number.
+pub const ABOVE_LIMIT: u32 = 2_147_483_648;
+
+fn is_blank(byte: u8) -> bool
+    ensures { result ≡ is_blank byte }
+{
+    byte == b' ' || byte == b'\t' || byte == b'\r'
+}
+
+/// The bytes behind the blanks at the front.
+pub fn after_blanks(bytes: &[u8]) -> &[u8]
+    ensures { result.now ≡ after_blanks bytes.now }
+{
+    let mut rest = bytes;
+    while let [first, after @ ..] = rest
+        && is_blank(*first)
+    {
+        rest = after;
+    }
+    rest
+}
+
+/// The bytes behind one blank or more.
+pub fn some_blanks_at(bytes: &[u8]) -> Option<&[u8]>
+    ensures { option_map (λ rest. rest.now) result ≡ some_blanks_at bytes.now }
+{
+    match bytes {
+        [first, after @ ..] if is_blank(*first) => Some(after_blanks(after)),
+        _ => None,
+    }
+}
+
+/// The number that `digit` makes when it is written behind `value`, as far as the limit goes.
+fn with_digit(value: u32, digit: u8) -> u32
+    requires { (48 ≤ digit) × (digit ≤ 57) }
+    ensures { result ≡ capped (value * 10 + (digit - 48)) }
+{
+    let wide = u64::from(value) * 10 + u64::from(digit - b'0');
+    wide.min(u64::from(ABOVE_LIMIT)) as u32
+}
+
+/// A number, which counts as `ABOVE_LIMIT` where it is greater.
+pub fn number_at(bytes: &[u8]) -> Option<(u32, &[u8])>
+    ensures { option_map (λ found. (found.0, found.1.now)) result ≡ number_at bytes.now }
+{
+    let [first, ..] = bytes else {
+        return None;
+    };
+    if !first.is_ascii_digit() {
+        return None;
+    }
+    let mut value = 0;
+    let mut rest = bytes;
+    while let [digit, after @ ..] = rest
+        && digit.is_ascii_digit()
+    {
+        value = with_digit(value, *digit);
+        rest = after;
+    }
+    Some((value, rest))
+}
+
+/// `r` and a number.
+pub fn register_at(bytes: &[u8]) -> Option<(Reg, &[u8])>
+    ensures { option_map (λ found. (found.0, found.1.now)) result ≡ register_at bytes.now }
+{
+    match bytes {
+        [b'r', after @ ..] => {
+            let (number, rest) = number_at(after)?;
+            Some((Reg(number), rest))
+        }
+        _ => None,
+    }
+}
+
+/// `=>` with any blanks on both sides.
+pub fn arrow_at(bytes: &[u8]) -> Option<&[u8]>
+    ensures { option_map (λ rest. rest.now) result ≡ arrow_at bytes.now }
+{
+    match after_blanks(bytes) {
+        [b'=', b'>', after @ ..] => Some(after_blanks(after)),
+        _ => None,
+    }
+}
+
+/// `,` with any blanks on both sides.
+pub fn comma_at(bytes: &[u8]) -> Option<&[u8]>
+    ensures { option_map (λ rest. rest.now) result ≡ comma_at bytes.now }
+{
+    match after_blanks(bytes) {
+        [b',', after @ ..] => Some(after_blanks(after)),
+        _ => None,
+    }
+}
+
+pub fn is_word_byte(byte: u8) -> bool
+    ensures { result ≡ is_word_byte byte }
+{
+    byte.is_ascii_alphanumeric() || byte == b'_'
+}
+
+/// The bytes behind the letters, digits and underscores at the front.
+fn after_word(bytes: &[u8]) -> &[u8]
+    ensures rest { result.now ≡ after_word bytes.now }
+    ensures shorter { length result.now ≤ length bytes.now }
+{
+    let mut rest = bytes;
+    while let [first, after @ ..] = rest
+        && is_word_byte(*first)
+    {
+        rest = after;
+    }
+    rest
+}
+
+/// The letters, digits and underscores at the front, of which there may be none, and what stands behind them.
+pub fn word_at(bytes: &[u8]) -> (&[u8], &[u8])
+    ensures word { result.0.now ≡ word_of bytes.now }
+    ensures rest { result.1.now ≡ after_word bytes.now }
+{
+    let rest = after_word(bytes);
+    (&bytes[..bytes.len() - rest.len()], rest)
+}
