@@ -1,0 +1,7 @@
+pub mod Address
+pub mod Memory
+pub mod Registers
+pub mod Effect
+pub mod Trace
+pub mod Outcome
+pub mod Machine

@@ -1,0 +1,15 @@
+-- A memory as the list of its words: the word at the address 4 * k is the kth.
+use Rattle.std.specs.Prelude.{ℕ, ◌*◌, ◌/◌, List, length, map, replicate, slice_index_or, ℤ, pos}
+use Rattle.std.specs.List.{range_with_len}
+
+-- the memory of zeros
+unfoldable pub zeros : List ℤ
+zeros = replicate 16384 (pos 0)
+
+-- the word at a good address
+abbrev pub word_at : List ℤ → ℕ → ℤ
+word_at memory a = slice_index_or memory (a / 4) (pos 0)
+
+-- the memory of the same size that has these words at its addresses
+abbrev pub with_words : List ℤ → (ℕ → ℤ) → List ℤ
+with_words memory word = map (λ k. word (4 * k)) (range_with_len 0 (length memory))

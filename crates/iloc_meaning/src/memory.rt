@@ -1,0 +1,85 @@
+//! The memory of a block: 16,384 words at the addresses 0, 4, .., 65,532.
+ghost use Rattle.std.specs.Prelude.{◌≡◌, ◌/◌, pos, length, slice_set, IfOk, IsTrue};
+ghost use Rattle.iloc_meaning.specs.Address.{is_good};
+ghost use Rattle.iloc_meaning.specs.Memory.{zeros, word_at};
+
+use crate::no_memory::NoMemory;
+use std::alloc::Global;
+use std::marker::Model;
+
+/// How many words a memory has.
+pub const WORDS: usize = 16_384;
+
+/// The address of the last word.
+const LAST_ADDRESS: i32 = 65_532;
+
+/// A memory of 16,384 words.
+#[derive(Debug, Drop)]
+pub struct Memory {
+    words: Vec<i32>,
+}
+
+impl Model for Memory {
+    ghost use Rattle.std.specs.Prelude.{◌≡◌, List, ℤ, vec_len};
+
+    ghost Value = { List ℤ };
+
+    ghost view = { λ memory. memory.words.items };
+
+    ghost invariant = { λ memory. vec_len memory.words ≡ 16384 };
+}
+
+impl Memory {
+    /// The memory of zeros.
+    pub fn zero(alloc: Global) -> Result<Memory, NoMemory>
+        ensures zeros { IfOk result (λ memory. memory ≡ zeros) }
+        ensures size { IfOk result (λ memory. length memory ≡ WORDS) }
+    {
+        Ok(Memory {
+            words: vec![in alloc; 0; WORDS]?,
+        })
+    }
+
+    /// A second memory with the same words.
+    pub fn copy(&self) -> Result<Memory, NoMemory>
+        ensures equal { IfOk result (λ memory. memory ≡ self.now) }
+        ensures size { length self.now ≡ WORDS }
+    {
+        Ok(Memory {
+            words: self.words.clone()?,
+        })
+    }
+
+    /// How many words it has, which is the same for every memory.
+    pub fn word_count(&self) -> usize
+        ensures count { result ≡ length self.now }
+        ensures size { result ≡ WORDS }
+    {
+        self.words.len()
+    }
+
+    /// Whether a word stands at this address: a multiple of 4 from 0 to 65,532.
+    pub fn is_good(address: i32) -> bool
+        ensures { result ≡ is_good address }
+    {
+        (0..=LAST_ADDRESS).contains(&address) && address % 4 == 0
+    }
+
+    /// The word at a good address.
+    pub fn get(&self, address: u32) -> i32
+        requires { IsTrue (is_good (pos address)) }
+        ensures word { result ≡ word_at self.now address }
+        ensures size { length self.now ≡ WORDS }
+    {
+        self.words[address as usize / 4]
+    }
+
+    /// Writes the word at a good address, and no other.
+    pub fn set(&mut self, address: u32, word: i32)
+        requires { IsTrue (is_good (pos address)) }
+        ensures written { self.new ≡ slice_set self.old (address / 4) word }
+        ensures size { length self.old ≡ WORDS }
+    {
+        self.words[address as usize / 4] = word;
+    }
+}

@@ -1,0 +1,34 @@
+//! The words that a block emits.
+ghost use Rattle.std.specs.Prelude.{◌≡◌};
+
+use std::marker::Model;
+
+/// Emitted words, in order.
+#[derive(Debug, Drop)]
+pub struct Words {
+    items: Vec<i32>,
+}
+
+impl Model for Words {
+    ghost use Rattle.std.specs.Prelude.{List, ℤ};
+
+    ghost Value = { List ℤ };
+
+    ghost view = { λ words. words.items.items };
+}
+
+impl Words {
+    /// These words.
+    pub fn new(items: Vec<i32>) -> Words
+        ensures { result ≡ items.items }
+    {
+        Words { items }
+    }
+
+    /// The words, lent.
+    pub fn as_slice(&self) -> &[i32]
+        ensures { result.now ≡ self.now }
+    {
+        self.items.as_slice()
+    }
+}
