@@ -1,3 +1,4 @@
 pub mod Parts
 pub mod Tokens
 pub mod Operations
+pub mod Lines

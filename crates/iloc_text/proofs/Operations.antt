@@ -17,7 +17,7 @@ use Rattle.iloc_text.proofs.Parts.{Before, Before-join, Before-split, starts}
 use Rattle.iloc_text.proofs.Tokens.{some_map, FindsNumber, number_read, number_again, FindsRegister, register_read, register_again, arrow_read, arrow_again, comma_read, comma_again, some_blanks_read, some_blanks_again, IsWord, word_again, word_read}
 
 -- what holds of a found part and of all that follows it
-bind_each : {A B : Type 0} {P : A → Type 0} (Q : B → Type 0) (o : Option A) (f : A → Option B) → IfSome o P → ((x : A) → P x → IfSome (f x) Q) → IfSome (o >>= f) Q
+pub bind_each : {A B : Type 0} {P : A → Type 0} (Q : B → Type 0) (o : Option A) (f : A → Option B) → IfSome o P → ((x : A) → P x → IfSome (f x) Q) → IfSome (o >>= f) Q
 bind_each Q None f h step = tt
 bind_each Q (Some x) f h step = step x h
 
