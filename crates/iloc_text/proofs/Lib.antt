@@ -2,3 +2,5 @@ pub mod Parts
 pub mod Tokens
 pub mod Operations
 pub mod Lines
+pub mod Splitting
+pub mod Reading

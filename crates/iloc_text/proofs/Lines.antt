@@ -5,8 +5,8 @@ use Rattle.std.proofs.lemmas.Bool.Decides.{nat_tests}
 use Rattle.iloc_text.specs.declared.op.Reg.{Reg}
 use Rattle.iloc_text.specs.declared.op.Op.{Op}
 use Rattle.iloc_text.specs.declared.op.Op.TheVariants.{LoadI, Store, Add, Output}
-use Rattle.iloc_text.specs.Grammar.{◌⋅◌, Text, is_blank, Blanks, Operation, OptionalOperation, OptionalComment, ReadsWidely, numbers, IsWithinLimit, OptionalIsWithinLimit, Reads}
-use Rattle.iloc_text.specs.Scan.{◌>>=◌, capped, after_blanks, is_word_byte, operation_at, optional_operation_at, is_end, line_at, is_within, is_within_limit}
+use Rattle.iloc_text.specs.Grammar.{◌⋅◌, Text, is_blank, Blanks, Operation, OptionalOperation, OptionalComment, ReadsWidely, numbers, IsWithinLimit, Reads, LineReads}
+use Rattle.iloc_text.specs.Scan.{◌>>=◌, capped, after_blanks, is_word_byte, operation_at, optional_operation_at, is_end, line_at, is_within, read_at}
 use Rattle.iloc_text.proofs.Parts.{Before, Before-join, Before-split, Before-all, all-Before, starts}
 use Rattle.iloc_text.proofs.Tokens.{blanks_read, blanks_none, blanks_over, blanks_again, some_map}
 use Rattle.iloc_text.proofs.Operations.{bind_each, blanks_fail, blank_is_no_word_byte, capped_reg, capped_op, FindsOperation, operation_read, operation_again, operation_starts}
@@ -70,10 +70,14 @@ line_read bytes = bind_each (FindsLine bytes) (optional_operation_at (after_blan
     ends found f (is_end (after_blanks found.1)) refl)
   where
     ends : (found : Option Op × List ℕ) → FindsOptional (after_blanks bytes) found → (b : Bool) → is_end (after_blanks found.1) ≡ b
-      → IfSome (cond b (Some found.0) None) (FindsLine bytes)
+        → IfSome (cond b (Some found.0) None) (FindsLine bytes)
     ends found f false e = tt
-    ends found f true e = (f.0, Before-all (Before-join (blanks_read bytes) (Before-join f.1
-      (Before-join (blanks_read found.1) (all-Before (end_read (after_blanks found.1) e))))), f.2)
+    ends found f true e = (
+      f.0,
+      Before-all (Before-join (blanks_read bytes) (Before-join f.1
+          (Before-join (blanks_read found.1) (all-Before (end_read (after_blanks found.1) e))))),
+      f.2,
+    )
 
 word_byte_is_no_blank : (c : ℕ) → is_word_byte c ≡ true → is_blank c ≡ false
 word_byte_is_no_blank c h = grind (arith, nat_tests)
@@ -90,10 +94,14 @@ line_again bytes (Some op) r =
     let third = Before-split second.2 in
     let comment = Before-all third.2 in
     let word = operation_starts op second.0 first.0 second.1 in
-    rw (blanks_again first.0 bytes first.1 (no_blank_start first.0 word), optional_here first.0 word,
+    rw (
+      blanks_again first.0 bytes first.1 (no_blank_start first.0 word),
+      optional_here first.0 word,
       operation_again op second.0 first.0 second.1
-        (blanks_fail is_word_byte blank_is_no_word_byte third.1 (end_starts is_word_byte refl third.0 comment)),
-      blanks_again third.0 second.0 third.1 (end_starts is_blank refl third.0 comment), end_again third.0 comment) refl
+          (blanks_fail is_word_byte blank_is_no_word_byte third.1 (end_starts is_word_byte refl third.0 comment)),
+      blanks_again third.0 second.0 third.1 (end_starts is_blank refl third.0 comment),
+      end_again third.0 comment,
+    ) refl
 line_again bytes None r =
     let first = Before-split (all-Before r) in
     let second = Before-split first.2 in
@@ -101,8 +109,8 @@ line_again bytes None r =
     let comment = Before-all third.2 in
     let still : after_blanks third.0 ≡ third.0 = blanks_none third.0 (end_starts is_blank refl third.0 comment) in
     let skipped : after_blanks bytes ≡ third.0 =
-      blanks_over first.0 bytes first.1 ∙ ap after_blanks (second.1.whole ∙ ap (λ f. f ++ second.0) second.1.first)
-      ∙ blanks_over third.0 second.0 third.1 ∙ still in
+    blanks_over first.0 bytes first.1 ∙ ap after_blanks (second.1.whole ∙ ap (λ f. f ++ second.0) second.1.first)
+    ∙ blanks_over third.0 second.0 third.1 ∙ still in
     rw (skipped, optional_none third.0 (end_starts is_word_byte refl third.0 comment), still, end_again third.0 comment) refl
 
 -- The limit of numbers
@@ -130,7 +138,7 @@ all_small [] h = tt
 all_small (n ∷ ns) h = by (nat_lt (capped n) 2147483648) refl (all_small ns) h
   where
     by : (b : Bool) → nat_lt (capped n) 2147483648 ≡ b → (list_all (λ n. nat_lt n 2147483648) (map capped ns) ≡ true → AllByRecursion (λ n. n ≤ 2147483647) ns)
-      → (b && list_all (λ n. nat_lt n 2147483648) (map capped ns)) ≡ true → AllByRecursion (λ n. n ≤ 2147483647) (n ∷ ns)
+        → (b && list_all (λ n. nat_lt n 2147483648) (map capped ns)) ≡ true → AllByRecursion (λ n. n ≤ 2147483647) (n ∷ ns)
     by true e rest h = (grind (arith, nat_tests), rest h)
     by false e rest h = cc
 
@@ -154,9 +162,22 @@ pub within_reads : (bytes : List ℕ) (op : Option Op) → Reads bytes op → is
 within_reads bytes None r = refl
 within_reads bytes (Some op) r = ap (list_all (λ n. nat_lt n 2147483648)) (ap numbers (sym (capped-within op r.1)) ∙ numbers-capped op) ∙ small_all (numbers op) r.1
 
--- the scanner's answer within the limit
-pub line_found : (bytes : List ℕ) → IfSome (line_at bytes) (λ found. is_within found ≡ true → Reads bytes found)
-line_found bytes = some_map (λ found f h. reads_found bytes f.0 found f.1 f.2 h) (line_at bytes) (line_read bytes)
+read_within : (bytes : List ℕ) (found : Option Op) → line_at bytes ≡ Some found → FindsLine bytes found
+    → (b : Bool) → is_within found ≡ b → LineReads bytes (cond b (Some found) None)
+read_within bytes found e f true h = reads_found bytes f.0 found f.1 f.2 h
+read_within bytes found e f false h = λ op r.
+    let same : ◌≡◌ {A = Option (Option Op)} (Some op) (Some found) = sym (found_reads bytes op r) ∙ e in
+    let inside : is_within op ≡ true = within_reads bytes op r in
+    cc
+
+read_by : (bytes : List ℕ) (found : Option (Option Op)) → line_at bytes ≡ found → IfSome found (FindsLine bytes)
+    → LineReads bytes (found >>= (λ op. cond (is_within op) (Some op) None))
+read_by bytes None e f = λ op r. let same = sym e ∙ line_again bytes op r.0 in cc
+read_by bytes (Some found) e f = read_within bytes found e f (is_within found) refl
+
+-- the scanner's answer within the limit is the grammar's
+pub line_reads : (bytes : List ℕ) → LineReads bytes (read_at bytes)
+line_reads bytes = read_by bytes (line_at bytes) refl (line_read bytes)
 
 -- a line has at most one reading
 pub one_reading : (bytes : List ℕ) (a b : Option Op) → Reads bytes a → Reads bytes b → a ≡ b

@@ -139,14 +139,16 @@ number_to_register_read bytes =
     (v.0, d.0, Before-join v.1 (Before-join a d.1), v.2, d.2))))
 
 number_to_register_again : (value : ℕ) (dest : Reg) (rest bytes : List ℕ) → Before (Number value ⋅ Arrow ⋅ Register dest) rest bytes
-  → starts is_ascii_digit rest ≡ false → number_to_register_at bytes ≡ Some (capped value, capped_reg dest, rest)
+    → starts is_ascii_digit rest ≡ false → number_to_register_at bytes ≡ Some (capped value, capped_reg dest, rest)
 unfolding number_to_register_at
 number_to_register_again value dest rest bytes b s =
     let first = Before-split b in
     let second = Before-split first.2 in
-    rw (number_again value first.0 bytes first.1 (arrow_starts second.1),
+    rw (
+      number_again value first.0 bytes first.1 (arrow_starts second.1),
       arrow_again second.0 first.0 second.1 (register_starts second.2),
-      register_again dest rest second.0 second.2 s) refl
+      register_again dest rest second.0 second.2 s,
+    ) refl
 
 abbrev FindsRegisterToRegister : List ℕ → Reg × Reg × List ℕ → Type 0
 FindsRegisterToRegister bytes found = (source : Reg) × (target : Reg)
@@ -161,14 +163,16 @@ register_to_register_read bytes =
     (v.0, d.0, Before-join v.1 (Before-join a d.1), v.2, d.2))))
 
 register_to_register_again : (source target : Reg) (rest bytes : List ℕ) → Before (Register source ⋅ Arrow ⋅ Register target) rest bytes
-  → starts is_ascii_digit rest ≡ false → register_to_register_at bytes ≡ Some (capped_reg source, capped_reg target, rest)
+    → starts is_ascii_digit rest ≡ false → register_to_register_at bytes ≡ Some (capped_reg source, capped_reg target, rest)
 unfolding register_to_register_at
 register_to_register_again source target rest bytes b s =
     let first = Before-split b in
     let second = Before-split first.2 in
-    rw (register_again source first.0 bytes first.1 (arrow_starts second.1),
+    rw (
+      register_again source first.0 bytes first.1 (arrow_starts second.1),
       arrow_again second.0 first.0 second.1 (register_starts second.2),
-      register_again target rest second.0 second.2 s) refl
+      register_again target rest second.0 second.2 s,
+    ) refl
 
 abbrev FindsRegistersToRegister : List ℕ → Reg × Reg × Reg × List ℕ → Type 0
 FindsRegistersToRegister bytes found = (left : Reg) × (right : Reg) × (dest : Reg)
@@ -184,15 +188,17 @@ registers_to_register_read bytes =
     (l.0, r.0, r.1, Before-join l.1 (Before-join c r.2), l.2, r.3, r.4))))
 
 registers_to_register_again : (left right dest : Reg) (rest bytes : List ℕ)
-  → Before (Register left ⋅ Comma ⋅ Register right ⋅ Arrow ⋅ Register dest) rest bytes → starts is_ascii_digit rest ≡ false
-  → registers_to_register_at bytes ≡ Some (capped_reg left, capped_reg right, capped_reg dest, rest)
+    → Before (Register left ⋅ Comma ⋅ Register right ⋅ Arrow ⋅ Register dest) rest bytes → starts is_ascii_digit rest ≡ false
+    → registers_to_register_at bytes ≡ Some (capped_reg left, capped_reg right, capped_reg dest, rest)
 unfolding registers_to_register_at
 registers_to_register_again left right dest rest bytes b s =
     let first = Before-split b in
     let second = Before-split first.2 in
-    rw (register_again left first.0 bytes first.1 (comma_starts second.1),
+    rw (
+      register_again left first.0 bytes first.1 (comma_starts second.1),
       comma_again second.0 first.0 second.1 (register_starts (Before-split second.2).1),
-      register_to_register_again right dest rest second.0 second.2 s) refl
+      register_to_register_again right dest rest second.0 second.2 s,
+    ) refl
 
 -- Operations
 
@@ -263,9 +269,13 @@ unfolding operation_at
 operation_read bytes =
     bind_each (FindsOperation bytes) (opcode_of (word_of bytes)) _ (opcode_read (word_of bytes)) (λ o w.
     bind_each (FindsOperation bytes) (some_blanks_at (after_word bytes)) _ (some_blanks_read (after_word bytes)) (λ rest b.
-    some_map (λ found f. (f.0, operation_from f.0 (Before-join
-        (record { front = word_of bytes; first = w ∙ ap opcode_text (sym f.1); whole = (word_read bytes).1 })
-        (Before-join b f.2)), f.3)) (operands_at o rest) (operands_read o rest)))
+    some_map (λ found f. (
+      f.0,
+      operation_from f.0 (Before-join
+          (record { front = word_of bytes; first = w ∙ ap opcode_text (sym f.1); whole = (word_read bytes).1 })
+          (Before-join b f.2)),
+      f.3,
+    )) (operands_at o rest) (operands_read o rest)))
 
 pub operation_again : (op : Op) (rest bytes : List ℕ) → Before (Operation op) rest bytes → starts is_word_byte rest ≡ false → operation_at bytes ≡ Some (capped_op op, rest)
 unfolding operation_at

@@ -16,11 +16,15 @@ Before-join {P} {Q} {mid} {rest} {bytes} a b = record {
 }
 
 pub Before-split : {P Q : List ℕ → Type 0} {rest bytes : List ℕ} → Before (P ⋅ Q) rest bytes → (mid : List ℕ) × Before P mid bytes × Before Q rest mid
-Before-split {P} {Q} {rest} {bytes} b =
-  (b.first.rest ++ rest,
-   record { front = b.first.front; first = b.first.first;
-     whole = b.whole ∙ ap (λ f. f ++ rest) b.first.whole ∙ append_assoc b.first.front b.first.rest rest },
-   record { front = b.first.rest; first = b.first.second; whole = refl })
+Before-split {P} {Q} {rest} {bytes} b = (
+  b.first.rest ++ rest,
+  record {
+    front = b.first.front;
+    first = b.first.first;
+    whole = b.whole ∙ ap (λ f. f ++ rest) b.first.whole ∙ append_assoc b.first.front b.first.rest rest;
+  },
+  record { front = b.first.rest; first = b.first.second; whole = refl },
+)
 
 -- a whole text of the language
 pub Before-all : {P : List ℕ → Type 0} {bytes : List ℕ} → Before P [] bytes → P bytes

@@ -78,7 +78,7 @@ digits_read n [] = record { front = []; all = tt; whole = refl; value_is = refl 
 digits_read n (c ∷ cs) = by (is_ascii_digit c) refl (digits_read (n * 10 + digit_value c) cs)
   where
     by : (b : Bool) → is_ascii_digit c ≡ b → Digits (n * 10 + digit_value c) (digits_after (capped (n * 10 + digit_value c)) cs).0 (digits_after (capped (n * 10 + digit_value c)) cs).1 cs
-      → Digits n (cond b (digits_after (capped (capped n * 10 + (c - 48))) cs) (capped n, c ∷ cs)).0 (cond b (digits_after (capped (capped n * 10 + (c - 48))) cs) (capped n, c ∷ cs)).1 (c ∷ cs)
+        → Digits n (cond b (digits_after (capped (capped n * 10 + (c - 48))) cs) (capped n, c ∷ cs)).0 (cond b (digits_after (capped (capped n * 10 + (c - 48))) cs) (capped n, c ∷ cs)).1 (c ∷ cs)
     by true e r = rw (capped_digit n c e) (record { front = c ∷ r.front; all = (digit_value_small c e, r.all); whole = ap (λ t. c ∷ t) r.whole; value_is = r.value_is })
     by false e r = record { front = []; all = tt; whole = refl; value_is = refl }
 
@@ -92,11 +92,15 @@ number_read (c ∷ cs) = by (is_ascii_digit c) refl (digits_read (0 * 10 + digit
   where
     found : Bool → ℕ × List ℕ
     found b = cond b (digits_after (capped (0 * 10 + (c - 48))) cs) (0, c ∷ cs)
+
     by : (b : Bool) → is_ascii_digit c ≡ b → Digits (0 * 10 + digit_value c) (digits_after (capped (0 * 10 + digit_value c)) cs).0 (digits_after (capped (0 * 10 + digit_value c)) cs).1 cs
-      → IfSome (cond b (Some (found b)) None) (FindsNumber (c ∷ cs))
+        → IfSome (cond b (Some (found b)) None) (FindsNumber (c ∷ cs))
     by false e r = tt
-    by true e r = rw (capped_digit 0 c e) (digits_value_after 10 0 (c ∷ r.front),
-      record { front = c ∷ r.front; first = ((omega arith, (digit_value_small c e, r.all)), refl); whole = ap (λ t. c ∷ t) r.whole }, r.value_is)
+    by true e r = rw (capped_digit 0 c e) (
+      digits_value_after 10 0 (c ∷ r.front),
+      record { front = c ∷ r.front; first = ((omega arith, (digit_value_small c e, r.all)), refl); whole = ap (λ t. c ∷ t) r.whole },
+      r.value_is,
+    )
 
 digits_taken : (n : ℕ) (front rest : List ℕ) → AllDigits 10 front → starts is_ascii_digit rest ≡ false → digits_after (capped n) (front ++ rest) ≡ (capped (digits_value_after 10 n front), rest)
 digits_taken n [] [] h s = refl
@@ -109,7 +113,7 @@ number_taken : (n : ℕ) (front rest : List ℕ) → Number n front → starts i
 number_taken n [] rest h s = absurd (omega (arith, h.0.0))
 number_taken n (c ∷ cs) rest h s =
     let test : ◌≡◌ {A = Option (ℕ × List ℕ)} (number_at (c ∷ (cs ++ rest))) (Some (digits_after 0 (c ∷ (cs ++ rest)))) =
-      ap (λ b. cond b (Some (digits_after 0 (c ∷ (cs ++ rest)))) None) (digit_from_value c h.0.1.0) in
+    ap (λ b. cond b (Some (digits_after 0 (c ∷ (cs ++ rest)))) None) (digit_from_value c h.0.1.0) in
     test ∙ ap (λ found. Some found) (digits_taken 0 (c ∷ cs) rest h.0.1 s) ∙ ap (λ m. Some (capped m, rest)) (sym h.1)
 
 pub number_again : (n : ℕ) (rest bytes : List ℕ) → Before (Number n) rest bytes → starts is_ascii_digit rest ≡ false → number_at bytes ≡ Some (capped n, rest)
@@ -133,11 +137,14 @@ register_read [] = tt
 register_read (c ∷ cs) = by (c == 114) refl (number_at cs) (number_read cs)
   where
     by : (b : Bool) → (c == 114) ≡ b → (found : Option (ℕ × List ℕ)) → IfSome found (FindsNumber cs)
-      → IfSome (cond b (found >>= (λ f. Some (record { 0 = f.0 }, f.1))) None) (FindsRegister (c ∷ cs))
+        → IfSome (cond b (found >>= (λ f. Some (record { 0 = f.0 }, f.1))) None) (FindsRegister (c ∷ cs))
     by false e found h = tt
     by true e None h = tt
-    by true e (Some found) h = (record { 0 = h.0 },
-      Before-join (record { front = c ∷ []; first = ap (λ d. d ∷ []) (letter_r c e); whole = refl }) h.1, ap (λ n. record { 0 = n }) h.2)
+    by true e (Some found) h = (
+      record { 0 = h.0 },
+      Before-join (record { front = c ∷ []; first = ap (λ d. d ∷ []) (letter_r c e); whole = refl }) h.1,
+      ap (λ n. record { 0 = n }) h.2,
+    )
 
 pub register_again : (r : Reg) (rest bytes : List ℕ) → Before (Register r) rest bytes → starts is_ascii_digit rest ≡ false → register_at bytes ≡ Some (record { 0 = capped r.0 }, rest)
 register_again r rest bytes b s =
@@ -158,8 +165,8 @@ arrow_found (c ∷ d ∷ cs) = by ((c == 61) && (d == 62)) refl
     by : (b : Bool) → ((c == 61) && (d == 62)) ≡ b → IfSome (cond b (Some (after_blanks cs)) None) (λ rest. Before (Text (codes "=>") ⋅ Blanks) rest (c ∷ d ∷ cs))
     by false e = tt
     by true e =
-      let both = double_arrow c d e in
-      Before-join (record { front = c ∷ d ∷ []; first = ap₂ (λ x y. x ∷ y ∷ []) both.0 both.1; whole = refl }) (blanks_read cs)
+        let both = double_arrow c d e in
+        Before-join (record { front = c ∷ d ∷ []; first = ap₂ (λ x y. x ∷ y ∷ []) both.0 both.1; whole = refl }) (blanks_read cs)
 
 pub arrow_read : (bytes : List ℕ) → IfSome (arrow_at bytes) (λ rest. Before Arrow rest bytes)
 arrow_read bytes = some_map (λ rest. Before-join (blanks_read bytes)) (arrow_at bytes) (arrow_found (after_blanks bytes))
@@ -208,7 +215,7 @@ word_of_over : (front rest : List ℕ) → after_word (front ++ rest) ≡ rest �
 word_of_over front rest e = rw (e, length-append front rest, add-sub_cancel) (take-append_seam front rest)
 
 pub word_again : (front rest : List ℕ) → IsWord front → starts is_word_byte rest ≡ false
-  → (word_of (front ++ rest) ≡ front) × (after_word (front ++ rest) ≡ rest)
+    → (word_of (front ++ rest) ≡ front) × (after_word (front ++ rest) ≡ rest)
 word_again front rest h s = let e = word_over front rest h s in (word_of_over front rest e, e)
 
 word_split : (bytes : List ℕ) → (front : List ℕ) × IsWord front × (bytes ≡ front ++ after_word bytes) × (starts is_word_byte (after_word bytes) ≡ false)
@@ -216,7 +223,7 @@ word_split [] = ([], tt, refl, refl)
 word_split (c ∷ cs) = by (is_word_byte c) refl (word_split cs)
   where
     by : (b : Bool) → is_word_byte c ≡ b → ((front : List ℕ) × IsWord front × (cs ≡ front ++ after_word cs) × (starts is_word_byte (after_word cs) ≡ false))
-      → (front : List ℕ) × IsWord front × ((c ∷ cs) ≡ front ++ cond b (after_word cs) (c ∷ cs)) × (starts is_word_byte (cond b (after_word cs) (c ∷ cs)) ≡ false)
+        → (front : List ℕ) × IsWord front × ((c ∷ cs) ≡ front ++ cond b (after_word cs) (c ∷ cs)) × (starts is_word_byte (cond b (after_word cs) (c ∷ cs)) ≡ false)
     by true e r = (c ∷ r.0, (e, r.1), ap (λ t. c ∷ t) r.2, r.3)
     by false e r = ([], tt, refl, e)
 

@@ -137,3 +137,7 @@ is_within_limit op = list_all (λ n. nat_lt n 2147483648) (numbers op)
 abbrev pub is_within : Option Op → Bool
 is_within None = true
 is_within (Some op) = is_within_limit op
+
+-- the operation of a line within the limit, or none
+abbrev pub read_at : List ℕ → Option (Option Op)
+read_at bytes = line_at bytes >>= (λ op. if is_within op then Some op else None)
