@@ -89,3 +89,8 @@ OptionalIsWithinLimit (Some op) = IsWithinLimit op
 -- the line reads as this operation, or as none
 abbrev pub Reads : List ℕ → Option Op → Type 0
 Reads line op = ReadsWidely line op × OptionalIsWithinLimit op
+
+-- what a line reads as, or that it has no reading
+abbrev pub LineReads : List ℕ → Option (Option Op) → Type 0
+LineReads line None = (op : Option Op) → Reads line op → ⊥
+LineReads line (Some op) = Reads line op

@@ -1,5 +1,6 @@
 -- What the scanner finds at the front of a text: a token, and the rest behind it.
-use Rattle.std.specs.Prelude.{ℕ, ◌+◌, ◌-◌, ◌*◌, min, nat_le, Bool, true, false, ◌||◌, ◌&&◌, ◌==◌, if◌then◌else◌, Option, Some, None, List, [], ◌∷◌, take, length}
+use Rattle.std.specs.Prelude.{ℕ, ◌+◌, ◌-◌, ◌*◌, min, nat_lt, Bool, true, false, ◌||◌, ◌&&◌, ◌==◌, if◌then◌else◌, Option, Some, None, List, [], ◌∷◌, take, length}
+use Rattle.std.specs.List.{list_all}
 use Rattle.std.specs.Char.{is_ascii_digit, is_ascii_alphabetic}
 use Rattle.iloc_text.specs.declared.op.Reg.{Reg}
 use Rattle.iloc_text.specs.declared.op.Op.{Op}
@@ -128,3 +129,15 @@ unfoldable pub line_at : List ℕ → Option (Option Op)
 line_at bytes = do
   found ← optional_operation_at (after_blanks bytes)
   if is_end (after_blanks found.1) then Some found.0 else None
+
+-- no number was capped
+abbrev pub is_within_limit : Op → Bool
+is_within_limit op = list_all (λ n. nat_lt n 2147483648) (numbers op)
+
+abbrev pub is_within : Option Op → Bool
+is_within None = true
+is_within (Some op) = is_within_limit op
+
+-- the operation of a line within the limit, or none
+abbrev pub read_at : List ℕ → Option (Option Op)
+read_at bytes = line_at bytes >>= (λ op. if is_within op then Some op else None)

@@ -44,3 +44,13 @@ impl From<NoMemory> for ReadFault {
         ReadFault::NoMemory
     }
 }
+
+impl<T: Drop> From<AllocFailed<T>> for ReadFault {
+    ghost use Rattle.iloc_text.specs.declared.fault.ReadFault.TheVariants.{NoMemory as no_memory};
+
+    ghost from_gives = { λ _ fault. fault ≡ no_memory };
+
+    fn from(_: AllocFailed<T>) -> ReadFault {
+        ReadFault::NoMemory
+    }
+}

@@ -2,9 +2,8 @@
 ghost use Rattle.std.specs.Prelude.{◌≡◌, ℕ, List, string_bytes};
 ghost use Rattle.iloc_text.specs.declared.op.Op.{Op};
 
-use std::marker::Model;
-
 use crate::op::Op;
+use std::marker::Model;
 
 /// The name of a block: the bytes of its label without the colon.
 #[derive(Debug, Drop)]

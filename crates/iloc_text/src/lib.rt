@@ -7,6 +7,7 @@ mod line;
 pub mod op;
 mod opcode;
 mod operation;
+pub mod reader;
 pub mod registers;
 mod scan;
 pub mod spelling;

@@ -4,7 +4,9 @@ ghost use Rattle.iloc_text.specs.Scan.{number_to_register_at, register_to_regist
 
 use crate::op::{Op, Reg};
 use crate::opcode::{Opcode, opcode_of};
-use crate::scan::{arrow_at, comma_at, is_word_byte, number_at, register_at, some_blanks_at, word_at};
+use crate::scan::{
+    arrow_at, comma_at, is_word_byte, number_at, register_at, some_blanks_at, word_at,
+};
 
 /// `number => register`.
 #[tactic(auto, unfolding(crate::specs::Scan::number_to_register_at))]

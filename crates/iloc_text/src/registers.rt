@@ -2,9 +2,8 @@
 ghost use Rattle.std.specs.Prelude.{◌≡◌};
 ghost use Rattle.iloc_text.specs.Registers.{used, defined};
 
-use arrayvec::ArrayVec;
-
 use crate::op::{Op, Reg};
+use arrayvec::ArrayVec;
 
 /// The registers whose values `op` uses, left to right as written; one that is written twice comes twice.
 pub fn uses(op: &Op) -> ArrayVec<Reg, 2>

@@ -3,10 +3,9 @@ ghost use Rattle.std.specs.Prelude.{◌≡◌, ◌++◌, OnOk, OnErr, take, vec_
 ghost use Rattle.std.specs.Fmt.{decimal, signed_decimal};
 ghost use Rattle.iloc_text.specs.Spelling.{spelling};
 
-use itoa::Buffer;
-
 use crate::fault::NoMemory;
 use crate::op::Op;
+use itoa::Buffer;
 
 /// Appends `number` in decimal, with a `-` before a negative one and no other sign.
 ///

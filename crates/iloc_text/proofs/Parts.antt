@@ -1,0 +1,39 @@
+-- A text of a language at the front of other bytes.
+use Rattle.std.proofs.Common.{◌≡◌, ◌∙◌, ℕ, Bool, true, false, List, [], ◌∷◌, ◌++◌, refl, sym, ap, subst, append_assoc, append-nil}
+use Rattle.iloc_text.specs.Grammar.{Joins, ◌⋅◌}
+
+-- the bytes are a text of the language and then the rest
+pub record Before (P : List ℕ → Type 0) (rest bytes : List ℕ) : Type 0 where
+  pub front : List ℕ
+  pub first : P front
+  pub whole : bytes ≡ front ++ rest
+
+pub Before-join : {P Q : List ℕ → Type 0} {mid rest bytes : List ℕ} → Before P mid bytes → Before Q rest mid → Before (P ⋅ Q) rest bytes
+Before-join {P} {Q} {mid} {rest} {bytes} a b = record {
+  front = a.front ++ b.front;
+  first = record { front = a.front; rest = b.front; first = a.first; second = b.first; whole = refl };
+  whole = a.whole ∙ ap (λ r. a.front ++ r) b.whole ∙ sym (append_assoc a.front b.front rest);
+}
+
+pub Before-split : {P Q : List ℕ → Type 0} {rest bytes : List ℕ} → Before (P ⋅ Q) rest bytes → (mid : List ℕ) × Before P mid bytes × Before Q rest mid
+Before-split {P} {Q} {rest} {bytes} b = (
+  b.first.rest ++ rest,
+  record {
+    front = b.first.front;
+    first = b.first.first;
+    whole = b.whole ∙ ap (λ f. f ++ rest) b.first.whole ∙ append_assoc b.first.front b.first.rest rest;
+  },
+  record { front = b.first.rest; first = b.first.second; whole = refl },
+)
+
+-- a whole text of the language
+pub Before-all : {P : List ℕ → Type 0} {bytes : List ℕ} → Before P [] bytes → P bytes
+Before-all {P} {bytes} b = subst P (sym (b.whole ∙ append-nil b.front)) b.first
+
+pub all-Before : {P : List ℕ → Type 0} {bytes : List ℕ} → P bytes → Before P [] bytes
+all-Before {P} {bytes} p = record { front = bytes; first = p; whole = sym (append-nil bytes) }
+
+-- the first byte passes the test
+abbrev pub starts : (ℕ → Bool) → List ℕ → Bool
+starts test [] = false
+starts test (c ∷ cs) = test c

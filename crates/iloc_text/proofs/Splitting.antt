@@ -1,0 +1,58 @@
+-- How a text falls into its lines.
+use Rattle.std.proofs.Common.{◌≡◌, ◌∙◌, ℕ, ◌+◌, ◌<◌, ◌≤◌, nat_lt, Bool, true, false, cond, not, List, [], ◌∷◌, ◌++◌, length, take, drop, refl, sym, ap, Option, Some, None, arith, count_by, zero-lt-suc}
+use Rattle.std.specs.List.{slice_split, onto_first, position_or_len, AllByRecursion, join_with_byte}
+use Rattle.std.proofs.lemmas.List.Splits.{slice_split_first, length-slice_split, join_with_byte-slice_split}
+use Rattle.std.proofs.lemmas.List.Sums.{count_by-le-length}
+use Rattle.std.proofs.lemmas.Bool.Decides.{nat_tests}
+use Rattle.iloc_text.specs.Lines.{is_line_end, line_end, lines_of}
+use Rattle.iloc_text.specs.Files.{HasNoLineEnd, AreLines}
+
+whole_line : (text : List ℕ) → length text ≤ position_or_len is_line_end text → lines_of text ≡ text ∷ []
+whole_line [] h = refl
+whole_line (c ∷ cs) h = by (is_line_end c) (whole_line cs) h
+  where
+    by : (b : Bool) → (length cs ≤ position_or_len is_line_end cs → lines_of cs ≡ cs ∷ []) → length (c ∷ cs) ≤ cond (not b) (1 + position_or_len is_line_end cs) 0
+        → cond b ([] ∷ lines_of cs) (onto_first c (lines_of cs)) ≡ (c ∷ cs) ∷ []
+    by true rest h = absurd (omega arith)
+    by false rest h = rw (rest (omega arith)) refl
+
+pub line_none : (text : List ℕ) → line_end text ≡ None → lines_of text ≡ text ∷ []
+line_none text e = by (nat_lt (position_or_len is_line_end text) (length text)) refl e
+  where
+    by : (b : Bool) → nat_lt (position_or_len is_line_end text) (length text) ≡ b → cond b (Some (position_or_len is_line_end text)) None ≡ None → lines_of text ≡ text ∷ []
+    by true t e = cc
+    by false t e = whole_line text (grind (arith, nat_tests))
+
+pub line_some : (text : List ℕ) (end : ℕ) → line_end text ≡ Some end → lines_of text ≡ take end text ∷ lines_of (drop (end + 1) text)
+line_some text end e = by (nat_lt (position_or_len is_line_end text) (length text)) refl e
+  where
+    by : (b : Bool) → nat_lt (position_or_len is_line_end text) (length text) ≡ b → cond b (Some (position_or_len is_line_end text)) None ≡ Some end
+        → lines_of text ≡ take end text ∷ lines_of (drop (end + 1) text)
+    by true t e = let same : position_or_len is_line_end text ≡ end = cc in
+        rw (← same) (slice_split_first is_line_end text 0 (grind (arith, nat_tests)))
+    by false t e = cc
+
+is_line_end_tells : (c : ℕ) → is_line_end c ≡ false → c ≡ 10 → ⊥
+is_line_end_tells c h = grind (arith, nat_tests)
+
+front_line : (c : ℕ) (lines : List (List ℕ)) → is_line_end c ≡ false → AllByRecursion HasNoLineEnd lines → AllByRecursion HasNoLineEnd (onto_first c lines)
+front_line c [] h each = ((is_line_end_tells c h, tt), tt)
+front_line c (line ∷ lines) h each = ((is_line_end_tells c h, each.0), each.1)
+
+no_line_ends : (text : List ℕ) → AllByRecursion HasNoLineEnd (lines_of text)
+no_line_ends [] = (tt, tt)
+no_line_ends (c ∷ cs) = by (is_line_end c) refl (no_line_ends cs)
+  where
+    by : (b : Bool) → is_line_end c ≡ b → AllByRecursion HasNoLineEnd (lines_of cs) → AllByRecursion HasNoLineEnd (cond b ([] ∷ lines_of cs) (onto_first c (lines_of cs)))
+    by true e rest = (tt, rest)
+    by false e rest = front_line c (lines_of cs) e rest
+
+pub lines_are : (text : List ℕ) → AreLines text (lines_of text)
+lines_are text = record {
+  some = omega (arith, length-slice_split is_line_end text);
+  each = no_line_ends text;
+  whole = sym (join_with_byte-slice_split 10 text);
+}
+
+pub lines_few : (text : List ℕ) → length (lines_of text) ≤ length text + 1
+lines_few text = omega (arith, length-slice_split is_line_end text, count_by-le-length is_line_end text)

@@ -1,0 +1,76 @@
+//! The reader: from bytes to the file that they denote.
+ghost use Rattle.std.specs.Prelude.{◌≡◌, ◌≢◌, ◌∷◌, ◌<◌, ◌+◌, length, IfOk, IfErr};
+ghost use Rattle.iloc_text.specs.declared.fault.ReadFault.TheVariants.{NoMemory as no_memory};
+ghost use Rattle.iloc_text.specs.Lines.{line_end, lines_of, lines_left, left};
+ghost use Rattle.iloc_text.specs.Files.{Denotes, IsRefused, unnamed_block};
+
+use crate::fault::{NoMemory, ReadFault};
+use crate::file::{Block, Blocks, IlocFile, Ops};
+use crate::line::read_line;
+use crate::op::Op;
+use std::alloc::Global;
+
+/// The greatest number of bytes that are read as a file.
+pub const MAX_INPUT: usize = 16_777_216;
+
+/// The place of the first line end.
+fn line_end(text: &[u8]) -> Option<usize>
+    ensures { result ≡ line_end text.now }
+{
+    text.iter().position(|byte| *byte == b'\n')
+}
+
+/// The line before the first line end, and what stands behind that line end, if there is one.
+fn split_line(text: &[u8]) -> (&[u8], Option<&[u8]>)
+    ensures lines { lines_of text.now ≡ result.0.now ∷ lines_left result.1 }
+    ensures shorter { left result.1 < length text.now + 1 }
+{
+    match line_end(text) {
+        Some(end) => (&text[..end], Some(&text[end + 1..])),
+        None => (text, None),
+    }
+}
+
+/// Reads a file of ILOC: exactly the file that the text denotes, or the refusal that it denotes.
+///
+/// The text is refused as too long before any line is looked at; otherwise the first line without a
+/// reading is named. `NoMemory` may come besides, where the growth of a list is refused.
+pub fn read_file(alloc: Global, input: &[u8]) -> Result<IlocFile, ReadFault>
+    ensures ok { IfOk result (λ file. Denotes input.now file.blocks) }
+    ensures err { IfErr result (λ fault. fault ≢ no_memory → IsRefused input.now fault) }
+{
+    if input.len() > MAX_INPUT {
+        return Err(ReadFault::InputTooLong);
+    }
+    let mut ops = Vec::new(alloc);
+    let mut number = 0;
+    let mut rest = Some(input);
+    while let Some(text) = rest {
+        let (line, after) = split_line(text);
+        number += 1;
+        let Some(reading) = read_line(line) else {
+            return Err(ReadFault::BadLine(number));
+        };
+        if let Some(op) = reading {
+            ops.push(op)?;
+        }
+        rest = after;
+    }
+    Ok(IlocFile {
+        blocks: blocks_of(alloc, ops)?,
+    })
+}
+
+/// One block without a name, or none where there is no operation.
+fn blocks_of(alloc: Global, ops: Vec<Op>) -> Result<Blocks, NoMemory>
+    ensures { IfOk result (λ blocks. blocks ≡ unnamed_block ops.items) }
+{
+    let mut blocks = Vec::new(alloc);
+    if !ops.is_empty() {
+        blocks.push(Block {
+            name: None,
+            ops: Ops::new(ops),
+        })?;
+    }
+    Ok(Blocks::new(blocks))
+}
