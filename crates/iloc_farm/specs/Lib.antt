@@ -1,0 +1,4 @@
+pub mod Device
+pub mod Fault
+pub mod Listing
+pub mod Run

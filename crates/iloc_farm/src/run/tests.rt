@@ -1,0 +1,201 @@
+use super::*;
+use crate::fault::{FarmFault, run_status};
+use iloc_text::fault::ReadFault;
+use std::io::{Error, ErrorKind, Result as IoResult};
+use std::test::Fail;
+
+const FIRST: &[u8] = b"loadI 1024 => r0\nloadI 7 => r1\nstore r1 => r0\noutput 1024\n";
+
+/// Gives its bytes, at most `at_once` a call, and then fails or is at its end.
+#[derive(Drop)]
+struct Source<'a> {
+    bytes: &'a [u8],
+    at_once: usize,
+    end: Option<ErrorKind>,
+}
+
+impl<'a> Read for Source<'a> {
+    fn read(&mut self, buf: &mut [u8]) -> IoResult<usize> {
+        if let (true, Some(kind)) = (self.bytes.is_empty(), self.end) {
+            return Err(Error::from(kind));
+        }
+        let count = self.at_once.min(buf.len()).min(self.bytes.len());
+        let (taken, left) = self.bytes.split_at(count);
+        buf[..count].copy_from_slice(taken);
+        self.bytes = left;
+        Ok(count)
+    }
+}
+
+/// Takes `room` bytes, at most `at_once` a call, and then fails.
+#[derive(Drop)]
+struct Sink {
+    taken: Vec<u8>,
+    at_once: usize,
+    room: usize,
+    flushes: bool,
+}
+
+impl Write for Sink {
+    fn write(&mut self, buf: &[u8]) -> IoResult<usize> {
+        let count = self.at_once.min(buf.len()).min(self.room);
+        if count == 0 {
+            return Err(Error::from(ErrorKind::BrokenPipe));
+        }
+        self.taken.extend_from_slice(&buf[..count])?;
+        self.room -= count;
+        Ok(count)
+    }
+
+    fn flush(&mut self) -> IoResult<()> {
+        if self.flushes {
+            Ok(())
+        } else {
+            Err(Error::from(ErrorKind::BrokenPipe))
+        }
+    }
+}
+
+/// Gives line ends without end, and counts them.
+#[derive(Drop)]
+struct Endless {
+    given: usize,
+}
+
+impl Read for Endless {
+    fn read(&mut self, buf: &mut [u8]) -> IoResult<usize> {
+        buf.fill(b'\n');
+        self.given = self.given.saturating_add(buf.len());
+        Ok(buf.len())
+    }
+}
+
+fn giving(bytes: &[u8]) -> Source<'_> {
+    Source {
+        bytes,
+        at_once: usize::MAX,
+        end: None,
+    }
+}
+
+fn taking_all(alloc: Global) -> Sink {
+    Sink {
+        taken: Vec::new(alloc),
+        at_once: usize::MAX,
+        room: usize::MAX,
+        flushes: true,
+    }
+}
+
+#[test]
+fn lists_what_comes_of_each_input(rt: HostRuntime) -> Result<(), Fail> {
+    let cases: [(&[u8], &[u8]); 5] = [
+        (b"", b""),
+        (FIRST, b"block 1 -\n7\n"),
+        (b"output 0\noutput 4", b"block 1 -\n0\n0\n"),
+        (b"output 0\noutput 2\n", b"block 1 -\nfault\n"),
+        (
+            b"// c\r\n\tloadI\t2147483647=>r01//x\r\nadd r1,r1=>r2\nstore r2=>r3\noutput 0",
+            b"block 1 -\n-2\n",
+        ),
+    ];
+    for (input, listing) in cases {
+        let mut writer = taking_all(rt.alloc());
+        run(rt.alloc(), &mut giving(input), &mut writer)?;
+        assert_eq!(rt; writer.taken.as_slice(), listing);
+    }
+    Ok(())
+}
+
+#[test]
+fn takes_one_byte_at_a_time(rt: HostRuntime) -> Result<(), Fail> {
+    let mut reader = Source {
+        at_once: 1,
+        ..giving(FIRST)
+    };
+    let mut writer = Sink {
+        at_once: 1,
+        ..taking_all(rt.alloc())
+    };
+    run(rt.alloc(), &mut reader, &mut writer)?;
+    assert_eq!(rt; writer.taken.as_slice(), b"block 1 -\n7\n".as_slice());
+    Ok(())
+}
+
+#[test]
+fn reads_one_byte_beyond_the_longest_text(rt: HostRuntime) -> Result<(), Fail> {
+    let mut reader = Endless { given: 0 };
+    let fault = run(rt.alloc(), &mut reader, &mut taking_all(rt.alloc()));
+    assert_eq!(rt; fault, Err(RunFault::Text(ReadFault::InputTooLong)));
+    assert_eq!(rt; reader.given, 16_777_217);
+    Ok(())
+}
+
+#[test]
+fn tells_a_failed_read(rt: HostRuntime) -> Result<(), Fail> {
+    for kind in [ErrorKind::BrokenPipe, ErrorKind::Interrupted] {
+        let mut reader = Source {
+            end: Some(kind),
+            ..giving(b"nop")
+        };
+        let mut writer = taking_all(rt.alloc());
+        let fault = run(rt.alloc(), &mut reader, &mut writer);
+        assert_eq!(rt; fault, Err(RunFault::ReadFailed));
+        assert!(rt; writer.taken.is_empty());
+    }
+    Ok(())
+}
+
+#[test]
+fn tells_a_failed_write(rt: HostRuntime) -> Result<(), Fail> {
+    let mut writer = Sink {
+        room: 5,
+        ..taking_all(rt.alloc())
+    };
+    let fault = run(rt.alloc(), &mut giving(b"output 0\noutput 4"), &mut writer);
+    assert_eq!(rt; fault, Err(RunFault::WriteFailed));
+    assert_eq!(rt; writer.taken.as_slice(), b"block".as_slice());
+    Ok(())
+}
+
+#[test]
+fn tells_a_failed_flush(rt: HostRuntime) -> Result<(), Fail> {
+    let mut writer = Sink {
+        room: 0,
+        flushes: false,
+        ..taking_all(rt.alloc())
+    };
+    let fault = run(rt.alloc(), &mut giving(b""), &mut writer);
+    assert_eq!(rt; fault, Err(RunFault::WriteFailed));
+    Ok(())
+}
+
+#[test]
+fn shows_faults_with_their_status(rt: HostRuntime) -> Result<(), Fail> {
+    let cases = [
+        (
+            RunFault::Text(ReadFault::InputTooLong),
+            "input longer than 16777216 bytes",
+            1,
+        ),
+        (
+            RunFault::Text(ReadFault::BadLine(12)),
+            "line 12: not understood",
+            1,
+        ),
+        (RunFault::Farm(FarmFault::NoMemory), "out of memory", 3),
+        (RunFault::ReadFailed, "reading failed", 4),
+        (RunFault::WriteFailed, "writing failed", 4),
+    ];
+    for (fault, text, status) in cases {
+        assert_eq!(rt; fault.to_string(rt.alloc())?.as_str(), text);
+        assert_eq!(rt; run_status(&fault), status);
+    }
+    let fault = run(
+        rt.alloc(),
+        &mut giving(b"output 0\nadd r1 r2 => r3"),
+        &mut taking_all(rt.alloc()),
+    );
+    assert_eq!(rt; fault, Err(RunFault::Text(ReadFault::BadLine(2))));
+    Ok(())
+}
