@@ -1,15 +1,15 @@
 -- The scanner reads the lines of the grammar, and each of them.
-use Rattle.std.proofs.Common.{◌≡◌, ◌∙◌, ℕ, ◌<◌, ◌≤◌, min, nat_lt, Bool, true, false, cond, ◌||◌, ◌&&◌, ◌==◌, List, [], ◌∷◌, ◌++◌, length, map, refl, sym, ap, ap₂, subst, Option, Some, None, IfSome, option_map, arith}
+use Rattle.std.proofs.Common.{◌≡◌, ◌∙◌, ℕ, ◌≤◌, nat_lt, Bool, true, false, cond, ◌&&◌, ◌==◌, List, [], ◌∷◌, ◌++◌, map, refl, sym, ap, ap₂, subst, Option, Some, None, IfSome, option_map, arith}
 use Rattle.std.specs.List.{AllByRecursion, list_all}
 use Rattle.std.proofs.lemmas.Bool.Decides.{nat_tests}
 use Rattle.iloc_text.specs.declared.op.Reg.{Reg}
 use Rattle.iloc_text.specs.declared.op.Op.{Op}
 use Rattle.iloc_text.specs.declared.op.Op.TheVariants.{LoadI, Store, Add, Output}
-use Rattle.iloc_text.specs.Grammar.{◌⋅◌, Text, is_blank, Blanks, Operation, OptionalOperation, OptionalComment, ReadsWidely, numbers, IsWithinLimit, Reads, LineReads}
+use Rattle.iloc_text.specs.Grammar.{is_blank, OptionalOperation, OptionalComment, ReadsWidely, numbers, IsWithinLimit, Reads, LineReads}
 use Rattle.iloc_text.specs.Scan.{◌>>=◌, capped, after_blanks, is_word_byte, operation_at, optional_operation_at, is_end, line_at, is_within, read_at}
 use Rattle.iloc_text.proofs.Parts.{Before, Before-join, Before-split, Before-all, all-Before, starts}
-use Rattle.iloc_text.proofs.Tokens.{blanks_read, blanks_none, blanks_over, blanks_again, some_map}
-use Rattle.iloc_text.proofs.Operations.{bind_each, blanks_fail, blank_is_no_word_byte, capped_reg, capped_op, FindsOperation, operation_read, operation_again, operation_starts}
+use Rattle.iloc_text.proofs.Tokens.{blanks_read, blanks_none, blanks_over, blanks_again}
+use Rattle.iloc_text.proofs.Operations.{bind_each, blanks_fail, blank_is_no_word_byte, capped_reg, capped_op, operation_read, operation_again, operation_starts}
 
 -- An operation or none
 

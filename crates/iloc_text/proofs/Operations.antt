@@ -1,6 +1,6 @@
 -- The scanner finds the operations of the grammar, with their numbers capped, and finds each of them again.
-use Rattle.std.proofs.Common.{◌≡◌, ◌∙◌, ℕ, ◌<◌, ◌≤◌, min, Bool, true, false, cond, ◌||◌, ◌&&◌, ◌==◌, List, [], ◌∷◌, ◌++◌, length, refl, sym, ap, ap₂, subst, append_assoc, Option, Some, None, IfSome, option_map, codes, find, bytes_eq, arith}
-use Rattle.std.specs.List.{AllByRecursion, list_all}
+use Rattle.std.proofs.Common.{◌≡◌, ◌∙◌, ℕ, ◌<◌, Bool, true, false, cond, ◌&&◌, List, [], ◌∷◌, ◌++◌, refl, sym, ap, ap₂, Option, Some, None, IfSome, find, bytes_eq, arith}
+use Rattle.std.specs.List.{list_all}
 use Rattle.std.specs.Char.{is_ascii_digit, digit_value}
 use Rattle.std.proofs.lemmas.Bool.Decides.{nat_tests}
 use Rattle.std.proofs.lemmas.Slice.Eq.{bytes_eq-Decides}
@@ -9,12 +9,11 @@ use Rattle.iloc_text.specs.declared.op.Op.{Op}
 use Rattle.iloc_text.specs.declared.op.Op.TheVariants.{LoadI, Store, Add, Output}
 use Rattle.iloc_text.specs.declared.opcode.Opcode.{Opcode}
 use Rattle.iloc_text.specs.declared.opcode.Opcode.TheVariants as opcode
-use Rattle.iloc_text.specs.Grammar.{◌⋅◌, Text, is_blank, Blanks, SomeBlanks, Number, Register, Arrow, Comma, Operation, OptionalOperation}
+use Rattle.iloc_text.specs.Grammar.{◌⋅◌, Text, is_blank, Blanks, SomeBlanks, Number, Register, Arrow, Comma, Operation}
 use Rattle.iloc_text.specs.Opcodes.{opcodes, opcode_text, opcode_of}
-use Rattle.iloc_text.specs.Scan
-use Rattle.iloc_text.specs.Scan.{◌>>=◌, capped, number_at, register_at, arrow_at, comma_at, some_blanks_at, is_word_byte, after_word, word_of, number_to_register_at, register_to_register_at, registers_to_register_at, operands_at, operation_at, optional_operation_at}
+use Rattle.iloc_text.specs.Scan.{◌>>=◌, capped, number_at, register_at, arrow_at, comma_at, some_blanks_at, is_word_byte, after_word, word_of, number_to_register_at, register_to_register_at, registers_to_register_at, operands_at, operation_at}
 use Rattle.iloc_text.proofs.Parts.{Before, Before-join, Before-split, starts}
-use Rattle.iloc_text.proofs.Tokens.{some_map, FindsNumber, number_read, number_again, FindsRegister, register_read, register_again, arrow_read, arrow_again, comma_read, comma_again, some_blanks_read, some_blanks_again, IsWord, word_again, word_read}
+use Rattle.iloc_text.proofs.Tokens.{some_map, number_read, number_again, register_read, register_again, arrow_read, arrow_again, comma_read, comma_again, some_blanks_read, some_blanks_again, IsWord, word_again, word_read}
 
 -- what holds of a found part and of all that follows it
 pub bind_each : {A B : Type 0} {P : A → Type 0} (Q : B → Type 0) (o : Option A) (f : A → Option B) → IfSome o P → ((x : A) → P x → IfSome (f x) Q) → IfSome (o >>= f) Q

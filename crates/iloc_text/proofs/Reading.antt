@@ -1,11 +1,11 @@
 -- What the reader has read, from line to line.
-use Rattle.std.proofs.Common.{◌≡◌, ◌∙◌, ℕ, ◌+◌, ◌<◌, ◌≤◌, List, [], ◌∷◌, ◌++◌, length, refl, sym, ap, subst, Option, Some, None, option_to_list, append_assoc, append-nil, length-append, filter_map, Bor, arith}
+use Rattle.std.proofs.Common.{◌≡◌, ◌∙◌, ℕ, ◌+◌, ◌≤◌, List, [], ◌∷◌, ◌++◌, length, refl, sym, ap, subst, Option, Some, None, option_to_list, append_assoc, append-nil, length-append, filter_map, Bor, arith}
 use Rattle.std.proofs.lemmas.List.Elements.{filter_map-append}
 use Rattle.iloc_text.specs.declared.op.Op.{Op}
 use Rattle.iloc_text.specs.declared.file.Block.{Block}
 use Rattle.iloc_text.specs.Grammar.{Reads}
 use Rattle.iloc_text.specs.Lines.{lines_of, lines_left}
-use Rattle.iloc_text.specs.Files.{AreLines, ReadAs, file_of, unnamed_block, Denotes, IsBad, HasFirstBadLine}
+use Rattle.iloc_text.specs.Files.{AreLines, ReadAs, unnamed_block, Denotes, IsBad, HasFirstBadLine}
 use Rattle.iloc_text.proofs.Splitting.{lines_are, lines_few}
 
 -- these operations stand on the first lines, of which there are as many; the rest is still to be read

@@ -74,3 +74,6 @@ fn blocks_of(alloc: Global, ops: Vec<Op>) -> Result<Blocks, NoMemory>
     }
     Ok(Blocks::new(blocks))
 }
+
+#[cfg(test)]
+mod tests;

@@ -33,3 +33,25 @@ pub fn defines(op: &Op) -> Option<Reg>
         Op::Store { .. } | Op::Output { .. } => None,
     }
 }
+
+#[cfg(test)]
+mod tests {
+    use super::*;
+
+    #[test]
+    fn tells_registers_apart(rt: HostRuntime) {
+        let store = Op::Store {
+            value: Reg(7),
+            addr: Reg(4),
+        };
+        assert_eq!(rt; uses(&store).as_slice(), [Reg(7), Reg(4)].as_slice());
+        assert_eq!(rt; defines(&store), None);
+        let add = Op::Add {
+            left: Reg(5),
+            right: Reg(5),
+            dest: Reg(6),
+        };
+        assert_eq!(rt; uses(&add).as_slice(), [Reg(5), Reg(5)].as_slice());
+        assert_eq!(rt; defines(&add), Some(Reg(6)));
+    }
+}

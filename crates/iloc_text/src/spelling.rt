@@ -63,8 +63,56 @@ fn push_piece(text: &mut Vec<u8>, lead: &[u8], number: u32) -> Result<(), NoMemo
     ensures ok { OnOk result (text.new.items ≡ text.old.items ++ (lead.now ++ decimal number)) }
     ensures err { OnErr result (take (vec_len text.old) text.new.items ≡ text.old.items) }
 {
-    let mut buffer = Buffer::new();
+    let mut digits = Buffer::new();
     text.extend_from_slice(lead)?;
-    text.extend_from_slice(buffer.format(number).as_bytes())?;
+    text.extend_from_slice(digits.format(number).as_bytes())?;
     Ok(())
+}
+
+#[cfg(test)]
+mod tests {
+    use super::*;
+    use crate::op::Reg;
+    use std::test::Fail;
+
+    #[test]
+    fn spells_operations(rt: HostRuntime) -> Result<(), Fail> {
+        let mut text = Vec::new(rt.alloc());
+        push_op(
+            &mut text,
+            &Op::LoadI {
+                value: 5,
+                dest: Reg(1),
+            },
+        )?;
+        push_op(
+            &mut text,
+            &Op::Store {
+                value: Reg(1),
+                addr: Reg(2),
+            },
+        )?;
+        push_op(
+            &mut text,
+            &Op::Add {
+                left: Reg(1),
+                right: Reg(2),
+                dest: Reg(3),
+            },
+        )?;
+        push_op(&mut text, &Op::Output { addr: 1024 })?;
+        let wanted = b"loadI 5 => r1store r1 => r2add r1, r2 => r3output 1024";
+        assert_eq!(rt; text.as_slice(), wanted.as_slice());
+        Ok(())
+    }
+
+    #[test]
+    fn writes_numbers(rt: HostRuntime) -> Result<(), Fail> {
+        let mut text = Vec::new(rt.alloc());
+        push_number(&mut text, 0)?;
+        push_number(&mut text, -2)?;
+        push_number(&mut text, i64::MIN)?;
+        assert_eq!(rt; text.as_slice(), b"0-2-9223372036854775808".as_slice());
+        Ok(())
+    }
 }

@@ -1,4 +1,4 @@
-use Rattle.std.proofs.Common.{◌≡◌, sym, subst}
+use Rattle.std.proofs.Common.{sym, subst}
 use Rattle.iloc_text.specs.Grammar.{LineReads}
 use Rattle.iloc_text.proofs.Lines.{line_reads}
 use Rattle.iloc_text.proofs.line.read_line.Goals as goal

@@ -1,4 +1,4 @@
-use Rattle.std.proofs.Common.{◌≡◌, ◌+◌, ◌<◌, ◌≤◌, List, [], ◌∷◌, ◌++◌, Option, Some, None, Fits, w32, refl, sym, ap, append-nil, length, arith}
+use Rattle.std.proofs.Common.{Some, None, sym, append-nil, arith}
 use Rattle.iloc_text.specs.Grammar.{LineReads}
 use Rattle.iloc_text.proofs.Reading.{Progress, progress_begins, progress_step, progress_number, progress_ends, bad_line}
 use Rattle.iloc_text.proofs.reader.read_file.Goals as goal
