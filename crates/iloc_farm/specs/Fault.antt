@@ -12,6 +12,9 @@ use Rattle.iloc_farm.specs.declared.fault.RunFault.TheVariants.{ReadFailed, Text
 abbrev pub text_status : ReadFault → ℕ
 text_status text.InputTooLong = 1
 text_status (text.BadLine n) = 1
+text_status (text.NumberTooLarge n) = 1
+text_status (text.TooManyBlocks n) = 1
+text_status (text.TooManyOperations n) = 1
 text_status text.NoMemory = 3
 
 -- 1 for a fault in the text, 3 for want of memory, 4 for a device that failed
@@ -34,4 +37,7 @@ fault_of_input input.NoMemory = no_memory
 abbrev pub fault_of_text : ReadFault → RunFault
 fault_of_text text.InputTooLong = Text text.InputTooLong
 fault_of_text (text.BadLine n) = Text (text.BadLine n)
+fault_of_text (text.NumberTooLarge n) = Text (text.NumberTooLarge n)
+fault_of_text (text.TooManyBlocks n) = Text (text.TooManyBlocks n)
+fault_of_text (text.TooManyOperations n) = Text (text.TooManyOperations n)
 fault_of_text text.NoMemory = no_memory

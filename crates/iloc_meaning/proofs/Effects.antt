@@ -1,12 +1,13 @@
 -- What an effect depends on.
-use Rattle.std.proofs.Common.{◌≡◌, ℕ, ℤ, pos, negsuc, true, None, refl, ap}
+use Rattle.std.proofs.Common.{◌≡◌, ℕ, ◌+ℤ◌, ℤ, pos, negsuc, Bool, true, false, None, refl, ap}
 use Rattle.iloc_text.specs.declared.op.Reg.{Reg}
 use Rattle.iloc_text.specs.declared.op.Op.{Op}
-use Rattle.iloc_text.specs.declared.op.Op.TheVariants.{LoadI, Store, Add, Output}
+use Rattle.iloc_text.specs.declared.op.Op.TheVariants.{Load, LoadI, Store, Add, Sub, Mult, Lshift, Rshift, Output, Nop, AddI, SubI, MultI, LshiftI, RshiftI, LoadAI, StoreAI}
 use Rattle.iloc_text.specs.Registers.{defined}
 use Rattle.iloc_meaning.specs.declared.effect.Effect.{Effect}
-use Rattle.iloc_meaning.specs.declared.effect.Effect.TheVariants.{Faults, Writes, Emits}
+use Rattle.iloc_meaning.specs.declared.effect.Effect.TheVariants.{Faults, Gives, Writes, Emits, Nothing}
 use Rattle.iloc_meaning.specs.Address.{is_good, good_address}
+use Rattle.iloc_meaning.specs.Arithmetic.{wrapped, constant}
 use Rattle.iloc_meaning.specs.Effect.{effect, at_address}
 use Rattle.iloc_meaning.proofs.Cases.{by_bool}
 
@@ -15,37 +16,77 @@ pub at_address_same : (z : ℤ) (act other : ℕ → Effect) → ((a : ℕ) → 
 at_address_same (pos a) act other same = by_bool (is_good (pos a)) (λ t. rw t (same a t)) (λ t. rw t refl)
 at_address_same (negsuc n) act other same = refl
 
--- an effect depends on the values of the registers and on the words at good addresses alone
-pub effect_same : (op : Op) (reg reg' : Reg → ℤ) (word word' : ℕ → ℤ) → ((r : Reg) → reg r ≡ reg' r) → ((a : ℕ) → is_good (pos a) ≡ true → word a ≡ word' a) → effect op reg word ≡ effect op reg' word'
-effect_same (LoadI value dest) reg reg' word word' regs words = refl
-effect_same (Store value addr) reg reg' word word' regs words = rw (regs addr, regs value) refl
-effect_same (Add left right dest) reg reg' word word' regs words = rw (regs left, regs right) refl
-effect_same (Output addr) reg reg' word word' regs words = at_address_same (pos addr) _ _ (λ a good. ap Emits (words a good))
-
 -- what is done at an address is a fault, or it is done at a good address
 pub at_address_cases : (P : Effect → Type 0) (z : ℤ) (act : ℕ → Effect) → P Faults → ((a : ℕ) → is_good (pos a) ≡ true → P (act a)) → P (at_address (good_address z) act)
 at_address_cases P (pos a) act fault done = by_bool (is_good (pos a)) (λ t. rw t (done a t)) (λ t. rw t fault)
 at_address_cases P (negsuc n) act fault done = fault
 
--- an operation that writes defines no register
-pub defined-writes : (op : Op) (reg : Reg → ℤ) (word : ℕ → ℤ) (a : ℕ) (w : ℤ) → Writes a w ≡ effect op reg word → defined op ≡ None
-defined-writes (LoadI value dest) reg word a w is = absurd cc
-defined-writes (Store value addr) reg word a w is = refl
-defined-writes (Add left right dest) reg word a w is = absurd cc
-defined-writes (Output addr) reg word a w is = refl
+-- an effect depends on the values of the registers and on the words at good addresses alone
+pub effect_same : (op : Op) (reg reg' : Reg → ℤ) (word word' : ℕ → ℤ) → ((r : Reg) → reg r ≡ reg' r) → ((a : ℕ) → is_good (pos a) ≡ true → word a ≡ word' a) → effect op reg word ≡ effect op reg' word'
+effect_same (Load addr dest) reg reg' word word' regs words = rw (regs addr) (at_address_same (reg' addr) _ _ (λ a good. ap Gives (words a good)))
+effect_same (LoadI value dest) reg reg' word word' regs words = refl
+effect_same (Store value addr) reg reg' word word' regs words = rw (regs addr, regs value) refl
+effect_same (Add left right dest) reg reg' word word' regs words = rw (regs left, regs right) refl
+effect_same (Sub left right dest) reg reg' word word' regs words = rw (regs left, regs right) refl
+effect_same (Mult left right dest) reg reg' word word' regs words = rw (regs left, regs right) refl
+effect_same (Lshift left right dest) reg reg' word word' regs words = rw (regs left, regs right) refl
+effect_same (Rshift left right dest) reg reg' word word' regs words = rw (regs left, regs right) refl
+effect_same (Output addr) reg reg' word word' regs words = at_address_same (constant addr) _ _ (λ a good. ap Emits (words a good))
+effect_same Nop reg reg' word word' regs words = refl
+effect_same (AddI left value dest) reg reg' word word' regs words = rw (regs left) refl
+effect_same (SubI left value dest) reg reg' word word' regs words = rw (regs left) refl
+effect_same (MultI left value dest) reg reg' word word' regs words = rw (regs left) refl
+effect_same (LshiftI left value dest) reg reg' word word' regs words = rw (regs left) refl
+effect_same (RshiftI left value dest) reg reg' word word' regs words = rw (regs left) refl
+effect_same (LoadAI addr offset dest) reg reg' word word' regs words =
+    rw (regs addr) (at_address_same (wrapped (reg' addr +ℤ constant offset)) _ _ (λ a good. ap Gives (words a good)))
+effect_same (StoreAI value addr offset) reg reg' word word' regs words = rw (regs addr, regs value) refl
 
--- an operation that emits defines no register
-pub defined-emits : (op : Op) (reg : Reg → ℤ) (word : ℕ → ℤ) (w : ℤ) → Emits w ≡ effect op reg word → defined op ≡ None
-defined-emits (LoadI value dest) reg word w is = absurd cc
-defined-emits (Store value addr) reg word w is = refl
-defined-emits (Add left right dest) reg word w is = absurd cc
-defined-emits (Output addr) reg word w is = refl
+-- whether an effect is neither a result nor a fault
+abbrev pub has_no_result : Effect → Bool
+has_no_result Faults = false
+has_no_result (Gives result) = false
+has_no_result (Writes address word) = true
+has_no_result (Emits word) = true
+has_no_result Nothing = true
 
--- a write is to a good address
-pub is_good-writes : (op : Op) (reg : Reg → ℤ) (word : ℕ → ℤ) (a : ℕ) (w : ℤ) → Writes a w ≡ effect op reg word → is_good (pos a) ≡ true
-is_good-writes (LoadI value dest) reg word a w is = absurd cc
-is_good-writes (Store value addr) reg word a w is =
-    at_address_cases (λ e. Writes a w ≡ e → is_good (pos a) ≡ true) (reg addr) (λ b. Writes b (reg value)) (λ e. absurd cc) (λ b good e. let same : a ≡ b = cc in rw same good) is
-is_good-writes (Add left right dest) reg word a w is = absurd cc
-is_good-writes (Output addr) reg word a w is =
-    at_address_cases (λ e. Writes a w ≡ e → is_good (pos a) ≡ true) (pos addr) (λ b. Emits (word b)) (λ e. absurd cc) (λ b good e. absurd cc) is
+load_has_result : (z : ℤ) (word : ℕ → ℤ) → has_no_result (at_address (good_address z) (λ a. Gives (word a))) ≡ false
+load_has_result z word = at_address_cases (λ e. has_no_result e ≡ false) z (λ a. Gives (word a)) refl (λ a good. refl)
+
+-- an operation that gives no result defines no register
+pub defined-no_result : (op : Op) (reg : Reg → ℤ) (word : ℕ → ℤ) → has_no_result (effect op reg word) ≡ true → defined op ≡ None
+defined-no_result (Store value addr) reg word is = refl
+defined-no_result (StoreAI value addr offset) reg word is = refl
+defined-no_result (Output addr) reg word is = refl
+defined-no_result Nop reg word is = refl
+defined-no_result (Load addr dest) reg word is =
+    let not : has_no_result (effect (Load addr dest) reg word) ≡ false = load_has_result (reg addr) word in absurd cc
+defined-no_result (LoadAI addr offset dest) reg word is =
+    let not : has_no_result (effect (LoadAI addr offset dest) reg word) ≡ false = load_has_result (wrapped (reg addr +ℤ constant offset)) word in absurd cc
+defined-no_result _ reg word is = absurd cc
+
+-- whether a write, if the effect is one, is to a good address
+abbrev pub writes_well : Effect → Bool
+writes_well Faults = true
+writes_well (Gives result) = true
+writes_well (Writes address word) = is_good (pos address)
+writes_well (Emits word) = true
+writes_well Nothing = true
+
+read_writes_well : (z : ℤ) (word : ℕ → ℤ) → writes_well (at_address (good_address z) (λ a. Gives (word a))) ≡ true
+read_writes_well z word = at_address_cases (λ e. writes_well e ≡ true) z (λ a. Gives (word a)) refl (λ a good. refl)
+
+store_writes_well : (z value : ℤ) → writes_well (at_address (good_address z) (λ a. Writes a value)) ≡ true
+store_writes_well z value = at_address_cases (λ e. writes_well e ≡ true) z (λ a. Writes a value) refl (λ a good. good)
+
+output_writes_well : (z : ℤ) (word : ℕ → ℤ) → writes_well (at_address (good_address z) (λ a. Emits (word a))) ≡ true
+output_writes_well z word = at_address_cases (λ e. writes_well e ≡ true) z (λ a. Emits (word a)) refl (λ a good. refl)
+
+-- each write is to a good address
+pub writes_well-effect : (op : Op) (reg : Reg → ℤ) (word : ℕ → ℤ) → writes_well (effect op reg word) ≡ true
+writes_well-effect (Load addr dest) reg word = read_writes_well (reg addr) word
+writes_well-effect (LoadAI addr offset dest) reg word = read_writes_well (wrapped (reg addr +ℤ constant offset)) word
+writes_well-effect (Store value addr) reg word = store_writes_well (reg addr) (reg value)
+writes_well-effect (StoreAI value addr offset) reg word = store_writes_well (wrapped (reg addr +ℤ constant offset)) (reg value)
+writes_well-effect (Output addr) reg word = output_writes_well (constant addr) word
+writes_well-effect _ reg word = refl

@@ -4,7 +4,7 @@ use Rattle.std.proofs.lemmas.List.FromFn.{fill_by_all}
 use Rattle.std.proofs.lemmas.List.{get_or_default}
 use Rattle.iloc_text.specs.declared.op.Reg.{Reg}
 use Rattle.iloc_text.specs.declared.op.Op.{Op}
-use Rattle.iloc_text.specs.declared.op.Op.TheVariants.{LoadI}
+use Rattle.iloc_text.specs.declared.op.Op.TheVariants.{Nop}
 use Rattle.iloc_meaning.specs.declared.run.Machine.{Machine}
 use Rattle.iloc_meaning.specs.declared.outcome.Outcome.TheVariants.{Fault}
 use Rattle.iloc_meaning.specs.Memory.{word_at, with_words}
@@ -31,11 +31,8 @@ begins machine memory size registers words outputs = record {
 -- the trace with the operation that comes next
 pub next : (memory : List ℤ) (ops items : List Op) (i : ℕ) (other : Op) → items ≡ ops → i < length items → before memory ops (i + 1) ≡ then_executed memory (get_or items i other) (before memory ops i)
 next memory ops items i other same within =
-    let here : get_or ops i nothing ≡ get_or items i other = rw same (get_or_default ops i nothing other (rw same at within)) in
+    let here : get_or ops i Nop ≡ get_or items i other = rw same (get_or_default ops i Nop other (rw same at within)) in
     rw add-one (ap (λ op. then_executed memory op (before memory ops i)) here)
-  where
-    nothing : Op
-    nothing = LoadI 0 (record { 0 = 0 })
 
 -- a run that takes the next operation goes on
 pub goes_on : (memory : List ℤ) (ops items : List Op) (i : ℕ) (other : Op) (machine : Machine) → items ≡ ops → i < length items → Follows memory (then_executed memory (get_or items i other) (before memory ops i)) machine → Follows memory (before memory ops (i + 1)) machine

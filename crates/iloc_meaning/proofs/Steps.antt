@@ -8,7 +8,7 @@ use Rattle.iloc_text.specs.declared.op.Op.{Op}
 use Rattle.iloc_text.specs.Registers.{defined}
 use Rattle.iloc_meaning.specs.declared.registers.Registers.{Registers}
 use Rattle.iloc_meaning.specs.declared.run.Machine.{Machine}
-use Rattle.iloc_meaning.specs.declared.effect.Effect.TheVariants.{Faults, Gives, Writes, Emits}
+use Rattle.iloc_meaning.specs.declared.effect.Effect.TheVariants.{Faults, Gives, Writes, Emits, Nothing}
 use Rattle.iloc_meaning.specs.Memory.{word_at}
 use Rattle.iloc_meaning.specs.Effect.{effect}
 use Rattle.iloc_meaning.specs.Trace.{Executed, register_after, word_after, then_executed}
@@ -17,7 +17,7 @@ use Rattle.iloc_meaning.specs.Registers.{value_of, ChangesOnly}
 use Rattle.iloc_meaning.specs.Machine.{Follows}
 use Rattle.iloc_meaning.proofs.Cases.{by_bool}
 use Rattle.iloc_meaning.proofs.MemoryWords.{word_at-with_words, set-with_words}
-use Rattle.iloc_meaning.proofs.Effects.{effect_same, defined-writes, defined-emits, is_good-writes}
+use Rattle.iloc_meaning.proofs.Effects.{effect_same, has_no_result, defined-no_result, writes_well, writes_well-effect}
 
 -- the trace's registers and words give an operation the effect that the machine's give it
 pub effect_after : (memory : List ℤ) (trace : List Executed) (machine : Machine) (op : Op) → Follows memory trace machine → effect op (register_after trace) (word_after memory trace) ≡ effect op (value_of machine.registers) (word_at machine.memory)
@@ -57,11 +57,11 @@ pub after_write : (memory : List ℤ) (trace : List Executed) (machine : Machine
 after_write memory trace machine op a w new follows is written =
     rw (effect_after memory trace machine op follows, ← is) record {
       size = follows.size;
-      registers = λ s. rw (defined-writes op _ _ a w is) (follows.registers s);
+      registers = λ s. rw (defined-no_result op _ _ (ap has_no_result (sym is))) (follows.registers s);
       words =
           written
           ∙ ap (λ words. set words (a / 4) w) follows.words
-          ∙ set-with_words memory (word_after memory trace) (word_after memory (record { op = op; effect = Writes a w } ∷ trace)) a w follows.size (is_good-writes op _ _ a w is)
+          ∙ set-with_words memory (word_after memory trace) (word_after memory (record { op = op; effect = Writes a w } ∷ trace)) a w follows.size (ap writes_well is ∙ writes_well-effect op _ _)
           (let same : (a == a) ≡ true = grind (arith, nat_tests) in rw same refl)
           (λ b apart. let differs : (b == a) ≡ false = grind (arith, nat_tests) in rw differs refl);
       outputs = follows.outputs ∙ sym (append-nil (emitted trace));
@@ -73,8 +73,19 @@ pub after_output : (memory : List ℤ) (trace : List Executed) (machine : Machin
 after_output memory trace machine op w new follows is pushed =
     rw (effect_after memory trace machine op follows, ← is) record {
       size = follows.size;
-      registers = λ s. rw (defined-emits op _ _ w is) (follows.registers s);
+      registers = λ s. rw (defined-no_result op _ _ (ap has_no_result (sym is))) (follows.registers s);
       words = follows.words;
       outputs = pushed ∙ ap (λ words. words ++ w ∷ []) follows.outputs;
+      no_fault = follows.no_fault;
+    }
+
+-- an operation that does nothing
+pub after_nothing : (memory : List ℤ) (trace : List Executed) (machine : Machine) (op : Op) → Follows memory trace machine → Nothing ≡ effect op (value_of machine.registers) (word_at machine.memory) → Follows memory (then_executed memory op trace) machine
+after_nothing memory trace machine op follows is =
+    rw (effect_after memory trace machine op follows, ← is) record {
+      size = follows.size;
+      registers = λ s. rw (defined-no_result op _ _ (ap has_no_result (sym is))) (follows.registers s);
+      words = follows.words;
+      outputs = follows.outputs ∙ sym (append-nil (emitted trace));
       no_fault = follows.no_fault;
     }

@@ -3,7 +3,7 @@ use Rattle.std.specs.Prelude.{Bool, true, false, if◌then◌else◌, List, [], 
 use Rattle.std.specs.List.{list_any}
 use Rattle.iloc_text.specs.declared.op.Op.{Op}
 use Rattle.iloc_meaning.specs.declared.effect.Effect.{Effect}
-use Rattle.iloc_meaning.specs.declared.effect.Effect.TheVariants.{Faults, Gives, Writes, Emits}
+use Rattle.iloc_meaning.specs.declared.effect.Effect.TheVariants.{Faults, Gives, Writes, Emits, Nothing}
 use Rattle.iloc_meaning.specs.declared.outcome.Outcome.{Outcome}
 use Rattle.iloc_meaning.specs.declared.outcome.Outcome.TheVariants.{Finished, Fault}
 use Rattle.iloc_meaning.specs.Memory.{with_words}
@@ -15,6 +15,7 @@ is_fault Faults = true
 is_fault (Gives result) = false
 is_fault (Writes address word) = false
 is_fault (Emits word) = false
+is_fault Nothing = false
 
 -- the word that an effect emits, if any
 abbrev pub emitted_by : Effect → List ℤ
@@ -22,6 +23,7 @@ emitted_by Faults = []
 emitted_by (Gives result) = []
 emitted_by (Writes address word) = []
 emitted_by (Emits word) = word ∷ []
+emitted_by Nothing = []
 
 -- whether an operation of the trace faulted
 abbrev pub has_fault : List Executed → Bool

@@ -2,10 +2,10 @@
 use Rattle.std.specs.Prelude.{ℕ, zero, suc, ◌==◌, Bool, false, List, [], ◌∷◌, find, slice_index_or, Option, Some, None, ℤ, pos}
 use Rattle.iloc_text.specs.declared.op.Reg.{Reg}
 use Rattle.iloc_text.specs.declared.op.Op.{Op}
-use Rattle.iloc_text.specs.declared.op.Op.TheVariants.{LoadI}
+use Rattle.iloc_text.specs.declared.op.Op.TheVariants.{Nop}
 use Rattle.iloc_text.specs.Registers.{defined}
 use Rattle.iloc_meaning.specs.declared.effect.Effect.{Effect}
-use Rattle.iloc_meaning.specs.declared.effect.Effect.TheVariants.{Faults, Gives, Writes, Emits}
+use Rattle.iloc_meaning.specs.declared.effect.Effect.TheVariants.{Faults, Gives, Writes, Emits, Nothing}
 use Rattle.iloc_meaning.specs.Memory.{word_at}
 use Rattle.iloc_meaning.specs.Effect.{effect}
 
@@ -20,6 +20,7 @@ result_of Faults = pos 0
 result_of (Gives result) = result
 result_of (Writes address word) = pos 0
 result_of (Emits word) = pos 0
+result_of Nothing = pos 0
 
 -- the word that an effect writes, 0 where it writes none
 abbrev pub written_by : Effect → ℤ
@@ -27,6 +28,7 @@ written_by Faults = pos 0
 written_by (Gives result) = pos 0
 written_by (Writes address word) = word
 written_by (Emits word) = pos 0
+written_by Nothing = pos 0
 
 -- whether it is register r
 abbrev pub is_register : Reg → Option Reg → Bool
@@ -43,6 +45,7 @@ is_write_to a Faults = false
 is_write_to a (Gives result) = false
 is_write_to a (Writes address word) = a == address
 is_write_to a (Emits word) = false
+is_write_to a Nothing = false
 
 -- whether the operation wrote to the address a
 abbrev pub writes_to : ℕ → Executed → Bool
@@ -73,7 +76,7 @@ then_executed memory op trace =
 
 -- operation i
 abbrev pub op_at : List Op → ℕ → Op
-op_at ops i = slice_index_or ops i (LoadI 0 (record { 0 = 0 }))
+op_at ops i = slice_index_or ops i Nop
 
 -- the trace before operation i
 abbrev pub before : List ℤ → List Op → ℕ → List Executed

@@ -3,9 +3,10 @@ ghost use Rattle.std.specs.Prelude.{◌≡◌};
 ghost use Rattle.iloc_meaning.specs.Address.{good_address};
 ghost use Rattle.iloc_meaning.specs.Memory.{word_at};
 
+use crate::arithmetic::{constant, difference, product, shifted_left, shifted_right, sum};
 use crate::memory::Memory;
 use crate::registers::Registers;
-use iloc_text::op::Op;
+use iloc_text::op::{Op, Reg};
 
 /// The effect of an operation: at most one result, one written word or one emitted word.
 #[derive(Clone, Copy, Debug, PartialEq, Eq)]
@@ -18,6 +19,8 @@ pub enum Effect {
     Writes { address: u32, word: i32 },
     /// This word is emitted.
     Emits(i32),
+    /// Nothing is done.
+    Nothing,
 }
 
 /// The address that a register's value or a constant stands for, if it is good.
@@ -28,29 +31,74 @@ fn good_address(value: i32) -> Option<u32>
 }
 
 impl Effect {
-    ghost use Rattle.iloc_meaning.specs.Effect.{effect};
+    ghost use Rattle.iloc_meaning.specs.Effect.{effect, at_address};
     ghost use Rattle.iloc_meaning.specs.Registers.{value_of};
 
     /// What an operation does with these registers and this memory.
     pub fn of(op: &Op, registers: &Registers, memory: &Memory) -> Effect
         ensures { result ≡ effect op.now (value_of registers.now) (word_at memory.now) }
     {
+        let read = |register: Reg| registers.get(register);
         match *op {
-            Op::LoadI { value, .. } => Effect::Gives(value.cast_signed()),
-            Op::Store { value, addr } => match good_address(registers.get(addr)) {
-                Some(address) => Effect::Writes {
-                    address,
-                    word: registers.get(value),
-                },
-                None => Effect::Faults,
-            },
-            Op::Add { left, right, .. } => {
-                Effect::Gives(registers.get(left).wrapping_add(registers.get(right)))
+            Op::Load { addr, .. } => Effect::load(read(addr), memory),
+            Op::LoadI { value, .. } => Effect::Gives(constant(value)),
+            Op::Store { value, addr } => Effect::store(read(value), read(addr)),
+            Op::Add { left, right, .. } => Effect::Gives(sum(read(left), read(right))),
+            Op::Sub { left, right, .. } => Effect::Gives(difference(read(left), read(right))),
+            Op::Mult { left, right, .. } => Effect::Gives(product(read(left), read(right))),
+            Op::Lshift { left, right, .. } => Effect::Gives(shifted_left(read(left), read(right))),
+            Op::Rshift { left, right, .. } => Effect::Gives(shifted_right(read(left), read(right))),
+            Op::Output { addr } => Effect::output(constant(addr), memory),
+            Op::Nop => Effect::Nothing,
+            Op::AddI { left, value, .. } => Effect::Gives(sum(read(left), constant(value))),
+            Op::SubI { left, value, .. } => Effect::Gives(difference(read(left), constant(value))),
+            Op::MultI { left, value, .. } => Effect::Gives(product(read(left), constant(value))),
+            Op::LshiftI { left, value, .. } => {
+                Effect::Gives(shifted_left(read(left), constant(value)))
             }
-            Op::Output { addr } => match good_address(addr.cast_signed()) {
-                Some(address) => Effect::Emits(memory.get(address)),
-                None => Effect::Faults,
-            },
+            Op::RshiftI { left, value, .. } => {
+                Effect::Gives(shifted_right(read(left), constant(value)))
+            }
+            Op::LoadAI { addr, offset, .. } => {
+                Effect::load(sum(read(addr), constant(offset)), memory)
+            }
+            Op::StoreAI {
+                value,
+                addr,
+                offset,
+            } => Effect::store(read(value), sum(read(addr), constant(offset))),
+        }
+    }
+
+    /// A load from the address that a value stands for.
+    fn load(address: i32, memory: &Memory) -> Effect
+        ensures { result ≡
+            at_address (good_address address) (λ a. Effect.Gives (word_at memory.now a)) }
+    {
+        match good_address(address) {
+            Some(address) => Effect::Gives(memory.get(address)),
+            None => Effect::Faults,
+        }
+    }
+
+    /// A store of a word at the address that a value stands for.
+    fn store(word: i32, address: i32) -> Effect
+        ensures { result ≡ at_address (good_address address) (λ a. Effect.Writes a word) }
+    {
+        match good_address(address) {
+            Some(address) => Effect::Writes { address, word },
+            None => Effect::Faults,
+        }
+    }
+
+    /// An output from the address that a value stands for.
+    fn output(address: i32, memory: &Memory) -> Effect
+        ensures { result ≡
+            at_address (good_address address) (λ a. Effect.Emits (word_at memory.now a)) }
+    {
+        match good_address(address) {
+            Some(address) => Effect::Emits(memory.get(address)),
+            None => Effect::Faults,
         }
     }
 }

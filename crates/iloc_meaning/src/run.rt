@@ -41,6 +41,7 @@ impl Machine {
             }
             Effect::Writes { address, word } => self.memory.set(address, word),
             Effect::Emits(word) => self.outputs.push(word)?,
+            Effect::Nothing => {}
         }
         Ok(true)
     }

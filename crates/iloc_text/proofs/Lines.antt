@@ -1,184 +1,110 @@
 -- The scanner reads the lines of the grammar, and each of them.
-use Rattle.std.proofs.Common.{◌≡◌, ◌∙◌, ℕ, ◌≤◌, nat_lt, Bool, true, false, cond, ◌&&◌, ◌==◌, List, [], ◌∷◌, ◌++◌, map, refl, sym, ap, ap₂, subst, Option, Some, None, IfSome, option_map, arith}
-use Rattle.std.specs.List.{AllByRecursion, list_all}
-use Rattle.std.proofs.lemmas.Bool.Decides.{nat_tests}
-use Rattle.iloc_text.specs.declared.op.Reg.{Reg}
+use Rattle.std.proofs.Common.{◌≡◌, ◌∙◌, ℕ, nat_lt, true, false, List, ◌++◌, refl, sym, ap, subst, Option, Some, None, IfSome, option_map, unwrap_or}
+use Rattle.std.specs.List.{list_all}
 use Rattle.iloc_text.specs.declared.op.Op.{Op}
-use Rattle.iloc_text.specs.declared.op.Op.TheVariants.{LoadI, Store, Add, Output}
-use Rattle.iloc_text.specs.Grammar.{is_blank, OptionalOperation, OptionalComment, ReadsWidely, numbers, IsWithinLimit, Reads, LineReads}
-use Rattle.iloc_text.specs.Scan.{◌>>=◌, capped, after_blanks, is_word_byte, operation_at, optional_operation_at, is_end, line_at, is_within, read_at}
-use Rattle.iloc_text.proofs.Parts.{Before, Before-join, Before-split, Before-all, all-Before, starts}
-use Rattle.iloc_text.proofs.Tokens.{blanks_read, blanks_none, blanks_over, blanks_again}
-use Rattle.iloc_text.proofs.Operations.{bind_each, blanks_fail, blank_is_no_word_byte, capped_reg, capped_op, operation_read, operation_again, operation_starts}
+use Rattle.iloc_text.specs.Grammar.{is_blank, is_word_byte, ReadsWidely, numbers, Reads, HasReading, HasWideReading}
+use Rattle.iloc_text.specs.Scan.{after_blanks, optional_label_at, body_at, line_at, is_within}
+use Rattle.iloc_text.proofs.Parts.{Before-join, Before-split, Before-all, all-Before, starts}
+use Rattle.iloc_text.proofs.Tokens.{blanks_read, blanks_over, blanks_again}
+use Rattle.iloc_text.proofs.Opcodes.{bind_each}
+use Rattle.iloc_text.proofs.Starts.{blanks_fail, blank_is_no_word_byte}
+use Rattle.iloc_text.proofs.Operations.{capped_op, operation_starts, operation_colon}
+use Rattle.iloc_text.proofs.Bodies.{end_starts, Body, body_read, no_blank_start, body_again, body_skips}
+use Rattle.iloc_text.proofs.Labels.{is_colon, label_read, label_none, label_not_here, label_again}
+use Rattle.iloc_text.proofs.Limits.{capped-within, numbers-capped, small_all, within_limit}
 
--- An operation or none
-
-abbrev FindsOptional : List ℕ → Option Op × List ℕ → Type 0
-FindsOptional bytes found = (op : Option Op) × Before (OptionalOperation op) found.1 bytes × (found.0 ≡ option_map capped_op op)
-
-nothing_first : (bytes : List ℕ) → FindsOptional bytes (None, bytes)
-nothing_first bytes = (None, record { front = []; first = refl; whole = refl }, refl)
-
-optional_read : (bytes : List ℕ) → IfSome (optional_operation_at bytes) (FindsOptional bytes)
-unfolding optional_operation_at
-optional_read [] = nothing_first []
-optional_read (c ∷ cs) = by (is_word_byte c)
-  where
-    by : (b : Bool) → IfSome (cond b (operation_at (c ∷ cs) >>= (λ found. Some (Some found.0, found.1))) (Some (None, c ∷ cs))) (FindsOptional (c ∷ cs))
-    by true = bind_each (FindsOptional (c ∷ cs)) (operation_at (c ∷ cs)) (λ found. Some (Some found.0, found.1)) (operation_read (c ∷ cs))
-        (λ found f. (Some f.0, f.1, ap (λ op. Some op) f.2))
-    by false = nothing_first (c ∷ cs)
-
-optional_here : (bytes : List ℕ) → starts is_word_byte bytes ≡ true → optional_operation_at bytes ≡ (operation_at bytes >>= (λ found. Some (Some found.0, found.1)))
-unfolding optional_operation_at
-optional_here [] h = cc
-optional_here (c ∷ cs) h = ap (λ b. cond b (operation_at (c ∷ cs) >>= (λ found. Some (Some found.0, found.1))) (Some (None, c ∷ cs))) h
-
-optional_none : (bytes : List ℕ) → starts is_word_byte bytes ≡ false → optional_operation_at bytes ≡ Some (None, bytes)
-unfolding optional_operation_at
-optional_none [] h = refl
-optional_none (c ∷ cs) h = ap (λ b. cond b (operation_at (c ∷ cs) >>= (λ found. Some (Some found.0, found.1))) (Some (None, c ∷ cs))) h
-
--- The end of a line
-
-slashes : (c d : ℕ) → ((c == 47) && (d == 47)) ≡ true → (c ≡ 47) × (d ≡ 47)
-slashes c d h = (grind (arith, nat_tests), grind (arith, nat_tests))
-
-end_read : (rest : List ℕ) → is_end rest ≡ true → OptionalComment rest
-end_read [] h = tt
-end_read (c ∷ []) h = cc
-end_read (c ∷ d ∷ cs) h = slashes c d h
-
-end_again : (rest : List ℕ) → OptionalComment rest → is_end rest ≡ true
-end_again [] h = refl
-end_again (c ∷ []) h = absurd h
-end_again (c ∷ d ∷ cs) h = rw (h.0, h.1) refl
-
-end_starts : (test : ℕ → Bool) → test 47 ≡ false → (rest : List ℕ) → OptionalComment rest → starts test rest ≡ false
-end_starts test e [] h = refl
-end_starts test e (c ∷ []) h = absurd h
-end_starts test e (c ∷ d ∷ cs) h = ap test h.0 ∙ e
-
--- A line
-
-abbrev pub FindsLine : List ℕ → Option Op → Type 0
-FindsLine bytes found = (op : Option Op) × ReadsWidely bytes op × (found ≡ option_map capped_op op)
+abbrev pub FindsLine : List ℕ → Option (List ℕ) × Option Op → Type 0
+FindsLine bytes found = (op : Option Op) × ReadsWidely bytes found.0 op × (found.1 ≡ option_map capped_op op)
 
 pub line_read : (bytes : List ℕ) → IfSome (line_at bytes) (FindsLine bytes)
 unfolding line_at
-line_read bytes = bind_each (FindsLine bytes) (optional_operation_at (after_blanks bytes)) _ (optional_read (after_blanks bytes)) (λ found f.
-    ends found f (is_end (after_blanks found.1)) refl)
-  where
-    ends : (found : Option Op × List ℕ) → FindsOptional (after_blanks bytes) found → (b : Bool) → is_end (after_blanks found.1) ≡ b
-        → IfSome (cond b (Some found.0) None) (FindsLine bytes)
-    ends found f false e = tt
-    ends found f true e = (
-      f.0,
-      Before-all (Before-join (blanks_read bytes) (Before-join f.1
-          (Before-join (blanks_read found.1) (all-Before (end_read (after_blanks found.1) e))))),
-      f.2,
-    )
+line_read bytes = bind_each (FindsLine bytes) (body_at (optional_label_at (after_blanks bytes)).1) _ (body_read (optional_label_at (after_blanks bytes)).1)
+    (λ op f. (f.0, Before-all (Before-join (blanks_read bytes) (Before-join (label_read (after_blanks bytes)) (all-Before f.1))), f.2))
 
-word_byte_is_no_blank : (c : ℕ) → is_word_byte c ≡ true → is_blank c ≡ false
-word_byte_is_no_blank c h = grind (arith, nat_tests)
-
-no_blank_start : (bytes : List ℕ) → starts is_word_byte bytes ≡ true → starts is_blank bytes ≡ false
-no_blank_start [] h = refl
-no_blank_start (c ∷ cs) h = word_byte_is_no_blank c h
-
-pub line_again : (bytes : List ℕ) (op : Option Op) → ReadsWidely bytes op → line_at bytes ≡ Some (option_map capped_op op)
-unfolding line_at
-line_again bytes (Some op) r =
+-- no label is found in front of what stands behind one
+pub body_has_no_label : (op : Option Op) (bytes : List ℕ) → Body op bytes → optional_label_at (after_blanks bytes) ≡ (None, after_blanks bytes)
+body_has_no_label (Some op) bytes r =
     let first = Before-split (all-Before r) in
     let second = Before-split first.2 in
     let third = Before-split second.2 in
     let comment = Before-all third.2 in
     let word = operation_starts op second.0 first.0 second.1 in
-    rw (
-      blanks_again first.0 bytes first.1 (no_blank_start first.0 word),
-      optional_here first.0 word,
-      operation_again op second.0 first.0 second.1
-          (blanks_fail is_word_byte blank_is_no_word_byte third.1 (end_starts is_word_byte refl third.0 comment)),
-      blanks_again third.0 second.0 third.1 (end_starts is_blank refl third.0 comment),
-      end_again third.0 comment,
-    ) refl
-line_again bytes None r =
+    let skipped = blanks_again first.0 bytes first.1 (no_blank_start first.0 word) in
+    let stop = blanks_fail is_word_byte blank_is_no_word_byte third.1 (end_starts is_word_byte refl third.0 comment) in
+    let colon : starts is_colon (after_blanks second.0) ≡ false =
+    ap (starts is_colon) (blanks_again third.0 second.0 third.1 (end_starts is_blank refl third.0 comment)) ∙ end_starts is_colon refl third.0 comment in
+    rw skipped (label_none first.0 (operation_colon op second.0 first.0 second.1 stop colon))
+body_has_no_label None bytes r =
     let first = Before-split (all-Before r) in
     let second = Before-split first.2 in
     let third = Before-split second.2 in
     let comment = Before-all third.2 in
-    let still : after_blanks third.0 ≡ third.0 = blanks_none third.0 (end_starts is_blank refl third.0 comment) in
     let skipped : after_blanks bytes ≡ third.0 =
     blanks_over first.0 bytes first.1 ∙ ap after_blanks (second.1.whole ∙ ap (λ f. f ++ second.0) second.1.first)
-    ∙ blanks_over third.0 second.0 third.1 ∙ still in
-    rw (skipped, optional_none third.0 (end_starts is_word_byte refl third.0 comment), still, end_again third.0 comment) refl
+    ∙ blanks_again third.0 second.0 third.1 (end_starts is_blank refl third.0 comment) in
+    rw skipped (label_not_here third.0 (end_starts is_word_byte refl third.0 comment))
 
--- The limit of numbers
+pub line_again : (bytes : List ℕ) (label : Option (List ℕ)) (op : Option Op) → ReadsWidely bytes label op → line_at bytes ≡ Some (label, option_map capped_op op)
+unfolding line_at
+line_again bytes (Some name) op r =
+    let first = Before-split (all-Before r) in
+    let second = Before-split first.2 in
+    let label = label_again name second.0 first.0 second.1 in
+    rw (blanks_again first.0 bytes first.1 (no_blank_start first.0 label.1), label.0, body_again second.0 op (Before-all second.2)) refl
+line_again bytes None op r =
+    let first = Before-split (all-Before r) in
+    let second = Before-split first.2 in
+    let skipped : after_blanks bytes ≡ after_blanks second.0 =
+    blanks_over first.0 bytes first.1 ∙ ap after_blanks (second.1.whole ∙ ap (λ f. f ++ second.0) second.1.first) in
+    rw (skipped, body_has_no_label op second.0 (Before-all second.2), body_skips second.0, body_again second.0 op (Before-all second.2)) refl
 
-capped_within : (n : ℕ) → n ≤ 2147483647 → capped n ≡ n
-capped_within n h = omega arith
-
-reg_within : (r : Reg) → r.0 ≤ 2147483647 → capped_reg r ≡ r
-reg_within r h = ap (λ n. record { 0 = n }) (capped_within r.0 h)
-
-capped-within : (op : Op) → IsWithinLimit op → capped_op op ≡ op
-capped-within (LoadI value dest) h = ap₂ LoadI (capped_within value h.0) (reg_within dest h.1.0)
-capped-within (Store value addr) h = ap₂ Store (reg_within value h.0) (reg_within addr h.1.0)
-capped-within (Add left right dest) h = let a = reg_within left h.0 in let b = reg_within right h.1.0 in let c = reg_within dest h.1.1.0 in cc
-capped-within (Output addr) h = ap (λ n. Output n) (capped_within addr h.0)
-
-numbers-capped : (op : Op) → numbers (capped_op op) ≡ map capped (numbers op)
-numbers-capped (LoadI value dest) = refl
-numbers-capped (Store value addr) = refl
-numbers-capped (Add left right dest) = refl
-numbers-capped (Output addr) = refl
-
-all_small : (ns : List ℕ) → list_all (λ n. nat_lt n 2147483648) (map capped ns) ≡ true → AllByRecursion (λ n. n ≤ 2147483647) ns
-all_small [] h = tt
-all_small (n ∷ ns) h = by (nat_lt (capped n) 2147483648) refl (all_small ns) h
-  where
-    by : (b : Bool) → nat_lt (capped n) 2147483648 ≡ b → (list_all (λ n. nat_lt n 2147483648) (map capped ns) ≡ true → AllByRecursion (λ n. n ≤ 2147483647) ns)
-        → (b && list_all (λ n. nat_lt n 2147483648) (map capped ns)) ≡ true → AllByRecursion (λ n. n ≤ 2147483647) (n ∷ ns)
-    by true e rest h = (grind (arith, nat_tests), rest h)
-    by false e rest h = cc
-
-small_all : (ns : List ℕ) → AllByRecursion (λ n. n ≤ 2147483647) ns → list_all (λ n. nat_lt n 2147483648) (map capped ns) ≡ true
-small_all [] h = refl
-small_all (n ∷ ns) h = let small : nat_lt (capped n) 2147483648 ≡ true = let le : n ≤ 2147483647 = h.0 in grind (arith, nat_tests) in rw (small, small_all ns h.1) refl
+-- What the scanner's answer says
 
 -- what was found within the limit is what the line reads as
-pub reads_found : (bytes : List ℕ) (op found : Option Op) → ReadsWidely bytes op → found ≡ option_map capped_op op → is_within found ≡ true → Reads bytes found
-reads_found bytes None found r e h = rw e (r, tt)
-reads_found bytes (Some op) found r e h =
-    let within : IsWithinLimit op = all_small (numbers op) (ap (list_all (λ n. nat_lt n 2147483648)) (sym (numbers-capped op)) ∙ ap is_within (sym e) ∙ h) in
-    subst (Reads bytes) (sym (e ∙ ap (λ o. Some o) (capped-within op within))) (r, within)
+pub reads_found : (bytes : List ℕ) (label : Option (List ℕ)) (op found : Option Op) → ReadsWidely bytes label op → found ≡ option_map capped_op op
+    → is_within found ≡ true → Reads bytes label found
+reads_found bytes label None found r e h = rw e (r, tt)
+reads_found bytes label (Some op) found r e h =
+    let within = within_limit op (ap is_within (sym e) ∙ h) in
+    subst (Reads bytes label) (sym (e ∙ ap (λ o. Some o) (capped-within op within))) (r, within)
 
 -- a line that reads is found, within the limit
-pub found_reads : (bytes : List ℕ) (op : Option Op) → Reads bytes op → line_at bytes ≡ Some op
-found_reads bytes None r = line_again bytes None r.0
-found_reads bytes (Some op) r = line_again bytes (Some op) r.0 ∙ ap (λ o. Some (Some o)) (capped-within op r.1)
+pub found_reads : (bytes : List ℕ) (label : Option (List ℕ)) (op : Option Op) → Reads bytes label op → (line_at bytes ≡ Some (label, op)) × (is_within op ≡ true)
+found_reads bytes label None r = (line_again bytes label None r.0, refl)
+found_reads bytes label (Some op) r = (
+  line_again bytes label (Some op) r.0 ∙ ap (λ o. Some (label, Some o)) (capped-within op r.1),
+  ap (list_all (λ n. nat_lt n 2147483648)) (ap numbers (sym (capped-within op r.1)) ∙ numbers-capped op) ∙ small_all (numbers op) r.1,
+)
 
-pub within_reads : (bytes : List ℕ) (op : Option Op) → Reads bytes op → is_within op ≡ true
-within_reads bytes None r = refl
-within_reads bytes (Some op) r = ap (list_all (λ n. nat_lt n 2147483648)) (ap numbers (sym (capped-within op r.1)) ∙ numbers-capped op) ∙ small_all (numbers op) r.1
+pub line_bad : (bytes : List ℕ) → line_at bytes ≡ None → HasWideReading bytes → ⊥
+line_bad bytes e r = let found = sym e ∙ line_again bytes r.0 r.1 r.2 in cc
 
-read_within : (bytes : List ℕ) (found : Option Op) → line_at bytes ≡ Some found → FindsLine bytes found
-    → (b : Bool) → is_within found ≡ b → LineReads bytes (cond b (Some found) None)
-read_within bytes found e f true h = reads_found bytes f.0 found f.1 f.2 h
-read_within bytes found e f false h = λ op r.
-    let same : ◌≡◌ {A = Option (Option Op)} (Some op) (Some found) = sym (found_reads bytes op r) ∙ e in
-    let inside : is_within op ≡ true = within_reads bytes op r in
-    cc
+some_same : {A : Type 0} (x y : A) → Some x ≡ Some y → x ≡ y
+some_same x y e = ap (λ o. unwrap_or o x) e
 
-read_by : (bytes : List ℕ) (found : Option (Option Op)) → line_at bytes ≡ found → IfSome found (FindsLine bytes)
-    → LineReads bytes (found >>= (λ op. cond (is_within op) (Some op) None))
-read_by bytes None e f = λ op r. let same = sym e ∙ line_again bytes op r.0 in cc
-read_by bytes (Some found) e f = read_within bytes found e f (is_within found) refl
+found_at : (bytes : List ℕ) (found : Option (Option (List ℕ) × Option Op)) (label : Option (List ℕ)) (op : Option Op)
+    → found ≡ Some (label, op) → IfSome found (FindsLine bytes) → FindsLine bytes (label, op)
+found_at bytes None label op e f = cc
+found_at bytes (Some x) label op e f = let same = some_same x (label, op) e in subst (FindsLine bytes) same f
 
--- the scanner's answer within the limit is the grammar's
-pub line_reads : (bytes : List ℕ) → LineReads bytes (read_at bytes)
-line_reads bytes = read_by bytes (line_at bytes) refl (line_read bytes)
+pub line_good : (bytes : List ℕ) (label : Option (List ℕ)) (op : Option Op) → line_at bytes ≡ Some (label, op) → is_within op ≡ true → Reads bytes label op
+line_good bytes label op e h = let f = found_at bytes (line_at bytes) label op e (line_read bytes) in reads_found bytes label f.0 op f.1 f.2 h
+
+pub line_large : (bytes : List ℕ) (label : Option (List ℕ)) (op : Option Op) → line_at bytes ≡ Some (label, op) → is_within op ≡ false
+    → HasWideReading bytes × (HasReading bytes → ⊥)
+line_large bytes label op e h =
+    let f = found_at bytes (line_at bytes) label op e (line_read bytes) in (
+      (label, f.0, f.1),
+      λ r.
+          let found = found_reads bytes r.0 r.1 r.2 in
+          let both : ◌≡◌ {A = Option (List ℕ) × Option Op} (label, op) (r.0, r.1) = some_same (label, op) (r.0, r.1) (sym e ∙ found.0) in
+          let same : op ≡ r.1 = ap (λ p. p.1) both in
+          let within = found.1 in cc,
+    )
 
 -- a line has at most one reading
-pub one_reading : (bytes : List ℕ) (a b : Option Op) → Reads bytes a → Reads bytes b → a ≡ b
-one_reading bytes a b r s = let e : ◌≡◌ {A = Option (Option Op)} (Some a) (Some b) = sym (found_reads bytes a r) ∙ found_reads bytes b s in cc
+pub one_reading : (bytes : List ℕ) (l m : Option (List ℕ)) (a b : Option Op) → Reads bytes l a → Reads bytes m b → (l ≡ m) × (a ≡ b)
+one_reading bytes l m a b r s =
+    let both : ◌≡◌ {A = Option (List ℕ) × Option Op} (l, a) (m, b) =
+    some_same (l, a) (m, b) (sym (found_reads bytes l a r).0 ∙ (found_reads bytes m b s).0) in
+    (ap (λ p. p.0) both, ap (λ p. p.1) both)

@@ -1,69 +1,144 @@
 -- What the reader has read, from line to line.
-use Rattle.std.proofs.Common.{◌≡◌, ◌∙◌, ℕ, ◌+◌, ◌≤◌, List, [], ◌∷◌, ◌++◌, length, refl, sym, ap, subst, Option, Some, None, option_to_list, append_assoc, append-nil, length-append, filter_map, Bor, arith}
-use Rattle.std.proofs.lemmas.List.Elements.{filter_map-append}
+use Rattle.std.proofs.Common.{◌≡◌, ◌≢◌, ◌∙◌, ℕ, ◌+◌, ◌<◌, ◌≤◌, List, [], ◌∷◌, ◌++◌, length, refl, sym, ap, subst, Option, Some, None, IfErr, Result, Err, append_assoc, append-nil, length-append, IsUtf8, get_or, zero, suc, true, Bor, arith}
+use Rattle.std.specs.List.{AllByRecursion}
+use Rattle.std.specs.Option.{ForSome}
+use Rattle.std.proofs.lemmas.Str.{IsUtf8-from_ascii}
+use Rattle.std.proofs.lemmas.Bool.Decides.{nat_tests}
 use Rattle.iloc_text.specs.declared.op.Op.{Op}
 use Rattle.iloc_text.specs.declared.file.Block.{Block}
-use Rattle.iloc_text.specs.Grammar.{Reads}
+use Rattle.iloc_text.specs.declared.fault.ReadFault.{ReadFault}
+use Rattle.iloc_text.specs.declared.fault.ReadFault.TheVariants.{InputTooLong, BadLine, NumberTooLarge, TooManyBlocks, TooManyOperations, NoMemory}
+use Rattle.iloc_text.specs.Grammar.{is_word_byte, IsName, Reads}
 use Rattle.iloc_text.specs.Lines.{lines_of, lines_left}
-use Rattle.iloc_text.specs.Files.{AreLines, ReadAs, unnamed_block, Denotes, IsBad, HasFirstBadLine}
+use Rattle.iloc_text.specs.Files.{AreLines, Reading, ReadAs, block_names, fronts, file_of, IsWithin, NoneFaulty, Denotes, IsFaulty, HasFirstFault, IsRefused}
+use Rattle.iloc_text.specs.Growth.{with_line, last_ops, AreWithin, Grows}
+use Rattle.iloc_text.proofs.Parts.{Before-split, all-Before}
 use Rattle.iloc_text.proofs.Splitting.{lines_are, lines_few}
+use Rattle.iloc_text.proofs.Counts.{fronts-snoc}
+use Rattle.iloc_text.proofs.Blocks.{length-file, last-file, file-snoc}
 
--- these operations stand on the first lines, of which there are as many; the rest is still to be read
-pub record Progress (input : List ℕ) (ops : List Op) (number : ℕ) (rest : Option (Bor (List ℕ))) : Type 0 where
+-- The text of a label
+
+word_byte_is_ascii : (c : ℕ) → is_word_byte c ≡ true → c < 128
+word_byte_is_ascii c h = grind (arith, nat_tests)
+
+word_is_ascii : (bytes : List ℕ) → AllByRecursion (λ c. is_word_byte c ≡ true) bytes → (i : ℕ) → get_or bytes i 0 < 128
+word_is_ascii [] h i = omega arith
+word_is_ascii (c ∷ cs) h zero = word_byte_is_ascii c h.0
+word_is_ascii (c ∷ cs) h (suc i) = word_is_ascii cs h.1 i
+
+name_is_utf8 : (name : List ℕ) → IsName name → IsUtf8 name
+name_is_utf8 [] h = absurd h
+name_is_utf8 (c ∷ cs) h = IsUtf8-from_ascii (c ∷ cs) (word_is_ascii (c ∷ cs) (grind (arith, nat_tests), h.1))
+
+pub label_is_utf8 : (line : List ℕ) (label : Option (List ℕ)) (op : Option Op) → Reads line label op → ForSome label IsUtf8
+label_is_utf8 line None op r = λ x e. cc
+label_is_utf8 line (Some name) op r = λ x e.
+    let first = Before-split (all-Before r.0) in
+    let second = Before-split first.2 in
+    let same : name ≡ x = cc in
+    subst IsUtf8 same (name_is_utf8 name (Before-split second.1).1.first.0)
+
+-- The limits
+
+within_by : (rs : List Reading) → AreWithin (file_of rs) → IsWithin rs
+within_by rs h = record {
+  blocks = let most = h.count in omega (arith, length-file rs);
+  operations = let most = h.last in omega (arith, ap length (last-file rs));
+}
+
+all-snoc : {A : Type 0} (P : A → Type 0) (xs : List A) (x : A) → AllByRecursion P xs → P x → AllByRecursion P (xs ++ x ∷ [])
+all-snoc P [] x h p = (p, tt)
+all-snoc P (y ∷ ys) x h p = (h.0, all-snoc P ys x h.1 p)
+
+NoneFaulty-snoc : (rs : List Reading) (r : Reading) → NoneFaulty rs → IsWithin (rs ++ r ∷ []) → NoneFaulty (rs ++ r ∷ [])
+NoneFaulty-snoc rs r h w = subst (AllByRecursion IsWithin) (sym (fronts-snoc rs r)) (all-snoc IsWithin (fronts rs) (rs ++ r ∷ []) h w)
+
+ReadAs-snoc : (lines : List (List ℕ)) (rs : List Reading) (line : List ℕ) (r : Reading)
+    → ReadAs lines rs → Reads line r.label r.op → ReadAs (lines ++ line ∷ []) (rs ++ r ∷ [])
+ReadAs-snoc [] [] line r h reads = (reads, tt)
+ReadAs-snoc [] (x ∷ xs) line r h reads = absurd h
+ReadAs-snoc (l ∷ ls) [] line r h reads = absurd h
+ReadAs-snoc (l ∷ ls) (x ∷ xs) line r h reads = (h.0, ReadAs-snoc ls xs line r h.1 reads)
+
+-- From line to line
+
+-- these blocks stand on the first lines, of which there are as many; the rest is still to be read
+pub record Progress (input : List ℕ) (blocks : List Block) (number : ℕ) (rest : Option (Bor (List ℕ))) : Type 0 where
   pub before : List (List ℕ)
-  pub readings : List (Option Op)
+  pub readings : List Reading
   pub read : ReadAs before readings
-  pub ops_are : ops ≡ filter_map (λ op. op) readings
+  pub none_faulty : NoneFaulty readings
+  pub blocks_are : blocks ≡ file_of readings
+  pub within : AreWithin blocks
   pub number_is : number ≡ length before
   pub lines : lines_of input ≡ before ++ lines_left rest
 
-ReadAs-push : (lines : List (List ℕ)) (readings : List (Option Op)) (line : List ℕ) (reading : Option Op)
-    → ReadAs lines readings → Reads line reading → ReadAs (lines ++ line ∷ []) (readings ++ reading ∷ [])
-ReadAs-push [] [] line reading h r = (r, tt)
-ReadAs-push [] (x ∷ xs) line reading h r = absurd h
-ReadAs-push (l ∷ ls) [] line reading h r = absurd h
-ReadAs-push (l ∷ ls) (x ∷ xs) line reading h r = (h.0, ReadAs-push ls xs line reading h.1 r)
+nothing_read : file_of [] ≡ []
+unfolding file_of block_names
+nothing_read = refl
 
-filter_map-one : (reading : Option Op) → filter_map (λ op. op) (reading ∷ []) ≡ option_to_list reading
-filter_map-one None = refl
-filter_map-one (Some op) = refl
-
-pub progress_begins : (input : Bor (List ℕ)) (ops : List Op) → ops ≡ [] → Progress input.now ops 0 (Some input)
-progress_begins input ops e = record { before = []; readings = []; read = tt; ops_are = e; number_is = refl; lines = refl }
-
-pub progress_step : {input : List ℕ} {ops : List Op} {number : ℕ} {text : Bor (List ℕ)} (p : Progress input ops number (Some text))
-    (line : List ℕ) (after : Option (Bor (List ℕ))) (reading : Option Op) (ops' : List Op)
-    → lines_of text.now ≡ line ∷ lines_left after → Reads line reading → ops' ≡ ops ++ option_to_list reading → Progress input ops' (number + 1) after
-progress_step {input} {ops} {number} {text} p line after reading ops' split reads e = record {
-  before = p.before ++ line ∷ [];
-  readings = p.readings ++ reading ∷ [];
-  read = ReadAs-push p.before p.readings line reading p.read reads;
-  ops_are = e ∙ ap (λ o. o ++ option_to_list reading) p.ops_are
-      ∙ sym (filter_map-append (λ op. op) p.readings (reading ∷ []) ∙ ap (λ o. filter_map (λ op. op) p.readings ++ o) (filter_map-one reading));
-  number_is = omega (arith, length-append p.before (line ∷ []), p.number_is);
-  lines = p.lines ∙ ap (λ l. p.before ++ l) split ∙ sym (append_assoc p.before (line ∷ []) (lines_left after));
+pub progress_begins : (input : Bor (List ℕ)) (blocks : List Block) → blocks ≡ [] → Progress input.now blocks 0 (Some input)
+progress_begins input blocks e = record {
+  before = [];
+  readings = [];
+  read = tt;
+  none_faulty = tt;
+  blocks_are = e ∙ sym nothing_read;
+  within = subst AreWithin (sym e) (record { count = omega arith; last = omega arith });
+  number_is = refl;
+  lines = refl;
 }
 
+pub progress_step : {input : List ℕ} {blocks : List Block} {number : ℕ} {text : Bor (List ℕ)} (p : Progress input blocks number (Some text))
+    (line : List ℕ) (after : Option (Bor (List ℕ))) (label : Option (List ℕ)) (op : Option Op) (blocks' : List Block)
+    → lines_of text.now ≡ line ∷ lines_left after → Reads line label op → (blocks' ≡ with_line label op blocks) × AreWithin blocks'
+    → Progress input blocks' (number + 1) after
+progress_step {input} {blocks} {number} {text} p line after label op blocks' split reads grown =
+    let r : Reading = record { label = label; op = op } in
+    let file : blocks' ≡ file_of (p.readings ++ r ∷ []) = grown.0 ∙ ap (with_line label op) p.blocks_are ∙ sym (file-snoc p.readings r) in
+    record {
+      before = p.before ++ line ∷ [];
+      readings = p.readings ++ r ∷ [];
+      read = ReadAs-snoc p.before p.readings line r p.read reads;
+      none_faulty = NoneFaulty-snoc p.readings r p.none_faulty (within_by (p.readings ++ r ∷ []) (subst AreWithin file grown.1));
+      blocks_are = file;
+      within = grown.1;
+      number_is = omega (arith, length-append p.before (line ∷ []), p.number_is);
+      lines = p.lines ∙ ap (λ l. p.before ++ l) split ∙ sym (append_assoc p.before (line ∷ []) (lines_left after));
+    }
+
 -- the number of a line is small
-pub progress_number : {input : List ℕ} {ops : List Op} {number : ℕ} {rest : Option (Bor (List ℕ))} → Progress input ops number rest → number ≤ length input + 1
-progress_number {input} {ops} {number} {rest} p =
+pub progress_number : {input : List ℕ} {blocks : List Block} {number : ℕ} {rest : Option (Bor (List ℕ))} → Progress input blocks number rest → number ≤ length input + 1
+progress_number {input} {blocks} {number} {rest} p =
     omega (arith, p.number_is, lines_few input, ap length p.lines, length-append p.before (lines_left rest))
 
-pub progress_ends : {input : List ℕ} {ops : List Op} {number : ℕ} (p : Progress input ops number None) (blocks : List Block)
-    → length input ≤ 16777216 → blocks ≡ unnamed_block ops → Denotes input blocks
-progress_ends {input} {ops} {number} p blocks short e = record {
+pub progress_ends : {input : List ℕ} {blocks : List Block} {number : ℕ} (p : Progress input blocks number None) → length input ≤ 16777216 → Denotes input blocks
+progress_ends {input} {blocks} {number} p short = record {
   short = short;
   lines = p.before;
   are_lines = subst (AreLines input) (p.lines ∙ append-nil p.before) (lines_are input);
   readings = p.readings;
   read = p.read;
-  file = e ∙ ap unnamed_block p.ops_are;
+  none_faulty = p.none_faulty;
+  file = p.blocks_are;
 }
 
-pub bad_line : {input : List ℕ} {ops : List Op} {number : ℕ} {text : Bor (List ℕ)} (p : Progress input ops number (Some text))
-    (line : List ℕ) (after : Option (Bor (List ℕ))) → length input ≤ 16777216 → lines_of text.now ≡ line ∷ lines_left after → IsBad line
-    → HasFirstBadLine input (number + 1)
-bad_line {input} {ops} {number} {text} p line after short split bad = record {
+-- Faults
+
+refused : (input : List ℕ) (fault : ReadFault) → fault ≢ NoMemory → fault ≢ InputTooLong → HasFirstFault input fault → IsRefused input fault
+refused input InputTooLong memory long h = absurd (long refl)
+refused input (BadLine n) memory long h = h
+refused input (NumberTooLarge n) memory long h = h
+refused input (TooManyBlocks n) memory long h = h
+refused input (TooManyOperations n) memory long h = h
+refused input NoMemory memory long h = absurd (memory refl)
+
+-- the line at hand has this fault
+pub fault_here : {input : List ℕ} {blocks : List Block} {number : ℕ} {text : Bor (List ℕ)} (p : Progress input blocks number (Some text))
+    (line : List ℕ) (after : Option (Bor (List ℕ))) (fault : ReadFault) → length input ≤ 16777216 → lines_of text.now ≡ line ∷ lines_left after
+    → fault ≢ NoMemory → fault ≢ InputTooLong → IsFaulty p.readings line (number + 1) fault → IsRefused input fault
+fault_here {input} {blocks} {number} {text} p line after fault short split memory long faulty = refused input fault memory long (record {
   short = short;
   before = p.before;
   line = line;
@@ -71,6 +146,46 @@ bad_line {input} {ops} {number} {text} p line after short split bad = record {
   are_lines = subst (AreLines input) (p.lines ∙ ap (λ l. p.before ++ l) split) (lines_are input);
   readings = p.readings;
   read = p.read;
-  bad = bad;
-  number = ap (λ n. n + 1) p.number_is;
-}
+  none_faulty = p.none_faulty;
+  faulty = subst (λ n. IsFaulty p.readings line n fault) (ap (λ n. n + 1) p.number_is) faulty;
+})
+
+grown_faulty : (rs : List Reading) (line : List ℕ) (n : ℕ) (label : Option (List ℕ)) (op : Option Op) (fault : ReadFault) (new : List Block)
+    → Reads line label op → Grows (with_line label op (file_of rs)) n (Err fault) new → fault ≢ NoMemory → IsFaulty rs line n fault
+grown_faulty rs line n label op InputTooLong new reads g memory = absurd g
+grown_faulty rs line n label op (BadLine k) new reads g memory = absurd g
+grown_faulty rs line n label op (NumberTooLarge k) new reads g memory = absurd g
+grown_faulty rs line n label op (TooManyBlocks k) new reads g memory =
+    let r : Reading = record { label = label; op = op } in
+    let more = g.1 in
+    (g.0, record { reading = r; read = reads; blocks = omega (arith, length-file (rs ++ r ∷ []), ap length (file-snoc rs r)) })
+grown_faulty rs line n label op (TooManyOperations k) new reads g memory =
+    let r : Reading = record { label = label; op = op } in
+    let most = g.1 in
+    let more = g.2 in (
+      g.0,
+      record {
+        reading = r;
+        read = reads;
+        blocks = omega (arith, length-file (rs ++ r ∷ []), ap length (file-snoc rs r));
+        operations = omega (arith, ap length (last-file (rs ++ r ∷ [])), ap (λ bs. length (last_ops bs)) (file-snoc rs r));
+      },
+    )
+grown_faulty rs line n label op NoMemory new reads g memory = absurd (memory refl)
+
+not_long : (wanted new : List Block) (n : ℕ) (fault : ReadFault) → Grows wanted n (Err fault) new → fault ≢ InputTooLong
+not_long wanted new n fault g e = let P : ReadFault → Type 0 = λ f. Grows wanted n (Err f) new in subst P e g
+
+pub grown_here : {input : List ℕ} {blocks : List Block} {number : ℕ} {text : Bor (List ℕ)} (p : Progress input blocks number (Some text))
+    (line : List ℕ) (after : Option (Bor (List ℕ))) (fault : ReadFault) (label : Option (List ℕ)) (op : Option Op) (new : List Block)
+    → length input ≤ 16777216 → lines_of text.now ≡ line ∷ lines_left after → Reads line label op
+    → Grows (with_line label op blocks) (number + 1) (Err fault) new → fault ≢ NoMemory → IsRefused input fault
+grown_here {input} {blocks} {number} {text} p line after fault label op new short split reads g memory =
+    let P : List Block → Type 0 = λ bs. Grows (with_line label op bs) (number + 1) (Err fault) new in
+    fault_here p line after fault short split memory (not_long (with_line label op blocks) new (number + 1) fault g)
+    (grown_faulty p.readings line (number + 1) label op fault new reads (subst P p.blocks_are g) memory)
+
+-- the fault that a call hands on
+pub err_is_refused : {T : Type 0} (input : List ℕ) (r : Result T ReadFault) (fault : ReadFault) → r ≡ Err fault → (fault ≢ NoMemory → IsRefused input fault)
+    → IfErr r (λ f. f ≢ NoMemory → IsRefused input f)
+err_is_refused {T} input r fault e h = let P : Result T ReadFault → Type 0 = λ x. IfErr x (λ f. f ≢ NoMemory → IsRefused input f) in subst P (sym e) h

@@ -6,8 +6,8 @@ use Rattle.std.specs.Char.{is_ascii_digit, digit_value}
 use Rattle.std.specs.Str.Parse.{AllDigits, digits_value_after}
 use Rattle.std.proofs.lemmas.Bool.Decides.{nat_tests}
 use Rattle.iloc_text.specs.declared.op.Reg.{Reg}
-use Rattle.iloc_text.specs.Grammar.{◌⋅◌, Text, is_blank, Blanks, SomeBlanks, Number, Register, Arrow, Comma}
-use Rattle.iloc_text.specs.Scan.{after_blanks, some_blanks_at, capped, digits_after, number_at, register_at, arrow_at, arrow_from, comma_at, comma_from, is_word_byte, after_word, word_of, ◌>>=◌}
+use Rattle.iloc_text.specs.Grammar.{is_word_byte, ◌⋅◌, Text, is_blank, Blanks, SomeBlanks, Number, Register, Arrow, Comma}
+use Rattle.iloc_text.specs.Scan.{after_blanks, some_blanks_at, capped, digits_after, number_at, register_at, arrow_at, arrow_from, comma_at, comma_from, after_word, word_of, ◌>>=◌}
 use Rattle.iloc_text.proofs.Parts.{Before, Before-join, Before-split, starts}
 
 -- Blanks
@@ -27,6 +27,14 @@ blanks_skipped (c ∷ cs) rest h = rw h.0 (blanks_skipped cs rest h.1)
 pub blanks_none : (rest : List ℕ) → starts is_blank rest ≡ false → after_blanks rest ≡ rest
 blanks_none [] h = refl
 blanks_none (c ∷ cs) h = rw h refl
+
+pub blanks_starts : (bytes : List ℕ) → starts is_blank (after_blanks bytes) ≡ false
+blanks_starts [] = refl
+blanks_starts (c ∷ cs) = by (is_blank c) refl (blanks_starts cs)
+  where
+    by : (b : Bool) → is_blank c ≡ b → starts is_blank (after_blanks cs) ≡ false → starts is_blank (cond b (after_blanks cs) (c ∷ cs)) ≡ false
+    by true e r = r
+    by false e r = e
 
 pub blanks_over : (rest bytes : List ℕ) → Before Blanks rest bytes → after_blanks bytes ≡ after_blanks rest
 blanks_over rest bytes b = ap after_blanks b.whole ∙ blanks_skipped b.front rest b.first
@@ -233,3 +241,6 @@ word_read bytes =
     let w = word_split bytes in
     let e : word_of bytes ≡ w.0 = ap word_of w.2 ∙ word_of_over w.0 (after_word bytes) (ap after_word (sym w.2)) in
     (subst IsWord (sym e) w.1, w.2 ∙ ap (λ t. t ++ after_word bytes) (sym e))
+
+pub after_word_starts : (bytes : List ℕ) → starts is_word_byte (after_word bytes) ≡ false
+after_word_starts bytes = (word_split bytes).3

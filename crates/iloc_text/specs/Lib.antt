@@ -1,7 +1,10 @@
 pub mod Registers
 pub mod Spelling
 pub mod Grammar
+pub mod LineReads
 pub mod Lines
-pub mod Files
 pub mod Opcodes
 pub mod Scan
+pub mod Files
+pub mod Growth
+pub mod Laws

@@ -27,9 +27,18 @@ pub enum ReadFault {
     /// The text is longer than 16,777,216 bytes.
     #[error("input longer than 16777216 bytes")]
     InputTooLong,
-    /// This line has no reading.
+    /// This line has no reading, and would have none if numbers had no limit.
     #[error("line {0}: not understood")]
     BadLine(u32),
+    /// This line would have a reading if numbers had no limit.
+    #[error("line {0}: number above 2147483647")]
+    NumberTooLarge(u32),
+    /// This line starts block 65,536.
+    #[error("line {0}: more than 65535 blocks")]
+    TooManyBlocks(u32),
+    /// This line holds operation 10,001 of its block.
+    #[error("line {0}: more than 10000 operations in a block")]
+    TooManyOperations(u32),
     /// The growth of a list was refused.
     #[error("out of memory")]
     NoMemory,

@@ -1,7 +1,8 @@
 //! Basic blocks, and the file that holds them.
-ghost use Rattle.std.specs.Prelude.{◌≡◌, ℕ, List, string_bytes};
+ghost use Rattle.std.specs.Prelude.{◌≡◌, ◌↔◌, ℕ, List, [], ◌∷◌, ◌++◌, length, string_bytes, IsTrue, OnOk, OnErr};
 ghost use Rattle.iloc_text.specs.declared.op.Op.{Op};
 
+use crate::fault::NoMemory;
 use crate::op::Op;
 use std::marker::Model;
 
@@ -51,6 +52,29 @@ impl Ops {
         ensures { result ≡ items.items }
     {
         Ops { items }
+    }
+
+    /// How many operations there are.
+    pub fn len(&self) -> usize
+        ensures { result ≡ length self.now }
+    {
+        self.items.len()
+    }
+
+    /// There is no operation.
+    pub fn is_empty(&self) -> bool
+        ensures { IsTrue result ↔ (length self.now ≡ 0) }
+    {
+        self.items.is_empty()
+    }
+
+    /// Adds an operation at the end; where memory is refused nothing changes.
+    pub fn push(&mut self, op: Op) -> Result<(), NoMemory>
+        ensures ok { OnOk result (self.new ≡ self.old ++ op ∷ []) }
+        ensures err { OnErr result (self.new ≡ self.old) }
+    {
+        self.items.push(op)?;
+        Ok(())
     }
 
     /// The operations, lent.

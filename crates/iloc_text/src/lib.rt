@@ -3,6 +3,8 @@
 
 pub mod fault;
 pub mod file;
+mod growth;
+pub mod laws;
 mod line;
 pub mod op;
 mod opcode;

@@ -1,12 +1,47 @@
 //! What a line says.
-ghost use Rattle.std.specs.Prelude.{◌≡◌};
-ghost use Rattle.iloc_text.specs.Grammar.{numbers, LineReads};
-ghost use Rattle.iloc_text.specs.Scan.{is_end, line_at, is_within_limit, read_at};
+ghost use Rattle.std.specs.Prelude.{◌≡◌, option_map, nat_lt};
+ghost use Rattle.std.specs.List.{list_all};
+ghost use Rattle.iloc_text.specs.LineReads.{LineReads, label_of};
+ghost use Rattle.iloc_text.specs.Scan.{is_end, body_at, line_at, optional_label_at, is_within_limit, is_within};
 
 use crate::op::Op;
 use crate::operation::optional_operation_at;
-use crate::scan::{ABOVE_LIMIT, after_blanks};
-use arrayvec::ArrayVec;
+use crate::scan::{ABOVE_LIMIT, after_blanks, word_at};
+
+/// What a line reads as.
+#[derive(Clone, Copy)]
+pub struct Line<'a> {
+    /// The name in its label.
+    pub label: Option<&'a [u8]>,
+    /// Its operation.
+    pub op: Option<Op>,
+}
+
+/// Why a line has no reading.
+#[derive(Clone, Copy, PartialEq, Eq)]
+pub enum LineFault {
+    /// It would have none if numbers had no limit either.
+    Bad,
+    /// It would have one if numbers had no limit.
+    NumberTooLarge,
+}
+
+/// A label, or none where no word stands with a colon behind it, and what stands behind that.
+#[tactic(auto, unfolding(crate::specs::Scan::optional_label_at))]
+fn optional_label_at(bytes: &[u8]) -> (Option<&[u8]>, &[u8])
+    ensures { (option_map (λ name. name.now) result.0, result.1.now) ≡ optional_label_at bytes.now }
+{
+    match bytes {
+        [first, ..] if first.is_ascii_alphabetic() => {
+            let (word, rest) = word_at(bytes);
+            match after_blanks(rest) {
+                [b':', after @ ..] => (Some(word), after),
+                _ => (None, bytes),
+            }
+        }
+        _ => (None, bytes),
+    }
+}
 
 /// Nothing is left of the line, or a comment.
 fn is_end(rest: &[u8]) -> bool
@@ -15,10 +50,11 @@ fn is_end(rest: &[u8]) -> bool
     matches!(rest, [] | [b'/', b'/', ..])
 }
 
-/// The operation of the line, or none.
-#[tactic(auto, unfolding(crate::specs::Scan::line_at))]
-fn line_at(bytes: &[u8]) -> Option<Option<Op>>
-    ensures { result ≡ line_at bytes.now }
+/// The operation of what stands behind a label, or that there is none; its numbers count as
+/// `ABOVE_LIMIT` where they are above the limit.
+#[tactic(auto, unfolding(crate::specs::Scan::body_at))]
+fn body_at(bytes: &[u8]) -> Option<Option<Op>>
+    ensures { result ≡ body_at bytes.now }
 {
     let (op, rest) = optional_operation_at(after_blanks(bytes))?;
     if is_end(after_blanks(rest)) {
@@ -28,50 +64,72 @@ fn line_at(bytes: &[u8]) -> Option<Option<Op>>
     }
 }
 
-/// The numbers of an operation, its registers' among them.
-fn numbers(op: &Op) -> ArrayVec<u32, 3>
-    ensures { result.items ≡ numbers op.now }
+/// The label and the operation of the line, as `body_at` has it.
+#[tactic(auto, unfolding(crate::specs::Scan::line_at))]
+fn line_at(bytes: &[u8]) -> Option<Line<'_>>
+    ensures { option_map (λ line. (label_of line, line.op)) result ≡ line_at bytes.now }
 {
-    let mut numbers = ArrayVec::new();
-    match *op {
-        Op::LoadI { value, dest } => {
-            numbers.push(value);
-            numbers.push(dest.0);
-        }
-        Op::Store { value, addr } => {
-            numbers.push(value.0);
-            numbers.push(addr.0);
-        }
-        Op::Add { left, right, dest } => {
-            numbers.push(left.0);
-            numbers.push(right.0);
-            numbers.push(dest.0);
-        }
-        Op::Output { addr } => numbers.push(addr),
-    }
-    numbers
+    let (label, rest) = optional_label_at(after_blanks(bytes));
+    let op = body_at(rest)?;
+    Some(Line { label, op })
 }
 
-/// No number of the operation was above the limit.
+/// No number was capped.
+fn are_within_limit(numbers: &[u32]) -> bool
+    ensures { result ≡ list_all (λ n. nat_lt n 2147483648) numbers.now }
+{
+    numbers.iter().all(|number| *number < ABOVE_LIMIT)
+}
+
+/// No number of the operation was capped.
 fn is_within_limit(op: &Op) -> bool
     ensures { result ≡ is_within_limit op.now }
 {
-    numbers(op).iter().all(|number| *number < ABOVE_LIMIT)
-}
-
-/// The reading that the scanner finds, where its numbers are within the limit.
-fn read_at(bytes: &[u8]) -> Option<Option<Op>>
-    ensures { result ≡ read_at bytes.now }
-{
-    match line_at(bytes)? {
-        Some(op) if !is_within_limit(&op) => None,
-        reading => Some(reading),
+    match *op {
+        Op::Nop => true,
+        Op::Output { addr } => are_within_limit(&[addr]),
+        Op::LoadI { value, dest } => are_within_limit(&[value, dest.0]),
+        Op::Load { addr, dest } => are_within_limit(&[addr.0, dest.0]),
+        Op::Store { value, addr } => are_within_limit(&[value.0, addr.0]),
+        Op::Add { left, right, dest }
+        | Op::Sub { left, right, dest }
+        | Op::Mult { left, right, dest }
+        | Op::Lshift { left, right, dest }
+        | Op::Rshift { left, right, dest } => are_within_limit(&[left.0, right.0, dest.0]),
+        Op::AddI { left, value, dest }
+        | Op::SubI { left, value, dest }
+        | Op::MultI { left, value, dest }
+        | Op::LshiftI { left, value, dest }
+        | Op::RshiftI { left, value, dest } => are_within_limit(&[left.0, value, dest.0]),
+        Op::LoadAI { addr, offset, dest } => are_within_limit(&[addr.0, offset, dest.0]),
+        Op::StoreAI {
+            value,
+            addr,
+            offset,
+        } => are_within_limit(&[value.0, addr.0, offset]),
     }
 }
 
-/// The operation that the line reads as, or that it reads as none; nothing where it has no reading.
-pub fn read_line(bytes: &[u8]) -> Option<Option<Op>>
+/// The line has no operation, or one of which no number was capped.
+fn is_within(op: &Option<Op>) -> bool
+    ensures { result ≡ is_within op.now }
+{
+    match op {
+        Some(op) => is_within_limit(op),
+        None => true,
+    }
+}
+
+/// What the line reads as, or why it has no reading.
+pub fn read_line(bytes: &[u8]) -> Result<Line<'_>, LineFault>
     ensures { LineReads bytes.now result }
 {
-    read_at(bytes)
+    let Some(line) = line_at(bytes) else {
+        return Err(LineFault::Bad);
+    };
+    if is_within(&line.op) {
+        Ok(line)
+    } else {
+        Err(LineFault::NumberTooLarge)
+    }
 }

@@ -1,29 +1,152 @@
-//! The opcodes and how they are written.
-ghost use Rattle.std.specs.Prelude.{◌≡◌, find};
-ghost use Rattle.std.specs.Str.{bytes_eq};
-ghost use Rattle.iloc_text.specs.Opcodes.{opcode_text, opcode_of};
+//! The opcodes, by what belongs behind them, and how they are written.
+ghost use Rattle.std.specs.Prelude.{◌≡◌};
+ghost use Rattle.iloc_text.specs.Opcodes.{opcode_text, opcode_of, transfer_op, two_sources_op, immediate_op};
+
+use crate::op::{Op, Reg};
 
 /// What an operation is called.
 #[derive(Clone, Copy, Debug, PartialEq, Eq)]
 pub enum Opcode {
-    LoadI,
-    Store,
-    Add,
+    /// Nothing stands behind it.
+    Nop,
+    /// `number`.
     Output,
+    /// `number => register`.
+    LoadI,
+    /// `register => register`.
+    Transfer(Transfer),
+    /// `register, register => register`.
+    TwoSources(TwoSources),
+    /// `register, number => register`.
+    Immediate(Immediate),
+    /// `register => register, number`.
+    StoreAI,
+}
+
+/// The opcodes with one register on each side of the arrow.
+#[derive(Clone, Copy, Debug, PartialEq, Eq)]
+pub enum Transfer {
+    Load,
+    Store,
+}
+
+/// The opcodes with two sources.
+#[derive(Clone, Copy, Debug, PartialEq, Eq)]
+pub enum TwoSources {
+    Add,
+    Sub,
+    Mult,
+    Lshift,
+    Rshift,
+}
+
+/// The opcodes with a source and a constant.
+#[derive(Clone, Copy, Debug, PartialEq, Eq)]
+pub enum Immediate {
+    AddI,
+    SubI,
+    MultI,
+    LshiftI,
+    RshiftI,
+    LoadAI,
+}
+
+impl Transfer {
+    /// The operation between these registers.
+    pub fn op(self, source: Reg, target: Reg) -> Op
+        ensures { result ≡ transfer_op self source target }
+    {
+        match self {
+            Transfer::Load => Op::Load {
+                addr: source,
+                dest: target,
+            },
+            Transfer::Store => Op::Store {
+                value: source,
+                addr: target,
+            },
+        }
+    }
+}
+
+impl TwoSources {
+    /// The operation over these registers.
+    pub fn op(self, left: Reg, right: Reg, dest: Reg) -> Op
+        ensures { result ≡ two_sources_op self left right dest }
+    {
+        match self {
+            TwoSources::Add => Op::Add { left, right, dest },
+            TwoSources::Sub => Op::Sub { left, right, dest },
+            TwoSources::Mult => Op::Mult { left, right, dest },
+            TwoSources::Lshift => Op::Lshift { left, right, dest },
+            TwoSources::Rshift => Op::Rshift { left, right, dest },
+        }
+    }
+}
+
+impl Immediate {
+    /// The operation over these registers and this constant.
+    pub fn op(self, left: Reg, value: u32, dest: Reg) -> Op
+        ensures { result ≡ immediate_op self left value dest }
+    {
+        match self {
+            Immediate::AddI => Op::AddI { left, value, dest },
+            Immediate::SubI => Op::SubI { left, value, dest },
+            Immediate::MultI => Op::MultI { left, value, dest },
+            Immediate::LshiftI => Op::LshiftI { left, value, dest },
+            Immediate::RshiftI => Op::RshiftI { left, value, dest },
+            Immediate::LoadAI => Op::LoadAI {
+                addr: left,
+                offset: value,
+                dest,
+            },
+        }
+    }
 }
 
 impl Opcode {
-    const ALL: [Opcode; 4] = [Opcode::LoadI, Opcode::Store, Opcode::Add, Opcode::Output];
+    const ALL: [Opcode; 17] = [
+        Opcode::LoadI,
+        Opcode::Transfer(Transfer::Load),
+        Opcode::Transfer(Transfer::Store),
+        Opcode::TwoSources(TwoSources::Add),
+        Opcode::TwoSources(TwoSources::Sub),
+        Opcode::TwoSources(TwoSources::Mult),
+        Opcode::TwoSources(TwoSources::Lshift),
+        Opcode::TwoSources(TwoSources::Rshift),
+        Opcode::Output,
+        Opcode::Nop,
+        Opcode::Immediate(Immediate::AddI),
+        Opcode::Immediate(Immediate::SubI),
+        Opcode::Immediate(Immediate::MultI),
+        Opcode::Immediate(Immediate::LshiftI),
+        Opcode::Immediate(Immediate::RshiftI),
+        Opcode::Immediate(Immediate::LoadAI),
+        Opcode::StoreAI,
+    ];
 
     /// The opcode as it is written.
-    pub fn text(self) -> &'static [u8]
+    fn text(self) -> &'static [u8]
         ensures { result.now ≡ opcode_text self }
     {
         match self {
             Opcode::LoadI => b"loadI",
-            Opcode::Store => b"store",
-            Opcode::Add => b"add",
+            Opcode::Transfer(Transfer::Load) => b"load",
+            Opcode::Transfer(Transfer::Store) => b"store",
+            Opcode::TwoSources(TwoSources::Add) => b"add",
+            Opcode::TwoSources(TwoSources::Sub) => b"sub",
+            Opcode::TwoSources(TwoSources::Mult) => b"mult",
+            Opcode::TwoSources(TwoSources::Lshift) => b"lshift",
+            Opcode::TwoSources(TwoSources::Rshift) => b"rshift",
             Opcode::Output => b"output",
+            Opcode::Nop => b"nop",
+            Opcode::Immediate(Immediate::AddI) => b"addI",
+            Opcode::Immediate(Immediate::SubI) => b"subI",
+            Opcode::Immediate(Immediate::MultI) => b"multI",
+            Opcode::Immediate(Immediate::LshiftI) => b"lshiftI",
+            Opcode::Immediate(Immediate::RshiftI) => b"rshiftI",
+            Opcode::Immediate(Immediate::LoadAI) => b"loadAI",
+            Opcode::StoreAI => b"storeAI",
         }
     }
 }

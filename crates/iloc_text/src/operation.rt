@@ -1,6 +1,6 @@
 //! The operation of a line, scanned with numbers that count as `ABOVE_LIMIT` where they are above the limit.
 ghost use Rattle.std.specs.Prelude.{◌≡◌, option_map};
-ghost use Rattle.iloc_text.specs.Scan.{number_to_register_at, register_to_register_at, registers_to_register_at, operands_at, operation_at, optional_operation_at};
+ghost use Rattle.iloc_text.specs.Scan.{number_to_register_at, register_to_register_at, registers_to_register_at, immediate_to_register_at, register_to_offset_at, operands_at, called_at, operation_at, optional_operation_at};
 
 use crate::op::{Op, Reg};
 use crate::opcode::{Opcode, opcode_of};
@@ -39,39 +39,87 @@ fn registers_to_register_at(bytes: &[u8]) -> Option<(Reg, Reg, Reg, &[u8])>
     Some((left, right, dest, rest))
 }
 
+/// `register, number => register`.
+#[tactic(auto, unfolding(crate::specs::Scan::immediate_to_register_at))]
+fn immediate_to_register_at(bytes: &[u8]) -> Option<(Reg, u32, Reg, &[u8])>
+    ensures { option_map (λ found. (found.0, found.1, found.2, found.3.now)) result
+        ≡ immediate_to_register_at bytes.now }
+{
+    let (left, rest) = register_at(bytes)?;
+    let (value, dest, rest) = number_to_register_at(comma_at(rest)?)?;
+    Some((left, value, dest, rest))
+}
+
+/// `register => register, number`.
+#[tactic(auto, unfolding(crate::specs::Scan::register_to_offset_at))]
+fn register_to_offset_at(bytes: &[u8]) -> Option<(Reg, Reg, u32, &[u8])>
+    ensures { option_map (λ found. (found.0, found.1, found.2, found.3.now)) result
+        ≡ register_to_offset_at bytes.now }
+{
+    let (source, target, rest) = register_to_register_at(bytes)?;
+    let (offset, rest) = number_at(comma_at(rest)?)?;
+    Some((source, target, offset, rest))
+}
+
 /// What stands behind the blanks behind an opcode.
 #[tactic(auto, unfolding(crate::specs::Scan::operands_at))]
 fn operands_at(opcode: Opcode, bytes: &[u8]) -> Option<(Op, &[u8])>
     ensures { option_map (λ found. (found.0, found.1.now)) result ≡ operands_at opcode bytes.now }
 {
     match opcode {
-        Opcode::LoadI => {
-            let (value, dest, rest) = number_to_register_at(bytes)?;
-            Some((Op::LoadI { value, dest }, rest))
-        }
-        Opcode::Store => {
-            let (value, addr, rest) = register_to_register_at(bytes)?;
-            Some((Op::Store { value, addr }, rest))
-        }
-        Opcode::Add => {
-            let (left, right, dest, rest) = registers_to_register_at(bytes)?;
-            Some((Op::Add { left, right, dest }, rest))
-        }
+        Opcode::Nop => Some((Op::Nop, bytes)),
         Opcode::Output => {
             let (addr, rest) = number_at(bytes)?;
             Some((Op::Output { addr }, rest))
         }
+        Opcode::LoadI => {
+            let (value, dest, rest) = number_to_register_at(bytes)?;
+            Some((Op::LoadI { value, dest }, rest))
+        }
+        Opcode::Transfer(transfer) => {
+            let (source, target, rest) = register_to_register_at(bytes)?;
+            Some((transfer.op(source, target), rest))
+        }
+        Opcode::TwoSources(sources) => {
+            let (left, right, dest, rest) = registers_to_register_at(bytes)?;
+            Some((sources.op(left, right, dest), rest))
+        }
+        Opcode::Immediate(immediate) => {
+            let (left, value, dest, rest) = immediate_to_register_at(bytes)?;
+            Some((immediate.op(left, value, dest), rest))
+        }
+        Opcode::StoreAI => {
+            let (value, addr, offset, rest) = register_to_offset_at(bytes)?;
+            Some((
+                Op::StoreAI {
+                    value,
+                    addr,
+                    offset,
+                },
+                rest,
+            ))
+        }
     }
 }
 
-/// An opcode, blanks, and what belongs behind them.
+/// What stands behind an opcode: blanks and operands, or nothing behind `nop`.
+#[tactic(auto, unfolding(crate::specs::Scan::called_at))]
+fn called_at(opcode: Opcode, bytes: &[u8]) -> Option<(Op, &[u8])>
+    ensures { option_map (λ found. (found.0, found.1.now)) result ≡ called_at opcode bytes.now }
+{
+    match opcode {
+        Opcode::Nop => Some((Op::Nop, bytes)),
+        _ => operands_at(opcode, some_blanks_at(bytes)?),
+    }
+}
+
+/// An opcode and what belongs behind it.
 #[tactic(auto, unfolding(crate::specs::Scan::operation_at))]
 fn operation_at(bytes: &[u8]) -> Option<(Op, &[u8])>
     ensures { option_map (λ found. (found.0, found.1.now)) result ≡ operation_at bytes.now }
 {
     let (word, rest) = word_at(bytes);
-    let opcode = opcode_of(word)?;
-    operands_at(opcode, some_blanks_at(rest)?)
+    called_at(opcode_of(word)?, rest)
 }
 
 /// An operation, or none where no word stands.

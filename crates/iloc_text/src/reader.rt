@@ -2,12 +2,14 @@
 ghost use Rattle.std.specs.Prelude.{◌≡◌, ◌≢◌, ◌∷◌, ◌<◌, ◌+◌, length, IfOk, IfErr};
 ghost use Rattle.iloc_text.specs.declared.fault.ReadFault.TheVariants.{NoMemory as no_memory};
 ghost use Rattle.iloc_text.specs.Lines.{line_end, lines_of, lines_left, left};
-ghost use Rattle.iloc_text.specs.Files.{Denotes, IsRefused, unnamed_block};
+ghost use Rattle.iloc_text.specs.Files.{Denotes, IsRefused};
 
-use crate::fault::{NoMemory, ReadFault};
-use crate::file::{Block, Blocks, IlocFile, Ops};
-use crate::line::read_line;
-use crate::op::Op;
+use crate::fault::ReadFault;
+use crate::file::{Blocks, IlocFile};
+use crate::growth::add_line;
+#[cfg(test)]
+use crate::growth::{MAX_BLOCKS, MAX_OPS};
+use crate::line::{LineFault, read_line};
 use std::alloc::Global;
 
 /// The greatest number of bytes that are read as a file.
@@ -33,8 +35,9 @@ fn split_line(text: &[u8]) -> (&[u8], Option<&[u8]>)
 
 /// Reads a file of ILOC: exactly the file that the text denotes, or the refusal that it denotes.
 ///
-/// The text is refused as too long before any line is looked at; otherwise the first line without a
-/// reading is named. `NoMemory` may come besides, where the growth of a list is refused.
+/// A text that is too long is refused before any line is looked at; otherwise the earliest faulty line
+/// is named. On one line `BadLine` comes before `NumberTooLarge`, `TooManyBlocks` and
+/// `TooManyOperations`. `NoMemory` may come besides, where the growth of a list is refused.
 pub fn read_file(alloc: Global, input: &[u8]) -> Result<IlocFile, ReadFault>
     ensures ok { IfOk result (λ file. Denotes input.now file.blocks) }
     ensures err { IfErr result (λ fault. fault ≢ no_memory → IsRefused input.now fault) }
@@ -42,37 +45,23 @@ pub fn read_file(alloc: Global, input: &[u8]) -> Result<IlocFile, ReadFault>
     if input.len() > MAX_INPUT {
         return Err(ReadFault::InputTooLong);
     }
-    let mut ops = Vec::new(alloc);
+    let mut blocks = Vec::new(alloc);
     let mut number = 0;
     let mut rest = Some(input);
     while let Some(text) = rest {
-        let (line, after) = split_line(text);
+        let (bytes, after) = split_line(text);
         number += 1;
-        let Some(reading) = read_line(line) else {
-            return Err(ReadFault::BadLine(number));
+        let line = match read_line(bytes) {
+            Ok(line) => line,
+            Err(LineFault::Bad) => return Err(ReadFault::BadLine(number)),
+            Err(LineFault::NumberTooLarge) => return Err(ReadFault::NumberTooLarge(number)),
         };
-        if let Some(op) = reading {
-            ops.push(op)?;
-        }
+        add_line(alloc, &mut blocks, line, number)?;
         rest = after;
     }
     Ok(IlocFile {
-        blocks: blocks_of(alloc, ops)?,
+        blocks: Blocks::new(blocks),
     })
-}
-
-/// One block without a name, or none where there is no operation.
-fn blocks_of(alloc: Global, ops: Vec<Op>) -> Result<Blocks, NoMemory>
-    ensures { IfOk result (λ blocks. blocks ≡ unnamed_block ops.items) }
-{
-    let mut blocks = Vec::new(alloc);
-    if !ops.is_empty() {
-        blocks.push(Block {
-            name: None,
-            ops: Ops::new(ops),
-        })?;
-    }
-    Ok(Blocks::new(blocks))
 }
 
 #[cfg(test)]

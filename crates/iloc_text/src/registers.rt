@@ -11,12 +11,22 @@ pub fn uses(op: &Op) -> ArrayVec<Reg, 2>
 {
     let mut registers = ArrayVec::new();
     match *op {
-        Op::LoadI { .. } | Op::Output { .. } => {}
-        Op::Store { value, addr } => {
+        Op::LoadI { .. } | Op::Output { .. } | Op::Nop => {}
+        Op::Load { addr, .. } | Op::LoadAI { addr, .. } => registers.push(addr),
+        Op::AddI { left, .. }
+        | Op::SubI { left, .. }
+        | Op::MultI { left, .. }
+        | Op::LshiftI { left, .. }
+        | Op::RshiftI { left, .. } => registers.push(left),
+        Op::Store { value, addr } | Op::StoreAI { value, addr, .. } => {
             registers.push(value);
             registers.push(addr);
         }
-        Op::Add { left, right, .. } => {
+        Op::Add { left, right, .. }
+        | Op::Sub { left, right, .. }
+        | Op::Mult { left, right, .. }
+        | Op::Lshift { left, right, .. }
+        | Op::Rshift { left, right, .. } => {
             registers.push(left);
             registers.push(right);
         }
@@ -29,8 +39,20 @@ pub fn defines(op: &Op) -> Option<Reg>
     ensures { result ≡ defined op.now }
 {
     match *op {
-        Op::LoadI { dest, .. } | Op::Add { dest, .. } => Some(dest),
-        Op::Store { .. } | Op::Output { .. } => None,
+        Op::Load { dest, .. }
+        | Op::LoadI { dest, .. }
+        | Op::Add { dest, .. }
+        | Op::Sub { dest, .. }
+        | Op::Mult { dest, .. }
+        | Op::Lshift { dest, .. }
+        | Op::Rshift { dest, .. }
+        | Op::AddI { dest, .. }
+        | Op::SubI { dest, .. }
+        | Op::MultI { dest, .. }
+        | Op::LshiftI { dest, .. }
+        | Op::RshiftI { dest, .. }
+        | Op::LoadAI { dest, .. } => Some(dest),
+        Op::Store { .. } | Op::StoreAI { .. } | Op::Output { .. } | Op::Nop => None,
     }
 }
 
@@ -53,5 +75,11 @@ mod tests {
         };
         assert_eq!(rt; uses(&add).as_slice(), [Reg(5), Reg(5)].as_slice());
         assert_eq!(rt; defines(&add), Some(Reg(6)));
+        let far = Op::StoreAI {
+            value: Reg(7),
+            addr: Reg(4),
+            offset: 9,
+        };
+        assert_eq!(rt; uses(&far).as_slice(), [Reg(7), Reg(4)].as_slice());
     }
 }

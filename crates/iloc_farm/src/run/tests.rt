@@ -89,7 +89,7 @@ fn taking_all(alloc: Global) -> Sink {
 
 #[test]
 fn lists_what_comes_of_each_input(rt: HostRuntime) -> Result<(), Fail> {
-    let cases: [(&[u8], &[u8]); 5] = [
+    let cases: [(&[u8], &[u8]); 7] = [
         (b"", b""),
         (FIRST, b"block 1 -\n7\n"),
         (b"output 0\noutput 4", b"block 1 -\n0\n0\n"),
@@ -97,6 +97,14 @@ fn lists_what_comes_of_each_input(rt: HostRuntime) -> Result<(), Fail> {
         (
             b"// c\r\n\tloadI\t2147483647=>r01//x\r\nadd r1,r1=>r2\nstore r2=>r3\noutput 0",
             b"block 1 -\n-2\n",
+        ),
+        (
+            b"A: loadI 4 => r1\nB:\noutput 0",
+            b"block 1 A\nblock 2 B\n0\n",
+        ),
+        (
+            b"A: loadI 65536 => r1\nload r1 => r2\noutput 0\nB: loadI 7 => r1\nstoreAI r1 => r0, 8\nC:output 8",
+            b"block 1 A\nfault\nblock 2 B\nblock 3 C\n0\n",
         ),
     ];
     for (input, listing) in cases {
@@ -181,6 +189,21 @@ fn shows_faults_with_their_status(rt: HostRuntime) -> Result<(), Fail> {
         (
             RunFault::Text(ReadFault::BadLine(12)),
             "line 12: not understood",
+            1,
+        ),
+        (
+            RunFault::Text(ReadFault::NumberTooLarge(12)),
+            "line 12: number above 2147483647",
+            1,
+        ),
+        (
+            RunFault::Text(ReadFault::TooManyBlocks(12)),
+            "line 12: more than 65535 blocks",
+            1,
+        ),
+        (
+            RunFault::Text(ReadFault::TooManyOperations(12)),
+            "line 12: more than 10000 operations in a block",
             1,
         ),
         (RunFault::Farm(FarmFault::NoMemory), "out of memory", 3),

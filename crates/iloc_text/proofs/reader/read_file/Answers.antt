@@ -1,34 +1,54 @@
-use Rattle.std.proofs.Common.{Some, None, sym, append-nil, arith}
-use Rattle.iloc_text.specs.Grammar.{LineReads}
-use Rattle.iloc_text.proofs.Reading.{Progress, progress_begins, progress_step, progress_number, progress_ends, bad_line}
+use Rattle.std.proofs.Common.{◌∙◌, ◌+◌, Some, None, Ok, Err, refl, sym, ap, subst, arith}
+use Rattle.std.proofs.lemmas.Result.{err_from_is_err_and}
+use Rattle.iloc_text.specs.declared.line.LineFault.TheVariants.{Bad, NumberTooLarge}
+use Rattle.iloc_text.specs.declared.fault.ReadFault.TheVariants as faults
+use Rattle.iloc_text.specs.LineReads.{label_of, LineReads}
+use Rattle.iloc_text.proofs.Reading.{label_is_utf8, Progress, progress_begins, progress_step, progress_number, progress_ends, fault_here, grown_here, err_is_refused}
+use Rattle.iloc_text.specs.Files.{Denotes}
 use Rattle.iloc_text.proofs.reader.read_file.Goals as goal
 
 pub loop-rest-init : goal.loop-rest-init
-loop-rest-init c = progress_begins c.args.input c.new-ops.result.items c.new-ops.ensures.items
+loop-rest-init c = progress_begins c.args.input c.new-blocks.result.items c.new-blocks.ensures.items
 
 pub overflow_add-number : goal.overflow_add-number
 overflow_add-number c = omega (arith, progress_number c.loop-rest.invariant, c.if-input-gt-MAX_INPUT.false)
 
-pub returns-in_default-read_line-clause-err : goal.returns-in_default-read_line-clause-err
-returns-in_default-read_line-clause-err c = λ other.
-    let here : Progress c.args.input.now c.loop-rest.ops.items c.loop-rest.number (Some c.in-Some.text) = rw c.in-Some.is at c.loop-rest.invariant in
-    let bad : LineReads c.split_line.result.0.now None = rw c.in_default-read_line.is at c.read_line.ensures in
-    bad_line here c.split_line.result.0.now c.split_line.result.1 c.if-input-gt-MAX_INPUT.false c.split_line.ensures.lines bad
+pub returns-in-Err-Bad-clause-err : goal.returns-in-Err-Bad-clause-err
+returns-in-Err-Bad-clause-err c = λ memory.
+    let here : Progress c.args.input.now c.loop-rest.blocks.items c.loop-rest.number (Some c.in-Some.text) = rw c.in-Some.is at c.loop-rest.invariant in
+    let bad : LineReads c.split_line.result.0.now (Err Bad) = rw (c.in-Err-Bad.is, c.in-Err-Bad.field-0-is) at c.read_line.ensures in
+    fault_here here c.split_line.result.0.now c.split_line.result.1 (faults.BadLine (c.loop-rest.number + 1))
+    c.if-input-gt-MAX_INPUT.false c.split_line.ensures.lines memory (λ e. cc) (refl, bad)
 
-pub loop-rest-preserved-in_ok-push : goal.loop-rest-preserved-in_ok-push
-loop-rest-preserved-in_ok-push c =
-    let here : Progress c.args.input.now c.loop-rest.ops.items c.loop-rest.number (Some c.in-Some.text) = rw c.in-Some.is at c.loop-rest.invariant in
-    let reads : LineReads c.split_line.result.0.now (Some (Some c.in-Some-reading.op)) =
-    rw (c.in-Some-read_line.is, c.in-Some-reading.is) at c.read_line.ensures in
-    progress_step here c.split_line.result.0.now c.split_line.result.1 (Some c.in-Some-reading.op) _ c.split_line.ensures.lines reads c.in_ok-push.ensures.items
+pub returns-in-Err-NumberTooLarge-clause-err : goal.returns-in-Err-NumberTooLarge-clause-err
+returns-in-Err-NumberTooLarge-clause-err c = λ memory.
+    let here : Progress c.args.input.now c.loop-rest.blocks.items c.loop-rest.number (Some c.in-Some.text) = rw c.in-Some.is at c.loop-rest.invariant in
+    let large : LineReads c.split_line.result.0.now (Err NumberTooLarge) =
+    rw (c.in-Err-NumberTooLarge.is, c.in-Err-NumberTooLarge.field-0-is) at c.read_line.ensures in
+    fault_here here c.split_line.result.0.now c.split_line.result.1 (faults.NumberTooLarge (c.loop-rest.number + 1))
+    c.if-input-gt-MAX_INPUT.false c.split_line.ensures.lines memory (λ e. cc) (refl, large.0, large.1)
+
+pub add_line-requires-clause-utf8 : goal.add_line-requires-clause-utf8
+add_line-requires-clause-utf8 c =
+    let reads : LineReads c.split_line.result.0.now (Ok c.in-Ok.line) = rw c.in-Ok.is at c.read_line.ensures in
+    label_is_utf8 c.split_line.result.0.now (label_of c.in-Ok.line) c.in-Ok.line.op reads
+
+pub returns-in_err-add_line-clause-err : goal.returns-in_err-add_line-clause-err
+returns-in_err-add_line-clause-err c =
+    let here : Progress c.args.input.now c.loop-rest.blocks.items c.loop-rest.number (Some c.in-Some.text) = rw c.in-Some.is at c.loop-rest.invariant in
+    let reads : LineReads c.split_line.result.0.now (Ok c.in-Ok.line) = rw c.in-Ok.is at c.read_line.ensures in
+    let exit = err_from_is_err_and c.from_residual.result c.from_residual.ensures.1 in
+    err_is_refused c.args.input.now c.from_residual.result c.in_err-add_line.field-0.0 (exit.1 ∙ ap (λ e. Err e) exit.2)
+    (λ memory. grown_here here c.split_line.result.0.now c.split_line.result.1 c.in_err-add_line.field-0.0 (label_of c.in-Ok.line) c.in-Ok.line.op _
+    c.if-input-gt-MAX_INPUT.false c.split_line.ensures.lines reads c.in_err-add_line.ensures memory)
 
 pub loop-rest-preserved : goal.loop-rest-preserved
 loop-rest-preserved c =
-    let here : Progress c.args.input.now c.loop-rest.ops.items c.loop-rest.number (Some c.in-Some.text) = rw c.in-Some.is at c.loop-rest.invariant in
-    let reads : LineReads c.split_line.result.0.now (Some None) = rw (c.in-Some-read_line.is, c.in_default-reading.is) at c.read_line.ensures in
-    progress_step here c.split_line.result.0.now c.split_line.result.1 None _ c.split_line.ensures.lines reads (sym (append-nil c.loop-rest.ops.items))
+    let here : Progress c.args.input.now c.loop-rest.blocks.items c.loop-rest.number (Some c.in-Some.text) = rw c.in-Some.is at c.loop-rest.invariant in
+    let reads : LineReads c.split_line.result.0.now (Ok c.in-Ok.line) = rw c.in-Ok.is at c.read_line.ensures in
+    progress_step here c.split_line.result.0.now c.split_line.result.1 (label_of c.in-Ok.line) c.in-Ok.line.op _ c.split_line.ensures.lines reads c.in_ok-add_line.ensures
 
 pub returns-clause-ok : goal.returns-clause-ok
 returns-clause-ok c =
-    let here : Progress c.args.input.now c.loop-rest.ops.items c.loop-rest.number None = rw c.in_default.is at c.loop-rest.invariant in
-    progress_ends here c.in_ok-blocks_of.field-0 c.if-input-gt-MAX_INPUT.false c.in_ok-blocks_of.ensures
+    let here : Progress c.args.input.now c.loop-rest.blocks.items c.loop-rest.number None = rw c.in_default.is at c.loop-rest.invariant in
+    subst (Denotes c.args.input.now) (sym c.new.ensures) (progress_ends here c.if-input-gt-MAX_INPUT.false)

@@ -3,7 +3,7 @@ use Rattle.iloc_text.proofs.Reading.{Progress}
 use Rattle.iloc_text.proofs.reader.read_file.Given as goal
 
 abbrev pub invariant-loop-rest : goal.invariant-loop-rest
-invariant-loop-rest l = Progress l.fn.input l.ops.items l.number l.rest
+invariant-loop-rest l = Progress l.fn.input l.blocks.items l.number l.rest
 
 abbrev pub decreases-loop-rest : goal.decreases-loop-rest
 decreases-loop-rest l = left l.rest

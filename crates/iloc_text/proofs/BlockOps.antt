@@ -1,0 +1,71 @@
+-- What one more line does to the operations of each block.
+use Rattle.std.proofs.Common.{◌≡◌, ◌≢◌, ◌∙◌, ℕ, ◌<◌, ◌≤◌, Bool, true, false, cond, ◌==◌, List, [], ◌∷◌, ◌++◌, filter_map, refl, sym, ap, subst, Option, Some, None, is_some, option_to_list, append_assoc, append-nil, eq-eqb, ne_eqb, arith}
+use Rattle.std.proofs.lemmas.List.Elements.{filter_map-append}
+use Rattle.iloc_text.specs.declared.op.Op.{Op}
+use Rattle.iloc_text.specs.Files.{Reading, block_count, fronts, last_op, ops_of}
+use Rattle.iloc_text.proofs.Counts.{fronts-snoc, last_op-snoc, count-snoc}
+
+pub one_or_none : (b : Bool) (front : List Reading) (op : Option Op) → last_op front ≡ op
+    → option_to_list (cond b (last_op front) None) ≡ cond b (option_to_list op) []
+one_or_none true front op h = ap option_to_list h
+one_or_none false front op h = refl
+
+pub filter_map-one : {A : Type 0} (f : A → Option Op) (x : A) → filter_map f (x ∷ []) ≡ option_to_list (f x)
+filter_map-one f x = by (f x) refl
+  where
+    by : (o : Option Op) → f x ≡ o → filter_map f (x ∷ []) ≡ option_to_list o
+    by None e = rw e refl
+    by (Some op) e = rw e refl
+
+pub ops_of-snoc : (k : ℕ) (rs : List Reading) (r : Reading) → ops_of k (rs ++ r ∷ []) ≡ ops_of k rs ++ cond (block_count (rs ++ r ∷ []) == k) (option_to_list r.op) []
+unfolding ops_of
+ops_of-snoc k rs r =
+    let f : List Reading → Option Op = λ front. cond (block_count front == k) (last_op front) None in
+    ap (filter_map f) (fronts-snoc rs r) ∙ filter_map-append f (fronts rs) ((rs ++ r ∷ []) ∷ [])
+    ∙ ap (λ o. filter_map f (fronts rs) ++ o)
+    (filter_map-one f (rs ++ r ∷ []) ∙ one_or_none (block_count (rs ++ r ∷ []) == k) (rs ++ r ∷ []) r.op (last_op-snoc rs r))
+
+pub ops_of-here : (k : ℕ) (rs : List Reading) (r : Reading) → block_count (rs ++ r ∷ []) ≡ k → ops_of k (rs ++ r ∷ []) ≡ ops_of k rs ++ option_to_list r.op
+ops_of-here k rs r h = let same : (block_count (rs ++ r ∷ []) == k) ≡ true = eq-eqb _ _ h in
+    ops_of-snoc k rs r ∙ ap (λ b. ops_of k rs ++ cond b (option_to_list r.op) []) same
+
+pub ops_of-else : (k : ℕ) (rs : List Reading) (r : Reading) → block_count (rs ++ r ∷ []) ≢ k → ops_of k (rs ++ r ∷ []) ≡ ops_of k rs
+ops_of-else k rs r h = let other : (block_count (rs ++ r ∷ []) == k) ≡ false = ne_eqb _ _ h in
+    ops_of-snoc k rs r ∙ ap (λ b. ops_of k rs ++ cond b (option_to_list r.op) []) other ∙ append-nil (ops_of k rs)
+
+pub ops_of-no_op : (k : ℕ) (rs : List Reading) (r : Reading) → r.op ≡ None → ops_of k (rs ++ r ∷ []) ≡ ops_of k rs
+ops_of-no_op k rs r h = ops_of-snoc k rs r ∙ ap (λ o. ops_of k rs ++ cond (block_count (rs ++ r ∷ []) == k) (option_to_list o) []) h
+    ∙ ap (λ o. ops_of k rs ++ o) (by (block_count (rs ++ r ∷ []) == k)) ∙ append-nil (ops_of k rs)
+  where
+    by : (b : Bool) → ◌≡◌ {A = List Op} (cond b [] []) []
+    by true = refl
+    by false = refl
+
+-- from line to line
+pub over_lines : (P : List Reading → Type 0) → ((rs : List Reading) (r : Reading) → P rs → P (rs ++ r ∷ [])) → (front rest : List Reading) → P front → P (front ++ rest)
+over_lines P step front [] p = subst P (sym (append-nil front)) p
+over_lines P step front (r ∷ rest) p = subst P (append_assoc front (r ∷ []) rest) (over_lines P step (front ++ r ∷ []) rest (step front r p))
+
+-- no operation belongs to a block before the first or behind the last
+abbrev pub HasNoMore : List Reading → Type 0
+HasNoMore rs = (ops_of 0 rs ≡ []) × ((k : ℕ) → block_count rs < k → ops_of k rs ≡ [])
+
+pub no_more-step : (rs : List Reading) (r : Reading) → HasNoMore rs → HasNoMore (rs ++ r ∷ [])
+no_more-step rs r h = (zeroth r.op refl, later)
+  where
+    grown : (block_count rs ≤ block_count (rs ++ r ∷ [])) × (is_some r.op ≡ true → 0 < block_count (rs ++ r ∷ []))
+    grown = count-snoc rs r r.label r.op refl refl
+
+    zeroth : (op : Option Op) → r.op ≡ op → ops_of 0 (rs ++ r ∷ []) ≡ []
+    zeroth None e = ops_of-no_op 0 rs r e ∙ h.0
+    zeroth (Some op) e = let some : 0 < block_count (rs ++ r ∷ []) = grown.1 (ap is_some e) in ops_of-else 0 rs r (λ z. omega arith) ∙ h.0
+
+    later : (k : ℕ) → block_count (rs ++ r ∷ []) < k → ops_of k (rs ++ r ∷ []) ≡ []
+    later k lt = ops_of-else k rs r (λ z. omega arith) ∙ h.1 k (omega (arith, grown.0))
+
+pub no_more-none : HasNoMore []
+unfolding ops_of
+no_more-none = (refl, λ k lt. refl)
+
+pub no_more : (rs : List Reading) → HasNoMore rs
+no_more rs = over_lines HasNoMore no_more-step [] rs no_more-none

@@ -1,0 +1,50 @@
+-- How the blocks of a file grow by one line.
+use Rattle.std.specs.Prelude.{◌≡◌, ℕ, ◌≤◌, ◌<◌, Option, Some, None, Result, Ok, Err, List, [], ◌∷◌, ◌++◌, length}
+use Rattle.iloc_text.specs.declared.op.Op.{Op}
+use Rattle.iloc_text.specs.declared.file.Block.{Block}
+use Rattle.iloc_text.specs.declared.fault.ReadFault.{ReadFault}
+use Rattle.iloc_text.specs.declared.fault.ReadFault.TheVariants.{InputTooLong, BadLine, NumberTooLarge, TooManyBlocks, TooManyOperations, NoMemory}
+
+-- a block without operations stands behind the others
+abbrev pub opened : Option (List ℕ) → List Block → List Block
+opened name blocks = blocks ++ record { name = name; ops = [] } ∷ []
+
+-- the operation stands at the end of the last block
+abbrev pub with_op : Op → List Block → List Block
+with_op op [] = []
+with_op op (b ∷ []) = record { name = b.name; ops = b.ops ++ op ∷ [] } ∷ []
+with_op op (b ∷ c ∷ bs) = b ∷ with_op op (c ∷ bs)
+
+abbrev pub with_optional_label : Option (List ℕ) → List Block → List Block
+with_optional_label None blocks = blocks
+with_optional_label (Some name) blocks = opened (Some name) blocks
+
+abbrev pub with_optional_op : Option Op → List Block → List Block
+with_optional_op None blocks = blocks
+with_optional_op (Some op) [] = with_op op (opened None [])
+with_optional_op (Some op) (b ∷ bs) = with_op op (b ∷ bs)
+
+-- a label opens a block; an operation goes to the last block, or opens the unnamed one
+abbrev pub with_line : Option (List ℕ) → Option Op → List Block → List Block
+with_line label op blocks = with_optional_op op (with_optional_label label blocks)
+
+-- the operations of the last block
+abbrev pub last_ops : List Block → List Op
+last_ops [] = []
+last_ops (b ∷ []) = b.ops
+last_ops (b ∷ c ∷ bs) = last_ops (c ∷ bs)
+
+-- neither too many blocks, nor too many operations in the last one
+pub record AreWithin (blocks : List Block) : Type 0 where
+  pub count : length blocks ≤ 65535
+  pub last : length (last_ops blocks) ≤ 10000
+
+-- what comes of a step that makes these blocks wanted, on this line
+abbrev pub Grows : List Block → ℕ → Result (Unit {0}) ReadFault → List Block → Type 0
+Grows wanted line (Ok done) new = (new ≡ wanted) × AreWithin new
+Grows wanted line (Err InputTooLong) new = ⊥
+Grows wanted line (Err (BadLine n)) new = ⊥
+Grows wanted line (Err (NumberTooLarge n)) new = ⊥
+Grows wanted line (Err (TooManyBlocks n)) new = (n ≡ line) × (65535 < length wanted)
+Grows wanted line (Err (TooManyOperations n)) new = (n ≡ line) × (length wanted ≤ 65535) × (10000 < length (last_ops wanted))
+Grows wanted line (Err NoMemory) new = Unit {0}

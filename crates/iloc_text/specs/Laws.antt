@@ -1,0 +1,23 @@
+-- What holds of the language as a whole.
+use Rattle.std.specs.Prelude.{◌≡◌, ℕ, Option, Some, None, List}
+use Rattle.iloc_text.specs.declared.op.Op.{Op}
+use Rattle.iloc_text.specs.declared.file.Block.{Block}
+use Rattle.iloc_text.specs.declared.fault.ReadFault.{ReadFault}
+use Rattle.iloc_text.specs.Grammar.{Reads, IsWithinLimit}
+use Rattle.iloc_text.specs.Spelling.{spelling}
+use Rattle.iloc_text.specs.Files.{Denotes, IsRefused}
+
+-- a line has at most one reading
+abbrev pub LinesHaveOneReading : Type 0
+LinesHaveOneReading = (line : List ℕ) (label label' : Option (List ℕ)) (op op' : Option Op)
+    → Reads line label op → Reads line label' op' → (label ≡ label') × (op ≡ op')
+
+-- the spelling of an operation reads as that operation
+abbrev pub SpellingsReadBack : Type 0
+SpellingsReadBack = (op : Op) → IsWithinLimit op → Reads (spelling op) None (Some op)
+
+-- a text denotes at most one file or one refusal, and never both
+pub record TextsHaveOneAnswer : Type 0 where
+  pub file : (input : List ℕ) (blocks blocks' : List Block) → Denotes input blocks → Denotes input blocks' → blocks ≡ blocks'
+  pub refusal : (input : List ℕ) (fault fault' : ReadFault) → IsRefused input fault → IsRefused input fault' → fault ≡ fault'
+  pub apart : (input : List ℕ) (blocks : List Block) (fault : ReadFault) → Denotes input blocks → IsRefused input fault → ⊥

@@ -1,0 +1,18 @@
+//! Laws of the language, as contracts of functions that do nothing.
+ghost use Rattle.iloc_text.specs.Laws.{LinesHaveOneReading, SpellingsReadBack, TextsHaveOneAnswer};
+
+/// A line has at most one reading.
+pub fn lines_have_one_reading()
+    ensures { LinesHaveOneReading }
+{}
+
+/// The spelling of an operation, as `push_op` writes it, reads as that operation, if its numbers are
+/// within the limit.
+pub fn spellings_read_back()
+    ensures { SpellingsReadBack }
+{}
+
+/// A text denotes at most one file or one refusal, and never both.
+pub fn texts_have_one_answer()
+    ensures { TextsHaveOneAnswer }
+{}
