@@ -1,0 +1,9 @@
+pub mod Defaults
+pub mod Faults
+pub mod Getters
+pub mod Leaves
+pub mod Matches
+pub mod Numbers
+pub mod Rows
+pub mod Uses
+pub mod Walks

@@ -1,0 +1,92 @@
+-- Rows whose values the parser takes, and how they come about.
+use Rattle.std.proofs.Common.{◌≡◌, ◌∙◌, ◌<◌, ◌++◌, ℕ, Bool, true, false, cond, List, [], ◌∷◌, Some, None, refl, sym, ap, subst}
+use Rattle.std.specs.Prelude.{unwrap_or}
+use Rattle.std.specs.Str.{bytes_eq}
+use Rattle.std.proofs.lemmas.Slice.Eq.{bytes_eq-Decides}
+use Rattle.clap.specs.Facts.{parser_of_value, unwrap_or_range}
+use Rattle.clap.specs.Faults.{values_fault}
+use Rattle.clap.specs.Kinds.{Kinds, or_else, value_kinds, values_kinds}
+use Rattle.clap.specs.Walk.{Row, Rule, Text, arg_by_id, at_row, more_values, reading_by, stronger, with_values, without}
+use Rattle.clap.specs.declared.builder.value_parser.ValueParser.{ValueParser}
+use Rattle.clap.specs.declared.parser.matches.ValueSource.{ValueSource}
+
+pub both_empty : (a b : Kinds) → or_else a b ≡ [] → (a ≡ []) × (b ≡ [])
+both_empty [] b e = (refl, e)
+both_empty (k ∷ ks) b e = cc
+
+append_taken : (ignore_case : Bool) (p : ValueParser) (xs ys : List Text) → values_kinds ignore_case p xs ≡ []
+    → values_kinds ignore_case p ys ≡ [] → values_kinds ignore_case p (xs ++ ys) ≡ []
+append_taken ignore_case p [] ys x y = y
+append_taken ignore_case p (t ∷ xs) ys x y =
+    let parts = both_empty (value_kinds ignore_case p t) (values_kinds ignore_case p xs) x in
+    ap (λ k. or_else k (values_kinds ignore_case p (xs ++ ys))) parts.0 ∙ append_taken ignore_case p xs ys parts.1 y
+
+-- the fewest values of a use
+abbrev pub fewest : Rule → ℕ
+fewest a = (unwrap_or_range a.range).start_inclusive
+
+-- the row is one of this argument: the parser takes its values, and it has one where a use has to
+pub record Holds (a : Rule) (r : Row) : Type 0 where
+  pub reading : r.reading ≡ reading_by a
+  pub values : values_fault a r.values ≡ []
+  pub some : 0 < fewest a → r.values ≡ [] → ⊥
+
+-- the row is one of the argument that has its id
+abbrev pub IsKept : List Rule → Row → Type 0
+IsKept rules r = (a : Rule) → arg_by_id rules r.id ≡ Some a → Holds a r
+
+abbrev pub AllKept : List Rule → List Row → Type 0
+AllKept rules [] = Unit {0}
+AllKept rules (r ∷ rs) = IsKept rules r × AllKept rules rs
+
+kept-append : (rules : List Rule) (xs ys : List Row) → AllKept rules xs → AllKept rules ys → AllKept rules (xs ++ ys)
+kept-append rules [] ys x y = y
+kept-append rules (r ∷ xs) ys x y = (x.0, kept-append rules xs ys x.1 y)
+
+-- a change of one row that keeps what it has to keeps that of all
+at_row_kept : (rules : List Rule) (id : Text) (change : Row → List Row) (missing rows : List Row) → AllKept rules rows
+    → ((r : Row) → IsKept rules r → r.id ≡ id → AllKept rules (change r)) → AllKept rules missing
+    → AllKept rules (at_row id change missing rows)
+at_row_kept rules id change missing [] kept changed new = new
+at_row_kept rules id change missing (r ∷ rs) kept changed new =
+    go (bytes_eq r.id id) refl (at_row_kept rules id change missing rs kept.1 changed new)
+  where
+    go : (b : Bool) → bytes_eq r.id id ≡ b → AllKept rules (at_row id change missing rs)
+        → AllKept rules (cond b (change r ++ rs) (r ∷ at_row id change missing rs))
+    go true e later = kept-append rules (change r) rs (changed r kept.0 ((bytes_eq-Decides r.id id).0 e)) kept.1
+    go false e later = (kept.0, later)
+
+pub without_kept : (rules : List Rule) (id : Text) (rows : List Row) → AllKept rules rows → AllKept rules (without id rows)
+without_kept rules id rows kept = at_row_kept rules id (λ _. []) [] rows kept (λ r k e. tt) tt
+
+-- values that the parser takes join the row of their argument, or begin it
+pub with_values_kept : (rules : List Rule) (a : Rule) (s : ValueSource) (values : List Text) (rows : List Row) → arg_by_id rules a.id ≡ Some a
+    → values_fault a values ≡ [] → (0 < fewest a → values ≡ [] → ⊥) → AllKept rules rows
+    → AllKept rules (with_values a.id (reading_by a) s values rows)
+with_values_kept rules a s values rows own taken some kept = at_row_kept rules a.id (more_values s values) _ rows kept
+    (λ r k is.
+    let held = k a (ap (arg_by_id rules) is ∙ own) in (
+      λ b found. subst (λ (x : Rule). Holds x (record r { values = r.values ++ values; source = Some (stronger r.source s) }))
+          (same b (ap (arg_by_id rules) (sym is) ∙ found)) (record {
+            reading = held.reading;
+            values = append_taken a.ignore_case (parser_of_value a.parser) r.values values held.values taken;
+            some = λ few none. held.some few (front r.values values none);
+          }),
+      tt,
+    )) (
+      λ b found. subst (λ (x : Rule). Holds x (record {
+        id = a.id;
+        values = values;
+        count = None;
+        source = Some s;
+        reading = reading_by a;
+      })) (same b found) (record { reading = refl; values = taken; some = some }),
+      tt,
+    )
+  where
+    same : (b : Rule) → arg_by_id rules a.id ≡ Some b → a ≡ b
+    same b found = ap (λ o. unwrap_or o a) (sym own ∙ found)
+
+    front : (xs ys : List Text) → xs ++ ys ≡ [] → xs ≡ []
+    front [] ys e = refl
+    front (x ∷ xs) ys e = cc

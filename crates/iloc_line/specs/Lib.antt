@@ -1,0 +1,5 @@
+pub mod Asked
+pub mod Command
+pub mod Due
+pub mod Fault
+pub mod Taken

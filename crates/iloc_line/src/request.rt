@@ -1,0 +1,27 @@
+//! What a command line asks the program to do.
+ghost use Rattle.std.specs.Prelude.{◌≡◌, ◌+◌, ◌*◌, ◌%◌, ◌≤◌, length};
+
+/// The command: what is done with each block.
+#[derive(Clone, Copy, Debug, PartialEq, Eq)]
+pub enum Task {
+    /// Run it plainly, one operation after the other.
+    Run,
+}
+
+/// A command with its options; an option that the command does not take has its default.
+#[derive(Debug, Drop, PartialEq, Eq)]
+pub struct Request {
+    /// What is done.
+    pub task: Task,
+    /// How many workers share the blocks, 1 to 8.
+    pub workers: u32,
+    /// The address of the first word, a multiple of 4.
+    pub at: u32,
+    /// What the memory holds from `at` on when a block starts, as 32-bit patterns.
+    pub words: Vec<u32>,
+    ghost some_worker: { 1 ≤ workers },
+    ghost few_workers: { workers ≤ 8 },
+    ghost aligned: { at % 4 ≡ 0 },
+    ghost in_memory: { at ≤ 65532 },
+    ghost fits: { at + 4 * length words.items ≤ 65536 },
+}
