@@ -3,11 +3,12 @@ ghost use Rattle.std.specs.Prelude.{IfOk, OnOk, OnErr};
 ghost use Rattle.std.specs.Io.KnownBytes.{Appends};
 ghost use Rattle.iloc_farm.specs.Device.{ReadsInput, WritesFront};
 
+use iloc_text::reader::MAX_INPUT;
 use std::alloc::{AllocError, Global};
 use std::io::{Read, Write};
 
 /// At most so many bytes are read: one more than the longest text that is a file.
-pub const MOST_READ: usize = 16_777_217;
+pub const MOST_READ: usize = MAX_INPUT + 1;
 
 /// At most so many bytes are asked for at a time.
 const PIECE: usize = 8192;

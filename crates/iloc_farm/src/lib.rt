@@ -3,5 +3,6 @@
 
 pub mod device;
 pub mod fault;
+pub mod initial;
 pub mod listing;
 pub mod run;

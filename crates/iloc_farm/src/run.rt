@@ -4,11 +4,14 @@ ghost use Rattle.std.specs.Io.KnownBytes.{Appends, Keeps};
 ghost use Rattle.iloc_text.specs.declared.fault.ReadFault.{ReadFault as read_fault};
 ghost use Rattle.iloc_text.specs.Files.{Denotes};
 ghost use Rattle.iloc_farm.specs.Device.{ReadsInput, WritesFront};
-ghost use Rattle.iloc_farm.specs.Run.{run_listing, ReadsFile, Lists, Refuses};
+ghost use Rattle.iloc_farm.specs.Initial.{memory_of};
+ghost use Rattle.iloc_farm.specs.Run.{IsListing, run_listing, ReadsFile, Lists, Refuses};
 
 use crate::device::{read_input, write_text};
 use crate::fault::{NoMemory, RunFault};
+use crate::initial::initial_memory;
 use crate::listing::push_outcome;
+use iloc_line::request::{Request, Task};
 use iloc_meaning::memory::Memory;
 use iloc_meaning::run::run_block;
 use iloc_text::file::IlocFile;
@@ -28,30 +31,45 @@ fn read_blocks<R: Read>(alloc: Global, reader: &mut R) -> Result<IlocFile, RunFa
     Ok(read_file(alloc, &input)?)
 }
 
-/// The listing of the file's outcomes, each block run on zero memory. One memory is held beside the
-/// zero one.
-fn run_text(alloc: Global, file: &IlocFile) -> Result<Vec<u8>, NoMemory>
-    ensures { IfOk result (λ text. text.items ≡ run_listing file.now.blocks) }
+/// The listing of the file's outcomes, each block run on its own copy of a memory. One such copy is
+/// held at a time.
+fn run_text(alloc: Global, file: &IlocFile, memory: &Memory) -> Result<Vec<u8>, NoMemory>
+    ensures { IfOk result (λ text. text.items ≡ run_listing memory.now file.now.blocks) }
 {
-    let zero = Memory::zero(alloc)?;
     let mut text = Vec::new(alloc);
     for (index, block) in file.blocks.as_slice().iter().enumerate() {
-        let outcome = run_block(alloc, block, zero.copy()?)?;
+        let outcome = run_block(alloc, block, memory.copy()?)?;
         push_outcome(&mut text, index + 1, block.name.as_ref(), &outcome)?;
     }
     Ok(text)
 }
 
-/// Reads a file, runs each of its blocks on zero memory, and writes the listing of their outcomes.
+/// What the request lists of the file.
+fn request_text(alloc: Global, file: &IlocFile, request: &Request) -> Result<Vec<u8>, NoMemory>
+    ensures { IfOk result (λ text.
+        IsListing request.now.task (memory_of request.now) file.now.blocks text.items) }
+{
+    match request.task {
+        Task::Run => run_text(alloc, file, &initial_memory(alloc, request)?),
+    }
+}
+
+/// Reads a file and writes what the request lists of it. Each block starts with its own copy of the
+/// request's memory.
 ///
 /// The whole listing is made before the first byte is written. After `WriteFailed` a front of it was
 /// written, after any other fault nothing.
-pub fn run<R: Read, W: Write>(alloc: Global, reader: &mut R, writer: &mut W) -> Result<(), RunFault>
+pub fn run<R: Read, W: Write>(
+    alloc: Global,
+    reader: &mut R,
+    writer: &mut W,
+    request: &Request,
+) -> Result<(), RunFault>
     ensures ok { OnOk result ((text : List ℕ) ×
-        Lists (R.remaining reader.old) (R.remaining reader.new) text ×
+        Lists request.now (R.remaining reader.old) (R.remaining reader.new) text ×
         Appends (W.contents writer.old) (W.contents writer.new) text) }
     ensures front { IsErrOf result RunFault.WriteFailed → (text : List ℕ) ×
-        Lists (R.remaining reader.old) (R.remaining reader.new) text ×
+        Lists request.now (R.remaining reader.old) (R.remaining reader.new) text ×
         WritesFront (W.contents writer.old) (W.contents writer.new) text }
     ensures quiet { IfErr result (λ fault.
         fault ≢ RunFault.WriteFailed → Keeps (W.contents writer.old) (W.contents writer.new)) }
@@ -59,7 +77,7 @@ pub fn run<R: Read, W: Write>(alloc: Global, reader: &mut R, writer: &mut W) -> 
         Refuses (R.remaining reader.old) (R.remaining reader.new) fault }
 {
     let file = read_blocks(alloc, reader)?;
-    let text = run_text(alloc, &file)?;
+    let text = request_text(alloc, &file, request)?;
     write_text(writer, &text)?;
     Ok(())
 }

@@ -1,5 +1,8 @@
 use super::*;
 use crate::fault::{FarmFault, run_status};
+use crate::listing::outcomes_text;
+use iloc_line::fault::LineFault;
+use iloc_line::line::parse_line;
 use iloc_text::fault::ReadFault;
 use std::io::{Error, ErrorKind, Result as IoResult};
 use std::test::Fail;
@@ -87,6 +90,11 @@ fn taking_all(alloc: Global) -> Sink {
     }
 }
 
+/// A plain run on zero memory.
+fn plain(alloc: Global) -> Result<Request, LineFault> {
+    parse_line(alloc, &["run"])
+}
+
 #[test]
 fn lists_what_comes_of_each_input(rt: HostRuntime) -> Result<(), Fail> {
     let cases: [(&[u8], &[u8]); 7] = [
@@ -109,7 +117,12 @@ fn lists_what_comes_of_each_input(rt: HostRuntime) -> Result<(), Fail> {
     ];
     for (input, listing) in cases {
         let mut writer = taking_all(rt.alloc());
-        run(rt.alloc(), &mut giving(input), &mut writer)?;
+        run(
+            rt.alloc(),
+            &mut giving(input),
+            &mut writer,
+            &plain(rt.alloc())?,
+        )?;
         assert_eq!(rt; writer.taken.as_slice(), listing);
     }
     Ok(())
@@ -125,7 +138,7 @@ fn takes_one_byte_at_a_time(rt: HostRuntime) -> Result<(), Fail> {
         at_once: 1,
         ..taking_all(rt.alloc())
     };
-    run(rt.alloc(), &mut reader, &mut writer)?;
+    run(rt.alloc(), &mut reader, &mut writer, &plain(rt.alloc())?)?;
     assert_eq!(rt; writer.taken.as_slice(), b"block 1 -\n7\n".as_slice());
     Ok(())
 }
@@ -133,7 +146,12 @@ fn takes_one_byte_at_a_time(rt: HostRuntime) -> Result<(), Fail> {
 #[test]
 fn reads_one_byte_beyond_the_longest_text(rt: HostRuntime) -> Result<(), Fail> {
     let mut reader = Endless { given: 0 };
-    let fault = run(rt.alloc(), &mut reader, &mut taking_all(rt.alloc()));
+    let fault = run(
+        rt.alloc(),
+        &mut reader,
+        &mut taking_all(rt.alloc()),
+        &plain(rt.alloc())?,
+    );
     assert_eq!(rt; fault, Err(RunFault::Text(ReadFault::InputTooLong)));
     assert_eq!(rt; reader.given, 16_777_217);
     Ok(())
@@ -147,7 +165,7 @@ fn tells_a_failed_read(rt: HostRuntime) -> Result<(), Fail> {
             ..giving(b"nop")
         };
         let mut writer = taking_all(rt.alloc());
-        let fault = run(rt.alloc(), &mut reader, &mut writer);
+        let fault = run(rt.alloc(), &mut reader, &mut writer, &plain(rt.alloc())?);
         assert_eq!(rt; fault, Err(RunFault::ReadFailed));
         assert!(rt; writer.taken.is_empty());
     }
@@ -160,7 +178,12 @@ fn tells_a_failed_write(rt: HostRuntime) -> Result<(), Fail> {
         room: 5,
         ..taking_all(rt.alloc())
     };
-    let fault = run(rt.alloc(), &mut giving(b"output 0\noutput 4"), &mut writer);
+    let fault = run(
+        rt.alloc(),
+        &mut giving(b"output 0\noutput 4"),
+        &mut writer,
+        &plain(rt.alloc())?,
+    );
     assert_eq!(rt; fault, Err(RunFault::WriteFailed));
     assert_eq!(rt; writer.taken.as_slice(), b"block".as_slice());
     Ok(())
@@ -173,7 +196,12 @@ fn tells_a_failed_flush(rt: HostRuntime) -> Result<(), Fail> {
         flushes: false,
         ..taking_all(rt.alloc())
     };
-    let fault = run(rt.alloc(), &mut giving(b""), &mut writer);
+    let fault = run(
+        rt.alloc(),
+        &mut giving(b""),
+        &mut writer,
+        &plain(rt.alloc())?,
+    );
     assert_eq!(rt; fault, Err(RunFault::WriteFailed));
     Ok(())
 }
@@ -214,11 +242,58 @@ fn shows_faults_with_their_status(rt: HostRuntime) -> Result<(), Fail> {
         assert_eq!(rt; fault.to_string(rt.alloc())?.as_str(), text);
         assert_eq!(rt; run_status(&fault), status);
     }
+    Ok(())
+}
+
+#[test]
+fn names_the_line_of_a_bad_text(rt: HostRuntime) -> Result<(), Fail> {
     let fault = run(
         rt.alloc(),
         &mut giving(b"output 0\nadd r1 r2 => r3"),
         &mut taking_all(rt.alloc()),
+        &plain(rt.alloc())?,
     );
     assert_eq!(rt; fault, Err(RunFault::Text(ReadFault::BadLine(2))));
+    Ok(())
+}
+
+#[test]
+fn hands_its_words_to_the_block(rt: HostRuntime) -> Result<(), Fail> {
+    let cases: [(&[&str], &[u8], &[u8]); 3] = [
+        (
+            &["run", "--at", "0", "4294967294"],
+            b"output 0\noutput 4",
+            b"block 1 -\n-2\n0\n",
+        ),
+        (
+            &["run", "2147483647", "2147483648", "7"],
+            b"output 1020\noutput 1024\noutput 1028\noutput 1032\noutput 1036",
+            b"block 1 -\n0\n2147483647\n-2147483648\n7\n0\n",
+        ),
+        (
+            &["run", "--at", "65532", "1"],
+            b"output 65528\noutput 65532",
+            b"block 1 -\n0\n1\n",
+        ),
+    ];
+    for (words, input, listing) in cases {
+        let mut writer = taking_all(rt.alloc());
+        let request = parse_line(rt.alloc(), words)?;
+        run(rt.alloc(), &mut giving(input), &mut writer, &request)?;
+        assert_eq!(rt; writer.taken.as_slice(), listing);
+    }
+    Ok(())
+}
+
+#[test]
+fn lists_outcomes_that_are_there(rt: HostRuntime) -> Result<(), Fail> {
+    let alloc = rt.alloc();
+    let request = parse_line(alloc, &["run", "--at", "4", "5"])?;
+    let file = read_file(alloc, b"output 0\noutput 4\n")?;
+    let blocks = file.blocks.as_slice();
+    assert_eq!(rt; blocks.len(), 1);
+    let outcomes = [run_block(alloc, &blocks[0], initial_memory(alloc, &request)?)?];
+    let text = outcomes_text(alloc, &file, &outcomes)?;
+    assert_eq!(rt; text.as_slice(), b"block 1 -\n0\n5\n".as_slice());
     Ok(())
 }

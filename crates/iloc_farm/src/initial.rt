@@ -1,0 +1,19 @@
+//! The memory that each block starts with.
+ghost use Rattle.std.specs.Prelude.{◌≡◌, IfOk};
+ghost use Rattle.iloc_farm.specs.Initial.{memory_of};
+
+use crate::fault::NoMemory;
+use iloc_line::request::Request;
+use iloc_meaning::memory::Memory;
+use std::alloc::Global;
+
+/// The memory that a request has each block start with: its words from its start on, and else 0.
+pub fn initial_memory(alloc: Global, request: &Request) -> Result<Memory, NoMemory>
+    ensures { IfOk result (λ memory. memory ≡ memory_of request.now) }
+{
+    let mut memory = Memory::zero(alloc)?;
+    for (index, word) in request.words.as_slice().iter().enumerate() {
+        memory.set(request.at + 4 * index as u32, word.cast_signed());
+    }
+    Ok(memory)
+}
