@@ -1,0 +1,4 @@
+pub mod Effects
+pub mod Runs
+pub mod Taking
+pub mod Laws

@@ -1,0 +1,4 @@
+pub mod Core
+pub mod Sequential
+pub mod History
+pub mod Play
