@@ -2,3 +2,11 @@ pub mod Effects
 pub mod Runs
 pub mod Taking
 pub mod Laws
+pub mod Parts
+pub mod Keeps
+pub mod Passes
+pub mod Rows
+pub mod Retires
+pub mod Closes
+pub mod Works
+pub mod Claims

@@ -2,3 +2,11 @@ pub mod Core
 pub mod Sequential
 pub mod History
 pub mod Play
+pub mod Journal
+pub mod Views
+pub mod Rule
+pub mod Inside
+pub mod Replies
+pub mod Collecting
+pub mod Faults
+pub mod Working

@@ -9,6 +9,10 @@ use thiserror::Error;
 #[error("out of memory")]
 pub struct NoMemory;
 
+/// Memory was refused, and the value is given back.
+#[derive(Drop, Debug)]
+pub struct NoMemoryWith<T>(pub T);
+
 impl From<AllocError> for NoMemory {
     fn from(_: AllocError) -> NoMemory {
         NoMemory
@@ -17,6 +21,12 @@ impl From<AllocError> for NoMemory {
 
 impl<T: Drop> From<AllocFailed<T>> for NoMemory {
     fn from(_: AllocFailed<T>) -> NoMemory {
+        NoMemory
+    }
+}
+
+impl<T: Drop> From<NoMemoryWith<T>> for NoMemory {
+    fn from(_: NoMemoryWith<T>) -> NoMemory {
         NoMemory
     }
 }

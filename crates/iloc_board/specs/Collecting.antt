@@ -1,0 +1,74 @@
+-- What is found when a board is closed.
+use Rattle.std.specs.Prelude.{◌≡◌, ℕ, ◌<◌, true, false, ◌==◌, cond, List, [], ◌∷◌, length, map, slice_get, slice_index, slice_set, Option, Some, None}
+use Rattle.std.specs.List.{Contains, list_any}
+use mathlib.Core.Option.{some}
+use lib.ListN.{get_elem?}
+use Rattle.iloc_board.specs.declared.step.Step.{Step}
+use Rattle.iloc_board.specs.declared.journal.Journal.{Journal}
+use Rattle.iloc_board.specs.Core.{opening, is_holding, played}
+use Rattle.iloc_board.specs.Sequential.{Legal, opened}
+use Rattle.iloc_board.specs.History.{history, IsExact}
+use Rattle.iloc_board.specs.Journal.{entries_of, state_of, saw_none}
+use Rattle.iloc_board.specs.Play.{TakesEachOnce}
+use Rattle.iloc_board.specs.Rule.{AllMade, AllAnswered, Apart}
+
+-- one list of steps, by workers that were made, none forbidden, of which each gathered journal is all that its worker did; each take in it is of the job looked at, and no job is taken twice
+pub record IsOneList (count made : ℕ) (gathered : List Journal) (steps : List Step) : Type 0 where
+  pub below : AllMade made steps
+  pub answered : AllAnswered (played count (opening count) steps)
+  pub journals : (i : ℕ) (j : Journal) → get_elem? gathered i ≡ some j → entries_of j.worker (played count (opening count) steps) ≡ j.entries
+  pub apart : Apart gathered
+  pub exact : IsExact count (opening count) steps
+  pub once : TakesEachOnce count steps
+
+-- what is known to have come back for a job: the answer, where its pass was gathered, and else its cost alone
+pub data Said (A : Type 0) : Type 0 where
+  answer : A → Said A
+  only_cost : ℕ → Said A
+
+-- no number stands twice
+abbrev pub NoneTwice : List ℕ → Type 0
+NoneTwice [] = Unit {0}
+NoneTwice (x ∷ xs) = (list_any (λ y. x == y) xs ≡ false) × NoneTwice xs
+
+module _ {A : Type 0} where
+  abbrev pub said_in : List (ℕ × A) → ℕ → ℕ → Said A
+  said_in [] k cost = only_cost cost
+  said_in (x ∷ xs) k cost = cond (k == x.0) (answer x.1) (said_in xs k cost)
+
+  abbrev pub FitsSaid : (ℕ → A → Type 0) → ℕ → Said A → Type 0
+  FitsSaid fits k (answer a) = fits k a
+  FitsSaid fits k (only_cost cost) = Unit {0}
+
+  -- the list of steps is a legal history, with the answers that were gathered
+  abbrev pub IsLegalWith : (ℕ → A → Type 0) → List (ℕ × A) → ℕ → List Step → Type 0
+  IsLegalWith fits answers count steps = Legal (FitsSaid fits) (opened count) (history (said_in answers) count (opening count) steps)
+
+  -- the jobs of these answers
+  abbrev pub jobs_of : List (ℕ × A) → List ℕ
+  jobs_of xs = map (λ x. x.0) xs
+
+  -- each job has the answer that came back for it, which fits it, and that answer's cost
+  pub record AreTheAnswers (count : ℕ) (fits : ℕ → A → Type 0) (price : A → ℕ) (handed : List (ℕ × A)) (answers : List A) (costs : List ℕ) : Type 0 where
+    pub long : length answers ≡ count
+    pub priced : length costs ≡ count
+    pub each : (i : ℕ) (a : A) → slice_get answers i ≡ Some a → Contains handed (i, a) × fits i a × (slice_index costs i ≡ price a)
+
+  -- the lowest job that has no answer
+  abbrev pub IsFirstMissing : ℕ → List (ℕ × A) → ℕ → Type 0
+  IsFirstMissing count handed i = (i < count) × ((a : A) → ¬ Contains handed (i, a)) × ((j : ℕ) → j < i → (a : A) × Contains handed (j, a))
+
+  -- a row with each answer at its job
+  abbrev pub placed : List (Option A) → List (ℕ × A) → List (Option A)
+  placed row [] = row
+  placed row (x ∷ xs) = placed (slice_set row x.0 (Some x.1)) xs
+
+  -- the first empty place
+  abbrev pub IsFirstHole : List (Option A) → ℕ → Type 0
+  IsFirstHole row i = (slice_get row i ≡ Some None) × ((j : ℕ) → j < i → (a : A) × (slice_get row j ≡ Some (Some a)))
+
+-- all passes that were made were gathered, none of them holds a job, and one was told that none is left
+pub record IsWhole (made : ℕ) (gathered : List Journal) : Type 0 where
+  pub all : (w : ℕ) → w < made → (i : ℕ) × (j : Journal) × (get_elem? gathered i ≡ some j) × (j.worker ≡ w)
+  pub idle : (i : ℕ) (j : Journal) → get_elem? gathered i ≡ some j → is_holding (state_of j.entries) ≡ false
+  pub told : (i : ℕ) × (j : Journal) × (get_elem? gathered i ≡ some j) × (saw_none j.entries ≡ true)

@@ -1,0 +1,80 @@
+-- What contracts see of a board, a pass and a root.
+use Rattle.std.specs.Prelude.{◌≡◌, ℕ, suc, Bool, true, false, List, [], ◌∷◌, ◌++◌, map}
+use Rattle.atomic_table.specs.Seated.{TableId}
+use Rattle.iloc_board.specs.declared.step.Step.{Step}
+use Rattle.iloc_board.specs.declared.step.Step.TheVariants.{Hand}
+use Rattle.iloc_board.specs.declared.step.Reply.{Reply}
+use Rattle.iloc_board.specs.declared.step.Reply.TheVariants.{Handed}
+use Rattle.iloc_board.specs.declared.state.State.{State}
+use Rattle.iloc_board.specs.declared.state.State.TheVariants.{Free, Looked, Holding}
+use Rattle.iloc_board.specs.declared.journal.Journal.{Journal}
+use Rattle.iloc_board.specs.Journal.{journal_of, state_of, noted, seen_in}
+
+-- a board is told from others by its table, and has these jobs
+pub record BoardView (J : Type 0) : Type 0 where
+  pub table : TableId
+  pub jobs : J
+
+-- a pass: its board, its part of the steps, and the answers that it handed back, each behind its job
+pub record PassView (J A : Type 0) : Type 0 where
+  pub board : BoardView J
+  pub journal : Journal
+  pub answers : List (ℕ × A)
+
+-- a root: its board, how many passes there may be and how many were made, and the journals and answers of the passes that it gathered
+pub record RootView (J A : Type 0) : Type 0 where
+  pub board : BoardView J
+  pub workers : ℕ
+  pub made : ℕ
+  pub gathered : List Journal
+  pub answers : List (ℕ × A)
+
+-- each answer fits its job
+abbrev pub AllFit : {A : Type 0} → (ℕ → A → Type 0) → List (ℕ × A) → Type 0
+AllFit fits [] = Unit {0}
+AllFit fits (x ∷ xs) = fits x.0 x.1 × AllFit fits xs
+
+-- each answer's job with the answer's cost
+abbrev pub priced : {A : Type 0} → (A → ℕ) → List (ℕ × A) → List (ℕ × ℕ)
+priced price xs = map (λ x. (x.0, price x.1)) xs
+
+-- the answers fit, and are one for each of these hand-backs, at its cost
+pub record AreFitting {A : Type 0} (fits : ℕ → A → Type 0) (price : A → ℕ) (answers : List (ℕ × A)) (handed : List (ℕ × ℕ)) : Type 0 where
+  pub fit : AllFit fits answers
+  pub each : priced price answers ≡ handed
+
+abbrev pub is_looking : State → Bool
+is_looking Free = false
+is_looking (Looked k) = true
+is_looking (Holding k) = false
+
+-- the job that a state names
+abbrev pub job_of : State → ℕ
+job_of Free = 0
+job_of (Looked k) = k
+job_of (Holding k) = k
+
+module _ {J A : Type 0} where
+  -- what a pass is about
+  abbrev pub state : PassView J A → State
+  state p = state_of p.journal.entries
+
+  -- the pass after a step with its reply
+  abbrev pub stepped : PassView J A → Step → Reply → PassView J A
+  stepped p x r = record { board = p.board; journal = noted p.journal x r; answers = p.answers }
+
+  -- the pass after it handed back an answer to the job k
+  abbrev pub with_answer : PassView J A → ℕ → A → ℕ → PassView J A
+  with_answer p k a cost = record { board = p.board; journal = noted p.journal (Hand p.journal.worker cost) Handed; answers = p.answers ++ (k, a) ∷ [] }
+
+  -- the root after it made a pass
+  abbrev pub with_pass : RootView J A → RootView J A
+  with_pass r = record { board = r.board; workers = r.workers; made = suc r.made; gathered = r.gathered; answers = r.answers }
+
+  -- the pass that a root makes next: the greatest that the gathered journals show is its start
+  abbrev pub new_pass : ℕ → RootView J A → PassView J A
+  new_pass count r = record { board = r.board; journal = journal_of r.made (seen_in count r.gathered) []; answers = [] }
+
+  -- the root after it gathered a pass
+  abbrev pub with_gathered : RootView J A → PassView J A → RootView J A
+  with_gathered r p = record { board = r.board; workers = r.workers; made = r.made; gathered = r.gathered ++ p.journal ∷ []; answers = r.answers ++ p.answers }

@@ -1,0 +1,63 @@
+//! A worker's run over a board.
+ghost use Rattle.std.specs.Prelude.{◌≡◌, ◌<◌, true, MatchOption, OnOk, OnErr};
+ghost use Rattle.iloc_board.specs.declared.state.State.TheVariants as about;
+ghost use Rattle.iloc_board.specs.Core.{is_holding};
+ghost use Rattle.iloc_board.specs.Views.{state};
+ghost use Rattle.iloc_board.specs.Working.{Goes, Ended, Runs, IsDone};
+
+use crate::board::{Board, Seen, Tried};
+use crate::fault::NoMemory;
+use crate::gate::Gate;
+use crate::jobs::Jobs;
+use crate::pass::Pass;
+
+/// Takes jobs and hands back their answers, until none is left. The pass is free at first.
+///
+/// For want of memory the run ends with the pass holding the job whose answer was lost.
+pub fn work<'a, J: Jobs, G: Gate>(
+    board: &Board<'a, J>,
+    pass: &mut Pass<'a, J>,
+    gate: &G,
+) -> Result<(), NoMemory>
+    requires own { pass.old.board ≡ board.now }
+    requires free { state pass.old ≡ about.Free }
+    ensures own { pass.new.board ≡ board.now }
+    ensures runs { Runs (J.number board.now.jobs) pass.old.journal pass.new.journal }
+    ensures ok { OnOk result (IsDone pass.new.journal) }
+    ensures err { OnErr result (is_holding (state pass.new) ≡ true) }
+{
+    while let Some(job) = claim(board, pass, gate) {
+        let answer = board.jobs.answer(board.alloc, job)?;
+        board.hand_back(pass, answer)?;
+    }
+    Ok(())
+}
+
+// Takes a job, or sees that none is left.
+fn claim<'a, J: Jobs, G: Gate>(
+    board: &Board<'a, J>,
+    pass: &mut Pass<'a, J>,
+    gate: &G,
+) -> Option<u32>
+    requires own { pass.old.board ≡ board.now }
+    requires free { state pass.old ≡ about.Free }
+    ensures own { pass.new.board ≡ board.now }
+    ensures claimed { MatchOption result
+        (Ended (J.number board.now.jobs) pass.old.journal pass.new.journal × IsDone pass.new.journal)
+        (λ k. Goes (J.number board.now.jobs) pass.old.journal pass.new.journal × (state pass.new ≡ about.Holding k) × (k < J.number board.now.jobs)) }
+{
+    let Seen::Block(job) = board.look(pass) else {
+        return None;
+    };
+    gate.after_look(pass.worker(), job);
+    loop {
+        match board.try_take(pass) {
+            Tried::Took(job) => {
+                gate.after_take(pass.worker(), job);
+                return Some(job);
+            }
+            Tried::Stale(_) => {}
+            Tried::NoneLeft => return None,
+        }
+    }
+}
