@@ -1,0 +1,131 @@
+#!/usr/bin/env python3
+"""Makes the inputs of the benchmark in a folder, the same bytes every time.
+
+    bench/inputs.py FOLDER
+
+Each is a valid file of the language and within its limits.
+"""
+import os
+import random
+import sys
+
+MAX_BYTES = 16_777_216
+MAX_BLOCKS = 65_535
+MAX_OPERATIONS = 10_000
+MAX_NUMBER = 2_147_483_647
+SEED = 1
+
+# What an operation may look like; a form that stands here more often comes more often.
+FORMS = [
+    *["load {address} => {target}"] * 3, *["store {left} => {address}"] * 2,
+    *["loadI {small} => {target}"] * 2, "loadI {large} => {target}",
+    *["add {left}, {right} => {target}"] * 3, "sub {left}, {right} => {target}",
+    *["mult {left}, {right} => {target}"] * 2,
+    "lshift {left}, {right} => {target}", "rshift {left}, {right} => {target}",
+    *["addI {left}, {small} => {target}"] * 2, "subI {left}, {small} => {target}",
+    "multI {left}, {small} => {target}", "lshiftI {left}, {shift} => {target}",
+    "rshiftI {left}, {shift} => {target}",
+    *["loadAI {address}, {offset} => {target}"] * 2, "storeAI {left} => {address}, {offset}",
+    "output {offset}", "nop",
+]
+
+
+class Draw:
+    """Numbers that only the seed decides, whatever the version of Python."""
+
+    def __init__(self):
+        self.fraction = random.Random(SEED).random
+
+    def below(self, end):
+        return int(self.fraction() * end)
+
+    def one_of(self, items):
+        return items[self.below(len(items))]
+
+
+def operation(draw, addresses, values):
+    """An operation without fault where each of `addresses` holds a multiple of 4 below 32,768."""
+    return draw.one_of(FORMS).format(
+        address=draw.one_of(addresses), left=draw.one_of(values), right=draw.one_of(values),
+        target=draw.one_of(values), offset=4 * draw.below(8192), shift=draw.below(32),
+        small=draw.below(4096), large=draw.below(MAX_NUMBER + 1))
+
+
+def block(draw, name, count, registers):
+    """A block of `count` operations: the first ones put addresses into registers; one in 64 blocks faults."""
+    some = max(1, min(8, count // 4))
+    addresses, values = registers[:some], registers[some:]
+    lines = [f"loadI {4 * draw.below(8192)} => {register}" for register in addresses]
+    lines += [operation(draw, addresses, values) for _ in range(count - some)]
+    if draw.below(64) == 0:
+        lines[-1] = "output 2"
+    comment = draw.below(count)
+    lines[comment] += "  // from the source"
+    return (f"{name}:\n\t" + "\n\t".join(lines) + "\n").encode()
+
+
+def full_of_blocks(draw, counts, registers):
+    """As many blocks as fit, each of a number of operations drawn from `counts`."""
+    parts, size = [], 0
+    while len(parts) < MAX_BLOCKS:
+        part = block(draw, f"L{len(parts) + 1}", draw.one_of(counts), registers)
+        size += len(part)
+        if size > MAX_BYTES:
+            break
+        parts.append(part)
+    return b"".join(parts)
+
+
+def one_block(draw):
+    """A block of the greatest length over registers of any number."""
+    registers = [f"r{draw.below(MAX_NUMBER + 1)}" for _ in range(4000)]
+    return block(draw, "only", MAX_OPERATIONS, registers)
+
+
+def many_blocks(draw):
+    return full_of_blocks(draw, range(6, 29), [f"r{number}" for number in range(32)])
+
+
+def long_blocks(draw):
+    return full_of_blocks(draw, [MAX_OPERATIONS], [f"r{number}" for number in range(5000)])
+
+
+def least_blocks(_):
+    return b"".join(b"L%d: output 0\n" % number for number in range(1, MAX_BLOCKS + 1))
+
+
+def comments_and_blanks(draw):
+    lines = [b"\n", b" \t \r\n", b" " * 60 + b"\n", b"// a short comment\n",
+             b"\t// a longer comment, about what the next operations are meant to do\n"]
+    parts, left = [], MAX_BYTES
+    while left >= max(map(len, lines)):
+        parts.append(draw.one_of(lines))
+        left -= len(parts[-1])
+    return b"".join(parts) + b" " * left
+
+
+def long_number(_):
+    front, behind = b"loadI ", b"8 => r1\n"
+    return front + b"0" * (MAX_BYTES - len(front) - len(behind)) + behind
+
+
+MAKERS = [one_block, many_blocks, long_blocks, least_blocks, comments_and_blanks, long_number]
+NAMES = [maker.__name__ for maker in MAKERS]
+
+
+def make(folder, only=()):
+    """Makes the inputs, or those of the names in `only`, one at a time: gives the name and the path of each."""
+    for maker in MAKERS:
+        if only and maker.__name__ not in only:
+            continue
+        path = os.path.join(folder, maker.__name__ + ".iloc")
+        with open(path, "wb") as file:
+            file.write(maker(Draw()))
+        yield maker.__name__, path
+
+
+if __name__ == "__main__":
+    if len(sys.argv) != 2:
+        sys.exit(__doc__)
+    for _, made in make(sys.argv[1]):
+        print(made)
