@@ -16,3 +16,4 @@ pub mod Splitting
 pub mod Reading
 pub mod Spelled
 pub mod Answer
+pub mod Within

@@ -1,5 +1,6 @@
 -- What holds of the language as a whole.
-use Rattle.std.specs.Prelude.{◌≡◌, ℕ, Option, Some, None, List}
+use Rattle.std.specs.Prelude.{◌≡◌, ℕ, ◌≤◌, Option, Some, None, List, length}
+use Rattle.std.specs.List.{AllByRecursion}
 use Rattle.iloc_text.specs.declared.op.Op.{Op}
 use Rattle.iloc_text.specs.declared.file.Block.{Block}
 use Rattle.iloc_text.specs.declared.fault.ReadFault.{ReadFault}
@@ -21,3 +22,8 @@ pub record TextsHaveOneAnswer : Type 0 where
   pub file : (input : List ℕ) (blocks blocks' : List Block) → Denotes input blocks → Denotes input blocks' → blocks ≡ blocks'
   pub refusal : (input : List ℕ) (fault fault' : ReadFault) → IsRefused input fault → IsRefused input fault' → fault ≡ fault'
   pub apart : (input : List ℕ) (blocks : List Block) (fault : ReadFault) → Denotes input blocks → IsRefused input fault → ⊥
+
+-- a file has at most 65535 blocks, each of at most 10000 operations
+abbrev pub FilesAreWithinLimits : Type 0
+FilesAreWithinLimits = (input : List ℕ) (blocks : List Block) → Denotes input blocks
+    → (length blocks ≤ 65535) × AllByRecursion (λ b. length b.ops ≤ 10000) blocks

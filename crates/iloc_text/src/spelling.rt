@@ -1,5 +1,5 @@
 //! How operations and numbers are written.
-ghost use Rattle.std.specs.Prelude.{◌≡◌, ◌++◌, OnOk, OnErr, take, vec_len, codes};
+ghost use Rattle.std.specs.Prelude.{◌≡◌, ◌++◌, OnOk, OnErr, take, vec_len, vec_capacity, length, ◌+◌, ◌<◌, codes};
 ghost use Rattle.std.specs.Fmt.{decimal, signed_decimal};
 ghost use Rattle.iloc_text.specs.Spelling.{register, spelling};
 
@@ -13,6 +13,8 @@ use itoa::Buffer;
 pub fn push_number(text: &mut Vec<u8>, number: i64) -> Result<(), NoMemory>
     ensures ok { OnOk result (text.new.items ≡ text.old.items ++ signed_decimal number) }
     ensures err { OnErr result (text.new.items ≡ text.old.items) }
+    ensures full { OnErr result
+        (vec_capacity text.old < vec_len text.old + length (signed_decimal number)) }
 {
     let mut buffer = Buffer::new();
     text.extend_from_slice(buffer.format(number).as_bytes())?;
