@@ -1,14 +1,15 @@
 -- What an effect depends on.
-use Rattle.std.proofs.Common.{◌≡◌, ℕ, ◌+ℤ◌, ℤ, pos, negsuc, Bool, true, false, None, refl, ap}
+use Rattle.std.proofs.Common.{◌≡◌, ℕ, ◌+ℤ◌, ℤ, pos, negsuc, Bool, true, false, List, [], ◌∷◌, Contains, None, arith, refl, ap}
 use Rattle.iloc_text.specs.declared.op.Reg.{Reg}
 use Rattle.iloc_text.specs.declared.op.Op.{Op}
 use Rattle.iloc_text.specs.declared.op.Op.TheVariants.{Load, LoadI, Store, Add, Sub, Mult, Lshift, Rshift, Output, Nop, AddI, SubI, MultI, LshiftI, RshiftI, LoadAI, StoreAI}
-use Rattle.iloc_text.specs.Registers.{defined}
+use Rattle.iloc_text.specs.Registers.{used, defined, with_registers}
 use Rattle.iloc_meaning.specs.declared.effect.Effect.{Effect}
 use Rattle.iloc_meaning.specs.declared.effect.Effect.TheVariants.{Faults, Gives, Writes, Emits, Nothing}
 use Rattle.iloc_meaning.specs.Address.{is_good, good_address}
 use Rattle.iloc_meaning.specs.Arithmetic.{wrapped, constant}
 use Rattle.iloc_meaning.specs.Effect.{effect, at_address}
+use Rattle.iloc_meaning.specs.Results.{GivesOrFaults, GivesNothing, GoesTo}
 use Rattle.iloc_meaning.proofs.Cases.{by_bool}
 
 -- acts that agree at good addresses do the same at every address
@@ -21,26 +22,65 @@ pub at_address_cases : (P : Effect → Type 0) (z : ℤ) (act : ℕ → Effect) 
 at_address_cases P (pos a) act fault done = by_bool (is_good (pos a)) (λ t. rw t (done a t)) (λ t. rw t fault)
 at_address_cases P (negsuc n) act fault done = fault
 
--- an effect depends on the values of the registers and on the words at good addresses alone
-pub effect_same : (op : Op) (reg reg' : Reg → ℤ) (word word' : ℕ → ℤ) → ((r : Reg) → reg r ≡ reg' r) → ((a : ℕ) → is_good (pos a) ≡ true → word a ≡ word' a) → effect op reg word ≡ effect op reg' word'
-effect_same (Load addr dest) reg reg' word word' regs words = rw (regs addr) (at_address_same (reg' addr) _ _ (λ a good. ap Gives (words a good)))
+-- the first used register, and the second, have the same value
+first_same : (rs : List Reg) (r : Reg) (reg reg' : Reg → ℤ) → ((s : Reg) → Contains (r ∷ rs) s → reg s ≡ reg' s) → reg r ≡ reg' r
+first_same rs r reg reg' same = same r (0, omega arith, refl)
+
+second_same : (rs : List Reg) (r s : Reg) (reg reg' : Reg → ℤ) → ((t : Reg) → Contains (r ∷ s ∷ rs) t → reg t ≡ reg' t) → reg s ≡ reg' s
+second_same rs r s reg reg' same = same s (1, omega arith, refl)
+
+-- an effect depends on the values of the used registers and on the words at good addresses alone
+pub effect_same : (op : Op) (reg reg' : Reg → ℤ) (word word' : ℕ → ℤ) → ((r : Reg) → Contains (used op) r → reg r ≡ reg' r) → ((a : ℕ) → is_good (pos a) ≡ true → word a ≡ word' a) → effect op reg word ≡ effect op reg' word'
+effect_same (Load addr dest) reg reg' word word' regs words =
+    rw (first_same [] addr reg reg' regs) (at_address_same (reg' addr) _ _ (λ a good. ap Gives (words a good)))
 effect_same (LoadI value dest) reg reg' word word' regs words = refl
-effect_same (Store value addr) reg reg' word word' regs words = rw (regs addr, regs value) refl
-effect_same (Add left right dest) reg reg' word word' regs words = rw (regs left, regs right) refl
-effect_same (Sub left right dest) reg reg' word word' regs words = rw (regs left, regs right) refl
-effect_same (Mult left right dest) reg reg' word word' regs words = rw (regs left, regs right) refl
-effect_same (Lshift left right dest) reg reg' word word' regs words = rw (regs left, regs right) refl
-effect_same (Rshift left right dest) reg reg' word word' regs words = rw (regs left, regs right) refl
+effect_same (Store value addr) reg reg' word word' regs words = rw (first_same (addr ∷ []) value reg reg' regs, second_same [] value addr reg reg' regs) refl
+effect_same (Add left right dest) reg reg' word word' regs words = rw (first_same (right ∷ []) left reg reg' regs, second_same [] left right reg reg' regs) refl
+effect_same (Sub left right dest) reg reg' word word' regs words = rw (first_same (right ∷ []) left reg reg' regs, second_same [] left right reg reg' regs) refl
+effect_same (Mult left right dest) reg reg' word word' regs words = rw (first_same (right ∷ []) left reg reg' regs, second_same [] left right reg reg' regs) refl
+effect_same (Lshift left right dest) reg reg' word word' regs words = rw (first_same (right ∷ []) left reg reg' regs, second_same [] left right reg reg' regs) refl
+effect_same (Rshift left right dest) reg reg' word word' regs words = rw (first_same (right ∷ []) left reg reg' regs, second_same [] left right reg reg' regs) refl
 effect_same (Output addr) reg reg' word word' regs words = at_address_same (constant addr) _ _ (λ a good. ap Emits (words a good))
 effect_same Nop reg reg' word word' regs words = refl
-effect_same (AddI left value dest) reg reg' word word' regs words = rw (regs left) refl
-effect_same (SubI left value dest) reg reg' word word' regs words = rw (regs left) refl
-effect_same (MultI left value dest) reg reg' word word' regs words = rw (regs left) refl
-effect_same (LshiftI left value dest) reg reg' word word' regs words = rw (regs left) refl
-effect_same (RshiftI left value dest) reg reg' word word' regs words = rw (regs left) refl
+effect_same (AddI left value dest) reg reg' word word' regs words = rw (first_same [] left reg reg' regs) refl
+effect_same (SubI left value dest) reg reg' word word' regs words = rw (first_same [] left reg reg' regs) refl
+effect_same (MultI left value dest) reg reg' word word' regs words = rw (first_same [] left reg reg' regs) refl
+effect_same (LshiftI left value dest) reg reg' word word' regs words = rw (first_same [] left reg reg' regs) refl
+effect_same (RshiftI left value dest) reg reg' word word' regs words = rw (first_same [] left reg reg' regs) refl
 effect_same (LoadAI addr offset dest) reg reg' word word' regs words =
-    rw (regs addr) (at_address_same (wrapped (reg' addr +ℤ constant offset)) _ _ (λ a good. ap Gives (words a good)))
-effect_same (StoreAI value addr offset) reg reg' word word' regs words = rw (regs addr, regs value) refl
+    rw (first_same [] addr reg reg' regs) (at_address_same (wrapped (reg' addr +ℤ constant offset)) _ _ (λ a good. ap Gives (words a good)))
+effect_same (StoreAI value addr offset) reg reg' word word' regs words = rw (first_same (addr ∷ []) value reg reg' regs, second_same [] value addr reg reg' regs) refl
+
+-- an operation with other registers does what its own would do with the values of the new ones
+pub effect-with_registers : (new : Reg → Reg) (own : Reg) (op : Op) (reg : Reg → ℤ) (word : ℕ → ℤ) → effect (with_registers new own op) reg word ≡ effect op (λ r. reg (new r)) word
+effect-with_registers new own (Load addr dest) reg word = refl
+effect-with_registers new own (LoadI value dest) reg word = refl
+effect-with_registers new own (Store value addr) reg word = refl
+effect-with_registers new own (Add left right dest) reg word = refl
+effect-with_registers new own (Sub left right dest) reg word = refl
+effect-with_registers new own (Mult left right dest) reg word = refl
+effect-with_registers new own (Lshift left right dest) reg word = refl
+effect-with_registers new own (Rshift left right dest) reg word = refl
+effect-with_registers new own (Output addr) reg word = refl
+effect-with_registers new own Nop reg word = refl
+effect-with_registers new own (AddI left value dest) reg word = refl
+effect-with_registers new own (SubI left value dest) reg word = refl
+effect-with_registers new own (MultI left value dest) reg word = refl
+effect-with_registers new own (LshiftI left value dest) reg word = refl
+effect-with_registers new own (RshiftI left value dest) reg word = refl
+effect-with_registers new own (LoadAI addr offset dest) reg word = refl
+effect-with_registers new own (StoreAI value addr offset) reg word = refl
+
+-- a result goes to the defined register
+pub results_go : (op : Op) (reg : Reg → ℤ) (word : ℕ → ℤ) → GoesTo (defined op) (effect op reg word)
+results_go (Load addr dest) reg word = at_address_cases GivesOrFaults (reg addr) (λ a. Gives (word a)) tt (λ a good. tt)
+results_go (LoadAI addr offset dest) reg word =
+    at_address_cases GivesOrFaults (wrapped (reg addr +ℤ constant offset)) (λ a. Gives (word a)) tt (λ a good. tt)
+results_go (Store value addr) reg word = at_address_cases GivesNothing (reg addr) (λ a. Writes a (reg value)) tt (λ a good. tt)
+results_go (StoreAI value addr offset) reg word =
+    at_address_cases GivesNothing (wrapped (reg addr +ℤ constant offset)) (λ a. Writes a (reg value)) tt (λ a good. tt)
+results_go (Output addr) reg word = at_address_cases GivesNothing (constant addr) (λ a. Emits (word a)) tt (λ a good. tt)
+results_go _ reg word = tt
 
 -- whether an effect is neither a result nor a fault
 abbrev pub has_no_result : Effect → Bool

@@ -1,4 +1,5 @@
 pub mod Cases
+pub mod RegisterValues
 pub mod MemoryWords
 pub mod Effects
 pub mod Steps

@@ -1,20 +1,17 @@
 -- One more operation of a block in mid-run.
-use Rattle.std.proofs.Common.{◌≡◌, ◌≢◌, ℕ, ◌/◌, ◌==◌, true, false, List, [], ◌∷◌, ◌++◌, set, Some, None, unwrap_or, Vec, Global, ℤ, pos, arith, refl, ap, sym, append-nil, ◌∙◌}
+use Rattle.std.proofs.Common.{◌≡◌, ◌≢◌, ℕ, ◌/◌, ◌==◌, true, false, List, [], ◌∷◌, ◌++◌, set, Some, Vec, Global, ℤ, arith, refl, ap, sym, append-nil, ◌∙◌}
 use Rattle.std.proofs.lemmas.Bool.Decides.{nat_tests}
-use Rattle.std.specs.Ordering.{nat_cmp}
-use Rattle.std.specs.BTreeMap.{get}
 use Rattle.iloc_text.specs.declared.op.Reg.{Reg}
 use Rattle.iloc_text.specs.declared.op.Op.{Op}
 use Rattle.iloc_text.specs.Registers.{defined}
-use Rattle.iloc_meaning.specs.declared.registers.Registers.{Registers}
 use Rattle.iloc_meaning.specs.declared.run.Machine.{Machine}
 use Rattle.iloc_meaning.specs.declared.effect.Effect.TheVariants.{Faults, Gives, Writes, Emits, Nothing}
 use Rattle.iloc_meaning.specs.Memory.{word_at}
 use Rattle.iloc_meaning.specs.Effect.{effect}
 use Rattle.iloc_meaning.specs.Trace.{Executed, register_after, word_after, then_executed}
 use Rattle.iloc_meaning.specs.Outcome.{has_fault, emitted}
-use Rattle.iloc_meaning.specs.Registers.{value_of, ChangesOnly}
-use Rattle.iloc_meaning.specs.Machine.{Follows}
+use Rattle.iloc_meaning.specs.Registers.{Values, value_of, ChangesOnly}
+use Rattle.iloc_meaning.specs.Steps.Machine.{Follows}
 use Rattle.iloc_meaning.proofs.Cases.{by_bool}
 use Rattle.iloc_meaning.proofs.MemoryWords.{word_at-with_words, set-with_words}
 use Rattle.iloc_meaning.proofs.Effects.{effect_same, has_no_result, defined-no_result, writes_well, writes_well-effect}
@@ -22,31 +19,20 @@ use Rattle.iloc_meaning.proofs.Effects.{effect_same, has_no_result, defined-no_r
 -- the trace's registers and words give an operation the effect that the machine's give it
 pub effect_after : (memory : List ℤ) (trace : List Executed) (machine : Machine) (op : Op) → Follows memory trace machine → effect op (register_after trace) (word_after memory trace) ≡ effect op (value_of machine.registers) (word_at machine.memory)
 effect_after memory trace machine op follows =
-    effect_same op _ _ _ _ (λ r. sym (follows.registers r)) (λ a good. sym (ap (λ words. word_at words a) follows.words ∙ word_at-with_words memory (word_after memory trace) a follows.size good))
+    effect_same op _ _ _ _ (λ r used. sym (follows.registers r)) (λ a good. sym (ap (λ words. word_at words a) follows.words ∙ word_at-with_words memory (word_after memory trace) a follows.size good))
 
 -- an operation that faults
 pub after_fault : (memory : List ℤ) (trace : List Executed) (machine : Machine) (op : Op) → Follows memory trace machine → Faults ≡ effect op (value_of machine.registers) (word_at machine.memory) → has_fault (then_executed memory op trace) ≡ true
 after_fault memory trace machine op follows is = rw (effect_after memory trace machine op follows, ← is) refl
 
 -- an operation that gives a result
-pub after_result : (memory : List ℤ) (trace : List Executed) (machine : Machine) (op : Op) (result : ℤ) (r : Reg) (new : Registers) → Follows memory trace machine → Gives result ≡ effect op (value_of machine.registers) (word_at machine.memory) → Some r ≡ defined op → ChangesOnly machine.registers new r result → Follows memory (then_executed memory op trace) (record machine { registers = new })
+pub after_result : (memory : List ℤ) (trace : List Executed) (machine : Machine) (op : Op) (result : ℤ) (r : Reg) (new : Values) → Follows memory trace machine → Gives result ≡ effect op (value_of machine.registers) (word_at machine.memory) → Some r ≡ defined op → ChangesOnly machine.registers new r result → Follows memory (then_executed memory op trace) (record machine { registers = new })
 after_result memory trace machine op result r new follows is register changes =
     rw (effect_after memory trace machine op follows, ← is) record {
       size = follows.size;
       registers = λ s. rw (← register) (by_bool (s.0 == r.0)
-          (λ t. rw t (let same : s.0 ≡ r.0 = grind (arith, nat_tests) in ap (λ n. unwrap_or (get nat_cmp new.values n) (pos 0)) same ∙ changes.changed))
+          (λ t. rw t (let same : s.0 ≡ r.0 = grind (arith, nat_tests) in ap (λ n. value_of new (record { 0 = n })) same ∙ changes.changed))
           (λ t. rw t (let apart : s.0 ≢ r.0 = grind (arith, nat_tests) in changes.others s apart ∙ follows.registers s)));
-      words = follows.words;
-      outputs = follows.outputs ∙ sym (append-nil (emitted trace));
-      no_fault = follows.no_fault;
-    }
-
--- an operation that gives a result to no register
-pub after_lost_result : (memory : List ℤ) (trace : List Executed) (machine : Machine) (op : Op) (result : ℤ) → Follows memory trace machine → Gives result ≡ effect op (value_of machine.registers) (word_at machine.memory) → None ≡ defined op → Follows memory (then_executed memory op trace) machine
-after_lost_result memory trace machine op result follows is register =
-    rw (effect_after memory trace machine op follows, ← is) record {
-      size = follows.size;
-      registers = λ s. rw (← register) (follows.registers s);
       words = follows.words;
       outputs = follows.outputs ∙ sym (append-nil (emitted trace));
       no_fault = follows.no_fault;

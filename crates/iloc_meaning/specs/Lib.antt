@@ -3,6 +3,8 @@ pub mod Memory
 pub mod Registers
 pub mod Arithmetic
 pub mod Effect
+pub mod Results
+pub mod Laws
 pub mod Trace
 pub mod Outcome
-pub mod Machine
+pub mod Steps

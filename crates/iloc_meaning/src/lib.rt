@@ -2,10 +2,17 @@
 #![tactic(auto)]
 
 mod arithmetic;
-pub mod effect;
-pub mod memory;
-pub mod no_memory;
-pub mod outcome;
+mod effect;
+pub mod laws;
+mod memory;
+mod outcome;
 mod registers;
-pub mod run;
-pub mod words;
+mod run;
+mod words;
+
+pub use effect::Effect;
+pub use memory::{Memory, WORDS};
+pub use outcome::Outcome;
+pub use registers::Registers;
+pub use run::run_block;
+pub use words::Words;

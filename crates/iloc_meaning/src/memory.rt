@@ -3,7 +3,7 @@ ghost use Rattle.std.specs.Prelude.{◌≡◌, ◌/◌, pos, length, slice_set, 
 ghost use Rattle.iloc_meaning.specs.Address.{is_good};
 ghost use Rattle.iloc_meaning.specs.Memory.{zeros, word_at};
 
-use crate::no_memory::NoMemory;
+use iloc_text::NoMemory;
 use std::alloc::Global;
 use std::marker::Model;
 
@@ -82,4 +82,26 @@ impl Memory {
     {
         self.words[address as usize / 4] = word;
     }
+}
+
+impl PartialEq for Memory {
+    ghost use Rattle.std.proofs.Common.{rules};
+    ghost use Rattle.std.specs.Ordering.{int_eq};
+    ghost use Rattle.std.specs.Cmp.Lexicographic.{pointwise};
+    ghost use Rattle.std.specs.Cmp.Rules.{comparing};
+
+    ghost eq = { pointwise int_eq };
+
+    ghost laws = { Prim.search (comparing, rules) };
+
+    fn eq(&self, other: &Memory) -> bool {
+        self.words == other.words
+    }
+}
+
+impl Eq for Memory {
+    ghost use Rattle.std.proofs.Common.{rules};
+    ghost use Rattle.std.specs.Cmp.Rules.{comparing};
+
+    ghost laws = { Prim.search (comparing, rules) };
 }

@@ -4,7 +4,7 @@ use crate::memory::Memory;
 use crate::words::Words;
 
 /// The outcome of a block. Of a block that faults nothing else is known.
-#[derive(Debug, Drop)]
+#[derive(Debug, Drop, PartialEq, Eq)]
 pub enum Outcome {
     /// No operation faulted.
     Finished {

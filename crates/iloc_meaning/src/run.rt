@@ -4,13 +4,10 @@ ghost use Rattle.iloc_meaning.specs.Outcome.{outcome};
 
 use crate::effect::Effect;
 use crate::memory::{Memory, WORDS};
-use crate::no_memory::NoMemory;
 use crate::outcome::Outcome;
 use crate::registers::Registers;
 use crate::words::Words;
-use iloc_text::file::Block;
-use iloc_text::op::Op;
-use iloc_text::registers::defines;
+use iloc_text::{Block, NoMemory, Op, defines};
 use std::alloc::Global;
 
 /// A block in mid-run.
@@ -23,7 +20,7 @@ struct Machine {
 
 impl Machine {
     ghost use Rattle.std.specs.Prelude.{List, ℤ};
-    ghost use Rattle.iloc_meaning.specs.Machine.{Follows, After};
+    ghost use Rattle.iloc_meaning.specs.Steps.Machine.{Follows, After};
     ghost use Rattle.iloc_meaning.specs.Trace.{Executed, then_executed};
 
     /// Takes one operation. Answers whether the run goes on: it ends at a fault.
@@ -35,9 +32,10 @@ impl Machine {
         match Effect::of(op, &self.registers, &self.memory) {
             Effect::Faults => return Ok(false),
             Effect::Gives(result) => {
-                if let Some(register) = defines(op) {
-                    self.registers.set(register, result)?;
-                }
+                let Some(register) = defines(op) else {
+                    unreachable!()
+                };
+                self.registers.set(register, result)?;
             }
             Effect::Writes { address, word } => self.memory.set(address, word),
             Effect::Emits(word) => self.outputs.push(word)?,

@@ -31,4 +31,33 @@ impl Words {
     {
         self.items.as_slice()
     }
+
+    /// Gives the words back.
+    pub fn into_vec(self) -> Vec<i32>
+        ensures { result.items ≡ self }
+    {
+        self.items
+    }
+}
+
+impl PartialEq for Words {
+    ghost use Rattle.std.proofs.Common.{rules};
+    ghost use Rattle.std.specs.Ordering.{int_eq};
+    ghost use Rattle.std.specs.Cmp.Lexicographic.{pointwise};
+    ghost use Rattle.std.specs.Cmp.Rules.{comparing};
+
+    ghost eq = { pointwise int_eq };
+
+    ghost laws = { Prim.search (comparing, rules) };
+
+    fn eq(&self, other: &Words) -> bool {
+        self.items == other.items
+    }
+}
+
+impl Eq for Words {
+    ghost use Rattle.std.proofs.Common.{rules};
+    ghost use Rattle.std.specs.Cmp.Rules.{comparing};
+
+    ghost laws = { Prim.search (comparing, rules) };
 }

@@ -8,8 +8,8 @@ use Rattle.iloc_text.specs.declared.file.Block.{Block}
 use Rattle.iloc_text.specs.declared.fault.ReadFault.{ReadFault}
 use Rattle.iloc_text.specs.declared.fault.ReadFault.TheVariants.{InputTooLong, BadLine, NumberTooLarge, TooManyBlocks, TooManyOperations, NoMemory}
 use Rattle.iloc_text.specs.Grammar.{Reads, HasReading, HasWideReading}
-use Rattle.iloc_text.specs.Scan.{line_at, is_within}
-use Rattle.iloc_text.specs.Lines.{is_line_end, lines_of}
+use Rattle.iloc_text.specs.Steps.Scan.{line_at, is_within}
+use Rattle.iloc_text.specs.Steps.Lines.{is_line_end, lines_of}
 use Rattle.iloc_text.specs.Files.{HasNoLineEnd, AreLines, Reading, ReadAs, block_count, ops_of, fronts, file_of, IsWithin, Denotes, IsFaulty, HasFirstFault, IsRefused}
 use Rattle.iloc_text.specs.Laws.{TextsHaveOneAnswer}
 use Rattle.iloc_text.proofs.Operations.{capped_op}

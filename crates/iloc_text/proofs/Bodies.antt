@@ -3,7 +3,7 @@ use Rattle.std.proofs.Common.{◌≡◌, ◌∙◌, ℕ, Bool, true, false, cond
 use Rattle.std.proofs.lemmas.Bool.Decides.{nat_tests}
 use Rattle.iloc_text.specs.declared.op.Op.{Op}
 use Rattle.iloc_text.specs.Grammar.{◌⋅◌, is_blank, is_word_byte, Blanks, OptionalOperation, OptionalComment}
-use Rattle.iloc_text.specs.Scan.{◌>>=◌, after_blanks, operation_at, optional_operation_at, is_end, body_at}
+use Rattle.iloc_text.specs.Steps.Scan.{◌>>=◌, after_blanks, operation_at, optional_operation_at, is_end, body_at}
 use Rattle.iloc_text.proofs.Parts.{Before, Before-join, Before-split, Before-all, all-Before, starts}
 use Rattle.iloc_text.proofs.Tokens.{blanks_read, blanks_none, blanks_over, blanks_again, blanks_starts}
 use Rattle.iloc_text.proofs.Opcodes.{bind_each}

@@ -4,8 +4,8 @@ use Rattle.iloc_text.specs.declared.op.Op.{Op}
 use Rattle.iloc_text.specs.declared.file.Block.{Block}
 use Rattle.iloc_text.specs.declared.fault.ReadFault.{ReadFault}
 use Rattle.iloc_text.specs.declared.fault.ReadFault.TheVariants.{InputTooLong, BadLine, NumberTooLarge, TooManyBlocks, TooManyOperations, NoMemory}
-use Rattle.iloc_text.specs.Growth.{opened, with_op, with_optional_op, with_line, last_ops, AreWithin, Grows}
-use Rattle.iloc_text.proofs.Blocks.{last-snoc}
+use Rattle.iloc_text.specs.Steps.Growth.{opened, with_op, with_optional_op, with_line, last_ops, AreWithin, Grows}
+use Rattle.iloc_text.proofs.BlockLists.{last-snoc}
 
 pub opened_within : (name : Option (List ℕ)) (blocks : List Block) → AreWithin blocks → length blocks ≢ 65535 → AreWithin (opened name blocks)
 opened_within name blocks h other = record {

@@ -1,4 +1,5 @@
 pub mod Parts
+pub mod Renaming
 pub mod Tokens
 pub mod Opcodes
 pub mod Starts
@@ -6,14 +7,15 @@ pub mod Operands
 pub mod Operations
 pub mod Bodies
 pub mod Labels
-pub mod Limits
+pub mod Caps
 pub mod Lines
 pub mod Counts
 pub mod BlockOps
-pub mod Blocks
+pub mod BlockLists
 pub mod Growing
 pub mod Splitting
 pub mod Reading
 pub mod Spelled
 pub mod Answer
+pub mod Every
 pub mod Within

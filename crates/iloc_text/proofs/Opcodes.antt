@@ -8,8 +8,8 @@ use Rattle.iloc_text.specs.declared.opcode.Transfer.TheVariants as transfer
 use Rattle.iloc_text.specs.declared.opcode.TwoSources.TheVariants as two
 use Rattle.iloc_text.specs.declared.opcode.Immediate.TheVariants as immediate
 use Rattle.iloc_text.specs.Grammar.{is_word_byte}
-use Rattle.iloc_text.specs.Opcodes.{opcodes, opcode_text, opcode_of}
-use Rattle.iloc_text.specs.Scan.{◌>>=◌}
+use Rattle.iloc_text.specs.Steps.Opcodes.{opcodes, opcode_text, opcode_of}
+use Rattle.iloc_text.specs.Steps.Scan.{◌>>=◌}
 use Rattle.iloc_text.proofs.Parts.{starts}
 use Rattle.iloc_text.proofs.Tokens.{some_map, IsWord}
 

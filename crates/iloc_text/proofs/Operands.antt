@@ -3,7 +3,7 @@ use Rattle.std.proofs.Common.{◌≡◌, ℕ, false, List, refl, Some, IfSome}
 use Rattle.std.specs.Char.{is_ascii_digit}
 use Rattle.iloc_text.specs.declared.op.Reg.{Reg}
 use Rattle.iloc_text.specs.Grammar.{◌⋅◌, Number, Register, Arrow, Comma}
-use Rattle.iloc_text.specs.Scan.{capped, number_at, register_at, arrow_at, comma_at, number_to_register_at, register_to_register_at, registers_to_register_at, immediate_to_register_at, register_to_offset_at}
+use Rattle.iloc_text.specs.Steps.Scan.{capped, number_at, register_at, arrow_at, comma_at, number_to_register_at, register_to_register_at, registers_to_register_at, immediate_to_register_at, register_to_offset_at}
 use Rattle.iloc_text.proofs.Parts.{Before, Before-join, Before-split, starts}
 use Rattle.iloc_text.proofs.Tokens.{number_read, number_again, register_read, register_again, arrow_read, arrow_again, comma_read, comma_again}
 use Rattle.iloc_text.proofs.Opcodes.{bind_each}

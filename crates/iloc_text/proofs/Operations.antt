@@ -10,8 +10,8 @@ use Rattle.iloc_text.specs.declared.opcode.Transfer.TheVariants as transfer
 use Rattle.iloc_text.specs.declared.opcode.TwoSources.TheVariants as two
 use Rattle.iloc_text.specs.declared.opcode.Immediate.TheVariants as immediate
 use Rattle.iloc_text.specs.Grammar.{is_word_byte, ◌⋅◌, Text, is_blank, Blanks, SomeBlanks, Number, Register, Arrow, Comma, Operation}
-use Rattle.iloc_text.specs.Opcodes.{opcode_text, opcode_of}
-use Rattle.iloc_text.specs.Scan.{◌>>=◌, after_blanks, capped, number_at, some_blanks_at, after_word, word_of, number_to_register_at, register_to_register_at, registers_to_register_at, immediate_to_register_at, register_to_offset_at, operands_at, called_at, operation_at}
+use Rattle.iloc_text.specs.Steps.Opcodes.{opcode_text, opcode_of}
+use Rattle.iloc_text.specs.Steps.Scan.{◌>>=◌, after_blanks, capped, number_at, some_blanks_at, after_word, word_of, number_to_register_at, register_to_register_at, registers_to_register_at, immediate_to_register_at, register_to_offset_at, operands_at, called_at, operation_at}
 use Rattle.iloc_text.proofs.Parts.{Before, Before-join, Before-split, starts}
 use Rattle.iloc_text.proofs.Tokens.{some_map, number_read, number_again, some_blanks_read, some_blanks_again, word_again, word_read, blanks_again}
 use Rattle.iloc_text.proofs.Opcodes.{bind_each, opcode_read, opcode_again, opcode_is_word, opcode_starts}

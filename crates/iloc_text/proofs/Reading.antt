@@ -9,13 +9,13 @@ use Rattle.iloc_text.specs.declared.file.Block.{Block}
 use Rattle.iloc_text.specs.declared.fault.ReadFault.{ReadFault}
 use Rattle.iloc_text.specs.declared.fault.ReadFault.TheVariants.{InputTooLong, BadLine, NumberTooLarge, TooManyBlocks, TooManyOperations, NoMemory}
 use Rattle.iloc_text.specs.Grammar.{is_word_byte, IsName, Reads}
-use Rattle.iloc_text.specs.Lines.{lines_of, lines_left}
+use Rattle.iloc_text.specs.Steps.Lines.{lines_of, lines_left}
 use Rattle.iloc_text.specs.Files.{AreLines, Reading, ReadAs, block_names, fronts, file_of, IsWithin, NoneFaulty, Denotes, IsFaulty, HasFirstFault, IsRefused}
-use Rattle.iloc_text.specs.Growth.{with_line, last_ops, AreWithin, Grows}
+use Rattle.iloc_text.specs.Steps.Growth.{with_line, last_ops, AreWithin, Grows}
 use Rattle.iloc_text.proofs.Parts.{Before-split, all-Before}
 use Rattle.iloc_text.proofs.Splitting.{lines_are, lines_few}
 use Rattle.iloc_text.proofs.Counts.{fronts-snoc}
-use Rattle.iloc_text.proofs.Blocks.{length-file, last-file, file-snoc}
+use Rattle.iloc_text.proofs.BlockLists.{length-file, last-file, file-snoc}
 
 -- The text of a label
 
@@ -51,10 +51,10 @@ all-snoc : {A : Type 0} (P : A → Type 0) (xs : List A) (x : A) → AllByRecurs
 all-snoc P [] x h p = (p, tt)
 all-snoc P (y ∷ ys) x h p = (h.0, all-snoc P ys x h.1 p)
 
-NoneFaulty-snoc : (rs : List Reading) (r : Reading) → NoneFaulty rs → IsWithin (rs ++ r ∷ []) → NoneFaulty (rs ++ r ∷ [])
+pub NoneFaulty-snoc : (rs : List Reading) (r : Reading) → NoneFaulty rs → IsWithin (rs ++ r ∷ []) → NoneFaulty (rs ++ r ∷ [])
 NoneFaulty-snoc rs r h w = subst (AllByRecursion IsWithin) (sym (fronts-snoc rs r)) (all-snoc IsWithin (fronts rs) (rs ++ r ∷ []) h w)
 
-ReadAs-snoc : (lines : List (List ℕ)) (rs : List Reading) (line : List ℕ) (r : Reading)
+pub ReadAs-snoc : (lines : List (List ℕ)) (rs : List Reading) (line : List ℕ) (r : Reading)
     → ReadAs lines rs → Reads line r.label r.op → ReadAs (lines ++ line ∷ []) (rs ++ r ∷ [])
 ReadAs-snoc [] [] line r h reads = (reads, tt)
 ReadAs-snoc [] (x ∷ xs) line r h reads = absurd h

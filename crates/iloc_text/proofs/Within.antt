@@ -1,14 +1,14 @@
 -- A file that a text denotes is within the limits.
-use Rattle.std.proofs.Common.{◌≡◌, ◌∙◌, ℕ, ◌+◌, ◌<◌, ◌≤◌, List, [], ◌∷◌, ◌++◌, length, sym, ap, subst, Option, Some, None, arith}
+use Rattle.std.proofs.Common.{ℕ, ◌≤◌, List, [], ◌∷◌, ◌++◌, length, sym, ap, subst, Option, Some, None, arith}
 use Rattle.std.specs.List.{AllByRecursion}
 use Rattle.iloc_text.specs.declared.op.Op.{Op}
 use Rattle.iloc_text.specs.declared.file.Block.{Block}
-use Rattle.iloc_text.specs.Files.{Reading, block_count, block_names, fronts, file_of, IsWithin, NoneFaulty, Denotes}
-use Rattle.iloc_text.specs.Growth.{opened, with_op, with_optional_label, with_optional_op, with_line, last_ops}
+use Rattle.iloc_text.specs.Files.{Reading, block_count, block_names, fronts, file_of, IsWithin, NoneFaulty}
+use Rattle.iloc_text.specs.Steps.Growth.{with_op, with_optional_label, with_optional_op, with_line, last_ops}
 use Rattle.iloc_text.specs.Laws.{FilesAreWithinLimits}
 use Rattle.iloc_text.proofs.Counts.{fronts-snoc}
 use Rattle.iloc_text.proofs.BlockOps.{over_lines}
-use Rattle.iloc_text.proofs.Blocks.{length-file, last-file, file-snoc}
+use Rattle.iloc_text.proofs.BlockLists.{length-file, last-file, file-snoc}
 
 abbrev AllFit : List Block → Type 0
 AllFit blocks = AllByRecursion (λ b. length b.ops ≤ 10000) blocks

@@ -1,12 +1,14 @@
 -- What holds of the language as a whole.
-use Rattle.std.specs.Prelude.{◌≡◌, ℕ, ◌≤◌, Option, Some, None, List, length}
+use Rattle.std.specs.Prelude.{◌≡◌, ℕ, ◌≤◌, Option, Some, None, option_map, ◌⊎◌, List, length, map}
 use Rattle.std.specs.List.{AllByRecursion}
+use Rattle.iloc_text.specs.declared.op.Reg.{Reg}
 use Rattle.iloc_text.specs.declared.op.Op.{Op}
 use Rattle.iloc_text.specs.declared.file.Block.{Block}
 use Rattle.iloc_text.specs.declared.fault.ReadFault.{ReadFault}
 use Rattle.iloc_text.specs.Grammar.{Reads, IsWithinLimit}
 use Rattle.iloc_text.specs.Spelling.{spelling}
 use Rattle.iloc_text.specs.Files.{Denotes, IsRefused}
+use Rattle.iloc_text.specs.Registers.{used, defined, with_registers}
 
 -- a line has at most one reading
 abbrev pub LinesHaveOneReading : Type 0
@@ -23,7 +25,21 @@ pub record TextsHaveOneAnswer : Type 0 where
   pub refusal : (input : List ℕ) (fault fault' : ReadFault) → IsRefused input fault → IsRefused input fault' → fault ≡ fault'
   pub apart : (input : List ℕ) (blocks : List Block) (fault : ReadFault) → Denotes input blocks → IsRefused input fault → ⊥
 
+-- each text denotes a file or a refusal
+abbrev pub TextsHaveAnAnswer : Type 0
+TextsHaveAnAnswer = (input : List ℕ)
+    → ((blocks : List Block) × Denotes input blocks) ⊎ ((fault : ReadFault) × IsRefused input fault)
+
 -- a file has at most 65535 blocks, each of at most 10000 operations
 abbrev pub FilesAreWithinLimits : Type 0
 FilesAreWithinLimits = (input : List ℕ) (blocks : List Block) → Denotes input blocks
     → (length blocks ≤ 65535) × AllByRecursion (λ b. length b.ops ≤ 10000) blocks
+
+-- an operation with other registers uses the new ones, in the order of its own
+abbrev pub RenamingMapsUses : Type 0
+RenamingMapsUses = (new : Reg → Reg) (own : Reg) (op : Op) → used (with_registers new own op) ≡ map new (used op)
+
+-- and it defines `own`, if it defines a register
+abbrev pub RenamingReplacesTheDefinition : Type 0
+RenamingReplacesTheDefinition = (new : Reg → Reg) (own : Reg) (op : Op)
+    → defined (with_registers new own op) ≡ option_map (λ _. own) (defined op)

@@ -1,10 +1,7 @@
 pub mod Registers
 pub mod Spelling
 pub mod Grammar
-pub mod LineReads
-pub mod Lines
-pub mod Opcodes
-pub mod Scan
+pub mod Fault
 pub mod Files
-pub mod Growth
 pub mod Laws
+pub mod Steps

@@ -43,3 +43,23 @@ defined (LshiftI left value dest) = Some dest
 defined (RshiftI left value dest) = Some dest
 defined (LoadAI addr offset dest) = Some dest
 defined (StoreAI value addr offset) = None
+
+-- the operation with other registers: `new` of each that it uses, and `own` in place of the one that it defines
+abbrev pub with_registers : (Reg → Reg) → Reg → Op → Op
+with_registers new own (Load addr dest) = Load (new addr) own
+with_registers new own (LoadI value dest) = LoadI value own
+with_registers new own (Store value addr) = Store (new value) (new addr)
+with_registers new own (Add left right dest) = Add (new left) (new right) own
+with_registers new own (Sub left right dest) = Sub (new left) (new right) own
+with_registers new own (Mult left right dest) = Mult (new left) (new right) own
+with_registers new own (Lshift left right dest) = Lshift (new left) (new right) own
+with_registers new own (Rshift left right dest) = Rshift (new left) (new right) own
+with_registers new own (Output addr) = Output addr
+with_registers new own Nop = Nop
+with_registers new own (AddI left value dest) = AddI (new left) value own
+with_registers new own (SubI left value dest) = SubI (new left) value own
+with_registers new own (MultI left value dest) = MultI (new left) value own
+with_registers new own (LshiftI left value dest) = LshiftI (new left) value own
+with_registers new own (RshiftI left value dest) = RshiftI (new left) value own
+with_registers new own (LoadAI addr offset dest) = LoadAI (new addr) offset own
+with_registers new own (StoreAI value addr offset) = StoreAI (new value) (new addr) offset

@@ -2,10 +2,12 @@
 ghost use Rattle.std.specs.Prelude.{◌≡◌};
 
 use std::alloc::{AllocError, AllocFailed};
-use thiserror::Error;
+use std::error::Error;
+use std::fmt::{self, Display, Formatter};
+use thiserror::Error as ThisError;
 
-/// The growth of a list or a text was refused.
-#[derive(Clone, Copy, Debug, Drop, Error, PartialEq, Eq)]
+/// The growth of a list, a text or a memory was refused.
+#[derive(Clone, Copy, Debug, Drop, ThisError, PartialEq, Eq)]
 #[error("out of memory")]
 pub struct NoMemory;
 
@@ -22,27 +24,43 @@ impl<T: Drop> From<AllocFailed<T>> for NoMemory {
 }
 
 /// Why a text has no file. Lines are counted from 1.
-#[derive(Clone, Copy, Debug, Drop, Error, PartialEq, Eq)]
+#[derive(Clone, Copy, Debug, Drop, PartialEq, Eq)]
 pub enum ReadFault {
     /// The text is longer than 16,777,216 bytes.
-    #[error("input longer than 16777216 bytes")]
     InputTooLong,
     /// This line has no reading, and would have none if numbers had no limit.
-    #[error("line {0}: not understood")]
     BadLine(u32),
     /// This line would have a reading if numbers had no limit.
-    #[error("line {0}: number above 2147483647")]
     NumberTooLarge(u32),
     /// This line starts block 65,536.
-    #[error("line {0}: more than 65535 blocks")]
     TooManyBlocks(u32),
     /// This line holds operation 10,001 of its block.
-    #[error("line {0}: more than 10000 operations in a block")]
     TooManyOperations(u32),
     /// The growth of a list was refused.
-    #[error("out of memory")]
     NoMemory,
 }
+
+impl Display for ReadFault {
+    ghost use Rattle.std.specs.Prelude.{Some};
+    ghost use Rattle.iloc_text.specs.Fault.{fault_text};
+
+    ghost output = { λ fault. Some (fault_text fault) };
+
+    fn fmt<W: fmt::Write>(&self, f: &mut Formatter<W>) -> fmt::Result {
+        match self {
+            ReadFault::InputTooLong => f.write_str("input longer than 16777216 bytes"),
+            ReadFault::BadLine(line) => write!(f, "line {line}: not understood"),
+            ReadFault::NumberTooLarge(line) => write!(f, "line {line}: number above 2147483647"),
+            ReadFault::TooManyBlocks(line) => write!(f, "line {line}: more than 65535 blocks"),
+            ReadFault::TooManyOperations(line) => {
+                write!(f, "line {line}: more than 10000 operations in a block")
+            }
+            ReadFault::NoMemory => f.write_str("out of memory"),
+        }
+    }
+}
+
+impl Error for ReadFault {}
 
 impl From<NoMemory> for ReadFault {
     ghost use Rattle.iloc_text.specs.declared.fault.ReadFault.TheVariants.{NoMemory as no_memory};

@@ -32,6 +32,13 @@ impl Name {
     {
         self.text.as_str()
     }
+
+    /// Gives the text back.
+    pub fn into_string(self) -> String
+        ensures { string_bytes result ≡ self }
+    {
+        self.text
+    }
 }
 
 /// The operations of a block, in order.
@@ -83,6 +90,13 @@ impl Ops {
     {
         self.items.as_slice()
     }
+
+    /// Gives the operations back.
+    pub fn into_vec(self) -> Vec<Op>
+        ensures { result.items ≡ self }
+    {
+        self.items
+    }
 }
 
 /// A basic block: a straight run of operations under a label, or under none.
@@ -123,6 +137,13 @@ impl Blocks {
     {
         self.items.as_slice()
     }
+
+    /// Gives the blocks back.
+    pub fn into_vec(self) -> Vec<Block>
+        ensures { result.items ≡ self }
+    {
+        self.items
+    }
 }
 
 /// A file of basic blocks.
@@ -130,4 +151,29 @@ impl Blocks {
 pub struct IlocFile {
     /// The blocks, in the order of their lines.
     pub blocks: Blocks,
+}
+
+#[cfg(test)]
+mod tests {
+    use super::*;
+    use std::test::Fail;
+
+    #[test]
+    fn gives_back_what_it_holds(rt: HostRuntime) -> Result<(), Fail> {
+        let name = Name::new(String::from_str(rt.alloc(), "loop")?);
+        assert_eq!(rt; name.as_str(), "loop");
+        let mut ops = Ops::new(Vec::new(rt.alloc()));
+        assert!(rt; ops.is_empty());
+        ops.push(Op::Nop)?;
+        assert_eq!(rt; ops.into_vec().as_slice(), [Op::Nop].as_slice());
+        let block = Block {
+            name: Some(name),
+            ops: Ops::new(Vec::new(rt.alloc())),
+        };
+        let mut blocks = Blocks::new(vec![in rt.alloc(); block]?).into_vec();
+        let last = blocks.pop().ok_or("no block")?;
+        let text = last.name.ok_or("no name")?.into_string();
+        assert_eq!(rt; text.as_str(), "loop");
+        Ok(())
+    }
 }

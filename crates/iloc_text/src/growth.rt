@@ -1,21 +1,16 @@
 //! How the blocks of a file grow, line by line, within the limits.
 ghost use Rattle.std.specs.Prelude.{◌≡◌, ◌<◌, ℕ, List, Option, Some, None, IsUtf8, IfOk, length};
 ghost use Rattle.std.specs.Option.{ForSome};
-ghost use Rattle.iloc_text.specs.LineReads.{label_of};
-ghost use Rattle.iloc_text.specs.Growth.{opened, with_op, with_optional_op, with_line, AreWithin, Grows};
+ghost use Rattle.iloc_text.specs.Steps.LineReads.{label_of};
+ghost use Rattle.iloc_text.specs.Steps.Growth.{opened, with_op, with_optional_op, with_line, AreWithin, Grows};
 
 use crate::fault::{NoMemory, ReadFault};
 use crate::file::{Block, Name, Ops};
+use crate::limits::{MAX_BLOCKS, MAX_OPS};
 use crate::line::Line;
 use crate::op::Op;
 use std::alloc::Global;
 use std::str;
-
-/// The greatest number of blocks in a file.
-pub const MAX_BLOCKS: usize = 65_535;
-
-/// The greatest number of operations in a block.
-pub const MAX_OPS: usize = 10_000;
 
 /// The name with these bytes.
 fn name_of(alloc: Global, bytes: &[u8]) -> Result<Name, NoMemory>

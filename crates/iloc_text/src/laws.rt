@@ -1,5 +1,5 @@
 //! Laws of the language, as contracts of functions that do nothing.
-ghost use Rattle.iloc_text.specs.Laws.{LinesHaveOneReading, SpellingsReadBack, TextsHaveOneAnswer, FilesAreWithinLimits};
+ghost use Rattle.iloc_text.specs.Laws.{LinesHaveOneReading, SpellingsReadBack, TextsHaveAnAnswer, TextsHaveOneAnswer, FilesAreWithinLimits, RenamingMapsUses, RenamingReplacesTheDefinition};
 
 /// A line has at most one reading.
 pub fn lines_have_one_reading()
@@ -17,7 +17,22 @@ pub fn texts_have_one_answer()
     ensures { TextsHaveOneAnswer }
 {}
 
+/// Each text denotes a file or a refusal, so want of memory is never the only answer to it.
+pub fn texts_have_an_answer()
+    ensures { TextsHaveAnAnswer }
+{}
+
 /// A file that a text denotes has at most 65,535 blocks, each of at most 10,000 operations.
 pub fn files_are_within_limits()
     ensures { FilesAreWithinLimits }
+{}
+
+/// An operation with other registers uses the new ones, in the order of its own.
+pub fn renaming_maps_uses()
+    ensures { RenamingMapsUses }
+{}
+
+/// An operation with other registers defines the new one if it defines one, and else none.
+pub fn renaming_replaces_the_definition()
+    ensures { RenamingReplacesTheDefinition }
 {}

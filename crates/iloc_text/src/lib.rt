@@ -1,15 +1,24 @@
 //! The text of ILOC: its operations and files, how they are read, and how they are spelled.
 #![tactic(auto)]
 
-pub mod fault;
-pub mod file;
+mod fault;
+mod file;
 mod growth;
 pub mod laws;
+mod limits;
 mod line;
-pub mod op;
+mod op;
 mod opcode;
 mod operation;
-pub mod reader;
-pub mod registers;
+mod reader;
+mod registers;
 mod scan;
-pub mod spelling;
+mod spelling;
+
+pub use fault::{NoMemory, ReadFault};
+pub use file::{Block, Blocks, IlocFile, Name, Ops};
+pub use limits::{MAX_BLOCKS, MAX_INPUT, MAX_OPS};
+pub use op::{Op, Reg};
+pub use reader::read_file;
+pub use registers::{defines, uses, with_registers};
+pub use spelling::{push_number, push_op};

@@ -1,8 +1,8 @@
 //! What a line says.
 ghost use Rattle.std.specs.Prelude.{◌≡◌, option_map, nat_lt};
 ghost use Rattle.std.specs.List.{list_all};
-ghost use Rattle.iloc_text.specs.LineReads.{LineReads, label_of};
-ghost use Rattle.iloc_text.specs.Scan.{is_end, body_at, line_at, optional_label_at, is_within_limit, is_within};
+ghost use Rattle.iloc_text.specs.Steps.LineReads.{LineReads, label_of};
+ghost use Rattle.iloc_text.specs.Steps.Scan.{is_end, body_at, line_at, optional_label_at, is_within_limit, is_within};
 
 use crate::op::Op;
 use crate::operation::optional_operation_at;
@@ -27,7 +27,7 @@ pub enum LineFault {
 }
 
 /// A label, or none where no word stands with a colon behind it, and what stands behind that.
-#[tactic(auto, unfolding(crate::specs::Scan::optional_label_at))]
+#[tactic(auto, unfolding(crate::specs::Steps::Scan::optional_label_at))]
 fn optional_label_at(bytes: &[u8]) -> (Option<&[u8]>, &[u8])
     ensures { (option_map (λ name. name.now) result.0, result.1.now) ≡ optional_label_at bytes.now }
 {
@@ -52,7 +52,7 @@ fn is_end(rest: &[u8]) -> bool
 
 /// The operation of what stands behind a label, or that there is none; its numbers count as
 /// `ABOVE_LIMIT` where they are above the limit.
-#[tactic(auto, unfolding(crate::specs::Scan::body_at))]
+#[tactic(auto, unfolding(crate::specs::Steps::Scan::body_at))]
 fn body_at(bytes: &[u8]) -> Option<Option<Op>>
     ensures { result ≡ body_at bytes.now }
 {
@@ -65,7 +65,7 @@ fn body_at(bytes: &[u8]) -> Option<Option<Op>>
 }
 
 /// The label and the operation of the line, as `body_at` has it.
-#[tactic(auto, unfolding(crate::specs::Scan::line_at))]
+#[tactic(auto, unfolding(crate::specs::Steps::Scan::line_at))]
 fn line_at(bytes: &[u8]) -> Option<Line<'_>>
     ensures { option_map (λ line. (label_of line, line.op)) result ≡ line_at bytes.now }
 {

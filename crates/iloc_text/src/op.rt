@@ -1,7 +1,7 @@
 //! The operations of a basic block (Cooper and Torczon, Engineering a Compiler, appendix on ILOC).
 
 /// A virtual register, by its number: `Reg(3)` is `r3`.
-#[derive(Clone, Copy, Debug, Default, PartialEq, Eq)]
+#[derive(Clone, Copy, Debug, Default, PartialEq, Eq, PartialOrd, Ord, Hash)]
 pub struct Reg(pub u32);
 
 /// One operation. A constant stands for its 32-bit pattern.

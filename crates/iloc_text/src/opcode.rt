@@ -1,6 +1,6 @@
 //! The opcodes, by what belongs behind them, and how they are written.
 ghost use Rattle.std.specs.Prelude.{◌≡◌};
-ghost use Rattle.iloc_text.specs.Opcodes.{opcode_text, opcode_of, transfer_op, two_sources_op, immediate_op};
+ghost use Rattle.iloc_text.specs.Steps.Opcodes.{opcode_text, opcode_of, transfer_op, two_sources_op, immediate_op};
 
 use crate::op::{Op, Reg};
 

@@ -1,6 +1,6 @@
 //! The operation of a line, scanned with numbers that count as `ABOVE_LIMIT` where they are above the limit.
 ghost use Rattle.std.specs.Prelude.{◌≡◌, option_map};
-ghost use Rattle.iloc_text.specs.Scan.{number_to_register_at, register_to_register_at, registers_to_register_at, immediate_to_register_at, register_to_offset_at, operands_at, called_at, operation_at, optional_operation_at};
+ghost use Rattle.iloc_text.specs.Steps.Scan.{number_to_register_at, register_to_register_at, registers_to_register_at, immediate_to_register_at, register_to_offset_at, operands_at, called_at, operation_at, optional_operation_at};
 
 use crate::op::{Op, Reg};
 use crate::opcode::{Opcode, opcode_of};
@@ -9,7 +9,7 @@ use crate::scan::{
 };
 
 /// `number => register`.
-#[tactic(auto, unfolding(crate::specs::Scan::number_to_register_at))]
+#[tactic(auto, unfolding(crate::specs::Steps::Scan::number_to_register_at))]
 fn number_to_register_at(bytes: &[u8]) -> Option<(u32, Reg, &[u8])>
     ensures { option_map (λ found. (found.0, found.1, found.2.now)) result ≡ number_to_register_at bytes.now }
 {
@@ -19,7 +19,7 @@ fn number_to_register_at(bytes: &[u8]) -> Option<(u32, Reg, &[u8])>
 }
 
 /// `register => register`.
-#[tactic(auto, unfolding(crate::specs::Scan::register_to_register_at))]
+#[tactic(auto, unfolding(crate::specs::Steps::Scan::register_to_register_at))]
 fn register_to_register_at(bytes: &[u8]) -> Option<(Reg, Reg, &[u8])>
     ensures { option_map (λ found. (found.0, found.1, found.2.now)) result ≡ register_to_register_at bytes.now }
 {
@@ -29,7 +29,7 @@ fn register_to_register_at(bytes: &[u8]) -> Option<(Reg, Reg, &[u8])>
 }
 
 /// `register, register => register`.
-#[tactic(auto, unfolding(crate::specs::Scan::registers_to_register_at))]
+#[tactic(auto, unfolding(crate::specs::Steps::Scan::registers_to_register_at))]
 fn registers_to_register_at(bytes: &[u8]) -> Option<(Reg, Reg, Reg, &[u8])>
     ensures { option_map (λ found. (found.0, found.1, found.2, found.3.now)) result
         ≡ registers_to_register_at bytes.now }
@@ -40,7 +40,7 @@ fn registers_to_register_at(bytes: &[u8]) -> Option<(Reg, Reg, Reg, &[u8])>
 }
 
 /// `register, number => register`.
-#[tactic(auto, unfolding(crate::specs::Scan::immediate_to_register_at))]
+#[tactic(auto, unfolding(crate::specs::Steps::Scan::immediate_to_register_at))]
 fn immediate_to_register_at(bytes: &[u8]) -> Option<(Reg, u32, Reg, &[u8])>
     ensures { option_map (λ found. (found.0, found.1, found.2, found.3.now)) result
         ≡ immediate_to_register_at bytes.now }
@@ -51,7 +51,7 @@ fn immediate_to_register_at(bytes: &[u8]) -> Option<(Reg, u32, Reg, &[u8])>
 }
 
 /// `register => register, number`.
-#[tactic(auto, unfolding(crate::specs::Scan::register_to_offset_at))]
+#[tactic(auto, unfolding(crate::specs::Steps::Scan::register_to_offset_at))]
 fn register_to_offset_at(bytes: &[u8]) -> Option<(Reg, Reg, u32, &[u8])>
     ensures { option_map (λ found. (found.0, found.1, found.2, found.3.now)) result
         ≡ register_to_offset_at bytes.now }
@@ -62,7 +62,7 @@ fn register_to_offset_at(bytes: &[u8]) -> Option<(Reg, Reg, u32, &[u8])>
 }
 
 /// What stands behind the blanks behind an opcode.
-#[tactic(auto, unfolding(crate::specs::Scan::operands_at))]
+#[tactic(auto, unfolding(crate::specs::Steps::Scan::operands_at))]
 fn operands_at(opcode: Opcode, bytes: &[u8]) -> Option<(Op, &[u8])>
     ensures { option_map (λ found. (found.0, found.1.now)) result ≡ operands_at opcode bytes.now }
 {
@@ -103,7 +103,7 @@ fn operands_at(opcode: Opcode, bytes: &[u8]) -> Option<(Op, &[u8])>
 }
 
 /// What stands behind an opcode: blanks and operands, or nothing behind `nop`.
-#[tactic(auto, unfolding(crate::specs::Scan::called_at))]
+#[tactic(auto, unfolding(crate::specs::Steps::Scan::called_at))]
 fn called_at(opcode: Opcode, bytes: &[u8]) -> Option<(Op, &[u8])>
     ensures { option_map (λ found. (found.0, found.1.now)) result ≡ called_at opcode bytes.now }
 {
@@ -114,7 +114,7 @@ fn called_at(opcode: Opcode, bytes: &[u8]) -> Option<(Op, &[u8])>
 }
 
 /// An opcode and what belongs behind it.
-#[tactic(auto, unfolding(crate::specs::Scan::operation_at))]
+#[tactic(auto, unfolding(crate::specs::Steps::Scan::operation_at))]
 fn operation_at(bytes: &[u8]) -> Option<(Op, &[u8])>
     ensures { option_map (λ found. (found.0, found.1.now)) result ≡ operation_at bytes.now }
 {
@@ -123,7 +123,7 @@ fn operation_at(bytes: &[u8]) -> Option<(Op, &[u8])>
 }
 
 /// An operation, or none where no word stands.
-#[tactic(auto, unfolding(crate::specs::Scan::optional_operation_at))]
+#[tactic(auto, unfolding(crate::specs::Steps::Scan::optional_operation_at))]
 pub fn optional_operation_at(bytes: &[u8]) -> Option<(Option<Op>, &[u8])>
     ensures { option_map (λ found. (found.0, found.1.now)) result ≡ optional_operation_at bytes.now }
 {

@@ -1,19 +1,15 @@
 //! The reader: from bytes to the file that they denote.
 ghost use Rattle.std.specs.Prelude.{◌≡◌, ◌≢◌, ◌∷◌, ◌<◌, ◌+◌, length, IfOk, IfErr};
 ghost use Rattle.iloc_text.specs.declared.fault.ReadFault.TheVariants.{NoMemory as no_memory};
-ghost use Rattle.iloc_text.specs.Lines.{line_end, lines_of, lines_left, left};
+ghost use Rattle.iloc_text.specs.Steps.Lines.{line_end, lines_of, lines_left, left};
 ghost use Rattle.iloc_text.specs.Files.{Denotes, IsRefused};
 
 use crate::fault::ReadFault;
 use crate::file::{Blocks, IlocFile};
 use crate::growth::add_line;
-#[cfg(test)]
-use crate::growth::{MAX_BLOCKS, MAX_OPS};
+use crate::limits::MAX_INPUT;
 use crate::line::{LineFault, read_line};
 use std::alloc::Global;
-
-/// The greatest number of bytes that are read as a file.
-pub const MAX_INPUT: usize = 16_777_216;
 
 /// The place of the first line end.
 fn line_end(text: &[u8]) -> Option<usize>

@@ -1,7 +1,7 @@
 //! The tokens of a line. Each function reads one at the front of the bytes and gives what stands behind it.
 ghost use Rattle.std.specs.Prelude.{◌≡◌, ◌≤◌, ◌<◌, ◌-◌, ◌+◌, ◌*◌, option_map, length};
 ghost use Rattle.iloc_text.specs.Grammar.{is_blank, is_word_byte};
-ghost use Rattle.iloc_text.specs.Scan.{after_blanks, some_blanks_at, capped, number_at, register_at, arrow_at, comma_at, after_word, word_of};
+ghost use Rattle.iloc_text.specs.Steps.Scan.{after_blanks, some_blanks_at, capped, number_at, register_at, arrow_at, comma_at, after_word, word_of};
 
 use crate::op::Reg;
 

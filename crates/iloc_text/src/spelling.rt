@@ -1,5 +1,5 @@
 //! How operations and numbers are written.
-ghost use Rattle.std.specs.Prelude.{◌≡◌, ◌++◌, OnOk, OnErr, take, vec_len, vec_capacity, length, ◌+◌, ◌<◌, codes};
+ghost use Rattle.std.specs.Prelude.{◌≡◌, ◌++◌, OnOk, OnErr, take, vec_len, vec_capacity, length, ◌+◌, ◌<◌, ◌≤◌, codes};
 ghost use Rattle.std.specs.Fmt.{decimal, signed_decimal};
 ghost use Rattle.iloc_text.specs.Spelling.{register, spelling};
 
@@ -28,6 +28,8 @@ pub fn push_number(text: &mut Vec<u8>, number: i64) -> Result<(), NoMemory>
 pub fn push_op(text: &mut Vec<u8>, op: &Op) -> Result<(), NoMemory>
     ensures ok { OnOk result (text.new.items ≡ text.old.items ++ spelling op.now) }
     ensures err { OnErr result (text.new.items ≡ text.old.items) }
+    ensures full { OnErr result
+        (vec_capacity text.old < vec_len text.old + length (spelling op.now)) }
 {
     let before = text.len();
     let written = push_pieces(text, op);
@@ -41,6 +43,9 @@ pub fn push_op(text: &mut Vec<u8>, op: &Op) -> Result<(), NoMemory>
 fn push_pieces(text: &mut Vec<u8>, op: &Op) -> Result<(), NoMemory>
     ensures ok { OnOk result (text.new.items ≡ text.old.items ++ spelling op.now) }
     ensures err { OnErr result (take (vec_len text.old) text.new.items ≡ text.old.items) }
+    ensures full { OnErr result
+        (vec_capacity text.old < vec_len text.old + length (spelling op.now)) }
+    ensures grown { vec_capacity text.old ≤ vec_capacity text.new }
 {
     match *op {
         Op::Load { addr, dest } => push_transfer(text, b"load r", addr, dest),
@@ -78,6 +83,9 @@ fn push_transfer(text: &mut Vec<u8>, lead: &[u8], source: Reg, target: Reg) -> R
     ensures ok { OnOk result (text.new.items ≡ text.old.items
         ++ (lead.now ++ decimal source.0 ++ codes " => " ++ register target)) }
     ensures err { OnErr result (take (vec_len text.old) text.new.items ≡ text.old.items) }
+    ensures full { OnErr result (vec_capacity text.old < vec_len text.old
+        + length (lead.now ++ decimal source.0 ++ codes " => " ++ register target)) }
+    ensures grown { vec_capacity text.old ≤ vec_capacity text.new }
 {
     push_piece(text, lead, source.0)?;
     push_piece(text, b" => r", target.0)
@@ -94,6 +102,9 @@ fn push_two_sources(
     ensures ok { OnOk result (text.new.items ≡ text.old.items
         ++ (lead.now ++ decimal left.0 ++ codes ", " ++ register right ++ codes " => " ++ register dest)) }
     ensures err { OnErr result (take (vec_len text.old) text.new.items ≡ text.old.items) }
+    ensures full { OnErr result (vec_capacity text.old < vec_len text.old
+        + length (lead.now ++ decimal left.0 ++ codes ", " ++ register right ++ codes " => " ++ register dest)) }
+    ensures grown { vec_capacity text.old ≤ vec_capacity text.new }
 {
     push_piece(text, lead, left.0)?;
     push_piece(text, b", r", right.0)?;
@@ -111,6 +122,9 @@ fn push_immediate(
     ensures ok { OnOk result (text.new.items ≡ text.old.items
         ++ (lead.now ++ decimal left.0 ++ codes ", " ++ decimal value ++ codes " => " ++ register dest)) }
     ensures err { OnErr result (take (vec_len text.old) text.new.items ≡ text.old.items) }
+    ensures full { OnErr result (vec_capacity text.old < vec_len text.old
+        + length (lead.now ++ decimal left.0 ++ codes ", " ++ decimal value ++ codes " => " ++ register dest)) }
+    ensures grown { vec_capacity text.old ≤ vec_capacity text.new }
 {
     push_piece(text, lead, left.0)?;
     push_piece(text, b", ", value)?;
@@ -121,6 +135,9 @@ fn push_immediate(
 fn push_piece(text: &mut Vec<u8>, lead: &[u8], number: u32) -> Result<(), NoMemory>
     ensures ok { OnOk result (text.new.items ≡ text.old.items ++ (lead.now ++ decimal number)) }
     ensures err { OnErr result (take (vec_len text.old) text.new.items ≡ text.old.items) }
+    ensures full { OnErr result
+        (vec_capacity text.old < vec_len text.old + length (lead.now ++ decimal number)) }
+    ensures grown { vec_capacity text.old ≤ vec_capacity text.new }
 {
     let mut digits = Buffer::new();
     text.extend_from_slice(lead)?;

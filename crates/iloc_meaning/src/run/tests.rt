@@ -1,6 +1,5 @@
 use super::*;
-use iloc_text::file::Ops;
-use iloc_text::op::Reg;
+use iloc_text::{Ops, Reg};
 use std::process::Abort;
 use std::test::Fail;
 
@@ -11,7 +10,7 @@ fn emitted(alloc: Global, ops: &[Op]) -> Result<Option<Vec<i32>>, NoMemory> {
         ops: Ops::new(Vec::from_slice(alloc, ops)?),
     };
     match run_block(alloc, &block, Memory::zero(alloc)?)? {
-        Outcome::Finished { outputs, .. } => Ok(Some(Vec::from_slice(alloc, outputs.as_slice())?)),
+        Outcome::Finished { outputs, .. } => Ok(Some(outputs.into_vec())),
         Outcome::Fault => Ok(None),
     }
 }

@@ -1,4 +1,5 @@
 use super::*;
+use crate::limits::{MAX_BLOCKS, MAX_OPS};
 use crate::op::{Op, Reg};
 use std::alloc::AllocError;
 use std::process::Abort;

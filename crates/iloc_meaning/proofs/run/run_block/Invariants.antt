@@ -1,4 +1,4 @@
-use Rattle.iloc_meaning.specs.Machine.{Follows}
+use Rattle.iloc_meaning.specs.Steps.Machine.{Follows}
 use Rattle.iloc_meaning.specs.Trace.{before}
 use Rattle.iloc_meaning.proofs.run.run_block.Given as goal
 

@@ -1,6 +1,6 @@
 use Rattle.std.proofs.Common.{◌≡◌, ◌∙◌, Some, Err, option_map, sym, ap}
 use Rattle.std.proofs.lemmas.Result.{err_from_is_err_and}
-use Rattle.iloc_text.specs.LineReads.{label_of}
+use Rattle.iloc_text.specs.Steps.LineReads.{label_of}
 use Rattle.iloc_text.proofs.Growing.{first_fails, label_fails}
 use Rattle.iloc_text.proofs.growth.add_line.Goals as goal
 

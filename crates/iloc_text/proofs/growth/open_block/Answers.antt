@@ -1,5 +1,5 @@
 use Rattle.std.proofs.Common.{◌≡◌, ◌∙◌, ◌++◌, [], ◌∷◌, sym, ap, subst, arith}
-use Rattle.iloc_text.specs.Growth.{AreWithin, opened}
+use Rattle.iloc_text.specs.Steps.Growth.{AreWithin, opened}
 use Rattle.iloc_text.proofs.Growing.{opened_within}
 use Rattle.iloc_text.proofs.growth.open_block.Goals as goal
 

@@ -1,5 +1,5 @@
 use Rattle.std.proofs.Common.{◌≡◌, ◌∙◌, ◌-◌, ◌++◌, [], ◌∷◌, length, set, refl, sym, ap, subst, arith}
-use Rattle.iloc_text.specs.Growth.{AreWithin, with_op}
+use Rattle.iloc_text.specs.Steps.Growth.{AreWithin, with_op}
 use Rattle.iloc_text.proofs.Growing.{with_op-set, last-get, with_op_within, with_op_above}
 use Rattle.iloc_text.proofs.growth.push_to_last.Goals as goal
 

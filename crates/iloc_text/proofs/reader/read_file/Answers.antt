@@ -2,7 +2,7 @@ use Rattle.std.proofs.Common.{◌∙◌, ◌+◌, Some, None, Ok, Err, refl, sym
 use Rattle.std.proofs.lemmas.Result.{err_from_is_err_and}
 use Rattle.iloc_text.specs.declared.line.LineFault.TheVariants.{Bad, NumberTooLarge}
 use Rattle.iloc_text.specs.declared.fault.ReadFault.TheVariants as faults
-use Rattle.iloc_text.specs.LineReads.{label_of, LineReads}
+use Rattle.iloc_text.specs.Steps.LineReads.{label_of, LineReads}
 use Rattle.iloc_text.proofs.Reading.{label_is_utf8, Progress, progress_begins, progress_step, progress_number, progress_ends, fault_here, grown_here, err_is_refused}
 use Rattle.iloc_text.specs.Files.{Denotes}
 use Rattle.iloc_text.proofs.reader.read_file.Goals as goal

@@ -1,4 +1,4 @@
-use Rattle.iloc_text.specs.Lines.{left}
+use Rattle.iloc_text.specs.Steps.Lines.{left}
 use Rattle.iloc_text.proofs.Reading.{Progress}
 use Rattle.iloc_text.proofs.reader.read_file.Given as goal
 

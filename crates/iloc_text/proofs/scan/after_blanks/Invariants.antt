@@ -1,5 +1,5 @@
 use Rattle.std.proofs.Common.{◌≡◌, length}
-use Rattle.iloc_text.specs.Scan.{after_blanks}
+use Rattle.iloc_text.specs.Steps.Scan.{after_blanks}
 use Rattle.iloc_text.proofs.scan.after_blanks.Given as goal
 
 abbrev pub invariant-loop-rest : goal.invariant-loop-rest

@@ -1,5 +1,5 @@
 use Rattle.std.proofs.Common.{◌≡◌, length}
-use Rattle.iloc_text.specs.Scan.{digits_after}
+use Rattle.iloc_text.specs.Steps.Scan.{digits_after}
 use Rattle.iloc_text.proofs.scan.number_at.Given as goal
 
 abbrev pub invariant-loop-rest : goal.invariant-loop-rest

@@ -3,7 +3,7 @@ use Rattle.std.proofs.Common.{◌≡◌, ◌∙◌, ℕ, suc, ◌+◌, ◌<◌, 
 use Rattle.iloc_text.specs.declared.op.Op.{Op}
 use Rattle.iloc_text.specs.declared.file.Block.{Block}
 use Rattle.iloc_text.specs.Files.{Reading, block_names, block_count, ops_of, blocks_from, file_of}
-use Rattle.iloc_text.specs.Growth.{with_op, with_optional_op, with_line, last_ops}
+use Rattle.iloc_text.specs.Steps.Growth.{with_op, with_optional_op, with_line, last_ops}
 use Rattle.iloc_text.proofs.Counts.{length-names, names-label, names-empty, names-op, names-first, count-label, count-op, count-first, none_or_some}
 use Rattle.iloc_text.proofs.BlockOps.{ops_of-here, ops_of-else, ops_of-no_op, no_more}
 

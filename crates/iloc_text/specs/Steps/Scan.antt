@@ -8,7 +8,7 @@ use Rattle.iloc_text.specs.declared.op.Op.TheVariants.{LoadI, StoreAI, Output, N
 use Rattle.iloc_text.specs.declared.opcode.Opcode.{Opcode}
 use Rattle.iloc_text.specs.declared.opcode.Opcode.TheVariants as opcode
 use Rattle.iloc_text.specs.Grammar.{is_blank, is_word_byte, numbers}
-use Rattle.iloc_text.specs.Opcodes.{opcode_of, transfer_op, two_sources_op, immediate_op}
+use Rattle.iloc_text.specs.Steps.Opcodes.{opcode_of, transfer_op, two_sources_op, immediate_op}
 
 infixl 10 ◌>>=◌
 abbrev pub ◌>>=◌ : {A B : Type 0} → Option A → (A → Option B) → Option B

@@ -6,7 +6,7 @@ use Rattle.iloc_text.specs.declared.op.Reg.{Reg}
 use Rattle.iloc_text.specs.declared.op.Op.{Op}
 use Rattle.iloc_text.specs.declared.op.Op.TheVariants.{Load, LoadI, Store, Add, Sub, Mult, Lshift, Rshift, Output, Nop, AddI, SubI, MultI, LshiftI, RshiftI, LoadAI, StoreAI}
 use Rattle.iloc_text.specs.Grammar.{numbers, IsWithinLimit}
-use Rattle.iloc_text.specs.Scan.{capped, is_within}
+use Rattle.iloc_text.specs.Steps.Scan.{capped, is_within}
 use Rattle.iloc_text.proofs.Operands.{capped_reg}
 use Rattle.iloc_text.proofs.Operations.{capped_op}
 
