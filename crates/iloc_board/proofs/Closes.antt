@@ -1,10 +1,11 @@
 -- What a closed board shows.
-use Rattle.std.proofs.Common.{◌≡◌, ◌≢◌, ℕ, zero, suc, ◌+◌, ◌<◌, ◌≤◌, ◌⊎◌, Bool, true, false, ◌||◌, cond, ◌==◌, List, [], ◌∷◌, ◌++◌, length, map, replicate, refl, ap, sym, ◌∙◌, subst, arith, inl, inr, Option, Some, None, length-set}
+use Rattle.std.proofs.Common.{◌≡◌, ℕ, zero, suc, ◌+◌, ◌<◌, ◌≤◌, ◌⊎◌, Bool, true, false, ◌||◌, cond, ◌==◌, List, [], ◌∷◌, length, map, replicate, refl, ap, sym, ◌∙◌, subst, arith, inl, inr, Option, Some, None, length-set}
 use Rattle.std.specs.Prelude.{slice_get, slice_set, slice_index, slice_index_or}
-use Rattle.std.specs.List.{list_any, range_with_len, All, Contains}
-use Rattle.std.proofs.lemmas.Bool.{eqb-true, eq-eqb, ne_eqb, cases_eq, cases_lt, or_from, or_cases, or_left, or_right, and_parts, and_from}
-use Rattle.std.proofs.lemmas.List.{map-append, length-replicate, length-map, get_or_default}
+use Rattle.std.specs.List.{range_with_len, All, Contains}
+use Rattle.std.proofs.lemmas.Bool.{eqb-true, eq-eqb, cases_eq, cases_lt, or_cases, or_left, or_right, and_parts, and_from}
+use Rattle.std.proofs.lemmas.List.{length-replicate, length-map, get_or_default}
 use Rattle.std.proofs.lemmas.List.Folds.{list_any-append}
+use Rattle.std.proofs.lemmas.List.Elements.{Contains-append_left, Contains-append_right, Contains-append_cases}
 use Rattle.std.proofs.lemmas.Option.{slice_get_within, get_or_from_slice_get}
 use mathlib.Core.Option.{some, some-injective, some-ne-none}
 use lib.ListN.{get_elem?}
@@ -19,54 +20,29 @@ use Rattle.iloc_board.specs.Sequential.{is_pair, is_out}
 use Rattle.iloc_board.specs.History.{taken_by, takes}
 use Rattle.iloc_board.specs.Journal.{entries_of, state_of, seen, handed, all_handed}
 use Rattle.iloc_board.specs.Play.{final}
-use Rattle.iloc_board.specs.Rule.{TableState, Sat, AllMade, Apart, Tells, FitsRoot, IsKept}
+use Rattle.iloc_board.specs.Internal.Rule.{TableState, Sat, Tells, FitsRoot, IsKept}
 use Rattle.iloc_board.specs.Views.{BoardView, RootView, AllFit, priced}
-use Rattle.iloc_board.specs.Inside.{IsRoot}
-use Rattle.iloc_board.specs.Collecting.{IsOneList, answer, said_in, FitsSaid, IsLegalWith, NoneTwice, jobs_of, AreTheAnswers, IsFirstMissing, placed, IsFirstHole, IsWhole}
+use Rattle.iloc_board.specs.Internal.Inside.{IsRoot}
+use Rattle.iloc_board.specs.Internal.Closing.{IsClosed}
+use Rattle.iloc_board.specs.Internal.Row.{placed, IsFirstHole, HoleOf}
+use Rattle.iloc_board.specs.Collecting.{AllMade, Apart, answer, said_in, FitsSaid, IsLegalWith, NoneTwice, jobs_of, AreTheAnswers, IsFirstMissing, IsWhole}
 use Rattle.iloc_board.specs.declared.collect.CollectFault.{CollectFault}
 use Rattle.iloc_board.specs.declared.collect.CollectFault.TheVariants.{Missing, NoMemory}
-use Rattle.iloc_board.specs.Faults.{HoleOf, MissingOf, IsNoMemory}
+use Rattle.iloc_board.specs.Faults.{MissingOf, IsNoMemory}
 use Rattle.iloc_board.proofs.Runs.{length-costs_final}
 use Rattle.iloc_board.proofs.Taking.{begins}
 use Rattle.iloc_board.proofs.Laws as laws
 use Rattle.iloc_board.proofs.Parts.{told_none}
-use Rattle.iloc_board.proofs.Retires.{Has, has_left, has_right, has_split, Retired, retired_final}
+use Rattle.iloc_board.proofs.Lists.{contains_none, contains_here, contains_later, contains_cases, get_set_same, get_set_other, none_twice-append}
+use Rattle.iloc_board.proofs.Retires.{Retired, retired_final}
 
 module _ {B : Type 0} where
-  pub contains_from : (xs : List B) (b : B) → Has xs b → Contains xs b
-  contains_from [] b h = absurd h
-  contains_from (x ∷ xs) b h =
-      elim h [
-        | inl e ↦ (0, omega arith, e)
-        | inr r ↦ let c : Contains xs b = contains_from xs b r in (suc c.0, let lt : c.0 < length xs = c.1 in omega arith, c.2)
-      ]
-
-  at_place : (xs : List B) (b : B) (k : ℕ) → k < length xs → slice_index_or xs k b ≡ b → Has xs b
-  at_place [] b k lt e = absurd (omega arith)
-  at_place (x ∷ xs) b zero lt e = inl e
-  at_place (x ∷ xs) b (suc k) lt e = inr (at_place xs b k (omega arith) e)
-
-  pub has_from : (xs : List B) (b : B) → Contains xs b → Has xs b
-  has_from xs b h = at_place xs b h.0 h.1 h.2
-
   set_cases : (l : List B) (i j : ℕ) (b y : B) → slice_get (slice_set l i b) j ≡ Some y → ((j ≡ i) × (b ≡ y)) ⊎ (slice_get l j ≡ Some y)
   set_cases [] i j b y e = inr e
   set_cases (x ∷ xs) zero zero b y e = inl (refl, cc)
   set_cases (x ∷ xs) zero (suc j) b y e = inr e
   set_cases (x ∷ xs) (suc i) zero b y e = inr e
   set_cases (x ∷ xs) (suc i) (suc j) b y e = elim (set_cases xs i j b y e) [ inl h ↦ inl (ap suc h.0, h.1) | inr h ↦ inr h ]
-
-  set_here : (l : List B) (i : ℕ) (b : B) → i < length l → slice_get (slice_set l i b) i ≡ Some b
-  set_here [] i b lt = absurd (omega arith)
-  set_here (x ∷ xs) zero b lt = refl
-  set_here (x ∷ xs) (suc i) b lt = set_here xs i b (omega arith)
-
-  set_else : (l : List B) (i j : ℕ) (b : B) → j ≢ i → slice_get (slice_set l i b) j ≡ slice_get l j
-  set_else [] i j b ne = refl
-  set_else (x ∷ xs) zero zero b ne = absurd (ne refl)
-  set_else (x ∷ xs) zero (suc j) b ne = refl
-  set_else (x ∷ xs) (suc i) zero b ne = refl
-  set_else (x ∷ xs) (suc i) (suc j) b ne = set_else xs i j b (λ e. ne (ap suc e))
 
   mapped : (xs : List B) (i : ℕ) (b : B) → slice_get xs i ≡ Some b → slice_get (map (λ x. Some x) xs) i ≡ Some (Some b)
   mapped [] i b e = absurd (cc)
@@ -79,13 +55,13 @@ module _ {A : Type 0} where
   length-placed row [] = refl
   length-placed row (x ∷ xs) = length-placed (slice_set row x.0 (Some x.1)) xs ∙ length-set row x.0 (Some x.1)
 
-  placed_has : (row : List (Option A)) (xs : List (ℕ × A)) (i : ℕ) (a : A) → slice_get (placed row xs) i ≡ Some (Some a) → Has xs (i, a) ⊎ (slice_get row i ≡ Some (Some a))
+  placed_has : (row : List (Option A)) (xs : List (ℕ × A)) (i : ℕ) (a : A) → slice_get (placed row xs) i ≡ Some (Some a) → Contains xs (i, a) ⊎ (slice_get row i ≡ Some (Some a))
   placed_has row [] i a e = inr e
   placed_has row (x ∷ xs) i a e =
       elim (placed_has (slice_set row x.0 (Some x.1)) xs i a e) [
-        | inl h ↦ inl (inr h)
+        | inl h ↦ inl (contains_later x xs (i, a) h)
         | inr h ↦ elim (set_cases row x.0 i (Some x.1) (Some a) h) [
-          | inl p ↦ let same : x.1 ≡ a = cc in inl (inl (λ k. (sym p.0 k, same k)))
+          | inl p ↦ let same : x.1 ≡ a = cc in inl (contains_here x xs (i, a) (λ k. (sym p.0 k, same k)))
           | inr p ↦ inr p
         ]
       ]
@@ -94,17 +70,17 @@ module _ {A : Type 0} where
   some_stays row [] i a e = (a, e)
   some_stays row (x ∷ xs) i a e =
       elim (cases_eq i x.0) [
-        | inl p ↦ some_stays (slice_set row x.0 (Some x.1)) xs i x.1 (ap (λ k. slice_get (slice_set row x.0 (Some x.1)) k) p ∙ set_here row x.0 (Some x.1) (let lt : i < length row = slice_get_within row i (Some a) e in omega arith))
-        | inr ne ↦ some_stays (slice_set row x.0 (Some x.1)) xs i a (set_else row x.0 i (Some x.1) ne ∙ e)
+        | inl p ↦ some_stays (slice_set row x.0 (Some x.1)) xs i x.1 (ap (λ k. slice_get (slice_set row x.0 (Some x.1)) k) p ∙ get_set_same row x.0 (Some x.1) (let lt : i < length row = slice_get_within row i (Some a) e in omega arith))
+        | inr ne ↦ some_stays (slice_set row x.0 (Some x.1)) xs i a (get_set_other row x.0 i (Some x.1) ne ∙ e)
       ]
 
-  placed_some : (row : List (Option A)) (xs : List (ℕ × A)) (i : ℕ) (a : A) → i < length row → Has xs (i, a) → (b : A) × (slice_get (placed row xs) i ≡ Some (Some b))
-  placed_some row [] i a lt h = absurd h
+  placed_some : (row : List (Option A)) (xs : List (ℕ × A)) (i : ℕ) (a : A) → i < length row → Contains xs (i, a) → (b : A) × (slice_get (placed row xs) i ≡ Some (Some b))
+  placed_some row [] i a lt h = absurd (contains_none (i, a) h)
   placed_some row (x ∷ xs) i a lt h =
-      elim h [
+      elim (contains_cases x xs (i, a) h) [
         | inl e ↦
             let job : x.0 ≡ i = ap (λ (z : ℕ × A). z.0) e in
-            some_stays (slice_set row x.0 (Some x.1)) xs i x.1 (ap (λ k. slice_get (slice_set row x.0 (Some x.1)) k) (sym job) ∙ set_here row x.0 (Some x.1) (omega arith))
+            some_stays (slice_set row x.0 (Some x.1)) xs i x.1 (ap (λ k. slice_get (slice_set row x.0 (Some x.1)) k) (sym job) ∙ get_set_same row x.0 (Some x.1) (omega arith))
         | inr r ↦ placed_some (slice_set row x.0 (Some x.1)) xs i a (let e : length (slice_set row x.0 (Some x.1)) ≡ length row = length-set row x.0 (Some x.1) in omega arith) r
       ]
 
@@ -114,22 +90,27 @@ module _ {A : Type 0} where
   none_placed (suc n) (suc i) a e = none_placed n i a e
 
   -- an answer and its cost
-  priced_has : (price : A → ℕ) (xs : List (ℕ × A)) (k c : ℕ) → Has (priced price xs) (k, c) → (a : A) × Has xs (k, a)
-  priced_has price [] k c h = absurd h
+  priced_has : (price : A → ℕ) (xs : List (ℕ × A)) (k c : ℕ) → Contains (priced price xs) (k, c) → (a : A) × Contains xs (k, a)
+  priced_has price [] k c h = absurd (contains_none (k, c) h)
   priced_has price (x ∷ xs) k c h =
-      elim h [
-        | inl e ↦ (x.1, inl (λ i. (ap (λ (z : ℕ × ℕ). z.0) e i, x.1)))
-        | inr r ↦ let p = priced_has price xs k c r in (p.0, inr p.1)
+      elim (contains_cases (x.0, price x.1) (priced price xs) (k, c) h) [
+        | inl e ↦ (x.1, contains_here x xs (k, x.1) (λ i. (ap (λ (z : ℕ × ℕ). z.0) e i, x.1)))
+        | inr r ↦ let p = priced_has price xs k c r in (p.0, contains_later x xs (k, p.0) p.1)
       ]
 
-  has_priced : (price : A → ℕ) (xs : List (ℕ × A)) (k : ℕ) (a : A) → Has xs (k, a) → Has (priced price xs) (k, price a)
-  has_priced price [] k a h = absurd h
-  has_priced price (x ∷ xs) k a h = elim h [ inl e ↦ inl (ap (λ (z : ℕ × A). (z.0, price z.1)) e) | inr r ↦ inr (has_priced price xs k a r) ]
+  has_priced : (price : A → ℕ) (xs : List (ℕ × A)) (k : ℕ) (a : A) → Contains xs (k, a) → Contains (priced price xs) (k, price a)
+  has_priced price [] k a h = absurd (contains_none (k, a) h)
+  has_priced price (x ∷ xs) k a h =
+      let first : ℕ × ℕ = (x.0, price x.1) in
+      elim (contains_cases x xs (k, a) h) [
+        | inl e ↦ contains_here first (priced price xs) (k, price a) (ap (λ (z : ℕ × A). (z.0, price z.1)) e)
+        | inr r ↦ contains_later first (priced price xs) (k, price a) (has_priced price xs k a r)
+      ]
 
-  fits_has : (fits : ℕ → A → Type 0) (xs : List (ℕ × A)) (k : ℕ) (a : A) → AllFit fits xs → Has xs (k, a) → fits k a
-  fits_has fits [] k a f h = absurd h
+  fits_has : (fits : ℕ → A → Type 0) (xs : List (ℕ × A)) (k : ℕ) (a : A) → AllFit fits xs → Contains xs (k, a) → fits k a
+  fits_has fits [] k a f h = absurd (contains_none (k, a) h)
   fits_has fits (x ∷ xs) k a f h =
-      elim h [
+      elim (contains_cases x xs (k, a) h) [
         | inl e ↦ let P : ℕ × A → Type 0 = λ z. fits z.0 z.1 in subst P e f.0
         | inr r ↦ fits_has fits xs k a f.1 r
       ]
@@ -147,30 +128,20 @@ module _ {A : Type 0} where
       go false e rest = rest
 
 -- the journals and all that they handed back
-all_has : (js : List Journal) (p : ℕ × ℕ) → Has (all_handed js) p → (i : ℕ) × (j : Journal) × (get_elem? js i ≡ some j) × Has (handed j.entries) p
-all_has [] p h = absurd h
+all_has : (js : List Journal) (p : ℕ × ℕ) → Contains (all_handed js) p → (i : ℕ) × (j : Journal) × (get_elem? js i ≡ some j) × Contains (handed j.entries) p
+all_has [] p h = absurd (contains_none p h)
 all_has (j ∷ js) p h =
-    elim (has_split (handed j.entries) (all_handed js) p h) [
+    elim (Contains-append_cases (handed j.entries) (all_handed js) p h) [
       | inl q ↦ (0, j, refl, q)
       | inr q ↦ let r = all_has js p q in (suc r.0, r.1, r.2, r.3)
     ]
 
-has_all : (js : List Journal) (i : ℕ) (j : Journal) (p : ℕ × ℕ) → get_elem? js i ≡ some j → Has (handed j.entries) p → Has (all_handed js) p
+has_all : (js : List Journal) (i : ℕ) (j : Journal) (p : ℕ × ℕ) → get_elem? js i ≡ some j → Contains (handed j.entries) p → Contains (all_handed js) p
 has_all [] i j p e h = absurd (some-ne-none j (sym e))
 has_all (k ∷ js) zero j p e h =
-    let P : Journal → Type 0 = λ z. Has (handed z.entries) p in
-    has_left (handed k.entries) (all_handed js) p (subst P (sym (some-injective k j e)) h)
-has_all (k ∷ js) (suc i) j p e h = has_right (handed k.entries) (all_handed js) p (has_all js i j p e h)
-
-no_job_in : (ps : List (ℕ × ℕ)) (k : ℕ) → ((cost : ℕ) → Has ps (k, cost) → ⊥) → list_any (λ y. k == y) (jobs_of ps) ≡ false
-no_job_in [] k h = refl
-no_job_in (p ∷ ps) k h = or_from (k == p.0) _ (ne_eqb k p.0 (λ e. h p.1 (inl (λ i. (sym e i, p.1))))) (no_job_in ps k (λ cost r. h cost (inr r)))
-
-none_twice-append : (ps qs : List (ℕ × ℕ)) → NoneTwice (jobs_of ps) → NoneTwice (jobs_of qs) → ((k a b : ℕ) → Has ps (k, a) → Has qs (k, b) → ⊥) → NoneTwice (jobs_of (ps ++ qs))
-none_twice-append [] qs h i apart = i
-none_twice-append (p ∷ ps) qs h i apart =
-    let jobs : jobs_of (ps ++ qs) ≡ jobs_of ps ++ jobs_of qs = map-append (λ (z : ℕ × ℕ). z.0) ps qs in
-    (ap (λ t. list_any (λ y. p.0 == y) t) jobs ∙ (list_any-append (λ y. p.0 == y) (jobs_of ps) (jobs_of qs) ∙ or_from (list_any (λ y. p.0 == y) (jobs_of ps)) _ h.0 (no_job_in qs p.0 (λ b r. apart p.0 p.1 b (inl refl) r))), none_twice-append ps qs h.1 i (λ k a b x y. apart k a b (inr x) y))
+    let P : Journal → Type 0 = λ z. Contains (handed z.entries) p in
+    Contains-append_left (handed k.entries) (all_handed js) p (subst P (sym (some-injective k j e)) h)
+has_all (k ∷ js) (suc i) j p e h = Contains-append_right (handed k.entries) (all_handed js) p (has_all js i j p e h)
 
 -- each job was handed back once
 handed_once : (c : Core) (taken : List (ℕ × ℕ)) (es : List Entry) → Retired c taken es → (js : List Journal) → Apart js → ((i : ℕ) (j : Journal) → get_elem? js i ≡ some j → entries_of j.worker es ≡ j.entries) → NoneTwice (jobs_of (all_handed js))
@@ -181,8 +152,8 @@ handed_once c taken es h (j ∷ js) apart own =
     none_twice-append (handed j.entries) (all_handed js) (subst P mine (h.twice j.worker)) (handed_once c taken es h js (λ a b x y e f g. let q : suc a ≡ suc b = apart (suc a) (suc b) x y e f g in omega arith) (λ i k e. own (suc i) k e))
     (λ k a b x y.
     let r = all_has js (k, b) y in
-    let Q : List (ℕ × ℕ) → Type 0 = λ q. Has q (k, a) in
-    let R : List (ℕ × ℕ) → Type 0 = λ q. Has q (k, b) in
+    let Q : List (ℕ × ℕ) → Type 0 = λ q. Contains q (k, a) in
+    let R : List (ℕ × ℕ) → Type 0 = λ q. Contains q (k, b) in
     let same : j.worker ≡ r.1.worker = h.one j.worker r.1.worker k a b (subst Q (sym mine) x) (subst R (sym (ap handed (own (suc r.0) r.1 r.2))) r.3) in
     let q : 0 ≡ suc r.0 = apart 0 (suc r.0) j r.1 refl r.2 same in absurd (omega arith))
 
@@ -234,14 +205,7 @@ all_taken count n answers long up low =
     ]
 
 module _ {J A : Type 0} (count : ℕ) (fits : ℕ → A → Type 0) (price : A → ℕ) where
-  -- what is known of a root at the end: the steps, and that they are its own
-  pub record Closed (r : RootView J A) (steps : List Step) : Type 0 where
-    pub one_list : IsOneList count r.made r.gathered steps
-    pub tells : (i : ℕ) (j : Journal) → get_elem? r.gathered i ≡ some j → Tells count steps j
-    pub fit : AllFit fits r.answers
-    pub each : priced price r.answers ≡ all_handed r.gathered
-
-  pub closes : (id : ℕ) (me : Sat) (r : RootView J A) → IsRoot count fits price me r → (s : TableState) (k : IsKept count s) → get_elem? s.views id ≡ some me.0 → Closed r k.steps
+  pub closes : (id : ℕ) (me : Sat) (r : RootView J A) → IsRoot count fits price me r → (s : TableState) (k : IsKept count s) → get_elem? s.views id ≡ some me.0 → IsClosed count fits price r k.steps
   closes id me r h s k at =
       let role : me.0.role ≡ Root = ap (λ (m : Sat). m.0.role) h.seat in
       let made : me.0.made ≡ r.made = ap (λ (m : Sat). m.0.made) h.seat in
@@ -261,27 +225,26 @@ module _ {J A : Type 0} (count : ℕ) (fits : ℕ → A → Type 0) (price : A �
           once = laws.once count k.steps;
         };
         tells = tells;
-        fit = h.fit;
-        each = h.each;
+        fitting = record { fit = h.fit; each = h.each };
       }
 
-  module _ (r : RootView J A) (steps : List Step) (c : Closed r steps) where
+  module _ (r : RootView J A) (steps : List Step) (c : IsClosed count fits price r steps) where
     -- an answer that was gathered, as its worker handed it back
-    its : (k : ℕ) (a : A) → Has r.answers (k, a) → (w : ℕ) × Has (handed (entries_of w (played count (opening count) steps))) (k, price a)
+    its : (k : ℕ) (a : A) → Contains r.answers (k, a) → (w : ℕ) × Contains (handed (entries_of w (played count (opening count) steps))) (k, price a)
     its k a h =
-        let P : List (ℕ × ℕ) → Type 0 = λ q. Has q (k, price a) in
-        let q = all_has r.gathered (k, price a) (subst P c.each (has_priced price r.answers k a h)) in
+        let P : List (ℕ × ℕ) → Type 0 = λ q. Contains q (k, price a) in
+        let q = all_has r.gathered (k, price a) (subst P c.fitting.each (has_priced price r.answers k a h)) in
         (q.1.worker, subst P (sym (ap handed (c.one_list.journals q.0 q.1 q.2))) q.3)
 
     pub legal : IsLegalWith fits r.answers count steps
-    legal = (laws.whole (FitsSaid fits) (said_in r.answers) (said_fits fits r.answers c.fit) count steps).0
+    legal = (laws.whole (FitsSaid fits) (said_in r.answers) (said_fits fits r.answers c.fitting.fit) count steps).0
 
     pub each_once : NoneTwice (jobs_of r.answers)
     each_once =
         let P : List ℕ → Type 0 = λ q. NoneTwice q in
-        subst P (sym (ap (λ q. jobs_of q) c.each) ∙ jobs_priced price r.answers) (handed_once (final count steps) _ (played count (opening count) steps) (retired_final count steps) r.gathered c.one_list.apart c.one_list.journals)
+        subst P (sym (ap (λ q. jobs_of q) c.fitting.each) ∙ jobs_priced price r.answers) (handed_once (final count steps) _ (played count (opening count) steps) (retired_final count steps) r.gathered c.one_list.apart c.one_list.journals)
 
-    pub below : (k : ℕ) (a : A) → Has r.answers (k, a) → k < (final count steps).next
+    pub below : (k : ℕ) (a : A) → Contains r.answers (k, a) → k < (final count steps).next
     below k a h = let q = its k a h in (retired_final count steps).low q.0 k (price a) q.1
 
     pub low : (final count steps).next ≤ count
@@ -290,7 +253,7 @@ module _ {J A : Type 0} (count : ℕ) (fits : ℕ → A → Type 0) (price : A �
     pub all_below : All (λ x. x.0 < count) r.answers
     all_below = λ k d lt.
         let x : ℕ × A = slice_index_or r.answers k d in
-        let there : Has r.answers x = has_from r.answers x (k, lt, get_or_default r.answers k x d lt) in
+        let there : Contains r.answers x = (k, lt, get_or_default r.answers k x d lt) in
         let b : x.0 < (final count steps).next = below x.0 x.1 there in
         let l : (final count steps).next ≤ count = low in
         omega arith
@@ -299,7 +262,7 @@ module _ {J A : Type 0} (count : ℕ) (fits : ℕ → A → Type 0) (price : A �
         → AreTheAnswers count fits price r.answers answers costs × ((final count steps).next ≡ count)
     the_answers answers costs row same =
         let long : length answers ≡ count = sym (length-map answers (λ (a : A). Some a)) ∙ (ap length row ∙ (length-placed (replicate count None) r.answers ∙ length-replicate count None)) in
-        let here : (i : ℕ) (a : A) → slice_get answers i ≡ Some a → Has r.answers (i, a) = λ i a e.
+        let here : (i : ℕ) (a : A) → slice_get answers i ≡ Some a → Contains r.answers (i, a) = λ i a e.
         elim (placed_has (replicate count None) r.answers i a (ap (λ t. slice_get t i) (sym row) ∙ mapped answers i a e)) [
           | inl h ↦ h
           | inr h ↦ absurd (none_placed count i a h)
@@ -309,10 +272,10 @@ module _ {J A : Type 0} (count : ℕ) (fits : ℕ → A → Type 0) (price : A �
             long = long;
             priced = ap length (sym same) ∙ length-costs_final count steps;
             each = λ i a e.
-                let h : Has r.answers (i, a) = here i a e in
+                let h : Contains r.answers (i, a) = here i a e in
                 let q = its i a h in (
-                  contains_from r.answers (i, a) h,
-                  fits_has fits r.answers i a c.fit h,
+                  h,
+                  fits_has fits r.answers i a c.fitting.fit h,
                   ap (λ t. slice_index t i) (sym same) ∙ get_or_from_slice_get (final count steps).costs i (price a) 0 ((retired_final count steps).cost_stands q.0 i (price a) q.1),
                 );
           },
@@ -328,18 +291,18 @@ module _ {J A : Type 0} (count : ℕ) (fits : ℕ → A → Type 0) (price : A �
           omega arith,
           (λ a there.
               let room : i < length (replicate count none) = let e : length (replicate count none) ≡ count = length-replicate count None in omega arith in
-              let q = placed_some (replicate count None) r.answers i a room (has_from r.answers (i, a) there) in
+              let q = placed_some (replicate count None) r.answers i a room there in
               let both : Some none ≡ Some (Some q.0) = sym h.0 ∙ q.1 in absurd (cc)),
           (λ j below.
               let q = h.1 j below in
               elim (placed_has (replicate count None) r.answers j q.0 q.1) [
-                | inl p ↦ (q.0, contains_from r.answers (j, q.0) p)
+                | inl p ↦ (q.0, p)
                 | inr p ↦ absurd (none_placed count j q.0 p)
               ]),
         )
 
     -- where all was gathered and all is known to be taken, every job has an answer
-    pub none_missing : IsWhole r.made r.gathered → (i : ℕ) → i < count → (a : A) × Has r.answers (i, a)
+    pub none_missing : IsWhole r.made r.gathered → (i : ℕ) → i < count → (a : A) × Contains r.answers (i, a)
     none_missing all i lt =
         let told = all.told in
         let sees : count ≤ seen count told.1 = told_none count told.1 told.3 in
@@ -354,57 +317,61 @@ module _ {J A : Type 0} (count : ℕ) (fits : ℕ → A → Type 0) (price : A �
               let busy : is_holding (state_of its.1.entries) ≡ true = ap (λ t. is_holding (state_of t)) (sym entries) ∙ (ap is_holding (sym ((retired_final count steps).state w)) ∙ ap is_holding holding) in
               absurd (cc)
           | inr back ↦
-              let P : List (ℕ × ℕ) → Type 0 = λ q. Has q (i, back.0) in
-              priced_has price r.answers i back.0 (subst P (sym c.each) (has_all r.gathered its.0 its.1 (i, back.0) its.2 (subst P (ap handed entries) back.1)))
+              let P : List (ℕ × ℕ) → Type 0 = λ q. Contains q (i, back.0) in
+              priced_has price r.answers i back.0 (subst P (sym c.fitting.each) (has_all r.gathered its.0 its.1 (i, back.0) its.2 (subst P (ap handed entries) back.1)))
         ]
+
+    -- the same, of a row of `n` places and answers that are the root's
+    module _ (n : ℕ) (own : List (ℕ × A)) (same : n ≡ count) (its_own : own ≡ r.answers) where
+      row_is : placed (replicate n None) own ≡ placed (replicate count None) r.answers
+      row_is = ap (λ m. placed (replicate m None) own) same ∙ ap (λ t. placed (replicate count None) t) its_own
+
+      pub own_below : All (λ x. x.0 < n) own
+      own_below =
+          let P : List (ℕ × A) → Type 0 = λ t. All (λ x. x.0 < n) t in
+          let Q : ℕ → Type 0 = λ m. All (λ x. x.0 < m) r.answers in
+          subst P (sym its_own) (subst Q (sym same) all_below)
+
+      pub ends_well : (answers : List A) (costs : List ℕ) → map (λ a. Some a) answers ≡ placed (replicate n None) own → (final count steps).costs ≡ costs
+          → AreTheAnswers count fits price r.answers answers costs × ((final count steps).next ≡ count)
+      ends_well answers costs row e = the_answers answers costs (row ∙ row_is) e
+
+      -- the fault that an empty place makes
+      pub fault_is : (e : CollectFault) → HoleOf (placed (replicate n None) own) e → MissingOf count r.answers e
+      fault_is (Missing i) h = let P : List (Option A) → Type 0 = λ t. IsFirstHole t i in missing i (subst P row_is h)
+      fault_is NoMemory h = tt
+
+      pub whole_is : IsWhole r.made r.gathered → (e : CollectFault) → HoleOf (placed (replicate n None) own) e → IsNoMemory e
+      whole_is all (Missing i) h =
+          let m : IsFirstMissing count r.answers i = fault_is (Missing i) h in
+          let a = none_missing all i m.0 in
+          m.1 a.0 a.1
+      whole_is all NoMemory h = tt
+
+-- the number of jobs, from a board's inside to its value
+pub count_is : {J : Type 0} (number : J → ℕ) (b d : BoardView J) (count : ℕ) → count ≡ number b.jobs → b ≡ d → count ≡ number d.jobs
+count_is {J} number b d count n e = n ∙ ap (λ (v : BoardView J). number v.jobs) e
 
 -- the same, from a board's and a root's insides to their values
 module _ {J A : Type 0} (number : J → ℕ) (fits : J → ℕ → A → Type 0) (price : J → A → ℕ) where
+  -- the steps behind a board that was closed
   pub record Found (d : BoardView J) (q : RootView J A) (s : TableState) : Type 0 where
     pub steps : List Step
     pub words : s.words ≡ (final (number d.jobs) steps).next ∷ (final (number d.jobs) steps).costs
-    pub closed : Closed (number d.jobs) (fits d.jobs) (price d.jobs) q steps
+    pub closed : IsClosed (number d.jobs) (fits d.jobs) (price d.jobs) q steps
 
   pub finds_at : (r q : RootView J A) (b d : BoardView J) (id : ℕ) (me : Sat) (count : ℕ) → r ≡ q → b ≡ d → q.board ≡ d → count ≡ number b.jobs → IsRoot (number r.board.jobs) (fits r.board.jobs) (price r.board.jobs) me r
       → (s : TableState) → IsKept count s → get_elem? s.views id ≡ some me.0 → Found d q s
   finds_at r q b d id me count e f own n h s k at =
       let jobs : r.board.jobs ≡ d.jobs = ap (λ (v : RootView J A). v.board.jobs) e ∙ ap (λ (v : BoardView J). v.jobs) own in
-      let same : count ≡ number d.jobs = n ∙ ap (λ (v : BoardView J). number v.jobs) f in
+      let same : count ≡ number d.jobs = count_is number b d count n f in
       let P : J → Type 0 = λ j. IsRoot (number j) (fits j) (price j) me r in
       let Q : ℕ → Type 0 = λ m. IsKept m s in
       let R : RootView J A → Type 0 = λ z. Found d z s in
       let kept : IsKept (number d.jobs) s = subst Q same k in
       subst R e record { steps = kept.steps; words = kept.words; closed = closes (number d.jobs) (fits d.jobs) (price d.jobs) id me r (subst P jobs h) s kept at }
 
-  -- where the answers are all there
-  pub ends_well : (d : BoardView J) (q : RootView J A) (s : TableState) (f : Found d q s) (answers : List A) (costs : List ℕ) (next : ℕ) → s.words ≡ next ∷ costs → (count : ℕ) → count ≡ number d.jobs
-      → map (λ a. Some a) answers ≡ placed (replicate count None) q.answers
-      → AreTheAnswers (number d.jobs) (fits d.jobs) (price d.jobs) q.answers answers costs × (((final (number d.jobs) f.steps).next ≡ number d.jobs) × ((final (number d.jobs) f.steps).costs ≡ costs))
-  ends_well d q s f answers costs next w count n row =
-      let both : (final (number d.jobs) f.steps).next ∷ (final (number d.jobs) f.steps).costs ≡ next ∷ costs = sym f.words ∙ w in
-      let same : (final (number d.jobs) f.steps).costs ≡ costs = cc in
-      let here = the_answers (number d.jobs) (fits d.jobs) (price d.jobs) q f.steps f.closed answers costs (row ∙ ap (λ m. placed (replicate m None) q.answers) n) same in
-      (here.0, (here.1, same))
-
-  pub hole_is : (d : BoardView J) (q : RootView J A) (s : TableState) (f : Found d q s) (count i : ℕ) → count ≡ number d.jobs → IsFirstHole (placed (replicate count None) q.answers) i → IsFirstMissing (number d.jobs) q.answers i
-  hole_is d q s f count i n h =
-      let P : ℕ → Type 0 = λ m. IsFirstHole (placed (replicate m None) q.answers) i in
-      missing (number d.jobs) (fits d.jobs) (price d.jobs) q f.steps f.closed i (subst P n h)
-
-  -- the fault that an empty place makes
-  pub fault_is : (d : BoardView J) (q : RootView J A) (s : TableState) (f : Found d q s) (count : ℕ) (row : List (Option A)) → count ≡ number d.jobs → row ≡ placed (replicate count None) q.answers → (e : CollectFault) → HoleOf row e → MissingOf (number d.jobs) q.answers e
-  fault_is d q s f count row n r (Missing i) h = let P : List (Option A) → Type 0 = λ t. IsFirstHole t i in hole_is d q s f count i n (subst P r h)
-  fault_is d q s f count row n r NoMemory h = tt
-
-  pub whole_is : (d : BoardView J) (q : RootView J A) (s : TableState) (f : Found d q s) (count : ℕ) (row : List (Option A)) → count ≡ number d.jobs → row ≡ placed (replicate count None) q.answers → (e : CollectFault) → HoleOf row e → IsWhole q.made q.gathered → IsNoMemory e
-  whole_is d q s f count row n r (Missing i) h all =
-      let m : IsFirstMissing (number d.jobs) q.answers i = fault_is d q s f count row n r (Missing i) h in
-      let a = none_missing (number d.jobs) (fits d.jobs) (price d.jobs) q f.steps f.closed all i m.0 in
-      m.1 a.0 (contains_from q.answers (i, a.0) a.1)
-  whole_is d q s f count row n r NoMemory h all = tt
-
-  pub below_at : (d : BoardView J) (q : RootView J A) (s : TableState) (f : Found d q s) (count : ℕ) (xs : List (ℕ × A)) → count ≡ number d.jobs → xs ≡ q.answers → All (λ x. x.0 < count) xs
-  below_at d q s f count xs n e =
-      let P : List (ℕ × A) → Type 0 = λ t. All (λ x. x.0 < count) t in
-      let Q : ℕ → Type 0 = λ m. All (λ x. x.0 < m) q.answers in
-      subst P (sym e) (subst Q (sym n) (all_below (number d.jobs) (fits d.jobs) (price d.jobs) q f.steps f.closed))
+  -- the costs that were read stand behind the next job
+  pub costs_are : (d : BoardView J) (q : RootView J A) (s : TableState) (f : Found d q s) (costs : List ℕ) (next : ℕ) → s.words ≡ next ∷ costs → (final (number d.jobs) f.steps).costs ≡ costs
+  costs_are d q s f costs next w =
+      let both : (final (number d.jobs) f.steps).next ∷ (final (number d.jobs) f.steps).costs ≡ next ∷ costs = sym f.words ∙ w in cc

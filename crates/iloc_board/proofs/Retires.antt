@@ -1,10 +1,10 @@
 -- What was handed back: each job once, by whom took it, at the cost that stands.
-use Rattle.std.proofs.Common.{◌≡◌, ◌≢◌, ℕ, zero, suc, ◌<◌, ◌≤◌, ◌⊎◌, true, false, ◌==◌, List, [], ◌∷◌, ◌++◌, length, refl, ap, sym, ◌∙◌, subst, arith, inl, inr, Some}
+use Rattle.std.proofs.Common.{◌≡◌, ◌≢◌, ℕ, suc, ◌<◌, ◌≤◌, ◌⊎◌, true, false, List, [], ◌∷◌, ◌++◌, length, refl, ap, sym, ◌∙◌, subst, arith, inl, inr, Some}
 use Rattle.std.specs.Prelude.{slice_get, slice_set}
-use Rattle.std.specs.List.{list_any}
-use Rattle.std.proofs.lemmas.Bool.{ne_eqb, cases_eq, or_parts, or_from}
-use Rattle.std.proofs.lemmas.List.{append-nil, append_assoc, map-append, length-replicate}
-use Rattle.std.proofs.lemmas.List.Folds.{list_any-append}
+use Rattle.std.specs.List.{Contains}
+use Rattle.std.proofs.lemmas.Bool.{cases_eq}
+use Rattle.std.proofs.lemmas.List.{append-nil, append_assoc, length-replicate}
+use Rattle.std.proofs.lemmas.List.Elements.{Contains-append_left, Contains-append_right, Contains-push_cases}
 use Rattle.iloc_board.specs.declared.step.Step.{Step}
 use Rattle.iloc_board.specs.declared.step.Reply.{Reply}
 use Rattle.iloc_board.specs.declared.step.Reply.TheVariants.{Took, Handed, NotNow}
@@ -17,71 +17,29 @@ use Rattle.iloc_board.specs.History.{handed_by, accepted, taken_by, takes}
 use Rattle.iloc_board.specs.Journal.{entries_of, state_of, handed}
 use Rattle.iloc_board.specs.Play.{final}
 use Rattle.iloc_board.specs.Collecting.{NoneTwice, jobs_of}
+use Rattle.iloc_board.proofs.Lists.{contains_none, contains_here, contains_one, get_set_same, get_set_other, none_twice-append}
 use Rattle.iloc_board.proofs.Effects.{finds, misses, none, wins, returns, waits, effect, state_here, state_else}
 use Rattle.iloc_board.proofs.Runs.{length-costs}
 use Rattle.iloc_board.proofs.Taking.{Stands, begins, stands, state_by, holds_by, out_split}
 use Rattle.iloc_board.proofs.Parts.{entries_here, entries_else, state_from-snoc, handed_from-snoc}
 
--- it is among these
-abbrev pub Has : {B : Type 0} → List B → B → Type 0
-Has [] b = ⊥
-Has (x ∷ xs) b = (x ≡ b) ⊎ Has xs b
-
-module _ {B : Type 0} where
-  pub has_left : (xs ys : List B) (b : B) → Has xs b → Has (xs ++ ys) b
-  has_left [] ys b h = absurd h
-  has_left (x ∷ xs) ys b h = elim h [ inl e ↦ inl e | inr r ↦ inr (has_left xs ys b r) ]
-
-  pub has_right : (xs ys : List B) (b : B) → Has ys b → Has (xs ++ ys) b
-  has_right [] ys b h = h
-  has_right (x ∷ xs) ys b h = inr (has_right xs ys b h)
-
-  pub has_split : (xs ys : List B) (b : B) → Has (xs ++ ys) b → Has xs b ⊎ Has ys b
-  has_split [] ys b h = inr h
-  has_split (x ∷ xs) ys b h = elim h [ inl e ↦ inl (inl e) | inr r ↦ elim (has_split xs ys b r) [ inl p ↦ inl (inr p) | inr p ↦ inr p ] ]
-
-  pub get_same : (l : List B) (i : ℕ) (b : B) → i < length l → slice_get (slice_set l i b) i ≡ Some b
-  get_same [] i b h = absurd (omega arith)
-  get_same (x ∷ xs) zero b h = refl
-  get_same (x ∷ xs) (suc i) b h = get_same xs i b (omega arith)
-
-  pub get_other : (l : List B) (i j : ℕ) (b : B) → j ≢ i → slice_get (slice_set l i b) j ≡ slice_get l j
-  get_other [] i j b h = refl
-  get_other (x ∷ xs) zero zero b h = absurd (h refl)
-  get_other (x ∷ xs) zero (suc j) b h = refl
-  get_other (x ∷ xs) (suc i) zero b h = refl
-  get_other (x ∷ xs) (suc i) (suc j) b h = get_other xs i j b (λ e. h (ap suc e))
-
--- a number that is not there does not stand twice at the end
-pub once_more : (xs : List ℕ) (k : ℕ) → NoneTwice xs → list_any (λ y. y == k) xs ≡ false → NoneTwice (xs ++ k ∷ [])
-once_more [] k h e = (refl, tt)
-once_more (x ∷ xs) k h e =
-    let p = or_parts (x == k) (list_any (λ y. y == k) xs) e in
-    (list_any-append (λ y. x == y) xs (k ∷ []) ∙ or_from (list_any (λ y. x == y) xs) _ h.0 (or_from (x == k) false p.0 refl), once_more xs k h.1 p.1)
-
--- no pair of the job k is there
-no_job : (ps : List (ℕ × ℕ)) (k : ℕ) → ((cost : ℕ) → Has ps (k, cost) → ⊥) → list_any (λ y. y == k) (jobs_of ps) ≡ false
-no_job [] k h = refl
-no_job (p ∷ ps) k h =
-    or_from (p.0 == k) _ (ne_eqb p.0 k (λ e. h p.1 (inl (λ i. (e i, p.1))))) (no_job ps k (λ cost r. h cost (inr r)))
-
 -- of the core c after the entries es, and the takes so far
 pub record Retired (c : Core) (taken : List (ℕ × ℕ)) (es : List Entry) : Type 0 where
   pub state : (w : ℕ) → c.state w ≡ state_of (entries_of w es)
-  pub low : (w k cost : ℕ) → Has (handed (entries_of w es)) (k, cost) → k < c.next
-  pub gone : (w v k cost : ℕ) → Has (handed (entries_of w es)) (k, cost) → c.state v ≡ Holding k → ⊥
-  pub cost_stands : (w k cost : ℕ) → Has (handed (entries_of w es)) (k, cost) → slice_get c.costs k ≡ Some cost
-  pub one : (w v k a b : ℕ) → Has (handed (entries_of w es)) (k, a) → Has (handed (entries_of v es)) (k, b) → w ≡ v
+  pub low : (w k cost : ℕ) → Contains (handed (entries_of w es)) (k, cost) → k < c.next
+  pub gone : (w v k cost : ℕ) → Contains (handed (entries_of w es)) (k, cost) → c.state v ≡ Holding k → ⊥
+  pub cost_stands : (w k cost : ℕ) → Contains (handed (entries_of w es)) (k, cost) → slice_get c.costs k ≡ Some cost
+  pub one : (w v k a b : ℕ) → Contains (handed (entries_of w es)) (k, a) → Contains (handed (entries_of v es)) (k, b) → w ≡ v
   pub twice : (w : ℕ) → NoneTwice (jobs_of (handed (entries_of w es)))
-  pub fate : (w k : ℕ) → is_out w k taken ≡ true → (c.state w ≡ Holding k) ⊎ ((cost : ℕ) × Has (handed (entries_of w es)) (k, cost))
+  pub fate : (w k : ℕ) → is_out w k taken ≡ true → (c.state w ≡ Holding k) ⊎ ((cost : ℕ) × Contains (handed (entries_of w es)) (k, cost))
 
 pub retires_first : (count : ℕ) → Retired (opening count) [] []
 retires_first count = record {
   state = λ w. refl;
-  low = λ w k cost h. absurd h;
-  gone = λ w v k cost h. absurd h;
-  cost_stands = λ w k cost h. absurd h;
-  one = λ w v k a b h. absurd h;
+  low = λ w k cost h. absurd (contains_none (k, cost) h);
+  gone = λ w v k cost h. absurd (contains_none (k, cost) h);
+  cost_stands = λ w k cost h. absurd (contains_none (k, cost) h);
+  one = λ w v k a b h. absurd (contains_none (k, a) h);
   twice = λ w. tt;
   fate = λ w k h. absurd (cc);
 }
@@ -108,13 +66,13 @@ same_handed count c es x r e clean w =
 -- a step that hands nothing back
 idles : (count : ℕ) (c : Core) (taken : List (ℕ × ℕ)) (es : List Entry) → Stands count c taken → Retired c taken es → (x : Step) (r : Reply) → reply_to count c x ≡ r → ((s : State) → accepted s x r ≡ [])
     → c.next ≤ (after count c x).next → (after count c x).costs ≡ c.costs
-    → ((w v k cost : ℕ) → Has (handed (entries_of w es)) (k, cost) → (after count c x).state v ≡ Holding k → ⊥)
-    → (later : List (ℕ × ℕ)) → ((w k : ℕ) → is_out w k later ≡ true → ((after count c x).state w ≡ Holding k) ⊎ ((cost : ℕ) × Has (handed (entries_of w es)) (k, cost)))
+    → ((w v k cost : ℕ) → Contains (handed (entries_of w es)) (k, cost) → (after count c x).state v ≡ Holding k → ⊥)
+    → (later : List (ℕ × ℕ)) → ((w k : ℕ) → is_out w k later ≡ true → ((after count c x).state w ≡ Holding k) ⊎ ((cost : ℕ) × Contains (handed (entries_of w es)) (k, cost)))
     → Retired (after count c x) later (es ++ entry x (reply_to count c x) ∷ [])
 idles count c taken es st h x r e clean rises costs gone later fate =
     let now : List Entry = es ++ entry x (reply_to count c x) ∷ [] in
     let same : (w : ℕ) → handed (entries_of w now) ≡ handed (entries_of w es) = same_handed count c es x r e clean in
-    let old : (w k cost : ℕ) → Has (handed (entries_of w now)) (k, cost) → Has (handed (entries_of w es)) (k, cost) = λ w k cost t. let P : List (ℕ × ℕ) → Type 0 = λ q. Has q (k, cost) in subst P (same w) t in
+    let old : (w k cost : ℕ) → Contains (handed (entries_of w now)) (k, cost) → Contains (handed (entries_of w es)) (k, cost) = λ w k cost t. let P : List (ℕ × ℕ) → Type 0 = λ q. Contains q (k, cost) in subst P (same w) t in
     record {
       state = state_more count c es x h.state;
       low = λ w k cost t. let lt : k < c.next = h.low w k cost (old w k cost t) in omega arith;
@@ -122,7 +80,7 @@ idles count c taken es st h x r e clean rises costs gone later fate =
       cost_stands = λ w k cost t. ap (λ q. slice_get q k) costs ∙ h.cost_stands w k cost (old w k cost t);
       one = λ w v k a b t u. h.one w v k a b (old w k a t) (old v k b u);
       twice = λ w. let P : List (ℕ × ℕ) → Type 0 = λ q. NoneTwice (jobs_of q) in subst P (sym (same w)) (h.twice w);
-      fate = λ w k o. elim (fate w k o) [ inl p ↦ inl p | inr p ↦ inr (p.0, let P : List (ℕ × ℕ) → Type 0 = λ q. Has q (k, p.0) in subst P (sym (same w)) p.1) ];
+      fate = λ w k o. elim (fate w k o) [ inl p ↦ inl p | inr p ↦ inr (p.0, let P : List (ℕ × ℕ) → Type 0 = λ q. Contains q (k, p.0) in subst P (sym (same w)) p.1) ];
     }
 
 -- a job that its worker hands back
@@ -141,25 +99,25 @@ hands_one count c taken es st h long x cost k holding by costs e =
     ap handed (entries_here v es x r refl) ∙ (handed_from-snoc Free (entries_of v es) x r ∙ ap (λ t. handed (entries_of v es) ++ t) (ap (λ q. accepted (state_of (entries_of v es)) x q) e ∙ (ap (λ s. handed_by s x) (sym (h.state v)) ∙ by))) in
     let other : (w : ℕ) → w ≢ v → handed (entries_of w now) ≡ handed (entries_of w es) = λ w ne. ap handed (entries_else w es x r ne) in
     -- a pair is old, or it is the new one
-    let split : (w j a : ℕ) → Has (handed (entries_of w now)) (j, a) → Has (handed (entries_of w es)) (j, a) ⊎ ((w ≡ v) × (j ≡ k) × (a ≡ cost)) = λ w j a t.
+    let split : (w j a : ℕ) → Contains (handed (entries_of w now)) (j, a) → Contains (handed (entries_of w es)) (j, a) ⊎ ((w ≡ v) × (j ≡ k) × (a ≡ cost)) = λ w j a t.
     elim (cases_eq w v) [
       | inl same ↦
-          let P : ℕ → Type 0 = λ u. Has (handed (entries_of u now)) (j, a) in
-          let Q : List (ℕ × ℕ) → Type 0 = λ q. Has q (j, a) in
-          elim (has_split (handed (entries_of v es)) ((k, cost) ∷ []) (j, a) (subst Q mine (subst P same t))) [
-            | inl p ↦ let R : ℕ → Type 0 = λ u. Has (handed (entries_of u es)) (j, a) in inl (subst R (sym same) p)
-            | inr p ↦ elim p [ inl q ↦ inr (same, ap (λ (z : ℕ × ℕ). z.0) (sym q), ap (λ (z : ℕ × ℕ). z.1) (sym q)) | inr q ↦ absurd q ]
+          let P : ℕ → Type 0 = λ u. Contains (handed (entries_of u now)) (j, a) in
+          let Q : List (ℕ × ℕ) → Type 0 = λ q. Contains q (j, a) in
+          elim (Contains-push_cases (handed (entries_of v es)) (k, cost) (j, a) (subst Q mine (subst P same t))) [
+            | inl p ↦ let R : ℕ → Type 0 = λ u. Contains (handed (entries_of u es)) (j, a) in inl (subst R (sym same) p)
+            | inr q ↦ inr (same, ap (λ (z : ℕ × ℕ). z.0) (sym q), ap (λ (z : ℕ × ℕ). z.1) (sym q))
           ]
-      | inr ne ↦ let Q : List (ℕ × ℕ) → Type 0 = λ q. Has q (j, a) in inl (subst Q (other w ne) t)
+      | inr ne ↦ let Q : List (ℕ × ℕ) → Type 0 = λ q. Contains q (j, a) in inl (subst Q (other w ne) t)
     ] in
-    let keep : (w j a : ℕ) → Has (handed (entries_of w es)) (j, a) → Has (handed (entries_of w now)) (j, a) = λ w j a t.
+    let keep : (w j a : ℕ) → Contains (handed (entries_of w es)) (j, a) → Contains (handed (entries_of w now)) (j, a) = λ w j a t.
     elim (cases_eq w v) [
       | inl same ↦
-          let P : ℕ → Type 0 = λ u. Has (handed (entries_of u now)) (j, a) in
-          let Q : List (ℕ × ℕ) → Type 0 = λ q. Has q (j, a) in
-          let R : ℕ → Type 0 = λ u. Has (handed (entries_of u es)) (j, a) in
-          subst P (sym same) (subst Q (sym mine) (has_left (handed (entries_of v es)) ((k, cost) ∷ []) (j, a) (subst R same t)))
-      | inr ne ↦ let Q : List (ℕ × ℕ) → Type 0 = λ q. Has q (j, a) in subst Q (sym (other w ne)) t
+          let P : ℕ → Type 0 = λ u. Contains (handed (entries_of u now)) (j, a) in
+          let Q : List (ℕ × ℕ) → Type 0 = λ q. Contains q (j, a) in
+          let R : ℕ → Type 0 = λ u. Contains (handed (entries_of u es)) (j, a) in
+          subst P (sym same) (subst Q (sym mine) (Contains-append_left (handed (entries_of v es)) ((k, cost) ∷ []) (j, a) (subst R same t)))
+      | inr ne ↦ let Q : List (ℕ × ℕ) → Type 0 = λ q. Contains q (j, a) in subst Q (sym (other w ne)) t
     ] in
     let held : (w j : ℕ) → d.state w ≡ Holding j → (w ≢ v) × (c.state w ≡ Holding j) = λ w j is.
     elim (state_by count c x Handed e w) [
@@ -167,7 +125,7 @@ hands_one count c taken es st h long x cost k holding by costs e =
       | inr p ↦ (p.0, sym p.1 ∙ is)
     ] in
     -- the job was not handed back before
-    let fresh : (w a : ℕ) → Has (handed (entries_of w es)) (k, a) → ⊥ = λ w a t. h.gone w v k a t holding in
+    let fresh : (w a : ℕ) → Contains (handed (entries_of w es)) (k, a) → ⊥ = λ w a t. h.gone w v k a t holding in
     record {
       state = state_more count c es x h.state;
       low = λ w j a t. elim (split w j a t) [ inl p ↦ let lt : j < c.next = h.low w j a p in omega arith | inr p ↦ let eq : j ≡ k = p.1 in omega arith ];
@@ -180,18 +138,18 @@ hands_one count c taken es st h long x cost k holding by costs e =
       cost_stands = λ w j a t.
           ap (λ q. slice_get q j) costs ∙ elim (split w j a t) [
             | inl p ↦
-                let ne : j ≢ k = λ q. let P : ℕ → Type 0 = λ z. Has (handed (entries_of w es)) (z, a) in fresh w a (subst P q p) in
-                get_other c.costs k j cost ne ∙ h.cost_stands w j a p
-            | inr p ↦ ap (λ z. slice_get (slice_set c.costs k cost) z) p.1 ∙ (get_same c.costs k cost (omega arith) ∙ ap (λ z. Some z) (sym p.2))
+                let ne : j ≢ k = λ q. let P : ℕ → Type 0 = λ z. Contains (handed (entries_of w es)) (z, a) in fresh w a (subst P q p) in
+                get_set_other c.costs k j cost ne ∙ h.cost_stands w j a p
+            | inr p ↦ ap (λ z. slice_get (slice_set c.costs k cost) z) p.1 ∙ (get_set_same c.costs k cost (omega arith) ∙ ap (λ z. Some z) (sym p.2))
           ];
       one = λ w u j a b t s.
           elim (split w j a t) [
             | inl p ↦ elim (split u j b s) [
               | inl q ↦ h.one w u j a b p q
-              | inr q ↦ let P : ℕ → Type 0 = λ z. Has (handed (entries_of w es)) (z, a) in absurd (fresh w a (subst P q.1 p))
+              | inr q ↦ let P : ℕ → Type 0 = λ z. Contains (handed (entries_of w es)) (z, a) in absurd (fresh w a (subst P q.1 p))
             ]
             | inr p ↦ elim (split u j b s) [
-              | inl q ↦ let P : ℕ → Type 0 = λ z. Has (handed (entries_of u es)) (z, b) in absurd (fresh u b (subst P p.1 q))
+              | inl q ↦ let P : ℕ → Type 0 = λ z. Contains (handed (entries_of u es)) (z, b) in absurd (fresh u b (subst P p.1 q))
               | inr q ↦ p.0 ∙ sym q.0
             ]
           ];
@@ -200,8 +158,7 @@ hands_one count c taken es st h long x cost k holding by costs e =
             | inl same ↦
                 let P : ℕ → Type 0 = λ u. NoneTwice (jobs_of (handed (entries_of u now))) in
                 let Q : List (ℕ × ℕ) → Type 0 = λ q. NoneTwice (jobs_of q) in
-                let R : List ℕ → Type 0 = λ q. NoneTwice q in
-                subst P (sym same) (subst Q (sym mine) (subst R (sym (map-append (λ (z : ℕ × ℕ). z.0) (handed (entries_of v es)) ((k, cost) ∷ []))) (once_more (jobs_of (handed (entries_of v es))) k (h.twice v) (no_job (handed (entries_of v es)) k (λ a t. fresh v a t)))))
+                subst P (sym same) (subst Q (sym mine) (none_twice-append (handed (entries_of v es)) ((k, cost) ∷ []) (h.twice v) (refl, tt) (λ j a b x y. let is : k ≡ j = ap (λ (z : ℕ × ℕ). z.0) (contains_one (k, cost) (j, b) y) in let R : ℕ → Type 0 = λ z. Contains (handed (entries_of v es)) (z, a) in fresh v a (subst R (sym is) x))))
             | inr ne ↦ let Q : List (ℕ × ℕ) → Type 0 = λ q. NoneTwice (jobs_of q) in subst Q (sym (other w ne)) (h.twice w)
           ];
       fate = λ w j o.
@@ -210,9 +167,9 @@ hands_one count c taken es st h long x cost k holding by costs e =
               | inl same ↦
                   let is : Holding j ≡ Holding k = sym p ∙ (ap c.state same ∙ holding) in
                   let eq : j ≡ k = cc in
-                  let P : ℕ → Type 0 = λ u. Has (handed (entries_of u now)) (j, cost) in
-                  let Q : List (ℕ × ℕ) → Type 0 = λ q. Has q (j, cost) in
-                  inr (cost, subst P (sym same) (subst Q (sym mine) (has_right (handed (entries_of v es)) ((k, cost) ∷ []) (j, cost) (inl (ap (λ z. (z, cost)) (sym eq))))))
+                  let P : ℕ → Type 0 = λ u. Contains (handed (entries_of u now)) (j, cost) in
+                  let Q : List (ℕ × ℕ) → Type 0 = λ q. Contains q (j, cost) in
+                  inr (cost, subst P (sym same) (subst Q (sym mine) (Contains-append_right (handed (entries_of v es)) ((k, cost) ∷ []) (j, cost) (contains_here (k, cost) [] (j, cost) (ap (λ z. (z, cost)) (sym eq))))))
               | inr ne ↦ inl (state_else count c x w ne ∙ p)
             ]
             | inr p ↦ inr (p.0, keep w j p.0 p.1)

@@ -1,16 +1,31 @@
 -- What is found when a board is closed.
-use Rattle.std.specs.Prelude.{◌≡◌, ℕ, ◌<◌, true, false, ◌==◌, cond, List, [], ◌∷◌, length, map, slice_get, slice_index, slice_set, Option, Some, None}
+use Rattle.std.specs.Prelude.{◌≡◌, ◌≢◌, ℕ, ◌<◌, true, false, ◌==◌, cond, List, [], ◌∷◌, length, map, slice_get, slice_index, Some}
 use Rattle.std.specs.List.{Contains, list_any}
 use mathlib.Core.Option.{some}
 use lib.ListN.{get_elem?}
 use Rattle.iloc_board.specs.declared.step.Step.{Step}
+use Rattle.iloc_board.specs.declared.step.Reply.TheVariants.{NotNow}
+use Rattle.iloc_board.specs.declared.step.Entry.{Entry}
 use Rattle.iloc_board.specs.declared.journal.Journal.{Journal}
-use Rattle.iloc_board.specs.Core.{opening, is_holding, played}
+use Rattle.iloc_board.specs.Core.{opening, is_holding, worker_of, played}
 use Rattle.iloc_board.specs.Sequential.{Legal, opened}
 use Rattle.iloc_board.specs.History.{history, IsExact}
 use Rattle.iloc_board.specs.Journal.{entries_of, state_of, saw_none}
 use Rattle.iloc_board.specs.Play.{TakesEachOnce}
-use Rattle.iloc_board.specs.Rule.{AllMade, AllAnswered, Apart}
+
+-- each step is by a worker that was made
+abbrev pub AllMade : ℕ → List Step → Type 0
+AllMade made [] = Unit {0}
+AllMade made (x ∷ xs) = (worker_of x < made) × AllMade made xs
+
+-- no step was forbidden
+abbrev pub AllAnswered : List Entry → Type 0
+AllAnswered [] = Unit {0}
+AllAnswered (e ∷ es) = (e.reply ≢ NotNow) × AllAnswered es
+
+-- no worker stands twice
+abbrev pub Apart : List Journal → Type 0
+Apart js = (a b : ℕ) (i j : Journal) → get_elem? js a ≡ some i → get_elem? js b ≡ some j → i.worker ≡ j.worker → a ≡ b
 
 -- one list of steps, by workers that were made, none forbidden, of which each gathered journal is all that its worker did; each take in it is of the job looked at, and no job is taken twice
 pub record IsOneList (count made : ℕ) (gathered : List Journal) (steps : List Step) : Type 0 where
@@ -57,15 +72,6 @@ module _ {A : Type 0} where
   -- the lowest job that has no answer
   abbrev pub IsFirstMissing : ℕ → List (ℕ × A) → ℕ → Type 0
   IsFirstMissing count handed i = (i < count) × ((a : A) → ¬ Contains handed (i, a)) × ((j : ℕ) → j < i → (a : A) × Contains handed (j, a))
-
-  -- a row with each answer at its job
-  abbrev pub placed : List (Option A) → List (ℕ × A) → List (Option A)
-  placed row [] = row
-  placed row (x ∷ xs) = placed (slice_set row x.0 (Some x.1)) xs
-
-  -- the first empty place
-  abbrev pub IsFirstHole : List (Option A) → ℕ → Type 0
-  IsFirstHole row i = (slice_get row i ≡ Some None) × ((j : ℕ) → j < i → (a : A) × (slice_get row j ≡ Some (Some a)))
 
 -- all passes that were made were gathered, none of them holds a job, and one was told that none is left
 pub record IsWhole (made : ℕ) (gathered : List Journal) : Type 0 where

@@ -1,14 +1,10 @@
 -- What a refusal of `collect` tells.
-use Rattle.std.specs.Prelude.{ℕ, List, Option}
+use Rattle.std.specs.Prelude.{ℕ, List}
 use Rattle.iloc_board.specs.declared.collect.CollectFault.{CollectFault}
 use Rattle.iloc_board.specs.declared.collect.CollectFault.TheVariants.{Missing, NoMemory}
-use Rattle.iloc_board.specs.Collecting.{IsFirstHole, IsFirstMissing}
+use Rattle.iloc_board.specs.Collecting.{IsFirstMissing}
 
 module _ {A : Type 0} where
-  abbrev pub HoleOf : List (Option A) → CollectFault → Type 0
-  HoleOf row (Missing i) = IsFirstHole row i
-  HoleOf row NoMemory = Unit {0}
-
   -- a missing job is the lowest that has no answer
   abbrev pub MissingOf : ℕ → List (ℕ × A) → CollectFault → Type 0
   MissingOf count handed (Missing i) = IsFirstMissing count handed i

@@ -10,6 +10,10 @@ use Rattle.iloc_board.specs.declared.journal.Journal.{Journal}
 use Rattle.iloc_board.specs.Core.{worker_of, state_after, entry}
 use Rattle.iloc_board.specs.History.{accepted}
 
+-- a journal, by a name that other crates can write
+abbrev pub JournalView : Type 0
+JournalView = Journal
+
 abbrev pub journal_of : ℕ → ℕ → List Entry → Journal
 journal_of worker start entries = record { worker = worker; start = start; entries = entries }
 

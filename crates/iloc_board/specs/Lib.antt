@@ -4,9 +4,8 @@ pub mod History
 pub mod Play
 pub mod Journal
 pub mod Views
-pub mod Rule
-pub mod Inside
 pub mod Replies
 pub mod Collecting
 pub mod Faults
 pub mod Working
+pub mod Internal

@@ -1,26 +1,11 @@
 -- What `play` promises of a list of steps.
 use Rattle.std.specs.Prelude.{◌≡◌, ℕ, List, map}
 use Rattle.std.specs.List.{range_with_len}
-use Rattle.std.specs.Option.{unwrap_or}
-use Rattle.std.specs.BTreeMap.{BTreeMap, get}
-use Rattle.std.specs.Ordering.{nat_cmp}
 use Rattle.iloc_board.specs.declared.step.Step.{Step}
 use Rattle.iloc_board.specs.declared.step.Reply.{Reply}
-use Rattle.iloc_board.specs.declared.state.State.{State}
-use Rattle.iloc_board.specs.declared.state.State.TheVariants.{Free}
 use Rattle.iloc_board.specs.Core.{Core, opening, ends, played}
 use Rattle.iloc_board.specs.Sequential.{Call, Legal, opened, board_after}
 use Rattle.iloc_board.specs.History.{history, takes, hand_backs, StandsAt}
-
--- the state that a map of states gives to a worker: free, where it has none
-abbrev pub state_in : BTreeMap ℕ State → ℕ → State
-state_in states q = unwrap_or (get nat_cmp states q) Free
-
--- these numbers and this map are the core
-pub record Shows (next : ℕ) (costs : List ℕ) (states : BTreeMap ℕ State) (c : Core) : Type 0 where
-  pub next_is : next ≡ c.next
-  pub costs_are : costs ≡ c.costs
-  pub states_are : (q : ℕ) → state_in states q ≡ c.state q
 
 -- the replies to a list of steps, in order
 abbrev pub replies : ℕ → List Step → List Reply

@@ -1,18 +1,18 @@
 //! A board that hands numbered jobs to workers and takes their answers back. It knows nothing of what a job is.
 #![tactic(auto)]
 
-pub mod board;
-pub mod collect;
-pub mod fault;
-pub mod gate;
-pub mod jobs;
-pub mod journal;
-pub mod machine;
-pub mod pass;
-pub mod rule;
-pub mod seat_view;
-pub mod state;
-pub mod step;
+mod board;
+mod collect;
+mod fault;
+mod gate;
+mod jobs;
+mod journal;
+mod machine;
+mod pass;
+mod rule;
+mod seat_view;
+mod state;
+mod step;
 mod worker;
 
 pub use board::{Board, Seen, Tried};

@@ -5,7 +5,8 @@ ghost use Rattle.std.specs.BTreeMap.{get};
 ghost use Rattle.std.specs.Ordering.{nat_cmp};
 ghost use Rattle.iloc_board.specs.Core.{Core, IsWithin, worker_of, look_reply, try_reply, hand_reply, reply_at, reply_to, state_after, after, opening};
 ghost use Rattle.iloc_board.specs.History.{IsExact};
-ghost use Rattle.iloc_board.specs.Play.{Shows, state_in, replies, final, IsLegal, TakesEachOnce, EndsAlike};
+ghost use Rattle.iloc_board.specs.Play.{replies, final, IsLegal, TakesEachOnce, EndsAlike};
+ghost use Rattle.iloc_board.specs.Internal.Machine.{Shows, state_in};
 
 use crate::fault::NoMemory;
 use crate::state::State;

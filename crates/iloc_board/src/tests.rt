@@ -1,4 +1,5 @@
 mod board;
+mod gate;
 mod machine;
 mod tens;
 mod threads;

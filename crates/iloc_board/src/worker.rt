@@ -3,7 +3,8 @@ ghost use Rattle.std.specs.Prelude.{◌≡◌, ◌<◌, true, MatchOption, OnOk,
 ghost use Rattle.iloc_board.specs.declared.state.State.TheVariants as about;
 ghost use Rattle.iloc_board.specs.Core.{is_holding};
 ghost use Rattle.iloc_board.specs.Views.{state};
-ghost use Rattle.iloc_board.specs.Working.{Goes, Ended, Runs, IsDone};
+ghost use Rattle.iloc_board.specs.Working.{Runs, HandsBack, IsDone};
+ghost use Rattle.iloc_board.specs.Internal.Course.{Goes, Ended, HandsNothing};
 
 use crate::board::{Board, Seen, Tried};
 use crate::fault::NoMemory;
@@ -23,6 +24,7 @@ pub fn work<'a, J: Jobs, G: Gate>(
     requires free { state pass.old ≡ about.Free }
     ensures own { pass.new.board ≡ board.now }
     ensures runs { Runs (J.number board.now.jobs) pass.old.journal pass.new.journal }
+    ensures answers { let jobs = board.now.jobs in HandsBack (J.fits jobs) (J.price jobs) pass.old pass.new }
     ensures ok { OnOk result (IsDone pass.new.journal) }
     ensures err { OnErr result (is_holding (state pass.new) ≡ true) }
 {
@@ -42,6 +44,7 @@ fn claim<'a, J: Jobs, G: Gate>(
     requires own { pass.old.board ≡ board.now }
     requires free { state pass.old ≡ about.Free }
     ensures own { pass.new.board ≡ board.now }
+    ensures nothing { HandsNothing pass.old pass.new }
     ensures claimed { MatchOption result
         (Ended (J.number board.now.jobs) pass.old.journal pass.new.journal × IsDone pass.new.journal)
         (λ k. Goes (J.number board.now.jobs) pass.old.journal pass.new.journal × (state pass.new ≡ about.Holding k) × (k < J.number board.now.jobs)) }

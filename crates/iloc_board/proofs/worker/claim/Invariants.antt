@@ -1,9 +1,9 @@
-use Rattle.iloc_board.specs.Working.{left}
+use Rattle.iloc_board.specs.Internal.Course.{left}
 use Rattle.iloc_board.proofs.Claims.{Tries}
 use Rattle.iloc_board.proofs.worker.claim.Given as goal
 
 abbrev pub invariant-loop-job : goal.invariant-loop-job
-invariant-loop-job g l = Tries (g.J.Jobs.number l.board.jobs) l.board l.fn.pass.journal l.pass
+invariant-loop-job g l = Tries (g.J.Jobs.number l.board.jobs) l.board l.fn.pass l.pass
 
 abbrev pub decreases-loop-job : goal.decreases-loop-job
 decreases-loop-job g l = left (g.J.Jobs.number l.board.jobs) l.pass.journal

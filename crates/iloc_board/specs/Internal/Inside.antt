@@ -4,7 +4,7 @@ use Rattle.atomic_table.specs.Seated.{TableId}
 use Rattle.iloc_board.specs.declared.state.State.{State}
 use Rattle.iloc_board.specs.Core.{IsWithin}
 use Rattle.iloc_board.specs.Journal.{state_of, handed, all_handed}
-use Rattle.iloc_board.specs.Rule.{Sat, pass_seat, root_seat}
+use Rattle.iloc_board.specs.Internal.Rule.{Sat, pass_seat, root_seat}
 use Rattle.iloc_board.specs.Views.{PassView, RootView, AllFit, priced}
 
 -- the table was told the number of jobs, and has a word for the next job and one for each cost

@@ -1,5 +1,5 @@
 -- The rule that holds of the board's table between any two steps.
-use Rattle.std.specs.Prelude.{◌≡◌, ◌≢◌, ℕ, suc, ◌<◌, ◌≤◌, cond, ◌==◌, List, [], ◌∷◌, ◌++◌, length}
+use Rattle.std.specs.Prelude.{◌≡◌, ℕ, suc, ◌≤◌, cond, ◌==◌, List, [], ◌∷◌, ◌++◌, length}
 use mathlib.Core.Option.{some}
 use lib.ListN.{get_elem?}
 use Rattle.atomic_table.specs.Table as table
@@ -7,14 +7,14 @@ use Rattle.atomic_table.specs.Table.{Me}
 use Rattle.iloc_board.specs.declared.step.Step.{Step}
 use Rattle.iloc_board.specs.declared.step.Step.TheVariants.{Look, Try, Hand}
 use Rattle.iloc_board.specs.declared.step.Reply.{Reply}
-use Rattle.iloc_board.specs.declared.step.Reply.TheVariants.{Took, Handed, NotNow}
-use Rattle.iloc_board.specs.declared.step.Entry.{Entry}
+use Rattle.iloc_board.specs.declared.step.Reply.TheVariants.{Took, Handed}
 use Rattle.iloc_board.specs.declared.journal.Journal.{Journal}
 use Rattle.iloc_board.specs.declared.seat_view.Role.TheVariants.{Root, Pass, Spent}
 use Rattle.iloc_board.specs.declared.seat_view.SeatView.{SeatView}
-use Rattle.iloc_board.specs.Core.{opening, played, worker_of, found, missed}
+use Rattle.iloc_board.specs.Core.{opening, played, found, missed}
 use Rattle.iloc_board.specs.Journal.{journal_of, entries_of, seen, seen_in, noted}
 use Rattle.iloc_board.specs.Play.{final}
+use Rattle.iloc_board.specs.Collecting.{AllMade, AllAnswered, Apart}
 
 abbrev pub TableState : Type 0
 TableState = table.State (Unit {0}) SeatView
@@ -31,24 +31,10 @@ pass_seat count j = record { role = Pass; count = count; made = 0; gathered = []
 abbrev pub spent_seat : SeatView
 spent_seat = record { role = Spent; count = 0; made = 0; gathered = []; journal = no_journal }
 
--- each step is by a worker that was made
-abbrev pub AllMade : ℕ → List Step → Type 0
-AllMade made [] = Unit {0}
-AllMade made (x ∷ xs) = (worker_of x < made) × AllMade made xs
-
--- no step was forbidden
-abbrev pub AllAnswered : List Entry → Type 0
-AllAnswered [] = Unit {0}
-AllAnswered (e ∷ es) = (e.reply ≢ NotNow) × AllAnswered es
-
 -- the journal is its worker's part of the steps, and shows no more than the next job that they lead to
 pub record Tells (count : ℕ) (steps : List Step) (j : Journal) : Type 0 where
   pub entries : entries_of j.worker (played count (opening count) steps) ≡ j.entries
   pub seen_low : seen count j ≤ (final count steps).next
-
--- no worker stands twice
-abbrev pub Apart : List Journal → Type 0
-Apart js = (a b : ℕ) (i j : Journal) → get_elem? js a ≡ some i → get_elem? js b ≡ some j → i.worker ≡ j.worker → a ≡ b
 
 -- the pass of the worker w has the seat w + 1
 pub record FitsPass (count : ℕ) (steps : List Step) (seat : ℕ) (v : SeatView) : Type 0 where

@@ -1,0 +1,46 @@
+-- How far a worker's run has gone, by what may be left of it.
+use Rattle.std.specs.Prelude.{◌≡◌, ℕ, ◌+◌, ◌*◌, ◌-◌, ◌≤◌, List, length}
+use Rattle.iloc_board.specs.declared.step.Entry.{Entry}
+use Rattle.iloc_board.specs.declared.state.State.{State}
+use Rattle.iloc_board.specs.declared.state.State.TheVariants.{Free, Looked, Holding}
+use Rattle.iloc_board.specs.declared.journal.Journal.{Journal}
+use Rattle.iloc_board.specs.Journal.{seen, state_of, handed}
+use Rattle.iloc_board.specs.Views.{PassView}
+use Rattle.iloc_board.specs.Working.{stales, Adds}
+
+-- how many entries may be left for a worker in this state that has seen so much
+abbrev pub left_in : ℕ → ℕ → State → ℕ
+left_in count low Free = 3 * (count - low) + 1
+left_in count low (Looked k) = 3 * (count - k)
+left_in count low (Holding k) = 3 * (count - k) - 1
+
+abbrev pub left : ℕ → Journal → ℕ
+left count j = left_in count (seen count j) (state_of j.entries)
+
+-- how many of them may come too late
+abbrev pub slack_in : ℕ → ℕ → State → ℕ
+slack_in count low Free = count - low
+slack_in count low (Looked k) = count - k
+slack_in count low (Holding k) = count - low
+
+abbrev pub slack : ℕ → Journal → ℕ
+slack count j = slack_in count (seen count j) (state_of j.entries)
+
+-- on the way: what was added is paid from what was left
+pub record Goes (count : ℕ) (j t : Journal) : Type 0 where
+  pub added : List Entry
+  pub adds : Adds j t added
+  pub few : length added + left count t ≤ left count j
+  pub late : stales added + slack count t ≤ slack count j
+
+-- at the end: no more was added than was left
+pub record Ended (count : ℕ) (j t : Journal) : Type 0 where
+  pub added : List Entry
+  pub adds : Adds j t added
+  pub few : length added ≤ left count j
+  pub late : stales added ≤ slack count j
+
+-- nothing was handed back in between
+pub record HandsNothing {J A : Type 0} (p q : PassView J A) : Type 0 where
+  pub answers : q.answers ≡ p.answers
+  pub each : handed q.journal.entries ≡ handed p.journal.entries
