@@ -1,0 +1,9 @@
+pub mod Standing
+pub mod Counts
+pub mod Greatest
+pub mod Issues
+pub mod Arrivals
+pub mod Turning
+pub mod Landing
+pub mod Following
+pub mod WholeRuns

@@ -1,0 +1,63 @@
+-- Rows whose numbers are operations', and how often an operation stands in them.
+use Rattle.std.proofs.Common.{◌≡◌, ◌<◌, ℕ, ◌+◌, ◌==◌, ◌&&◌, nat_lt, true, List, ◌++◌, length, get_or, take, Option, Some, None, IfSome, count_by, option_to_list, arith, refl, inl, inr}
+use Rattle.std.specs.Prelude.{Contains}
+use Rattle.std.proofs.lemmas.Bool.{and_parts, ltb-true, cases_lt}
+use Rattle.std.proofs.lemmas.List.{get_or_past}
+use Rattle.std.proofs.lemmas.List.Sums.{sum_by-append, sum_by_more, AllPass-from_list_all}
+use Rattle.std.proofs.lemmas.List.Elements.{All-contains}
+use Rattle.std.specs.List.{list_all}
+use Rattle.iloc_text.specs.declared.op.Op.{Op}
+use Rattle.iloc_timed.specs.declared.row.Row.{Row}
+use Rattle.iloc_timed.specs.Rows.{empty_row, row_at, slots, times_issued, keeps_units, IsTable}
+use Rattle.iloc_timed.specs.Schedule.{in_range, is_sound, AreSound, AreInRange, AreOnce}
+
+-- the slots of a sound row have operations' numbers
+pub sound_in_range : (ops : List Op) (row : Row) (i : ℕ) → is_sound ops row ≡ true → Contains (slots row) i → i < length ops
+sound_in_range ops row i sound there =
+    let all : list_all (λ j. nat_lt j (length ops)) (slots row) ≡ true = (and_parts _ (keeps_units ops row) sound).0 in
+    ltb-true i (length ops) (All-contains (λ j. nat_lt j (length ops) ≡ true) (slots row) i (AllPass-from_list_all _ (slots row) all) there)
+
+each_slot : (n : ℕ) (one zero : Option ℕ) → list_all (λ j. nat_lt j n) (option_to_list one ++ option_to_list zero) ≡ true → IfSome one (λ i. i < n) × IfSome zero (λ i. i < n)
+each_slot n None None all = (tt, tt)
+each_slot n None (Some z) all = (tt, ltb-true z n (and_parts (nat_lt z n) true all).0)
+each_slot n (Some o) None all = (ltb-true o n (and_parts (nat_lt o n) true all).0, tt)
+each_slot n (Some o) (Some z) all =
+    let parts : (nat_lt o n ≡ true) × ((nat_lt z n && true) ≡ true) = and_parts (nat_lt o n) _ all in
+    (ltb-true o n parts.0, ltb-true z n (and_parts (nat_lt z n) true parts.1).0)
+
+-- each slot of a row, by unit
+pub in_range_one : (count : ℕ) (row : Row) → in_range count row ≡ true → IfSome row.one (λ i. i < count)
+in_range_one count row all = (each_slot count row.one row.zero all).0
+
+pub in_range_zero : (count : ℕ) (row : Row) → in_range count row ≡ true → IfSome row.zero (λ i. i < count)
+in_range_zero count row all = (each_slot count row.one row.zero all).1
+
+-- sound rows have operations' numbers
+pub sound_rows_in_range : (ops : List Op) (rows : List Row) → AreSound ops rows → AreInRange (length ops) rows
+sound_rows_in_range ops rows sound c within = (and_parts _ (keeps_units ops (row_at rows c)) (sound c within)).0
+
+-- one more row
+pub times_more : (rows : List Row) (c i : ℕ) (d : Row) → c < length rows → times_issued (take (c + 1) rows) i ≡ times_issued (take c rows) i + (count_by (λ j. i == j) (option_to_list (get_or rows c d).zero) + count_by (λ j. i == j) (option_to_list (get_or rows c d).one))
+times_more rows c i d within =
+    let step : times_issued (take (c + 1) rows) i ≡ times_issued (take c rows) i + count_by (λ j. i == j) (slots (get_or rows c d)) = sum_by_more (λ row. count_by (λ j. i == j) (slots row)) rows c d within in
+    let both : count_by (λ j. i == j) (slots (get_or rows c d)) ≡ count_by (λ j. i == j) (option_to_list (get_or rows c d).one) + count_by (λ j. i == j) (option_to_list (get_or rows c d).zero) = sum_by-append _ (option_to_list (get_or rows c d).one) (option_to_list (get_or rows c d).zero) in
+    omega arith
+
+-- sound rows in which each operation stands once are a table
+pub table_from : (ops : List Op) (rows : List Row) → AreSound ops rows → AreOnce (length ops) rows → IsTable ops rows
+table_from ops rows sound once = record {
+  in_range = λ c i there. elim (cases_lt c (length rows)) [
+    | inl within ↦ sound_in_range ops (row_at rows c) i (sound c within) there
+    | inr past ↦
+        let empty : row_at rows c ≡ empty_row = get_or_past rows c empty_row past in
+        let nowhere : Contains (slots empty_row) i = rw empty at there in
+        absurd (omega (arith, nowhere.1))
+  ];
+  once = once;
+  units = λ c. elim (cases_lt c (length rows)) [
+    | inl within ↦ (and_parts _ (keeps_units ops (row_at rows c)) (sound c within)).1
+    | inr past ↦
+        let empty : row_at rows c ≡ empty_row = get_or_past rows c empty_row past in
+        rw empty refl
+  ];
+}

@@ -1,0 +1,7 @@
+pub mod Kinds
+pub mod Latency
+pub mod Rows
+pub mod Schedule
+pub mod Cycles
+pub mod Timed
+pub mod running

@@ -1,0 +1,19 @@
+-- The wheel of what is under way: a list for each cycle, modulo 16.
+use Rattle.std.specs.Prelude.{ℕ, ◌+◌, ◌%◌, ◌≡◌, ◌<◌, ◌≤◌, ◌==◌, if◌then◌else◌, List, [], ◌∷◌, ◌++◌, length, slice_index_or, option_to_list}
+use Rattle.iloc_timed.specs.declared.wheel.Pending.{Pending}
+use Rattle.iloc_timed.specs.Timed.{Issued}
+use Rattle.iloc_timed.specs.running.Pending.{sent}
+
+-- the list of cycle c
+abbrev pub list_at : List (List Pending) → ℕ → List Pending
+list_at lists c = slice_index_or lists (c % 16) []
+
+-- what is due at cycle c, in order of issue
+abbrev pub due_at : ℕ → List Issued → List Pending
+due_at c [] = []
+due_at c (e ∷ earlier) = due_at c earlier ++ (if e.due == c then option_to_list (sent e.executed) else [])
+
+-- the lists of the 16 cycles from c on have what is due then
+pub record AreUnderWay (c : ℕ) (log : List Issued) (lists : List (List Pending)) : Type 0 where
+  pub count : length lists ≡ 16
+  pub due : (d : ℕ) → c ≤ d → d < c + 16 → list_at lists d ≡ due_at d log

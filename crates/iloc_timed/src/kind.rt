@@ -1,0 +1,44 @@
+//! The kinds of operations that the machine tells apart.
+ghost use Rattle.std.specs.Prelude.{◌≡◌};
+ghost use Rattle.iloc_timed.specs.Kinds.{kind};
+
+use iloc_text::Op;
+
+/// What an operation is to the units and to the memory.
+#[derive(Clone, Copy, Debug, PartialEq, Eq)]
+pub enum Kind {
+    /// `load` and `loadAI`.
+    Load,
+    /// `store` and `storeAI`.
+    Store,
+    /// `mult` and `multI`.
+    Mult,
+    /// `output`.
+    Output,
+    /// Every other, `nop` among them.
+    Other,
+}
+
+impl Kind {
+    /// The kind of an operation.
+    pub fn of(op: &Op) -> Kind
+        ensures { result ≡ kind op.now }
+    {
+        match op {
+            Op::Load { .. } | Op::LoadAI { .. } => Kind::Load,
+            Op::Store { .. } | Op::StoreAI { .. } => Kind::Store,
+            Op::Mult { .. } | Op::MultI { .. } => Kind::Mult,
+            Op::Output { .. } => Kind::Output,
+            Op::LoadI { .. }
+            | Op::Add { .. }
+            | Op::Sub { .. }
+            | Op::Lshift { .. }
+            | Op::Rshift { .. }
+            | Op::Nop
+            | Op::AddI { .. }
+            | Op::SubI { .. }
+            | Op::LshiftI { .. }
+            | Op::RshiftI { .. } => Kind::Other,
+        }
+    }
+}

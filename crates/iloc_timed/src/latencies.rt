@@ -1,0 +1,55 @@
+//! How many cycles operations take.
+ghost use Rattle.std.specs.Prelude.{◌≡◌, ◌≤◌, ◌↔◌, IsSome, IfSome};
+
+/// The latencies of loads, stores and products, in cycles, each from 1 to 16. Every other operation
+/// takes one cycle.
+#[derive(Clone, Copy, Debug, PartialEq, Eq)]
+pub struct Latencies {
+    /// Of `load` and `loadAI`.
+    pub load: u32,
+    /// Of `store` and `storeAI`.
+    pub store: u32,
+    /// Of `mult` and `multI`.
+    pub mult: u32,
+    pub ghost some_load: { 1 ≤ load },
+    pub ghost short_load: { load ≤ 16 },
+    pub ghost some_store: { 1 ≤ store },
+    pub ghost short_store: { store ≤ 16 },
+    pub ghost some_mult: { 1 ≤ mult },
+    pub ghost short_mult: { mult ≤ 16 },
+}
+
+impl Latencies {
+    ghost use Rattle.iloc_timed.specs.Latency.{IsLatency};
+
+    /// These latencies; `None` where one of them isn't from 1 to 16.
+    pub fn new(load: u32, store: u32, mult: u32) -> Option<Latencies>
+        ensures within { IsSome result ↔ (IsLatency load × IsLatency store × IsLatency mult) }
+        ensures load { IfSome result (λ latencies. latencies.load ≡ load) }
+        ensures store { IfSome result (λ latencies. latencies.store ≡ store) }
+        ensures mult { IfSome result (λ latencies. latencies.mult ≡ mult) }
+    {
+        let within = |latency: u32| (1..=16).contains(&latency);
+        if within(load) && within(store) && within(mult) {
+            Some(Latencies { load, store, mult })
+        } else {
+            None
+        }
+    }
+
+    /// Loads and stores take five cycles, products three.
+    pub fn usual() -> Latencies
+        ensures load { result.load ≡ 5 }
+        ensures store { result.store ≡ 5 }
+        ensures mult { result.mult ≡ 3 }
+    {
+        Latencies {
+            load: 5,
+            store: 5,
+            mult: 3,
+        }
+    }
+}
+
+#[cfg(test)]
+mod tests;

@@ -1,0 +1,22 @@
+//! Schedules for a machine with two units, and what the machine does with them: latencies, rows, cycles, the
+//! timed run.
+#![tactic(auto)]
+
+mod build_fault;
+mod kind;
+mod latencies;
+mod machine;
+mod row;
+mod run;
+mod schedule;
+mod slots;
+mod timing;
+mod wheel;
+
+pub use build_fault::BuildFault;
+pub use kind::Kind;
+pub use latencies::Latencies;
+pub use row::Row;
+pub use run::run_schedule;
+pub use schedule::{MAX_ROWS, Schedule};
+pub use timing::{cycles, latency};

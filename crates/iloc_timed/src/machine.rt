@@ -1,0 +1,167 @@
+//! A schedule in mid-run.
+ghost use Rattle.std.specs.Prelude.{ℕ, ◌≡◌, ◌+◌, ◌<◌, ◌≤◌, pos, [], List, ℤ, length, fold, option_to_list, All, IfOk, OnOk, IfSome, IsTrue};
+ghost use Rattle.iloc_text.specs.declared.op.Reg.{Reg as Register};
+ghost use Rattle.iloc_meaning.specs.Address.{is_good};
+ghost use Rattle.iloc_meaning.specs.Memory.{word_at};
+ghost use Rattle.iloc_meaning.specs.Registers.{value_of};
+ghost use Rattle.iloc_timed.specs.running.Pending.{landed_in_register, landed_in_word, CanLand};
+
+use crate::latencies::Latencies;
+use crate::row::Row;
+use crate::schedule::MAX_ROWS;
+use crate::timing::latency;
+use crate::wheel::{LONGEST, Pending, Wheel};
+use iloc_meaning::{Effect, Memory, Registers, WORDS};
+use iloc_text::{NoMemory, Op, defines};
+use std::alloc::Global;
+
+/// Writes a result where it goes.
+fn land_one(
+    registers: &mut Registers,
+    memory: &mut Memory,
+    pending: Pending,
+) -> Result<(), NoMemory>
+    requires { CanLand pending }
+    ensures registers { OnOk result ((r : Register) → value_of registers.new r ≡ landed_in_register r (value_of registers.old r) pending) }
+    ensures words { OnOk result ((a : ℕ) → IsTrue (is_good (pos a)) → word_at memory.new a ≡ landed_in_word a (word_at memory.old a) pending) }
+    ensures size { length memory.new ≡ length memory.old }
+{
+    match pending {
+        Pending::Register { register, value } => registers.set(register, value)?,
+        Pending::Word { address, word } => memory.set(address, word),
+    }
+    Ok(())
+}
+
+/// Writes results where they go, in order.
+fn land_all(registers: &mut Registers, memory: &mut Memory, due: &[Pending]) -> Result<(), NoMemory>
+    requires { All CanLand due.now }
+    ensures registers { OnOk result ((r : Register) → value_of registers.new r ≡ fold (landed_in_register r) (value_of registers.old r) due.now) }
+    ensures words { OnOk result ((a : ℕ) → IsTrue (is_good (pos a)) → word_at memory.new a ≡ fold (landed_in_word a) (word_at memory.old a) due.now) }
+    ensures size { OnOk result (length memory.new ≡ length memory.old) }
+{
+    for pending in due {
+        land_one(registers, memory, *pending)?;
+    }
+    Ok(())
+}
+
+/// A schedule in mid-run: what was due is written, and the rest is under way.
+#[derive(Drop)]
+pub(crate) struct Machine {
+    registers: Registers,
+    pub(crate) memory: Memory,
+    pub(crate) outputs: Vec<i32>,
+    wheel: Wheel,
+}
+
+impl Machine {
+    ghost use Rattle.std.specs.Prelude.{List, ℤ};
+    ghost use Rattle.iloc_timed.specs.Timed.{Issued, issue_all};
+    ghost use Rattle.iloc_timed.specs.Rows.{slots};
+    ghost use Rattle.iloc_timed.specs.running.Machine.{then_issued, Follows, After};
+
+    /// All registers 0, this memory, nothing under way.
+    pub(crate) fn new(alloc: Global, memory: Memory) -> Result<Machine, NoMemory>
+        ensures { IfOk result (Follows memory 0 []) }
+    {
+        prove_eq!(memory.word_count(), WORDS);
+        Ok(Machine {
+            registers: Registers::new(alloc),
+            memory,
+            outputs: Vec::new(alloc),
+            wheel: Wheel::new(alloc)?,
+        })
+    }
+
+    /// Writes what is due at a cycle.
+    fn land(&mut self, cycle: usize) -> Result<(), NoMemory>
+        ensures { OnOk result ((memory : List ℤ) (log : List Issued) →
+            Follows memory cycle log self.old → Follows memory (cycle + 1) log self.new) }
+    {
+        land_all(&mut self.registers, &mut self.memory, self.wheel.due(cycle))?;
+        self.wheel.clear(cycle);
+        Ok(())
+    }
+
+    /// Issues an operation whose result is due at a cycle. Answers whether the run goes on: it ends
+    /// at a fault.
+    fn issue(&mut self, op: &Op, due: usize) -> Result<bool, NoMemory>
+        ensures { IfOk result (λ goes_on. (memory : List ℤ) (c : ℕ) (log : List Issued) →
+            c ≤ due → due < c + 16 → Follows memory c log self.old →
+            After goes_on memory c (then_issued memory c due op.now log) self.new) }
+    {
+        match Effect::of(op, &self.registers, &self.memory) {
+            Effect::Faults => return Ok(false),
+            Effect::Gives(value) => {
+                if let Some(register) = defines(op) {
+                    self.wheel.push(due, Pending::Register { register, value })?;
+                }
+            }
+            Effect::Writes { address, word } => {
+                self.wheel.push(due, Pending::Word { address, word })?;
+            }
+            Effect::Emits(word) => self.outputs.push(word)?,
+            Effect::Nothing => {}
+        }
+        Ok(true)
+    }
+
+    /// Issues the operation in a slot. Answers whether the run goes on.
+    fn issue_slot(
+        &mut self,
+        ops: &[Op],
+        slot: Option<usize>,
+        cycle: usize,
+        latencies: &Latencies,
+    ) -> Result<bool, NoMemory>
+        requires known { IfSome slot (λ i. i < length ops.now) }
+        requires early { cycle ≤ MAX_ROWS }
+        ensures { IfOk result (λ goes_on. (memory : List ℤ) (log : List Issued) →
+            Follows memory (cycle + 1) log self.old →
+            After goes_on memory (cycle + 1) (issue_all latencies.now memory ops.now cycle (option_to_list slot) log) self.new) }
+    {
+        match slot {
+            Some(i) => {
+                let op = &ops[i];
+                self.issue(op, cycle + latency(op, latencies) as usize)
+            }
+            None => Ok(true),
+        }
+    }
+
+    /// Writes what is due at a cycle, and issues the operations of its row. Answers whether the run
+    /// goes on.
+    pub(crate) fn run_row(
+        &mut self,
+        ops: &[Op],
+        row: Row,
+        cycle: usize,
+        latencies: &Latencies,
+    ) -> Result<bool, NoMemory>
+        requires zero { IfSome row.zero (λ i. i < length ops.now) }
+        requires one { IfSome row.one (λ i. i < length ops.now) }
+        requires early { cycle ≤ MAX_ROWS }
+        ensures { IfOk result (λ goes_on. (memory : List ℤ) (log : List Issued) →
+            Follows memory cycle log self.old →
+            After goes_on memory (cycle + 1) (issue_all latencies.now memory ops.now cycle (slots row) log) self.new) }
+    {
+        self.land(cycle)?;
+        if !self.issue_slot(ops, row.zero, cycle, latencies)? {
+            return Ok(false);
+        }
+        self.issue_slot(ops, row.one, cycle, latencies)
+    }
+
+    /// Writes whatever is under way, from a cycle on.
+    pub(crate) fn land_rest(&mut self, from: usize) -> Result<(), NoMemory>
+        requires { from ≤ MAX_ROWS }
+        ensures { OnOk result ((memory : List ℤ) (log : List Issued) →
+            Follows memory from log self.old → Follows memory (from + 16) log self.new) }
+    {
+        for cycle in from..from + LONGEST {
+            self.land(cycle)?;
+        }
+        Ok(())
+    }
+}

@@ -1,0 +1,84 @@
+//! Schedules: operations, and the rows in which they are issued.
+ghost use Rattle.std.specs.Prelude.{◌≡◌, ◌≤◌, length, vec_len, IfOk, OnOk, IfErr};
+ghost use Rattle.iloc_timed.specs.Rows.{IsTable};
+ghost use Rattle.iloc_timed.specs.Schedule.{IsReason};
+
+use crate::build_fault::BuildFault;
+use crate::row::Row;
+use crate::slots::{first_bad_row, first_not_once};
+use iloc_text::Op;
+use std::alloc::Global;
+use std::marker::Model;
+
+/// The most rows that a schedule may have.
+pub const MAX_ROWS: usize = 4_000_000_000;
+
+/// Operations, and the rows in which they are issued, the first in cycle 0. Each number in a row is
+/// an operation's, each operation stands in exactly one slot, and each row keeps the rules of the
+/// units: loads and stores on unit 0, products on unit 1, at most one output.
+#[derive(Debug, Drop)]
+pub struct Schedule {
+    ops: Vec<Op>,
+    rows: Vec<Row>,
+}
+
+impl Model for Schedule {
+    ghost use Rattle.std.specs.Prelude.{◌≤◌, vec_len};
+    ghost use Rattle.iloc_timed.specs.Rows.{IsTable};
+    ghost use Rattle.iloc_timed.specs.Schedule.{Table};
+
+    ghost Value = { Table };
+
+    ghost view = { λ schedule. record { ops = schedule.ops.items; rows = schedule.rows.items } };
+
+    ghost invariant = { λ schedule. IsTable schedule.ops.items schedule.rows.items × (vec_len schedule.rows ≤ 4_000_000_000) };
+}
+
+impl Schedule {
+    /// The schedule of these operations in these rows, tested in one pass over the rows and one over
+    /// the operations.
+    pub fn new(alloc: Global, ops: Vec<Op>, rows: Vec<Row>) -> Result<Schedule, BuildFault>
+        requires { vec_len rows ≤ MAX_ROWS }
+        ensures table { OnOk result (IsTable ops.items rows.items) }
+        ensures ops { IfOk result (λ schedule. schedule.ops ≡ ops.items) }
+        ensures rows { IfOk result (λ schedule. schedule.rows ≡ rows.items) }
+        ensures reason { IfErr result (IsReason ops.items rows.items) }
+    {
+        if let Some(c) = first_bad_row(&ops, &rows) {
+            return Err(BuildFault::BadRow(c));
+        }
+        if let Some(i) = first_not_once(alloc, ops.len(), &rows)? {
+            return Err(BuildFault::NotOnce(i));
+        }
+        Ok(Schedule { ops, rows })
+    }
+
+    /// The schedule of these operations in these rows, where the rules are known to hold.
+    pub fn of_table(ops: Vec<Op>, rows: Vec<Row>) -> Schedule
+        requires table { IsTable ops.items rows.items }
+        requires few { vec_len rows ≤ MAX_ROWS }
+        ensures ops { result.ops ≡ ops.items }
+        ensures rows { result.rows ≡ rows.items }
+    {
+        Schedule { ops, rows }
+    }
+
+    /// The operations, by their numbers.
+    pub fn ops(&self) -> &[Op]
+        ensures ops { result.now ≡ self.now.ops }
+        ensures table { IsTable self.now.ops self.now.rows }
+    {
+        self.ops.as_slice()
+    }
+
+    /// The rows, by their cycles.
+    pub fn rows(&self) -> &[Row]
+        ensures rows { result.now ≡ self.now.rows }
+        ensures few { length self.now.rows ≤ MAX_ROWS }
+    {
+        self.rows.as_slice()
+    }
+}
+
+#[cfg(test)]
+mod tests;

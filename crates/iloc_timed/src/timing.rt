@@ -1,0 +1,49 @@
+//! How long operations and schedules take.
+ghost use Rattle.std.specs.Prelude.{◌≡◌, ◌+◌, ◌<◌, ◌≤◌, length, IfSome, unwrap_or, option_map};
+ghost use Rattle.iloc_meaning.specs.Trace.{op_at};
+ghost use Rattle.iloc_timed.specs.Latency.{latency, IsLatency};
+ghost use Rattle.iloc_timed.specs.Cycles.{cycles};
+
+use crate::kind::Kind;
+use crate::latencies::Latencies;
+use crate::schedule::{MAX_ROWS, Schedule};
+use iloc_text::Op;
+
+/// How many cycles after its issue the result of an operation arrives.
+pub fn latency(op: &Op, latencies: &Latencies) -> u64
+    ensures latency { result ≡ latency latencies.now op.now }
+    ensures within { IsLatency result }
+{
+    match Kind::of(op) {
+        Kind::Load => u64::from(latencies.load),
+        Kind::Store => u64::from(latencies.store),
+        Kind::Mult => u64::from(latencies.mult),
+        Kind::Output | Kind::Other => 1,
+    }
+}
+
+/// When the result of what is issued in a slot arrives; 0 for an empty slot.
+fn arrival(ops: &[Op], latencies: &Latencies, cycle: usize, slot: Option<usize>) -> u64
+    requires issued { IfSome slot (λ i. i < length ops.now) }
+    requires early { cycle ≤ MAX_ROWS }
+    ensures { result ≡ unwrap_or (option_map (λ i. cycle + latency latencies.now (op_at ops.now i)) slot) 0 }
+{
+    match slot {
+        Some(i) => cycle as u64 + latency(&ops[i], latencies),
+        None => 0,
+    }
+}
+
+/// How many cycles a schedule takes, until its last result has arrived: the greatest cycle of issue
+/// and latency together, 0 where there is no operation.
+pub fn cycles(schedule: &Schedule, latencies: &Latencies) -> u64
+    ensures { result ≡ cycles latencies.now schedule.now.ops schedule.now.rows }
+{
+    let ops = schedule.ops();
+    let mut last = 0;
+    for (cycle, row) in schedule.rows().iter().enumerate() {
+        last = arrival(ops, latencies, cycle, row.zero).max(last);
+        last = arrival(ops, latencies, cycle, row.one).max(last);
+    }
+    last
+}
