@@ -1,0 +1,61 @@
+-- Lists in which a relation holds of each element and each later one.
+use Rattle.std.proofs.Common.{◌≡◌, ℕ, zero, suc, ◌<◌, ◌⊎◌, List, [], ◌∷◌, ◌++◌, length, map, get_or, refl, arith, inl, inr}
+use Rattle.std.specs.List.{AllPairs}
+use Rattle.iloc_sched.proofs.Members.{In}
+
+pub in_left : {X : Type 0} (xs ys : List X) (x : X) → In xs x → In (xs ++ ys) x
+in_left [] ys x there = absurd there
+in_left (z ∷ xs) ys x (inl here) = inl here
+in_left (z ∷ xs) ys x (inr there) = inr (in_left xs ys x there)
+
+pub in_right : {X : Type 0} (xs ys : List X) (x : X) → In ys x → In (xs ++ ys) x
+in_right [] ys x there = there
+in_right (z ∷ xs) ys x there = inr (in_right xs ys x there)
+
+pub from_append : {X : Type 0} (xs ys : List X) (x : X) → In (xs ++ ys) x → In xs x ⊎ In ys x
+from_append [] ys x there = inr there
+from_append (z ∷ xs) ys x (inl here) = inl (inl here)
+from_append (z ∷ xs) ys x (inr there) = elim (from_append xs ys x there) [
+  | inl left ↦ inl (inr left)
+  | inr right ↦ inr right
+]
+
+pub from_map : {X Y : Type 0} (f : X → Y) (xs : List X) (y : Y) → In (map f xs) y → (x : X) × In xs x × (f x ≡ y)
+from_map f [] y there = absurd there
+from_map f (x ∷ xs) y (inl here) = (x, inl refl, here)
+from_map f (x ∷ xs) y (inr there) = let rest = from_map f xs y there in (rest.0, inr rest.1, rest.2)
+
+-- R holds of each element and each later one
+abbrev pub Ordered : {X : Type 0} → (X → X → Type 0) → List X → Type 0
+Ordered R [] = Unit {0}
+Ordered {X} R (x ∷ xs) = ((y : X) → In xs y → R x y) × Ordered R xs
+
+in_at : {X : Type 0} (xs : List X) (k : ℕ) (d : X) → k < length xs → In xs (get_or xs k d)
+in_at [] k d below = absurd (omega arith)
+in_at (x ∷ xs) zero d below = inl refl
+in_at (x ∷ xs) (suc k) d below = inr (in_at xs k d (omega arith))
+
+pub all_pairs : {X : Type 0} (R : X → X → Type 0) (xs : List X) → Ordered R xs → AllPairs R xs
+all_pairs R [] ordered i j d before below = absurd (omega arith)
+all_pairs R (x ∷ xs) ordered zero zero d before below = absurd (omega arith)
+all_pairs R (x ∷ xs) ordered zero (suc j) d before below = ordered.0 (get_or xs j d) (in_at xs j d (omega arith))
+all_pairs R (x ∷ xs) ordered (suc i) zero d before below = absurd (omega arith)
+all_pairs R (x ∷ xs) ordered (suc i) (suc j) d before below =
+    all_pairs R xs ordered.1 i j d (omega arith) (omega arith)
+
+pub ordered_append : {X : Type 0} (R : X → X → Type 0) (xs ys : List X) → Ordered R xs → Ordered R ys → ((x y : X) → In xs x → In ys y → R x y) → Ordered R (xs ++ ys)
+ordered_append R [] ys left right across = right
+ordered_append R (x ∷ xs) ys left right across = (
+  λ y there. elim (from_append xs ys y there) [
+    | inl before ↦ left.0 y before
+    | inr after ↦ across x y (inl refl) after
+  ],
+  ordered_append R xs ys left.1 right (λ a b in_xs in_ys. across a b (inr in_xs) in_ys),
+)
+
+pub ordered_map : {X Y : Type 0} (R : X → X → Type 0) (S : Y → Y → Type 0) (f : X → Y) (xs : List X) → ((a b : X) → R a b → S (f a) (f b)) → Ordered R xs → Ordered S (map f xs)
+ordered_map R S f [] keeps ordered = tt
+ordered_map R S f (x ∷ xs) keeps ordered = (
+  λ y there. let found = from_map f xs y there in rw (← found.2) (keeps x found.0 (ordered.0 found.0 found.1)),
+  ordered_map R S f xs keeps ordered.1,
+)

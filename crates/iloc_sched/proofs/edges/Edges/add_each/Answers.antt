@@ -1,0 +1,29 @@
+use Rattle.std.proofs.Common.{ℕ, ◌<◌, length, take, sym, subst, arith}
+use Rattle.std.proofs.lemmas.List.{take_more, take_all}
+use Rattle.iloc_sched.specs.steps.Members.{In}
+use Rattle.iloc_sched.specs.steps.PartialGraph.{AddsFrom}
+use Rattle.iloc_sched.specs.steps.Views.{graph_of}
+use Rattle.iloc_sched.proofs.steps.Adding.{in_at, adds_more}
+use Rattle.iloc_sched.proofs.edges.Edges.add_each.Goals as goal
+
+pub add-requires-clause-there : goal.add-requires-clause-there
+add-requires-clause-there c =
+    let below : c.loop-i.i-index < length c.args.from.now = omega arith in
+    omega (arith, c.requires.there _ (in_at c.args.from.now c.loop-i.i-index 0 below))
+
+pub loop-i-preserved : goal.loop-i-preserved
+loop-i-preserved c =
+    let k : ℕ = c.loop-i.i-index in
+    let xs = c.args.from.now in
+    let below : k < length xs = omega arith in
+    record {
+      adds = subst (λ ys. AddsFrom (In ys) (graph_of c.args.self.now) (graph_of c.add.new.self) c.args.to c.args.delay) (sym (take_more xs k 0 below))
+          (adds_more (take k xs) _ (graph_of c.args.self.now) (graph_of c.loop-i.self) (graph_of c.add.new.self) c.args.to c.args.delay c.loop-i.invariant.adds c.in_ok-add.ensures.adds);
+      count = omega (arith, c.in_ok-add.ensures.count);
+      heads = omega arith;
+      starts = cc;
+    }
+
+pub returns-clause-adds : goal.returns-clause-adds
+returns-clause-adds c =
+    subst (λ ys. AddsFrom (In ys) (graph_of c.args.self.now) (graph_of c.loop-i.self) c.args.to c.args.delay) (take_all c.loop-i.i-index c.args.from.now (omega arith)) c.loop-i.invariant.adds

@@ -1,0 +1,34 @@
+use Rattle.std.proofs.Common.{◌≡◌, ◌<◌, length, Some, sym, ◌∙◌, ap, arith}
+use Rattle.std.proofs.lemmas.List.{get_or_default}
+use Rattle.std.proofs.lemmas.Result.{on_ok_weaker}
+use Rattle.iloc_text.specs.declared.op.Op.TheVariants.{Nop}
+use Rattle.iloc_meaning.specs.Trace.{op_at}
+use Rattle.iloc_timed.specs.Latency.{latency}
+use Rattle.iloc_sched.specs.steps.Lasts.{definer}
+use Rattle.iloc_sched.specs.steps.PartialGraph.{AddsFrom, Grows, CoversUse}
+use Rattle.iloc_sched.specs.steps.Views.{graph_of}
+use Rattle.iloc_sched.proofs.steps.Covering.{definer_there}
+use Rattle.iloc_sched.proofs.steps.Adding.{adds_use}
+use Rattle.iloc_sched.proofs.edges.Edges.add_use.Goals as goal
+
+abbrev Both : goal.After-add → Type 0
+Both c =
+    AddsFrom (λ i. i ≡ c.in-Some.i) (graph_of c.args.self.now) (graph_of c.add.new.self) c.args.j c.latency.result
+    → Grows c.args.latencies.now c.args.ops.now (graph_of c.args.self.now) (graph_of c.add.new.self) c.args.j
+    × CoversUse c.args.latencies.now c.args.ops.now (graph_of c.add.new.self) c.args.j c.args.register
+
+both : (c : goal.After-add) → Both c
+both c =
+    let ops = c.args.ops.now in
+    let at : definer c.args.lasts.now.definers c.args.register.0 ≡ Some c.in-Some.i = sym c.get.ensures ∙ c.in-Some.is in
+    let earlier : c.in-Some.i < c.args.j = (definer_there c.args.latencies.now ops c.args.j c.args.lasts.now c.requires.lasts c.args.register c.in-Some.i at).0 in
+    let there : c.in-Some.i < length ops = omega arith in
+    let long : c.latency.result ≡ latency c.args.latencies.now (op_at ops c.in-Some.i) = c.latency.ensures.latency ∙ ap (latency c.args.latencies.now) (get_or_default ops c.in-Some.i _ Nop there) in
+    adds_use c.args.latencies.now ops c.args.lasts.now c.args.j c.requires.lasts c.requires.there (graph_of c.args.self.now) (graph_of c.add.new.self) c.args.register c.in-Some.i c.latency.result
+    c.requires.renamed c.requires.used c.requires.partial at long
+
+pub returns-in-Some-clause-grows : goal.returns-in-Some-clause-grows
+returns-in-Some-clause-grows c = on_ok_weaker c.add.result (λ adds. (both c adds).0) c.add.ensures.adds
+
+pub returns-in-Some-clause-covers : goal.returns-in-Some-clause-covers
+returns-in-Some-clause-covers c = on_ok_weaker c.add.result (λ adds. (both c adds).1) c.add.ensures.adds

@@ -1,0 +1,19 @@
+use Rattle.std.proofs.Common.{◌≡◌, length, refl, subst, arith}
+use Rattle.iloc_sched.specs.steps.PartialGraph.{IsPartialGraph}
+use Rattle.iloc_sched.specs.steps.Views.{graph_of}
+use Rattle.iloc_sched.proofs.steps.PartialGraphs.{kept_at_end}
+use Rattle.iloc_sched.proofs.edges.Edges.of.Goals as goal
+
+pub loop-j-init : goal.loop-j-init
+loop-j-init c = record {
+  partial = c.in_ok-edges.ensures.partial c.args.latencies.now c.args.ops.now refl;
+  lasts = c.in_ok-lasts.ensures.lasts c.args.ops.now;
+  starts = c.in_ok-edges.ensures.starts;
+  count = omega (arith, c.in_ok-edges.ensures.edges, c.in_ok-lasts.ensures.loads);
+}
+
+pub returns-clause-graph : goal.returns-clause-graph
+returns-clause-graph c =
+    let at_end : c.loop-j.j ≡ length c.args.ops.now = omega arith in
+    kept_at_end c.args.latencies.now c.args.ops.now (graph_of c.loop-j.edges)
+    (subst (λ n. IsPartialGraph c.args.latencies.now c.args.ops.now (graph_of c.loop-j.edges) n) at_end c.loop-j.invariant.partial)

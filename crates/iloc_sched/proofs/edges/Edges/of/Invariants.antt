@@ -1,0 +1,13 @@
+use Rattle.std.proofs.Common.{◌≡◌, ◌+◌, ◌*◌, ◌≤◌, length}
+use Rattle.iloc_sched.specs.steps.Lasts.{IsLasts}
+use Rattle.iloc_sched.specs.steps.PartialGraph.{IsPartialGraph}
+use Rattle.iloc_sched.specs.steps.Views.{graph_of}
+use Rattle.iloc_sched.proofs.edges.Edges.of.Given as goal
+
+abbrev pub invariant-loop-j : goal.invariant-loop-j
+invariant-loop-j l = record {
+  partial : IsPartialGraph l.latencies l.ops (graph_of l.edges) l.j;
+  lasts : IsLasts l.ops l.lasts l.j;
+  starts : length l.edges.starts.items ≡ l.j + 1;
+  count : length l.edges.edges.items + length l.lasts.loads.items ≤ 5 * l.j;
+}

@@ -1,0 +1,5 @@
+use Rattle.iloc_sched.proofs.Bounds.{busy_bound}
+use Rattle.iloc_sched.proofs.laws.latencies_bound_the_cycles.Goals as goal
+
+pub returns : goal.returns
+returns c = busy_bound

@@ -1,0 +1,10 @@
+use Rattle.iloc_sched.specs.Renaming.{renamed}
+use Rattle.iloc_sched.proofs.Existing.{greedy_exists}
+use Rattle.iloc_sched.proofs.OneGreedy.{greedy_same}
+use Rattle.iloc_sched.proofs.laws.one_greedy_schedule.Goals as goal
+
+pub returns : goal.returns
+returns c = record {
+  exists = λ lat block. (renamed block, (greedy_exists lat block).0, (greedy_exists lat block).1);
+  same = greedy_same;
+}

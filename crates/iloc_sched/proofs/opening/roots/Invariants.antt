@@ -1,0 +1,6 @@
+use Rattle.iloc_sched.specs.steps.Opening.{AreRoots}
+use Rattle.iloc_sched.specs.steps.Views.{graph_of}
+use Rattle.iloc_sched.proofs.opening.roots.Given as goal
+
+abbrev pub invariant-loop-j : goal.invariant-loop-j
+invariant-loop-j l = AreRoots (graph_of l.edges) l.roots.items l.j

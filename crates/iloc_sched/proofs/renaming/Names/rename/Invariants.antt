@@ -1,0 +1,11 @@
+use Rattle.std.proofs.Common.{◌≡◌, ◌+◌, ◌≤◌, List, length, take}
+use Rattle.iloc_text.specs.declared.op.Op.{Op}
+use Rattle.iloc_sched.specs.steps.Naming.{Named, UsesNamed}
+use Rattle.iloc_sched.specs.steps.Names.{current_of}
+use Rattle.iloc_sched.proofs.renaming.Names.rename.Given as goal
+
+abbrev pub invariant-loop-register : goal.invariant-loop-register
+invariant-loop-register l =
+    (length l.names.items ≡ l.register-index)
+    × (l.self.given ≤ l.initial.self.given + l.register-index)
+    × ((done : List Op) → Named done l.initial.self.given (current_of l.initial.self) → UsesNamed done (take l.register-index l.register-items) l.names.items l.self.given (current_of l.self))

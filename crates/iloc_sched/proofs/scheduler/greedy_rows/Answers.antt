@@ -1,0 +1,43 @@
+use Rattle.std.proofs.Common.{◌≡◌, ◌+◌, ◌<◌, ◌≤◌, [], length, refl, sym, subst, ◌∙◌, ap, arith}
+use Rattle.iloc_timed.specs.Rows.{row_at, slots}
+use Rattle.iloc_sched.specs.steps.SoFar.{IsSoFar, waiting_count}
+use Rattle.iloc_sched.proofs.steps.RowsMade.{few_rows, greedy_at_end}
+use Rattle.iloc_sched.proofs.steps.Opening.{so_far_opened}
+use Rattle.iloc_sched.proofs.scheduler.greedy_rows.Goals as goal
+
+pub loop-left-init : goal.loop-left-init
+loop-left-init c =
+    let p = c.args.plan.now in
+    let none : c.new-rows.result.items ≡ [] = c.new-rows.ensures.items in
+    let empty : length c.new-rows.result.items ≡ 0 = ap length none in
+    let size : length p.edges.heads.items ≡ length p.ops.items = c.requires.graph.size in
+    let count : waiting_count c.in_ok-waiting.waiting ≡ length p.edges.heads.items = c.in_ok-waiting.ensures.count in
+    record {
+      so_far = subst (λ rows. IsSoFar p c.in_ok-waiting.waiting c.new-queues.result rows) (sym none)
+          (so_far_opened p c.in_ok-waiting.waiting c.new-queues.result c.in_ok-waiting.ensures.waits c.in_ok-waiting.ensures.sized c.in_ok-waiting.ensures.none c.new-queues.ensures);
+      left = omega (arith, c.len-left.ensures, p.ops.ok.0);
+      last = λ zero n one. absurd (omega arith);
+      few = omega arith;
+    }
+
+pub loop-left-preserved : goal.loop-left-preserved
+loop-left-preserved c =
+    let p = c.args.plan.now in
+    let inv = c.loop-left.invariant in
+    let left : c.loop-left.left ≡ waiting_count c.loop-left.waiting = inv.left in
+    let few : length c.loop-left.rows.items ≤ 160000 = few_rows p c.loop-left.waiting c.loop-left.queues c.loop-left.rows.items c.requires inv.so_far (omega arith) in
+    let more : length c.step.new.rows.items ≡ length c.loop-left.rows.items + 1 = c.in_ok-left.ensures.length in
+    record {
+      so_far = c.in_ok-left.ensures.so_far;
+      left = omega (arith, c.in_ok-left.ensures.count);
+      last = λ none n one empty.
+          let at : n ≡ length c.loop-left.rows.items = omega arith in
+          c.in_ok-left.ensures.filled (omega (arith, c.in_ok-left.ensures.count)) (subst (λ k. slots (row_at c.step.new.rows.items k) ≡ []) at empty);
+      few = omega arith;
+    }
+
+pub returns-clause-greedy : goal.returns-clause-greedy
+returns-clause-greedy c = λ block is.
+    let inv = c.loop-left.invariant in
+    let left : c.loop-left.left ≡ waiting_count c.loop-left.waiting = inv.left in
+    greedy_at_end c.args.plan.now c.loop-left.waiting c.loop-left.queues c.loop-left.rows.items block c.requires inv.so_far (omega arith) (inv.last (omega arith)) is

@@ -1,0 +1,23 @@
+-- Lemmas on what the scheduler's loops keep.
+pub mod Cases
+pub mod Lists
+pub mod LastOnes
+pub mod PartialGraphs
+pub mod Covering
+pub mod Noting
+pub mod Adding
+pub mod Raising
+pub mod Nearest
+pub mod Walk
+pub mod Wheel
+pub mod Issuing
+pub mod ReadyNow
+pub mod Reads
+pub mod Passing
+pub mod Queues
+pub mod Admitting
+pub mod Chosen
+pub mod Issued
+pub mod RowsMade
+pub mod Opening
+pub mod Scheduled

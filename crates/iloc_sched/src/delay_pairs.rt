@@ -1,0 +1,129 @@
+//! Delay pairs: which operation has to wait for which, and for how many cycles.
+ghost use Rattle.std.specs.Prelude.{◌≡◌, ◌<◌, ◌≤◌, ◌↔◌, ℕ, ◌++◌, length, Contains, IfOk, OnOk};
+ghost use Rattle.std.specs.List.{AllPairs};
+ghost use Rattle.iloc_sched.specs.Renaming.{IsRenamed};
+ghost use Rattle.iloc_sched.specs.Delays.{uses_result, reads_stored, keeps_order, delays, IsDelayPair};
+ghost use Rattle.iloc_sched.specs.Pairs.{ComesBefore, rising, with_delays, pairs_from, pairs};
+
+use arrayvec::ArrayVec;
+use iloc_text::{MAX_OPS, NoMemory, Op, defines, uses};
+use iloc_timed::{Kind, Latencies, latency};
+use std::alloc::Global;
+
+/// A delay pair of a list of operations, which it names by their numbers: `second` may be issued `delay`
+/// cycles after `first` at the earliest.
+#[derive(Clone, Copy, Debug, PartialEq, Eq)]
+pub struct Pair {
+    /// The operation that is waited for.
+    pub first: usize,
+    /// The operation that waits.
+    pub second: usize,
+    /// For how many cycles it waits.
+    pub delay: u64,
+}
+
+/// Whether the second operation uses what the first defines.
+fn uses_result(first: &Op, second: &Op) -> bool
+    ensures { result ≡ uses_result first.now second.now }
+{
+    match defines(first) {
+        Some(register) => uses(second)
+            .as_slice()
+            .iter()
+            .any(|used| used.0 == register.0),
+        None => false,
+    }
+}
+
+/// Whether the second operation reads what the first may have stored.
+fn reads_stored(first: Kind, second: Kind) -> bool
+    ensures { result ≡ reads_stored first second }
+{
+    matches!((first, second), (Kind::Store, Kind::Load | Kind::Output))
+}
+
+/// Whether the second operation has to come after the first: a store after what reads or writes memory,
+/// an output after an output.
+fn keeps_order(first: Kind, second: Kind) -> bool
+    ensures { result ≡ keeps_order first second }
+{
+    matches!(
+        (first, second),
+        (Kind::Load | Kind::Store | Kind::Output, Kind::Store) | (Kind::Output, Kind::Output)
+    )
+}
+
+/// The delays that the first operation puts on the second, rising, each once.
+fn delays(first: &Op, second: &Op, latencies: &Latencies) -> ArrayVec<u64, 2>
+    ensures { result.items ≡ rising (delays latencies.now first.now second.now) }
+{
+    let latency = latency(first, latencies);
+    let kinds = (Kind::of(first), Kind::of(second));
+    let waits = uses_result(first, second) || reads_stored(kinds.0, kinds.1);
+    let mut delays = ArrayVec::new();
+    if keeps_order(kinds.0, kinds.1) && !(waits && latency == 1) {
+        delays.push(1);
+    }
+    if waits {
+        delays.push(latency);
+    }
+    delays
+}
+
+/// Adds the pairs that these delays make.
+fn push_delays(
+    pairs: &mut Vec<Pair>,
+    first: usize,
+    second: usize,
+    delays: &[u64],
+) -> Result<(), NoMemory>
+    ensures { OnOk result (pairs.new.items ≡ pairs.old.items ++ with_delays first second delays.now) }
+{
+    for delay in delays {
+        pairs.push(Pair {
+            first,
+            second,
+            delay: *delay,
+        })?;
+    }
+    Ok(())
+}
+
+/// Adds the pairs to this operation, which come from the operations before it.
+fn push_pairs_to(
+    pairs: &mut Vec<Pair>,
+    ops: &[Op],
+    latencies: &Latencies,
+    second: usize,
+) -> Result<(), NoMemory>
+    requires { second < length ops.now }
+    ensures { OnOk result
+        (pairs.new.items ≡ pairs.old.items ++ pairs_from latencies.now ops.now second second) }
+{
+    for first in 0..second {
+        let delays = delays(&ops[first], &ops[second], latencies);
+        push_delays(pairs, first, second, delays.as_slice())?;
+    }
+    Ok(())
+}
+
+/// The delay pairs of renamed operations, each once, in order of the later operation, then of the earlier one,
+/// then of the delay.
+pub fn pairs(alloc: Global, ops: &[Op], latencies: &Latencies) -> Result<Vec<Pair>, NoMemory>
+    requires renamed { IsRenamed ops.now }
+    requires size { length ops.now ≤ MAX_OPS }
+    ensures list { IfOk result (λ found. found.items ≡ pairs latencies.now ops.now) }
+    ensures exact { IfOk result (λ found. (i j d : ℕ) →
+        Contains found.items (record { first = i; second = j; delay = d })
+        ↔ IsDelayPair latencies.now ops.now i j d) }
+    ensures ordered { IfOk result (λ found. AllPairs ComesBefore found.items) }
+{
+    let mut pairs = Vec::new(alloc);
+    for second in 0..ops.len() {
+        push_pairs_to(&mut pairs, ops, latencies, second)?;
+    }
+    Ok(pairs)
+}
+
+#[cfg(test)]
+mod tests;

@@ -1,0 +1,24 @@
+//! Laws of schedules, as contracts of functions that do nothing.
+ghost use Rattle.iloc_sched.specs.Laws.{LawfulSchedulesKeepTheOutcome, BlocksHaveOneGreedySchedule, PrioritiesBoundTheCycles, LatenciesBoundTheCycles};
+
+/// Whatever schedule of a block is lawful: on every memory, with all registers 0, it has the block's
+/// outcome. It emits the same words and leaves the same memory, or it faults where the block does.
+pub fn lawful_schedules_keep_the_outcome()
+    ensures { LawfulSchedulesKeepTheOutcome }
+{}
+
+/// Each block has a greedy schedule, and two greedy schedules of a block are equal, operations and rows.
+pub fn one_greedy_schedule()
+    ensures { BlocksHaveOneGreedySchedule }
+{}
+
+/// In a lawful schedule the cycle at which an operation is issued and its priority together are at
+/// most the cycles of the schedule.
+pub fn priorities_bound_the_cycles()
+    ensures { PrioritiesBoundTheCycles }
+{}
+
+/// A greedy schedule takes at most as many cycles as the latencies of its operations together.
+pub fn latencies_bound_the_cycles()
+    ensures { LatenciesBoundTheCycles }
+{}

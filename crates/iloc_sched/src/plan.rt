@@ -1,0 +1,40 @@
+//! What is fixed while a block is scheduled.
+ghost use Rattle.std.specs.Prelude.{◌≡◌, ◌≤◌, length, IfOk};
+ghost use Rattle.iloc_sched.specs.Renaming.{IsRenamed};
+
+use crate::edges::Edges;
+use crate::priority::priorities_by;
+use iloc_text::{NoMemory, Op};
+use iloc_timed::Latencies;
+use std::alloc::Global;
+
+/// A block's renamed operations with what their choice goes by.
+#[derive(Debug, Drop)]
+pub struct Plan {
+    pub ops: Vec<Op>,
+    pub latencies: Latencies,
+    pub edges: Edges,
+    pub priorities: Vec<u64>,
+}
+
+impl Plan {
+    ghost use Rattle.iloc_sched.specs.steps.SoFar.{IsPlan};
+
+    /// The plan of renamed operations.
+    pub fn of(alloc: Global, ops: Vec<Op>, latencies: &Latencies) -> Result<Plan, NoMemory>
+        requires renamed { IsRenamed ops.items }
+        requires few { length ops.items ≤ 10000 }
+        ensures plan { IfOk result (λ plan. IsPlan plan) }
+        ensures ops { IfOk result (λ plan. plan.ops ≡ ops) }
+        ensures latencies { IfOk result (λ plan. plan.latencies ≡ latencies.now) }
+    {
+        let edges = Edges::of(alloc, &ops, latencies)?;
+        let priorities = priorities_by(alloc, &edges, &ops, latencies)?;
+        Ok(Plan {
+            ops,
+            latencies: *latencies,
+            edges,
+            priorities,
+        })
+    }
+}

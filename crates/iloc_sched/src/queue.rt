@@ -1,0 +1,56 @@
+//! The ready operations of one class.
+ghost use Rattle.std.specs.Prelude.{◌≡◌, [], OnOk};
+ghost use Rattle.std.specs.List.{IsDistinct};
+ghost use Rattle.std.specs.BinaryHeap.{IsHeap, heap_items};
+ghost use Rattle.std.proofs.Props.{props};
+ghost use Rattle.iloc_sched.specs.steps.Order.{candidate_cmp, same_number};
+
+use crate::candidate::Candidate;
+use iloc_text::NoMemory;
+use std::alloc::Global;
+use std::collections::BinaryHeap;
+
+/// Ready operations, each at most once, the first of them at hand.
+#[derive(Drop)]
+pub struct Queue {
+    pub heap: BinaryHeap<Candidate>,
+    pub ghost ordered: { IsHeap candidate_cmp (heap_items heap) } by { Prim.hlevel props },
+    pub ghost distinct: { IsDistinct same_number (heap_items heap) } by { Prim.hlevel props },
+}
+
+impl Queue {
+    ghost use Rattle.iloc_sched.specs.steps.Changes.{IsFirstOf, HasNone, Adds, Popped};
+
+    /// No operation.
+    pub fn new(alloc: Global) -> Queue
+        ensures { heap_items result.heap ≡ [] }
+    {
+        Queue {
+            heap: BinaryHeap::new(alloc),
+        }
+    }
+
+    /// The first, which stays.
+    pub fn first(&self) -> Option<Candidate>
+        ensures { IsFirstOf (heap_items self.now.heap) result }
+    {
+        self.heap.peek().copied()
+    }
+
+    /// Adds an operation.
+    pub fn insert(&mut self, candidate: Candidate) -> Result<(), NoMemory>
+        requires { HasNone (heap_items self.old.heap) candidate.number.0 }
+        ensures { OnOk result (Adds (heap_items self.old.heap) (heap_items self.new.heap) candidate) }
+    {
+        self.heap.push(candidate)?;
+        Ok(())
+    }
+
+    /// Takes the first.
+    pub fn pop(&mut self) -> Option<Candidate>
+        ensures first { IsFirstOf (heap_items self.old.heap) result }
+        ensures popped { Popped (heap_items self.old.heap) (heap_items self.new.heap) result }
+    {
+        self.heap.pop()
+    }
+}
