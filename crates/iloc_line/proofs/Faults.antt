@@ -6,9 +6,9 @@ use Rattle.clap.specs.Words.{App, Text, fault_of, is_simple_and_free, kind_of}
 use Rattle.clap.specs.declared.error.Error.{Error}
 use Rattle.clap.specs.declared.error.kind.ErrorKind.TheVariants.{DisplayHelp, OutOfMemory}
 use Rattle.std.specs.Prelude.{List, Option, Some}
-use Rattle.iloc_line.specs.Asked.{Asked, asked}
+use Rattle.iloc_line.specs.Asked.{Asked}
 use Rattle.iloc_line.specs.Command.{farm_app}
-use Rattle.iloc_line.specs.Due.{IsDue, IsOutOfRange, faults_in}
+use Rattle.iloc_line.specs.Due.{Asks, IsDue, IsOutOfRange, faults_in}
 use Rattle.iloc_line.specs.Fault.{IsFaultBy}
 use Rattle.iloc_line.specs.declared.fault.LineFault.{LineFault}
 use Rattle.iloc_line.specs.declared.fault.LineFault.TheVariants.{Help, Refused, BadStart, TooManyWords, NoMemory}
@@ -47,15 +47,9 @@ refused_words a words e f is h =
     go NoMemory has by = tt
 
 -- a request out of range is a fault of the words that asked for it
-pub ranged_words : (words : List Text) (o : Option Asked) (f : LineFault) → faults_in words ≡ [] → asked words ≡ o
-    → IsOutOfRange o f → IsDue words f
-ranged_words words o f taken is h = go o f is h
-  where
-    go : (o : Option Asked) (f : LineFault) → asked words ≡ o → IsOutOfRange o f → IsDue words f
-    go o (Help text) is h = absurd h
-    go o (Refused text) is h = absurd h
-    go None (BadStart at) is h = absurd h
-    go (Some a) (BadStart at) is h = (a, record { taken = taken; asked = is }, h)
-    go None TooManyWords is h = absurd h
-    go (Some a) TooManyWords is h = (a, record { taken = taken; asked = is }, h)
-    go o NoMemory is h = tt
+pub ranged_words : (words : List Text) (a : Asked) (f : LineFault) → Asks words a → IsOutOfRange a f → IsDue words f
+ranged_words words a (Help text) asks h = absurd h
+ranged_words words a (Refused text) asks h = absurd h
+ranged_words words a (BadStart at) asks h = (a, asks, h)
+ranged_words words a TooManyWords asks h = (a, asks, h)
+ranged_words words a NoMemory asks h = tt

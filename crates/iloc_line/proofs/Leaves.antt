@@ -6,8 +6,8 @@ use Rattle.std.proofs.lemmas.Slice.Eq.{bytes_eq-Decides}
 use Rattle.clap.specs.Faults.{defaults_fault, level_fault, settle_fault, walk_fault}
 use Rattle.clap.specs.Simple.{Shape}
 use Rattle.clap.specs.Walk.{Row, Rule, Text, arg_by_id, has_row, nothing_held, rows_after, settled, walk, walk_from}
-use Rattle.iloc_line.proofs.Defaults.{defaults_kept, has_default}
-use Rattle.iloc_line.proofs.Rows.{AllKept, Holds, both_empty}
+use Rattle.iloc_line.proofs.Defaults.{defaults_kept}
+use Rattle.iloc_line.proofs.Rows.{AllKept, IsKept, both_empty}
 use Rattle.iloc_line.proofs.Uses.{AllOurs, settled_kept}
 use Rattle.iloc_line.proofs.Walks.{walk_kept}
 
@@ -27,28 +27,13 @@ leaf_kept s words ours e =
 abbrev pub row_in : Text → List Row → Option Row
 row_in id rows = find (λ r. bytes_eq r.id id) rows
 
--- the row of an argument holds what the parser takes for it
-pub found_holds : (rules : List Rule) (a : Rule) (id : Text) (rows : List Row) → AllKept rules rows → arg_by_id rules id ≡ Some a
-    → IfSome (row_in id rows) (Holds a)
-found_holds rules a id [] kept own = tt
-found_holds rules a id (r ∷ rs) kept own = go (bytes_eq r.id id) refl (found_holds rules a id rs kept.1 own)
+-- the row of an id is kept
+pub found_kept : (rules : List Rule) (id : Text) (rows : List Row) → AllKept rules rows
+    → IfSome (row_in id rows) (λ r. IsKept rules r × (r.id ≡ id))
+found_kept rules id [] kept = tt
+found_kept rules id (r ∷ rs) kept = go (bytes_eq r.id id) refl (found_kept rules id rs kept.1)
   where
-    go : (b : Bool) → bytes_eq r.id id ≡ b → IfSome (row_in id rs) (Holds a) → IfSome (cond b (Some r) (row_in id rs)) (Holds a)
-    go true e later = kept.0 a (ap (arg_by_id rules) ((bytes_eq-Decides r.id id).0 e) ∙ own)
+    go : (b : Bool) → bytes_eq r.id id ≡ b → IfSome (row_in id rs) (λ r. IsKept rules r × (r.id ≡ id))
+        → IfSome (cond b (Some r) (row_in id rs)) (λ r. IsKept rules r × (r.id ≡ id))
+    go true e later = (kept.0, (bytes_eq-Decides r.id id).0 e)
     go false e later = later
-
-found_some : (id : Text) (rows : List Row) → has_row id rows ≡ true → is_some (row_in id rows) ≡ true
-found_some id [] has = cc
-found_some id (r ∷ rs) has = go (bytes_eq r.id id) has (found_some id rs)
-  where
-    go : (b : Bool) → (b || has_row id rs) ≡ true → (has_row id rs ≡ true → is_some (row_in id rs) ≡ true)
-        → is_some (cond b (Some r) (row_in id rs)) ≡ true
-    go true has later = refl
-    go false has later = later has
-
--- an argument with a default has a row
-pub row_found : (s : Shape) (a : Rule) (id : Text) (words : List Text) → arg_by_id s.rules id ≡ Some a → (a.defaults ≡ [] → ⊥)
-    → is_some (row_in id (rows_after s.rules [] words)) ≡ true
-row_found s a id words own some =
-    let end = (walk s.rules [] nothing_held words).held in
-    found_some id (rows_after s.rules [] words) (has_default id a s.rules (settled s.rules end).rows own some)

@@ -1,3 +1,4 @@
+pub mod Commands
 pub mod Defaults
 pub mod Faults
 pub mod Getters

@@ -9,7 +9,7 @@ use Rattle.clap.specs.Lexer.{without_minus}
 use Rattle.clap.specs.Values.{IsSignedIn, read_as}
 use Rattle.clap.specs.declared.builder.value_parser.Reading.TheVariants.{WithoutMinus}
 use Rattle.clap.specs.Walk.{Text}
-use Rattle.iloc_line.specs.Taken.{IsNumberUpTo, AreNumbersUpTo}
+use Rattle.iloc_line.specs.Taken.{IsNumberIn, AreNumbersIn}
 use Rattle.iloc_line.proofs.Rows.{both_empty}
 use Rattle.clap.proofs.ValueTestLemmas.{accepts-Accepts}
 use Rattle.clap.specs.Kinds.{value_kinds, values_kinds}
@@ -32,29 +32,31 @@ numeral_has_no_plus (d ∷ ds) h =
     let plus : (d == 43) ≡ false = ne_eqb _ _ (λ e. omega (arith, digit_from_value d h.1.0)) in
     ap (λ (b : Bool). drop (cond b 1 0) (d ∷ ds)) plus
 
-read_number : (most : ℕ) (t : Text) → IsSignedIn (pos 0) (pos most) t → IsNumberUpTo most (without_minus t)
-read_number most t passed = subst (IsNumberUpTo most) (sym (without_minus-cond t)) (go (starts_with_minus t) refl)
+read_number : (low high : ℕ) (t : Text) → IsSignedIn (pos low) (pos high) t → IsNumberIn low high (without_minus t)
+read_number low high t passed = subst (IsNumberIn low high) (sym (without_minus-cond t)) (go (starts_with_minus t) refl)
   where
-    go : (b : Bool) → starts_with_minus t ≡ b → IsNumberUpTo most (cond b (drop 1 t) t)
+    go : (b : Bool) → starts_with_minus t ≡ b → IsNumberIn low high (cond b (drop 1 t) t)
     go true minus =
         let low_ok = rw minus at passed.2 in
+        let high_ok = rw minus at passed.3 in
         let numeral : IsNumeral 10 (drop 1 t) = rw minus at passed.0 in
         let same = numeral_has_no_plus (drop 1 t) numeral in
-        rw same (numeral, omega (arith, ints))
+        record { numeral = rw same numeral; at_least = rw same (omega (arith, ints)); at_most = rw same (omega (arith, ints)) }
     go false minus =
-        let numeral : IsNumeral 10 (without_leading_plus t) = rw minus at passed.0 in
+        let low_ok = rw minus at passed.2 in
         let high_ok = rw minus at passed.3 in
-        (numeral, omega (arith, ints))
+        let numeral : IsNumeral 10 (without_leading_plus t) = rw minus at passed.0 in
+        record { numeral = numeral; at_least = omega (arith, ints); at_most = omega (arith, ints) }
 
 -- values in which the parser finds no fault are numbers
-pub taken_numbers : (ignore_case : Bool) (most : ℕ) (texts : List Text) → values_kinds ignore_case (Signed (pos 0) (pos most)) texts ≡ []
-    → AreNumbersUpTo most (map (read_as WithoutMinus) texts)
-taken_numbers ignore_case most [] e = tt
-taken_numbers ignore_case most (text ∷ rest) e =
-    let p = Signed (pos 0) (pos most) in
+pub taken_numbers : (ignore_case : Bool) (low high : ℕ) (texts : List Text) → values_kinds ignore_case (Signed (pos low) (pos high)) texts ≡ []
+    → AreNumbersIn low high (map (read_as WithoutMinus) texts)
+taken_numbers ignore_case low high [] e = tt
+taken_numbers ignore_case low high (text ∷ rest) e =
+    let p = Signed (pos low) (pos high) in
     let parts = both_empty (value_kinds ignore_case p text) (values_kinds ignore_case p rest) e in (
-      read_number most text (accepts-Accepts ignore_case p text (taken (accepts ignore_case p text) ValueValidation parts.0)),
-      taken_numbers ignore_case most rest parts.1,
+      read_number low high text (accepts-Accepts ignore_case p text (taken (accepts ignore_case p text) ValueValidation parts.0)),
+      taken_numbers ignore_case low high rest parts.1,
     )
   where
     taken : (b : Bool) (k : ErrorKind) → cond b [] (k ∷ []) ≡ [] → b ≡ true

@@ -1,9 +1,9 @@
 -- Rows whose values the parser takes, and how they come about.
-use Rattle.std.proofs.Common.{◌≡◌, ◌∙◌, ◌<◌, ◌++◌, ℕ, Bool, true, false, cond, List, [], ◌∷◌, Some, None, refl, sym, ap, subst}
+use Rattle.std.proofs.Common.{◌≡◌, ◌∙◌, ◌++◌, Bool, true, false, cond, List, [], ◌∷◌, Some, None, refl, sym, ap, subst}
 use Rattle.std.specs.Prelude.{unwrap_or}
 use Rattle.std.specs.Str.{bytes_eq}
 use Rattle.std.proofs.lemmas.Slice.Eq.{bytes_eq-Decides}
-use Rattle.clap.specs.Facts.{parser_of_value, unwrap_or_range}
+use Rattle.clap.specs.Facts.{parser_of_value}
 use Rattle.clap.specs.Faults.{values_fault}
 use Rattle.clap.specs.Kinds.{Kinds, or_else, value_kinds, values_kinds}
 use Rattle.clap.specs.Walk.{Row, Rule, Text, arg_by_id, at_row, more_values, reading_by, stronger, with_values, without}
@@ -21,19 +21,16 @@ append_taken ignore_case p (t ∷ xs) ys x y =
     let parts = both_empty (value_kinds ignore_case p t) (values_kinds ignore_case p xs) x in
     ap (λ k. or_else k (values_kinds ignore_case p (xs ++ ys))) parts.0 ∙ append_taken ignore_case p xs ys parts.1 y
 
--- the fewest values of a use
-abbrev pub fewest : Rule → ℕ
-fewest a = (unwrap_or_range a.range).start_inclusive
-
--- the row is one of this argument: the parser takes its values, and it has one where a use has to
+-- the row is one of this argument: the parser takes its values
 pub record Holds (a : Rule) (r : Row) : Type 0 where
   pub reading : r.reading ≡ reading_by a
   pub values : values_fault a r.values ≡ []
-  pub some : 0 < fewest a → r.values ≡ [] → ⊥
 
--- the row is one of the argument that has its id
-abbrev pub IsKept : List Rule → Row → Type 0
-IsKept rules r = (a : Rule) → arg_by_id rules r.id ≡ Some a → Holds a r
+-- the row is one of the argument that has its id, and there is one
+pub record IsKept (rules : List Rule) (r : Row) : Type 0 where
+  pub rule : Rule
+  pub first : arg_by_id rules r.id ≡ Some rule
+  pub holds : Holds rule r
 
 abbrev pub AllKept : List Rule → List Row → Type 0
 AllKept rules [] = Unit {0}
@@ -61,32 +58,18 @@ without_kept rules id rows kept = at_row_kept rules id (λ _. []) [] rows kept (
 
 -- values that the parser takes join the row of their argument, or begin it
 pub with_values_kept : (rules : List Rule) (a : Rule) (s : ValueSource) (values : List Text) (rows : List Row) → arg_by_id rules a.id ≡ Some a
-    → values_fault a values ≡ [] → (0 < fewest a → values ≡ [] → ⊥) → AllKept rules rows
-    → AllKept rules (with_values a.id (reading_by a) s values rows)
-with_values_kept rules a s values rows own taken some kept = at_row_kept rules a.id (more_values s values) _ rows kept
+    → values_fault a values ≡ [] → AllKept rules rows → AllKept rules (with_values a.id (reading_by a) s values rows)
+with_values_kept rules a s values rows own taken kept = at_row_kept rules a.id (more_values s values) _ rows kept
     (λ r k is.
-    let held = k a (ap (arg_by_id rules) is ∙ own) in (
-      λ b found. subst (λ (x : Rule). Holds x (record r { values = r.values ++ values; source = Some (stronger r.source s) }))
-          (same b (ap (arg_by_id rules) (sym is) ∙ found)) (record {
-            reading = held.reading;
-            values = append_taken a.ignore_case (parser_of_value a.parser) r.values values held.values taken;
-            some = λ few none. held.some few (front r.values values none);
-          }),
+    let same : k.rule ≡ a = ap (λ o. unwrap_or o a) (sym k.first ∙ (ap (arg_by_id rules) is ∙ own)) in
+    let held : Holds a r = subst (λ (x : Rule). Holds x r) same k.holds in (
+      record {
+        rule = a;
+        first = ap (arg_by_id rules) is ∙ own;
+        holds = record {
+          reading = held.reading;
+          values = append_taken a.ignore_case (parser_of_value a.parser) r.values values held.values taken;
+        };
+      },
       tt,
-    )) (
-      λ b found. subst (λ (x : Rule). Holds x (record {
-        id = a.id;
-        values = values;
-        count = None;
-        source = Some s;
-        reading = reading_by a;
-      })) (same b found) (record { reading = refl; values = taken; some = some }),
-      tt,
-    )
-  where
-    same : (b : Rule) → arg_by_id rules a.id ≡ Some b → a ≡ b
-    same b found = ap (λ o. unwrap_or o a) (sym own ∙ found)
-
-    front : (xs ys : List Text) → xs ++ ys ≡ [] → xs ≡ []
-    front [] ys e = refl
-    front (x ∷ xs) ys e = cc
+    )) (record { rule = a; first = own; holds = record { reading = refl; values = taken } }, tt)

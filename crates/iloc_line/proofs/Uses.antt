@@ -4,13 +4,14 @@ use Rattle.std.specs.Prelude.{find, unwrap_or}
 use Rattle.std.specs.List.{AllByRecursion}
 use Rattle.std.specs.Option.{option_map_or}
 use Rattle.clap.specs.Faults.{action_fault, repeat_fault, settle_fault, use_fault, values_fault}
+use Rattle.clap.specs.Facts.{unwrap_or_range}
 use Rattle.clap.specs.Kinds.{range_kinds}
 use Rattle.clap.specs.Walk.{Held, Row, Rule, Text, action_of, arg_by_id, most_values, reading_by, settled}
 use Rattle.clap.specs.Walk.{settled_rows, used, used_as, used_by_id, values_or_missing, without}
 use Rattle.clap.specs.declared.builder.action.ArgAction.{ArgAction}
 use Rattle.clap.specs.declared.builder.action.ArgAction.TheVariants.{Set, Append, Help}
 use Rattle.clap.specs.declared.parser.matches.ValueSource.TheVariants.{CommandLine}
-use Rattle.iloc_line.proofs.Rows.{AllKept, both_empty, fewest, with_values_kept, without_kept}
+use Rattle.iloc_line.proofs.Rows.{AllKept, both_empty, with_values_kept, without_kept}
 
 -- an action of this program's arguments
 abbrev pub IsOurAction : ArgAction → Type 0
@@ -35,35 +36,20 @@ found_ours rules p (x ∷ xs) a ours found = go (p x) found (found_ours rules p 
     go true e later = subst (IsOurs rules) (ap (λ o. unwrap_or o a) e) ours.0
     go false e later = later e
 
--- the parser wants a value of a use that has to have one
-some_values : (fewest most n : ℕ) → range_kinds fewest most n ≡ [] → 0 < fewest → n ≡ 0 → ⊥
-some_values fewest most n e few none =
-    let lt : nat_lt 0 fewest ≡ true = lt-ltb 0 fewest few in
-    let eq : (n == 0) ≡ true = rw none refl in
-    let fault = rw (lt, eq) at e in
-    cc
-
-or_missing : (a : Rule) (values : List Text) → values_or_missing a values ≡ [] → length values ≡ 0
-or_missing a [] e = refl
-or_missing a (v ∷ vs) e = cc
-
 pub use_kept : (rules : List Rule) (again : Bool) (a : Rule) (values : List Text) (rows : List Row) → IsOurs rules a → AllKept rules rows
     → use_fault again a values rows ≡ [] → AllKept rules (used a values rows)
 use_kept rules again a values rows ours kept e = go (action_of a) ours.action counts.1
   where
-    counts : (range_kinds (fewest a) (most_values a) (length values) ≡ [])
+    counts : (range_kinds (unwrap_or_range a.range).start_inclusive (most_values a) (length values) ≡ [])
         × (action_fault (action_of a) again a (values_or_missing a values) rows ≡ [])
-    counts = both_empty (range_kinds (fewest a) (most_values a) (length values)) _ e
-
-    some : 0 < fewest a → values_or_missing a values ≡ [] → ⊥
-    some few none = some_values (fewest a) (most_values a) (length values) counts.0 few (or_missing a values none)
+    counts = both_empty (range_kinds (unwrap_or_range a.range).start_inclusive (most_values a) (length values)) _ e
 
     go : (x : ArgAction) → IsOurAction x → action_fault x again a (values_or_missing a values) rows ≡ []
         → AllKept rules (used_as x a.id (reading_by a) (values_or_missing a values) rows)
     go Set is e =
         let once = both_empty (repeat_fault again a.id rows) (values_fault a (values_or_missing a values)) e in
-        with_values_kept rules a CommandLine (values_or_missing a values) (without a.id rows) ours.first once.1 some (without_kept rules a.id rows kept)
-    go Append is e = with_values_kept rules a CommandLine (values_or_missing a values) rows ours.first e some kept
+        with_values_kept rules a CommandLine (values_or_missing a values) (without a.id rows) ours.first once.1 (without_kept rules a.id rows kept)
+    go Append is e = with_values_kept rules a CommandLine (values_or_missing a values) rows ours.first e kept
     go Help is e = cc
     go _ is e = absurd is
 

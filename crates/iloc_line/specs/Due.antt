@@ -1,5 +1,5 @@
 -- What a command line comes to: a request, or one of the faults.
-use Rattle.std.specs.Prelude.{◌≡◌, ◌≢◌, ◌<◌, ◌+◌, ◌*◌, ◌%◌, ℕ, List, [], Option, Some, IsSomeAnd}
+use Rattle.std.specs.Prelude.{◌≡◌, ◌≢◌, ◌<◌, ◌+◌, ◌*◌, ◌%◌, ℕ, List, [], Some}
 use Rattle.std.specs.Prelude.{length}
 use Rattle.clap.specs.Kinds.{IsAmong, Kinds}
 use Rattle.clap.specs.Words.{Text, fault_of}
@@ -41,9 +41,9 @@ IsDue words TooManyWords = (a : Asked) × Asks words a × Overflows a
 IsDue words NoMemory = Unit {0}
 
 -- what was asked for is out of range in this way, or memory was wanting
-abbrev pub IsOutOfRange : Option Asked → LineFault → Type 0
+abbrev pub IsOutOfRange : Asked → LineFault → Type 0
 IsOutOfRange a (Help text) = ⊥
 IsOutOfRange a (Refused text) = ⊥
-IsOutOfRange a (BadStart at) = IsSomeAnd a (StartsAmiss at)
-IsOutOfRange a TooManyWords = IsSomeAnd a Overflows
+IsOutOfRange a (BadStart at) = StartsAmiss at a
+IsOutOfRange a TooManyWords = Overflows a
 IsOutOfRange a NoMemory = Unit {0}

@@ -1,10 +1,19 @@
--- The exit status of a fault, and the fault that an error of the parser gives.
-use Rattle.std.specs.Prelude.{◌≡◌, ◌≢◌, ℕ}
+-- The text and the exit status of a fault, and the fault that an error of the parser gives.
+use Rattle.std.specs.Prelude.{◌≡◌, ◌≢◌, ℕ, List, codes}
+use Rattle.std.specs.String.{string_bytes}
 use Rattle.clap.specs.declared.error.kind.ErrorKind.{ErrorKind}
 use Rattle.clap.specs.declared.error.kind.ErrorKind.TheVariants.{DisplayHelp, OutOfMemory}
 use Rattle.iloc_line.specs.declared.fault.LineFault.{LineFault}
 use Rattle.iloc_line.specs.declared.fault.LineFault.TheVariants.{Help, Refused, BadStart}
 use Rattle.iloc_line.specs.declared.fault.LineFault.TheVariants.{TooManyWords, NoMemory}
+
+-- what is said of a fault: the parser's own text, or one of these
+abbrev pub line_text : LineFault → List ℕ
+line_text (Help text) = string_bytes text
+line_text (Refused text) = string_bytes text
+line_text (BadStart at) = codes "--at is not a multiple of 4"
+line_text TooManyWords = codes "the words do not fit into memory"
+line_text NoMemory = codes "out of memory"
 
 -- the exit status of a fault
 abbrev pub status_of : LineFault → ℕ

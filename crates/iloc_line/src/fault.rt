@@ -6,27 +6,41 @@ ghost use Rattle.iloc_line.specs.declared.fault.LineFault.TheVariants.{NoMemory}
 
 use clap::error::{Error as ClapError, ErrorKind};
 use std::alloc::{AllocError, AllocFailed, Global};
-use thiserror::Error;
+use std::error::Error;
+use std::fmt::{self, Display, Formatter};
 
 /// Why a command line gives no request. Its `Display` is the text for the user.
-#[derive(Debug, Drop, Error, PartialEq, Eq)]
+#[derive(Debug, Drop, PartialEq, Eq)]
 pub enum LineFault {
     /// Help was asked for: its text.
-    #[error("{0}")]
     Help(String),
     /// The words are no command line: what is wrong, and the usage.
-    #[error("{0}")]
     Refused(String),
     /// This start of the words is not a multiple of 4.
-    #[error("--at is not a multiple of 4")]
     BadStart(u32),
     /// The words reach beyond the end of memory.
-    #[error("the words do not fit into memory")]
     TooManyWords,
     /// The growth of a list or a text was refused.
-    #[error("out of memory")]
     NoMemory,
 }
+
+impl Display for LineFault {
+    ghost use Rattle.std.specs.Prelude.{Some};
+    ghost use Rattle.iloc_line.specs.Fault.{line_text};
+
+    ghost output = { λ fault. Some (line_text fault) };
+
+    fn fmt<W: fmt::Write>(&self, f: &mut Formatter<W>) -> fmt::Result {
+        match self {
+            LineFault::Help(text) | LineFault::Refused(text) => f.write_str(text.as_str()),
+            LineFault::BadStart(_) => f.write_str("--at is not a multiple of 4"),
+            LineFault::TooManyWords => f.write_str("the words do not fit into memory"),
+            LineFault::NoMemory => f.write_str("out of memory"),
+        }
+    }
+}
+
+impl Error for LineFault {}
 
 impl LineFault {
     /// The fault for an error of the parser, with its text.

@@ -2,8 +2,12 @@
 #![tactic(auto)]
 
 mod command;
-pub mod fault;
-pub mod line;
-pub mod request;
+mod fault;
+mod line;
+mod request;
 #[cfg(test)]
 mod tests;
+
+pub use fault::{LineFault, line_status};
+pub use line::parse_line;
+pub use request::{Request, Task};

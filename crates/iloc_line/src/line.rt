@@ -1,23 +1,28 @@
 //! Reading a command line.
-ghost use Rattle.std.specs.Prelude.{◌≡◌, ◌≤◌, Some, IfErr, IfOk, OnOk, [], codes, map, true};
+ghost use Rattle.std.specs.Prelude.{◌≡◌, ◌≤◌, Some, IfErr, IfOk, IsSome, OnOk, [], codes, map, true};
 ghost use Rattle.clap.specs.Words.{found_of, has_subcommand, rows_of, subcommand_of};
 ghost use Rattle.clap.specs.Words.{subcommand_rows_of};
-ghost use Rattle.iloc_line.specs.Asked.{asked_in, memory_task, numbers_in, option_in};
+ghost use Rattle.iloc_line.specs.Asked.{asked_as, asked_in, number_or, numbers_in, task_named};
 ghost use Rattle.iloc_line.specs.Command.{farm_app};
 ghost use Rattle.iloc_line.specs.Due.{Asks, IsDue, IsOutOfRange, faults_in};
-ghost use Rattle.iloc_line.specs.Taken.{HoldWords};
+ghost use Rattle.iloc_line.specs.Taken.{HoldNumbers, HoldsIn};
+ghost use Rattle.iloc_timed.specs.Latency.{IsLatency};
 
 use crate::command::farm_command;
 use crate::fault::LineFault;
 use crate::request::{Request, Task};
 use clap::ArgMatches;
+use iloc_timed::Latencies;
 use std::alloc::{AllocFailed, Global};
 use std::convert::AsStr;
 
 /// The bytes of memory, which has the addresses from 0 on.
 const MEMORY_SIZE: u64 = 65536;
 
-/// How many workers a request has whose command does not take the option.
+/// The address of the first word where the command does not take the option.
+const DEFAULT_START: u32 = 1024;
+
+/// How many workers share the blocks where the command does not take the option.
 const DEFAULT_WORKERS: u32 = 2;
 
 /// The request that the words after the program's name ask for.
@@ -35,8 +40,19 @@ pub fn parse_line<S: AsStr>(alloc: Global, words: &[S]) -> Result<Request, LineF
     let Some((name, given)) = matches.subcommand() else {
         unreachable!()
     };
+    request_in(alloc, task_of(name), given)
+}
+
+/// The task of the command of this name.
+fn task_of(name: &str) -> Task
+    requires { IsSome (task_named name.now) }
+    ensures { task_named name.now ≡ Some result }
+{
     match name {
-        "run" => memory_request(alloc, Task::Run, given),
+        "run" => Task::Run,
+        "simulate" => Task::Simulate,
+        "schedule" => Task::Schedule,
+        "counts" => Task::Counts,
         _ => unreachable!(),
     }
 }
@@ -55,12 +71,12 @@ fn matches_of<'a, S: AsStr>(alloc: Global, words: &'a [S]) -> Result<ArgMatches<
     }
 }
 
-/// The request for a task that takes words and their start, by the matches of its arguments.
-fn memory_request(alloc: Global, task: Task, given: &ArgMatches<'_>) -> Result<Request, LineFault>
-    requires { HoldWords (rows_of (found_of given.now)) }
+/// The request for a task, by the matches of the command's arguments.
+fn request_in(alloc: Global, task: Task, given: &ArgMatches<'_>) -> Result<Request, LineFault>
+    requires { HoldNumbers (rows_of (found_of given.now)) }
     ensures ok { IfOk result (λ request.
-        memory_task task (rows_of (found_of given.now)) ≡ Some (asked_in request)) }
-    ensures err { IfErr result (IsOutOfRange (memory_task task (rows_of (found_of given.now)))) }
+        asked_in request ≡ asked_as task (rows_of (found_of given.now))) }
+    ensures err { IfErr result (IsOutOfRange (asked_as task (rows_of (found_of given.now)))) }
 {
     let at = start_in(given);
     let words = words_in(alloc, given)?;
@@ -72,24 +88,59 @@ fn memory_request(alloc: Global, task: Task, given: &ArgMatches<'_>) -> Result<R
     }
     Ok(Request {
         task,
-        workers: DEFAULT_WORKERS,
+        workers: workers_in(given),
         at,
         words,
+        latencies: latencies_in(given),
     })
 }
 
-/// The start of the words.
+/// How many workers share the blocks.
+fn workers_in(given: &ArgMatches<'_>) -> u32
+    requires { HoldNumbers (rows_of (found_of given.now)) }
+    ensures value { result ≡ number_or 2 (codes "workers") (rows_of (found_of given.now)) }
+    ensures some { 1 ≤ result }
+    ensures few { result ≤ 8 }
+{
+    given.get_one("workers").unwrap_or(DEFAULT_WORKERS)
+}
+
+/// The latencies of loads, stores and products.
+fn latencies_in(given: &ArgMatches<'_>) -> Latencies
+    requires { HoldNumbers (rows_of (found_of given.now)) }
+    ensures load { result.load ≡ number_or 5 (codes "load") (rows_of (found_of given.now)) }
+    ensures store { result.store ≡ number_or 5 (codes "store") (rows_of (found_of given.now)) }
+    ensures mult { result.mult ≡ number_or 3 (codes "mult") (rows_of (found_of given.now)) }
+{
+    let usual = Latencies::usual();
+    let load = latency_in(given, "load", usual.load);
+    let store = latency_in(given, "store", usual.store);
+    let mult = latency_in(given, "mult", usual.mult);
+    Latencies::new(load, store, mult).unwrap()
+}
+
+/// The latency that an option sets, the usual one where the command does not take it.
+fn latency_in(given: &ArgMatches<'_>, option: &str, usual: u32) -> u32
+    requires held { HoldsIn 1 16 option.now (rows_of (found_of given.now)) }
+    requires known { IsLatency usual }
+    ensures value { result ≡ number_or usual option.now (rows_of (found_of given.now)) }
+    ensures within { IsLatency result }
+{
+    given.get_one(option).unwrap_or(usual)
+}
+
+/// The address of the first word.
 fn start_in(given: &ArgMatches<'_>) -> u32
-    requires { HoldWords (rows_of (found_of given.now)) }
-    ensures value { option_in (codes "at") (rows_of (found_of given.now)) ≡ Some result }
+    requires { HoldNumbers (rows_of (found_of given.now)) }
+    ensures value { result ≡ number_or 1024 (codes "at") (rows_of (found_of given.now)) }
     ensures in_memory { result ≤ 65532 }
 {
-    given.get_one("at").unwrap()
+    given.get_one("at").unwrap_or(DEFAULT_START)
 }
 
 /// The words themselves.
 fn words_in(alloc: Global, given: &ArgMatches<'_>) -> Result<Vec<u32>, AllocFailed<u32>>
-    requires { HoldWords (rows_of (found_of given.now)) }
+    requires { HoldNumbers (rows_of (found_of given.now)) }
     ensures { IfOk result (λ words.
         words.items ≡ numbers_in (codes "words") (rows_of (found_of given.now))) }
 {

@@ -1,11 +1,19 @@
 //! What a command line asks the program to do.
 ghost use Rattle.std.specs.Prelude.{◌≡◌, ◌+◌, ◌*◌, ◌%◌, ◌≤◌, length};
 
+use iloc_timed::Latencies;
+
 /// The command: what is done with each block.
 #[derive(Clone, Copy, Debug, PartialEq, Eq)]
 pub enum Task {
     /// Run it plainly, one operation after the other.
     Run,
+    /// Schedule it, and run the schedule.
+    Simulate,
+    /// Schedule it, and list the schedule.
+    Schedule,
+    /// Schedule it, and list how many cycles the schedule takes.
+    Counts,
 }
 
 /// A command with its options; an option that the command does not take has its default.
@@ -19,6 +27,8 @@ pub struct Request {
     pub at: u32,
     /// What the memory holds from `at` on when a block starts, as 32-bit patterns.
     pub words: Vec<u32>,
+    /// How many cycles loads, stores and products take.
+    pub latencies: Latencies,
     ghost some_worker: { 1 ≤ workers },
     ghost few_workers: { workers ≤ 8 },
     ghost aligned: { at % 4 ≡ 0 },

@@ -1,19 +1,45 @@
 //! Command lines with what they come to, worked out by hand.
-use crate::fault::{LineFault, line_status};
-use crate::line::parse_line;
-use crate::request::Task;
+use crate::{LineFault, Task, line_status, parse_line};
+use iloc_timed::Latencies;
 use std::alloc::Global;
 use std::test::Fail;
 
 static NOTHING: [&str; 0] = [];
 
 #[test]
-fn run_has_its_defaults(rt: HostRuntime) -> Result<(), Fail> {
-    let request = parse_line(rt.alloc(), &["run"])?;
-    assert!(rt; request.task == Task::Run);
-    assert!(rt; request.workers == 2);
-    assert!(rt; request.at == 1024);
-    assert!(rt; request.words.is_empty());
+fn each_command_has_its_task_and_defaults(rt: HostRuntime) -> Result<(), Fail> {
+    for (name, task) in [
+        ("run", Task::Run),
+        ("simulate", Task::Simulate),
+        ("schedule", Task::Schedule),
+        ("counts", Task::Counts),
+    ] {
+        let request = parse_line(rt.alloc(), &[name])?;
+        assert!(rt; request.task == task);
+        assert!(rt; request.workers == 2);
+        assert!(rt; request.at == 1024);
+        assert!(rt; request.words.is_empty());
+        assert!(rt; request.latencies == Latencies::usual());
+    }
+    Ok(())
+}
+
+#[test]
+fn commands_take_their_options(rt: HostRuntime) -> Result<(), Fail> {
+    let alloc = rt.alloc();
+    let words = [
+        "simulate", "--store", "16", "6", "--at", "4", "--load=1", "--mult", "2",
+    ];
+    let request = parse_line(alloc, &words)?;
+    assert!(rt; request.at == 4);
+    assert!(rt; request.words.as_slice() == [6].as_slice());
+    assert!(rt; Some(request.latencies) == Latencies::new(1, 16, 2));
+    for name in ["schedule", "counts"] {
+        let request = parse_line(alloc, &[name, "--workers", "8", "--mult", "16"])?;
+        assert!(rt; request.workers == 8);
+        assert!(rt; Some(request.latencies) == Latencies::new(5, 5, 16));
+    }
+    assert!(rt; parse_line(alloc, &["counts", "--workers", "1"])?.workers == 1);
     Ok(())
 }
 
@@ -61,45 +87,193 @@ fn a_start_off_a_word_is_named_first(rt: HostRuntime) {
     );
 }
 
-fn is_refused(alloc: Global, words: &[&str]) -> bool {
+fn refusal(alloc: Global, words: &[&str]) -> Result<String, Fail> {
     match parse_line(alloc, words) {
-        Err(LineFault::Refused(text)) => text.as_str().starts_with("error: "),
-        _ => false,
+        Err(LineFault::Refused(text)) => Ok(text),
+        _ => Ok(String::from_str(alloc, "not refused")?),
     }
 }
 
 #[test]
-fn other_words_are_refused(rt: HostRuntime) {
+fn other_words_are_refused(rt: HostRuntime) -> Result<(), Fail> {
     let alloc = rt.alloc();
-    assert!(rt; is_refused(alloc, NOTHING.as_slice()));
-    assert!(rt; is_refused(alloc, &["schedule"]));
-    assert!(rt; is_refused(alloc, &["help"]));
-    assert!(rt; is_refused(alloc, &["1"]));
-    assert!(rt; is_refused(alloc, &["run", "--workers", "2"]));
-    assert!(rt; is_refused(alloc, &["run", "--at"]));
-    assert!(rt; is_refused(alloc, &["run", "--at", "0", "--at", "4"]));
-    assert!(rt; is_refused(alloc, &["run", "--at", "65533"]));
-    assert!(rt; is_refused(alloc, &["run", "--at", "x"]));
-    assert!(rt; is_refused(alloc, &["run", "4294967296"]));
-    assert!(rt; is_refused(alloc, &["run", "-1"]));
-    assert!(rt; is_refused(alloc, &["run", "0x10"]));
+    let cases: [(&[&str], &str); 20] = [
+        (
+            &["schedule", "--workers", "9"],
+            "invalid value '9' for '--workers <N>': 9 is not in 1..=8",
+        ),
+        (
+            &["schedule", "--workers", "0"],
+            "invalid value '0' for '--workers <N>': 0 is not in 1..=8",
+        ),
+        (
+            &["schedule", "--load", "0"],
+            "invalid value '0' for '--load <N>': 0 is not in 1..=16",
+        ),
+        (
+            &["counts", "--mult", "17"],
+            "invalid value '17' for '--mult <N>': 17 is not in 1..=16",
+        ),
+        (
+            &["simulate", "--store", "17"],
+            "invalid value '17' for '--store <N>': 17 is not in 1..=16",
+        ),
+        (
+            &["simulate", "--workers", "2"],
+            "unexpected argument '--workers' found\n\n  tip: to pass '--workers' as a value, use '-- --workers'\n\nUsage: ilocfarm simulate [OPTIONS] [WORD]...",
+        ),
+        (
+            &["run", "--load", "5"],
+            "unexpected argument '--load' found\n\n  tip: to pass '--load' as a value, use '-- --load'\n\nUsage: ilocfarm run [OPTIONS] [WORD]...",
+        ),
+        (
+            &["counts", "5"],
+            "unexpected argument '5' found\n\nUsage: ilocfarm counts [OPTIONS]",
+        ),
+        (
+            NOTHING.as_slice(),
+            "'ilocfarm' requires a subcommand but one was not provided\n  [subcommands: run, simulate, schedule, counts]\n\nUsage: ilocfarm <COMMAND>",
+        ),
+        (
+            &["jump"],
+            "unrecognized subcommand 'jump'\n\nUsage: ilocfarm <COMMAND>",
+        ),
+        (
+            &["help"],
+            "unrecognized subcommand 'help'\n\nUsage: ilocfarm <COMMAND>",
+        ),
+        (
+            &["1"],
+            "unrecognized subcommand '1'\n\nUsage: ilocfarm <COMMAND>",
+        ),
+        (
+            &["run", "--workers", "2"],
+            "unexpected argument '--workers' found\n\n  tip: to pass '--workers' as a value, use '-- --workers'\n\nUsage: ilocfarm run [OPTIONS] [WORD]...",
+        ),
+        (
+            &["run", "--at"],
+            "a value is required for '--at <N>' but none was supplied",
+        ),
+        (
+            &["run", "--at", "0", "--at", "4"],
+            "the argument '--at <N>' cannot be used multiple times\n\nUsage: ilocfarm run [OPTIONS] [WORD]...",
+        ),
+        (
+            &["run", "--at", "65533"],
+            "invalid value '65533' for '--at <N>': 65533 is not in 0..=65532",
+        ),
+        (
+            &["run", "--at", "x"],
+            "invalid value 'x' for '--at <N>': invalid digit found in string",
+        ),
+        (
+            &["run", "4294967296"],
+            "invalid value '4294967296' for '[WORD]...': 4294967296 is not in 0..=4294967295",
+        ),
+        (
+            &["run", "-1"],
+            "unexpected argument '-1' found\n\n  tip: to pass '-1' as a value, use '-- -1'\n\nUsage: ilocfarm run [OPTIONS] [WORD]...",
+        ),
+        (
+            &["run", "0x10"],
+            "invalid value '0x10' for '[WORD]...': invalid digit found in string",
+        ),
+    ];
+    for (words, wrong) in cases {
+        let text = format!(in alloc; "error: {wrong}\n\nFor more information, try '--help'.\n")?;
+        assert_eq!(rt; refusal(alloc, words)?.as_str(), text.as_str());
+    }
+    Ok(())
 }
 
-fn helps(alloc: Global, words: &[&str], usage: &str) -> bool {
+fn help(alloc: Global, words: &[&str]) -> Result<String, Fail> {
     match parse_line(alloc, words) {
-        Err(LineFault::Help(text)) => text.as_str().contains(usage),
-        _ => false,
+        Err(LineFault::Help(text)) => Ok(text),
+        _ => Ok(String::from_str(alloc, "no help")?),
     }
 }
 
+const HELP: &str = "List scheduler and simulator for ILOC blocks, which it reads from standard input
+
+Usage: ilocfarm <COMMAND>
+
+Commands:
+  run       Run each block, one operation after the other
+  simulate  Schedule each block, and run the schedule
+  schedule  Schedule each block, and print the schedule
+  counts    Schedule each block, and print how many cycles the schedule takes
+
+Options:
+  -h, --help  Print help
+";
+
+const HELP_OF_RUN: &str = "Run each block, one operation after the other
+
+Usage: ilocfarm run [OPTIONS] [WORD]...
+
+Arguments:
+  [WORD]...  What memory holds from there on, 0 to 4294967295 each; all else is 0
+
+Options:
+      --at <N>  Address of the first WORD, a multiple of 4 up to 65532 [default: 1024]
+  -h, --help    Print help
+";
+
+const HELP_OF_SIMULATE: &str = "Schedule each block, and run the schedule
+
+Usage: ilocfarm simulate [OPTIONS] [WORD]...
+
+Arguments:
+  [WORD]...  What memory holds from there on, 0 to 4294967295 each; all else is 0
+
+Options:
+      --at <N>     Address of the first WORD, a multiple of 4 up to 65532 [default: 1024]
+      --load <N>   Cycles that load and loadAI take, 1 to 16 [default: 5]
+      --store <N>  Cycles that store and storeAI take, 1 to 16 [default: 5]
+      --mult <N>   Cycles that mult and multI take, 1 to 16 [default: 3]
+  -h, --help       Print help
+";
+
+const HELP_OF_SCHEDULE: &str = "Schedule each block, and print the schedule
+
+Usage: ilocfarm schedule [OPTIONS]
+
+Options:
+      --workers <N>  How many workers share the blocks, 1 to 8 [default: 2]
+      --load <N>     Cycles that load and loadAI take, 1 to 16 [default: 5]
+      --store <N>    Cycles that store and storeAI take, 1 to 16 [default: 5]
+      --mult <N>     Cycles that mult and multI take, 1 to 16 [default: 3]
+  -h, --help         Print help
+";
+
+const HELP_OF_COUNTS: &str = "Schedule each block, and print how many cycles the schedule takes
+
+Usage: ilocfarm counts [OPTIONS]
+
+Options:
+      --workers <N>  How many workers share the blocks, 1 to 8 [default: 2]
+      --load <N>     Cycles that load and loadAI take, 1 to 16 [default: 5]
+      --store <N>    Cycles that store and storeAI take, 1 to 16 [default: 5]
+      --mult <N>     Cycles that mult and multI take, 1 to 16 [default: 3]
+  -h, --help         Print help
+";
+
 #[test]
-fn help_shows_the_usage(rt: HostRuntime) {
+fn help_is_shown_whole(rt: HostRuntime) -> Result<(), Fail> {
     let alloc = rt.alloc();
-    let run = "\nUsage: ilocfarm run [OPTIONS] [WORD]...\n";
-    assert!(rt; helps(alloc, &["--help"], "\nUsage: ilocfarm <COMMAND>\n"));
-    assert!(rt; helps(alloc, &["-h"], "\nUsage: ilocfarm <COMMAND>\n"));
-    assert!(rt; helps(alloc, &["run", "--help"], run));
-    assert!(rt; helps(alloc, &["run", "--at", "2", "-h"], run));
+    let cases: [(&[&str], &str); 7] = [
+        (&["--help"], HELP),
+        (&["-h"], HELP),
+        (&["run", "--help"], HELP_OF_RUN),
+        (&["run", "--at", "2", "-h"], HELP_OF_RUN),
+        (&["simulate", "--help"], HELP_OF_SIMULATE),
+        (&["schedule", "--load", "1", "--help"], HELP_OF_SCHEDULE),
+        (&["counts", "-h"], HELP_OF_COUNTS),
+    ];
+    for (words, text) in cases {
+        assert_eq!(rt; help(alloc, words)?.as_str(), text);
+    }
+    Ok(())
 }
 
 #[test]

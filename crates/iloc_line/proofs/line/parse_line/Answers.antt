@@ -1,8 +1,14 @@
-use Rattle.std.proofs.Common.{◌∙◌, sym}
-use Rattle.iloc_line.proofs.Matches.{entered_run, name-rows}
+use Rattle.std.proofs.Common.{◌∙◌, refl, subst, sym}
+use Rattle.std.specs.Prelude.{IsSome}
+use Rattle.iloc_line.proofs.Matches.{entered_command, name-rows}
 use Rattle.iloc_line.proofs.line.parse_line.Goals as goal
 
-pub memory_request-requires : goal.memory_request-requires
-memory_request-requires g c =
-    let run = entered_run _ c.in-Some.name.now _ _ c.in_ok-matches.ensures.rows c.in-Some.ensures.rows (c.in-Some.ensures.name ∙ sym (name-rows _)) c.in_ok-matches.ensures.taken in
-    run.hold
+pub task_of-requires : goal.task_of-requires
+task_of-requires g c =
+    let found = entered_command _ c.in-Some.name.now _ _ c.in_ok-matches.ensures.rows c.in-Some.ensures.rows (c.in-Some.ensures.name ∙ sym (name-rows _)) c.in_ok-matches.ensures.taken in
+    subst IsSome (sym found.named) refl
+
+pub request_in-requires : goal.request_in-requires
+request_in-requires g c =
+    let found = entered_command _ c.in-Some.name.now _ _ c.in_ok-matches.ensures.rows c.in-Some.ensures.rows (c.in-Some.ensures.name ∙ sym (name-rows _)) c.in_ok-matches.ensures.taken in
+    found.hold

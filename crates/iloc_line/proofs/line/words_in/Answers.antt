@@ -13,7 +13,7 @@ loop-value-init c =
     let same = c.into_iter-value-iterator.ensures.into_iter_gives in
     record {
       numbers = rw (c.new-words.ensures.items, same) (many_numbers (codes "words") (rows_of f) left some);
-      in_range = rw same (many_in_range 4294967295 (codes "words") (rows_of f) left some c.requires.words);
+      in_range = rw same (many_in_range 0 4294967295 (codes "words") (rows_of f) left some c.requires.words);
     }
 
 pub unwrap-requires : goal.unwrap-requires

@@ -2,12 +2,12 @@ use Rattle.std.proofs.Common.{◌≡◌, ◌++◌, codes, map}
 use Rattle.clap.specs.Words.{found_of, rows_of}
 use Rattle.clap.specs.Matches.{values_left}
 use Rattle.iloc_line.specs.Asked.{number_of, numbers_in}
-use Rattle.iloc_line.specs.Taken.{AreNumbersUpTo}
+use Rattle.iloc_line.specs.Taken.{AreNumbersIn}
 use Rattle.iloc_line.proofs.line.words_in.Given as goal
 
 abbrev pub invariant-loop-value : goal.invariant-loop-value
 invariant-loop-value l = record {
   numbers : l.words.items ++ map number_of (values_left l.value-iterator)
       ≡ numbers_in (codes "words") (rows_of (found_of l.fn.given));
-  in_range : AreNumbersUpTo 4294967295 (values_left l.value-iterator);
+  in_range : AreNumbersIn 0 4294967295 (values_left l.value-iterator);
 }
