@@ -1,9 +1,11 @@
--- The faults of a run, and the exit statuses of the program.
-use Rattle.std.specs.Prelude.{ℕ}
+-- The faults of a run: what is said of each, and the exit status.
+use Rattle.std.specs.Prelude.{ℕ, List, codes}
+use Rattle.iloc_text.specs.Fault.{fault_text}
 use Rattle.iloc_text.specs.declared.fault.ReadFault.{ReadFault}
 use Rattle.iloc_text.specs.declared.fault.ReadFault.TheVariants as text
 use Rattle.iloc_farm.specs.declared.device.InputFault.{InputFault}
 use Rattle.iloc_farm.specs.declared.device.InputFault.TheVariants as input
+use Rattle.iloc_farm.specs.declared.fault.FarmFault.{FarmFault}
 use Rattle.iloc_farm.specs.declared.fault.FarmFault.TheVariants as farm
 use Rattle.iloc_farm.specs.declared.fault.RunFault.{RunFault}
 use Rattle.iloc_farm.specs.declared.fault.RunFault.TheVariants.{ReadFailed, Text, Farm, WriteFailed}
@@ -17,12 +19,24 @@ text_status (text.TooManyBlocks n) = 1
 text_status (text.TooManyOperations n) = 1
 text_status text.NoMemory = 3
 
--- 1 for a fault in the text, 3 for want of memory, 4 for a device that failed
-abbrev pub status : RunFault → ℕ
-status ReadFailed = 4
-status (Text fault) = text_status fault
-status (Farm farm.NoMemory) = 3
-status WriteFailed = 4
+-- 1 for a fault in the text, 3 for want of memory or of a thread, 4 for a device that failed
+abbrev pub run_status_of : RunFault → ℕ
+run_status_of ReadFailed = 4
+run_status_of (Text fault) = text_status fault
+run_status_of (Farm fault) = 3
+run_status_of WriteFailed = 4
+
+-- what is said of a fault of the work
+abbrev pub farm_text : FarmFault → List ℕ
+farm_text farm.NoThread = codes "a worker could not be started"
+farm_text farm.NoMemory = codes "out of memory"
+
+-- what is said of a fault of a run
+abbrev pub run_text : RunFault → List ℕ
+run_text ReadFailed = codes "reading failed"
+run_text (Text fault) = fault_text fault
+run_text (Farm fault) = farm_text fault
+run_text WriteFailed = codes "writing failed"
 
 -- want of memory, wherever it comes
 abbrev pub no_memory : RunFault

@@ -2,4 +2,6 @@ pub mod Device
 pub mod Fault
 pub mod Initial
 pub mod Listing
+pub mod Program
+pub mod Schedules
 pub mod Run

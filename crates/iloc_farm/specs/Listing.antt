@@ -1,19 +1,40 @@
--- The listing of outcomes.
-use Rattle.std.specs.Prelude.{ℕ, ◌+◌, List, [], ◌∷◌, ◌++◌, Option, Some, None, ℤ, codes}
+-- The listings: of outcomes, of schedules and of their cycles.
+use Rattle.std.specs.Prelude.{ℕ, ◌+◌, List, [], ◌∷◌, ◌++◌, sum_by, Option, Some, None, ℤ, codes}
 use Rattle.std.specs.List.{flat_map}
 use Rattle.std.specs.Fmt.{decimal, signed_decimal}
+use Rattle.iloc_text.specs.declared.op.Op.{Op}
+use Rattle.iloc_text.specs.declared.op.Op.TheVariants.{Nop}
 use Rattle.iloc_text.specs.declared.file.Block.{Block}
+use Rattle.iloc_text.specs.Spelling.{spelling}
 use Rattle.iloc_meaning.specs.declared.outcome.Outcome.{Outcome}
 use Rattle.iloc_meaning.specs.declared.outcome.Outcome.TheVariants.{Finished, Fault}
+use Rattle.iloc_meaning.specs.Trace.{op_at}
+use Rattle.iloc_timed.specs.declared.latencies.Latencies.{Latencies}
+use Rattle.iloc_timed.specs.declared.row.Row.{Row}
+use Rattle.iloc_timed.specs.Cycles.{cycles}
+use Rattle.iloc_timed.specs.Schedule.{Table}
+use Rattle.iloc_farm.specs.declared.listing.Detail.{Detail}
+use Rattle.iloc_farm.specs.declared.listing.Detail.TheVariants as D
+
+-- Blocks
 
 -- the name of a block, `-` where it has none
 abbrev pub shown_name : Option (List ℕ) → List ℕ
 shown_name None = codes "-"
 shown_name (Some name) = name
 
--- the line `block K NAME`
-abbrev pub block_line : ℕ → Option (List ℕ) → List ℕ
-block_line k name = codes "block " ++ decimal k ++ codes " " ++ shown_name name ++ codes "\n"
+-- `block K NAME`
+abbrev pub block_head : ℕ → Option (List ℕ) → List ℕ
+block_head k name = codes "block " ++ decimal k ++ codes " " ++ shown_name name
+
+-- What is listed of blocks, one by one and numbered from k on: for each the `entry` of its number, its name and what
+-- belongs to it.
+abbrev pub entries : {X : Type 0} → (entry : ℕ → Option (List ℕ) → X → List ℕ) → ℕ → List Block → List X → List ℕ
+entries entry k [] items = []
+entries entry k (block ∷ blocks) [] = []
+entries entry k (block ∷ blocks) (item ∷ items) = entry k block.name item ++ entries entry (k + 1) blocks items
+
+-- Outcomes
 
 -- a word on a line of its own, as a signed decimal
 abbrev pub word_line : ℤ → List ℕ
@@ -24,16 +45,57 @@ abbrev pub outcome_lines : Outcome → List ℕ
 outcome_lines (Finished outputs memory) = flat_map word_line outputs
 outcome_lines Fault = codes "fault\n"
 
--- what is listed of the block with the number k
-abbrev pub entry : ℕ → Option (List ℕ) → Outcome → List ℕ
-entry k name outcome = block_line k name ++ outcome_lines outcome
-
--- the entries of blocks with their outcomes, numbered from k on
-abbrev pub entries : ℕ → List Block → List Outcome → List ℕ
-entries k [] outcomes = []
-entries k (block ∷ blocks) [] = []
-entries k (block ∷ blocks) (outcome ∷ outcomes) = entry k block.name outcome ++ entries (k + 1) blocks outcomes
+abbrev pub outcome_entry : ℕ → Option (List ℕ) → Outcome → List ℕ
+outcome_entry k name outcome = block_head k name ++ codes "\n" ++ outcome_lines outcome
 
 -- the listing of a file's blocks with their outcomes
-abbrev pub listing : List Block → List Outcome → List ℕ
-listing blocks outcomes = entries 1 blocks outcomes
+abbrev pub outcomes_listing : List Block → List Outcome → List ℕ
+outcomes_listing blocks outcomes = entries outcome_entry 1 blocks outcomes
+
+-- Schedules
+
+-- the operation in a slot, `nop` where it is empty
+abbrev pub op_in : List Op → Option ℕ → Op
+op_in ops None = Nop
+op_in ops (Some i) = op_at ops i
+
+-- `[ X ; Y ]`: the operation on unit 0, then that on unit 1
+abbrev pub row_line : List Op → Row → List ℕ
+row_line ops row =
+    codes "[ " ++ spelling (op_in ops row.zero) ++ codes " ; " ++ spelling (op_in ops row.one) ++ codes " ]\n"
+
+abbrev pub cycles_of : Latencies → Table → ℕ
+cycles_of lat s = cycles lat s.ops s.rows
+
+abbrev pub schedule_entry : Latencies → ℕ → Option (List ℕ) → Table → List ℕ
+schedule_entry lat k name s =
+    block_head k name ++ codes "\n" ++ flat_map (row_line s.ops) s.rows ++ codes "cycles " ++ decimal (cycles_of lat s) ++ codes "\n"
+
+-- `block K NAME cycles C`
+abbrev pub count_entry : Latencies → ℕ → Option (List ℕ) → Table → List ℕ
+count_entry lat k name s = block_head k name ++ codes " cycles " ++ decimal (cycles_of lat s) ++ codes "\n"
+
+-- the cycles of all schedules together
+abbrev pub total_cycles : Latencies → List Table → ℕ
+total_cycles lat schedules = sum_by (cycles_of lat) schedules
+
+abbrev pub total_line : Latencies → List Table → List ℕ
+total_line lat schedules = codes "total " ++ decimal (total_cycles lat schedules) ++ codes "\n"
+
+-- the listing of a file's blocks with their schedules
+abbrev pub schedules_listing : Latencies → List Block → List Table → List ℕ
+schedules_listing lat blocks schedules =
+    entries (schedule_entry lat) 1 blocks schedules ++ total_line lat schedules
+
+-- the listing of a file's blocks with the cycles of their schedules
+abbrev pub counts_listing : Latencies → List Block → List Table → List ℕ
+counts_listing lat blocks schedules = entries (count_entry lat) 1 blocks schedules ++ total_line lat schedules
+
+-- One loop writes both, in more or less detail
+
+abbrev pub entry_with : Detail → Latencies → ℕ → Option (List ℕ) → Table → List ℕ
+entry_with D.Rows lat k name s = schedule_entry lat k name s
+entry_with D.Cycles lat k name s = count_entry lat k name s
+
+abbrev pub listing_with : Detail → Latencies → List Block → List Table → List ℕ
+listing_with detail lat blocks schedules = entries (entry_with detail lat) 1 blocks schedules ++ total_line lat schedules

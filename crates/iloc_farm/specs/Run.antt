@@ -1,23 +1,51 @@
 -- What a run writes for what it reads.
-use Rattle.std.specs.Prelude.{◌≡◌, ℕ, ℤ, List, map, Option}
+use Rattle.std.specs.Prelude.{◌≡◌, ℕ, ℤ, List, Option}
+use Rattle.std.specs.Io.KnownBytes.{Keeps}
 use Rattle.iloc_text.specs.declared.file.Block.{Block}
 use Rattle.iloc_text.specs.declared.fault.ReadFault.{ReadFault}
 use Rattle.iloc_text.specs.Files.{Denotes, IsRefused}
 use Rattle.iloc_line.specs.declared.request.Request.{Request}
 use Rattle.iloc_line.specs.declared.request.Task.{Task}
 use Rattle.iloc_line.specs.declared.request.Task.TheVariants as task
-use Rattle.iloc_meaning.specs.Outcome.{outcome}
-use Rattle.iloc_farm.specs.Device.{ReadsInput}
+use Rattle.iloc_farm.specs.Device.{ReadsInput, WritesFront}
+use Rattle.iloc_farm.specs.declared.fault.RunFault.{RunFault}
+use Rattle.iloc_farm.specs.declared.fault.RunFault.TheVariants.{ReadFailed, Text, Farm, WriteFailed}
 use Rattle.iloc_farm.specs.Initial.{memory_of}
-use Rattle.iloc_farm.specs.Listing.{listing}
+use Rattle.iloc_timed.specs.declared.latencies.Latencies.{Latencies}
+use Rattle.iloc_timed.specs.Schedule.{Table}
+use Rattle.iloc_farm.specs.Listing.{outcomes_listing, schedules_listing, counts_listing}
+use Rattle.iloc_farm.specs.Schedules.{AreGreedy, AreTheOnlyGreedy, plain_outcomes, timed_outcomes}
 
 -- the listing of the blocks' outcomes, each block run on this memory
 abbrev pub run_listing : List ℤ → List Block → List ℕ
-run_listing memory blocks = listing blocks (map (λ block. outcome block.ops memory) blocks)
+run_listing memory blocks = outcomes_listing blocks (plain_outcomes memory blocks)
 
--- the text is what the task lists of the blocks, where each starts with this memory
-abbrev pub IsListing : Task → List ℤ → List Block → List ℕ → Type 0
-IsListing task.Run memory blocks text = text ≡ run_listing memory blocks
+-- the text is this listing of the blocks' greedy schedules, of which there is just one list
+pub record ListsGreedy (lat : Latencies) (blocks : List Block) (listing : List Table → List ℕ) (text : List ℕ) : Type 0 where
+  pub schedules : List Table
+  pub greedy : AreGreedy lat blocks schedules
+  pub only : AreTheOnlyGreedy lat blocks schedules
+  pub listed : text ≡ listing schedules
+
+-- the listing of what comes of schedules on the timed machine, each on this memory
+abbrev pub simulate_listing : Latencies → List ℤ → List Block → List Table → List ℕ
+simulate_listing lat memory blocks schedules = outcomes_listing blocks (timed_outcomes lat memory schedules)
+
+-- The text is what a request with this task lists of the blocks: what comes of each, run plainly or by its greedy
+-- schedule, which is the same; or the greedy schedules, or their cycles.
+abbrev pub IsListingFor : Task → Request → List Block → List ℕ → Type 0
+IsListingFor task.Run request blocks text = text ≡ run_listing (memory_of request) blocks
+IsListingFor task.Simulate request blocks text =
+    ListsGreedy request.latencies blocks (simulate_listing request.latencies (memory_of request) blocks) text
+    × (text ≡ run_listing (memory_of request) blocks)
+IsListingFor task.Schedule request blocks text =
+    ListsGreedy request.latencies blocks (schedules_listing request.latencies blocks) text
+IsListingFor task.Counts request blocks text =
+    ListsGreedy request.latencies blocks (counts_listing request.latencies blocks) text
+
+-- the text is what the request lists of the blocks
+abbrev pub IsListing : Request → List Block → List ℕ → Type 0
+IsListing request blocks text = IsListingFor request.task request blocks text
 
 -- the bytes that were read denote the blocks
 pub record ReadsFile (old new : Option (List ℕ)) (blocks : List Block) : Type 0 where
@@ -29,10 +57,18 @@ pub record ReadsFile (old new : Option (List ℕ)) (blocks : List Block) : Type 
 pub record Lists (request : Request) (old new : Option (List ℕ)) (text : List ℕ) : Type 0 where
   pub blocks : List Block
   pub file : ReadsFile old new blocks
-  pub listed : IsListing request.task (memory_of request) blocks text
+  pub listed : IsListing request blocks text
 
 -- the bytes that were read are refused for this fault
 pub record Refuses (old new : Option (List ℕ)) (fault : ReadFault) : Type 0 where
   pub input : List ℕ
   pub read : ReadsInput old new input
   pub refused : IsRefused input fault
+
+-- what holds where a run of the request ends with this fault
+abbrev pub EndsRun : Request → Option (List ℕ) → Option (List ℕ) → Option (List ℕ) → Option (List ℕ) → RunFault → Type 0
+EndsRun request read_old read_new written_old written_new ReadFailed = Keeps written_old written_new
+EndsRun request read_old read_new written_old written_new (Text fault) = Refuses read_old read_new fault × Keeps written_old written_new
+EndsRun request read_old read_new written_old written_new (Farm fault) = Keeps written_old written_new
+EndsRun request read_old read_new written_old written_new WriteFailed =
+    (text : List ℕ) × Lists request read_old read_new text × WritesFront written_old written_new text

@@ -1,66 +1,75 @@
 //! Why nothing, or not all, was listed.
 ghost use Rattle.std.specs.Prelude.{◌≡◌};
-ghost use Rattle.iloc_farm.specs.Fault.{status};
+ghost use Rattle.iloc_farm.specs.Fault.{run_status_of};
 
 use crate::device::{InputFault, WriteFailed};
-use iloc_text::fault::ReadFault;
+use iloc_text::{NoMemory, ReadFault};
 use std::alloc::{AllocError, AllocFailed};
-use thiserror::Error;
-
-/// The growth of a list, a text or a memory was refused.
-#[derive(Clone, Copy, Debug, Drop, Error, PartialEq, Eq)]
-#[error("out of memory")]
-pub struct NoMemory;
-
-impl From<AllocError> for NoMemory {
-    fn from(_: AllocError) -> NoMemory {
-        NoMemory
-    }
-}
-
-impl From<iloc_text::fault::NoMemory> for NoMemory {
-    fn from(_: iloc_text::fault::NoMemory) -> NoMemory {
-        NoMemory
-    }
-}
-
-impl From<iloc_meaning::no_memory::NoMemory> for NoMemory {
-    fn from(_: iloc_meaning::no_memory::NoMemory) -> NoMemory {
-        NoMemory
-    }
-}
+use std::error::Error;
+use std::fmt::{self, Display, Formatter};
 
 /// Why the blocks of a file weren't worked through.
-#[derive(Clone, Copy, Debug, Drop, Error, PartialEq, Eq)]
+#[derive(Clone, Copy, Debug, Drop, PartialEq, Eq)]
 pub enum FarmFault {
+    /// A worker could not be started.
+    NoThread,
     /// The growth of a list, a text or a memory was refused.
-    #[error("out of memory")]
     NoMemory,
 }
 
-/// Why a run of the program failed. Its text is what the program says of it.
-#[derive(Clone, Copy, Debug, Drop, Error, PartialEq, Eq)]
+impl Display for FarmFault {
+    ghost use Rattle.std.specs.Prelude.{Some};
+    ghost use Rattle.iloc_farm.specs.Fault.{farm_text};
+
+    ghost output = { λ fault. Some (farm_text fault) };
+
+    fn fmt<W: fmt::Write>(&self, f: &mut Formatter<W>) -> fmt::Result {
+        match self {
+            FarmFault::NoThread => f.write_str("a worker could not be started"),
+            FarmFault::NoMemory => f.write_str("out of memory"),
+        }
+    }
+}
+
+impl Error for FarmFault {}
+
+/// Why a run of a request failed.
+#[derive(Clone, Copy, Debug, Drop, PartialEq, Eq)]
 pub enum RunFault {
     /// A read failed.
-    #[error("reading failed")]
     ReadFailed,
     /// The input is no file. Want of memory is never told here.
-    #[error(transparent)]
     Text(ReadFault),
     /// The work failed, or memory was wanting, also while the input was read.
-    #[error(transparent)]
     Farm(FarmFault),
     /// A write or the flush failed.
-    #[error("writing failed")]
     WriteFailed,
 }
 
+impl Display for RunFault {
+    ghost use Rattle.std.specs.Prelude.{Some};
+    ghost use Rattle.iloc_farm.specs.Fault.{run_text};
+
+    ghost output = { λ fault. Some (run_text fault) };
+
+    fn fmt<W: fmt::Write>(&self, f: &mut Formatter<W>) -> fmt::Result {
+        match self {
+            RunFault::ReadFailed => f.write_str("reading failed"),
+            RunFault::Text(fault) => write!(f, "{fault}"),
+            RunFault::Farm(fault) => write!(f, "{fault}"),
+            RunFault::WriteFailed => f.write_str("writing failed"),
+        }
+    }
+}
+
+impl Error for RunFault {}
+
 /// The exit status of a program that ends with this fault.
 pub fn run_status(fault: &RunFault) -> u8
-    ensures { result ≡ status fault.now }
+    ensures { result ≡ run_status_of fault.now }
 {
     match fault {
-        RunFault::Farm(FarmFault::NoMemory) | RunFault::Text(ReadFault::NoMemory) => 3,
+        RunFault::Farm(_) | RunFault::Text(ReadFault::NoMemory) => 3,
         RunFault::Text(_) => 1,
         RunFault::ReadFailed | RunFault::WriteFailed => 4,
     }
@@ -92,13 +101,53 @@ impl From<ReadFault> for RunFault {
     }
 }
 
-impl From<NoMemory> for RunFault {
-    ghost use Rattle.iloc_farm.specs.Fault.{no_memory};
+impl From<NoMemory> for FarmFault {
+    ghost use Rattle.iloc_farm.specs.declared.fault.FarmFault.TheVariants.{NoMemory as no_memory};
 
     ghost from_gives = { λ _ given. given ≡ no_memory };
 
-    fn from(_: NoMemory) -> RunFault {
-        RunFault::Farm(FarmFault::NoMemory)
+    fn from(_: NoMemory) -> FarmFault {
+        FarmFault::NoMemory
+    }
+}
+
+impl From<iloc_board::NoMemory> for FarmFault {
+    ghost use Rattle.iloc_farm.specs.declared.fault.FarmFault.TheVariants.{NoMemory as no_memory};
+
+    ghost from_gives = { λ _ given. given ≡ no_memory };
+
+    fn from(_: iloc_board::NoMemory) -> FarmFault {
+        FarmFault::NoMemory
+    }
+}
+
+impl From<AllocError> for FarmFault {
+    ghost use Rattle.iloc_farm.specs.declared.fault.FarmFault.TheVariants.{NoMemory as no_memory};
+
+    ghost from_gives = { λ _ given. given ≡ no_memory };
+
+    fn from(_: AllocError) -> FarmFault {
+        FarmFault::NoMemory
+    }
+}
+
+impl<T: Drop> From<AllocFailed<T>> for FarmFault {
+    ghost use Rattle.iloc_farm.specs.declared.fault.FarmFault.TheVariants.{NoMemory as no_memory};
+
+    ghost from_gives = { λ _ given. given ≡ no_memory };
+
+    fn from(_: AllocFailed<T>) -> FarmFault {
+        FarmFault::NoMemory
+    }
+}
+
+impl From<FarmFault> for RunFault {
+    ghost use Rattle.iloc_farm.specs.declared.fault.RunFault.TheVariants.{Farm};
+
+    ghost from_gives = { λ fault given. given ≡ Farm fault };
+
+    fn from(fault: FarmFault) -> RunFault {
+        RunFault::Farm(fault)
     }
 }
 

@@ -2,9 +2,9 @@
 ghost use Rattle.std.specs.Prelude.{◌≡◌, IfOk};
 ghost use Rattle.iloc_farm.specs.Initial.{memory_of};
 
-use crate::fault::NoMemory;
-use iloc_line::request::Request;
-use iloc_meaning::memory::Memory;
+use iloc_line::Request;
+use iloc_meaning::Memory;
+use iloc_text::NoMemory;
 use std::alloc::Global;
 
 /// The memory that a request has each block start with: its words from its start on, and else 0.

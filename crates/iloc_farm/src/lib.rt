@@ -1,8 +1,25 @@
-//! The program's work between its two ends: what is read, what comes of it, and what is written.
+//! The program but for its real streams: what is read, what comes of it, and what is written.
 #![tactic(auto)]
 
-pub mod device;
-pub mod fault;
-pub mod initial;
-pub mod listing;
-pub mod run;
+mod answering;
+mod block_jobs;
+mod crew;
+mod device;
+mod end_to_end;
+#[cfg(test)]
+mod fakes;
+mod farm;
+mod fault;
+mod initial;
+mod listing;
+mod program;
+mod shift;
+mod task;
+
+pub use device::{InputFault, MOST_READ, WriteFailed, read_input, write_text};
+pub use end_to_end::run;
+pub use farm::schedule_all;
+pub use fault::{FarmFault, RunFault, run_status};
+pub use initial::initial_memory;
+pub use listing::{counts_text, outcomes_text, push_outcome, schedules_text};
+pub use program::{Ending, run_program};

@@ -1,20 +1,22 @@
-//! The listing of outcomes.
-ghost use Rattle.std.specs.Prelude.{◌≡◌, ◌<◌, ◌^◌, ◌++◌, length, OnOk, IfOk};
+//! The listings: of outcomes, of schedules and of their cycles.
+ghost use Rattle.std.specs.Prelude.{◌≡◌, ◌<◌, ◌^◌, ◌++◌, length, sum_by, OnOk, IfOk, codes};
 ghost use Rattle.std.specs.Option.{option_copied};
 ghost use Rattle.std.specs.List.{flat_map};
-ghost use Rattle.iloc_farm.specs.Listing.{block_line, word_line, outcome_lines, entry, listing};
+ghost use Rattle.std.specs.Fmt.{decimal};
+ghost use Rattle.iloc_text.specs.Spelling.{spelling};
+ghost use Rattle.iloc_timed.specs.declared.latencies.Latencies.{Latencies};
+ghost use Rattle.iloc_farm.specs.Listing as listed;
 
-use crate::fault::NoMemory;
-use iloc_meaning::outcome::Outcome;
-use iloc_text::file::{IlocFile, Name};
-use iloc_text::spelling::push_number;
+use iloc_meaning::Outcome;
+use iloc_text::{IlocFile, Name, NoMemory, Op, push_number, push_op};
+use iloc_timed::{Latencies, Row, Schedule, cycles};
 use std::alloc::Global;
 
-/// Appends the line `block K NAME`, with `-` for a block without a name.
-fn push_block_line(text: &mut Vec<u8>, number: usize, name: Option<&Name>) -> Result<(), NoMemory>
+/// Appends `block K NAME`, with `-` for a block without a name.
+fn push_block_head(text: &mut Vec<u8>, number: usize, name: Option<&Name>) -> Result<(), NoMemory>
     requires { number < 2 ^ 63 }
     ensures { OnOk result
-        (text.new.items ≡ text.old.items ++ block_line number (option_copied name.entry)) }
+        (text.new.items ≡ text.old.items ++ listed.block_head number (option_copied name.entry)) }
 {
     let name = match name {
         Some(name) => name.as_str(),
@@ -24,23 +26,22 @@ fn push_block_line(text: &mut Vec<u8>, number: usize, name: Option<&Name>) -> Re
     push_number(text, number as i64)?;
     text.extend_from_slice(b" ")?;
     text.extend_from_slice(name.as_bytes())?;
-    text.extend_from_slice(b"\n")?;
     Ok(())
 }
 
 /// Appends each word on a line of its own.
 fn push_words(text: &mut Vec<u8>, words: &[i32]) -> Result<(), NoMemory>
-    ensures { OnOk result (text.new.items ≡ text.old.items ++ flat_map word_line words.now) }
+    ensures { OnOk result (text.new.items ≡ text.old.items ++ flat_map listed.word_line words.now) }
 {
     for word in words {
         push_number(text, i64::from(*word))?;
-        text.extend_from_slice(b"\n")?;
+        text.push(b'\n')?;
     }
     Ok(())
 }
 
-/// Appends what is listed of the block with this number, counted from 1. After a refusal a part of it
-/// may stand behind the text.
+/// Appends what is listed of the block with this number, counted from 1, and this outcome. After a
+/// refusal a part of it may stand behind the text.
 pub fn push_outcome(
     text: &mut Vec<u8>,
     number: usize,
@@ -48,10 +49,11 @@ pub fn push_outcome(
     outcome: &Outcome,
 ) -> Result<(), NoMemory>
     requires { number < 2 ^ 63 }
-    ensures { OnOk result
-        (text.new.items ≡ text.old.items ++ entry number (option_copied name.entry) outcome.now) }
+    ensures { OnOk result (text.new.items
+        ≡ text.old.items ++ listed.outcome_entry number (option_copied name.entry) outcome.now) }
 {
-    push_block_line(text, number, name)?;
+    push_block_head(text, number, name)?;
+    text.push(b'\n')?;
     match outcome {
         Outcome::Finished { outputs, .. } => push_words(text, outputs.as_slice()),
         Outcome::Fault => Ok(text.extend_from_slice(b"fault\n")?),
@@ -65,11 +67,147 @@ pub fn outcomes_text(
     outcomes: &[Outcome],
 ) -> Result<Vec<u8>, NoMemory>
     requires { length outcomes.now ≡ length file.now.blocks }
-    ensures { IfOk result (λ text. text.items ≡ listing file.now.blocks outcomes.now) }
+    ensures { IfOk result (λ text. text.items ≡ listed.outcomes_listing file.now.blocks outcomes.now) }
 {
     let mut text = Vec::new(alloc);
     for (index, block) in file.blocks.as_slice().iter().enumerate() {
         push_outcome(&mut text, index + 1, block.name.as_ref(), &outcomes[index])?;
     }
     Ok(text)
+}
+
+/// Appends the line of a row: `[ X ; Y ]`, with `nop` for an empty slot.
+fn push_row(text: &mut Vec<u8>, ops: &[Op], row: &Row) -> Result<(), NoMemory>
+    ensures { OnOk result (text.new.items ≡ text.old.items ++ listed.row_line ops.now row.now) }
+{
+    text.extend_from_slice(b"[ ")?;
+    push_slot(text, ops, row.zero)?;
+    text.extend_from_slice(b" ; ")?;
+    push_slot(text, ops, row.one)?;
+    text.extend_from_slice(b" ]\n")?;
+    Ok(())
+}
+
+/// Appends the operation in a slot, `nop` for an empty one.
+fn push_slot(text: &mut Vec<u8>, ops: &[Op], slot: Option<usize>) -> Result<(), NoMemory>
+    ensures { OnOk result (text.new.items ≡ text.old.items ++ spelling (listed.op_in ops.now slot)) }
+{
+    match slot.and_then(|i| ops.get(i)) {
+        Some(op) => push_op(text, op),
+        None => push_op(text, &Op::Nop),
+    }
+}
+
+/// Appends a line for each row.
+fn push_rows(text: &mut Vec<u8>, ops: &[Op], rows: &[Row]) -> Result<(), NoMemory>
+    ensures { OnOk result
+        (text.new.items ≡ text.old.items ++ flat_map (listed.row_line ops.now) rows.now) }
+{
+    for row in rows {
+        push_row(text, ops, row)?;
+    }
+    Ok(())
+}
+
+/// What is listed of a schedule.
+#[derive(Clone, Copy, Debug, PartialEq, Eq)]
+enum Detail {
+    /// Its rows and its cycles.
+    Rows,
+    /// Its cycles alone.
+    Cycles,
+}
+
+/// Appends what is listed of the block with this number, counted from 1, and this schedule, which
+/// takes so many cycles.
+fn push_schedule(
+    text: &mut Vec<u8>,
+    number: usize,
+    name: Option<&Name>,
+    schedule: &Schedule,
+    cycles: u64,
+    detail: Detail,
+) -> Result<(), NoMemory>
+    requires number { number < 2 ^ 63 }
+    requires cycles { cycles < 2 ^ 63 }
+    ensures { (latencies : Latencies) → cycles ≡ listed.cycles_of latencies schedule.now →
+        OnOk result (text.new.items ≡ text.old.items
+        ++ listed.entry_with detail latencies number (option_copied name.entry) schedule.now) }
+{
+    push_block_head(text, number, name)?;
+    if detail == Detail::Rows {
+        text.push(b'\n')?;
+        push_rows(text, schedule.ops(), schedule.rows())?;
+        text.extend_from_slice(b"cycles ")?;
+    } else {
+        text.extend_from_slice(b" cycles ")?;
+    }
+    push_number(text, cycles as i64)?;
+    text.push(b'\n')?;
+    Ok(())
+}
+
+/// The listing of a file's blocks with their schedules, in so much detail, and the cycles of all.
+fn farm_text(
+    alloc: Global,
+    file: &IlocFile,
+    latencies: &Latencies,
+    schedules: &[Schedule],
+    detail: Detail,
+) -> Result<Vec<u8>, NoMemory>
+    requires each { length schedules.now ≡ length file.now.blocks }
+    requires total { listed.total_cycles latencies.now schedules.now < 2 ^ 63 }
+    ensures { IfOk result (λ text. text.items ≡
+        listed.listing_with detail latencies.now file.now.blocks schedules.now) }
+{
+    let mut text = Vec::new(alloc);
+    let mut total = 0;
+    for (index, block) in file.blocks.as_slice().iter().enumerate() {
+        let schedule = &schedules[index];
+        let cycles = cycles(schedule, latencies);
+        push_schedule(
+            &mut text,
+            index + 1,
+            block.name.as_ref(),
+            schedule,
+            cycles,
+            detail,
+        )?;
+        total += cycles;
+    }
+    text.extend_from_slice(b"total ")?;
+    push_number(&mut text, total as i64)?;
+    text.push(b'\n')?;
+    Ok(text)
+}
+
+/// The listing of a file's blocks with their schedules: for each its rows and its cycles, and at the
+/// end the cycles of all.
+pub fn schedules_text(
+    alloc: Global,
+    file: &IlocFile,
+    latencies: &Latencies,
+    schedules: &[Schedule],
+) -> Result<Vec<u8>, NoMemory>
+    requires each { length schedules.now ≡ length file.now.blocks }
+    requires total { listed.total_cycles latencies.now schedules.now < 2 ^ 63 }
+    ensures { IfOk result (λ text. text.items ≡
+        listed.schedules_listing latencies.now file.now.blocks schedules.now) }
+{
+    farm_text(alloc, file, latencies, schedules, Detail::Rows)
+}
+
+/// The listing of a file's blocks with the cycles of their schedules, and at the end those of all.
+pub fn counts_text(
+    alloc: Global,
+    file: &IlocFile,
+    latencies: &Latencies,
+    schedules: &[Schedule],
+) -> Result<Vec<u8>, NoMemory>
+    requires each { length schedules.now ≡ length file.now.blocks }
+    requires total { listed.total_cycles latencies.now schedules.now < 2 ^ 63 }
+    ensures { IfOk result (λ text. text.items ≡
+        listed.counts_listing latencies.now file.now.blocks schedules.now) }
+{
+    farm_text(alloc, file, latencies, schedules, Detail::Cycles)
 }

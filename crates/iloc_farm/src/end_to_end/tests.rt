@@ -1,94 +1,15 @@
 use super::*;
+use crate::fakes::{Sink, Source, giving, giving_lines, taking_all};
 use crate::fault::{FarmFault, run_status};
 use crate::listing::outcomes_text;
-use iloc_line::fault::LineFault;
-use iloc_line::line::parse_line;
-use iloc_text::fault::ReadFault;
-use std::io::{Error, ErrorKind, Result as IoResult};
+use iloc_line::{LineFault, parse_line};
+use iloc_text::ReadFault;
+use std::io::ErrorKind;
 use std::test::Fail;
 
 const FIRST: &[u8] = b"loadI 1024 => r0\nloadI 7 => r1\nstore r1 => r0\noutput 1024\n";
 
-/// Gives its bytes, at most `at_once` a call, and then fails or is at its end.
-#[derive(Drop)]
-struct Source<'a> {
-    bytes: &'a [u8],
-    at_once: usize,
-    end: Option<ErrorKind>,
-}
-
-impl<'a> Read for Source<'a> {
-    fn read(&mut self, buf: &mut [u8]) -> IoResult<usize> {
-        if let (true, Some(kind)) = (self.bytes.is_empty(), self.end) {
-            return Err(Error::from(kind));
-        }
-        let count = self.at_once.min(buf.len()).min(self.bytes.len());
-        let (taken, left) = self.bytes.split_at(count);
-        buf[..count].copy_from_slice(taken);
-        self.bytes = left;
-        Ok(count)
-    }
-}
-
-/// Takes `room` bytes, at most `at_once` a call, and then fails.
-#[derive(Drop)]
-struct Sink {
-    taken: Vec<u8>,
-    at_once: usize,
-    room: usize,
-    flushes: bool,
-}
-
-impl Write for Sink {
-    fn write(&mut self, buf: &[u8]) -> IoResult<usize> {
-        let count = self.at_once.min(buf.len()).min(self.room);
-        if count == 0 {
-            return Err(Error::from(ErrorKind::BrokenPipe));
-        }
-        self.taken.extend_from_slice(&buf[..count])?;
-        self.room -= count;
-        Ok(count)
-    }
-
-    fn flush(&mut self) -> IoResult<()> {
-        if self.flushes {
-            Ok(())
-        } else {
-            Err(Error::from(ErrorKind::BrokenPipe))
-        }
-    }
-}
-
-/// Gives line ends without end, and counts them.
-#[derive(Drop)]
-struct Endless {
-    given: usize,
-}
-
-impl Read for Endless {
-    fn read(&mut self, buf: &mut [u8]) -> IoResult<usize> {
-        buf.fill(b'\n');
-        self.given = self.given.saturating_add(buf.len());
-        Ok(buf.len())
-    }
-}
-
-fn giving(bytes: &[u8]) -> Source<'_> {
-    Source {
-        bytes,
-        at_once: usize::MAX,
-        end: None,
-    }
-}
-
-fn taking_all(alloc: Global) -> Sink {
-    Sink {
-        taken: Vec::new(alloc),
-        at_once: usize::MAX,
-        room: usize::MAX,
-        flushes: true,
-    }
-}
+const LISTED: &[u8] = b"block 1 -\n7\n";
 
 /// A plain run on zero memory.
 fn plain(alloc: Global) -> Result<Request, LineFault> {
@@ -118,6 +39,7 @@ fn lists_what_comes_of_each_input(rt: HostRuntime) -> Result<(), Fail> {
     for (input, listing) in cases {
         let mut writer = taking_all(rt.alloc());
         run(
+            &rt,
             rt.alloc(),
             &mut giving(input),
             &mut writer,
@@ -138,22 +60,67 @@ fn takes_one_byte_at_a_time(rt: HostRuntime) -> Result<(), Fail> {
         at_once: 1,
         ..taking_all(rt.alloc())
     };
-    run(rt.alloc(), &mut reader, &mut writer, &plain(rt.alloc())?)?;
-    assert_eq!(rt; writer.taken.as_slice(), b"block 1 -\n7\n".as_slice());
+    run(
+        &rt,
+        rt.alloc(),
+        &mut reader,
+        &mut writer,
+        &plain(rt.alloc())?,
+    )?;
+    assert_eq!(rt; writer.taken.as_slice(), LISTED);
+    assert_eq!(rt; reader.turns, FIRST.len() + 1);
+    Ok(())
+}
+
+#[test]
+fn flushes_what_it_has_written(rt: HostRuntime) -> Result<(), Fail> {
+    for (input, listed) in [(FIRST, LISTED.len()), (b"".as_slice(), 0)] {
+        let mut writer = taking_all(rt.alloc());
+        run(
+            &rt,
+            rt.alloc(),
+            &mut giving(input),
+            &mut writer,
+            &plain(rt.alloc())?,
+        )?;
+        assert_eq!(rt; writer.flushed, Some(listed));
+    }
+    Ok(())
+}
+
+#[test]
+fn reads_no_further_than_the_end(rt: HostRuntime) -> Result<(), Fail> {
+    let input = vec![in rt.alloc(); b'\n'; 20_000]?;
+    let mut reader = giving(&input);
+    let mut writer = taking_all(rt.alloc());
+    run(
+        &rt,
+        rt.alloc(),
+        &mut reader,
+        &mut writer,
+        &plain(rt.alloc())?,
+    )?;
+    assert_eq!(rt; reader.turns, 4);
     Ok(())
 }
 
 #[test]
 fn reads_one_byte_beyond_the_longest_text(rt: HostRuntime) -> Result<(), Fail> {
-    let mut reader = Endless { given: 0 };
-    let fault = run(
-        rt.alloc(),
-        &mut reader,
-        &mut taking_all(rt.alloc()),
-        &plain(rt.alloc())?,
-    );
-    assert_eq!(rt; fault, Err(RunFault::Text(ReadFault::InputTooLong)));
-    assert_eq!(rt; reader.given, 16_777_217);
+    for most in [usize::MAX, 16_777_217] {
+        let mut reader = giving_lines(most);
+        let mut writer = taking_all(rt.alloc());
+        let fault = run(
+            &rt,
+            rt.alloc(),
+            &mut reader,
+            &mut writer,
+            &plain(rt.alloc())?,
+        );
+        assert_eq!(rt; fault, Err(RunFault::Text(ReadFault::InputTooLong)));
+        assert_eq!(rt; reader.given, 16_777_217);
+        assert_eq!(rt; reader.turns, 2_049);
+        assert!(rt; writer.taken.is_empty());
+    }
     Ok(())
 }
 
@@ -162,11 +129,18 @@ fn tells_a_failed_read(rt: HostRuntime) -> Result<(), Fail> {
     for kind in [ErrorKind::BrokenPipe, ErrorKind::Interrupted] {
         let mut reader = Source {
             end: Some(kind),
-            ..giving(b"nop")
+            ..giving(FIRST)
         };
         let mut writer = taking_all(rt.alloc());
-        let fault = run(rt.alloc(), &mut reader, &mut writer, &plain(rt.alloc())?);
+        let fault = run(
+            &rt,
+            rt.alloc(),
+            &mut reader,
+            &mut writer,
+            &plain(rt.alloc())?,
+        );
         assert_eq!(rt; fault, Err(RunFault::ReadFailed));
+        assert_eq!(rt; reader.turns, 2);
         assert!(rt; writer.taken.is_empty());
     }
     Ok(())
@@ -174,35 +148,49 @@ fn tells_a_failed_read(rt: HostRuntime) -> Result<(), Fail> {
 
 #[test]
 fn tells_a_failed_write(rt: HostRuntime) -> Result<(), Fail> {
-    let mut writer = Sink {
-        room: 5,
-        ..taking_all(rt.alloc())
-    };
-    let fault = run(
-        rt.alloc(),
-        &mut giving(b"output 0\noutput 4"),
-        &mut writer,
-        &plain(rt.alloc())?,
-    );
-    assert_eq!(rt; fault, Err(RunFault::WriteFailed));
-    assert_eq!(rt; writer.taken.as_slice(), b"block".as_slice());
+    let cases: [(usize, usize, bool, &[u8]); 4] = [
+        (usize::MAX, 5, true, b"block"),
+        (0, usize::MAX, true, b""),
+        (usize::MAX, 0, true, b""),
+        (usize::MAX, usize::MAX, false, LISTED),
+    ];
+    for (at_once, room, flushes, written) in cases {
+        let mut writer = Sink {
+            at_once,
+            room,
+            flushes,
+            ..taking_all(rt.alloc())
+        };
+        let fault = run(
+            &rt,
+            rt.alloc(),
+            &mut giving(FIRST),
+            &mut writer,
+            &plain(rt.alloc())?,
+        );
+        assert_eq!(rt; fault, Err(RunFault::WriteFailed));
+        assert_eq!(rt; writer.taken.as_slice(), written);
+    }
     Ok(())
 }
 
 #[test]
-fn tells_a_failed_flush(rt: HostRuntime) -> Result<(), Fail> {
-    let mut writer = Sink {
-        room: 0,
-        flushes: false,
-        ..taking_all(rt.alloc())
-    };
-    let fault = run(
-        rt.alloc(),
-        &mut giving(b""),
-        &mut writer,
-        &plain(rt.alloc())?,
-    );
-    assert_eq!(rt; fault, Err(RunFault::WriteFailed));
+fn flushes_an_empty_listing_without_a_write(rt: HostRuntime) -> Result<(), Fail> {
+    for (flushes, done) in [(true, Ok(())), (false, Err(RunFault::WriteFailed))] {
+        let mut writer = Sink {
+            room: 0,
+            flushes,
+            ..taking_all(rt.alloc())
+        };
+        let fault = run(
+            &rt,
+            rt.alloc(),
+            &mut giving(b""),
+            &mut writer,
+            &plain(rt.alloc())?,
+        );
+        assert_eq!(rt; fault, done);
+    }
     Ok(())
 }
 
@@ -248,6 +236,7 @@ fn shows_faults_with_their_status(rt: HostRuntime) -> Result<(), Fail> {
 #[test]
 fn names_the_line_of_a_bad_text(rt: HostRuntime) -> Result<(), Fail> {
     let fault = run(
+        &rt,
         rt.alloc(),
         &mut giving(b"output 0\nadd r1 r2 => r3"),
         &mut taking_all(rt.alloc()),
@@ -279,7 +268,7 @@ fn hands_its_words_to_the_block(rt: HostRuntime) -> Result<(), Fail> {
     for (words, input, listing) in cases {
         let mut writer = taking_all(rt.alloc());
         let request = parse_line(rt.alloc(), words)?;
-        run(rt.alloc(), &mut giving(input), &mut writer, &request)?;
+        run(&rt, rt.alloc(), &mut giving(input), &mut writer, &request)?;
         assert_eq!(rt; writer.taken.as_slice(), listing);
     }
     Ok(())

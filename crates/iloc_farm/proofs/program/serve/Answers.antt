@@ -1,0 +1,26 @@
+use Rattle.std.proofs.Common.{inl, inr}
+use Rattle.iloc_farm.proofs.Words.{is_help, made_err, run_stopped}
+use Rattle.iloc_farm.proofs.program.serve.Goals as goal
+
+pub returns-in_err-run-in-Ok-clause-err : goal.returns-in_err-run-in-Ok-clause-err
+returns-in_err-run-in-Ok-clause-err g c =
+    made_err c.from_residual.result _ _ c.from_residual.ensures.1
+    (run_stopped _ c.in-Ok.request _ _ _ _ c.in_err-run-in-Ok.field-0.0 c.in-Ok.ensures.ok c.in_err-run-in-Ok.ensures.err)
+
+pub returns-in_err-write_text-in-Err-Help-clause-err : goal.returns-in_err-write_text-in-Err-Help-clause-err
+returns-in_err-write_text-in-Err-Help-clause-err g c =
+    let help = is_help c.args.words (g.R.Read.remaining c.args.reader.now) c.in-Err-Help.field-0 c.in-Err-Help.text _ _ c.in-Err-Help.ensures.err c.in-Err-Help.field-0-is c.in-Err-Help.text-is c.as_bytes.ensures.value in
+    made_err c.from_residual-in_err-write_text-in-Err-Help.result _ _ c.from_residual-in_err-write_text-in-Err-Help.ensures.1
+    (record { text = c.as_bytes.result.now; asked = inl help; written = c.in_err-write_text-in-Err-Help.ensures.err })
+
+pub returns-in_ok-run-in-Ok-clause-ok : goal.returns-in_ok-run-in-Ok-clause-ok
+returns-in_ok-run-in-Ok-clause-ok g c = let done = c.in_ok-run-in-Ok.ensures.ok in record {
+  text = done.0;
+  asked = inr (record { request = c.in-Ok.request; asked = c.in-Ok.ensures.ok; listed = done.1 });
+  written = done.2;
+}
+
+pub returns-in_ok-write_text-in-Err-Help-clause-ok : goal.returns-in_ok-write_text-in-Err-Help-clause-ok
+returns-in_ok-write_text-in-Err-Help-clause-ok g c =
+    let help = is_help c.args.words (g.R.Read.remaining c.args.reader.now) c.in-Err-Help.field-0 c.in-Err-Help.text _ _ c.in-Err-Help.ensures.err c.in-Err-Help.field-0-is c.in-Err-Help.text-is c.as_bytes.ensures.value in
+    record { text = c.as_bytes.result.now; asked = inl help; written = c.in_ok-write_text-in-Err-Help.ensures.ok }

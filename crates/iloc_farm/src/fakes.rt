@@ -1,0 +1,111 @@
+//! Readers and writers that are slow, fail or have no end.
+use std::alloc::Global;
+use std::io::{Error, ErrorKind, Read, Result as IoResult, Write};
+
+/// Gives its bytes, at most `at_once` a turn, and then fails or is at its end.
+#[derive(Drop)]
+pub(crate) struct Source<'a> {
+    pub bytes: &'a [u8],
+    pub at_once: usize,
+    pub end: Option<ErrorKind>,
+    /// How often it was read.
+    pub turns: usize,
+}
+
+impl<'a> Read for Source<'a> {
+    fn read(&mut self, buf: &mut [u8]) -> IoResult<usize> {
+        self.turns = self.turns.saturating_add(1);
+        if let (true, Some(kind)) = (self.bytes.is_empty(), self.end) {
+            return Err(Error::from(kind));
+        }
+        let count = self.at_once.min(buf.len()).min(self.bytes.len());
+        let (taken, left) = self.bytes.split_at(count);
+        buf[..count].copy_from_slice(taken);
+        self.bytes = left;
+        Ok(count)
+    }
+}
+
+/// Gives the bytes whole.
+pub(crate) fn giving(bytes: &[u8]) -> Source<'_> {
+    Source {
+        bytes,
+        at_once: usize::MAX,
+        end: None,
+        turns: 0,
+    }
+}
+
+/// Gives line ends, and fails once `most` of them were given.
+#[derive(Drop)]
+pub(crate) struct Endless {
+    pub given: usize,
+    pub most: usize,
+    /// How often it was read.
+    pub turns: usize,
+}
+
+impl Read for Endless {
+    fn read(&mut self, buf: &mut [u8]) -> IoResult<usize> {
+        self.turns = self.turns.saturating_add(1);
+        let count = buf.len().min(self.most.saturating_sub(self.given));
+        if count == 0 {
+            return Err(Error::from(ErrorKind::BrokenPipe));
+        }
+        buf[..count].fill(b'\n');
+        self.given = self.given.saturating_add(count);
+        Ok(count)
+    }
+}
+
+/// Gives line ends until `most` of them were given.
+pub(crate) fn giving_lines(most: usize) -> Endless {
+    Endless {
+        given: 0,
+        most,
+        turns: 0,
+    }
+}
+
+/// Takes `room` bytes, at most `at_once` a turn, and then fails.
+#[derive(Drop)]
+pub(crate) struct Sink {
+    pub taken: Vec<u8>,
+    pub at_once: usize,
+    pub room: usize,
+    /// Whether a flush works.
+    pub flushes: bool,
+    /// How many bytes were taken when it was flushed last.
+    pub flushed: Option<usize>,
+}
+
+impl Write for Sink {
+    fn write(&mut self, buf: &[u8]) -> IoResult<usize> {
+        if self.room == 0 {
+            return Err(Error::from(ErrorKind::BrokenPipe));
+        }
+        let count = self.at_once.min(buf.len()).min(self.room);
+        self.taken.extend_from_slice(&buf[..count])?;
+        self.room -= count;
+        Ok(count)
+    }
+
+    fn flush(&mut self) -> IoResult<()> {
+        if !self.flushes {
+            return Err(Error::from(ErrorKind::BrokenPipe));
+        }
+        self.flushed = Some(self.taken.len());
+        Ok(())
+    }
+}
+
+/// Takes all that comes.
+pub(crate) fn taking_all(alloc: Global) -> Sink {
+    Sink {
+        taken: Vec::new(alloc),
+        at_once: usize::MAX,
+        room: usize::MAX,
+        flushes: true,
+        flushed: None,
+    }
+}

@@ -1,0 +1,180 @@
+//! The whole program but its real streams: from its words, a reader and two writers to its exit status.
+ghost use Rattle.std.specs.Prelude.{◌≡◌, IfErr, IfOk, IfSome, OnOk, drop};
+ghost use Rattle.std.specs.Vec.Iter.{into_iter_items};
+ghost use Rattle.iloc_line.specs.Asked.{asked_in};
+ghost use Rattle.iloc_farm.specs.Program.{AskFor, Ends, IsDone, IsStopped, MakeNone, Says};
+ghost use Rattle.iloc_farm.specs.Program.{named_line, words_line};
+
+use crate::device::{WriteFailed, write_text};
+use crate::end_to_end::run;
+use crate::fault::{RunFault, run_status};
+use arrayvec::ArrayString;
+use iloc_line::{LineFault, Request, line_status, parse_line};
+use std::alloc::{AllocError, Global};
+use std::env::Args;
+use std::fmt::{Display, Write as _};
+use std::io::{self, ErrorKind, Read, Write};
+use std::sync::Wait;
+use std::thread::Threads;
+
+/// What is said of words that are no text.
+const NO_TEXT: &str = "error: invalid UTF-8 was detected in one or more arguments\n";
+
+/// At most so many bytes are said of a fault that the parser didn't find.
+const MOST_SAID: usize = 96;
+
+/// How the program ended.
+#[derive(Clone, Copy, Debug, Drop, PartialEq, Eq)]
+pub struct Ending {
+    /// The exit status.
+    pub status: u8,
+    /// Whether what stopped the program was said whole. `Ok` where nothing did.
+    pub told: Result<(), WriteFailed>,
+}
+
+/// What stops the program.
+#[derive(Drop)]
+enum Fault {
+    /// The words make no request.
+    Line(LineFault),
+    /// The request was not done, or the help not written.
+    Run(RunFault),
+}
+
+impl Fault {
+    ghost use Rattle.iloc_farm.specs.Program.{fault_line, status_of};
+
+    /// The exit status of a program that this fault stops.
+    fn status(&self) -> u8
+        ensures { result ≡ status_of self.now }
+    {
+        match self {
+            Fault::Line(fault) => line_status(fault),
+            Fault::Run(fault) => run_status(fault),
+        }
+    }
+
+    /// Says what stopped the program. This takes no memory.
+    fn tell<F: Write>(&self, faults: &mut F) -> Result<(), WriteFailed>
+        ensures { Says (F.contents faults.old) (F.contents faults.new) result (fault_line self.now) }
+    {
+        match self {
+            Fault::Line(fault) => tell_line(faults, fault),
+            Fault::Run(fault) => tell_named(faults, fault),
+        }
+    }
+}
+
+impl From<RunFault> for Fault {
+    ghost use Rattle.iloc_farm.specs.declared.program.Fault.TheVariants.{Run};
+
+    ghost from_gives = { λ fault given. given ≡ Run fault };
+
+    fn from(fault: RunFault) -> Fault {
+        Fault::Run(fault)
+    }
+}
+
+impl From<WriteFailed> for Fault {
+    ghost use Rattle.iloc_farm.specs.declared.fault.RunFault.TheVariants.{WriteFailed as write_failed};
+    ghost use Rattle.iloc_farm.specs.declared.program.Fault.TheVariants.{Run};
+
+    ghost from_gives = { λ _ given. given ≡ Run write_failed };
+
+    fn from(_: WriteFailed) -> Fault {
+        Fault::Run(RunFault::WriteFailed)
+    }
+}
+
+/// Runs the program on its words, the first of which is its own name: writes what they ask for to
+/// `writer`, or what stopped it to `faults`.
+///
+/// An error in place of the words means that one of them is no text, or want of memory.
+pub fn run_program<H: Threads + Wait + Sync, R: Read, W: Write, F: Write>(
+    rt: &H,
+    alloc: Global,
+    words: io::Result<Args>,
+    reader: &mut R,
+    writer: &mut W,
+    faults: &mut F,
+) -> Ending
+    ensures { Ends words (R.remaining reader.old) (R.remaining reader.new)
+        (W.contents writer.old) (W.contents writer.new)
+        (F.contents faults.old) (F.contents faults.new) result }
+{
+    match serve(rt, alloc, words, reader, writer) {
+        Ok(()) => Ending {
+            status: 0,
+            told: Ok(()),
+        },
+        Err(fault) => Ending {
+            status: fault.status(),
+            told: fault.tell(faults),
+        },
+    }
+}
+
+/// Does what the words ask for.
+fn serve<H: Threads + Wait + Sync, R: Read, W: Write>(
+    rt: &H,
+    alloc: Global,
+    words: io::Result<Args>,
+    reader: &mut R,
+    writer: &mut W,
+) -> Result<(), Fault>
+    ensures ok { OnOk result (IsDone words (R.remaining reader.old) (R.remaining reader.new)
+        (W.contents writer.old) (W.contents writer.new)) }
+    ensures err { IfErr result (IsStopped words (R.remaining reader.old) (R.remaining reader.new)
+        (W.contents writer.old) (W.contents writer.new)) }
+{
+    match request_of(alloc, words) {
+        Ok(request) => Ok(run(rt, alloc, reader, writer, &request)?),
+        Err(LineFault::Help(text)) => Ok(write_text(writer, text.as_bytes())?),
+        Err(fault) => Err(Fault::Line(fault)),
+    }
+}
+
+/// The request that the words make.
+fn request_of(alloc: Global, words: io::Result<Args>) -> Result<Request, LineFault>
+    ensures ok { IfOk result (λ request. AskFor words (asked_in request)) }
+    ensures err { IfErr result (MakeNone words) }
+{
+    match words {
+        Ok(words) => parse_line(alloc, &without_name(alloc, words)?),
+        Err(error) if error.kind() == ErrorKind::OutOfMemory => Err(LineFault::NoMemory),
+        Err(_) => Err(LineFault::Refused(String::from_str(alloc, NO_TEXT)?)),
+    }
+}
+
+/// The words behind the program's name.
+fn without_name(alloc: Global, words: Args) -> Result<Vec<String>, AllocError>
+    ensures { IfOk result (λ behind. behind.items ≡ drop 1 (into_iter_items words)) }
+{
+    words.skip(1).collect(alloc)
+}
+
+/// Says why the words make no request. A refusal of the parser is in its own words.
+fn tell_line<F: Write>(faults: &mut F, fault: &LineFault) -> Result<(), WriteFailed>
+    ensures { Says (F.contents faults.old) (F.contents faults.new) result (words_line fault.now) }
+{
+    match fault {
+        LineFault::Refused(text) => write_text(faults, text.as_bytes()),
+        _ => tell_named(faults, fault),
+    }
+}
+
+/// Says this on a line that begins with the program's name. The line is made on the stack, so that
+/// want of memory can be told, and written in one piece.
+fn tell_named<F: Write, D: Display>(faults: &mut F, fault: &D) -> Result<(), WriteFailed>
+    ensures { IfSome (D.output fault.now) (λ text.
+        Says (F.contents faults.old) (F.contents faults.new) result (named_line text)) }
+{
+    let mut line = ArrayString::<MOST_SAID>::new();
+    match writeln!(line, "ilocfarm: {fault}") {
+        Ok(()) => write_text(faults, line.as_bytes()),
+        Err(_) => Err(WriteFailed),
+    }
+}
+
+#[cfg(test)]
+mod tests;

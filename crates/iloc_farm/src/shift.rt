@@ -1,0 +1,41 @@
+//! A worker's share of the work, as a task.
+ghost use Rattle.std.specs.Prelude.{◌≡◌, OnOk};
+ghost use Rattle.iloc_board.specs.declared.state.State.TheVariants as about;
+ghost use Rattle.iloc_board.specs.Views.{state};
+ghost use Rattle.iloc_board.specs.Working.{IsDone};
+
+use crate::task::Task;
+use iloc_board::{Board, Gate, Jobs, NoMemory, Pass, work};
+
+/// A pass that is to work at a board.
+#[derive(Drop)]
+pub struct Shift<'s, 'a, J: Jobs, G: Gate> {
+    pub board: &'s Board<'a, J>,
+    pub pass: Pass<'a, J>,
+    pub gate: &'s G,
+}
+
+/// A pass that has worked, and whether memory sufficed.
+#[derive(Drop)]
+pub struct Worked<'a, J: Jobs> {
+    pub pass: Pass<'a, J>,
+    pub done: Result<(), NoMemory>,
+}
+
+impl<'s, 'a, J: Jobs, G: Gate> Task for Shift<'s, 'a, J, G> {
+    type Output = Worked<'a, J>;
+
+    ghost can_run = { λ s. (s.pass.board ≡ s.board.now) × (state s.pass ≡ about.Free) };
+
+    ghost run_gives = { λ s w. (w.pass.board ≡ s.board.now) × (w.pass.journal.worker ≡ s.pass.journal.worker) × OnOk w.done (IsDone w.pass.journal) };
+
+    fn run(self) -> Worked<'a, J> {
+        let Shift {
+            board,
+            mut pass,
+            gate,
+        } = self;
+        let done = work(board, &mut pass, gate);
+        Worked { pass, done }
+    }
+}
