@@ -13,6 +13,7 @@ def made_cases():
     yield from numbers()
     yield from blocks()
     yield from operations()
+    yield from schedules()
     yield from words()
 
 
@@ -53,6 +54,20 @@ def operations():
     yield listed("made/most_outputs", outputs, b"block 1 -\n" + b"0\n" * MOST_OPERATIONS)
     yield refused("made/too_many_operations", many + b"nop\n", too_many % (MOST_OPERATIONS + 1))
     yield refused("made/too_many_in_the_second_block", b"nop\nB:" + many + b"nop\n", too_many % (MOST_OPERATIONS + 2))
+
+
+def schedules():
+    loads = b"load r0 => r1\n" * MOST_OPERATIONS
+    pairs = b"store r1 => r0\nload r0 => r2\n" * (MOST_OPERATIONS // 2)
+    empty = b"".join(b"block %d A cycles 0\n" % k for k in range(1, MOST_BLOCKS + 1))
+    for workers in ("1", "8"):
+        words = ["counts", "--workers", workers]
+        yield listed("made/most_loads", loads, b"block 1 - cycles 10004\ntotal 10004\n", words)
+        yield listed("made/stores_and_loads", pairs, b"block 1 - cycles 30004\ntotal 30004\n", words)
+        yield listed("made/most_blocks_counted", b"A:\n" * MOST_BLOCKS, empty + b"total 0\n", words)
+    yield listed("made/most_nops", b"nop\n" * MOST_OPERATIONS, b"block 1 -\ncycles 0\ntotal 0\n", ["schedule"])
+    yield refused("made/too_many_to_count", b"nop\n" * (MOST_OPERATIONS + 1),
+                  b"line 10001: more than 10000 operations in a block", 1, ["counts"])
 
 
 def words():
