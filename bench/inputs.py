@@ -109,7 +109,29 @@ def long_number(_):
     return front + b"0" * (MAX_BYTES - len(front) - len(behind)) + behind
 
 
-MAKERS = [one_block, many_blocks, long_blocks, least_blocks, comments_and_blanks, long_number]
+def middling_blocks(draw):
+    registers = [f"r{number}" for number in range(64)]
+    return b"".join(block(draw, f"L{number}", 60 + draw.below(81), registers) for number in range(1, 7001))
+
+
+def loads(_):
+    return b"load r0 => r1\n" * MAX_OPERATIONS
+
+
+def stores(_):
+    return b"store r1 => r0\n" * MAX_OPERATIONS
+
+
+def stores_and_loads(_):
+    return b"store r1 => r0\nload r0 => r2\n" * (MAX_OPERATIONS // 2)
+
+
+def sums(_):
+    return b"".join(b"addI r0, %d => r%d\n" % (number, number + 1) for number in range(MAX_OPERATIONS))
+
+
+MAKERS = [one_block, many_blocks, middling_blocks, long_blocks, least_blocks, comments_and_blanks, long_number,
+          loads, stores, stores_and_loads, sums]
 NAMES = [maker.__name__ for maker in MAKERS]
 
 

@@ -1,0 +1,44 @@
+//! What `ilocfarm` does on one worker, with the usual latencies and a memory of zeros, in plain Rust: the program that
+//! `bench/run` measures ilocfarm against. Its one argument is the command.
+
+mod fault;
+mod listing;
+mod machine;
+mod operation;
+mod scheduler;
+mod text;
+
+use std::io::{self, Read, Write};
+use std::process::ExitCode;
+
+use fault::{Fault, MAX_BYTES};
+use listing::Command;
+use text::IlocFile;
+
+fn run(command: Command) -> Result<(), Fault> {
+    let mut bytes = Vec::new();
+    let mut input = io::stdin().lock().take(MAX_BYTES as u64 + 1);
+    input
+        .read_to_end(&mut bytes)
+        .map_err(|_| Fault::ReadFailed)?;
+    let listing = listing::of(command, &IlocFile::read(&bytes)?);
+    let mut output = io::stdout().lock();
+    output
+        .write_all(&listing)
+        .and_then(|()| output.flush())
+        .map_err(|_| Fault::WriteFailed)
+}
+
+fn main() -> ExitCode {
+    let Some(command) = std::env::args().nth(1).and_then(|word| Command::named(&word)) else {
+        eprintln!("usage: baseline run|simulate|schedule|counts");
+        return ExitCode::from(2);
+    };
+    match run(command) {
+        Ok(()) => ExitCode::SUCCESS,
+        Err(fault) => {
+            eprintln!("ilocfarm: {fault}");
+            ExitCode::from(fault.status())
+        }
+    }
+}
