@@ -2,6 +2,7 @@
 use crate::{LineFault, Task, line_status, parse_line};
 use iloc_timed::Latencies;
 use std::alloc::Global;
+use std::process::Abort;
 use std::test::Fail;
 
 static NOTHING: [&str; 0] = [];
@@ -94,10 +95,18 @@ fn refusal(alloc: Global, words: &[&str]) -> Result<String, Fail> {
     }
 }
 
-#[test]
-fn other_words_are_refused(rt: HostRuntime) -> Result<(), Fail> {
+fn are_refused(rt: &(impl Abort + AllocGlobal), cases: &[(&[&str], &str)]) -> Result<(), Fail> {
     let alloc = rt.alloc();
-    let cases: [(&[&str], &str); 20] = [
+    for (words, wrong) in cases {
+        let text = format!(in alloc; "error: {wrong}\n\nFor more information, try '--help'.\n")?;
+        assert_eq!(rt; refusal(alloc, words)?.as_str(), text.as_str());
+    }
+    Ok(())
+}
+
+#[test]
+fn workers_and_latencies_have_ranges(rt: HostRuntime) -> Result<(), Fail> {
+    let cases: [(&[&str], &str); 5] = [
         (
             &["schedule", "--workers", "9"],
             "invalid value '9' for '--workers <N>': 9 is not in 1..=8",
@@ -118,18 +127,36 @@ fn other_words_are_refused(rt: HostRuntime) -> Result<(), Fail> {
             &["simulate", "--store", "17"],
             "invalid value '17' for '--store <N>': 17 is not in 1..=16",
         ),
+    ];
+    are_refused(&rt, &cases)
+}
+
+#[test]
+fn what_memory_holds_has_ranges(rt: HostRuntime) -> Result<(), Fail> {
+    let cases: [(&[&str], &str); 4] = [
         (
-            &["simulate", "--workers", "2"],
-            "unexpected argument '--workers' found\n\n  tip: to pass '--workers' as a value, use '-- --workers'\n\nUsage: ilocfarm simulate [OPTIONS] [WORD]...",
+            &["run", "--at", "65533"],
+            "invalid value '65533' for '--at <N>': 65533 is not in 0..=65532",
         ),
         (
-            &["run", "--load", "5"],
-            "unexpected argument '--load' found\n\n  tip: to pass '--load' as a value, use '-- --load'\n\nUsage: ilocfarm run [OPTIONS] [WORD]...",
+            &["run", "--at", "x"],
+            "invalid value 'x' for '--at <N>': invalid digit found in string",
         ),
         (
-            &["counts", "5"],
-            "unexpected argument '5' found\n\nUsage: ilocfarm counts [OPTIONS]",
+            &["run", "4294967296"],
+            "invalid value '4294967296' for '[WORD]...': 4294967296 is not in 0..=4294967295",
         ),
+        (
+            &["run", "0x10"],
+            "invalid value '0x10' for '[WORD]...': invalid digit found in string",
+        ),
+    ];
+    are_refused(&rt, &cases)
+}
+
+#[test]
+fn what_is_no_command_is_refused(rt: HostRuntime) -> Result<(), Fail> {
+    let cases: [(&[&str], &str); 4] = [
         (
             NOTHING.as_slice(),
             "'ilocfarm' requires a subcommand but one was not provided\n  [subcommands: run, simulate, schedule, counts]\n\nUsage: ilocfarm <COMMAND>",
@@ -146,6 +173,25 @@ fn other_words_are_refused(rt: HostRuntime) -> Result<(), Fail> {
             &["1"],
             "unrecognized subcommand '1'\n\nUsage: ilocfarm <COMMAND>",
         ),
+    ];
+    are_refused(&rt, &cases)
+}
+
+#[test]
+fn arguments_of_other_commands_are_refused(rt: HostRuntime) -> Result<(), Fail> {
+    let cases: [(&[&str], &str); 7] = [
+        (
+            &["simulate", "--workers", "2"],
+            "unexpected argument '--workers' found\n\n  tip: to pass '--workers' as a value, use '-- --workers'\n\nUsage: ilocfarm simulate [OPTIONS] [WORD]...",
+        ),
+        (
+            &["run", "--load", "5"],
+            "unexpected argument '--load' found\n\n  tip: to pass '--load' as a value, use '-- --load'\n\nUsage: ilocfarm run [OPTIONS] [WORD]...",
+        ),
+        (
+            &["counts", "5"],
+            "unexpected argument '5' found\n\nUsage: ilocfarm counts [OPTIONS]",
+        ),
         (
             &["run", "--workers", "2"],
             "unexpected argument '--workers' found\n\n  tip: to pass '--workers' as a value, use '-- --workers'\n\nUsage: ilocfarm run [OPTIONS] [WORD]...",
@@ -159,31 +205,11 @@ fn other_words_are_refused(rt: HostRuntime) -> Result<(), Fail> {
             "the argument '--at <N>' cannot be used multiple times\n\nUsage: ilocfarm run [OPTIONS] [WORD]...",
         ),
         (
-            &["run", "--at", "65533"],
-            "invalid value '65533' for '--at <N>': 65533 is not in 0..=65532",
-        ),
-        (
-            &["run", "--at", "x"],
-            "invalid value 'x' for '--at <N>': invalid digit found in string",
-        ),
-        (
-            &["run", "4294967296"],
-            "invalid value '4294967296' for '[WORD]...': 4294967296 is not in 0..=4294967295",
-        ),
-        (
             &["run", "-1"],
             "unexpected argument '-1' found\n\n  tip: to pass '-1' as a value, use '-- -1'\n\nUsage: ilocfarm run [OPTIONS] [WORD]...",
         ),
-        (
-            &["run", "0x10"],
-            "invalid value '0x10' for '[WORD]...': invalid digit found in string",
-        ),
     ];
-    for (words, wrong) in cases {
-        let text = format!(in alloc; "error: {wrong}\n\nFor more information, try '--help'.\n")?;
-        assert_eq!(rt; refusal(alloc, words)?.as_str(), text.as_str());
-    }
-    Ok(())
+    are_refused(&rt, &cases)
 }
 
 fn help(alloc: Global, words: &[&str]) -> Result<String, Fail> {

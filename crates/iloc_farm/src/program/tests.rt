@@ -1,6 +1,7 @@
 use super::*;
 use crate::fakes::{Sink, Source, giving, giving_lines, taking_all};
 use iloc_text::ReadFault;
+use std::process::Abort;
 use std::test::Fail;
 
 const FIRST: &[u8] = b"loadI 1024 => r0\nloadI 7 => r1\nstore r1 => r0\noutput 1024\n";
@@ -25,10 +26,38 @@ fn given(alloc: Global, words: &[&str]) -> Result<io::Result<Args>, Fail> {
     Ok(Ok(args.into_iter()))
 }
 
-#[test]
-fn ends_as_the_words_and_the_input_ask_for(rt: HostRuntime) -> Result<(), Fail> {
+/// Words, input, and what comes of them: the status, what is written and what is said of it.
+type Case = (
+    &'static [&'static str],
+    &'static [u8],
+    u8,
+    &'static str,
+    &'static str,
+);
+
+/// Asserts that the program ends as the cases have it, and reads nothing where the words alone decide.
+fn end_so<H: Abort + AllocGlobal + Threads + Wait + Sync>(
+    rt: &H,
+    cases: &[Case],
+) -> Result<(), Fail> {
     let alloc = rt.alloc();
-    let cases: [(&[&str], &[u8], u8, &str, &str); 12] = [
+    for (words, input, status, written, said) in cases {
+        let mut reader = giving(input);
+        let (mut writer, mut faults) = (taking_all(alloc), taking_all(alloc));
+        let words = given(alloc, words)?;
+        let ending = run_program(rt, alloc, words, &mut reader, &mut writer, &mut faults);
+        assert_eq!(rt; ending.status, *status);
+        assert_eq!(rt; ending.told, Ok(()));
+        assert_eq!(rt; writer.taken.as_slice(), written.as_bytes());
+        assert_eq!(rt; faults.taken.as_slice(), said.as_bytes());
+        assert_eq!(rt; reader.turns == 0, *status == 2 || *written == HELP);
+    }
+    Ok(())
+}
+
+#[test]
+fn lists_what_the_command_asks_for(rt: HostRuntime) -> Result<(), Fail> {
+    let cases: [Case; 6] = [
         (&["run"], FIRST, 0, LISTED, ""),
         (&["simulate", "--store", "16"], FIRST, 0, LISTED, ""),
         (
@@ -53,6 +82,13 @@ fn ends_as_the_words_and_the_input_ask_for(rt: HostRuntime) -> Result<(), Fail> 
             "block 1 -\n5\n",
             "",
         ),
+    ];
+    end_so(&rt, &cases)
+}
+
+#[test]
+fn says_which_line_of_the_text_is_refused(rt: HostRuntime) -> Result<(), Fail> {
+    let cases: [Case; 2] = [
         (
             &["run"],
             b"nop\nadd r1 r2 => r3",
@@ -67,6 +103,13 @@ fn ends_as_the_words_and_the_input_ask_for(rt: HostRuntime) -> Result<(), Fail> 
             "",
             "ilocfarm: line 1: number above 2147483647\n",
         ),
+    ];
+    end_so(&rt, &cases)
+}
+
+#[test]
+fn judges_the_words_before_it_reads(rt: HostRuntime) -> Result<(), Fail> {
+    let cases: [Case; 4] = [
         (
             &["run", "--at", "2"],
             FIRST,
@@ -90,24 +133,7 @@ fn ends_as_the_words_and_the_input_ask_for(rt: HostRuntime) -> Result<(), Fail> 
             "error: unrecognized subcommand 'jump'\n\nUsage: ilocfarm <COMMAND>\n\nFor more information, try '--help'.\n",
         ),
     ];
-    for (words, input, status, written, said) in cases {
-        let mut reader = giving(input);
-        let (mut writer, mut faults) = (taking_all(alloc), taking_all(alloc));
-        let ending = run_program(
-            &rt,
-            alloc,
-            given(alloc, words)?,
-            &mut reader,
-            &mut writer,
-            &mut faults,
-        );
-        assert_eq!(rt; ending.status, status);
-        assert_eq!(rt; ending.told, Ok(()));
-        assert_eq!(rt; writer.taken.as_slice(), written.as_bytes());
-        assert_eq!(rt; faults.taken.as_slice(), said.as_bytes());
-        assert_eq!(rt; reader.turns == 0, status == 2 || written == HELP);
-    }
-    Ok(())
+    end_so(&rt, &cases)
 }
 
 const HELP: &str = "List scheduler and simulator for ILOC blocks, which it reads from standard input
@@ -125,27 +151,27 @@ Options:
 ";
 
 #[test]
-fn tells_a_device_that_fails(rt: HostRuntime) -> Result<(), Fail> {
+fn tells_a_reader_that_fails(rt: HostRuntime) -> Result<(), Fail> {
     let alloc = rt.alloc();
-    let mut faults = taking_all(alloc);
     let mut reader = Source {
         end: Some(ErrorKind::Interrupted),
         ..giving(FIRST)
     };
+    let (mut writer, mut faults) = (taking_all(alloc), taking_all(alloc));
     let words = given(alloc, &["run"])?;
-    let ending = run_program(
-        &rt,
-        alloc,
-        words,
-        &mut reader,
-        &mut taking_all(alloc),
-        &mut faults,
-    );
+    let ending = run_program(&rt, alloc, words, &mut reader, &mut writer, &mut faults);
     assert_eq!(rt; ending.status, 4);
+    assert!(rt; writer.taken.is_empty());
     assert_eq!(rt;
         faults.taken.as_slice(),
         b"ilocfarm: reading failed\n".as_slice()
     );
+    Ok(())
+}
+
+#[test]
+fn tells_a_writer_that_fails(rt: HostRuntime) -> Result<(), Fail> {
+    let alloc = rt.alloc();
     for words in [["run"], ["--help"]] {
         let mut faults = taking_all(alloc);
         let mut writer = Sink {
@@ -153,14 +179,8 @@ fn tells_a_device_that_fails(rt: HostRuntime) -> Result<(), Fail> {
             ..taking_all(alloc)
         };
         let words = given(alloc, &words)?;
-        let ending = run_program(
-            &rt,
-            alloc,
-            words,
-            &mut giving(FIRST),
-            &mut writer,
-            &mut faults,
-        );
+        let mut reader = giving(FIRST);
+        let ending = run_program(&rt, alloc, words, &mut reader, &mut writer, &mut faults);
         assert_eq!(rt; ending.status, 4);
         assert_eq!(rt; writer.taken.len(), 3);
         assert_eq!(rt;
