@@ -13,7 +13,7 @@ use Rattle.iloc_board.specs.History.{handed_by, accepted}
 use Rattle.iloc_board.specs.Journal.{state_of, seen, noted, handed}
 use Rattle.iloc_board.specs.Views.{BoardView, PassView, state, stepped, with_answer, is_looking, job_of, priced}
 use Rattle.iloc_board.specs.Working.{Runs, HandsBack, IsDone}
-use Rattle.iloc_board.specs.Internal.Course.{left, Goes, Ended, HandsNothing}
+use Rattle.iloc_board.specs.Steps.Course.{left, Goes, Ended, HandsNothing}
 use Rattle.iloc_board.proofs.Parts.{state_from-snoc, handed_from-snoc}
 use Rattle.iloc_board.proofs.Passes.{all_fit-append}
 use Rattle.iloc_board.proofs.Works as works

@@ -20,11 +20,11 @@ use Rattle.iloc_board.specs.Sequential.{is_pair, is_out}
 use Rattle.iloc_board.specs.History.{taken_by, takes}
 use Rattle.iloc_board.specs.Journal.{entries_of, state_of, seen, handed, all_handed}
 use Rattle.iloc_board.specs.Play.{final}
-use Rattle.iloc_board.specs.Internal.Rule.{TableState, Sat, Tells, FitsRoot, IsKept}
+use Rattle.iloc_board.specs.Steps.Rule.{TableState, Sat, Tells, FitsRoot, IsKept}
 use Rattle.iloc_board.specs.Views.{BoardView, RootView, AllFit, priced}
-use Rattle.iloc_board.specs.Internal.Inside.{IsRoot}
-use Rattle.iloc_board.specs.Internal.Closing.{IsClosed}
-use Rattle.iloc_board.specs.Internal.Row.{placed, IsFirstHole, HoleOf}
+use Rattle.iloc_board.specs.Steps.Inside.{IsRoot}
+use Rattle.iloc_board.specs.Steps.Closing.{IsClosed}
+use Rattle.iloc_board.specs.Steps.Row.{placed, IsFirstHole, HoleOf}
 use Rattle.iloc_board.specs.Collecting.{AllMade, Apart, answer, said_in, FitsSaid, IsLegalWith, NoneTwice, jobs_of, AreTheAnswers, IsFirstMissing, IsWhole}
 use Rattle.iloc_board.specs.declared.collect.CollectFault.{CollectFault}
 use Rattle.iloc_board.specs.declared.collect.CollectFault.TheVariants.{Missing, NoMemory}

@@ -22,7 +22,7 @@ use Rattle.iloc_board.specs.Core.{Core, opening, worker_of, is_holding, found, m
 use Rattle.iloc_board.specs.Journal.{entries_of, state_of, seen, seen_in, noted}
 use Rattle.iloc_board.specs.Play.{final}
 use Rattle.iloc_board.specs.Collecting.{AllAnswered}
-use Rattle.iloc_board.specs.Internal.Rule.{TableState, root_seat, pass_seat, spent_seat, Tells, FitsPass, FitsRoot, Fits, IsKept, Sat, looks, tries, hands, makes, made_pass, gathers}
+use Rattle.iloc_board.specs.Steps.Rule.{TableState, root_seat, pass_seat, spent_seat, Tells, FitsPass, FitsRoot, Fits, IsKept, Sat, looks, tries, hands, makes, made_pass, gathers}
 use Rattle.iloc_board.proofs.Runs.{played-snoc, final-snoc}
 use Rattle.iloc_board.proofs.Parts.{state_final, made-snoc, made_more, answered-snoc, none_yet, tells_here, tells_else, seen_in_low}
 

@@ -16,7 +16,7 @@ use Rattle.iloc_board.specs.History.{accepted}
 use Rattle.iloc_board.specs.Journal.{entries_of, state_from, state_of, shown, seen_from, seen, seen_in, is_none_left, saw_none, handed_from, noted}
 use Rattle.iloc_board.specs.Play.{final}
 use Rattle.iloc_board.specs.Collecting.{AllMade, AllAnswered}
-use Rattle.iloc_board.specs.Internal.Rule.{Tells}
+use Rattle.iloc_board.specs.Steps.Rule.{Tells}
 use Rattle.iloc_board.proofs.Effects.{finds, misses, none, wins, returns, waits, effect}
 use Rattle.iloc_board.proofs.Runs.{played-snoc, final-snoc}
 

@@ -12,11 +12,11 @@ use Rattle.iloc_board.specs.declared.journal.Journal.{Journal}
 use Rattle.iloc_board.specs.declared.step.Step.TheVariants.{Look, Try, Hand}
 use Rattle.iloc_board.specs.Core.{IsWithin, is_holding, found, missed, state_after, entry}
 use Rattle.iloc_board.specs.History.{accepted}
-use Rattle.iloc_board.specs.Internal.Inside.{IsPass, IsRoot}
+use Rattle.iloc_board.specs.Steps.Inside.{IsPass, IsRoot}
 use Rattle.std.proofs.lemmas.List.{append-nil, append_assoc, map-append}
 use Rattle.iloc_board.proofs.Parts.{state_from-snoc, handed_from-snoc, told_none, looked_seen}
 use Rattle.iloc_board.specs.Journal.{state_of, noted, handed, all_handed, seen, saw_none}
-use Rattle.iloc_board.specs.Internal.Rule.{Sat, pass_seat, root_seat, adds, gathers}
+use Rattle.iloc_board.specs.Steps.Rule.{Sat, pass_seat, root_seat, adds, gathers}
 use Rattle.iloc_board.specs.Views.{BoardView, PassView, RootView, state, stepped, job_of, AllFit, priced}
 
 pub all_fit-append : {A : Type 0} (fits : ℕ → A → Type 0) (xs ys : List (ℕ × A)) → AllFit fits xs → AllFit fits ys → AllFit fits (xs ++ ys)

@@ -13,7 +13,7 @@ use Rattle.iloc_board.specs.Core.{IsWithin, entry, state_after}
 use Rattle.iloc_board.specs.Journal.{state_of, state_from, shown, seen, seen_from, is_none_left, saw_none, noted}
 use Rattle.iloc_board.specs.Views.{is_looking}
 use Rattle.iloc_board.specs.Working.{one_if_stale, stales, Adds, Runs, IsDone}
-use Rattle.iloc_board.specs.Internal.Course.{left_in, left, slack_in, slack, Goes, Ended}
+use Rattle.iloc_board.specs.Steps.Course.{left_in, left, slack_in, slack, Goes, Ended}
 use Rattle.iloc_board.proofs.Parts.{state_from-snoc, seen_from-snoc}
 
 stales-snoc : (es : List Entry) (x : Step) (r : Reply) → stales (es ++ entry x r ∷ []) ≡ stales es + one_if_stale r

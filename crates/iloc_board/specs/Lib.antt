@@ -8,4 +8,4 @@ pub mod Replies
 pub mod Collecting
 pub mod Faults
 pub mod Working
-pub mod Internal
+pub mod Steps

@@ -52,7 +52,7 @@ impl<'a, J: Jobs> Model for Board<'a, J> {
 
     ghost Value = { BoardView J };
 
-    ghost use Rattle.iloc_board.specs.Internal.Inside.{IsBoard};
+    ghost use Rattle.iloc_board.specs.Steps.Inside.{IsBoard};
 
     ghost view = { λ b. record { table = b.table.shared.table_id; jobs = b.jobs.now } };
 

@@ -6,7 +6,7 @@ ghost use Rattle.std.specs.Ordering.{nat_cmp};
 ghost use Rattle.iloc_board.specs.Core.{Core, IsWithin, worker_of, look_reply, try_reply, hand_reply, reply_at, reply_to, state_after, after, opening};
 ghost use Rattle.iloc_board.specs.History.{IsExact};
 ghost use Rattle.iloc_board.specs.Play.{replies, final, IsLegal, TakesEachOnce, EndsAlike};
-ghost use Rattle.iloc_board.specs.Internal.Machine.{Shows, state_in};
+ghost use Rattle.iloc_board.specs.Steps.Machine.{Shows, state_in};
 
 use crate::fault::NoMemory;
 use crate::state::State;
@@ -114,7 +114,7 @@ impl Machine {
         }
     }
 
-    // Makes a step. The workers' states name jobs of the board alone.
+    /// Makes a step. The workers' states name jobs of the board alone.
     fn step(&mut self, step: Step) -> Result<Reply, NoMemory>
         requires few { self.old.count ≤ 65535 }
         requires costs { length self.old.costs.items ≡ self.old.count }

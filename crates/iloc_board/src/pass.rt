@@ -25,7 +25,7 @@ impl<'a, J: Jobs> Model for Pass<'a, J> {
 
     ghost Value = { PassView J J.Answer };
 
-    ghost use Rattle.iloc_board.specs.Internal.Inside.{IsPass};
+    ghost use Rattle.iloc_board.specs.Steps.Inside.{IsPass};
 
     ghost view = { λ p. record {
       board = record { table = p.seat.table_id; jobs = p.jobs.now };
@@ -74,7 +74,7 @@ impl<'a, J: Jobs> Model for Root<'a, J> {
 
     ghost Value = { RootView J J.Answer };
 
-    ghost use Rattle.iloc_board.specs.Internal.Inside.{IsRoot};
+    ghost use Rattle.iloc_board.specs.Steps.Inside.{IsRoot};
 
     ghost view = { λ r. record {
       board = record { table = r.seat.table_id; jobs = r.jobs.now };

@@ -1,5 +1,5 @@
 //! The rule of the board's table, and its five kinds of atomic steps.
-ghost use Rattle.iloc_board.specs.Internal.Rule.{IsKept, root_seat, spent_seat, looks, tries, hands, makes, made_pass, gathers};
+ghost use Rattle.iloc_board.specs.Steps.Rule.{IsKept, root_seat, spent_seat, looks, tries, hands, makes, made_pass, gathers};
 ghost use Rattle.std.specs.Prelude.{[]};
 
 use crate::seat_view::SeatView;

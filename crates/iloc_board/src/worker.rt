@@ -4,7 +4,7 @@ ghost use Rattle.iloc_board.specs.declared.state.State.TheVariants as about;
 ghost use Rattle.iloc_board.specs.Core.{is_holding};
 ghost use Rattle.iloc_board.specs.Views.{state};
 ghost use Rattle.iloc_board.specs.Working.{Runs, HandsBack, IsDone};
-ghost use Rattle.iloc_board.specs.Internal.Course.{Goes, Ended, HandsNothing};
+ghost use Rattle.iloc_board.specs.Steps.Course.{Goes, Ended, HandsNothing};
 
 use crate::board::{Board, Seen, Tried};
 use crate::fault::NoMemory;
@@ -35,7 +35,7 @@ pub fn work<'a, J: Jobs, G: Gate>(
     Ok(())
 }
 
-// Takes a job, or sees that none is left.
+/// Takes a job, or sees that none is left.
 fn claim<'a, J: Jobs, G: Gate>(
     board: &Board<'a, J>,
     pass: &mut Pass<'a, J>,

@@ -5,3 +5,4 @@ pub mod Listing
 pub mod Program
 pub mod Schedules
 pub mod Run
+pub mod Steps

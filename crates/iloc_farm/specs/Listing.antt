@@ -13,8 +13,6 @@ use Rattle.iloc_timed.specs.declared.latencies.Latencies.{Latencies}
 use Rattle.iloc_timed.specs.declared.row.Row.{Row}
 use Rattle.iloc_timed.specs.Cycles.{cycles}
 use Rattle.iloc_timed.specs.Schedule.{Table}
-use Rattle.iloc_farm.specs.declared.listing.Detail.{Detail}
-use Rattle.iloc_farm.specs.declared.listing.Detail.TheVariants as D
 
 -- Blocks
 
@@ -90,12 +88,3 @@ schedules_listing lat blocks schedules =
 -- the listing of a file's blocks with the cycles of their schedules
 abbrev pub counts_listing : Latencies → List Block → List Table → List ℕ
 counts_listing lat blocks schedules = entries (count_entry lat) 1 blocks schedules ++ total_line lat schedules
-
--- One loop writes both, in more or less detail
-
-abbrev pub entry_with : Detail → Latencies → ℕ → Option (List ℕ) → Table → List ℕ
-entry_with D.Rows lat k name s = schedule_entry lat k name s
-entry_with D.Cycles lat k name s = count_entry lat k name s
-
-abbrev pub listing_with : Detail → Latencies → List Block → List Table → List ℕ
-listing_with detail lat blocks schedules = entries (entry_with detail lat) 1 blocks schedules ++ total_line lat schedules

@@ -34,7 +34,7 @@ where
     Ok(finish(board, root)?)
 }
 
-// A shift for each pass that the root may make.
+/// A shift for each pass that the root may make.
 fn shifts<'s, 'a, J: Jobs, G: Gate>(
     alloc: Global,
     board: &'s Board<'a, J>,
@@ -57,7 +57,7 @@ fn shifts<'s, 'a, J: Jobs, G: Gate>(
     Ok(made)
 }
 
-// Gathers a pass that has worked, and tells whether memory sufficed for its work and for the gathering.
+/// Gathers a pass that has worked, and tells whether memory sufficed for its work and for the gathering.
 fn gather_one<'a, J: Jobs>(
     board: &Board<'a, J>,
     root: &mut Root<'a, J>,
@@ -75,7 +75,7 @@ fn gather_one<'a, J: Jobs>(
     done
 }
 
-// Gathers every pass, and then tells whether memory sufficed for all of them.
+/// Gathers every pass, and then tells whether memory sufficed for all of them.
 fn gather_all<'a, J: Jobs>(
     board: &Board<'a, J>,
     root: &mut Root<'a, J>,
@@ -97,7 +97,7 @@ fn gather_all<'a, J: Jobs>(
     all
 }
 
-// Closes a board at which all was done.
+/// Closes a board at which all was done.
 fn finish<'a, J: Jobs>(
     board: Board<'a, J>,
     root: Root<'a, J>,

@@ -18,7 +18,7 @@ impl<T: Task> Promise<T::Output> for Gives<T> {
     ghost kept_by = { λ p r. T.run_gives p.0.value r };
 }
 
-// Starts a thread for each task.
+/// Starts a thread for each task.
 fn start_all<'s, E, T: Task + Send + Drop + 's>(
     alloc: Global,
     scope: &Scope<'s, E>,

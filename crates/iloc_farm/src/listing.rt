@@ -6,6 +6,7 @@ ghost use Rattle.std.specs.Fmt.{decimal};
 ghost use Rattle.iloc_text.specs.Spelling.{spelling};
 ghost use Rattle.iloc_timed.specs.declared.latencies.Latencies.{Latencies};
 ghost use Rattle.iloc_farm.specs.Listing as listed;
+ghost use Rattle.iloc_farm.specs.Steps.Detailed.{entry_with, listing_with};
 
 use iloc_meaning::Outcome;
 use iloc_text::{IlocFile, Name, NoMemory, Op, push_number, push_op};
@@ -132,7 +133,7 @@ fn push_schedule(
     requires cycles { cycles < 2 ^ 63 }
     ensures { (latencies : Latencies) → cycles ≡ listed.cycles_of latencies schedule.now →
         OnOk result (text.new.items ≡ text.old.items
-        ++ listed.entry_with detail latencies number (option_copied name.entry) schedule.now) }
+        ++ entry_with detail latencies number (option_copied name.entry) schedule.now) }
 {
     push_block_head(text, number, name)?;
     if detail == Detail::Rows {
@@ -158,7 +159,7 @@ fn farm_text(
     requires each { length schedules.now ≡ length file.now.blocks }
     requires total { listed.total_cycles latencies.now schedules.now < 2 ^ 63 }
     ensures { IfOk result (λ text. text.items ≡
-        listed.listing_with detail latencies.now file.now.blocks schedules.now) }
+        listing_with detail latencies.now file.now.blocks schedules.now) }
 {
     let mut text = Vec::new(alloc);
     let mut total = 0;

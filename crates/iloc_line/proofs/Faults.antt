@@ -8,8 +8,8 @@ use Rattle.clap.specs.declared.error.kind.ErrorKind.TheVariants.{DisplayHelp, Ou
 use Rattle.std.specs.Prelude.{List, Option, Some}
 use Rattle.iloc_line.specs.Asked.{Asked}
 use Rattle.iloc_line.specs.Command.{farm_app}
-use Rattle.iloc_line.specs.Due.{Asks, IsDue, IsOutOfRange, faults_in}
-use Rattle.iloc_line.specs.Fault.{IsFaultBy}
+use Rattle.iloc_line.specs.Due.{Asks, IsDue, faults_in}
+use Rattle.iloc_line.specs.Steps.Refusing.{IsFaultBy, IsOutOfRange}
 use Rattle.iloc_line.specs.declared.fault.LineFault.{LineFault}
 use Rattle.iloc_line.specs.declared.fault.LineFault.TheVariants.{Help, Refused, BadStart, TooManyWords, NoMemory}
 

@@ -9,7 +9,7 @@ use Rattle.clap.specs.Matches.{ReadsOne, StepsValues, matched_of, one_text, type
 use Rattle.clap.specs.Walk.{Row, Text, many_of, one_of, rows_of}
 use Rattle.clap.specs.declared.parser.matches.Found.{Found}
 use Rattle.iloc_line.specs.Asked.{number_of, number_or, numbers_in}
-use Rattle.iloc_line.specs.Taken.{AreNumbersIn, HoldsIn, IsNumberIn}
+use Rattle.iloc_line.specs.Steps.Taken.{AreNumbersIn, HoldsIn, IsNumberIn}
 
 -- what `u32` reads from a text
 abbrev pub ReadsWord : Text → Result ℕ ParseIntError → Type 0

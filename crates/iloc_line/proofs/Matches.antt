@@ -21,7 +21,7 @@ use Rattle.clap.specs.declared.parser.matches.SubCommand.{SubCommand}
 use Rattle.iloc_line.specs.Asked.{asked, asked_as, asked_by, task_named}
 use Rattle.iloc_line.specs.Command.{Entry, entries, farm_app, run_entry, schedule_entry, shape, simulate_entry}
 use Rattle.iloc_line.specs.Due.{faults_in}
-use Rattle.iloc_line.specs.Taken.{AreNumbersIn, HoldNumbers, HoldsIn, IsNumberIn}
+use Rattle.iloc_line.specs.Steps.Taken.{AreNumbersIn, HoldNumbers, HoldsIn, IsNumberIn}
 use Rattle.iloc_line.specs.declared.request.Task.{Task}
 use Rattle.iloc_line.proofs.Leaves.{found_kept, leaf_kept, row_in}
 use Rattle.iloc_line.proofs.Numbers.{taken_numbers}

@@ -9,7 +9,7 @@ use Rattle.clap.specs.Lexer.{without_minus}
 use Rattle.clap.specs.Values.{IsSignedIn, read_as}
 use Rattle.clap.specs.declared.builder.value_parser.Reading.TheVariants.{WithoutMinus}
 use Rattle.clap.specs.Walk.{Text}
-use Rattle.iloc_line.specs.Taken.{IsNumberIn, AreNumbersIn}
+use Rattle.iloc_line.specs.Steps.Taken.{IsNumberIn, AreNumbersIn}
 use Rattle.iloc_line.proofs.Rows.{both_empty}
 use Rattle.clap.proofs.ValueTestLemmas.{accepts-Accepts}
 use Rattle.clap.specs.Kinds.{value_kinds, values_kinds}

@@ -1,12 +1,9 @@
 -- The program's command line, as the parser reads it.
-use Rattle.std.specs.Prelude.{◌≡◌, ℕ, List, [], ◌∷◌, Some, map, pos, codes, true, false}
+use Rattle.std.specs.Prelude.{ℕ, List, [], ◌∷◌, Some, map, pos, codes, true, false}
 use Rattle.clap.specs.declared.builder.action.ArgAction.TheVariants.{Append}
-use Rattle.clap.specs.declared.builder.arg.Arg.{Arg}
-use Rattle.clap.specs.declared.builder.command.Command.{Command}
-use Rattle.clap.specs.declared.builder.command.Command.TheViews.{out-Command}
 use Rattle.clap.specs.declared.builder.value_parser.ValueParser.TheVariants.{Signed}
 use Rattle.clap.specs.Lexer.{usize_max}
-use Rattle.clap.specs.Words.{App, Rule, Shape, Text, app_of, new_rule, rule_of}
+use Rattle.clap.specs.Words.{App, Rule, Shape, Text, new_rule}
 use Rattle.clap.specs.Simple.{new_shape}
 use Rattle.iloc_line.specs.declared.request.Task.{Task}
 use Rattle.iloc_line.specs.declared.request.Task.TheVariants.{Run, Simulate, Schedule, Counts}
@@ -77,17 +74,6 @@ entries = run_entry ∷ simulate_entry ∷ schedule_entry ∷ counts_entry ∷ [
 abbrev pub shape : Entry → Shape
 shape e = record (new_shape e.name) { rules = e.rules }
 
--- it has no commands below it
-abbrev pub alone : Shape → App
-alone s = record { top = s; subs = [] }
-
-abbrev pub app : Entry → App
-app e = alone (shape e)
-
--- a command of this name that takes words and their start
-abbrev pub memory_shape : Text → Shape
-memory_shape name = record (new_shape name) { rules = at_rule ∷ words_rule ∷ [] }
-
 -- the program without its commands: its words stand after its name, the first of them is a command,
 -- one has to be there, and there is no command `help`
 abbrev pub top_shape : Shape
@@ -100,13 +86,3 @@ top_shape = record (new_shape (codes "ilocfarm")) {
 -- the whole command line
 abbrev pub farm_app : App
 farm_app = record { top = record top_shape { is_leaf = false }; subs = map shape entries }
-
--- the argument has this rule, and is for its own command alone
-pub record HasRule (wanted : Rule) (a : Arg) : Type 0 where
-  pub rule : rule_of a ≡ wanted
-  pub global : a.global ≡ false
-
--- the command is this one, and its arguments are for it alone
-pub record HasApp (wanted : App) (c : Command) : Type 0 where
-  pub app : app_of c ≡ wanted
-  pub globals : (out-Command c).has_globals ≡ false

@@ -39,11 +39,3 @@ IsDue words (Refused text) =
 IsDue words (BadStart at) = (a : Asked) × Asks words a × StartsAmiss at a
 IsDue words TooManyWords = (a : Asked) × Asks words a × Overflows a
 IsDue words NoMemory = Unit {0}
-
--- what was asked for is out of range in this way, or memory was wanting
-abbrev pub IsOutOfRange : Asked → LineFault → Type 0
-IsOutOfRange a (Help text) = ⊥
-IsOutOfRange a (Refused text) = ⊥
-IsOutOfRange a (BadStart at) = StartsAmiss at a
-IsOutOfRange a TooManyWords = Overflows a
-IsOutOfRange a NoMemory = Unit {0}

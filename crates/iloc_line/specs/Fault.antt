@@ -1,8 +1,6 @@
--- The text and the exit status of a fault, and the fault that an error of the parser gives.
-use Rattle.std.specs.Prelude.{◌≡◌, ◌≢◌, ℕ, List, codes}
+-- The text and the exit status of a fault.
+use Rattle.std.specs.Prelude.{ℕ, List, codes}
 use Rattle.std.specs.String.{string_bytes}
-use Rattle.clap.specs.declared.error.kind.ErrorKind.{ErrorKind}
-use Rattle.clap.specs.declared.error.kind.ErrorKind.TheVariants.{DisplayHelp, OutOfMemory}
 use Rattle.iloc_line.specs.declared.fault.LineFault.{LineFault}
 use Rattle.iloc_line.specs.declared.fault.LineFault.TheVariants.{Help, Refused, BadStart}
 use Rattle.iloc_line.specs.declared.fault.LineFault.TheVariants.{TooManyWords, NoMemory}
@@ -22,11 +20,3 @@ status_of (Refused text) = 2
 status_of (BadStart at) = 2
 status_of TooManyWords = 2
 status_of NoMemory = 3
-
--- the fault is the one for an error of the parser of this kind
-abbrev pub IsFaultBy : ErrorKind → LineFault → Type 0
-IsFaultBy kind (Help text) = kind ≡ DisplayHelp
-IsFaultBy kind (Refused text) = (kind ≢ DisplayHelp) × (kind ≢ OutOfMemory)
-IsFaultBy kind (BadStart at) = ⊥
-IsFaultBy kind TooManyWords = ⊥
-IsFaultBy kind NoMemory = kind ≡ OutOfMemory

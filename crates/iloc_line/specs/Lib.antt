@@ -2,4 +2,4 @@ pub mod Asked
 pub mod Command
 pub mod Due
 pub mod Fault
-pub mod Taken
+pub mod Steps

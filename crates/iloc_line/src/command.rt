@@ -1,9 +1,10 @@
 //! The program's command line, as the parser reads it.
 ghost use Rattle.std.specs.Prelude.{IfOk, codes};
-ghost use Rattle.iloc_line.specs.Command.{HasApp, HasRule, alone, app, at_rule, counts_entry};
-ghost use Rattle.iloc_line.specs.Command.{farm_app, latency_rule, memory_shape, run_entry};
+ghost use Rattle.iloc_line.specs.Command.{at_rule, counts_entry};
+ghost use Rattle.iloc_line.specs.Command.{farm_app, latency_rule, run_entry};
 ghost use Rattle.iloc_line.specs.Command.{schedule_entry, simulate_entry, top_shape, words_rule};
 ghost use Rattle.iloc_line.specs.Command.{workers_rule};
+ghost use Rattle.iloc_line.specs.Steps.Building.{HasApp, HasRule, alone, app, memory_shape};
 
 use clap::{Arg, ArgAction, Command, value_parser};
 use std::alloc::{AllocError, Global};

@@ -1,7 +1,8 @@
 //! Why a command line gives no request.
 ghost use Rattle.std.specs.Prelude.{◌≡◌, IfOk};
 ghost use Rattle.clap.specs.Words.{kind_of};
-ghost use Rattle.iloc_line.specs.Fault.{IsFaultBy, status_of};
+ghost use Rattle.iloc_line.specs.Fault.{status_of};
+ghost use Rattle.iloc_line.specs.Steps.Refusing.{IsFaultBy};
 ghost use Rattle.iloc_line.specs.declared.fault.LineFault.TheVariants.{NoMemory};
 
 use clap::error::{Error as ClapError, ErrorKind};

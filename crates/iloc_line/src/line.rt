@@ -4,8 +4,9 @@ ghost use Rattle.clap.specs.Words.{found_of, has_subcommand, rows_of, subcommand
 ghost use Rattle.clap.specs.Words.{subcommand_rows_of};
 ghost use Rattle.iloc_line.specs.Asked.{asked_as, asked_in, number_or, numbers_in, task_named};
 ghost use Rattle.iloc_line.specs.Command.{farm_app};
-ghost use Rattle.iloc_line.specs.Due.{Asks, IsDue, IsOutOfRange, faults_in};
-ghost use Rattle.iloc_line.specs.Taken.{HoldNumbers, HoldsIn};
+ghost use Rattle.iloc_line.specs.Due.{Asks, IsDue, faults_in};
+ghost use Rattle.iloc_line.specs.Steps.Refusing.{IsOutOfRange};
+ghost use Rattle.iloc_line.specs.Steps.Taken.{HoldNumbers, HoldsIn};
 ghost use Rattle.iloc_timed.specs.Latency.{IsLatency};
 
 use crate::command::farm_command;

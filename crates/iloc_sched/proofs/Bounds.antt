@@ -15,7 +15,7 @@ use Rattle.iloc_meaning.proofs.Cases.{by_bool}
 use Rattle.iloc_sched.specs.Delays.{delays}
 use Rattle.iloc_sched.specs.Priority.{priorities, priority}
 use Rattle.iloc_sched.specs.Greedy.{is_ready, ready, chosen, IsGreedy}
-use Rattle.iloc_sched.specs.steps.Choosing.{IsChosenSoFar}
+use Rattle.iloc_sched.specs.Steps.Choosing.{IsChosenSoFar}
 use Rattle.iloc_sched.proofs.Members.{In, contains_from}
 use Rattle.iloc_sched.proofs.ListFacts.{not_all, in_filter, in_map, from_map, in_range_from, from_range}
 use Rattle.iloc_sched.proofs.Maxima.{fold_max_each, fold_max_reached}

@@ -10,7 +10,7 @@ use Rattle.iloc_timed.specs.Rows.{row_at, slots, issue_cycle, times_issued, keep
 use Rattle.iloc_sched.specs.Renaming.{renamed}
 use Rattle.iloc_sched.specs.Priority.{priorities}
 use Rattle.iloc_sched.specs.Greedy.{ready, chosen, IsGreedy}
-use Rattle.iloc_sched.specs.steps.Choosing.{IsChosenSoFar}
+use Rattle.iloc_sched.specs.Steps.Choosing.{IsChosenSoFar}
 use Rattle.iloc_sched.proofs.Members.{In, in_from}
 use Rattle.iloc_sched.proofs.Tables.{count_in, stands_there}
 use Rattle.iloc_sched.proofs.RowFacts.{row_at_more, row_at_last, row_at_past, times_one}

@@ -26,7 +26,7 @@ pub mod Bounds
 pub mod OneGreedy
 pub mod LawfulOutcomes
 pub mod Existing
-pub mod steps
+pub mod Steps
 pub mod Ordered
 pub mod RisingDelays
 pub mod PairLists

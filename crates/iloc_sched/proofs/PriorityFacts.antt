@@ -7,7 +7,7 @@ use Rattle.iloc_timed.specs.declared.latencies.Latencies.{Latencies}
 use Rattle.iloc_timed.specs.Latency.{latency}
 use Rattle.iloc_sched.specs.Delays.{delays, IsDelayPair}
 use Rattle.iloc_sched.specs.Priority.{reaches, priorities, priority}
-use Rattle.iloc_sched.specs.steps.Longest.{IsPriority}
+use Rattle.iloc_sched.specs.Steps.Longest.{IsPriority}
 use Rattle.iloc_sched.proofs.Members.{In, contains_from, in_from}
 use Rattle.iloc_sched.proofs.ListFacts.{in_left, in_right, from_append, in_map, from_map}
 use Rattle.iloc_sched.proofs.Maxima.{fold_max_start, fold_max_each, fold_max_reached}

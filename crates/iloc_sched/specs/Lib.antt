@@ -5,4 +5,4 @@ pub mod Priority
 pub mod Lawful
 pub mod Greedy
 pub mod Laws
-pub mod steps
+pub mod Steps

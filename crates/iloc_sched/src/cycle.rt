@@ -1,10 +1,10 @@
 //! One cycle of a schedule after another.
 ghost use Rattle.std.specs.Prelude.{ℕ, ◌≡◌, ◌+◌, ◌<◌, ◌≤◌, [], length, IfOk, OnOk};
 ghost use Rattle.iloc_timed.specs.Rows.{row_at, slots};
-ghost use Rattle.iloc_sched.specs.steps.Members.{In, AreApart};
-ghost use Rattle.iloc_sched.specs.steps.Changes.{HasNone};
-ghost use Rattle.iloc_sched.specs.steps.Queued.{candidates, IsBest};
-ghost use Rattle.iloc_sched.specs.steps.SoFar.{IsPlan, Admits, IsUnderWay, IsSoFar, IssuesAny, row_with, slot_count, waiting_count};
+ghost use Rattle.iloc_sched.specs.Steps.Members.{In, AreApart};
+ghost use Rattle.iloc_sched.specs.Steps.Changes.{HasNone};
+ghost use Rattle.iloc_sched.specs.Steps.Queued.{candidates, IsBest};
+ghost use Rattle.iloc_sched.specs.Steps.SoFar.{IsPlan, Admits, IsUnderWay, IsSoFar, IssuesAny, row_with, slot_count, waiting_count};
 
 use crate::candidate::Candidate;
 use crate::class::Class;
@@ -64,7 +64,7 @@ fn slot_count(beside: &Option<Choice>) -> usize
 }
 
 impl Waiting {
-    ghost use Rattle.iloc_sched.specs.steps.Graph.{IsGraph};
+    ghost use Rattle.iloc_sched.specs.Steps.Graph.{IsGraph};
 
     /// At the start of a cycle what becomes ready then goes into the queues.
     fn release(&mut self, plan: &Plan, queues: &mut Queues, cycle: u32) -> Result<(), NoMemory>

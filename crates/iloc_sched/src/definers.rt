@@ -15,7 +15,7 @@ pub struct Definers {
 }
 
 impl Definers {
-    ghost use Rattle.iloc_sched.specs.steps.Lasts.{definer, SetsDefiner, NotesDefiner};
+    ghost use Rattle.iloc_sched.specs.Steps.Lasts.{definer, SetsDefiner, NotesDefiner};
 
     /// No register is defined. Look-ups are fastest for registers below three times the number of operations.
     pub fn new(alloc: Global, ops: usize) -> Result<Definers, NoMemory>

@@ -23,7 +23,7 @@ pub struct Lasts {
 }
 
 impl Lasts {
-    ghost use Rattle.iloc_sched.specs.steps.Lasts.{IsLasts, NotesKind, loads_before};
+    ghost use Rattle.iloc_sched.specs.Steps.Lasts.{IsLasts, NotesKind, loads_before};
 
     /// Before the first of so many operations.
     pub fn new(alloc: Global, count: usize) -> Result<Lasts, NoMemory>

@@ -18,11 +18,11 @@ use iloc_timed::{Kind, Latencies, latency};
 use std::alloc::Global;
 
 impl Edges {
-    ghost use Rattle.iloc_sched.specs.steps.Members.{In};
-    ghost use Rattle.iloc_sched.specs.steps.Graph.{IsGraphOf};
-    ghost use Rattle.iloc_sched.specs.steps.Lasts.{IsLasts, loads_before};
-    ghost use Rattle.iloc_sched.specs.steps.PartialGraph.{IsPartialGraph, Grows, AddsFrom, CoversUse, CoversUses, CoversMemory};
-    ghost use Rattle.iloc_sched.specs.steps.Views.{graph_of};
+    ghost use Rattle.iloc_sched.specs.Steps.Members.{In};
+    ghost use Rattle.iloc_sched.specs.Steps.Graph.{IsGraphOf};
+    ghost use Rattle.iloc_sched.specs.Steps.Lasts.{IsLasts, loads_before};
+    ghost use Rattle.iloc_sched.specs.Steps.PartialGraph.{IsPartialGraph, Grows, AddsFrom, CoversUse, CoversUses, CoversMemory};
+    ghost use Rattle.iloc_sched.specs.Steps.Views.{graph_of};
 
     /// No edge between so many operations.
     fn new(alloc: Global, count: usize) -> Result<Edges, NoMemory>

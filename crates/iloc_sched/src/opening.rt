@@ -1,10 +1,10 @@
 //! How a schedule begins.
 ghost use Rattle.std.specs.Prelude.{ℕ, ◌≡◌, ◌≢◌, ◌+◌, ◌<◌, ◌≤◌, [], None, length, IfOk};
-ghost use Rattle.iloc_sched.specs.steps.Graph.{IsGraph};
-ghost use Rattle.iloc_sched.specs.steps.Progress.{Waits};
-ghost use Rattle.iloc_sched.specs.steps.Views.{graph_of, progress_of, IsSized};
-ghost use Rattle.iloc_sched.specs.steps.SoFar.{waiting_count};
-ghost use Rattle.iloc_sched.specs.steps.Opening.{AreRoots, IsFreshWheel};
+ghost use Rattle.iloc_sched.specs.Steps.Graph.{IsGraph};
+ghost use Rattle.iloc_sched.specs.Steps.Progress.{Waits};
+ghost use Rattle.iloc_sched.specs.Steps.Views.{graph_of, progress_of, IsSized};
+ghost use Rattle.iloc_sched.specs.Steps.SoFar.{waiting_count};
+ghost use Rattle.iloc_sched.specs.Steps.Opening.{AreRoots, IsFreshWheel};
 
 use crate::edges::Edges;
 use crate::waiting::Waiting;

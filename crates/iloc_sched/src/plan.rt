@@ -18,7 +18,7 @@ pub struct Plan {
 }
 
 impl Plan {
-    ghost use Rattle.iloc_sched.specs.steps.SoFar.{IsPlan};
+    ghost use Rattle.iloc_sched.specs.Steps.SoFar.{IsPlan};
 
     /// The plan of renamed operations.
     pub fn of(alloc: Global, ops: Vec<Op>, latencies: &Latencies) -> Result<Plan, NoMemory>

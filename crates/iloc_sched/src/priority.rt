@@ -3,8 +3,8 @@ ghost use Rattle.std.specs.Prelude.{◌≡◌, ◌≤◌, length, map, IfOk};
 ghost use Rattle.iloc_timed.specs.Latency.{latency};
 ghost use Rattle.iloc_sched.specs.Priority.{priorities};
 ghost use Rattle.iloc_sched.specs.Renaming.{IsRenamed};
-ghost use Rattle.iloc_sched.specs.steps.Graph.{IsGraphOf};
-ghost use Rattle.iloc_sched.specs.steps.Views.{graph_of};
+ghost use Rattle.iloc_sched.specs.Steps.Graph.{IsGraphOf};
+ghost use Rattle.iloc_sched.specs.Steps.Views.{graph_of};
 
 use crate::edges::Edges;
 use iloc_text::{NoMemory, Op};
@@ -54,47 +54,4 @@ pub fn priorities(alloc: Global, ops: &[Op], latencies: &Latencies) -> Result<Ve
 }
 
 #[cfg(test)]
-mod tests {
-    use super::*;
-    use iloc_text::Reg;
-    use std::test::Fail;
-
-    #[test]
-    fn takes_the_longest_way(rt: HostRuntime) -> Result<(), Fail> {
-        let ops = [
-            Op::LoadI {
-                value: 4,
-                dest: Reg(0),
-            },
-            Op::LoadI {
-                value: 8,
-                dest: Reg(1),
-            },
-            Op::Mult {
-                left: Reg(0),
-                right: Reg(1),
-                dest: Reg(2),
-            },
-            Op::Load {
-                addr: Reg(0),
-                dest: Reg(3),
-            },
-            Op::Add {
-                left: Reg(2),
-                right: Reg(3),
-                dest: Reg(4),
-            },
-            Op::Store {
-                value: Reg(4),
-                addr: Reg(1),
-            },
-            Op::Output { addr: 8 },
-        ];
-        let usual = priorities(rt.alloc(), &ops, &Latencies::usual())?;
-        assert_eq!(rt; usual.as_slice(), [13, 11, 10, 12, 7, 6, 1].as_slice());
-        let short = Latencies::new(1, 1, 1).ok_or("latencies")?;
-        let few = priorities(rt.alloc(), &ops, &short)?;
-        assert_eq!(rt; few.as_slice(), [5, 5, 4, 4, 3, 2, 1].as_slice());
-        Ok(())
-    }
-}
+mod tests;

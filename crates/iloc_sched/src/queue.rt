@@ -3,7 +3,7 @@ ghost use Rattle.std.specs.Prelude.{◌≡◌, [], OnOk};
 ghost use Rattle.std.specs.List.{IsDistinct};
 ghost use Rattle.std.specs.BinaryHeap.{IsHeap, heap_items};
 ghost use Rattle.std.proofs.Props.{props};
-ghost use Rattle.iloc_sched.specs.steps.Order.{candidate_cmp, same_number};
+ghost use Rattle.iloc_sched.specs.Steps.Order.{candidate_cmp, same_number};
 
 use crate::candidate::Candidate;
 use iloc_text::NoMemory;
@@ -19,7 +19,7 @@ pub struct Queue {
 }
 
 impl Queue {
-    ghost use Rattle.iloc_sched.specs.steps.Changes.{IsFirstOf, HasNone, Adds, Popped};
+    ghost use Rattle.iloc_sched.specs.Steps.Changes.{IsFirstOf, HasNone, Adds, Popped};
 
     /// No operation.
     pub fn new(alloc: Global) -> Queue

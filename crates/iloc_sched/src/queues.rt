@@ -24,7 +24,7 @@ pub struct Choice {
 }
 
 impl Choice {
-    ghost use Rattle.iloc_sched.specs.steps.Queued.{IsNoLater};
+    ghost use Rattle.iloc_sched.specs.Steps.Queued.{IsNoLater};
 
     /// The one that comes first.
     fn sooner(a: Option<Choice>, b: Option<Choice>) -> Option<Choice>
@@ -42,8 +42,8 @@ impl Choice {
 
 impl Queues {
     ghost use Rattle.std.specs.Prelude.{◌∷◌, []};
-    ghost use Rattle.iloc_sched.specs.steps.Changes.{IsFirstOf, HasNone, Popped, Adds};
-    ghost use Rattle.iloc_sched.specs.steps.Queued.{candidates, KeepsOthers, IsOffer, IsBest, Takes, AddsTo};
+    ghost use Rattle.iloc_sched.specs.Steps.Changes.{IsFirstOf, HasNone, Popped, Adds};
+    ghost use Rattle.iloc_sched.specs.Steps.Queued.{candidates, KeepsOthers, IsOffer, IsBest, Takes, AddsTo};
 
     /// No operation.
     pub fn new(alloc: Global) -> Queues

@@ -22,8 +22,8 @@ impl Names {
     ghost use Rattle.std.specs.Prelude.{None};
     ghost use Rattle.iloc_text.specs.declared.op.Reg.{Reg};
     ghost use Rattle.iloc_sched.specs.Renaming.{Source, name_of};
-    ghost use Rattle.iloc_sched.specs.steps.Naming.{also, Follows, NamesNext, Named, next_renamed};
-    ghost use Rattle.iloc_sched.specs.steps.Names.{current_of};
+    ghost use Rattle.iloc_sched.specs.Steps.Naming.{also, Follows, NamesNext, Named, next_renamed};
+    ghost use Rattle.iloc_sched.specs.Steps.Names.{current_of};
 
     /// No register has a name.
     fn new(alloc: Global) -> Names

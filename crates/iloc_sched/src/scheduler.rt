@@ -11,7 +11,7 @@ ghost use Rattle.iloc_sched.specs.Renaming.{renamed};
 ghost use Rattle.iloc_sched.specs.Priority.{priority};
 ghost use Rattle.iloc_sched.specs.Lawful.{IsLawful};
 ghost use Rattle.iloc_sched.specs.Greedy.{IsGreedy};
-ghost use Rattle.iloc_sched.specs.steps.SoFar.{IsPlan};
+ghost use Rattle.iloc_sched.specs.Steps.SoFar.{IsPlan};
 
 use crate::plan::Plan;
 use crate::queues::Queues;

@@ -29,9 +29,9 @@ struct Reach {
 }
 
 impl Waiting {
-    ghost use Rattle.iloc_sched.specs.steps.Graph.{IsGraph};
-    ghost use Rattle.iloc_sched.specs.steps.Progress.{Reaches, Waits, CanIssue, KeepsPlaces};
-    ghost use Rattle.iloc_sched.specs.steps.Views.{graph_of, progress_of, IsSized};
+    ghost use Rattle.iloc_sched.specs.Steps.Graph.{IsGraph};
+    ghost use Rattle.iloc_sched.specs.Steps.Progress.{Reaches, Waits, CanIssue, KeepsPlaces};
+    ghost use Rattle.iloc_sched.specs.Steps.Views.{graph_of, progress_of, IsSized};
 
     /// How far the edges into operation j are over by now.
     fn reach(&self, edges: &Edges, j: usize) -> Reach

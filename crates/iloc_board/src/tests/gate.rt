@@ -38,7 +38,7 @@ struct Witness<'b, 'a> {
 }
 
 impl Witness<'_, '_> {
-    // For want of memory the note is missing.
+    /// For want of memory the note is missing.
     fn note(&mut self, call: Call, worker: u32, job: u32) {
         let next = self.board.look(&mut self.pass);
         let _ = self.told.push(Told {
@@ -71,7 +71,7 @@ impl Gate for Witnessed<'_, '_> {
     }
 }
 
-// What the gate is told while the pass works.
+/// What the gate is told while the pass works.
 fn calls<'b, 'a>(
     alloc: Global,
     board: &'b Board<'a, Tens>,

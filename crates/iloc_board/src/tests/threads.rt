@@ -13,7 +13,7 @@ use std::test::*;
 use std::thread;
 use std::thread::Threads;
 
-// Each pass works on a thread of its own.
+/// Each pass works on a thread of its own.
 fn crew<'a, R: Threads + Sync>(
     rt: &R,
     board: &Board<'a, Tens>,

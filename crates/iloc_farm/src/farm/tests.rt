@@ -170,3 +170,56 @@ fn more_workers_than_blocks_find_the_same(rt: HostRuntime) -> Result<(), Fail> {
     }
     Ok(())
 }
+
+/// Counts the workers that are at a look, where each stays for a while.
+#[derive(Drop)]
+struct Crowd {
+    inside: AtomicU64,
+    looks: AtomicU64,
+}
+
+impl Crowd {
+    fn new() -> Crowd {
+        Crowd {
+            inside: AtomicU64::new(0),
+            looks: AtomicU64::new(0),
+        }
+    }
+}
+
+impl Gate for Crowd {
+    fn after_look(&self, _worker: u32, _block: u32) {
+        self.inside.fetch_add(1, Ordering::SeqCst);
+        stay(1_000);
+        self.looks.fetch_add(1, Ordering::SeqCst);
+        self.inside.fetch_sub(1, Ordering::SeqCst);
+    }
+
+    fn after_take(&self, _worker: u32, _block: u32) {}
+}
+
+fn stay(turns: u32) {
+    for _ in 0..turns {
+        yield_now();
+    }
+}
+
+/// Whatever is answered: to be run with each allocation refused in turn, those of a thread's start among them.
+#[test]
+fn leaves_no_thread_behind(rt: HostRuntime) -> Result<(), Fail> {
+    files_are_within_limits();
+    let Ok(file) = read_file(rt.alloc(), ONE_EACH) else {
+        return Ok(());
+    };
+    let gate = Crowd::new();
+    let found = schedule_all(&rt, rt.alloc(), &file, &Latencies::usual(), 8, &gate);
+    assert_eq!(rt; gate.inside.load(Ordering::SeqCst), 0);
+    let looks = gate.looks.load(Ordering::SeqCst);
+    stay(10_000);
+    assert_eq!(rt; gate.looks.load(Ordering::SeqCst), looks);
+    if let Ok(found) = found {
+        assert_eq!(rt; found.len(), 8);
+        assert!(rt; looks >= 8);
+    }
+    Ok(())
+}

@@ -1,5 +1,7 @@
 use super::*;
-use iloc_text::read_file;
+use iloc_meaning::{Memory, Outcome};
+use iloc_text::{Op, read_file};
+use iloc_timed::run_schedule;
 use std::test::Fail;
 
 const EMPTY: Row = Row {
@@ -61,5 +63,27 @@ fn has_no_row_for_an_empty_block(rt: HostRuntime) -> Result<(), Fail> {
     let schedule = schedule_text(rt.alloc(), b"nop\n")?;
     assert_eq!(rt; schedule.ops().len(), 0);
     assert_eq!(rt; schedule.rows().len(), 0);
+    Ok(())
+}
+
+#[test]
+fn is_not_the_only_lawful_one(rt: HostRuntime) -> Result<(), Fail> {
+    let (alloc, usual) = (rt.alloc(), Latencies::usual());
+    let ops = [Op::Output { addr: 0 }, Op::Output { addr: 4 }];
+    let second = Row {
+        zero: None,
+        one: Some(1),
+    };
+    let rows = Vec::from_slice(alloc, &[alone(0), second])?;
+    let lawful = Schedule::new(alloc, Vec::from_slice(alloc, &ops)?, rows)?;
+    let mut memory = Memory::zero(alloc)?;
+    memory.set(4, 9);
+    let Outcome::Finished { outputs, .. } = run_schedule(alloc, &lawful, &usual, memory)? else {
+        return Err(Fail::from("a fault"));
+    };
+    assert_eq!(rt; outputs.as_slice(), [0, 9].as_slice());
+    let greedy = schedule_text(alloc, b"output 0\noutput 4\n")?;
+    assert_eq!(rt; greedy.ops(), lawful.ops());
+    assert_eq!(rt; greedy.rows(), [alone(0), alone(1)].as_slice());
     Ok(())
 }

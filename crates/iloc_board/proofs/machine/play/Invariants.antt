@@ -1,6 +1,6 @@
 use Rattle.std.proofs.Common.{◌≡◌, take}
 use Rattle.iloc_board.specs.Play.{replies, final}
-use Rattle.iloc_board.specs.Internal.Machine.{Shows}
+use Rattle.iloc_board.specs.Steps.Machine.{Shows}
 use Rattle.iloc_board.proofs.machine.play.Given as goal
 
 -- the machine and the replies are those of the steps so far

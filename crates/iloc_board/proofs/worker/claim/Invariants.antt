@@ -1,4 +1,4 @@
-use Rattle.iloc_board.specs.Internal.Course.{left}
+use Rattle.iloc_board.specs.Steps.Course.{left}
 use Rattle.iloc_board.proofs.Claims.{Tries}
 use Rattle.iloc_board.proofs.worker.claim.Given as goal
 

@@ -1,4 +1,4 @@
-use Rattle.iloc_board.specs.Internal.Course.{left}
+use Rattle.iloc_board.specs.Steps.Course.{left}
 use Rattle.iloc_board.proofs.Claims.{IsBetween}
 use Rattle.iloc_board.proofs.worker.work.Given as goal
 

@@ -1,5 +1,6 @@
 use Rattle.std.proofs.Common.{◌≡◌, ◌+◌, ◌++◌, drop}
-use Rattle.iloc_farm.specs.Listing.{entries, entry_with, total_cycles}
+use Rattle.iloc_farm.specs.Listing.{entries, total_cycles}
+use Rattle.iloc_farm.specs.Steps.Detailed.{entry_with}
 use Rattle.iloc_farm.proofs.listing.farm_text.Given as goal
 
 abbrev pub invariant-loop-index : goal.invariant-loop-index

@@ -2,7 +2,7 @@ use Rattle.std.proofs.Common.{◌≡◌, ◌++◌, codes, map}
 use Rattle.clap.specs.Words.{found_of, rows_of}
 use Rattle.clap.specs.Matches.{values_left}
 use Rattle.iloc_line.specs.Asked.{number_of, numbers_in}
-use Rattle.iloc_line.specs.Taken.{AreNumbersIn}
+use Rattle.iloc_line.specs.Steps.Taken.{AreNumbersIn}
 use Rattle.iloc_line.proofs.line.words_in.Given as goal
 
 abbrev pub invariant-loop-value : goal.invariant-loop-value

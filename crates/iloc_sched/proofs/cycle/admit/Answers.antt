@@ -3,10 +3,10 @@ use Rattle.std.proofs.lemmas.List.{get_or_read}
 use Rattle.iloc_text.specs.declared.op.Op.TheVariants.{Nop}
 use Rattle.iloc_timed.specs.Kinds.{kind}
 use Rattle.iloc_sched.specs.declared.candidate.Candidate.{Candidate}
-use Rattle.iloc_sched.specs.steps.Order.{candidate_at}
-use Rattle.iloc_sched.specs.steps.Classes.{class_of}
-use Rattle.iloc_sched.specs.steps.SoFar.{class_at}
-use Rattle.iloc_sched.proofs.steps.Admitting.{in_at, next_is_new, admits_more}
+use Rattle.iloc_sched.specs.Steps.Order.{candidate_at}
+use Rattle.iloc_sched.specs.Steps.Classes.{class_of}
+use Rattle.iloc_sched.specs.Steps.SoFar.{class_at}
+use Rattle.iloc_sched.proofs.Steps.Admitting.{in_at, next_is_new, admits_more}
 use Rattle.iloc_sched.proofs.cycle.admit.Goals as goal
 
 abbrev candidate_with : ℕ → ℕ → Candidate

@@ -1,5 +1,5 @@
 use Rattle.std.proofs.Common.{take}
-use Rattle.iloc_sched.specs.steps.SoFar.{Admits}
+use Rattle.iloc_sched.specs.Steps.SoFar.{Admits}
 use Rattle.iloc_sched.proofs.cycle.admit.Given as goal
 
 abbrev pub invariant-loop-i : goal.invariant-loop-i

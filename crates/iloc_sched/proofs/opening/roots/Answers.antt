@@ -1,9 +1,9 @@
 use Rattle.std.proofs.Common.{◌≡◌, ◌+◌, ◌<◌, ℕ, length, sym, subst, ◌∙◌, arith}
 use Rattle.std.proofs.lemmas.List.{get_or_read}
 use Rattle.std.specs.Global.{Vec}
-use Rattle.iloc_sched.specs.steps.Opening.{AreRoots}
-use Rattle.iloc_sched.specs.steps.Views.{graph_of}
-use Rattle.iloc_sched.proofs.steps.Opening.{roots_pushed, roots_kept}
+use Rattle.iloc_sched.specs.Steps.Opening.{AreRoots}
+use Rattle.iloc_sched.specs.Steps.Views.{graph_of}
+use Rattle.iloc_sched.proofs.Steps.Opening.{roots_pushed, roots_kept}
 use Rattle.iloc_sched.proofs.opening.roots.Goals as goal
 use Rattle.iloc_sched.proofs.opening.roots.Goals.{then-index+in_ok-push, else-index}
 

@@ -1,5 +1,5 @@
-use Rattle.iloc_sched.specs.steps.Opening.{AreRoots}
-use Rattle.iloc_sched.specs.steps.Views.{graph_of}
+use Rattle.iloc_sched.specs.Steps.Opening.{AreRoots}
+use Rattle.iloc_sched.specs.Steps.Views.{graph_of}
 use Rattle.iloc_sched.proofs.opening.roots.Given as goal
 
 abbrev pub invariant-loop-j : goal.invariant-loop-j

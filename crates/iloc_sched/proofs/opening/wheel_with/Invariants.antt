@@ -1,5 +1,5 @@
 use Rattle.std.proofs.Common.{ℕ, ◌≡◌, ◌≢◌, ◌<◌, ◌≤◌, ◌-◌, [], length}
-use Rattle.iloc_sched.specs.steps.Opening.{bucket_at}
+use Rattle.iloc_sched.specs.Steps.Opening.{bucket_at}
 use Rattle.iloc_sched.proofs.opening.wheel_with.Given as goal
 
 abbrev pub invariant-loop-alloc : goal.invariant-loop-alloc

@@ -1,10 +1,10 @@
 use Rattle.std.proofs.Common.{ℕ, ◌≡◌, ◌+◌, ◌-◌, ◌*◌, ◌<◌, ◌≤◌, List, length, get_or, set, max, sym, ◌∙◌, ap, subst, arith}
 use Rattle.std.proofs.lemmas.List.{get_or_read}
 use Rattle.iloc_sched.specs.declared.edges.Edge.{Edge}
-use Rattle.iloc_sched.specs.steps.Graph.{Graph, IsRaised}
-use Rattle.iloc_sched.specs.steps.Views.{graph_of, edge_at}
-use Rattle.iloc_sched.proofs.steps.Reads.{edge_read}
-use Rattle.iloc_sched.proofs.steps.Raising.{raised_none, raised_more, raised_all, raised_small}
+use Rattle.iloc_sched.specs.Steps.Graph.{Graph, IsRaised}
+use Rattle.iloc_sched.specs.Steps.Views.{graph_of, edge_at}
+use Rattle.iloc_sched.proofs.Steps.Reads.{edge_read}
+use Rattle.iloc_sched.proofs.Steps.Raising.{raised_none, raised_more, raised_all, raised_small}
 use Rattle.iloc_sched.proofs.priority.priorities_by.Goals as goal
 
 pub loop-x-init : goal.loop-x-init

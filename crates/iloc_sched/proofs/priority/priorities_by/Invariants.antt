@@ -1,5 +1,5 @@
-use Rattle.iloc_sched.specs.steps.Graph.{IsRaised}
-use Rattle.iloc_sched.specs.steps.Views.{graph_of}
+use Rattle.iloc_sched.specs.Steps.Graph.{IsRaised}
+use Rattle.iloc_sched.specs.Steps.Views.{graph_of}
 use Rattle.iloc_sched.proofs.priority.priorities_by.Given as goal
 
 abbrev pub invariant-loop-x : goal.invariant-loop-x

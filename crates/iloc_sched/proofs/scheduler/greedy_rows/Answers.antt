@@ -1,8 +1,8 @@
 use Rattle.std.proofs.Common.{◌≡◌, ◌+◌, ◌<◌, ◌≤◌, [], length, refl, sym, subst, ◌∙◌, ap, arith}
 use Rattle.iloc_timed.specs.Rows.{row_at, slots}
-use Rattle.iloc_sched.specs.steps.SoFar.{IsSoFar, waiting_count}
-use Rattle.iloc_sched.proofs.steps.RowsMade.{few_rows, greedy_at_end}
-use Rattle.iloc_sched.proofs.steps.Opening.{so_far_opened}
+use Rattle.iloc_sched.specs.Steps.SoFar.{IsSoFar, waiting_count}
+use Rattle.iloc_sched.proofs.Steps.RowsMade.{few_rows, greedy_at_end}
+use Rattle.iloc_sched.proofs.Steps.Opening.{so_far_opened}
 use Rattle.iloc_sched.proofs.scheduler.greedy_rows.Goals as goal
 
 pub loop-left-init : goal.loop-left-init

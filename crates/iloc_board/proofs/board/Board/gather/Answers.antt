@@ -1,5 +1,5 @@
 use Rattle.std.proofs.Common.{ap, sym, ◌∙◌, arith, refl, subst, ◌≡◌}
-use Rattle.iloc_board.specs.Internal.Inside.{IsPass}
+use Rattle.iloc_board.specs.Steps.Inside.{IsPass}
 use Rattle.iloc_board.specs.Views.{PassView}
 use Rattle.iloc_board.proofs.Keeps as keeps
 use Rattle.iloc_board.proofs.Passes as passes

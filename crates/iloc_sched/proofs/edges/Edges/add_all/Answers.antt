@@ -1,10 +1,10 @@
 use Rattle.std.proofs.Common.{ℕ, ◌≡◌, ◌+◌, length, get_or, ◌∙◌, ap, arith}
 use Rattle.std.specs.Global.{Vec}
-use Rattle.iloc_sched.specs.steps.PartialGraph.{CoversUses}
-use Rattle.iloc_sched.specs.steps.Views.{graph_of}
-use Rattle.iloc_sched.proofs.steps.PartialGraphs.{closed}
-use Rattle.iloc_sched.proofs.steps.Covering.{near_is_covered}
-use Rattle.iloc_sched.proofs.steps.Adding.{use_covered, starts_pushed}
+use Rattle.iloc_sched.specs.Steps.PartialGraph.{CoversUses}
+use Rattle.iloc_sched.specs.Steps.Views.{graph_of}
+use Rattle.iloc_sched.proofs.Steps.PartialGraphs.{closed}
+use Rattle.iloc_sched.proofs.Steps.Covering.{near_is_covered}
+use Rattle.iloc_sched.proofs.Steps.Adding.{use_covered, starts_pushed}
 use Rattle.iloc_sched.proofs.edges.Edges.add_all.Goals as goal
 
 pub returns-clause-partial : goal.returns-clause-partial

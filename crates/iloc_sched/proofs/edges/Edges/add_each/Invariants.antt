@@ -1,7 +1,7 @@
 use Rattle.std.proofs.Common.{◌≡◌, ◌+◌, length, take}
-use Rattle.iloc_sched.specs.steps.Members.{In}
-use Rattle.iloc_sched.specs.steps.PartialGraph.{AddsFrom}
-use Rattle.iloc_sched.specs.steps.Views.{graph_of}
+use Rattle.iloc_sched.specs.Steps.Members.{In}
+use Rattle.iloc_sched.specs.Steps.PartialGraph.{AddsFrom}
+use Rattle.iloc_sched.specs.Steps.Views.{graph_of}
 use Rattle.iloc_sched.proofs.edges.Edges.add_each.Given as goal
 
 abbrev pub invariant-loop-i : goal.invariant-loop-i

@@ -7,10 +7,10 @@ use Rattle.iloc_meaning.specs.Trace.{op_at}
 use Rattle.iloc_timed.specs.declared.kind.Kind.{Kind}
 use Rattle.iloc_timed.specs.declared.kind.Kind.TheVariants as K
 use Rattle.iloc_timed.specs.Kinds.{kind}
-use Rattle.iloc_sched.specs.steps.Members.{In}
-use Rattle.iloc_sched.specs.steps.PartialGraph.{AddsFrom}
-use Rattle.iloc_sched.specs.steps.Views.{graph_of}
-use Rattle.iloc_sched.proofs.steps.Adding.{memory_load, memory_output, memory_store}
+use Rattle.iloc_sched.specs.Steps.Members.{In}
+use Rattle.iloc_sched.specs.Steps.PartialGraph.{AddsFrom}
+use Rattle.iloc_sched.specs.Steps.Views.{graph_of}
+use Rattle.iloc_sched.proofs.Steps.Adding.{memory_load, memory_output, memory_store}
 use Rattle.iloc_sched.proofs.edges.Edges.add_memory.Goals as goal
 
 kind_read : (ops : List Op) (j : ℕ) (k q : Kind) (d : Op) → j < length ops → k ≡ kind (get_or ops j d) → k ≡ q → kind (op_at ops j) ≡ q

@@ -4,11 +4,11 @@ use Rattle.std.proofs.lemmas.Result.{on_ok_weaker}
 use Rattle.iloc_text.specs.declared.op.Op.TheVariants.{Nop}
 use Rattle.iloc_meaning.specs.Trace.{op_at}
 use Rattle.iloc_timed.specs.Latency.{latency}
-use Rattle.iloc_sched.specs.steps.Lasts.{definer}
-use Rattle.iloc_sched.specs.steps.PartialGraph.{AddsFrom, Grows, CoversUse}
-use Rattle.iloc_sched.specs.steps.Views.{graph_of}
-use Rattle.iloc_sched.proofs.steps.Covering.{definer_there}
-use Rattle.iloc_sched.proofs.steps.Adding.{adds_use}
+use Rattle.iloc_sched.specs.Steps.Lasts.{definer}
+use Rattle.iloc_sched.specs.Steps.PartialGraph.{AddsFrom, Grows, CoversUse}
+use Rattle.iloc_sched.specs.Steps.Views.{graph_of}
+use Rattle.iloc_sched.proofs.Steps.Covering.{definer_there}
+use Rattle.iloc_sched.proofs.Steps.Adding.{adds_use}
 use Rattle.iloc_sched.proofs.edges.Edges.add_use.Goals as goal
 
 abbrev Both : goal.After-add → Type 0

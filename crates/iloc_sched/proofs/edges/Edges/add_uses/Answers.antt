@@ -3,11 +3,11 @@ use Rattle.std.proofs.lemmas.List.{take_more, take_all, get_or_default}
 use Rattle.iloc_text.specs.declared.op.Reg.{Reg}
 use Rattle.iloc_text.specs.declared.op.Op.TheVariants.{Nop}
 use Rattle.iloc_text.specs.Registers.{used}
-use Rattle.iloc_sched.specs.steps.Members.{In}
-use Rattle.iloc_sched.specs.steps.PartialGraph.{CoversUse}
-use Rattle.iloc_sched.specs.steps.Views.{graph_of}
-use Rattle.iloc_sched.proofs.steps.PartialGraphs.{grows_then}
-use Rattle.iloc_sched.proofs.steps.Adding.{uses_more, covers_along}
+use Rattle.iloc_sched.specs.Steps.Members.{In}
+use Rattle.iloc_sched.specs.Steps.PartialGraph.{CoversUse}
+use Rattle.iloc_sched.specs.Steps.Views.{graph_of}
+use Rattle.iloc_sched.proofs.Steps.PartialGraphs.{grows_then}
+use Rattle.iloc_sched.proofs.Steps.Adding.{uses_more, covers_along}
 use Rattle.iloc_sched.proofs.edges.Edges.add_uses.Goals as goal
 
 pub loop-register-preserved : goal.loop-register-preserved

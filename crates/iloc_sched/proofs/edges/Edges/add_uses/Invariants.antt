@@ -1,8 +1,8 @@
 use Rattle.std.proofs.Common.{◌≡◌, ◌+◌, ◌≤◌, length, take}
 use Rattle.iloc_text.specs.declared.op.Reg.{Reg}
-use Rattle.iloc_sched.specs.steps.Members.{In}
-use Rattle.iloc_sched.specs.steps.PartialGraph.{Grows, CoversUse}
-use Rattle.iloc_sched.specs.steps.Views.{graph_of}
+use Rattle.iloc_sched.specs.Steps.Members.{In}
+use Rattle.iloc_sched.specs.Steps.PartialGraph.{Grows, CoversUse}
+use Rattle.iloc_sched.specs.Steps.Views.{graph_of}
 use Rattle.iloc_sched.proofs.edges.Edges.add_uses.Given as goal
 
 abbrev pub invariant-loop-register : goal.invariant-loop-register

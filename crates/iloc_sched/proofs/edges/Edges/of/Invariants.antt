@@ -1,7 +1,7 @@
 use Rattle.std.proofs.Common.{◌≡◌, ◌+◌, ◌*◌, ◌≤◌, length}
-use Rattle.iloc_sched.specs.steps.Lasts.{IsLasts}
-use Rattle.iloc_sched.specs.steps.PartialGraph.{IsPartialGraph}
-use Rattle.iloc_sched.specs.steps.Views.{graph_of}
+use Rattle.iloc_sched.specs.Steps.Lasts.{IsLasts}
+use Rattle.iloc_sched.specs.Steps.PartialGraph.{IsPartialGraph}
+use Rattle.iloc_sched.specs.Steps.Views.{graph_of}
 use Rattle.iloc_sched.proofs.edges.Edges.of.Given as goal
 
 abbrev pub invariant-loop-j : goal.invariant-loop-j

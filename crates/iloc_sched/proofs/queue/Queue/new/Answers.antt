@@ -1,6 +1,6 @@
 use Rattle.std.proofs.Common.{sym, subst}
 use Rattle.std.specs.List.{IsDistinct}
-use Rattle.iloc_sched.specs.steps.Order.{same_number}
+use Rattle.iloc_sched.specs.Steps.Order.{same_number}
 use Rattle.iloc_sched.proofs.queue.Queue.new.Goals as goal
 
 pub invariant_of-result : goal.invariant_of-result

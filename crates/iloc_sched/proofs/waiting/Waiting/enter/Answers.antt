@@ -1,5 +1,5 @@
 use Rattle.std.proofs.Common.{◌%◌, ◌∷◌, ◌++◌, [], ap, sym, ◌∙◌, arith}
-use Rattle.iloc_sched.proofs.steps.Reads.{bucket_written, bucket_kept, bucket_read}
+use Rattle.iloc_sched.proofs.Steps.Reads.{bucket_written, bucket_kept, bucket_read}
 use Rattle.iloc_sched.proofs.waiting.Waiting.enter.Goals as goal
 
 pub returns-clause-bucket : goal.returns-clause-bucket

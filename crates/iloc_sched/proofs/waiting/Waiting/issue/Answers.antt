@@ -1,6 +1,6 @@
 use Rattle.std.proofs.Common.{refl, Some, rules}
 use Rattle.std.specs.Vec.{with_item}
-use Rattle.iloc_sched.proofs.steps.Passing.{started}
+use Rattle.iloc_sched.proofs.Steps.Passing.{started}
 use Rattle.iloc_sched.proofs.waiting.Waiting.issue.Goals as goal
 
 pub loop-at-init : goal.loop-at-init

@@ -1,6 +1,6 @@
 use Rattle.std.proofs.Common.{◌≡◌, ◌+◌, slice_set, Some}
-use Rattle.iloc_sched.specs.steps.Progress.{Waits, KeepsPlaces, IsFrom, edges_left}
-use Rattle.iloc_sched.specs.steps.Views.{graph_of, progress_of, IsSized}
+use Rattle.iloc_sched.specs.Steps.Progress.{Waits, KeepsPlaces, IsFrom, edges_left}
+use Rattle.iloc_sched.specs.Steps.Views.{graph_of, progress_of, IsSized}
 use Rattle.iloc_sched.proofs.waiting.Waiting.issue.Given as goal
 
 abbrev pub invariant-loop-at : goal.invariant-loop-at

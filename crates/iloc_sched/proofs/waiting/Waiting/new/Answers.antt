@@ -1,8 +1,8 @@
 use Rattle.std.proofs.Common.{◌≡◌, ◌-◌, ℕ, length, take, get_or, Option, None, sym, subst, ap, ◌∙◌, arith}
 use Rattle.iloc_sched.specs.declared.waiting.Waiting.{Waiting}
-use Rattle.iloc_sched.specs.steps.Opening.{AreRoots}
-use Rattle.iloc_sched.specs.steps.Views.{graph_of, progress_of}
-use Rattle.iloc_sched.proofs.steps.Opening.{not_issued, read_replicate, read_take, filled_up, opened}
+use Rattle.iloc_sched.specs.Steps.Opening.{AreRoots}
+use Rattle.iloc_sched.specs.Steps.Views.{graph_of, progress_of}
+use Rattle.iloc_sched.proofs.Steps.Opening.{not_issued, read_replicate, read_take, filled_up, opened}
 use Rattle.iloc_sched.proofs.waiting.Waiting.new.Goals as goal
 
 pub returns-clause-waits : goal.returns-clause-waits

@@ -2,7 +2,7 @@ use Rattle.std.proofs.Common.{◌+◌, ℕ, ◌<◌, refl, ap, arith}
 use Rattle.std.specs.Global.{Vec}
 use Rattle.std.specs.Vec.{with_item}
 use Rattle.iloc_sched.specs.declared.waiting.Waiting.{Waiting}
-use Rattle.iloc_sched.proofs.steps.Passing.{after_skip, after_step, after_end}
+use Rattle.iloc_sched.proofs.Steps.Passing.{after_skip, after_step, after_end}
 use Rattle.iloc_sched.proofs.waiting.Waiting.pass.Goals as goal
 
 pub reach-reach-requires-clause-early : goal.reach-reach-requires-clause-early

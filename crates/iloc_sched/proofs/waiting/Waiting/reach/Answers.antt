@@ -1,10 +1,10 @@
 use Rattle.std.proofs.Common.{◌≡◌, ◌<◌, ◌≤◌, ◌+◌, max, length, Some, ap, sym, ◌∙◌, subst, arith}
 use Rattle.std.proofs.lemmas.List.{get_or_read}
 use Rattle.iloc_sched.specs.declared.edges.Edge.{Edge}
-use Rattle.iloc_sched.specs.steps.Views.{graph_of, progress_of}
-use Rattle.iloc_sched.specs.steps.Progress.{Reaches}
-use Rattle.iloc_sched.proofs.steps.Reads.{edge_read, source_read}
-use Rattle.iloc_sched.proofs.steps.Walk.{reaches_more}
+use Rattle.iloc_sched.specs.Steps.Views.{graph_of, progress_of}
+use Rattle.iloc_sched.specs.Steps.Progress.{Reaches}
+use Rattle.iloc_sched.proofs.Steps.Reads.{edge_read, source_read}
+use Rattle.iloc_sched.proofs.Steps.Walk.{reaches_more}
 use Rattle.iloc_sched.proofs.waiting.Waiting.reach.Goals as goal
 
 pub overflow_add-cycle : goal.overflow_add-cycle

@@ -1,6 +1,6 @@
 use Rattle.std.proofs.Common.{◌-◌, ◌≤◌}
-use Rattle.iloc_sched.specs.steps.Progress.{Reaches}
-use Rattle.iloc_sched.specs.steps.Views.{graph_of, progress_of}
+use Rattle.iloc_sched.specs.Steps.Progress.{Reaches}
+use Rattle.iloc_sched.specs.Steps.Views.{graph_of, progress_of}
 use Rattle.iloc_sched.proofs.waiting.Waiting.reach.Given as goal
 
 abbrev pub invariant-loop-place : goal.invariant-loop-place

@@ -1,11 +1,11 @@
 use Rattle.std.proofs.Common.{◌≡◌, ◌%◌, ◌<◌, length, refl, sym, ap, subst, ◌∙◌, arith}
 use Rattle.std.specs.Vec.{with_item}
-use Rattle.iloc_sched.specs.steps.Members.{In, AreApart}
-use Rattle.iloc_sched.specs.steps.Views.{graph_of, progress_of}
+use Rattle.iloc_sched.specs.Steps.Members.{In, AreApart}
+use Rattle.iloc_sched.specs.Steps.Views.{graph_of, progress_of}
 use Rattle.iloc_sched.proofs.PriorityFacts.{length-priorities}
-use Rattle.iloc_sched.proofs.steps.Reads.{bucket_read}
-use Rattle.iloc_sched.proofs.steps.Admitting.{due_is_new}
-use Rattle.iloc_sched.proofs.steps.Issued.{released}
+use Rattle.iloc_sched.proofs.Steps.Reads.{bucket_read}
+use Rattle.iloc_sched.proofs.Steps.Admitting.{due_is_new}
+use Rattle.iloc_sched.proofs.Steps.Issued.{released}
 use Rattle.iloc_sched.proofs.waiting.Waiting.release.Goals as goal
 
 pub admit-requires-clause-sized : goal.admit-requires-clause-sized

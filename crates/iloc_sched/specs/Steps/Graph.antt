@@ -1,0 +1,50 @@
+-- The kept edges between operations.
+use Rattle.std.specs.Prelude.{ℕ, ◌+◌, ◌≡◌, ◌<◌, ◌≤◌, List, length, slice_index, Option, Some, None}
+use Rattle.iloc_text.specs.declared.op.Op.{Op}
+use Rattle.iloc_meaning.specs.Trace.{op_at}
+use Rattle.iloc_timed.specs.declared.latencies.Latencies.{Latencies}
+use Rattle.iloc_timed.specs.Latency.{latency}
+use Rattle.iloc_sched.specs.Delays.{IsDelayPair}
+use Rattle.iloc_sched.specs.Priority.{priority}
+use Rattle.iloc_sched.specs.Steps.Near.{IsNear}
+
+-- edges by number: those into operation j are the ones from `start j` up to `start (j + 1)`; of those out of
+-- operation i the last is `head i`, and the one before edge x is `next x`
+pub record Graph : Type 0 where
+  pub ops : ℕ
+  pub count : ℕ
+  pub from : ℕ → ℕ
+  pub to : ℕ → ℕ
+  pub delay : ℕ → ℕ
+  pub start : ℕ → ℕ
+  pub head : ℕ → Option ℕ
+  pub next : ℕ → Option ℕ
+
+-- the last number below n of which P holds
+abbrev pub IsLast : (ℕ → Type 0) → ℕ → Option ℕ → Type 0
+IsLast P n None = (k : ℕ) → k < n → P k → ⊥
+IsLast P n (Some m) = (m < n) × P m × ((k : ℕ) → m < k → k < n → P k → ⊥)
+
+pub record IsGraph (graph : Graph) : Type 0 where
+  pub rises : (i j : ℕ) → i ≤ j → j ≤ graph.ops → graph.start i ≤ graph.start j
+  pub last : graph.start graph.ops ≡ graph.count
+  pub into : (j x : ℕ) → j < graph.ops → graph.start j ≤ x → x < graph.start (j + 1) → graph.to x ≡ j
+  pub to_there : (x : ℕ) → x < graph.count → (graph.to x < graph.ops) × (graph.start (graph.to x) ≤ x) × (x < graph.start (graph.to x + 1))
+  pub earlier : (x : ℕ) → x < graph.count → graph.from x < graph.to x
+  pub delays : (x : ℕ) → x < graph.count → (1 ≤ graph.delay x) × (graph.delay x ≤ 16)
+  pub heads : (i : ℕ) → i < graph.ops → IsLast (λ x. graph.from x ≡ i) graph.count (graph.head i)
+  pub nexts : (x : ℕ) → x < graph.count → IsLast (λ y. graph.from y ≡ graph.from x) x (graph.next x)
+
+-- each edge is a delay pair, and each near pair has its edge
+pub record IsGraphOf (lat : Latencies) (ops : List Op) (graph : Graph) : Type 0 where
+  pub is_graph : IsGraph graph
+  pub size : graph.ops ≡ length ops
+  pub sound : (x : ℕ) → x < graph.count → IsDelayPair lat ops (graph.from x) (graph.to x) (graph.delay x)
+  pub all : (i j d : ℕ) → IsDelayPair lat ops i j d → IsNear lat ops i j d → (x : ℕ) × (x < graph.count) × (graph.to x ≡ j) × (graph.from x ≡ i) × (d ≤ graph.delay x)
+
+-- the priorities while the edges are gone through from the last: those from x on are done
+pub record IsRaised (lat : Latencies) (ops : List Op) (graph : Graph) (prios : List ℕ) (x : ℕ) : Type 0 where
+  pub size : length prios ≡ length ops
+  pub own : (i : ℕ) → i < length ops → latency lat (op_at ops i) ≤ slice_index prios i
+  pub upper : (i : ℕ) → i < length ops → slice_index prios i ≤ priority lat ops i
+  pub over : (y : ℕ) → x ≤ y → y < graph.count → graph.delay y + priority lat ops (graph.to y) ≤ slice_index prios (graph.from y)

@@ -1,0 +1,57 @@
+-- What stands in the queues of ready operations.
+use Rattle.std.specs.Prelude.{ℕ, ◌≡◌, ◌≢◌, ◌⊎◌, false, List, Option, Some, None}
+use Rattle.std.specs.BinaryHeap.{heap_items}
+use Rattle.iloc_sched.specs.declared.candidate.Candidate.{Candidate}
+use Rattle.iloc_sched.specs.declared.class.Class.{Class}
+use Rattle.iloc_sched.specs.declared.class.Class.TheVariants as C
+use Rattle.iloc_sched.specs.declared.queues.Queues.{Queues}
+use Rattle.iloc_sched.specs.declared.queues.Choice.{Choice}
+use Rattle.iloc_sched.specs.Steps.Members.{In}
+use Rattle.iloc_sched.specs.Steps.Order.{IsFirst}
+use Rattle.iloc_sched.specs.Steps.Changes.{IsFirstOf, Adds, Removes}
+use Rattle.iloc_sched.specs.Steps.Classes.{is_excluded}
+
+-- the candidates of a class
+abbrev pub candidates : Queues → Class → List Candidate
+candidates q C.Memory = heap_items q.memory.heap
+candidates q C.Product = heap_items q.product.heap
+candidates q C.Output = heap_items q.output.heap
+candidates q C.Rest = heap_items q.rest.heap
+
+-- the other classes keep their queues
+abbrev pub KeepsOthers : Queues → Queues → Class → Type 0
+KeepsOthers q q' C.Memory = (q'.product ≡ q.product) × (q'.output ≡ q.output) × (q'.rest ≡ q.rest)
+KeepsOthers q q' C.Product = (q'.memory ≡ q.memory) × (q'.output ≡ q.output) × (q'.rest ≡ q.rest)
+KeepsOthers q q' C.Output = (q'.memory ≡ q.memory) × (q'.product ≡ q.product) × (q'.rest ≡ q.rest)
+KeepsOthers q q' C.Rest = (q'.memory ≡ q.memory) × (q'.product ≡ q.product) × (q'.output ≡ q.output)
+
+-- the candidate stands in the queue of a class that isn't kept out
+abbrev pub IsOpen : Queues → Option Class → Class → Candidate → Type 0
+IsOpen q beside k c = (is_excluded beside k ≡ false) × In (candidates q k) c
+
+-- the first of one class, unless that is kept out
+abbrev pub IsOffer : Queues → Option Class → Class → Option Choice → Type 0
+IsOffer q beside k None = (c : Candidate) → IsOpen q beside k c → ⊥
+IsOffer q beside k (Some choice) = (choice.class ≡ k) × IsOpen q beside k choice.candidate × ((c : Candidate) → IsOpen q beside k c → IsFirst choice.candidate c)
+
+-- the first choice comes first
+abbrev pub IsNoLater : Option Choice → Option Choice → Type 0
+IsNoLater a None = Unit {0}
+IsNoLater None (Some b) = ⊥
+IsNoLater (Some a) (Some b) = IsFirst a.candidate b.candidate
+
+-- the first of all whose classes aren't kept out
+abbrev pub IsBest : Queues → Option Class → Option Choice → Type 0
+IsBest q beside None = (k : Class) (c : Candidate) → IsOpen q beside k c → ⊥
+IsBest q beside (Some choice) = IsOpen q beside choice.class choice.candidate × ((k : Class) (c : Candidate) → IsOpen q beside k c → IsFirst choice.candidate c)
+
+-- the choice is gone, and all else is as it was
+pub record Takes (q q' : Queues) (choice : Choice) : Type 0 where
+  pub stays : (k : Class) (c : Candidate) → In (candidates q k) c → (k ≡ choice.class → c.number.0 ≡ choice.candidate.number.0 → ⊥) → In (candidates q' k) c
+  pub was : (k : Class) (c : Candidate) → In (candidates q' k) c → In (candidates q k) c × (k ≡ choice.class → c.number.0 ≡ choice.candidate.number.0 → ⊥)
+
+-- the candidate is added to its class, and all else is as it was
+pub record AddsTo (q q' : Queues) (k : Class) (c : Candidate) : Type 0 where
+  pub there : In (candidates q' k) c
+  pub stays : (j : Class) (d : Candidate) → In (candidates q j) d → In (candidates q' j) d
+  pub was : (j : Class) (d : Candidate) → In (candidates q' j) d → In (candidates q j) d ⊎ ((j ≡ k) × (d ≡ c))

@@ -1,0 +1,91 @@
+-- What holds of a schedule that is being made.
+use Rattle.std.specs.Prelude.{ℕ, ◌+◌, ◌≡◌, ◌<◌, ◌≤◌, ◌⊎◌, ◌||◌, List, length, slice_index_or, slice_set, count_by, is_none, Option, Some, None, option_map, Bool, false, if◌then◌else◌}
+use Rattle.iloc_meaning.specs.Trace.{op_at}
+use Rattle.iloc_text.specs.declared.op.Op.{Op}
+use Rattle.iloc_timed.specs.declared.row.Row.{Row}
+use Rattle.iloc_timed.specs.Kinds.{kind}
+use Rattle.iloc_sched.specs.Priority.{priorities}
+use Rattle.iloc_sched.specs.declared.candidate.Candidate.{Candidate}
+use Rattle.iloc_sched.specs.declared.class.Class.{Class}
+use Rattle.iloc_sched.specs.declared.plan.Plan.{Plan}
+use Rattle.iloc_sched.specs.declared.queues.Queues.{Queues}
+use Rattle.iloc_sched.specs.declared.queues.Choice.{Choice}
+use Rattle.iloc_sched.specs.declared.waiting.Waiting.{Waiting}
+use Rattle.iloc_sched.specs.Steps.Choosing.{IsChosenSoFar}
+use Rattle.iloc_sched.specs.Steps.Members.{In}
+use Rattle.iloc_sched.specs.Steps.Order.{candidate_at}
+use Rattle.iloc_sched.specs.Steps.Classes.{class_of, is_memory_class, is_product_class}
+use Rattle.iloc_sched.specs.Steps.Queued.{candidates, Takes}
+use Rattle.iloc_sched.specs.Steps.Graph.{Graph, IsGraphOf}
+use Rattle.iloc_sched.specs.Steps.Progress.{Progress, Waits, CanIssue, MatchesRows}
+use Rattle.iloc_sched.specs.Steps.Views.{graph_of, progress_of, IsSized}
+
+-- the class of operation i
+abbrev pub class_at : List Op → ℕ → Class
+class_at ops i = class_of (kind (op_at ops i))
+
+-- a plan has the edges and the priorities of its operations
+pub record IsPlan (p : Plan) : Type 0 where
+  pub graph : IsGraphOf p.latencies p.ops.items (graph_of p.edges)
+  pub priorities : p.priorities.items ≡ priorities p.latencies p.ops.items
+  pub starts : length p.edges.starts.items ≡ length p.edges.heads.items + 1
+
+-- the queues have just what can be issued, by class
+pub record IsQueued (ops : List Op) (prios : List ℕ) (graph : Graph) (w : Progress) (f : ℕ) (q : Queues) : Type 0 where
+  pub has : (j : ℕ) → CanIssue graph w f j → In (candidates q (class_at ops j)) (candidate_at prios j)
+  pub only : (k : Class) (c : Candidate) → In (candidates q k) c → CanIssue graph w f c.number.0 × (class_at ops c.number.0 ≡ k) × (c ≡ candidate_at prios c.number.0)
+
+-- these were added to the queues
+pub record Admits (ops : List Op) (prios : List ℕ) (q q' : Queues) (js : List ℕ) : Type 0 where
+  pub comes : (j : ℕ) → In js j → In (candidates q' (class_at ops j)) (candidate_at prios j)
+  pub stays : (k : Class) (c : Candidate) → In (candidates q k) c → In (candidates q' k) c
+  pub was : (k : Class) (c : Candidate) → In (candidates q' k) c → In (candidates q k) c ⊎ (In js c.number.0 × (class_at ops c.number.0 ≡ k) × (c ≡ candidate_at prios c.number.0))
+
+-- what holds before cycle f, once what becomes ready before it is in the queues
+pub record IsUnderWay (p : Plan) (w : Waiting) (q : Queues) (f : ℕ) : Type 0 where
+  pub sized : IsSized p.edges w
+  pub waits : Waits (graph_of p.edges) (progress_of w) f 0 None
+  pub queued : IsQueued p.ops.items p.priorities.items (graph_of p.edges) (progress_of w) f q
+
+-- what holds between two cycles
+pub record IsSoFar (p : Plan) (w : Waiting) (q : Queues) (rows : List Row) : Type 0 where
+  pub under_way : IsUnderWay p w q (length rows)
+  pub matches : MatchesRows (length p.ops.items) rows (progress_of w).issued
+  pub each : IsChosenSoFar p.latencies p.ops.items rows
+
+-- the choice was taken, and issued at cycle c
+pub record Issues (p : Plan) (w w' : Waiting) (q q' : Queues) (c : ℕ) (choice : Choice) : Type 0 where
+  pub under_way : IsUnderWay p w' q' (c + 1)
+  pub takes : Takes q q' choice
+  pub there : choice.candidate.number.0 < length w.issued.items
+  pub waiting : slice_index_or w.issued.items choice.candidate.number.0 None ≡ None
+  pub issued : w'.issued.items ≡ slice_set w.issued.items choice.candidate.number.0 (Some c)
+
+abbrev pub IssuesAny : Plan → Waiting → Waiting → Queues → Queues → ℕ → Option Choice → Type 0
+IssuesAny p w w' q q' c None = IsUnderWay p w' q' (c + 1) × (w'.issued.items ≡ w.issued.items) × (q' ≡ q)
+IssuesAny p w w' q q' c (Some choice) = Issues p w w' q q' c choice
+
+-- whether the choice is a load or a store
+abbrev pub is_memory_choice : Option Choice → Bool
+is_memory_choice None = false
+is_memory_choice (Some choice) = is_memory_class choice.class
+
+-- the number of a choice
+abbrev pub number_of : Option Choice → Option ℕ
+number_of None = None
+number_of (Some choice) = Some choice.candidate.number.0
+
+-- a, and what stands beside it, on their units
+abbrev pub row_with : Choice → Option Choice → Row
+row_with a b =
+    if is_product_class a.class || is_memory_choice b
+    then record { zero = number_of b; one = Some a.candidate.number.0 } else record { zero = Some a.candidate.number.0; one = number_of b }
+
+-- in how many slots a choice stands with what is beside it
+abbrev pub slot_count : Option Choice → ℕ
+slot_count None = 1
+slot_count (Some choice) = 2
+
+-- how many wait
+abbrev pub waiting_count : Waiting → ℕ
+waiting_count w = count_by is_none w.issued.items
