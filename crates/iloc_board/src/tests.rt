@@ -1,5 +1,6 @@
 mod board;
 mod gate;
 mod machine;
+mod refusals;
 mod tens;
 mod threads;

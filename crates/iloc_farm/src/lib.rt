@@ -13,6 +13,8 @@ mod fault;
 mod initial;
 mod listing;
 mod program;
+#[cfg(test)]
+mod refusals;
 mod shift;
 mod task;
 

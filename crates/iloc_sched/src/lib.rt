@@ -15,6 +15,8 @@ mod plan;
 mod priority;
 mod queue;
 mod queues;
+#[cfg(test)]
+mod refusals;
 mod renaming;
 mod scheduler;
 mod waiting;

@@ -1,0 +1,71 @@
+//! Each call that takes memory, on a small block and on a middling one: where a growth is refused it answers want of
+//! memory, and a second try ends well. To be run with each growth refused in turn.
+use crate::{Pair, pairs, priorities, rename, schedule};
+use iloc_text::{Block, MAX_OPS, NoMemory, Op, Ops, Reg};
+use iloc_timed::{Latencies, Row};
+use std::alloc::Global;
+use std::process::Abort;
+use std::test::Fail;
+
+/// So many sums in a chain, over one register.
+fn chain(alloc: Global, count: u64) -> Result<Block, Fail> {
+    let mut ops = Vec::new(alloc);
+    for _ in 0..count {
+        ops.push(Op::AddI {
+            left: Reg(7),
+            value: 1,
+            dest: Reg(7),
+        })?;
+    }
+    Ok(Block {
+        name: None,
+        ops: Ops::new(ops),
+    })
+}
+
+/// Asserts what comes of a chain of so many sums: each waits for the one before.
+fn assert_chained(rt: &impl Abort, alloc: Global, count: u64) -> Result<(), Fail> {
+    let usual = Latencies::usual();
+    let block = chain(alloc, count)?;
+    if block.ops.len() > MAX_OPS {
+        return Err(Fail::from("too many operations"));
+    }
+    let ops = rename(alloc, &block).or_else(|_: NoMemory| rename(alloc, &block))?;
+    let pairs = pairs(alloc, &ops, &usual).or_else(|_: NoMemory| pairs(alloc, &ops, &usual))?;
+    let prios = priorities(alloc, &ops, &usual).or_else(|_: NoMemory| priorities(
+        alloc, &ops, &usual,
+    ))?;
+    let schedule = schedule(alloc, &block, &usual).or_else(|_: NoMemory| schedule(
+        alloc, &block, &usual,
+    ))?;
+    assert_eq!(rt; schedule.ops(), ops.as_slice());
+    for (i, row) in schedule.rows().iter().enumerate() {
+        assert_eq!(rt;
+            *row,
+            Row {
+                zero: Some(i),
+                one: None
+            }
+        );
+        assert_eq!(rt; prios.get(i).copied(), count.checked_sub(i as u64));
+        let first = Pair {
+            first: i,
+            second: i.wrapping_add(1),
+            delay: 1,
+        };
+        assert!(rt; pairs.get(i).is_none_or(|pair| *pair == first));
+    }
+    assert_eq!(rt; schedule.rows().len() as u64, count);
+    assert_eq!(rt; pairs.len().wrapping_add(1) as u64, count);
+    Ok(())
+}
+
+#[test]
+fn schedules_a_small_block(rt: HostRuntime) -> Result<(), Fail> {
+    assert_chained(&rt, rt.alloc(), 3)
+}
+
+#[test]
+fn schedules_a_middling_block(rt: HostRuntime) -> Result<(), Fail> {
+    assert_chained(&rt, rt.alloc(), 100)
+}
