@@ -1,3 +1,6 @@
+ghost use Rattle.std.specs.Prelude.{◌≤◌, length};
+ghost use Rattle.iloc_sched.specs.Renaming.{IsRenamed};
+
 use super::*;
 use crate::delay_pairs::pairs;
 use crate::renaming::rename;
