@@ -23,6 +23,33 @@ fn chain(alloc: Global, count: u64) -> Result<Block, Fail> {
     })
 }
 
+/// Asserts that each operation stands alone in its row, one cycle behind the one before.
+fn assert_each_waits(
+    rt: &impl Abort,
+    rows: &[Row],
+    prios: &[u64],
+    pairs: &[Pair],
+) -> Result<(), Fail> {
+    for (i, row) in rows.iter().enumerate() {
+        let alone = Row {
+            zero: Some(i),
+            one: None,
+        };
+        assert_eq!(rt; *row, alone);
+        assert_eq!(rt;
+            prios.get(i).copied(),
+            (rows.len() as u64).checked_sub(i as u64)
+        );
+        let next = Pair {
+            first: i,
+            second: i.wrapping_add(1),
+            delay: 1,
+        };
+        assert!(rt; pairs.get(i).is_none_or(|pair| *pair == next));
+    }
+    Ok(())
+}
+
 /// Asserts what comes of a chain of so many sums: each waits for the one before.
 fn assert_chained(rt: &impl Abort, alloc: Global, count: u64) -> Result<(), Fail> {
     let usual = Latencies::usual();
@@ -30,34 +57,26 @@ fn assert_chained(rt: &impl Abort, alloc: Global, count: u64) -> Result<(), Fail
     if block.ops.len() > MAX_OPS {
         return Err(Fail::from("too many operations"));
     }
-    let ops = rename(alloc, &block).or_else(|_: NoMemory| rename(alloc, &block))?;
-    let pairs = pairs(alloc, &ops, &usual).or_else(|_: NoMemory| pairs(alloc, &ops, &usual))?;
-    let prios = priorities(alloc, &ops, &usual).or_else(|_: NoMemory| priorities(
-        alloc, &ops, &usual,
-    ))?;
-    let schedule = schedule(alloc, &block, &usual).or_else(|_: NoMemory| schedule(
-        alloc, &block, &usual,
-    ))?;
+    let ops = match rename(alloc, &block) {
+        Ok(ops) => ops,
+        Err(NoMemory) => rename(alloc, &block)?,
+    };
+    let prios = match priorities(alloc, &ops, &usual) {
+        Ok(prios) => prios,
+        Err(NoMemory) => priorities(alloc, &ops, &usual)?,
+    };
+    let pairs = match pairs(alloc, &ops, &usual) {
+        Ok(pairs) => pairs,
+        Err(NoMemory) => pairs(alloc, &ops, &usual)?,
+    };
+    let schedule = match schedule(alloc, &block, &usual) {
+        Ok(schedule) => schedule,
+        Err(NoMemory) => schedule(alloc, &block, &usual)?,
+    };
     assert_eq!(rt; schedule.ops(), ops.as_slice());
-    for (i, row) in schedule.rows().iter().enumerate() {
-        assert_eq!(rt;
-            *row,
-            Row {
-                zero: Some(i),
-                one: None
-            }
-        );
-        assert_eq!(rt; prios.get(i).copied(), count.checked_sub(i as u64));
-        let first = Pair {
-            first: i,
-            second: i.wrapping_add(1),
-            delay: 1,
-        };
-        assert!(rt; pairs.get(i).is_none_or(|pair| *pair == first));
-    }
     assert_eq!(rt; schedule.rows().len() as u64, count);
     assert_eq!(rt; pairs.len().wrapping_add(1) as u64, count);
-    Ok(())
+    assert_each_waits(rt, schedule.rows(), &prios, &pairs)
 }
 
 #[test]

@@ -62,6 +62,11 @@ impl Draw {
         (self.seed >> 16).checked_rem(bound).unwrap_or(0)
     }
 
+    /// A number from 1 to a bound of at most 65,535.
+    fn up_to(&mut self, bound: u32) -> u32 {
+        self.below(bound).saturating_add(1)
+    }
+
     /// One of a few registers, so that uses meet definitions.
     fn register(&mut self) -> Reg {
         Reg(self.below(5))
@@ -116,10 +121,10 @@ fn follow_from_the_delay_pairs(rt: HostRuntime) -> Result<(), Fail> {
     let alloc = rt.alloc();
     let mut draw = Draw { seed: 1 };
     for _ in 0..1_000 {
-        let count = 1 + draw.below(16);
+        let count = draw.up_to(16);
         let block = draw.block(alloc, count)?;
-        let short = 1 + draw.below(3);
-        let latencies = Latencies::new(short, 1 + draw.below(16), 3).ok_or("latencies")?;
+        let (short, long) = (draw.up_to(3), draw.up_to(16));
+        let latencies = Latencies::new(short, long, 3).ok_or("latencies")?;
         if block.ops.len() > MAX_OPS {
             return Err(Fail::from("too many operations"));
         }
