@@ -161,6 +161,7 @@ impl<'a> Reader<'a> {
         Some(())
     }
 
+    /// Skips blanks, a comment and the line end.
     #[inline]
     fn end_of_line(&mut self) -> Option<()> {
         self.skip_blanks();
@@ -171,8 +172,8 @@ impl<'a> Reader<'a> {
         }
     }
 
+    /// A line behind its first blanks.
     fn line(&mut self) -> Option<Line<'a>> {
-        self.skip_blanks();
         let mut label = None;
         let mut word = self.word();
         let mut blanks = self.skip_blanks();
@@ -240,6 +241,10 @@ pub fn for_each_block<'a>(bytes: &'a [u8], mut visit: impl FnMut(&'a [u8], &[Ope
     let mut number = 0;
     while reader.at < bytes.len() {
         number += 1;
+        reader.skip_blanks();
+        if reader.token(b"\n").is_some() {
+            continue;
+        }
         let line = reader.line().ok_or(Fault::BadLine(number))?;
         if reader.has_large_number {
             return Err(Fault::NumberTooLarge(number));
