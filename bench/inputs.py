@@ -110,8 +110,42 @@ def long_number(_):
 
 
 def middling_blocks(draw):
+    """7,000 blocks of about 100 operations each."""
     registers = [f"r{number}" for number in range(64)]
     return b"".join(block(draw, f"L{number}", 60 + draw.below(81), registers) for number in range(1, 7001))
+
+
+def high_registers(draw):
+    return full_of_blocks(draw, range(60, 141), [f"r{draw.below(MAX_NUMBER + 1)}" for _ in range(64)])
+
+
+def repeated(lines):
+    """A block of these lines, as often as there is room."""
+    text = b"L:\n" + b"".join(line + b"\n" for line in lines)
+    return text * min(MAX_BLOCKS, MAX_BYTES // len(text))
+
+
+def highest_registers(_):
+    return repeated([b"addI r4095, 8 => r2147483647", b"storeAI r2147483647 => r4095, 4",
+                     b"loadAI r4095, 4 => r4095", b"output 4"])
+
+
+def one_store_a_block(_):
+    return repeated([b"loadI 64 => r0", b"store r0 => r0", b"output 64"])
+
+
+def many_outputs(_):
+    return repeated([b"subI r1, 2147483647 => r0", b"store r0 => r1", *[b"output 0"] * (MAX_OPERATIONS - 2)])
+
+
+def long_comments(draw):
+    """Blocks of 100 operations, each before a comment of 400 to 1,600 bytes."""
+    parts, left = [], MAX_BYTES
+    while left >= 2000:
+        label = b"L: " if len(parts) % 100 == 0 else b""
+        parts.append(label + b"load r0 => r1 // " + b"why " * (100 + draw.below(301)) + b"\n")
+        left -= len(parts[-1])
+    return b"".join(parts)
 
 
 def loads(_):
@@ -130,7 +164,8 @@ def sums(_):
     return b"".join(b"addI r0, %d => r%d\n" % (number, number + 1) for number in range(MAX_OPERATIONS))
 
 
-MAKERS = [one_block, many_blocks, middling_blocks, long_blocks, least_blocks, comments_and_blanks, long_number,
+MAKERS = [one_block, many_blocks, middling_blocks, long_blocks, least_blocks, one_store_a_block, many_outputs,
+          high_registers, highest_registers, comments_and_blanks, long_comments, long_number,
           loads, stores, stores_and_loads, sums]
 NAMES = [maker.__name__ for maker in MAKERS]
 

@@ -1,14 +1,25 @@
-"""Devices that fail, are slow or have no end, and the memory that a long run holds."""
+"""Devices that fail, are closed, are slow or have no end, and the memory that a long run holds."""
 import os
+import select
 import subprocess
 import sys
+import tempfile
 from dataclasses import dataclass
 from typing import Optional
 
 from case import Case, listed, refused
+from stored import CASES, COMMANDS
 
-FIRST = b"loadI 1024 => r0\nloadI 7 => r1\nstore r1 => r0\noutput 1024\n"
-FIRST_OUT = b"block 1 -\n7\n"
+
+def stored(name):
+    with open(f"{CASES}/{name}", "rb") as file:
+        return file.read()
+
+
+FIRST = stored("first.in")
+BAD = b"nop\nnop nop\n"
+# What is listed of it fills a pipe, whatever the command.
+LONG = b"A:\n" * 10_000
 UNREAD = b"reading failed"
 UNWRITTEN = b"writing failed"
 MOST_BLOCKS = 65_535
@@ -16,19 +27,45 @@ MOST_KIB = 64 * 1024
 
 
 def device_cases():
-    yield Files.of(refused("device/input_is_a_folder", None, UNREAD, 4), stdin="/")
+    for command in COMMANDS:
+        yield from inputs(command)
+        yield from outputs(command)
     yield Files.of(refused("device/line_comes_before_input", None, b"--at is not a multiple of 4", 2,
                            ["run", "--at", "2"]), stdin="/")
-    yield Files.of(refused("device/input_without_end", None, b"input longer than 16777216 bytes"), stdin="/dev/zero")
-    yield Files.of(refused("device/full", FIRST, UNWRITTEN, 4), stdout="/dev/full")
     yield Files.of(refused("device/help_to_a_full_one", b"", UNWRITTEN, 4, ["--help"]), stdout="/dev/full")
     yield Files.of(listed("device/nothing_to_a_full_one", b"", b""), stdout="/dev/full")
-    yield Broken.of(refused("device/nobody_reads", FIRST, UNWRITTEN, 4))
-    yield Bytewise.of(listed("device/one_byte_at_a_time", FIRST, FIRST_OUT))
+    yield Closed.of(listed("device/nothing_to_a_closed_one", b"", b""), closed=1)
     yield Case("device/word_is_no_text", ["run", b"\xff"], b"", b"", None, 2)
     fives = b"".join(b"block %d A\n5\n" % k for k in range(1, MOST_BLOCKS + 1))
     yield Small.of(listed("device/most_blocks_in_little_memory", b"A: output 0\n" * MOST_BLOCKS, fives,
                           ["run", "--at", "0", "5"]))
+
+
+def inputs(command):
+    def unread(name):
+        return refused(f"device/{name}/{command}", None, UNREAD, 4, [command])
+
+    out = "first.out" if command in ("run", "simulate") else f"first.{command}.out"
+    first = listed(f"device/one_byte_at_a_time/{command}", FIRST, stored(out), [command])
+    endless = refused(f"device/input_without_end/{command}", None, b"input longer than 16777216 bytes", 1, [command])
+    yield Bytewise.of(first)
+    yield Files.of(endless, stdin="/dev/zero")
+    yield Files.of(unread("input_is_a_folder"), stdin="/")
+    yield Closed.of(unread("input_is_closed"), closed=0)
+    yield Hasty.of(unread("input_is_not_there_yet"))
+
+
+def outputs(command):
+    def unwritten(name, given=FIRST):
+        return refused(f"device/{name}/{command}", given, UNWRITTEN, 4, [command])
+
+    yield Files.of(unwritten("full"), stdout="/dev/full")
+    yield Closed.of(unwritten("output_is_closed"), closed=1)
+    yield Broken.of(unwritten("nobody_reads"), taken=0)
+    yield Broken.of(unwritten("somebody_reads_a_part", LONG), taken=10)
+    untold = Case(f"device/nobody_to_tell/{command}", [command], BAD, b"", b"", 1)
+    yield Files.of(untold, stderr="/dev/full")
+    yield Closed.of(untold, closed=2)
 
 
 @dataclass
@@ -37,34 +74,73 @@ class Device(Case):
     def of(cls, case, **how):
         return cls(**vars(case), **how)
 
+    def run_with(self, program, seconds, **how):
+        """Runs the program with these arguments of `subprocess.run`, and pipes elsewhere."""
+        how = {"stdout": subprocess.PIPE, "stderr": subprocess.PIPE, **how}
+        if "stdin" not in how:
+            how["input"] = self.given or b""
+        done = subprocess.run([program, *self.words], timeout=seconds, **how)
+        return done.returncode, done.stdout or b"", done.stderr or b""
+
 
 @dataclass
 class Files(Device):
-    """Standard input or output is this file; what is written to it isn't seen."""
+    """Standard input, output or error is this file; what is written to it isn't seen."""
     stdin: Optional[str] = None
     stdout: Optional[str] = None
+    stderr: Optional[str] = None
 
     def run(self, program, seconds):
-        given = os.open(self.stdin, os.O_RDONLY) if self.stdin else None
-        taken = os.open(self.stdout, os.O_WRONLY) if self.stdout else subprocess.PIPE
-        source = {"stdin": given} if self.stdin else {"input": self.given}
-        done = subprocess.run([program, *self.words], **source, stdout=taken, stderr=subprocess.PIPE, timeout=seconds)
-        for file in (given, taken):
-            if file is not None and file >= 0:
+        wanted = {"stdin": (self.stdin, os.O_RDONLY), "stdout": (self.stdout, os.O_WRONLY),
+                  "stderr": (self.stderr, os.O_WRONLY)}
+        files = {name: os.open(path, how) for name, (path, how) in wanted.items() if path}
+        try:
+            return self.run_with(program, seconds, **files)
+        finally:
+            for file in files.values():
                 os.close(file)
-        return done.returncode, done.stdout or b"", done.stderr
+
+
+@dataclass
+class Closed(Device):
+    """Standard input, output or error, by its number, is closed."""
+    closed: int = 0
+
+    def run(self, program, seconds):
+        return self.run_with(program, seconds, preexec_fn=lambda: os.close(self.closed))
+
+
+@dataclass
+class Hasty(Device):
+    """Standard input doesn't wait: it fails where there is nothing to read yet."""
+    def run(self, program, seconds):
+        reader, writer = os.pipe2(os.O_NONBLOCK)
+        try:
+            return self.run_with(program, seconds, stdin=reader)
+        finally:
+            os.close(reader)
+            os.close(writer)
 
 
 @dataclass
 class Broken(Device):
-    """Standard output is a pipe that nobody reads."""
+    """Standard output is a pipe whose reader takes so many bytes and leaves."""
+    taken: int = 0
+
     def run(self, program, seconds):
         reader, writer = os.pipe()
-        os.close(reader)
-        done = subprocess.run([program, *self.words], input=self.given, stdout=writer, stderr=subprocess.PIPE,
-                              timeout=seconds)
+        if not self.taken:
+            os.close(reader)
+        with tempfile.TemporaryFile() as given:
+            given.write(self.given)
+            given.seek(0)
+            child = subprocess.Popen([program, *self.words], stdin=given, stdout=writer, stderr=subprocess.PIPE)
         os.close(writer)
-        return done.returncode, b"", done.stderr
+        if self.taken:
+            if select.select([reader], [], [], seconds)[0]:
+                os.read(reader, self.taken)
+            os.close(reader)
+        return ended(child, seconds)
 
 
 @dataclass
@@ -78,8 +154,17 @@ class Bytewise(Device):
                 child.stdin.write(bytes([byte]))
         except BrokenPipeError:
             pass    # it ended before it read all
+        return ended(child, seconds)
+
+
+def ended(child, seconds):
+    """How a child ends that has got its input."""
+    try:
         out, err = child.communicate(timeout=seconds)
-        return child.returncode, out, err
+    except subprocess.TimeoutExpired:
+        child.kill()
+        raise
+    return child.returncode, out or b"", err
 
 
 @dataclass

@@ -1,31 +1,104 @@
-/* Refuses the allocation whose number, counted from 1 over all threads, stands in REFUSE, and writes a byte to the file
-   descriptor in REFUSE_TOLD, if there is one, when it does. Preloaded by tests/allocations and tests/growths. */
+/* Refuses growths or a thread of a program, and reports what it did. Preloaded by refusals.py.
+ *
+ * REFUSE_GROWTH and REFUSE_THREAD are numbers, counted from 1 over all threads: the growth with that number is
+ * refused, and where REFUSE_ON stands every one behind it; so is the thread with that number. REFUSE_REPORT is a
+ * file as long as the report below. Nothing is counted before main.
+ */
 #define _GNU_SOURCE
 #include <dlfcn.h>
 #include <errno.h>
+#include <fcntl.h>
+#include <pthread.h>
 #include <stdatomic.h>
 #include <stddef.h>
 #include <stdlib.h>
+#include <sys/mman.h>
 #include <unistd.h>
 
-static atomic_long count;
+enum { NOTHING, GROWTH, GROWTH_OF_A_START, THREAD };
+
+struct report {
+    atomic_long growths;        /* calls of malloc, calloc and realloc */
+    atomic_long threads;        /* calls of pthread_create */
+    atomic_long started;        /* and those that have come back */
+    atomic_long refused;        /* what was refused first */
+    long by_worker;             /* whether another thread than the first asked for it */
+    long started_before;        /* how many starts had come back then */
+};
+
+static struct report *report;
+static long growth, thread, goes_on;
+static pid_t process;
+static __thread int is_starting __attribute__((tls_model("initial-exec")));
+
+static long number_of(const char *name) {
+    const char *text = getenv(name);
+    return text ? atol(text) : 0;
+}
+
+__attribute__((constructor)) static void begin(void) {
+    growth = number_of("REFUSE_GROWTH");
+    thread = number_of("REFUSE_THREAD");
+    goes_on = number_of("REFUSE_ON");
+    process = getpid();
+    int file = open(getenv("REFUSE_REPORT"), O_RDWR);
+    void *found = mmap(NULL, sizeof *report, PROT_READ | PROT_WRITE, MAP_SHARED, file, 0);
+    if (file < 0 || found == MAP_FAILED) abort();
+    close(file);
+    report = found;
+}
+
+static void tell(long what) {
+    long none = NOTHING;
+    if (atomic_compare_exchange_strong(&report->refused, &none, what)) {
+        report->by_worker = gettid() != process;
+        report->started_before = report->started;
+    }
+}
 
 static int is_refused(void) {
-    const char *number = getenv("REFUSE"), *told = getenv("REFUSE_TOLD");
-    if (!number || atomic_fetch_add(&count, 1) + 1 != atol(number)) return 0;
-    if (told && write(atoi(told), "!", 1) != 1) abort();
+    if (!report) return 0;
+    long number = ++report->growths;
+    if (!growth || number < growth || (number > growth && !goes_on)) return 0;
+    tell(is_starting ? GROWTH_OF_A_START : GROWTH);
     errno = ENOMEM;
     return 1;
 }
 
+static void *next(const char *name) {
+    void *found = dlsym(RTLD_NEXT, name);
+    if (!found) abort();
+    return found;
+}
+
 void *malloc(size_t size) {
-    static void *(*next)(size_t);
-    if (!next) next = dlsym(RTLD_NEXT, "malloc");
-    return is_refused() ? NULL : next(size);
+    static void *(*real)(size_t);
+    if (!real) real = next("malloc");
+    return is_refused() ? NULL : real(size);
+}
+
+void *calloc(size_t count, size_t size) {
+    static void *(*real)(size_t, size_t);
+    if (!real) real = next("calloc");
+    return is_refused() ? NULL : real(count, size);
 }
 
 void *realloc(void *old, size_t size) {
-    static void *(*next)(void *, size_t);
-    if (!next) next = dlsym(RTLD_NEXT, "realloc");
-    return is_refused() ? NULL : next(old, size);
+    static void *(*real)(void *, size_t);
+    if (!real) real = next("realloc");
+    return is_refused() ? NULL : real(old, size);
+}
+
+int pthread_create(pthread_t *made, const pthread_attr_t *how, void *(*run)(void *), void *with) {
+    static int (*real)(pthread_t *, const pthread_attr_t *, void *(*)(void *), void *);
+    if (!real) real = next("pthread_create");
+    if (++report->threads == thread) {
+        tell(THREAD);
+        return EAGAIN;
+    }
+    is_starting = 1;
+    int fault = real(made, how, run, with);
+    is_starting = 0;
+    ++report->started;
+    return fault;
 }

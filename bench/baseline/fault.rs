@@ -36,10 +36,7 @@ impl fmt::Display for Fault {
             Fault::NumberTooLarge(line) => write!(out, "line {line}: number above {MAX_NUMBER}"),
             Fault::TooManyBlocks(line) => write!(out, "line {line}: more than {MAX_BLOCKS} blocks"),
             Fault::TooManyOperations(line) => {
-                write!(
-                    out,
-                    "line {line}: more than {MAX_OPERATIONS} operations in a block"
-                )
+                write!(out, "line {line}: more than {MAX_OPERATIONS} operations in a block")
             }
             Fault::WriteFailed => write!(out, "writing failed"),
         }

@@ -1,17 +1,13 @@
 //! What each command lists.
 
-use std::io::{self, Write};
-
+use crate::digits;
+use crate::fault::Fault;
 use crate::machine::Machine;
 use crate::operation::Operation;
-use crate::scheduler::{Latencies, Schedule, Scheduler};
-use crate::text::IlocFile;
+use crate::scheduler::{Latencies, Row, Schedule, Scheduler, NONE};
+use crate::text;
 
-const USUAL: Latencies = Latencies {
-    load: 5,
-    store: 5,
-    mult: 3,
-};
+const USUAL: Latencies = Latencies { load: 5, store: 5, mult: 3 };
 
 #[derive(Clone, Copy)]
 pub enum Command {
@@ -37,72 +33,93 @@ impl Command {
     }
 }
 
-/// Appends what is listed of a block behind its name, and gives the cycles of its schedule.
-fn push_block(
+/// Makes the entries of blocks, one after another.
+struct Lister {
     command: Command,
-    operations: &[Operation],
-    scheduler: &mut Scheduler,
-    machine: &mut Machine,
-    listing: &mut Vec<u8>,
-) -> io::Result<u64> {
-    if let Command::Run = command {
-        listing.push(b'\n');
-        machine.run(operations, listing);
-        return Ok(0);
-    }
-    let schedule = scheduler.schedule(operations, &USUAL);
-    let cycles = schedule.cycles(&USUAL);
-    match command {
-        Command::Counts => writeln!(listing, " cycles {cycles}")?,
-        Command::Schedule => {
-            listing.push(b'\n');
-            push_rows(&schedule, listing)?;
-            writeln!(listing, "cycles {cycles}")?;
-        }
-        Command::Run | Command::Simulate => {
-            listing.push(b'\n');
-            machine.simulate(&schedule, &USUAL, listing);
-        }
-    }
-    Ok(cycles)
+    machine: Machine,
+    scheduler: Scheduler,
+    listing: Vec<u8>,
+    blocks: u64,
+    total: u64,
 }
 
-fn push_slot(schedule: &Schedule, slot: Option<u32>, listing: &mut Vec<u8>) -> io::Result<()> {
-    match slot {
-        Some(number) => schedule.operations[number as usize].spell(listing),
-        None => Operation::Nop.spell(listing),
+impl Lister {
+    fn new(command: Command) -> Lister {
+        Lister {
+            command,
+            machine: Machine::new(),
+            scheduler: Scheduler::new(),
+            listing: Vec::new(),
+            blocks: 0,
+            total: 0,
+        }
+    }
+
+    fn push_block(&mut self, name: &[u8], operations: &[Operation]) {
+        self.blocks += 1;
+        push_number(&mut self.listing, b"block ", self.blocks);
+        self.listing.push(b' ');
+        self.listing.extend_from_slice(name);
+        if let Command::Run = self.command {
+            self.listing.push(b'\n');
+            self.machine.run(operations, &mut self.listing);
+        } else {
+            self.push_scheduled(operations);
+        }
+    }
+
+    fn push_scheduled(&mut self, operations: &[Operation]) {
+        let schedule = self.scheduler.schedule(operations, &USUAL);
+        self.total += u64::from(schedule.cycles);
+        match self.command {
+            Command::Counts => push_line(&mut self.listing, b" cycles ", u64::from(schedule.cycles)),
+            Command::Schedule => {
+                self.listing.push(b'\n');
+                push_rows(&schedule, &mut self.listing);
+                push_line(&mut self.listing, b"cycles ", u64::from(schedule.cycles));
+            }
+            Command::Run | Command::Simulate => {
+                self.listing.push(b'\n');
+                self.machine.simulate(&schedule, &USUAL, &mut self.listing);
+            }
+        }
     }
 }
 
-fn push_rows(schedule: &Schedule, listing: &mut Vec<u8>) -> io::Result<()> {
-    for row in &schedule.rows {
+fn push_number(listing: &mut Vec<u8>, before: &[u8], number: u64) {
+    listing.extend_from_slice(before);
+    digits::push(listing, number);
+}
+
+fn push_line(listing: &mut Vec<u8>, before: &[u8], number: u64) {
+    push_number(listing, before, number);
+    listing.push(b'\n');
+}
+
+fn push_slot(schedule: &Schedule<'_>, slot: u32, listing: &mut Vec<u8>) {
+    if slot == NONE {
+        Operation::Nop.spell(listing);
+    } else {
+        schedule.operations[slot as usize].spell(listing);
+    }
+}
+
+fn push_rows(schedule: &Schedule<'_>, listing: &mut Vec<u8>) {
+    for Row([zero, one]) in schedule.rows {
         listing.extend_from_slice(b"[ ");
-        push_slot(schedule, row.zero, listing)?;
+        push_slot(schedule, *zero, listing);
         listing.extend_from_slice(b" ; ");
-        push_slot(schedule, row.one, listing)?;
+        push_slot(schedule, *one, listing);
         listing.extend_from_slice(b" ]\n");
     }
-    Ok(())
-}
-
-fn listed(command: Command, file: &IlocFile<'_>) -> io::Result<Vec<u8>> {
-    let mut machine = Machine::new();
-    let mut scheduler = Scheduler::new();
-    let mut listing = Vec::new();
-    let mut total = 0;
-    for (index, block) in file.blocks.iter().enumerate() {
-        write!(listing, "block {} ", index + 1)?;
-        listing.extend_from_slice(block.name);
-        let operations = &file.operations[block.operations.clone()];
-        total += push_block(command, operations, &mut scheduler, &mut machine, &mut listing)?;
-    }
-    if command.has_total() {
-        writeln!(listing, "total {total}")?;
-    }
-    Ok(listing)
 }
 
 /// What the command lists of a file.
-pub fn of(command: Command, file: &IlocFile<'_>) -> Vec<u8> {
-    listed(command, file).expect("a list of bytes takes what is written to it")
+pub fn of(command: Command, file: &[u8]) -> Result<Vec<u8>, Fault> {
+    let mut lister = Lister::new(command);
+    text::for_each_block(file, |name, operations| lister.push_block(name, operations))?;
+    if command.has_total() {
+        push_line(&mut lister.listing, b"total ", lister.total);
+    }
+    Ok(lister.listing)
 }

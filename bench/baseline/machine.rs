@@ -1,42 +1,11 @@
 //! Registers and memory, and the two ways to run a block: plainly, and by a schedule on the timed machine.
 
-use std::collections::HashMap;
-use std::io::Write;
-
+use crate::digits;
 use crate::operation::Operation;
-use crate::scheduler::{Latencies, Schedule};
+use crate::registers::{Registers, Table};
+use crate::scheduler::{Latencies, Schedule, WHEEL};
 
 const MEMORY_WORDS: usize = 16_384;
-const LOW_REGISTERS: usize = 65_536;
-/// More cycles than any operation takes.
-const WHEEL: usize = 32;
-
-/// Words that are 0 when a block starts; those written since are put back to 0 by `reset`.
-struct Words {
-    words: Vec<u32>,
-    written: Vec<u32>,
-}
-
-impl Words {
-    fn zero(count: usize) -> Words {
-        Words {
-            words: vec![0; count],
-            written: Vec::new(),
-        }
-    }
-
-    #[inline]
-    fn set(&mut self, index: u32, value: u32) {
-        self.words[index as usize] = value;
-        self.written.push(index);
-    }
-
-    fn reset(&mut self) {
-        for index in self.written.drain(..) {
-            self.words[index as usize] = 0;
-        }
-    }
-}
 
 /// What an operation does.
 #[derive(Clone, Copy)]
@@ -47,71 +16,48 @@ enum Effect {
     Emits(u32),
 }
 
-/// Registers and memory of one block at a time. Registers of high numbers stand in a map.
+/// Registers and memory of one block at a time.
 pub struct Machine {
-    low: Words,
-    high: HashMap<u32, u32>,
-    memory: Words,
+    registers: Registers,
+    memory: Table,
     wheel: Vec<Vec<Effect>>,
 }
 
 impl Machine {
     pub fn new() -> Machine {
-        Machine {
-            low: Words::zero(LOW_REGISTERS),
-            high: HashMap::new(),
-            memory: Words::zero(MEMORY_WORDS),
-            wheel: vec![Vec::new(); WHEEL],
-        }
+        Machine { registers: Registers::new(), memory: Table::zero(MEMORY_WORDS), wheel: vec![Vec::new(); WHEEL] }
     }
 
     fn reset(&mut self) {
-        self.low.reset();
-        self.high.clear();
+        self.registers.reset();
         self.memory.reset();
         self.wheel.iter_mut().for_each(Vec::clear);
     }
 
+    /// The word at an address, or None where the address isn't good.
     #[inline]
-    fn register(&self, number: u32) -> u32 {
-        match self.low.words.get(number as usize) {
-            Some(value) => *value,
-            None => self.high.get(&number).copied().unwrap_or(0),
-        }
-    }
-
-    #[inline]
-    fn set_register(&mut self, number: u32, value: u32) {
-        if (number as usize) < LOW_REGISTERS {
-            self.low.set(number, value);
-        } else {
-            self.high.insert(number, value);
-        }
-    }
-
-    /// The number of the word at an address, or None where the address isn't good.
-    #[inline]
-    fn index(address: u32) -> Option<u32> {
-        let index = (address % 4 == 0).then_some(address / 4)?;
-        ((index as usize) < MEMORY_WORDS).then_some(index)
+    fn word(&self, address: u32) -> Option<u32> {
+        (address % 4 == 0).then_some(())?;
+        self.memory.get(address / 4)
     }
 
     #[inline]
     fn load(&self, address: u32, target: u32) -> Option<Effect> {
-        let value = self.memory.words[Machine::index(address)? as usize];
+        let value = self.word(address)?;
         Some(Effect::Gives { target, value })
     }
 
     #[inline]
     fn store(&self, source: u32, address: u32) -> Option<Effect> {
-        let index = Machine::index(address)?;
-        let value = self.register(source);
+        self.word(address)?;
+        let value = self.registers.get(source);
+        let index = address / 4;
         Some(Effect::Writes { index, value })
     }
 
     #[inline]
     fn address(&self, base: u32, offset: u32) -> u32 {
-        self.register(base).wrapping_add(offset)
+        self.registers.get(base).wrapping_add(offset)
     }
 
     /// What an operation does now; None is a fault.
@@ -120,16 +66,16 @@ impl Machine {
         use Operation::*;
         match *operation {
             Nop => Some(Effect::Nothing),
-            Output { address } => Some(Effect::Emits(self.memory.words[Machine::index(address)? as usize])),
-            LoadI { constant, target } => Some(Effect::Gives { target, value: constant }),
-            Load { address, target } => self.load(self.register(address), target),
-            Store { source, address } => self.store(source, self.register(address)),
+            Output { address } => self.word(address).map(Effect::Emits),
+            LoadI { constant: value, target } => Some(Effect::Gives { target, value }),
+            Load { address, target } => self.load(self.registers.get(address), target),
+            Store { source, address } => self.store(source, self.registers.get(address)),
             Binary { operator, left, right, target } => {
-                let value = operator.apply(self.register(left), self.register(right));
+                let value = operator.apply(self.registers.get(left), self.registers.get(right));
                 Some(Effect::Gives { target, value })
             }
             Immediate { operator, left, constant, target } => {
-                let value = operator.apply(self.register(left), constant);
+                let value = operator.apply(self.registers.get(left), constant);
                 Some(Effect::Gives { target, value })
             }
             LoadAI { base, offset, target } => self.load(self.address(base, offset), target),
@@ -140,8 +86,10 @@ impl Machine {
     #[inline]
     fn land(&mut self, effect: Effect) {
         match effect {
-            Effect::Gives { target, value } => self.set_register(target, value),
-            Effect::Writes { index, value } => self.memory.set(index, value),
+            Effect::Gives { target, value } => self.registers.set(target, value),
+            Effect::Writes { index, value } => {
+                self.memory.set(index, value);
+            }
             Effect::Nothing | Effect::Emits(_) => {}
         }
     }
@@ -149,7 +97,7 @@ impl Machine {
     fn run_plainly(&mut self, operations: &[Operation], listing: &mut Vec<u8>) -> Option<()> {
         for operation in operations {
             match self.effect(operation)? {
-                Effect::Emits(word) => writeln!(listing, "{}", word as i32).ok()?,
+                Effect::Emits(word) => push_word(listing, word),
                 effect => self.land(effect),
             }
         }
@@ -166,25 +114,25 @@ impl Machine {
         self.wheel[cycle % WHEEL] = due;
     }
 
-    fn run_timed(&mut self, schedule: &Schedule, latencies: &Latencies, listing: &mut Vec<u8>) -> Option<()> {
+    fn run_timed(&mut self, schedule: &Schedule<'_>, latencies: &Latencies, listing: &mut Vec<u8>) -> Option<()> {
         for (cycle, row) in schedule.rows.iter().enumerate() {
             self.arrive(cycle);
-            for number in [row.zero, row.one].into_iter().flatten() {
+            for number in row.numbers() {
                 let operation = &schedule.operations[number as usize];
                 match self.effect(operation)? {
-                    Effect::Emits(word) => writeln!(listing, "{}", word as i32).ok()?,
+                    Effect::Emits(word) => push_word(listing, word),
                     Effect::Nothing => {}
-                    effect => self.wheel[(cycle + latencies.of(operation) as usize) % WHEEL].push(effect),
+                    effect => {
+                        let due = cycle + latencies.of(operation.kind()) as usize;
+                        self.wheel[due % WHEEL].push(effect);
+                    }
                 }
             }
-        }
-        for cycle in schedule.rows.len()..schedule.rows.len() + WHEEL {
-            self.arrive(cycle);
         }
         Some(())
     }
 
-    fn listed(&mut self, listing: &mut Vec<u8>, run: impl FnOnce(&mut Machine, &mut Vec<u8>) -> Option<()>) {
+    fn list(&mut self, listing: &mut Vec<u8>, run: impl FnOnce(&mut Machine, &mut Vec<u8>) -> Option<()>) {
         let start = listing.len();
         if run(self, listing).is_none() {
             listing.truncate(start);
@@ -195,11 +143,17 @@ impl Machine {
 
     /// Lists the outcome of a block that is run plainly.
     pub fn run(&mut self, operations: &[Operation], listing: &mut Vec<u8>) {
-        self.listed(listing, |machine, listing| machine.run_plainly(operations, listing));
+        self.list(listing, |machine, listing| machine.run_plainly(operations, listing));
     }
 
     /// Lists the outcome of a schedule.
-    pub fn simulate(&mut self, schedule: &Schedule, latencies: &Latencies, listing: &mut Vec<u8>) {
-        self.listed(listing, |machine, listing| machine.run_timed(schedule, latencies, listing));
+    pub fn simulate(&mut self, schedule: &Schedule<'_>, latencies: &Latencies, listing: &mut Vec<u8>) {
+        self.list(listing, |machine, listing| machine.run_timed(schedule, latencies, listing));
     }
+}
+
+#[inline]
+fn push_word(listing: &mut Vec<u8>, word: u32) {
+    digits::push_signed(listing, word);
+    listing.push(b'\n');
 }

@@ -1,10 +1,14 @@
 //! What `ilocfarm` does on one worker, with the usual latencies and a memory of zeros, in plain Rust: the program that
 //! `bench/run` measures ilocfarm against. Its one argument is the command.
 
+mod digits;
 mod fault;
+mod graph;
 mod listing;
 mod machine;
 mod operation;
+mod ready;
+mod registers;
 mod scheduler;
 mod text;
 
@@ -13,20 +17,14 @@ use std::process::ExitCode;
 
 use fault::{Fault, MAX_BYTES};
 use listing::Command;
-use text::IlocFile;
 
 fn run(command: Command) -> Result<(), Fault> {
     let mut bytes = Vec::new();
     let mut input = io::stdin().lock().take(MAX_BYTES as u64 + 1);
-    input
-        .read_to_end(&mut bytes)
-        .map_err(|_| Fault::ReadFailed)?;
-    let listing = listing::of(command, &IlocFile::read(&bytes)?);
+    input.read_to_end(&mut bytes).map_err(|_| Fault::ReadFailed)?;
+    let listing = listing::of(command, &bytes)?;
     let mut output = io::stdout().lock();
-    output
-        .write_all(&listing)
-        .and_then(|()| output.flush())
-        .map_err(|_| Fault::WriteFailed)
+    output.write_all(&listing).and_then(|()| output.flush()).map_err(|_| Fault::WriteFailed)
 }
 
 fn main() -> ExitCode {

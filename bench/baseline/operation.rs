@@ -1,6 +1,6 @@
 //! The operations, their registers and their spelling.
 
-use std::io::{self, Write};
+use crate::digits;
 
 #[derive(Clone, Copy, PartialEq, Eq)]
 pub enum Operator {
@@ -38,43 +38,14 @@ impl Operator {
 #[derive(Clone, Copy)]
 pub enum Operation {
     Nop,
-    Output {
-        address: u32,
-    },
-    LoadI {
-        constant: u32,
-        target: u32,
-    },
-    Load {
-        address: u32,
-        target: u32,
-    },
-    Store {
-        source: u32,
-        address: u32,
-    },
-    Binary {
-        operator: Operator,
-        left: u32,
-        right: u32,
-        target: u32,
-    },
-    Immediate {
-        operator: Operator,
-        left: u32,
-        constant: u32,
-        target: u32,
-    },
-    LoadAI {
-        base: u32,
-        offset: u32,
-        target: u32,
-    },
-    StoreAI {
-        source: u32,
-        base: u32,
-        offset: u32,
-    },
+    Output { address: u32 },
+    LoadI { constant: u32, target: u32 },
+    Load { address: u32, target: u32 },
+    Store { source: u32, address: u32 },
+    Binary { operator: Operator, left: u32, right: u32, target: u32 },
+    Immediate { operator: Operator, left: u32, constant: u32, target: u32 },
+    LoadAI { base: u32, offset: u32, target: u32 },
+    StoreAI { source: u32, base: u32, offset: u32 },
 }
 
 /// What an operation is to the units and to the memory.
@@ -136,23 +107,36 @@ impl Operation {
         }
     }
 
-    pub fn spell(&self, out: &mut Vec<u8>) -> io::Result<()> {
+    /// Appends the spelling.
+    pub fn spell(&self, out: &mut Vec<u8>) {
         use Operation::*;
-        match self {
-            Nop => write!(out, "nop"),
-            Output { address } => write!(out, "output {address}"),
-            LoadI { constant, target } => write!(out, "loadI {constant} => r{target}"),
-            Load { address, target } => write!(out, "load r{address} => r{target}"),
-            Store { source, address } => write!(out, "store r{source} => r{address}"),
+        match *self {
+            Nop => out.extend_from_slice(b"nop"),
+            Output { address } => push(out, "output", [(" ", address)]),
+            LoadI { constant, target } => push(out, "loadI", [(" ", constant), (" => r", target)]),
+            Load { address, target } => push(out, "load", [(" r", address), (" => r", target)]),
+            Store { source, address } => push(out, "store", [(" r", source), (" => r", address)]),
             Binary { operator, left, right, target } => {
-                write!(out, "{} r{left}, r{right} => r{target}", operator.name())
+                push(out, operator.name(), [(" r", left), (", r", right), (" => r", target)])
             }
             Immediate { operator, left, constant, target } => {
-                write!(out, "{}I r{left}, {constant} => r{target}", operator.name())
+                push(out, operator.name(), [("I r", left), (", ", constant), (" => r", target)])
             }
-            LoadAI { base, offset, target } => write!(out, "loadAI r{base}, {offset} => r{target}"),
-            StoreAI { source, base, offset } => write!(out, "storeAI r{source} => r{base}, {offset}"),
+            LoadAI { base, offset, target } => push(out, "loadAI", [(" r", base), (", ", offset), (" => r", target)]),
+            StoreAI { source, base, offset } => {
+                push(out, "storeAI", [(" r", source), (" => r", base), (", ", offset)])
+            }
         }
+    }
+}
+
+/// Appends an opcode and its operands, each behind the text before it.
+#[inline]
+fn push<const N: usize>(out: &mut Vec<u8>, opcode: &str, operands: [(&str, u32); N]) {
+    out.extend_from_slice(opcode.as_bytes());
+    for (before, number) in operands {
+        out.extend_from_slice(before.as_bytes());
+        digits::push(out, u64::from(number));
     }
 }
 

@@ -1,0 +1,158 @@
+"""Growths of memory and threads that are refused, one at a time or from one on (refuse.c).
+
+A refusal ends the program with status 3, one line that says of what, and nothing written. A thread that is refused,
+or a growth that the C library asks for while it starts one, is a worker that could not be started; a growth that the
+program asks for is want of memory, or, before the last worker is started, may belong to a start. Some growths aren't
+needed, for a list may ask for its whole room at once and do without: after one such refusal the program ends as
+always. With several workers the growths come in another order each time, and each run is judged by what was refused
+in it.
+"""
+import struct
+from dataclasses import dataclass, field
+
+import inputs
+from check import Check, told
+
+NO_MEMORY = (3, b"", b"ilocfarm: out of memory\n")
+NO_WORKER = (3, b"", b"ilocfarm: a worker could not be started\n")
+NOTHING, GROWTH, GROWTH_OF_A_START, THREAD = range(4)
+# As soon as so many runs in a row asked for no growth of the number, none asks for one any more.
+UNTOUCHED = 20
+SAMPLED = 40
+
+SMALL = b"A: loadI 8 => r2\nmult r2, r2 => r2\nstore r2 => r2\nB: output 0\noutput 64\nC: output 2\n"
+BAD = b"output 0\nadd r1 r2 => r3\n"
+
+
+@dataclass
+class Run:
+    words: list
+    name: str
+    given: bytes
+    workers: int = 0
+
+    def __str__(self):
+        return f"{' '.join(self.words) or '(no word)'}, {self.name}"
+
+
+@dataclass
+class Report:
+    """What refuse.c wrote."""
+    FORM = "=6q"
+    growths: int
+    threads: int
+    started: int
+    refused: int
+    by_worker: int
+    started_before: int
+
+
+@dataclass
+class Tally:
+    """How runs with refusals ended."""
+    run: Run
+    whole: tuple
+    memory: int = 0
+    workers: int = 0
+    unneeded: int = 0
+    wrong: list = field(default_factory=list)
+
+    def add(self, ending, report, what, goes_on=False):
+        if ending not in self.may_end(report, goes_on):
+            self.wrong.append(f"{self.run}, {what}: {told(ending)}")
+        self.memory += ending == NO_MEMORY
+        self.workers += ending == NO_WORKER
+        self.unneeded += ending == self.whole and report.refused != NOTHING
+
+    def may_end(self, report, goes_on):
+        """The endings that are right."""
+        if report.refused == NOTHING:
+            return [self.whole]
+        if report.refused in (GROWTH_OF_A_START, THREAD):
+            return [NO_WORKER]
+        is_starting = report.started_before < self.run.workers and (goes_on or not report.by_worker)
+        return [NO_MEMORY, *[NO_WORKER] * is_starting, *[self.whole] * (not goes_on)]
+
+    def faults(self):
+        print(f"{self.run}: {self.memory} without memory, {self.workers} without a worker, {self.unneeded} unneeded")
+        few = [] if self.memory + self.workers > self.unneeded else [f"{self.run}: hardly anything was refused"]
+        return self.wrong + few
+
+
+def middling():
+    draw = inputs.Draw()
+    registers = [f"r{number}" for number in range(16)]
+    return b"".join(inputs.block(draw, f"L{number}", 4 + draw.below(20), registers) for number in range(40))
+
+
+def runs(name, given):
+    yield Run(["run", "--at", "0", "5", "6"], name, given)
+    yield Run(["simulate"], name, given)
+    for command in ("schedule", "counts"):
+        for workers in (1, 8):
+            yield Run([command, "--workers", str(workers)], name, given, workers)
+
+
+def few_runs():
+    yield from runs("3 blocks", SMALL)
+    yield Run(["counts"], "a bad line", BAD)
+    yield Run(["run", "--help"], "nothing", b"")
+    yield Run(["run", "--at", "2"], "nothing", b"")
+    yield Run([], "nothing", b"")
+
+
+def refusal_checks(place):
+    refuser = Refuser(place)
+    for run in [*few_runs(), *runs("40 blocks", middling())]:
+        yield Check(f"refusals/growths/{run}", lambda run=run: refuser.growths(run))
+        yield Check(f"refusals/from_one_on/{run}", lambda run=run: refuser.from_one_on(run))
+        if run.workers:
+            yield Check(f"refusals/threads/{run}", lambda run=run: refuser.threads(run))
+
+
+class Refuser:
+    def __init__(self, place):
+        self.place = place
+
+    def refusing(self, run, **what):
+        """How the run ends where REFUSE_.. are as given, and the report."""
+        path = self.place.stored("report", bytes(struct.calcsize(Report.FORM)))
+        around = {f"REFUSE_{name.upper()}": str(number) for name, number in what.items()}
+        around.update(LD_PRELOAD=self.place.refuser, REFUSE_REPORT=path)
+        ending = self.place.ending(run.words, run.given, env=around)
+        with open(path, "rb") as file:
+            return ending, Report(*struct.unpack(Report.FORM, file.read()))
+
+    def tally(self, run):
+        """A tally, and how many growths the run asks for where none is refused."""
+        whole = self.place.ending(run.words, run.given, env={})
+        tally = Tally(run, whole)
+        ending, report = self.refusing(run)
+        tally.add(ending, report, "nothing refused")
+        return tally, report.growths
+
+    def growths(self, run):
+        tally, total = self.tally(run)
+        step = max(1, total // SAMPLED) if self.place.is_short else 1
+        number = 1
+        untouched = 0
+        while untouched < UNTOUCHED and (step == 1 or number <= total):
+            ending, report = self.refusing(run, growth=number)
+            tally.add(ending, report, f"growth {number}")
+            untouched = 0 if report.refused else untouched + 1
+            number += step
+        return tally.faults()
+
+    def from_one_on(self, run):
+        tally, total = self.tally(run)
+        for number in range(1, total + 1, max(1, total // SAMPLED)):
+            ending, report = self.refusing(run, growth=number, on=1)
+            tally.add(ending, report, f"from growth {number} on", goes_on=True)
+        return tally.faults()
+
+    def threads(self, run):
+        tally, _ = self.tally(run)
+        for number in range(1, run.workers + 2):
+            ending, report = self.refusing(run, thread=number)
+            tally.add(ending, report, f"thread {number}")
+        return tally.faults()

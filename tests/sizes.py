@@ -1,0 +1,206 @@
+"""Inputs at the limits: what each command gives, which the plain Rust program (bench/baseline) says too, and a table of
+status, time, memory and first bytes. Times and memory stand beside those of an even input, 16 MiB of mixed blocks of
+about 100 operations."""
+import filecmp
+import itertools
+from dataclasses import dataclass
+from typing import Callable
+
+import inputs
+import measure
+from check import COMMANDS, Check
+from made import LONGEST, MOST_BLOCKS, MOST_OPERATIONS
+
+TIMES = 3
+# Bounds that hold on slow machines too, for processor time and for memory held, at the usual latencies.
+MOST_MS = 10_000
+MOST_MIB = 400
+SLOWEST = 16
+HEAD = "command   input                         status        ms  x even      MiB  x even  first bytes"
+ROW = "{:9} {:28} {:>7} {:>9.0f} {:>7.2f} {:>8.1f} {:>7.2f}  {}"
+
+
+@dataclass
+class Input:
+    name: str
+    make: Callable[[], bytes]
+    status: int
+    starts: dict    # by command: how the output starts, or standard error where the text is refused
+
+
+def taken(name, make, run, schedule, counts):
+    starts = {"run": run, "simulate": run, "schedule": schedule, "counts": counts}
+    return Input(name, make, 0, {command: start.encode() for command, start in starts.items()})
+
+
+def refused(name, make, line):
+    return Input(name, make, 1, dict.fromkeys(COMMANDS, f"ilocfarm: {line}\n".encode()))
+
+
+def filled(part):
+    return part * (LONGEST // len(part))
+
+
+def blocks_of(*lines):
+    """Blocks of 10,000 of these lines in turn, as many as fit."""
+    turns = itertools.islice(itertools.cycle(lines), MOST_OPERATIONS)
+    return filled(b"A:\n" + b"".join(turns))
+
+
+def even():
+    return inputs.full_of_blocks(inputs.Draw(), range(60, 141), [f"r{number}" for number in range(64)])
+
+
+EVEN = taken("even", even, "block 1 L1\n", "block 1 L1\n[ ", "block 1 L1 cycles ")
+
+
+def plain_inputs():
+    """Texts of one thing alone, and one more than is allowed."""
+    nothing = ("", "total 0\n", "total 0\n")
+    long_name = "block 1 AAAAAAAAAAAA"
+    loads = b"load r1 => r1\n"
+    many_loads = f"line {MOST_OPERATIONS + 1}: more than 10000 operations in a block"
+    many_blocks = f"line {MOST_BLOCKS + 1}: more than 65535 blocks"
+    bad = "line 1: not understood"
+    yield taken("line ends", lambda: b"\n" * LONGEST, *nothing)
+    yield taken("blanks", lambda: b" \t\r " * (LONGEST // 4), *nothing)
+    yield taken("slashes", lambda: b"/" * LONGEST, *nothing)
+    yield refused("digits", lambda: b"7" * LONGEST, bad)
+    yield refused("a word", lambda: b"A" * LONGEST, bad)
+    yield taken("a name", lambda: b"A" * (LONGEST - 1) + b":", long_name, long_name, long_name)
+    yield taken("a number", lambda: b"loadI " + b"0" * (LONGEST - 14) + b"8 => r1\n", "block 1 -\n",
+                "block 1 -\n[ loadI 8 => r0 ; nop ]\ncycles 1\n", "block 1 - cycles 1\n")
+    yield refused("labels", lambda: filled(b"A:\n"), many_blocks)
+    yield refused("nops", lambda: filled(b"nop\n"), many_loads)
+    yield refused("loads", lambda: filled(loads), many_loads)
+    yield taken("65,535 labels", lambda: b"A:\n" * MOST_BLOCKS, "block 1 A\nblock 2 A\n",
+                "block 1 A\ncycles 0\nblock 2 A\n", "block 1 A cycles 0\nblock 2 A cycles 0\n")
+    yield refused("65,536 labels", lambda: b"A:\n" * (MOST_BLOCKS + 1), many_blocks)
+    yield taken("10,000 operations", lambda: loads * MOST_OPERATIONS, "block 1 -\n",
+                "block 1 -\n[ load r0 => r1 ; nop ]\n[ nop ; nop ]\n", "block 1 - cycles 50000\ntotal 50000\n")
+    yield refused("10,001 operations", lambda: loads * (MOST_OPERATIONS + 1), many_loads)
+
+
+def full_inputs():
+    """Texts that are taken, each meant to make one part of the program work hard."""
+    head, chained = "block 1 A\n", "block 1 A\n[ load r0 => r1 ; nop ]\n[ nop ; nop ]\n"
+    yield taken("tiny blocks", lambda: b"A:output 0\n" * MOST_BLOCKS, "block 1 A\n0\n",
+                "block 1 A\n[ output 0 ; nop ]\n", "block 1 A cycles 1\n")
+    yield taken("long names", lambda: (b"A" * 254 + b":\n") * MOST_BLOCKS, "block 1 AAA", "block 1 AAA", "block 1 AAA")
+    yield taken("blocks of nops", lambda: (b"A:\n" + b"nop\n" * 63) * MOST_BLOCKS, head, "block 1 A\ncycles 0\n",
+                "block 1 A cycles 0\n")
+    yield taken("outputs", lambda: blocks_of(b"output 0\n"), "block 1 A\n0\n0\n", "block 1 A\n[ output 0 ; nop ]\n",
+                "block 1 A cycles 10000\n")
+    yield taken("chained loads", lambda: blocks_of(b"load r0=>r0\n"), head, chained, "block 1 A cycles 50000\n")
+    yield taken("chained products", lambda: blocks_of(b"mult r0,r0=>r0\n"), head,
+                "block 1 A\n[ nop ; mult r0, r0 => r1 ]\n", "block 1 A cycles 30000\n")
+    yield taken("constants", lambda: blocks_of(b"loadI 0=>r0\n"), head,
+                "block 1 A\n[ loadI 0 => r0 ; loadI 0 => r1 ]\n", "block 1 A cycles 5000\n")
+    yield taken("stores", lambda: blocks_of(b"store r0=>r0\n"), head, "block 1 A\n[ store r0 => r0 ; nop ]\n",
+                "block 1 A cycles 10004\n")
+    yield taken("stores and loads", lambda: blocks_of(b"store r1=>r0\n", b"load r0=>r2\n"), head,
+                "block 1 A\n[ store r0 => r1 ; nop ]\n", "block 1 A cycles 30004\n")
+    yield taken("uses of one load", lambda: filled(b"A:\nload r0=>r1\n" + b"add r1,r1=>r2\n" * (MOST_OPERATIONS - 1)),
+                head, chained, "block 1 A cycles 5005\n")
+    yield taken("registers anywhere", registers_anywhere, head, "block 1 A\n[ loadI 0 => r0 ; loadI 0 => r1 ]\n",
+                "block 1 A cycles 5000\n")
+
+
+def registers_anywhere():
+    """Each operation defines another register, and the numbers jump."""
+    lines = (b"loadI 0=>r%d\n" % (number * 1_103_515_245 % 2**31) for number in range(MOST_OPERATIONS))
+    return filled(b"A:\n" + b"".join(lines))
+
+
+def size_checks(place):
+    table = Table(place)
+    listed = [EVEN, *plain_inputs(), *([] if place.is_short else full_inputs())]
+    for it in listed:
+        yield Check(f"sizes/{it.name}", lambda it=it: table.rows(it))
+    if not place.is_short:
+        yield Check("sizes/slow loads", table.slow_loads)
+
+
+class Table:
+    def __init__(self, place):
+        self.place = place
+        self.even = {}
+
+    def rows(self, given):
+        """Prints the rows of an input, one for each command, and gives what is wrong."""
+        path = self.place.stored("given", given.make())
+        for command in COMMANDS:
+            got = self.least([command], path)
+            self.show(command, given.name, got)
+            due = measure.run([self.place.baseline, command], path, self.place.path("due"))
+            if given.name == EVEN.name:
+                self.even[command] = got
+            yield from differences(command, got, due)
+            yield from misfits(command, got, given)
+
+    def least(self, words, path):
+        """The run with the least processor time."""
+        times = 1 if self.place.is_short else TIMES
+        runs = [measure.run([self.place.program, *words], path, self.place.path("got")) for _ in range(times)]
+        return min(runs, key=lambda it: it.processor_ms)
+
+    def show(self, command, name, got):
+        if not self.even:
+            print(HEAD)
+        even = self.even.get(command, got)
+        start = front(got.output) or front(got.output + ".err")
+        print(ROW.format(command, name, got.status, got.processor_ms, got.processor_ms / even.processor_ms,
+                         got.mebibytes, got.mebibytes / even.mebibytes, start[:30]), flush=True)
+
+    def slow_loads(self):
+        """Chained loads that take 16 cycles each: the longest schedules that a text can have."""
+        text = blocks_of(b"load r0=>r0\n")
+        path = self.place.stored("given", text)
+        for command in COMMANDS[1:]:
+            got = self.least([command, "--load", str(SLOWEST)], path)
+            self.show(command, "chained loads, 16 cycles", got)
+            if got.status != 0 or not is_made_of(got.output, slow_listing(command, text.count(b":"))):
+                yield f"{command}: status {got.status}, or another listing"
+
+
+def slow_listing(command, blocks):
+    """What is listed of `slow_loads`, in parts."""
+    cycles = SLOWEST * MOST_OPERATIONS
+    empty = b"[ nop ; nop ]\n" * (SLOWEST - 1)
+    rows = empty.join(b"[ load r%d => r%d ; nop ]\n" % (k, k + 1) for k in range(MOST_OPERATIONS))
+    entry = {"simulate": b"\n", "counts": b" cycles %d\n" % cycles,
+             "schedule": b"\n" + rows + b"cycles %d\n" % cycles}[command]
+    for number in range(1, blocks + 1):
+        yield b"block %d A" % number + entry
+    if command != "simulate":
+        yield b"total %d\n" % (blocks * cycles)
+
+
+def is_made_of(path, parts):
+    with open(path, "rb") as file:
+        return all(file.read(len(part)) == part for part in parts) and not file.read(1)
+
+
+def front(path):
+    with open(path, "rb") as file:
+        return file.read(200)
+
+
+def differences(command, got, due):
+    """Where a run ended otherwise than the plain program's."""
+    if got.status != due.status:
+        yield f"{command}: status {got.status} in place of {due.status}"
+    for end in ("", ".err"):
+        if not filecmp.cmp(got.output + end, due.output + end, shallow=False):
+            yield f"{command}: other bytes than the plain program's, {front(got.output + end)[:60]!r}"
+
+
+def misfits(command, got, given):
+    """Where a run ended otherwise than is said here, or used too much."""
+    start = front(got.output if given.status == 0 else got.output + ".err")
+    if got.status != given.status or not start.startswith(given.starts[command]):
+        yield f"{command}: status {got.status}, {start[:60]!r}"
+    if got.processor_ms > MOST_MS:
+        yield f"{command}: {got.processor_ms:.0f} ms"
+    if got.mebibytes > MOST_MIB:
+        yield f"{command}: {got.mebibytes:.0f} MiB"

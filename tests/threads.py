@@ -1,0 +1,80 @@
+"""Eight workers where there is one processor, or no thread to be had, and the same bytes each time."""
+import os
+import resource
+import shutil
+
+import inputs
+from check import Check, told
+from refusals import NO_WORKER
+
+RUNS = 200
+TINY = b"".join(b"B%d: loadI %d => r1\nmult r1, r1 => r2\n" % (k, k) for k in range(300))
+# A user that nobody is, so that no process but ours counts.
+NOBODY = 54_321
+
+
+def thread_checks(place):
+    for command in ("schedule", "counts"):
+        yield Check(f"threads/same_bytes/{command}", lambda command=command: same_bytes(place, command))
+        yield Check(f"threads/one_processor/{command}", lambda command=command: one_processor(place, command))
+        yield Check(f"threads/none_to_be_had/{command}", lambda command=command: none_to_be_had(place, command))
+    for command in ("run", "simulate"):
+        yield Check(f"threads/none_needed/{command}", lambda command=command: none_needed(place, command))
+
+
+def by(workers):
+    return ["--workers", str(workers)]
+
+
+def same_bytes(place, command):
+    """Runs that differ from one with one worker."""
+    due = place.ending([command, *by(1)], TINY)
+    if due[0] != 0 or not due[1]:
+        yield f"one worker: {told(due)}"
+    for number in range(1, RUNS + 1):
+        got = place.ending([command, *by(8)], TINY)
+        if got != due:
+            yield f"run {number}: {told(got)} in place of {told(due)}"
+
+
+def one_processor(place, command):
+    first = min(os.sched_getaffinity(0))
+    draw = inputs.Draw()
+    blocks = b"".join(inputs.block(draw, "L", 100, [f"r{k}" for k in range(64)]) for _ in range(300))
+    due = place.ending([command, *by(1)], blocks)
+    if due[0] != 0 or not due[1]:
+        yield f"one worker: {told(due)}"
+    for _ in range(10):
+        got = place.ending([command, *by(8)], blocks, preexec_fn=lambda: os.sched_setaffinity(0, {first}))
+        if got != due:
+            yield f"{told(got)} in place of {told(due)}"
+
+
+def may_start_none():
+    """Called in the child: root may start as many threads as it likes, so it becomes somebody else."""
+    if os.getuid() == 0:
+        os.setgroups([])
+        os.setgid(NOBODY)
+        os.setuid(NOBODY)
+    resource.setrlimit(resource.RLIMIT_NPROC, (1, 1))
+
+
+def alone(place, words):
+    """How the program ends where it may start no thread. The copy is one that anybody may run."""
+    copy = shutil.copy2(place.program, place.path("copy"))
+    for path in (place.folder, copy):
+        os.chmod(path, 0o755)
+    return place.ending(words, TINY, copy, preexec_fn=may_start_none)
+
+
+def none_to_be_had(place, command):
+    for workers in (1, 2, 8):
+        got = alone(place, [command, *by(workers)])
+        if got != NO_WORKER:
+            yield f"{workers} workers: {told(got)}"
+
+
+def none_needed(place, command):
+    got, due = alone(place, [command]), place.ending([command], TINY)
+    if got != due or due[0] != 0:
+        yield f"{told(got)} in place of {told(due)}"
