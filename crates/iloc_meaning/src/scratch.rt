@@ -1,8 +1,8 @@
 //! A memory that can be put back.
-ghost use Rattle.std.specs.Prelude.{◌≡◌, ◌/◌, pos, slice_set, OnOk, OnErr, IsTrue};
+ghost use Rattle.std.specs.Prelude.{◌≡◌, ◌/◌, pos, length, slice_set, OnOk, OnErr, IsTrue};
 ghost use Rattle.iloc_meaning.specs.Address.{is_good};
 
-use crate::memory::Memory;
+use crate::memory::{Memory, WORDS};
 use iloc_text::NoMemory;
 use std::alloc::Global;
 use std::marker::Model;
@@ -58,6 +58,7 @@ impl Scratch {
         ensures first { self.new.first ≡ self.old.first }
         ensures ok { OnOk result (self.new.words ≡ slice_set self.old.words (address / 4) word) }
         ensures err { OnErr result (self.new.words ≡ self.old.words) }
+        ensures size { length self.old.words ≡ WORDS }
     {
         let replaced = self.memory.get(address);
         self.replaced.push(Replaced {

@@ -1,5 +1,5 @@
 //! Results on their way to where they are written.
-ghost use Rattle.std.specs.Prelude.{◌≡◌, ◌%◌, ◌++◌, ◌∷◌, [], List, replicate, slice_set, All, IfOk, OnOk};
+ghost use Rattle.std.specs.Prelude.{◌≡◌, ◌%◌, ◌++◌, ◌∷◌, [], ℕ, List, length, replicate, slice_set, All, IfOk, OnOk};
 ghost use Rattle.iloc_timed.specs.running.Pending.{CanLand};
 ghost use Rattle.iloc_timed.specs.running.Wheel.{list_at};
 
@@ -72,5 +72,15 @@ impl Wheel {
         ensures { self.new ≡ slice_set self.old (cycle % 16) [] }
     {
         self.lists[cycle % LONGEST].clear();
+    }
+
+    /// Takes out all.
+    pub(crate) fn clear_all(&mut self)
+        ensures count { length self.new ≡ 16 }
+        ensures empty { (cycle : ℕ) → list_at self.new cycle ≡ [] }
+    {
+        for cycle in 0..self.lists.len() {
+            self.clear(cycle);
+        }
     }
 }
