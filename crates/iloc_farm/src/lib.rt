@@ -13,6 +13,7 @@ mod fault;
 mod initial;
 mod listing;
 mod program;
+mod runner;
 mod shift;
 mod task;
 

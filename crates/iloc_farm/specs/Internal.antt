@@ -1,0 +1,2 @@
+-- What private contracts cite: no contract of a public function names it.
+pub mod Runner
