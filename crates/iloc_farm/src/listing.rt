@@ -71,12 +71,8 @@ pub fn outcomes_text(
 {
     let mut text = Vec::new(alloc);
     for (index, block) in file.blocks.as_slice().iter().enumerate() {
-        push_outcome(
-            &mut text,
-            index + 1,
-            block.name.as_ref(),
-            outcomes[index].outputs(),
-        )?;
+        let words = outcomes[index].outputs();
+        push_outcome(&mut text, index + 1, block.name.as_ref(), words)?;
     }
     Ok(text)
 }
