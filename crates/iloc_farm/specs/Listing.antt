@@ -7,8 +7,8 @@ use Rattle.iloc_text.specs.declared.op.Op.TheVariants.{Nop}
 use Rattle.iloc_text.specs.declared.file.Block.{Block}
 use Rattle.iloc_text.specs.Spelling.{spelling}
 use Rattle.iloc_meaning.specs.declared.outcome.Outcome.{Outcome}
-use Rattle.iloc_meaning.specs.declared.outcome.Outcome.TheVariants.{Finished, Fault}
 use Rattle.iloc_meaning.specs.Trace.{op_at}
+use Rattle.iloc_meaning.specs.Outcome.{shown}
 use Rattle.iloc_timed.specs.declared.latencies.Latencies.{Latencies}
 use Rattle.iloc_timed.specs.declared.row.Row.{Row}
 use Rattle.iloc_timed.specs.Cycles.{cycles}
@@ -38,13 +38,16 @@ entries entry k (block ∷ blocks) (item ∷ items) = entry k block.name item ++
 abbrev pub word_line : ℤ → List ℕ
 word_line word = signed_decimal word ++ codes "\n"
 
--- the emitted words, or `fault`
-abbrev pub outcome_lines : Outcome → List ℕ
-outcome_lines (Finished outputs memory) = flat_map word_line outputs
-outcome_lines Fault = codes "fault\n"
+-- the emitted words, each on its line, or `fault` in their place
+abbrev pub words_or_fault : Option (List ℤ) → List ℕ
+words_or_fault None = codes "fault\n"
+words_or_fault (Some words) = flat_map word_line words
+
+abbrev pub shown_entry : ℕ → Option (List ℕ) → Option (List ℤ) → List ℕ
+shown_entry k name words = block_head k name ++ codes "\n" ++ words_or_fault words
 
 abbrev pub outcome_entry : ℕ → Option (List ℕ) → Outcome → List ℕ
-outcome_entry k name outcome = block_head k name ++ codes "\n" ++ outcome_lines outcome
+outcome_entry k name outcome = shown_entry k name (shown outcome)
 
 -- the listing of a file's blocks with their outcomes
 abbrev pub outcomes_listing : List Block → List Outcome → List ℕ

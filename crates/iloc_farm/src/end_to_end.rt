@@ -3,7 +3,7 @@ ghost use Rattle.std.specs.Prelude.{◌≡◌, ◌≢◌, ◌≤◌, ◌<◌, �
 ghost use Rattle.std.specs.List.{All};
 ghost use Rattle.std.specs.Io.KnownBytes.{Appends};
 ghost use Rattle.iloc_text.specs.declared.fault.ReadFault.{ReadFault as read_fault};
-ghost use Rattle.iloc_meaning.specs.Outcome.{outcome};
+ghost use Rattle.iloc_farm.specs.Steps.Runner.{runs};
 ghost use Rattle.iloc_farm.specs.Listing.{total_cycles};
 ghost use Rattle.iloc_farm.specs.Run.{EndsRun, IsListing, run_listing, ReadsFile, Lists, Refuses};
 ghost use Rattle.iloc_farm.specs.Schedules.{AreGreedy, AreTheOnlyGreedy, IsWithinLimits};
@@ -13,13 +13,12 @@ use crate::farm::schedule_all;
 use crate::fault::{FarmFault, RunFault};
 use crate::initial::initial_memory;
 use crate::listing::{counts_text, push_outcome, schedules_text};
+use crate::runner::Runner;
 use iloc_board::FreeGate;
 use iloc_line::{Request, Task};
-use iloc_meaning::{Memory, Outcome, run_block};
-use iloc_sched::schedule;
 use iloc_text::laws::files_are_within_limits;
-use iloc_text::{Block, IlocFile, NoMemory, read_file};
-use iloc_timed::{Latencies, Schedule, run_schedule};
+use iloc_text::{IlocFile, NoMemory, read_file};
+use iloc_timed::Schedule;
 use std::alloc::Global;
 use std::io::{Read, Write};
 use std::sync::Wait;
@@ -39,46 +38,15 @@ fn read_blocks<R: Read>(alloc: Global, reader: &mut R) -> Result<IlocFile, RunFa
     Ok(read_file(alloc, &input)?)
 }
 
-/// What runs a block.
-#[derive(Clone, Copy)]
-enum Machine {
-    /// One operation after the other.
-    Plain,
-    /// The timed machine, by the block's greedy schedule for these latencies.
-    Timed(Latencies),
-}
-
-impl Machine {
-    /// The outcome of a block that starts with this memory. It is the same on each machine.
-    fn outcome(self, alloc: Global, block: &Block, memory: Memory) -> Result<Outcome, NoMemory>
-        requires { length block.now.ops ≤ 10000 }
-        ensures { IfOk result (λ found. found ≡ outcome block.now.ops memory) }
-    {
-        match self {
-            Machine::Plain => Ok(run_block(alloc, block, memory)?),
-            Machine::Timed(latencies) => {
-                let schedule = schedule(alloc, block, &latencies)?;
-                Ok(run_schedule(alloc, &schedule, &latencies, memory)?)
-            }
-        }
-    }
-}
-
-/// The listing of the outcomes of the file's blocks, each on its own copy of a memory. One such copy
-/// is held at a time.
-fn outcomes_listed(
-    alloc: Global,
-    file: &IlocFile,
-    memory: &Memory,
-    machine: Machine,
-) -> Result<Vec<u8>, NoMemory>
+/// The listing of the outcomes of the file's blocks, run one after another.
+fn outcomes_listed(alloc: Global, file: &IlocFile, mut runner: Runner) -> Result<Vec<u8>, NoMemory>
     requires { All (λ b. length b.ops ≤ 10000) file.now.blocks }
-    ensures { IfOk result (λ text. text.items ≡ run_listing memory.now file.now.blocks) }
+    ensures { IfOk result (λ text. text.items ≡ run_listing (runs runner).memory file.now.blocks) }
 {
     let mut text = Vec::new(alloc);
     for (index, block) in file.blocks.as_slice().iter().enumerate() {
-        let outcome = machine.outcome(alloc, block, memory.copy()?)?;
-        push_outcome(&mut text, index + 1, block.name.as_ref(), &outcome)?;
+        runner.run(alloc, block)?;
+        push_outcome(&mut text, index + 1, block.name.as_ref(), runner.outputs())?;
     }
     Ok(text)
 }
@@ -118,12 +86,12 @@ fn request_text<R: Threads + Wait + Sync>(
     match request.task {
         Task::Run => {
             let memory = initial_memory(alloc, request)?;
-            Ok(outcomes_listed(alloc, file, &memory, Machine::Plain)?)
+            Ok(outcomes_listed(alloc, file, Runner::plain(alloc, memory)?)?)
         }
         Task::Simulate => {
             let memory = initial_memory(alloc, request)?;
-            let machine = Machine::Timed(*latencies);
-            Ok(outcomes_listed(alloc, file, &memory, machine)?)
+            let runner = Runner::timed(alloc, memory, *latencies)?;
+            Ok(outcomes_listed(alloc, file, runner)?)
         }
         Task::Schedule => {
             let schedules = schedules_of(rt, alloc, file, request)?;
@@ -137,7 +105,7 @@ fn request_text<R: Threads + Wait + Sync>(
 }
 
 /// Reads a file and writes what the request lists of it. For `Run` and `Simulate` each block starts
-/// with its own copy of the request's memory; for `Schedule` and `Counts` the request's workers are
+/// with the request's memory; for `Schedule` and `Counts` the request's workers are
 /// threads.
 ///
 /// The whole listing is made before the first byte is written. After `WriteFailed` a front of it was

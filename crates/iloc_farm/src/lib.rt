@@ -15,6 +15,7 @@ mod listing;
 mod program;
 #[cfg(test)]
 mod refusals;
+mod runner;
 mod shift;
 mod task;
 

@@ -41,23 +41,23 @@ fn push_words(text: &mut Vec<u8>, words: &[i32]) -> Result<(), NoMemory>
     Ok(())
 }
 
-/// Appends what is listed of the block with this number, counted from 1, and this outcome. After a
-/// refusal a part of it may stand behind the text.
+/// Appends what is listed of the block with this number, counted from 1, which emitted these words,
+/// or faulted where there are none. After a refusal a part of it may stand behind the text.
 pub fn push_outcome(
     text: &mut Vec<u8>,
     number: usize,
     name: Option<&Name>,
-    outcome: &Outcome,
+    words: Option<&[i32]>,
 ) -> Result<(), NoMemory>
     requires { number < 2 ^ 63 }
     ensures { OnOk result (text.new.items
-        ≡ text.old.items ++ listed.outcome_entry number (option_copied name.entry) outcome.now) }
+        ≡ text.old.items ++ listed.shown_entry number (option_copied name.entry) (option_copied words.entry)) }
 {
     push_block_head(text, number, name)?;
     text.push(b'\n')?;
-    match outcome {
-        Outcome::Finished { outputs, .. } => push_words(text, outputs.as_slice()),
-        Outcome::Fault => Ok(text.extend_from_slice(b"fault\n")?),
+    match words {
+        Some(words) => push_words(text, words),
+        None => Ok(text.extend_from_slice(b"fault\n")?),
     }
 }
 
@@ -72,7 +72,8 @@ pub fn outcomes_text(
 {
     let mut text = Vec::new(alloc);
     for (index, block) in file.blocks.as_slice().iter().enumerate() {
-        push_outcome(&mut text, index + 1, block.name.as_ref(), &outcomes[index])?;
+        let words = outcomes[index].outputs();
+        push_outcome(&mut text, index + 1, block.name.as_ref(), words)?;
     }
     Ok(text)
 }

@@ -1,5 +1,7 @@
 pub mod Cases
 pub mod RegisterValues
+pub mod Tables
+pub mod PuttingBack
 pub mod MemoryWords
 pub mod Effects
 pub mod Steps

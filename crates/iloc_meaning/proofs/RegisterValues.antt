@@ -1,32 +1,87 @@
--- The registers' values as the entries of an ordered map.
-use Rattle.std.proofs.Common.{◌≡◌, ℕ, ℤ, cond, false, List, [], ◌∷◌, Some, unwrap_or, pos, refl, ap, sym, ◌∙◌, ne_eqb}
+-- The registers' values: those of a table by place, and behind it the entries of an ordered map.
+use Rattle.std.proofs.Common.{◌≡◌, ℕ, zero, suc, ◌+◌, ◌<◌, ◌≤◌, ℤ, cond, true, false, List, [], ◌∷◌, ◌++◌, length, get_or, set, Some, unwrap_or, pos, arith, refl, ap, sym, ◌∙◌, ne_eqb, eq-eqb, inl, inr, length-set, get_or-set_same, get_or-set_other}
+use Rattle.std.proofs.lemmas.Bool.{cases_lt}
+use Rattle.std.specs.List.{enumerate_from}
 use Rattle.std.specs.Ordering.{nat_cmp, eq_by_cmp}
 use Rattle.std.specs.Cmp.{nat_cmp_total, unsigned_tied}
 use Rattle.std.specs.Map.{lookup}
 use Rattle.std.specs.FinMap.{find, from_entries, get-from_entries}
 use Rattle.iloc_text.specs.declared.op.Reg.{Reg}
-use Rattle.iloc_meaning.specs.Registers.{value_of, ChangesOnly}
+use Rattle.iloc_meaning.specs.Registers.{Values, value_of, ChangesOnly}
 
 find_is_lookup : (n : ℕ) (entries : List (ℕ × ℤ)) → find nat_cmp n entries ≡ lookup (eq_by_cmp nat_cmp n) entries
 find_is_lookup n [] = refl
 find_is_lookup n (e ∷ entries) = ap (cond (eq_by_cmp nat_cmp n e.0) (Some e.1)) (find_is_lookup n entries)
 
--- the value of a register is that of its number's entry
-pub value_of-entries : (entries : List (ℕ × ℤ)) (r : Reg) → value_of (from_entries {R = nat_cmp} entries) r ≡ unwrap_or (lookup (eq_by_cmp nat_cmp r.0) entries) (pos 0)
+-- a number finds its place in a table whose places are numbered from k on
+find_table : (k i n : ℕ) (table : List ℤ) (others : List (ℕ × ℤ)) → n ≡ k + i → i < length table → find nat_cmp n (enumerate_from k table ++ others) ≡ Some (get_or table i (pos 0))
+find_table k i n [] others is below = absurd (omega arith)
+find_table k zero n (v ∷ table) others is below =
+    let same : n ≡ k = omega arith in
+    let here : eq_by_cmp nat_cmp n k ≡ true = unsigned_tied n k ∙ eq-eqb n k same in
+    rw here refl
+find_table k (suc i) n (v ∷ table) others is below =
+    let there : eq_by_cmp nat_cmp n k ≡ false = unsigned_tied n k ∙ ne_eqb n k (λ same. omega arith) in
+    rw there (find_table (k + 1) i n table others (omega arith) (omega arith))
+
+-- a number past the table is looked for behind it
+find_past : (k n : ℕ) (table : List ℤ) (others : List (ℕ × ℤ)) → k + length table ≤ n → find nat_cmp n (enumerate_from k table ++ others) ≡ find nat_cmp n others
+find_past k n [] others past = refl
+find_past k n (v ∷ table) others past =
+    let there : eq_by_cmp nat_cmp n k ≡ false = unsigned_tied n k ∙ ne_eqb n k (λ same. omega arith) in
+    rw there (find_past (k + 1) n table others (omega arith))
+
+-- the values that a table and other entries give
+abbrev pub values : List ℤ → List (ℕ × ℤ) → Values
+values table others = from_entries (enumerate_from 0 table ++ others)
+
+-- the value of a register with a place in the table
+pub value_of-table : (table : List ℤ) (others : List (ℕ × ℤ)) (r : Reg) → r.0 < length table → value_of (values table others) r ≡ get_or table r.0 (pos 0)
 unfolding value_of
-value_of-entries entries r = ap (λ o. unwrap_or o (pos 0)) (get-from_entries nat_cmp_total entries r.0 ∙ find_is_lookup r.0 entries)
+value_of-table table others r below =
+    ap (λ o. unwrap_or o (pos 0)) (get-from_entries nat_cmp_total (enumerate_from 0 table ++ others) r.0 ∙ find_table 0 r.0 r.0 table others (omega arith) below)
 
--- no entry, no value
-pub value_of-none : (entries : List (ℕ × ℤ)) (r : Reg) → entries ≡ [] → value_of (from_entries {R = nat_cmp} entries) r ≡ pos 0
-value_of-none entries r none =
-    value_of-entries entries r ∙ ap (λ es. unwrap_or (lookup (eq_by_cmp nat_cmp r.0) es) (pos 0)) none
+-- the value of any other register
+pub value_of-others : (table : List ℤ) (others : List (ℕ × ℤ)) (r : Reg) → length table ≤ r.0 → value_of (values table others) r ≡ unwrap_or (lookup (eq_by_cmp nat_cmp r.0) others) (pos 0)
+unfolding value_of
+value_of-others table others r past =
+    ap (λ o. unwrap_or o (pos 0)) (get-from_entries nat_cmp_total (enumerate_from 0 table ++ others) r.0 ∙ find_past 0 r.0 table others (omega arith) ∙ find_is_lookup r.0 others)
 
--- where the entry of one number is set, the others stay
-pub set_changes : (old new : List (ℕ × ℤ)) (r : Reg) (value : ℤ) → lookup (eq_by_cmp nat_cmp r.0) new ≡ Some value → ((n : ℕ) → eq_by_cmp nat_cmp r.0 n ≡ false → lookup (eq_by_cmp nat_cmp n) new ≡ lookup (eq_by_cmp nat_cmp n) old) → ChangesOnly (from_entries {R = nat_cmp} old) (from_entries {R = nat_cmp} new) r value
-set_changes old new r value set stay = record {
-  changed = value_of-entries new r ∙ ap (λ o. unwrap_or o (pos 0)) set;
-  others = λ s apart.
-      value_of-entries new s
-      ∙ ap (λ o. unwrap_or o (pos 0)) (stay s.0 (unsigned_tied r.0 s.0 ∙ ne_eqb _ _ (λ same. apart (sym same))))
-      ∙ sym (value_of-entries old s);
+-- a table of zeros and no other entry
+pub values_of_zeros : (table : List ℤ) (others : List (ℕ × ℤ)) → ((n : ℕ) → get_or table n (pos 0) ≡ pos 0) → others ≡ [] → (r : Reg) → value_of (values table others) r ≡ pos 0
+values_of_zeros table others zeros none r = elim (cases_lt r.0 (length table)) [
+  | inl below ↦ value_of-table table others r below ∙ zeros r.0
+  | inr past ↦
+      value_of-others table others r past
+      ∙ ap (λ es. unwrap_or (lookup (eq_by_cmp nat_cmp r.0) es) (pos 0)) none
+]
+
+-- a write to a place of the table
+pub set_in_table : (table : List ℤ) (others : List (ℕ × ℤ)) (r : Reg) (value : ℤ) → r.0 < length table → ChangesOnly (values table others) (values (set table r.0 value) others) r value
+set_in_table table others r value below =
+    let same_size : length (set table r.0 value) ≡ length table = length-set _ _ _ in
+    record {
+      changed = value_of-table (set table r.0 value) others r (omega arith) ∙ get_or-set_same table r.0 value (pos 0) below;
+      others = λ s apart. elim (cases_lt s.0 (length table)) [
+        | inl within ↦
+            value_of-table (set table r.0 value) others s (omega arith)
+            ∙ get_or-set_other table r.0 s.0 value (pos 0) apart
+            ∙ sym (value_of-table table others s within)
+        | inr past ↦
+            value_of-others (set table r.0 value) others s (omega arith)
+            ∙ sym (value_of-others table others s past)
+      ];
+    }
+
+-- where the entry of one number past the table is set, the others stay
+pub set_in_others : (table : List ℤ) (old new : List (ℕ × ℤ)) (r : Reg) (value : ℤ) → length table ≤ r.0 → lookup (eq_by_cmp nat_cmp r.0) new ≡ Some value → ((n : ℕ) → eq_by_cmp nat_cmp r.0 n ≡ false → lookup (eq_by_cmp nat_cmp n) new ≡ lookup (eq_by_cmp nat_cmp n) old) → ChangesOnly (values table old) (values table new) r value
+set_in_others table old new r value beyond set stay = record {
+  changed = value_of-others table new r beyond ∙ ap (λ o. unwrap_or o (pos 0)) set;
+  others = λ s apart. elim (cases_lt s.0 (length table)) [
+    | inl within ↦ value_of-table table new s within ∙ sym (value_of-table table old s within)
+    | inr past ↦
+        value_of-others table new s past
+        ∙ ap (λ o. unwrap_or o (pos 0)) (stay s.0 (unsigned_tied r.0 s.0 ∙ ne_eqb _ _ (λ same. apart (sym same))))
+        ∙ sym (value_of-others table old s past)
+  ];
 }

@@ -5,7 +5,7 @@ use Rattle.std.proofs.lemmas.List.{get_or_default}
 use Rattle.iloc_text.specs.declared.op.Reg.{Reg}
 use Rattle.iloc_text.specs.declared.op.Op.{Op}
 use Rattle.iloc_text.specs.declared.op.Op.TheVariants.{Nop}
-use Rattle.iloc_meaning.specs.declared.run.Machine.{Machine}
+use Rattle.iloc_meaning.specs.declared.machine.Machine.{Machine}
 use Rattle.iloc_meaning.specs.declared.outcome.Outcome.TheVariants.{Fault}
 use Rattle.iloc_meaning.specs.Memory.{word_at, with_words}
 use Rattle.iloc_meaning.specs.Trace.{then_executed, before}
@@ -19,11 +19,12 @@ with_words_same memory =
     (λ k below. let same : 4 * k / 4 ≡ k = omega arith in ap (λ j. get_or memory j (pos 0)) (sym same))
 
 -- a block begins with all registers 0, the memory handed in and no output
-pub begins : (machine : Machine) (memory : List ℤ) → length memory ≡ 16384 → ((r : Reg) → value_of machine.registers r ≡ pos 0) → machine.memory ≡ memory → machine.outputs.items ≡ [] → Follows memory [] machine
+pub begins : (machine : Machine) (memory : List ℤ) → length memory ≡ 16384 → ((r : Reg) → value_of machine.registers r ≡ pos 0) → machine.memory ≡ record { first = memory; words = memory } → machine.outputs.items ≡ [] → Follows memory [] machine
 begins machine memory size registers words outputs = record {
   size = size;
+  first = ap (λ m. m.first) words;
   registers = registers;
-  words = words ∙ with_words_same memory;
+  words = ap (λ m. m.words) words ∙ with_words_same memory;
   outputs = outputs;
   no_fault = refl;
 }

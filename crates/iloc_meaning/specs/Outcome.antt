@@ -1,5 +1,5 @@
 -- The outcome of a block on a memory.
-use Rattle.std.specs.Prelude.{Bool, true, false, if◌then◌else◌, List, [], ◌∷◌, ◌++◌, length, ℤ}
+use Rattle.std.specs.Prelude.{Bool, true, false, if◌then◌else◌, List, [], ◌∷◌, ◌++◌, length, Option, Some, None, ℤ}
 use Rattle.std.specs.List.{list_any}
 use Rattle.iloc_text.specs.declared.op.Op.{Op}
 use Rattle.iloc_meaning.specs.declared.effect.Effect.{Effect}
@@ -42,3 +42,13 @@ outcome_of memory trace =
 -- what comes of a block's operations
 abbrev pub outcome : List Op → List ℤ → Outcome
 outcome ops memory = outcome_of memory (before memory ops (length ops))
+
+-- the words that are emitted, and nothing where a block faults
+abbrev pub shown : Outcome → Option (List ℤ)
+shown (Finished outputs memory) = Some outputs
+shown Fault = None
+
+-- what runs blocks one after another: the memory with which each starts, and the outcome of the last one
+pub record Runs : Type 0 where
+  pub memory : List ℤ
+  pub last : Outcome

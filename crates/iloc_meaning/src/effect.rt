@@ -111,7 +111,7 @@ mod tests {
     #[test]
     fn reads_registers_and_memory(rt: HostRuntime) -> Result<(), Fail> {
         let (addr, other) = (Reg(1), Reg(2));
-        let mut registers = Registers::new(rt.alloc());
+        let mut registers = Registers::new(rt.alloc())?;
         let mut memory = Memory::zero(rt.alloc())?;
         registers.set(addr, 8)?;
         memory.set(8, -5);

@@ -3,16 +3,21 @@
 
 mod arithmetic;
 mod effect;
+mod interpreter;
 pub mod laws;
+mod machine;
 mod memory;
 mod outcome;
 mod registers;
 mod run;
+mod scratch;
 mod words;
 
 pub use effect::Effect;
+pub use interpreter::Interpreter;
 pub use memory::{Memory, WORDS};
 pub use outcome::Outcome;
 pub use registers::Registers;
 pub use run::run_block;
+pub use scratch::Scratch;
 pub use words::Words;

@@ -1,4 +1,7 @@
 //! What comes of a run.
+ghost use Rattle.std.specs.Prelude.{◌≡◌};
+ghost use Rattle.std.specs.Option.{option_copied};
+ghost use Rattle.iloc_meaning.specs.Outcome.{shown};
 
 use crate::memory::Memory;
 use crate::words::Words;
@@ -15,4 +18,16 @@ pub enum Outcome {
     },
     /// An operation faulted.
     Fault,
+}
+
+impl Outcome {
+    /// The emitted words, in order; none of a block that faults.
+    pub fn outputs(&self) -> Option<&[i32]>
+        ensures { option_copied result ≡ shown self.now }
+    {
+        match self {
+            Outcome::Finished { outputs, .. } => Some(outputs.as_slice()),
+            Outcome::Fault => None,
+        }
+    }
 }

@@ -1,56 +1,89 @@
 //! The registers of a running block.
-ghost use Rattle.std.specs.Prelude.{◌≡◌, pos, OnOk, OnErr};
+ghost use Rattle.std.specs.Prelude.{◌≡◌, pos, IfOk, OnOk, OnErr};
 
 use iloc_text::{NoMemory, Reg};
 use std::alloc::Global;
 use std::collections::BTreeMap;
 use std::marker::Model;
 
+/// How many registers have a place in the table: those with numbers below this.
+const TABLED: usize = 4_096;
+
 /// The values of the registers of a block, by their numbers.
 #[derive(Debug, Drop)]
 pub struct Registers {
-    // The registers that were given a value; every other is 0.
-    values: BTreeMap<u32, i32>,
+    // The values of the registers with a place in the table.
+    table: Vec<i32>,
+    // The numbers of those that were given a value since all were 0.
+    given: Vec<u32>,
+    // The other registers that were given a value; every other is 0.
+    others: BTreeMap<u32, i32>,
 }
 
 impl Model for Registers {
-    ghost use Rattle.std.specs.Prelude.{ℤ};
+    ghost use Rattle.std.specs.Prelude.{ℤ, ◌++◌};
+    ghost use Rattle.std.specs.List.{enumerate_from};
     ghost use Rattle.std.specs.Ordering.{nat_cmp};
     ghost use Rattle.std.specs.Coded.{coded_ℕ, coded_ℤ};
     ghost use Rattle.std.specs.FinMap as map;
+    ghost use Rattle.iloc_meaning.specs.Steps.Table.{AreGiven};
 
     ghost Value = { map.FinMap nat_cmp ℤ };
 
     ghost coded = { map.code coded_ℕ coded_ℤ };
 
-    ghost view = { λ registers. map.from_entries registers.values.entries };
+    ghost view = { λ r. map.from_entries (enumerate_from 0 r.table.items ++ r.others.entries) };
+
+    ghost invariant = { λ r. AreGiven r.given.items r.table.items };
 }
 
 impl Registers {
+    ghost use Rattle.iloc_text.specs.declared.op.Reg.{Reg as Register};
     ghost use Rattle.iloc_meaning.specs.Registers.{value_of, ChangesOnly};
 
     /// All registers 0.
-    pub fn new(alloc: Global) -> Registers
-        ensures { (r : Reg) → value_of result r ≡ pos 0 }
+    pub fn new(alloc: Global) -> Result<Registers, NoMemory>
+        ensures { IfOk result (λ registers. (r : Register) → value_of registers r ≡ pos 0) }
     {
-        Registers {
-            values: BTreeMap::new(alloc),
-        }
+        Ok(Registers {
+            table: vec![in alloc; 0; TABLED]?,
+            given: Vec::new(alloc),
+            others: BTreeMap::new(alloc),
+        })
     }
 
     /// The value of a register.
     pub fn get(&self, register: Reg) -> i32
         ensures { result ≡ value_of self.now register }
     {
-        self.values.get(&register.0).copied().unwrap_or(0)
+        match self.table.get(register.0 as usize) {
+            Some(value) => *value,
+            None => self.others.get(&register.0).copied().unwrap_or(0),
+        }
     }
 
     /// Gives a register a value. After a refusal each register keeps its own.
     pub fn set(&mut self, register: Reg, value: i32) -> Result<(), NoMemory>
         ensures ok { OnOk result (ChangesOnly self.old self.new register value) }
-        ensures err { OnErr result ((r : Reg) → value_of self.new r ≡ value_of self.old r) }
+        ensures err { OnErr result ((r : Register) → value_of self.new r ≡ value_of self.old r) }
     {
-        self.values.insert(register.0, value)?;
+        let place = register.0 as usize;
+        if place < self.table.len() {
+            self.given.push(register.0)?;
+            self.table[place] = value;
+        } else {
+            self.others.insert(register.0, value)?;
+        }
         Ok(())
+    }
+
+    /// Makes all registers 0, by one step for each that was given a value.
+    pub fn clear(&mut self)
+        ensures { (r : Register) → value_of self.new r ≡ pos 0 }
+    {
+        while let Some(number) = self.given.pop() {
+            self.table[number as usize] = 0;
+        }
+        self.others.clear();
     }
 }

@@ -9,6 +9,7 @@ use Rattle.iloc_meaning.specs.declared.effect.Effect.TheVariants.{Faults, Gives,
 use Rattle.iloc_meaning.specs.Address.{is_good}
 use Rattle.iloc_meaning.specs.Memory.{word_at}
 use Rattle.iloc_meaning.specs.Registers.{Values, value_of}
+use Rattle.iloc_meaning.specs.Scratch.{Words}
 use Rattle.iloc_meaning.specs.Effect.{effect}
 use Rattle.iloc_meaning.specs.Outcome.{is_fault, has_fault, emitted_by}
 use Rattle.iloc_meaning.proofs.Effects.{effect_same, results_go}
@@ -16,14 +17,14 @@ use Rattle.iloc_timed.specs.declared.machine.Machine.{Machine}
 use Rattle.iloc_timed.specs.declared.wheel.Pending.{Pending}
 use Rattle.iloc_timed.specs.declared.wheel.Pending.TheVariants.{Register, Word}
 use Rattle.iloc_timed.specs.Timed.{Issued, register_in, word_in, executed_in}
-use Rattle.iloc_timed.specs.running.Pending.{landed_in_register, landed_in_word}
-use Rattle.iloc_timed.specs.running.Wheel.{list_at, due_at, AreUnderWay}
-use Rattle.iloc_timed.specs.running.Machine.{landed, AllLand, Follows, then_issued}
+use Rattle.iloc_timed.specs.Steps.Pending.{landed_in_register, landed_in_word}
+use Rattle.iloc_timed.specs.Steps.Wheel.{list_at, due_at, AreUnderWay}
+use Rattle.iloc_timed.specs.Steps.Machine.{landed, AllLand, Follows, then_issued}
 use Rattle.iloc_timed.proofs.Turning.{cleared, pushed, not_pushed}
 use Rattle.iloc_timed.proofs.Landing.{register_more, word_more, landed-later}
 
 -- what the machine says gives an operation the effect that the log gives it
-pub effect_now : (memory : List ℤ) (c : ℕ) (log : List Issued) (machine : Machine) (op : Op) → Follows memory c log machine → effect op (register_in (landed c log)) (word_in memory (landed c log)) ≡ effect op (value_of machine.registers) (word_at machine.memory)
+pub effect_now : (memory : List ℤ) (c : ℕ) (log : List Issued) (machine : Machine) (op : Op) → Follows memory c log machine → effect op (register_in (landed c log)) (word_in memory (landed c log)) ≡ effect op (value_of machine.registers) (word_at machine.memory.words)
 effect_now memory c log machine op follows =
     effect_same op _ _ _ _ (λ r used. sym (follows.registers r)) (λ a good. sym (follows.words a good))
 
@@ -32,8 +33,8 @@ all_land_later c d [] later all = tt
 all_land_later c d (e ∷ earlier) later all = (omega (arith, all.0), all.1, all_land_later c d earlier later all.2)
 
 -- what is due at cycle c has landed
-pub after_landing : (memory : List ℤ) (c : ℕ) (log : List Issued) (machine : Machine) (due : List Pending) (registers : Values) (words : List ℤ) (wheel : List (List Pending)) → Follows memory c log machine → due ≡ list_at machine.wheel c → ((r : Reg) → value_of registers r ≡ fold (landed_in_register r) (value_of machine.registers r) due) → ((a : ℕ) → IsTrue (is_good (pos a)) → word_at words a ≡ fold (landed_in_word a) (word_at machine.memory a) due) → length words ≡ length machine.memory → wheel ≡ set machine.wheel (c % 16) [] → Follows memory (c + 1) log (record machine { registers = registers; memory = words; wheel = wheel })
-after_landing memory c log machine due registers words wheel follows is register word size turned =
+pub after_landing : (memory : List ℤ) (c : ℕ) (log : List Issued) (machine : Machine) (due : List Pending) (registers : Values) (memory_then : Words) (wheel : List (List Pending)) → Follows memory c log machine → due ≡ list_at machine.wheel c → ((r : Reg) → value_of registers r ≡ fold (landed_in_register r) (value_of machine.registers r) due) → ((a : ℕ) → IsTrue (is_good (pos a)) → word_at memory_then.words a ≡ fold (landed_in_word a) (word_at machine.memory.words a) due) → length memory_then.words ≡ length machine.memory.words → wheel ≡ set machine.wheel (c % 16) [] → Follows memory (c + 1) log (record machine { registers = registers; memory = memory_then; wheel = wheel })
+after_landing memory c log machine due registers memory_then wheel follows is register word size turned =
     let all : due ≡ due_at c log = is ∙ follows.under_way.due c (omega arith) (omega arith) in
     record {
       size = follows.size;
@@ -45,7 +46,7 @@ after_landing memory c log machine due registers words wheel follows is register
           ∙ sym (register_more r (c + 16) c log follows.all_land);
       words = λ a good.
           word a good
-          ∙ ap (λ l. fold (landed_in_word a) (word_at machine.memory a) l) all
+          ∙ ap (λ l. fold (landed_in_word a) (word_at machine.memory.words a) l) all
           ∙ ap (λ v. fold (landed_in_word a) v (due_at c log)) (follows.words a good)
           ∙ sym (word_more memory a (c + 16) c log follows.all_land);
       under_way = rw turned (cleared c log machine.wheel follows.all_land follows.under_way);
@@ -54,7 +55,7 @@ after_landing memory c log machine due registers words wheel follows is register
     }
 
 -- an operation was issued and didn't fault
-after_issue : (memory : List ℤ) (c due : ℕ) (op : Op) (log : List Issued) (machine : Machine) (done : Effect) (outputs : Vec ℤ Global) (wheel : List (List Pending)) → c ≤ due → due < c + 16 → Follows memory c log machine → done ≡ effect op (value_of machine.registers) (word_at machine.memory) → is_fault done ≡ false → outputs.items ≡ machine.outputs.items ++ emitted_by done → AreUnderWay c (record { due = due; executed = record { op = op; effect = done } } ∷ log) wheel → Follows memory c (then_issued memory c due op log) (record machine { outputs = outputs; wheel = wheel })
+after_issue : (memory : List ℤ) (c due : ℕ) (op : Op) (log : List Issued) (machine : Machine) (done : Effect) (outputs : Vec ℤ Global) (wheel : List (List Pending)) → c ≤ due → due < c + 16 → Follows memory c log machine → done ≡ effect op (value_of machine.registers) (word_at machine.memory.words) → is_fault done ≡ false → outputs.items ≡ machine.outputs.items ++ emitted_by done → AreUnderWay c (record { due = due; executed = record { op = op; effect = done } } ∷ log) wheel → Follows memory c (then_issued memory c due op log) (record machine { outputs = outputs; wheel = wheel })
 after_issue memory c due op log machine done outputs wheel from upto follows is fine says way =
     let same : effect op (register_in (landed c log)) (word_in memory (landed c log)) ≡ done = effect_now memory c log machine op follows ∙ sym is in
     let e : Issued = record { due = due; executed = record { op = op; effect = done } } in
@@ -69,32 +70,32 @@ after_issue memory c due op log machine done outputs wheel from upto follows is 
       outputs = says ∙ ap (λ l. l ++ emitted_by done) follows.outputs;
     }
 
-pub after_fault : (memory : List ℤ) (c due : ℕ) (op : Op) (log : List Issued) (machine : Machine) → Follows memory c log machine → Faults ≡ effect op (value_of machine.registers) (word_at machine.memory) → has_fault (executed_in (then_issued memory c due op log)) ≡ true
+pub after_fault : (memory : List ℤ) (c due : ℕ) (op : Op) (log : List Issued) (machine : Machine) → Follows memory c log machine → Faults ≡ effect op (value_of machine.registers) (word_at machine.memory.words) → has_fault (executed_in (then_issued memory c due op log)) ≡ true
 after_fault memory c due op log machine follows is = rw (effect_now memory c log machine op follows, ← is) refl
 
 -- its result is under way to a register
-pub after_result : (memory : List ℤ) (c due : ℕ) (op : Op) (log : List Issued) (machine : Machine) (value : ℤ) (r : Reg) (wheel : List (List Pending)) → c ≤ due → due < c + 16 → Follows memory c log machine → Gives value ≡ effect op (value_of machine.registers) (word_at machine.memory) → Some r ≡ defined op → wheel ≡ set machine.wheel (due % 16) (list_at machine.wheel due ++ Register r value ∷ []) → Follows memory c (then_issued memory c due op log) (record machine { wheel = wheel })
+pub after_result : (memory : List ℤ) (c due : ℕ) (op : Op) (log : List Issued) (machine : Machine) (value : ℤ) (r : Reg) (wheel : List (List Pending)) → c ≤ due → due < c + 16 → Follows memory c log machine → Gives value ≡ effect op (value_of machine.registers) (word_at machine.memory.words) → Some r ≡ defined op → wheel ≡ set machine.wheel (due % 16) (list_at machine.wheel due ++ Register r value ∷ []) → Follows memory c (then_issued memory c due op log) (record machine { wheel = wheel })
 after_result memory c due op log machine value r wheel from upto follows is register turned =
     let e : Issued = record { due = due; executed = record { op = op; effect = Gives value } } in
     after_issue memory c due op log machine (Gives value) machine.outputs wheel from upto follows is refl (sym (append-nil machine.outputs.items))
     (rw turned (pushed c e log machine.wheel (Register r value) from upto (rw (← register) refl) follows.under_way))
 
 -- its word is under way to memory
-pub after_write : (memory : List ℤ) (c due : ℕ) (op : Op) (log : List Issued) (machine : Machine) (address : ℕ) (word : ℤ) (wheel : List (List Pending)) → c ≤ due → due < c + 16 → Follows memory c log machine → Writes address word ≡ effect op (value_of machine.registers) (word_at machine.memory) → wheel ≡ set machine.wheel (due % 16) (list_at machine.wheel due ++ Word address word ∷ []) → Follows memory c (then_issued memory c due op log) (record machine { wheel = wheel })
+pub after_write : (memory : List ℤ) (c due : ℕ) (op : Op) (log : List Issued) (machine : Machine) (address : ℕ) (word : ℤ) (wheel : List (List Pending)) → c ≤ due → due < c + 16 → Follows memory c log machine → Writes address word ≡ effect op (value_of machine.registers) (word_at machine.memory.words) → wheel ≡ set machine.wheel (due % 16) (list_at machine.wheel due ++ Word address word ∷ []) → Follows memory c (then_issued memory c due op log) (record machine { wheel = wheel })
 after_write memory c due op log machine address word wheel from upto follows is turned =
     let e : Issued = record { due = due; executed = record { op = op; effect = Writes address word } } in
     after_issue memory c due op log machine (Writes address word) machine.outputs wheel from upto follows is refl (sym (append-nil machine.outputs.items))
     (rw turned (pushed c e log machine.wheel (Word address word) from upto refl follows.under_way))
 
 -- it emitted a word
-pub after_output : (memory : List ℤ) (c due : ℕ) (op : Op) (log : List Issued) (machine : Machine) (word : ℤ) (outputs : Vec ℤ Global) → c ≤ due → due < c + 16 → Follows memory c log machine → Emits word ≡ effect op (value_of machine.registers) (word_at machine.memory) → outputs.items ≡ machine.outputs.items ++ word ∷ [] → Follows memory c (then_issued memory c due op log) (record machine { outputs = outputs })
+pub after_output : (memory : List ℤ) (c due : ℕ) (op : Op) (log : List Issued) (machine : Machine) (word : ℤ) (outputs : Vec ℤ Global) → c ≤ due → due < c + 16 → Follows memory c log machine → Emits word ≡ effect op (value_of machine.registers) (word_at machine.memory.words) → outputs.items ≡ machine.outputs.items ++ word ∷ [] → Follows memory c (then_issued memory c due op log) (record machine { outputs = outputs })
 after_output memory c due op log machine word outputs from upto follows is says =
     let e : Issued = record { due = due; executed = record { op = op; effect = Emits word } } in
     after_issue memory c due op log machine (Emits word) outputs machine.wheel from upto follows is refl says
     (not_pushed c e log machine.wheel refl follows.under_way)
 
 -- it did nothing
-pub after_nothing : (memory : List ℤ) (c due : ℕ) (op : Op) (log : List Issued) (machine : Machine) → c ≤ due → due < c + 16 → Follows memory c log machine → Nothing ≡ effect op (value_of machine.registers) (word_at machine.memory) → Follows memory c (then_issued memory c due op log) machine
+pub after_nothing : (memory : List ℤ) (c due : ℕ) (op : Op) (log : List Issued) (machine : Machine) → c ≤ due → due < c + 16 → Follows memory c log machine → Nothing ≡ effect op (value_of machine.registers) (word_at machine.memory.words) → Follows memory c (then_issued memory c due op log) machine
 after_nothing memory c due op log machine from upto follows is =
     let e : Issued = record { due = due; executed = record { op = op; effect = Nothing } } in
     after_issue memory c due op log machine Nothing machine.outputs machine.wheel from upto follows is refl (sym (append-nil machine.outputs.items))

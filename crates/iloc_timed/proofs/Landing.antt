@@ -16,9 +16,9 @@ use Rattle.iloc_meaning.specs.Results.{GoesTo}
 use Rattle.iloc_meaning.proofs.Cases.{by_bool}
 use Rattle.iloc_timed.specs.declared.wheel.Pending.{Pending}
 use Rattle.iloc_timed.specs.Timed.{Issued, arrived, later, last_due, last_that, register_in, word_in}
-use Rattle.iloc_timed.specs.running.Pending.{sent, sent_by, landed_in_register, landed_in_word}
-use Rattle.iloc_timed.specs.running.Wheel.{due_at}
-use Rattle.iloc_timed.specs.running.Machine.{landed, Lands, AllLand}
+use Rattle.iloc_timed.specs.Steps.Pending.{sent, sent_by, landed_in_register, landed_in_word}
+use Rattle.iloc_timed.specs.Steps.Wheel.{due_at}
+use Rattle.iloc_timed.specs.Steps.Machine.{landed, Lands, AllLand}
 
 -- the first, or else the second
 or_else : Option Issued → Option Issued → Option Issued

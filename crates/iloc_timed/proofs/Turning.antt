@@ -4,9 +4,9 @@ use Rattle.std.proofs.lemmas.Bool.{cases_eq}
 use Rattle.std.proofs.lemmas.List.{get_or-map, map-set}
 use Rattle.iloc_timed.specs.declared.wheel.Pending.{Pending}
 use Rattle.iloc_timed.specs.Timed.{Issued}
-use Rattle.iloc_timed.specs.running.Pending.{sent}
-use Rattle.iloc_timed.specs.running.Wheel.{list_at, due_at, AreUnderWay}
-use Rattle.iloc_timed.specs.running.Machine.{AllLand}
+use Rattle.iloc_timed.specs.Steps.Pending.{sent}
+use Rattle.iloc_timed.specs.Steps.Wheel.{list_at, due_at, AreUnderWay}
+use Rattle.iloc_timed.specs.Steps.Machine.{AllLand}
 
 -- one list of a `Vec` of lists, read and written
 pub items_set : (lists : List (Vec Pending Global)) (now : List (List Pending)) (k : ℕ) (list : Vec Pending Global) → map (λ l. l.items) lists ≡ now → map (λ l. l.items) (set lists k list) ≡ set now k list.items

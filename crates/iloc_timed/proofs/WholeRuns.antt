@@ -4,11 +4,13 @@ use Rattle.std.proofs.lemmas.Bool.{or_right, or_from, lt-leb}
 use Rattle.std.proofs.lemmas.Bool.Decides.{nat_tests}
 use Rattle.std.proofs.lemmas.List.{get_or_default}
 use Rattle.std.proofs.lemmas.List.FromFn.{fill_by_all}
+use Rattle.iloc_text.specs.declared.op.Reg.{Reg}
 use Rattle.iloc_text.specs.declared.op.Op.{Op}
 use Rattle.iloc_text.specs.declared.op.Op.TheVariants.{Nop}
 use Rattle.iloc_meaning.specs.declared.outcome.Outcome.TheVariants.{Finished, Fault}
 use Rattle.iloc_meaning.specs.Address.{is_good}
-use Rattle.iloc_meaning.specs.Memory.{with_words}
+use Rattle.iloc_meaning.specs.Memory.{word_at, with_words}
+use Rattle.iloc_meaning.specs.Registers.{value_of}
 use Rattle.iloc_meaning.specs.Trace.{op_at}
 use Rattle.iloc_meaning.specs.Effect.{effect}
 use Rattle.iloc_meaning.specs.Outcome.{is_fault, has_fault}
@@ -21,7 +23,8 @@ use Rattle.iloc_timed.specs.Kinds.{kind}
 use Rattle.iloc_timed.specs.Latency.{latency, latency_of}
 use Rattle.iloc_timed.specs.Rows.{row_at, slots}
 use Rattle.iloc_timed.specs.Timed.{Issued, arrived, register_in, word_in, issue, issue_all, issued_before, executed_in, timed_outcome, timed_outcome_of}
-use Rattle.iloc_timed.specs.running.Machine.{landed, AllLand, Follows, After, then_issued}
+use Rattle.iloc_timed.specs.Steps.Wheel.{list_at}
+use Rattle.iloc_timed.specs.Steps.Machine.{landed, AllLand, Follows, After, then_issued}
 use Rattle.iloc_timed.proofs.Landing.{landed_all, landed_is_arrived}
 
 -- what follows from a value follows from a result
@@ -35,6 +38,18 @@ some_latency lat K.Store = lat.some_store
 some_latency lat K.Mult = lat.some_mult
 some_latency lat K.Output = omega arith
 some_latency lat K.Other = omega arith
+
+-- a schedule begins with all registers 0, the memory handed in, no output and nothing under way
+pub begins : (machine : Machine) (memory : List ℤ) → length memory ≡ 16384 → ((r : Reg) → value_of machine.registers r ≡ pos 0) → machine.memory ≡ record { first = memory; words = memory } → machine.outputs.items ≡ [] → length machine.wheel ≡ 16 → ((c : ℕ) → list_at machine.wheel c ≡ []) → Follows memory 0 [] machine
+begins machine memory size registers words outputs count empty = record {
+  size = size;
+  same_size = ap (λ m. length m.words) words ∙ size;
+  registers = registers;
+  words = λ a good. ap (λ m. word_at m.words a) words;
+  under_way = record { count = count; due = λ d after before. empty d };
+  all_land = tt;
+  outputs = outputs;
+}
 
 -- what is issued in a slot
 pub slot_issued : (lat : Latencies) (memory : List ℤ) (ops : List Op) (c i : ℕ) (op : Op) (log : List Issued) → op ≡ op_at ops i → then_issued memory (c + 1) (c + latency lat op) op log ≡ issue_all lat memory ops c (option_to_list (Some i)) log
@@ -94,13 +109,13 @@ good_word : (k : ℕ) → k < 16384 → is_good (pos (4 * k)) ≡ true
 good_word k within = grind (arith, nat_tests)
 
 -- a run whose results have all landed
-pub finishes : (memory : List ℤ) (n : ℕ) (log : List Issued) (machine : Machine) → AllLand n log → Follows memory n log machine → Finished machine.outputs.items machine.memory ≡ timed_outcome_of memory log
+pub finishes : (memory : List ℤ) (n : ℕ) (log : List Issued) (machine : Machine) → AllLand n log → Follows memory n log machine → Finished machine.outputs.items machine.memory.words ≡ timed_outcome_of memory log
 finishes memory n log machine all follows =
     let everything : landed n log ≡ log = landed_all n log all in
-    let words : machine.memory ≡ with_words memory (word_in memory log) = fill_by_all (λ k. word_in memory log (4 * k)) machine.memory (length memory) (pos 0) (follows.same_size ∙ sym follows.size) (λ k below.
+    let words : machine.memory.words ≡ with_words memory (word_in memory log) = fill_by_all (λ k. word_in memory log (4 * k)) machine.memory.words (length memory) (pos 0) (follows.same_size ∙ sym follows.size) (λ k below.
     let small : k < 16384 = rw follows.size at below in
     let number : 4 * k / 4 ≡ k = omega arith in
-    ap (λ j. get_or machine.memory j (pos 0)) (sym number) ∙ follows.words (4 * k) (good_word k small) ∙ ap (λ l. word_in memory l (4 * k)) everything) in
+    ap (λ j. get_or machine.memory.words j (pos 0)) (sym number) ∙ follows.words (4 * k) (good_word k small) ∙ ap (λ l. word_in memory l (4 * k)) everything) in
     let fine : has_fault (executed_in log) ≡ false = no_fault n log all in
     rw (fine, follows.outputs, words) refl
 
@@ -130,10 +145,10 @@ after_row lat ops c row old mid new goes_on first second memory log follows =
     subst (λ l. After goes_on memory (c + 1) l new) (row_issued lat memory ops c row log) (second memory (issue_all lat memory ops c (option_to_list row.zero) log) (first memory log follows))
 
 -- all rows have run, and the rest lands
-pub ends : (lat : Latencies) (memory : List ℤ) (ops : List Op) (rows : List Row) (c from : ℕ) (before after : Machine) (outputs : List ℤ) → c ≡ length rows → from ≡ length rows → Follows memory c (issued_before lat memory ops rows c) before → ((words : List ℤ) (log : List Issued) → Follows words from log before → Follows words (from + 16) log after) → outputs ≡ after.outputs.items → Finished outputs after.memory ≡ timed_outcome lat ops rows memory
-ends lat memory ops rows c from before after outputs last count follows lands says =
+pub ends : (lat : Latencies) (memory : List ℤ) (ops : List Op) (rows : List Row) (c from : ℕ) (before after : Machine) → c ≡ length rows → from ≡ length rows → Follows memory c (issued_before lat memory ops rows c) before → ((words : List ℤ) (log : List Issued) → Follows words from log before → Follows words (from + 16) log after) → Finished after.outputs.items after.memory.words ≡ timed_outcome lat ops rows memory
+ends lat memory ops rows c from before after last count follows lands =
     let log : List Issued = issued_before lat memory ops rows (length rows) in
     let begun : Follows memory (length rows) log before = subst (λ n. Follows memory n (issued_before lat memory ops rows n) before) last follows in
     let ended : Follows memory (from + 16) log after = lands memory log (subst (λ n. Follows memory n log before) (sym count) begun) in
     let all : AllLand (from + 16) log = subst (λ n. AllLand (n + 16) log) (sym count) begun.all_land in
-    ap (λ o. Finished o after.memory) says ∙ finishes memory (from + 16) log after all ended
+    finishes memory (from + 16) log after all ended

@@ -4,4 +4,4 @@ pub mod Rows
 pub mod Schedule
 pub mod Cycles
 pub mod Timed
-pub mod running
+pub mod Steps

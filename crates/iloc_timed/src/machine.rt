@@ -4,41 +4,47 @@ ghost use Rattle.iloc_text.specs.declared.op.Reg.{Reg as Register};
 ghost use Rattle.iloc_meaning.specs.Address.{is_good};
 ghost use Rattle.iloc_meaning.specs.Memory.{word_at};
 ghost use Rattle.iloc_meaning.specs.Registers.{value_of};
-ghost use Rattle.iloc_timed.specs.running.Pending.{landed_in_register, landed_in_word, CanLand};
+ghost use Rattle.iloc_timed.specs.Steps.Pending.{landed_in_register, landed_in_word, CanLand};
 
 use crate::latencies::Latencies;
 use crate::row::Row;
-use crate::schedule::MAX_ROWS;
+use crate::schedule::{MAX_ROWS, Schedule};
 use crate::timing::latency;
 use crate::wheel::{LONGEST, Pending, Wheel};
-use iloc_meaning::{Effect, Memory, Registers, WORDS};
+use iloc_meaning::{Effect, Memory, Registers, Scratch, WORDS};
 use iloc_text::{NoMemory, Op, defines};
 use std::alloc::Global;
 
 /// Writes a result where it goes.
 fn land_one(
     registers: &mut Registers,
-    memory: &mut Memory,
+    memory: &mut Scratch,
     pending: Pending,
 ) -> Result<(), NoMemory>
     requires { CanLand pending }
+    ensures first { memory.new.first ≡ memory.old.first }
     ensures registers { OnOk result ((r : Register) → value_of registers.new r ≡ landed_in_register r (value_of registers.old r) pending) }
-    ensures words { OnOk result ((a : ℕ) → IsTrue (is_good (pos a)) → word_at memory.new a ≡ landed_in_word a (word_at memory.old a) pending) }
-    ensures size { length memory.new ≡ length memory.old }
+    ensures words { OnOk result ((a : ℕ) → IsTrue (is_good (pos a)) → word_at memory.new.words a ≡ landed_in_word a (word_at memory.old.words a) pending) }
+    ensures size { OnOk result (length memory.new.words ≡ length memory.old.words) }
 {
     match pending {
         Pending::Register { register, value } => registers.set(register, value)?,
-        Pending::Word { address, word } => memory.set(address, word),
+        Pending::Word { address, word } => memory.set(address, word)?,
     }
     Ok(())
 }
 
 /// Writes results where they go, in order.
-fn land_all(registers: &mut Registers, memory: &mut Memory, due: &[Pending]) -> Result<(), NoMemory>
+fn land_all(
+    registers: &mut Registers,
+    memory: &mut Scratch,
+    due: &[Pending],
+) -> Result<(), NoMemory>
     requires { All CanLand due.now }
+    ensures first { memory.new.first ≡ memory.old.first }
     ensures registers { OnOk result ((r : Register) → value_of registers.new r ≡ fold (landed_in_register r) (value_of registers.old r) due.now) }
-    ensures words { OnOk result ((a : ℕ) → IsTrue (is_good (pos a)) → word_at memory.new a ≡ fold (landed_in_word a) (word_at memory.old a) due.now) }
-    ensures size { OnOk result (length memory.new ≡ length memory.old) }
+    ensures words { OnOk result ((a : ℕ) → IsTrue (is_good (pos a)) → word_at memory.new.words a ≡ fold (landed_in_word a) (word_at memory.old.words a) due.now) }
+    ensures size { OnOk result (length memory.new.words ≡ length memory.old.words) }
 {
     for pending in due {
         land_one(registers, memory, *pending)?;
@@ -49,34 +55,47 @@ fn land_all(registers: &mut Registers, memory: &mut Memory, due: &[Pending]) -> 
 /// A schedule in mid-run: what was due is written, and the rest is under way.
 #[derive(Drop)]
 pub(crate) struct Machine {
-    registers: Registers,
-    pub(crate) memory: Memory,
+    pub(crate) registers: Registers,
+    pub(crate) memory: Scratch,
     pub(crate) outputs: Vec<i32>,
-    wheel: Wheel,
+    pub(crate) wheel: Wheel,
 }
 
 impl Machine {
     ghost use Rattle.std.specs.Prelude.{List, ℤ};
-    ghost use Rattle.iloc_timed.specs.Timed.{Issued, issue_all};
+    ghost use Rattle.iloc_timed.specs.Timed.{Issued, issue_all, timed_outcome};
     ghost use Rattle.iloc_timed.specs.Rows.{slots};
-    ghost use Rattle.iloc_timed.specs.running.Machine.{then_issued, Follows, After};
+    ghost use Rattle.iloc_timed.specs.Steps.Machine.{then_issued, Follows, After, leaves};
 
     /// All registers 0, this memory, nothing under way.
     pub(crate) fn new(alloc: Global, memory: Memory) -> Result<Machine, NoMemory>
-        ensures { IfOk result (Follows memory 0 []) }
+        ensures memory { IfOk result (λ machine. machine.memory ≡ record { first = memory; words = memory }) }
+        ensures outputs { IfOk result (λ machine. machine.outputs.items ≡ []) }
     {
-        prove_eq!(memory.word_count(), WORDS);
         Ok(Machine {
-            registers: Registers::new(alloc),
-            memory,
+            registers: Registers::new(alloc)?,
+            memory: Scratch::new(alloc, memory),
             outputs: Vec::new(alloc),
             wheel: Wheel::new(alloc)?,
         })
     }
 
+    /// All registers 0, the memory first handed in, no output, nothing under way.
+    fn restart(&mut self)
+        ensures first { self.new.memory.first ≡ self.old.memory.first }
+        ensures follows { Follows self.old.memory.first 0 [] self.new }
+    {
+        self.registers.clear();
+        self.memory.put_back();
+        self.outputs.clear();
+        self.wheel.clear_all();
+        prove_eq!(self.memory.memory().word_count(), WORDS);
+    }
+
     /// Writes what is due at a cycle.
     fn land(&mut self, cycle: usize) -> Result<(), NoMemory>
-        ensures { OnOk result ((memory : List ℤ) (log : List Issued) →
+        ensures first { self.new.memory.first ≡ self.old.memory.first }
+        ensures follows { OnOk result ((memory : List ℤ) (log : List Issued) →
             Follows memory cycle log self.old → Follows memory (cycle + 1) log self.new) }
     {
         land_all(&mut self.registers, &mut self.memory, self.wheel.due(cycle))?;
@@ -87,11 +106,12 @@ impl Machine {
     /// Issues an operation whose result is due at a cycle. Answers whether the run goes on: it ends
     /// at a fault.
     fn issue(&mut self, op: &Op, due: usize) -> Result<bool, NoMemory>
-        ensures { IfOk result (λ goes_on. (memory : List ℤ) (c : ℕ) (log : List Issued) →
+        ensures first { self.new.memory.first ≡ self.old.memory.first }
+        ensures after { IfOk result (λ goes_on. (memory : List ℤ) (c : ℕ) (log : List Issued) →
             c ≤ due → due < c + 16 → Follows memory c log self.old →
             After goes_on memory c (then_issued memory c due op.now log) self.new) }
     {
-        match Effect::of(op, &self.registers, &self.memory) {
+        match Effect::of(op, &self.registers, self.memory.memory()) {
             Effect::Faults => return Ok(false),
             Effect::Gives(value) => {
                 if let Some(register) = defines(op) {
@@ -117,7 +137,8 @@ impl Machine {
     ) -> Result<bool, NoMemory>
         requires known { IfSome slot (λ i. i < length ops.now) }
         requires early { cycle ≤ MAX_ROWS }
-        ensures { IfOk result (λ goes_on. (memory : List ℤ) (log : List Issued) →
+        ensures first { self.new.memory.first ≡ self.old.memory.first }
+        ensures after { IfOk result (λ goes_on. (memory : List ℤ) (log : List Issued) →
             Follows memory (cycle + 1) log self.old →
             After goes_on memory (cycle + 1) (issue_all latencies.now memory ops.now cycle (option_to_list slot) log) self.new) }
     {
@@ -132,7 +153,7 @@ impl Machine {
 
     /// Writes what is due at a cycle, and issues the operations of its row. Answers whether the run
     /// goes on.
-    pub(crate) fn run_row(
+    fn run_row(
         &mut self,
         ops: &[Op],
         row: Row,
@@ -142,7 +163,8 @@ impl Machine {
         requires zero { IfSome row.zero (λ i. i < length ops.now) }
         requires one { IfSome row.one (λ i. i < length ops.now) }
         requires early { cycle ≤ MAX_ROWS }
-        ensures { IfOk result (λ goes_on. (memory : List ℤ) (log : List Issued) →
+        ensures first { self.new.memory.first ≡ self.old.memory.first }
+        ensures after { IfOk result (λ goes_on. (memory : List ℤ) (log : List Issued) →
             Follows memory cycle log self.old →
             After goes_on memory (cycle + 1) (issue_all latencies.now memory ops.now cycle (slots row) log) self.new) }
     {
@@ -154,14 +176,38 @@ impl Machine {
     }
 
     /// Writes whatever is under way, from a cycle on.
-    pub(crate) fn land_rest(&mut self, from: usize) -> Result<(), NoMemory>
+    fn land_rest(&mut self, from: usize) -> Result<(), NoMemory>
         requires { from ≤ MAX_ROWS }
-        ensures { OnOk result ((memory : List ℤ) (log : List Issued) →
+        ensures first { self.new.memory.first ≡ self.old.memory.first }
+        ensures follows { OnOk result ((memory : List ℤ) (log : List Issued) →
             Follows memory from log self.old → Follows memory (from + 16) log self.new) }
     {
         for cycle in from..from + LONGEST {
             self.land(cycle)?;
         }
         Ok(())
+    }
+
+    /// Runs a schedule from the start, on the memory first handed in. Answers whether the run came to
+    /// its end: it ends at a fault.
+    pub(crate) fn run(
+        &mut self,
+        schedule: &Schedule,
+        latencies: &Latencies,
+    ) -> Result<bool, NoMemory>
+        ensures first { self.new.memory.first ≡ self.old.memory.first }
+        ensures outcome { IfOk result (λ finished. leaves finished self.new
+            ≡ timed_outcome latencies.now schedule.now.ops schedule.now.rows self.old.memory.first) }
+    {
+        self.restart();
+        let ops = schedule.ops();
+        let rows = schedule.rows();
+        for (cycle, row) in rows.iter().enumerate() {
+            if !self.run_row(ops, *row, cycle, latencies)? {
+                return Ok(false);
+            }
+        }
+        self.land_rest(rows.len())?;
+        Ok(true)
     }
 }

@@ -3,9 +3,9 @@ ghost use Rattle.std.specs.Prelude.{◌≡◌, IfOk};
 ghost use Rattle.iloc_timed.specs.Timed.{timed_outcome};
 
 use crate::latencies::Latencies;
-use crate::machine::Machine;
 use crate::schedule::Schedule;
-use iloc_meaning::{Memory, Outcome, Words};
+use crate::simulator::Simulator;
+use iloc_meaning::{Memory, Outcome};
 use iloc_text::NoMemory;
 use std::alloc::Global;
 
@@ -23,19 +23,9 @@ pub fn run_schedule(
 ) -> Result<Outcome, NoMemory>
     ensures { IfOk result (λ outcome. outcome ≡ timed_outcome latencies.now schedule.now.ops schedule.now.rows memory) }
 {
-    let ops = schedule.ops();
-    let rows = schedule.rows();
-    let mut machine = Machine::new(alloc, memory)?;
-    for (cycle, row) in rows.iter().enumerate() {
-        if !machine.run_row(ops, *row, cycle, latencies)? {
-            return Ok(Outcome::Fault);
-        }
-    }
-    machine.land_rest(rows.len())?;
-    Ok(Outcome::Finished {
-        outputs: Words::new(machine.outputs),
-        memory: machine.memory,
-    })
+    let mut simulator = Simulator::new(alloc, memory)?;
+    simulator.run(schedule, latencies)?;
+    Ok(simulator.into_outcome())
 }
 
 #[cfg(test)]

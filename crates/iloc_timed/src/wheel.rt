@@ -1,7 +1,7 @@
 //! Results on their way to where they are written.
-ghost use Rattle.std.specs.Prelude.{◌≡◌, ◌%◌, ◌++◌, ◌∷◌, [], List, replicate, slice_set, All, IfOk, OnOk};
-ghost use Rattle.iloc_timed.specs.running.Pending.{CanLand};
-ghost use Rattle.iloc_timed.specs.running.Wheel.{list_at};
+ghost use Rattle.std.specs.Prelude.{◌≡◌, ◌%◌, ◌++◌, ◌∷◌, [], ℕ, List, length, replicate, slice_set, All, IfOk, OnOk};
+ghost use Rattle.iloc_timed.specs.Steps.Pending.{CanLand};
+ghost use Rattle.iloc_timed.specs.Steps.Wheel.{list_at};
 
 use iloc_text::{NoMemory, Reg};
 use std::alloc::Global;
@@ -29,7 +29,7 @@ impl Model for Wheel {
     ghost use Rattle.std.specs.Prelude.{◌≡◌, List, map, vec_len, Vec};
     ghost use Rattle.std.specs.List.{All};
     ghost use Rattle.iloc_timed.specs.declared.wheel.Pending.{Pending};
-    ghost use Rattle.iloc_timed.specs.running.Pending.{CanLand};
+    ghost use Rattle.iloc_timed.specs.Steps.Pending.{CanLand};
 
     ghost Value = { List (List Pending) };
 
@@ -72,5 +72,15 @@ impl Wheel {
         ensures { self.new ≡ slice_set self.old (cycle % 16) [] }
     {
         self.lists[cycle % LONGEST].clear();
+    }
+
+    /// Takes out all.
+    pub(crate) fn clear_all(&mut self)
+        ensures count { length self.new ≡ 16 }
+        ensures empty { (cycle : ℕ) → list_at self.new cycle ≡ [] }
+    {
+        for cycle in 0..self.lists.len() {
+            self.clear(cycle);
+        }
     }
 }

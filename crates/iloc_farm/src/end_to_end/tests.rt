@@ -3,6 +3,7 @@ use crate::fakes::{Sink, Source, giving, giving_lines, taking_all};
 use crate::fault::{FarmFault, run_status};
 use crate::listing::outcomes_text;
 use iloc_line::{LineFault, parse_line};
+use iloc_meaning::run_block;
 use iloc_text::ReadFault;
 use std::io::ErrorKind;
 use std::test::Fail;
@@ -284,5 +285,23 @@ fn lists_outcomes_that_are_there(rt: HostRuntime) -> Result<(), Fail> {
     let outcomes = [run_block(alloc, &blocks[0], initial_memory(alloc, &request)?)?];
     let text = outcomes_text(alloc, &file, &outcomes)?;
     assert_eq!(rt; text.as_slice(), b"block 1 -\n0\n5\n".as_slice());
+    Ok(())
+}
+
+#[test]
+fn starts_each_block_afresh(rt: HostRuntime) -> Result<(), Fail> {
+    let input = b"\
+A: loadI 8 => r4095\nstore r4095 => r4095\nloadI 9 => r4096\nstoreAI r4096 => r4095, 4\n\
+output 8\noutput 12\n\
+B: storeAI r4095 => r0, 0\nstoreAI r4096 => r0, 4\noutput 0\noutput 4\noutput 8\noutput 12\n\
+C: loadI 12 => r2147483647\nstore r2147483647 => r2147483647\noutput 12\noutput 2\n\
+D: store r2147483647 => r0\noutput 0\noutput 12\n";
+    let listing = b"block 1 A\n8\n9\nblock 2 B\n0\n0\n-1\n5\nblock 3 C\nfault\nblock 4 D\n0\n5\n";
+    for command in ["run", "simulate"] {
+        let mut writer = taking_all(rt.alloc());
+        let request = parse_line(rt.alloc(), &[command, "--at", "8", "4294967295", "5"])?;
+        run(&rt, rt.alloc(), &mut giving(input), &mut writer, &request)?;
+        assert_eq!(rt; writer.taken.as_slice(), listing.as_slice(), "{command}");
+    }
     Ok(())
 }

@@ -1,5 +1,5 @@
 use super::*;
-use iloc_text::{Ops, Reg};
+use iloc_text::{Op, Ops, Reg};
 use std::process::Abort;
 use std::test::Fail;
 

@@ -1,6 +1,6 @@
 use Rattle.std.proofs.Common.{◌≡◌, [], map, replicate}
 use Rattle.std.specs.List.{All}
-use Rattle.iloc_timed.specs.running.Pending.{CanLand}
+use Rattle.iloc_timed.specs.Steps.Pending.{CanLand}
 use Rattle.iloc_timed.proofs.wheel.Wheel.new.Given as goal
 
 abbrev pub invariant-loop : goal.invariant-loop

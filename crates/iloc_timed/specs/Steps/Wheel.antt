@@ -2,7 +2,7 @@
 use Rattle.std.specs.Prelude.{ℕ, ◌+◌, ◌%◌, ◌≡◌, ◌<◌, ◌≤◌, ◌==◌, if◌then◌else◌, List, [], ◌∷◌, ◌++◌, length, slice_index_or, option_to_list}
 use Rattle.iloc_timed.specs.declared.wheel.Pending.{Pending}
 use Rattle.iloc_timed.specs.Timed.{Issued}
-use Rattle.iloc_timed.specs.running.Pending.{sent}
+use Rattle.iloc_timed.specs.Steps.Pending.{sent}
 
 -- the list of cycle c
 abbrev pub list_at : List (List Pending) → ℕ → List Pending

@@ -1,8 +1,10 @@
 -- A schedule in mid-run against the log of what it has issued.
-use Rattle.std.specs.Prelude.{ℕ, ◌+◌, ◌≡◌, ◌<◌, nat_lt, Bool, true, false, List, [], ◌∷◌, length, filter, IsTrue, IsFalse, ℤ, pos}
+use Rattle.std.specs.Prelude.{ℕ, ◌+◌, ◌≡◌, ◌<◌, nat_lt, Bool, true, false, if◌then◌else◌, List, [], ◌∷◌, length, filter, IsTrue, IsFalse, ℤ, pos}
 use Rattle.iloc_text.specs.declared.op.Reg.{Reg}
 use Rattle.iloc_text.specs.declared.op.Op.{Op}
 use Rattle.iloc_text.specs.Registers.{defined}
+use Rattle.iloc_meaning.specs.declared.outcome.Outcome.{Outcome}
+use Rattle.iloc_meaning.specs.declared.outcome.Outcome.TheVariants.{Finished, Fault}
 use Rattle.iloc_meaning.specs.Address.{is_good}
 use Rattle.iloc_meaning.specs.Memory.{word_at}
 use Rattle.iloc_meaning.specs.Registers.{value_of}
@@ -12,7 +14,7 @@ use Rattle.iloc_meaning.specs.Outcome.{is_fault, has_fault, emitted}
 use Rattle.iloc_meaning.specs.Results.{GoesTo}
 use Rattle.iloc_timed.specs.declared.machine.Machine.{Machine}
 use Rattle.iloc_timed.specs.Timed.{Issued, register_in, word_in, executed_in}
-use Rattle.iloc_timed.specs.running.Wheel.{AreUnderWay}
+use Rattle.iloc_timed.specs.Steps.Wheel.{AreUnderWay}
 
 -- what was due before cycle c
 abbrev pub landed : ℕ → List Issued → List Issued
@@ -31,9 +33,9 @@ AllLand c (e ∷ earlier) = (e.due < c) × Lands e.executed × AllLand c earlier
 -- what is due before cycle c is written, and the rest is under way
 pub record Follows (memory : List ℤ) (c : ℕ) (log : List Issued) (machine : Machine) : Type 0 where
   pub size : length memory ≡ 16384
-  pub same_size : length machine.memory ≡ 16384
+  pub same_size : length machine.memory.words ≡ 16384
   pub registers : (r : Reg) → value_of machine.registers r ≡ register_in (landed c log) r
-  pub words : (a : ℕ) → IsTrue (is_good (pos a)) → word_at machine.memory a ≡ word_in memory (landed c log) a
+  pub words : (a : ℕ) → IsTrue (is_good (pos a)) → word_at machine.memory.words a ≡ word_in memory (landed c log) a
   pub under_way : AreUnderWay c log machine.wheel
   pub all_land : AllLand (c + 16) log
   pub outputs : machine.outputs.items ≡ emitted (executed_in log)
@@ -49,3 +51,7 @@ then_issued memory c due op log = record {
 abbrev pub After : Bool → List ℤ → ℕ → List Issued → Machine → Type 0
 After true memory c log machine = Follows memory c log machine
 After false memory c log machine = has_fault (executed_in log) ≡ true
+
+-- the outcome that a machine leaves, whether it has come to the end of its schedule or not
+abbrev pub leaves : Bool → Machine → Outcome
+leaves finished machine = if finished then Finished machine.outputs.items machine.memory.words else Fault

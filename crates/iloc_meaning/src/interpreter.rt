@@ -1,0 +1,79 @@
+//! Plain runs of blocks, one after another on one memory.
+ghost use Rattle.std.specs.Prelude.{◌≡◌, [], IfOk, OnOk};
+ghost use Rattle.std.specs.Option.{option_copied};
+ghost use Rattle.iloc_meaning.specs.Outcome.{outcome, shown};
+
+use crate::machine::Machine;
+use crate::memory::Memory;
+use crate::outcome::Outcome;
+use crate::words::Words;
+use iloc_text::{Block, NoMemory};
+use std::alloc::Global;
+use std::marker::Model;
+
+/// Runs blocks plainly, one after another, each with all registers 0 and the memory first handed in.
+/// It holds that memory and no copy: what a block wrote is undone before the next one runs.
+#[derive(Drop)]
+pub struct Interpreter {
+    machine: Machine,
+    // Whether the last block came to its end.
+    finished: bool,
+}
+
+impl Model for Interpreter {
+    ghost use Rattle.iloc_meaning.specs.Outcome.{Runs};
+    ghost use Rattle.iloc_meaning.specs.Steps.Machine.{leaves};
+
+    ghost Value = { Runs };
+
+    ghost view = { λ i. record { memory = i.machine.memory.first; last = leaves i.finished i.machine } };
+}
+
+impl Interpreter {
+    /// For blocks that start with this memory. Before the first block the outcome is that of a block
+    /// without operations.
+    pub fn new(alloc: Global, memory: Memory) -> Result<Interpreter, NoMemory>
+        ensures { IfOk result (λ it. it ≡ record { memory = memory; last = Outcome.Finished [] memory }) }
+    {
+        Ok(Interpreter {
+            machine: Machine::new(alloc, memory)?,
+            finished: true,
+        })
+    }
+
+    /// Runs a block. After a refusal the outcome is any, and the next block is run as after any other.
+    pub fn run(&mut self, block: &Block) -> Result<(), NoMemory>
+        ensures memory { self.new.memory ≡ self.old.memory }
+        ensures outcome { OnOk result (self.new.last ≡ outcome block.now.ops self.old.memory) }
+    {
+        self.finished = self.machine.run(block.ops.as_slice())?;
+        Ok(())
+    }
+
+    /// The words that the last block emitted, in order; none where it faulted.
+    pub fn outputs(&self) -> Option<&[i32]>
+        ensures { option_copied result ≡ shown self.now.last }
+    {
+        if self.finished {
+            Some(self.machine.outputs.as_slice())
+        } else {
+            None
+        }
+    }
+
+    /// The outcome of the last block.
+    pub fn into_outcome(self) -> Outcome
+        ensures { result ≡ self.last }
+    {
+        if !self.finished {
+            return Outcome::Fault;
+        }
+        Outcome::Finished {
+            outputs: Words::new(self.machine.outputs),
+            memory: self.machine.memory.into_memory(),
+        }
+    }
+}
+
+#[cfg(test)]
+mod tests;

@@ -1,0 +1,83 @@
+//! Runs of schedules on the timed machine, one after another on one memory.
+ghost use Rattle.std.specs.Prelude.{◌≡◌, [], IfOk, OnOk};
+ghost use Rattle.std.specs.Option.{option_copied};
+ghost use Rattle.iloc_meaning.specs.Outcome.{shown};
+ghost use Rattle.iloc_timed.specs.Timed.{timed_outcome};
+
+use crate::latencies::Latencies;
+use crate::machine::Machine;
+use crate::schedule::Schedule;
+use iloc_meaning::{Memory, Outcome, Words};
+use iloc_text::NoMemory;
+use std::alloc::Global;
+use std::marker::Model;
+
+/// Runs schedules on the timed machine, one after another, each with all registers 0 and the memory
+/// first handed in. It holds that memory and no copy: what a schedule wrote is undone before the next
+/// one runs.
+#[derive(Drop)]
+pub struct Simulator {
+    machine: Machine,
+    // Whether the last schedule came to its end.
+    finished: bool,
+}
+
+impl Model for Simulator {
+    ghost use Rattle.iloc_meaning.specs.Outcome.{Runs};
+    ghost use Rattle.iloc_timed.specs.Steps.Machine.{leaves};
+
+    ghost Value = { Runs };
+
+    ghost view = { λ s. record { memory = s.machine.memory.first; last = leaves s.finished s.machine } };
+}
+
+impl Simulator {
+    /// For schedules that start with this memory. Before the first one the outcome is that of a
+    /// schedule without operations.
+    pub fn new(alloc: Global, memory: Memory) -> Result<Simulator, NoMemory>
+        ensures { IfOk result (λ it. it ≡ record { memory = memory; last = Outcome.Finished [] memory }) }
+    {
+        Ok(Simulator {
+            machine: Machine::new(alloc, memory)?,
+            finished: true,
+        })
+    }
+
+    /// Runs a schedule, as `run_schedule` says. After a refusal the outcome is any, and the next
+    /// schedule is run as after any other.
+    pub fn run(&mut self, schedule: &Schedule, latencies: &Latencies) -> Result<(), NoMemory>
+        ensures memory { self.new.memory ≡ self.old.memory }
+        ensures outcome { OnOk result (self.new.last
+            ≡ timed_outcome latencies.now schedule.now.ops schedule.now.rows self.old.memory) }
+    {
+        self.finished = self.machine.run(schedule, latencies)?;
+        Ok(())
+    }
+
+    /// The words that the last schedule emitted, in order; none where it faulted.
+    pub fn outputs(&self) -> Option<&[i32]>
+        ensures { option_copied result ≡ shown self.now.last }
+    {
+        if self.finished {
+            Some(self.machine.outputs.as_slice())
+        } else {
+            None
+        }
+    }
+
+    /// The outcome of the last schedule.
+    pub fn into_outcome(self) -> Outcome
+        ensures { result ≡ self.last }
+    {
+        if !self.finished {
+            return Outcome::Fault;
+        }
+        Outcome::Finished {
+            outputs: Words::new(self.machine.outputs),
+            memory: self.machine.memory.into_memory(),
+        }
+    }
+}
+
+#[cfg(test)]
+mod tests;
