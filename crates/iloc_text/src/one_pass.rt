@@ -11,7 +11,7 @@ use crate::operation::called_at;
 use crate::scan::after_blanks;
 
 /// An operation and what stands behind it, or all bytes where none is found.
-fn operation_at_most(bytes: &[u8]) -> (Option<Op>, &[u8])
+fn operation_or_none(bytes: &[u8]) -> (Option<Op>, &[u8])
     ensures { OperationAt bytes.now result.0 result.1.now }
 {
     if let Some((opcode, behind)) = opcode_at(bytes)
@@ -22,18 +22,25 @@ fn operation_at_most(bytes: &[u8]) -> (Option<Op>, &[u8])
     (None, bytes)
 }
 
-/// What a line says that begins here, and what stands behind that. A label is looked for only where
-/// no operation is found at once.
+/// What the first line says, and what stands behind that. Where no letter stands it says nothing; a label
+/// is looked for only where no operation is found at once.
 fn words_at(text: &[u8]) -> (Line<'_>, &[u8])
     ensures { WordsAt text.now (label_of result.0) result.0.op result.1.now }
 {
     let start = after_blanks(text);
-    let (op, rest) = operation_at_most(start);
+    match start {
+        [first, ..] if first.is_ascii_alphabetic() => {}
+        _ => {
+            let (label, op) = (None, None);
+            return (Line { label, op }, start);
+        }
+    }
+    let (op, rest) = operation_or_none(start);
     if op.is_some() {
         return (Line { label: None, op }, rest);
     }
     let (label, behind) = optional_label_at(start);
-    let (op, rest) = operation_at_most(after_blanks(behind));
+    let (op, rest) = operation_or_none(after_blanks(behind));
     (Line { label, op }, rest)
 }
 
