@@ -13,6 +13,8 @@ pub mod Counts
 pub mod BlockOps
 pub mod BlockLists
 pub mod Growing
+pub mod InLines
+pub mod OnePass
 pub mod Splitting
 pub mod Reading
 pub mod Spelled

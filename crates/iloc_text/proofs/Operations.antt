@@ -291,6 +291,13 @@ operation_read bytes =
     ))
     (called_at o (after_word bytes)) (called_read o (after_word bytes)))
 
+-- an opcode, and behind it what belongs there
+pub called_finds : (o : Opcode) (bytes behind : List ℕ) (op : Op) (rest : List ℕ) → bytes ≡ opcode_text o ++ behind → called_at o behind ≡ Some (op, rest)
+    → FindsOperation bytes (op, rest)
+called_finds o bytes behind op rest e called =
+    let f : FindsBehind o behind (op, rest) = subst (λ found. IfSome found (FindsBehind o behind)) called (called_read o behind) in
+    (f.0, operation_from f.0 (Before-join (record { front = opcode_text o; first = ap opcode_text (sym f.1); whole = e }) f.2), f.3)
+
 -- what follows an opcode does not go on with its word
 behind_fails : (op : Op) (rest bytes : List ℕ) → Before (Behind op) rest bytes → starts is_word_byte rest ≡ false → starts is_word_byte bytes ≡ false
 behind_fails (Load addr dest) rest bytes b s = some_fail is_word_byte blank_is_no_word_byte (Before-split b).1

@@ -3,4 +3,5 @@ pub mod LineReads
 pub mod Lines
 pub mod Opcodes
 pub mod Scan
+pub mod OnePass
 pub mod Growth

@@ -7,6 +7,8 @@ mod growth;
 pub mod laws;
 mod limits;
 mod line;
+mod line_ends;
+mod one_pass;
 mod op;
 mod opcode;
 mod operation;

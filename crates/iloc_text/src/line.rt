@@ -28,7 +28,7 @@ pub enum LineFault {
 
 /// A label, or none where no word stands with a colon behind it, and what stands behind that.
 #[tactic(auto, unfolding(crate::specs::Steps::Scan::optional_label_at))]
-fn optional_label_at(bytes: &[u8]) -> (Option<&[u8]>, &[u8])
+pub fn optional_label_at(bytes: &[u8]) -> (Option<&[u8]>, &[u8])
     ensures { (option_map (λ name. name.now) result.0, result.1.now) ≡ optional_label_at bytes.now }
 {
     match bytes {
@@ -44,7 +44,7 @@ fn optional_label_at(bytes: &[u8]) -> (Option<&[u8]>, &[u8])
 }
 
 /// Nothing is left of the line, or a comment.
-fn is_end(rest: &[u8]) -> bool
+pub fn is_end(rest: &[u8]) -> bool
     ensures { result ≡ is_end rest.now }
 {
     matches!(rest, [] | [b'/', b'/', ..])
@@ -111,7 +111,7 @@ fn is_within_limit(op: &Op) -> bool
 }
 
 /// The line has no operation, or one of which no number was capped.
-fn is_within(op: &Option<Op>) -> bool
+pub fn is_within(op: &Option<Op>) -> bool
     ensures { result ≡ is_within op.now }
 {
     match op {

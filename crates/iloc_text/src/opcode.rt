@@ -1,5 +1,5 @@
 //! The opcodes, by what belongs behind them, and how they are written.
-ghost use Rattle.std.specs.Prelude.{◌≡◌};
+ghost use Rattle.std.specs.Prelude.{◌≡◌, ◌++◌, IfSome};
 ghost use Rattle.iloc_text.specs.Steps.Opcodes.{opcode_text, opcode_of, transfer_op, two_sources_op, immediate_op};
 
 use crate::op::{Op, Reg};
@@ -159,4 +159,46 @@ pub fn opcode_of(word: &[u8]) -> Option<Opcode>
         .iter()
         .copied()
         .find(|opcode| opcode.text() == word)
+}
+
+/// The longest opcode at the front of the bytes, and what stands behind it.
+pub fn opcode_at(bytes: &[u8]) -> Option<(Opcode, &[u8])>
+    ensures { IfSome result (λ found. bytes.now ≡ opcode_text found.0 ++ found.1.now) }
+{
+    match bytes {
+        [b'l', b'o', b'a', b'd', rest @ ..] => Some(match rest {
+            [b'I', rest @ ..] => (Opcode::LoadI, rest),
+            [b'A', b'I', rest @ ..] => (Opcode::Immediate(Immediate::LoadAI), rest),
+            _ => (Opcode::Transfer(Transfer::Load), rest),
+        }),
+        [b's', b't', b'o', b'r', b'e', rest @ ..] => Some(match rest {
+            [b'A', b'I', rest @ ..] => (Opcode::StoreAI, rest),
+            _ => (Opcode::Transfer(Transfer::Store), rest),
+        }),
+        [b'o', b'u', b't', b'p', b'u', b't', rest @ ..] => Some((Opcode::Output, rest)),
+        [b'n', b'o', b'p', rest @ ..] => Some((Opcode::Nop, rest)),
+        _ => computing_opcode_at(bytes),
+    }
+}
+
+/// As `opcode_at`, of the opcodes that come with and without a constant.
+fn computing_opcode_at(bytes: &[u8]) -> Option<(Opcode, &[u8])>
+    ensures { IfSome result (λ found. bytes.now ≡ opcode_text found.0 ++ found.1.now) }
+{
+    let (sources, immediate, rest) = match bytes {
+        [b'a', b'd', b'd', rest @ ..] => (TwoSources::Add, Immediate::AddI, rest),
+        [b's', b'u', b'b', rest @ ..] => (TwoSources::Sub, Immediate::SubI, rest),
+        [b'm', b'u', b'l', b't', rest @ ..] => (TwoSources::Mult, Immediate::MultI, rest),
+        [b'l', b's', b'h', b'i', b'f', b't', rest @ ..] => {
+            (TwoSources::Lshift, Immediate::LshiftI, rest)
+        }
+        [b'r', b's', b'h', b'i', b'f', b't', rest @ ..] => {
+            (TwoSources::Rshift, Immediate::RshiftI, rest)
+        }
+        _ => return None,
+    };
+    Some(match rest {
+        [b'I', rest @ ..] => (Opcode::Immediate(immediate), rest),
+        _ => (Opcode::TwoSources(sources), rest),
+    })
 }

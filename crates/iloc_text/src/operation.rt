@@ -104,7 +104,7 @@ fn operands_at(opcode: Opcode, bytes: &[u8]) -> Option<(Op, &[u8])>
 
 /// What stands behind an opcode: blanks and operands, or nothing behind `nop`.
 #[tactic(auto, unfolding(crate::specs::Steps::Scan::called_at))]
-fn called_at(opcode: Opcode, bytes: &[u8]) -> Option<(Op, &[u8])>
+pub fn called_at(opcode: Opcode, bytes: &[u8]) -> Option<(Op, &[u8])>
     ensures { option_map (λ found. (found.0, found.1.now)) result ≡ called_at opcode bytes.now }
 {
     match opcode {

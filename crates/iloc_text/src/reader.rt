@@ -1,32 +1,28 @@
 //! The reader: from bytes to the file that they denote.
-ghost use Rattle.std.specs.Prelude.{◌≡◌, ◌≢◌, ◌∷◌, ◌<◌, ◌+◌, length, IfOk, IfErr};
+ghost use Rattle.std.specs.Prelude.{◌≢◌, IfOk, IfErr};
 ghost use Rattle.iloc_text.specs.declared.fault.ReadFault.TheVariants.{NoMemory as no_memory};
-ghost use Rattle.iloc_text.specs.Steps.Lines.{line_end, lines_of, lines_left, left};
+ghost use Rattle.iloc_text.specs.Steps.LineReads.{FirstLine};
 ghost use Rattle.iloc_text.specs.Files.{Denotes, IsRefused};
 
 use crate::fault::ReadFault;
 use crate::file::{Blocks, IlocFile};
 use crate::growth::add_line;
 use crate::limits::MAX_INPUT;
-use crate::line::{LineFault, read_line};
+use crate::line::{Line, LineFault, read_line};
+use crate::line_ends::split_line;
+use crate::one_pass::usual_line;
 use std::alloc::Global;
 
-/// The place of the first line end.
-fn line_end(text: &[u8]) -> Option<usize>
-    ensures { result ≡ line_end text.now }
+/// The first line of the text and what stands behind its line end, if it has one; or why it has no reading.
+fn first_line(text: &[u8]) -> Result<(Line<'_>, Option<&[u8]>), LineFault>
+    ensures { FirstLine text.now result }
 {
-    text.iter().position(|byte| *byte == b'\n')
-}
-
-/// The line before the first line end, and what stands behind that line end, if there is one.
-fn split_line(text: &[u8]) -> (&[u8], Option<&[u8]>)
-    ensures lines { lines_of text.now ≡ result.0.now ∷ lines_left result.1 }
-    ensures shorter { left result.1 < length text.now + 1 }
-{
-    match line_end(text) {
-        Some(end) => (&text[..end], Some(&text[end + 1..])),
-        None => (text, None),
+    if let Some(found) = usual_line(text) {
+        return Ok(found);
     }
+    let (bytes, after) = split_line(text);
+    let line = read_line(bytes)?;
+    Ok((line, after))
 }
 
 /// Reads a file of ILOC: exactly the file that the text denotes, or the refusal that it denotes.
@@ -45,10 +41,9 @@ pub fn read_file(alloc: Global, input: &[u8]) -> Result<IlocFile, ReadFault>
     let mut number = 0;
     let mut rest = Some(input);
     while let Some(text) = rest {
-        let (bytes, after) = split_line(text);
         number += 1;
-        let line = match read_line(bytes) {
-            Ok(line) => line,
+        let (line, after) = match first_line(text) {
+            Ok(found) => found,
             Err(LineFault::Bad) => return Err(ReadFault::BadLine(number)),
             Err(LineFault::NumberTooLarge) => return Err(ReadFault::NumberTooLarge(number)),
         };

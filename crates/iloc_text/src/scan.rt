@@ -84,6 +84,9 @@ pub fn register_at(bytes: &[u8]) -> Option<(Reg, &[u8])>
 pub fn arrow_at(bytes: &[u8]) -> Option<&[u8]>
     ensures { option_map (λ rest. rest.now) result ≡ arrow_at bytes.now }
 {
+    if let [b' ', b'=', b'>', b' ', after @ ..] = bytes {
+        return Some(after_blanks(after));
+    }
     match after_blanks(bytes) {
         [b'=', b'>', after @ ..] => Some(after_blanks(after)),
         _ => None,
@@ -94,6 +97,9 @@ pub fn arrow_at(bytes: &[u8]) -> Option<&[u8]>
 pub fn comma_at(bytes: &[u8]) -> Option<&[u8]>
     ensures { option_map (λ rest. rest.now) result ≡ comma_at bytes.now }
 {
+    if let [b',', after @ ..] = bytes {
+        return Some(after_blanks(after));
+    }
     match after_blanks(bytes) {
         [b',', after @ ..] => Some(after_blanks(after)),
         _ => None,

@@ -1,5 +1,5 @@
 -- The lines of a text.
-use Rattle.std.specs.Prelude.{ℕ, Bool, ◌+◌, ◌==◌, List, [], length, Option, Some, None}
+use Rattle.std.specs.Prelude.{ℕ, Bool, ◌==◌, List, [], Option, Some, None}
 use Rattle.std.specs.List.{slice_split, position}
 use Rattle.std.specs.Borrow.{Bor}
 
@@ -18,8 +18,3 @@ lines_of text = slice_split is_line_end text
 abbrev pub lines_left : Option (Bor (List ℕ)) → List (List ℕ)
 lines_left None = []
 lines_left (Some text) = lines_of text.now
-
--- how much is left
-abbrev pub left : Option (Bor (List ℕ)) → ℕ
-left None = 0
-left (Some text) = length text.now + 1

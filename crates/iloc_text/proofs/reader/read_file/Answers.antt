@@ -1,8 +1,9 @@
-use Rattle.std.proofs.Common.{◌∙◌, ◌+◌, Some, None, Ok, Err, refl, sym, ap, subst, arith}
+use Rattle.std.proofs.Common.{◌∙◌, ◌+◌, Some, None, Ok, Err, length, refl, sym, ap, subst, arith}
 use Rattle.std.proofs.lemmas.Result.{err_from_is_err_and}
 use Rattle.iloc_text.specs.declared.line.LineFault.TheVariants.{Bad, NumberTooLarge}
 use Rattle.iloc_text.specs.declared.fault.ReadFault.TheVariants as faults
-use Rattle.iloc_text.specs.Steps.LineReads.{label_of, LineReads}
+use Rattle.iloc_text.specs.Steps.LineReads.{label_of, FirstLine}
+use Rattle.iloc_text.specs.Steps.Lines.{lines_left}
 use Rattle.iloc_text.proofs.Reading.{label_is_utf8, Progress, progress_begins, progress_step, progress_number, progress_ends, fault_here, grown_here, err_is_refused}
 use Rattle.iloc_text.specs.Files.{Denotes}
 use Rattle.iloc_text.proofs.reader.read_file.Goals as goal
@@ -16,37 +17,42 @@ overflow_add-number c = omega (arith, progress_number c.loop-rest.invariant, c.i
 pub returns-in-Err-Bad-clause-err : goal.returns-in-Err-Bad-clause-err
 returns-in-Err-Bad-clause-err c = λ memory.
     let here : Progress c.args.input.now c.loop-rest.blocks.items c.loop-rest.number (Some c.in-Some.text) = rw c.in-Some.is at c.loop-rest.invariant in
-    let bad : LineReads c.split_line.result.0.now (Err Bad) = rw (c.in-Err-Bad.is, c.in-Err-Bad.field-0-is) at c.read_line.ensures in
-    fault_here here c.split_line.result.0.now c.split_line.result.1 (faults.BadLine (c.loop-rest.number + 1))
-    c.if-input-gt-MAX_INPUT.false c.split_line.ensures.lines memory (λ e. cc) (refl, bad)
+    let bad : FirstLine c.in-Some.text.now (Err Bad) = rw (c.in-Err-Bad.is, c.in-Err-Bad.field-0-is) at c.first_line.ensures in
+    fault_here here bad.0 bad.1 (faults.BadLine (c.loop-rest.number + 1))
+    c.if-input-gt-MAX_INPUT.false bad.2 memory (λ e. cc) (refl, bad.3)
 
 pub returns-in-Err-NumberTooLarge-clause-err : goal.returns-in-Err-NumberTooLarge-clause-err
 returns-in-Err-NumberTooLarge-clause-err c = λ memory.
     let here : Progress c.args.input.now c.loop-rest.blocks.items c.loop-rest.number (Some c.in-Some.text) = rw c.in-Some.is at c.loop-rest.invariant in
-    let large : LineReads c.split_line.result.0.now (Err NumberTooLarge) =
-    rw (c.in-Err-NumberTooLarge.is, c.in-Err-NumberTooLarge.field-0-is) at c.read_line.ensures in
-    fault_here here c.split_line.result.0.now c.split_line.result.1 (faults.NumberTooLarge (c.loop-rest.number + 1))
-    c.if-input-gt-MAX_INPUT.false c.split_line.ensures.lines memory (λ e. cc) (refl, large.0, large.1)
+    let large : FirstLine c.in-Some.text.now (Err NumberTooLarge) =
+    rw (c.in-Err-NumberTooLarge.is, c.in-Err-NumberTooLarge.field-0-is) at c.first_line.ensures in
+    fault_here here large.0 large.1 (faults.NumberTooLarge (c.loop-rest.number + 1))
+    c.if-input-gt-MAX_INPUT.false large.2 memory (λ e. cc) (refl, large.3.0, large.3.1)
 
 pub add_line-requires-clause-utf8 : goal.add_line-requires-clause-utf8
 add_line-requires-clause-utf8 c =
-    let reads : LineReads c.split_line.result.0.now (Ok c.in-Ok.line) = rw c.in-Ok.is at c.read_line.ensures in
-    label_is_utf8 c.split_line.result.0.now (label_of c.in-Ok.line) c.in-Ok.line.op reads
+    let first : FirstLine c.in-Some.text.now (Ok c.in-Ok.found) = rw c.in-Ok.is at c.first_line.ensures in
+    label_is_utf8 first.0 (label_of c.in-Ok.found.0) c.in-Ok.found.0.op first.2
 
 pub returns-in_err-add_line-clause-err : goal.returns-in_err-add_line-clause-err
 returns-in_err-add_line-clause-err c =
     let here : Progress c.args.input.now c.loop-rest.blocks.items c.loop-rest.number (Some c.in-Some.text) = rw c.in-Some.is at c.loop-rest.invariant in
-    let reads : LineReads c.split_line.result.0.now (Ok c.in-Ok.line) = rw c.in-Ok.is at c.read_line.ensures in
+    let first : FirstLine c.in-Some.text.now (Ok c.in-Ok.found) = rw c.in-Ok.is at c.first_line.ensures in
     let exit = err_from_is_err_and c.from_residual.result c.from_residual.ensures.1 in
     err_is_refused c.args.input.now c.from_residual.result c.in_err-add_line.field-0.0 (exit.1 ∙ ap (λ e. Err e) exit.2)
-    (λ memory. grown_here here c.split_line.result.0.now c.split_line.result.1 c.in_err-add_line.field-0.0 (label_of c.in-Ok.line) c.in-Ok.line.op _
-    c.if-input-gt-MAX_INPUT.false c.split_line.ensures.lines reads c.in_err-add_line.ensures memory)
+    (λ memory. grown_here here first.0 c.in-Ok.found.1 c.in_err-add_line.field-0.0 (label_of c.in-Ok.found.0) c.in-Ok.found.0.op _
+    c.if-input-gt-MAX_INPUT.false first.1 first.2 c.in_err-add_line.ensures memory)
 
 pub loop-rest-preserved : goal.loop-rest-preserved
 loop-rest-preserved c =
     let here : Progress c.args.input.now c.loop-rest.blocks.items c.loop-rest.number (Some c.in-Some.text) = rw c.in-Some.is at c.loop-rest.invariant in
-    let reads : LineReads c.split_line.result.0.now (Ok c.in-Ok.line) = rw c.in-Ok.is at c.read_line.ensures in
-    progress_step here c.split_line.result.0.now c.split_line.result.1 (label_of c.in-Ok.line) c.in-Ok.line.op _ c.split_line.ensures.lines reads c.in_ok-add_line.ensures
+    let first : FirstLine c.in-Some.text.now (Ok c.in-Ok.found) = rw c.in-Ok.is at c.first_line.ensures in
+    progress_step here first.0 c.in-Ok.found.1 (label_of c.in-Ok.found.0) c.in-Ok.found.0.op _ first.1 first.2 c.in_ok-add_line.ensures
+
+pub loop-rest-smaller : goal.loop-rest-smaller
+loop-rest-smaller c =
+    let first : FirstLine c.in-Some.text.now (Ok c.in-Ok.found) = rw c.in-Ok.is at c.first_line.ensures in
+    omega (arith, ap length first.1, ap (λ rest. length (lines_left rest)) c.in-Some.is)
 
 pub returns-clause-ok : goal.returns-clause-ok
 returns-clause-ok c =
