@@ -52,7 +52,8 @@ def blocks_of(*lines):
 
 
 def even():
-    return inputs.full_of_blocks(inputs.Draw(), range(60, 141), [f"r{number}" for number in range(64)])
+    draw, registers = inputs.Draw(), [f"r{number}" for number in range(64)]
+    return filled(b"".join(inputs.block(draw, f"L{k}", 60 + draw.below(81), registers) for k in range(1, 501)))
 
 
 EVEN = taken("even", even, "block 1 L1\n", "block 1 L1\n[ ", "block 1 L1 cycles ")
@@ -134,6 +135,7 @@ class Table:
     def __init__(self, place):
         self.place = place
         self.even = {}
+        self.has_head = False
 
     def rows(self, given):
         """Prints the rows of an input, one for each command, and gives what is wrong."""
@@ -154,8 +156,9 @@ class Table:
         return min(runs, key=lambda it: it.processor_ms)
 
     def show(self, command, name, got):
-        if not self.even:
+        if not self.has_head:
             print(HEAD)
+            self.has_head = True
         even = self.even.get(command, got)
         start = front(got.output) or front(got.output + ".err")
         print(ROW.format(command, name, got.status, got.processor_ms, got.processor_ms / even.processor_ms,
