@@ -3,19 +3,23 @@ status, time, memory and first bytes. Times and memory stand beside those of an 
 about 100 operations."""
 import filecmp
 import itertools
+import resource
 from dataclasses import dataclass
 from typing import Callable
 
 import inputs
 import measure
-from check import COMMANDS, Check
+from check import COMMANDS, Check, told
 from made import LONGEST, MOST_BLOCKS, MOST_OPERATIONS
+from refusals import NO_MEMORY
 
 TIMES = 3
-# Bounds that hold on slow machines too, for processor time and for memory held, at the usual latencies.
+# At the usual latencies, for processor time and for memory held. The first holds on slow machines too.
 MOST_MS = 10_000
-MOST_MIB = 400
+MOST_MIB = 512
+# The greatest latency, and an address space that its longest schedules don't fit into.
 SLOWEST = 16
+LITTLE = 256 * 1024 * 1024
 HEAD = "command   input                         status        ms  x even      MiB  x even  first bytes"
 ROW = "{:9} {:28} {:>7} {:>9.0f} {:>7.2f} {:>8.1f} {:>7.2f}  {}"
 
@@ -48,7 +52,8 @@ def blocks_of(*lines):
 
 
 def even():
-    return inputs.full_of_blocks(inputs.Draw(), range(60, 141), [f"r{number}" for number in range(64)])
+    draw, registers = inputs.Draw(), [f"r{number}" for number in range(64)]
+    return filled(b"".join(inputs.block(draw, f"L{k}", 60 + draw.below(81), registers) for k in range(1, 501)))
 
 
 EVEN = taken("even", even, "block 1 L1\n", "block 1 L1\n[ ", "block 1 L1 cycles ")
@@ -91,7 +96,7 @@ def full_inputs():
                 "block 1 A cycles 0\n")
     yield taken("outputs", lambda: blocks_of(b"output 0\n"), "block 1 A\n0\n0\n", "block 1 A\n[ output 0 ; nop ]\n",
                 "block 1 A cycles 10000\n")
-    yield taken("chained loads", lambda: blocks_of(b"load r0=>r0\n"), head, chained, "block 1 A cycles 50000\n")
+    yield taken("chained loads", chained_loads, head, chained, "block 1 A cycles 50000\n")
     yield taken("chained products", lambda: blocks_of(b"mult r0,r0=>r0\n"), head,
                 "block 1 A\n[ nop ; mult r0, r0 => r1 ]\n", "block 1 A cycles 30000\n")
     yield taken("constants", lambda: blocks_of(b"loadI 0=>r0\n"), head,
@@ -104,6 +109,10 @@ def full_inputs():
                 head, chained, "block 1 A cycles 5005\n")
     yield taken("registers anywhere", registers_anywhere, head, "block 1 A\n[ loadI 0 => r0 ; loadI 0 => r1 ]\n",
                 "block 1 A cycles 5000\n")
+
+
+def chained_loads():
+    return blocks_of(b"load r0=>r0\n")
 
 
 def registers_anywhere():
@@ -119,12 +128,14 @@ def size_checks(place):
         yield Check(f"sizes/{it.name}", lambda it=it: table.rows(it))
     if not place.is_short:
         yield Check("sizes/slow loads", table.slow_loads)
+        yield Check("sizes/slow loads in little memory", lambda: in_little_memory(place))
 
 
 class Table:
     def __init__(self, place):
         self.place = place
         self.even = {}
+        self.has_head = False
 
     def rows(self, given):
         """Prints the rows of an input, one for each command, and gives what is wrong."""
@@ -145,8 +156,9 @@ class Table:
         return min(runs, key=lambda it: it.processor_ms)
 
     def show(self, command, name, got):
-        if not self.even:
+        if not self.has_head:
             print(HEAD)
+            self.has_head = True
         even = self.even.get(command, got)
         start = front(got.output) or front(got.output + ".err")
         print(ROW.format(command, name, got.status, got.processor_ms, got.processor_ms / even.processor_ms,
@@ -154,7 +166,7 @@ class Table:
 
     def slow_loads(self):
         """Chained loads that take 16 cycles each: the longest schedules that a text can have."""
-        text = blocks_of(b"load r0=>r0\n")
+        text = chained_loads()
         path = self.place.stored("given", text)
         for command in COMMANDS[1:]:
             got = self.least([command, "--load", str(SLOWEST)], path)
@@ -174,6 +186,15 @@ def slow_listing(command, blocks):
         yield b"block %d A" % number + entry
     if command != "simulate":
         yield b"total %d\n" % (blocks * cycles)
+
+
+def in_little_memory(place):
+    """The longest schedules are refused where they find no room, with nothing written."""
+    words = ["schedule", "--workers", "1", "--load", str(SLOWEST)]
+    ending = place.ending(words, chained_loads(),
+                          preexec_fn=lambda: resource.setrlimit(resource.RLIMIT_AS, (LITTLE, LITTLE)))
+    if ending != NO_MEMORY:
+        yield told(ending)
 
 
 def is_made_of(path, parts):

@@ -4,10 +4,11 @@ import resource
 import shutil
 
 import inputs
-from check import Check, told
+from check import COMMANDS, Check, told
 from refusals import NO_WORKER
 
 RUNS = 200
+STACK = 128 * 1024
 TINY = b"".join(b"B%d: loadI %d => r1\nmult r1, r1 => r2\n" % (k, k) for k in range(300))
 # A user that nobody is, so that no process but ours counts.
 NOBODY = 54_321
@@ -20,6 +21,8 @@ def thread_checks(place):
         yield Check(f"threads/none_to_be_had/{command}", lambda command=command: none_to_be_had(place, command))
     for command in ("run", "simulate"):
         yield Check(f"threads/none_needed/{command}", lambda command=command: none_needed(place, command))
+    for command in COMMANDS:
+        yield Check(f"threads/little_stack/{command}", lambda command=command: little_stack(place, command))
 
 
 def by(workers):
@@ -78,3 +81,15 @@ def none_needed(place, command):
     got, due = alone(place, [command]), place.ending([command], TINY)
     if got != due or due[0] != 0:
         yield f"{told(got)} in place of {told(due)}"
+
+
+def little_stack(place, command):
+    """The longest blocks need no more stack than others: one whose operations hang together, one of loose ones."""
+    chained = b"load r0 => r0\n" * inputs.MAX_OPERATIONS
+    loose = b"".join(b"addI r%d, 1 => r%d\n" % (k, 7 * k) for k in range(inputs.MAX_OPERATIONS))
+    for block in (chained, loose):
+        due = place.ending([command], block)
+        got = place.ending([command], block,
+                           preexec_fn=lambda: resource.setrlimit(resource.RLIMIT_STACK, (STACK, STACK)))
+        if got != due or due[0] != 0 or not due[1]:
+            yield f"{told(got)} in place of {told(due)}"
