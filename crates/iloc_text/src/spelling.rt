@@ -197,4 +197,22 @@ mod tests {
         assert_eq!(rt; text.as_slice(), b"0-2-9223372036854775808".as_slice());
         Ok(())
     }
+
+    #[test]
+    fn leaves_the_text_as_it_was_where_it_is_refused(rt: HostRuntime) -> Result<(), Fail> {
+        let mut text = Vec::from_slice(rt.alloc(), b"before")?;
+        if push_op(&mut text, &Op::Output { addr: 1024 }).is_err() {
+            assert_eq!(rt; text.as_slice(), b"before".as_slice());
+            push_op(&mut text, &Op::Output { addr: 1024 })?;
+        }
+        if push_number(&mut text, i64::MIN).is_err() {
+            assert_eq!(rt; text.as_slice(), b"beforeoutput 1024".as_slice());
+            push_number(&mut text, i64::MIN)?;
+        }
+        assert_eq!(rt;
+            text.as_slice(),
+            b"beforeoutput 1024-9223372036854775808".as_slice()
+        );
+        Ok(())
+    }
 }
