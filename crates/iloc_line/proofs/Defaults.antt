@@ -1,15 +1,11 @@
 -- The defaults at the end of a walk: the rows stay kept.
-use Rattle.std.proofs.Common.{◌≡◌, ◌∙◌, ◌==◌, ◌||◌, ◌++◌, Bool, true, false, cond, List, [], ◌∷◌, Some, refl, subst, ap, sym, arith, length}
+use Rattle.std.proofs.Common.{◌≡◌, ◌==◌, ◌||◌, Bool, true, false, cond, List, [], ◌∷◌, arith, length}
 use Rattle.std.proofs.lemmas.Bool.{ne_eqb}
-use Rattle.std.specs.Prelude.{unwrap_or}
 use Rattle.std.specs.List.{AllByRecursion, fold}
-use Rattle.std.specs.Str.{bytes_eq}
-use Rattle.std.proofs.lemmas.Slice.Eq.{bytes_eq-Decides}
 use Rattle.clap.specs.Faults.{default_fault, defaults_fault, values_fault}
 use Rattle.clap.specs.Kinds.{or_else, request_kinds}
-use Rattle.clap.specs.Walk.{Row, Rule, Text, action_of, arg_by_id, default_rows, has_row, is_empty}
-use Rattle.clap.specs.Walk.{more_values, reading_by, with_default, with_values}
-use Rattle.clap.specs.declared.builder.value_parser.Reading.{Reading}
+use Rattle.clap.specs.Walk.{Row, Rule, Text, action_of, default_rows, has_row, is_empty}
+use Rattle.clap.specs.Walk.{reading_by, with_default}
 use Rattle.clap.specs.declared.parser.matches.ValueSource.TheVariants.{DefaultValue}
 use Rattle.iloc_line.proofs.Rows.{AllKept, both_empty, with_values_kept}
 use Rattle.iloc_line.proofs.Uses.{IsOurs}

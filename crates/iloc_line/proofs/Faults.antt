@@ -1,11 +1,11 @@
 -- What the parser's two outcomes say of the faults in the words.
-use Rattle.std.proofs.Common.{◌≡◌, ◌∙◌, None, [], true, refl, sym, ap, subst, inl, inr}
+use Rattle.std.proofs.Common.{◌≡◌, ◌∙◌, [], true, refl, sym, ap, subst, inl, inr}
 use Rattle.clap.proofs.OnLiterals.{clap_on_literals}
 use Rattle.clap.specs.Kinds.{HasKind, IsAmong}
 use Rattle.clap.specs.Words.{App, Text, fault_of, is_simple_and_free, kind_of}
 use Rattle.clap.specs.declared.error.Error.{Error}
 use Rattle.clap.specs.declared.error.kind.ErrorKind.TheVariants.{DisplayHelp, OutOfMemory}
-use Rattle.std.specs.Prelude.{List, Option, Some}
+use Rattle.std.specs.Prelude.{List}
 use Rattle.iloc_line.specs.Asked.{Asked}
 use Rattle.iloc_line.specs.Command.{farm_app}
 use Rattle.iloc_line.specs.Due.{Asks, IsDue, faults_in}

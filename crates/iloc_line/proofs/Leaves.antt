@@ -1,11 +1,11 @@
 -- What the rows of a command hold, where the parser finds no fault in its words.
-use Rattle.std.proofs.Common.{◌≡◌, ◌∙◌, ◌||◌, ap, Bool, true, false, cond, List, [], ◌∷◌, Some, Option, is_some, refl}
+use Rattle.std.proofs.Common.{◌≡◌, Bool, true, false, cond, List, [], ◌∷◌, Some, Option, refl}
 use Rattle.std.specs.Prelude.{IfSome, find}
 use Rattle.std.specs.Str.{bytes_eq}
 use Rattle.std.proofs.lemmas.Slice.Eq.{bytes_eq-Decides}
 use Rattle.clap.specs.Faults.{defaults_fault, level_fault, settle_fault, walk_fault}
 use Rattle.clap.specs.Simple.{Shape}
-use Rattle.clap.specs.Walk.{Row, Rule, Text, arg_by_id, has_row, nothing_held, rows_after, settled, walk, walk_from}
+use Rattle.clap.specs.Walk.{Row, Rule, Text, nothing_held, rows_after, settled, walk, walk_from}
 use Rattle.iloc_line.proofs.Defaults.{defaults_kept}
 use Rattle.iloc_line.proofs.Rows.{AllKept, IsKept, both_empty}
 use Rattle.iloc_line.proofs.Uses.{AllOurs, settled_kept}

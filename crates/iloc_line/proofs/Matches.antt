@@ -9,7 +9,7 @@ use Rattle.std.specs.Str.{bytes_eq}
 use Rattle.std.proofs.lemmas.Slice.Eq.{bytes_eq-Decides}
 use Rattle.clap.specs.Facts.{parser_of_value}
 use Rattle.clap.specs.Faults.{entered_fault, level_fault, walk_fault}
-use Rattle.clap.specs.Kinds.{Kinds, values_kinds}
+use Rattle.clap.specs.Kinds.{values_kinds}
 use Rattle.clap.specs.Simple.{Shape, built, built_leaf, entered, inherited, label_of, names_of, rows_at, subcommand_of, subcommand_rows}
 use Rattle.clap.specs.Values.{read_as, reading_of}
 use Rattle.clap.specs.Walk.{Row, Rule, Text, answers_to, arg_by_id, nothing_held, row_text, rows_after, stop_after, walk_from}
@@ -25,7 +25,7 @@ use Rattle.iloc_line.specs.Steps.Taken.{AreNumbersIn, HoldNumbers, HoldsIn, IsNu
 use Rattle.iloc_line.specs.declared.request.Task.{Task}
 use Rattle.iloc_line.proofs.Leaves.{found_kept, leaf_kept, row_in}
 use Rattle.iloc_line.proofs.Numbers.{taken_numbers}
-use Rattle.iloc_line.proofs.Rows.{AllKept, Holds, IsKept, both_empty}
+use Rattle.iloc_line.proofs.Rows.{IsKept, both_empty}
 use Rattle.iloc_line.proofs.Uses.{AllOurs}
 
 -- ---- numbers in rows

@@ -4,7 +4,7 @@ use Rattle.std.specs.Prelude.{option_and_then, option_map, unwrap_or}
 use Rattle.std.specs.Str.{bytes_eq}
 use Rattle.std.specs.Str.Parse.{digits_value, without_leading_plus}
 use Rattle.clap.specs.Words.{Row, Text, many_of, one_of, subcommand_of}
-use Rattle.iloc_line.specs.Command.{Entry, entries, farm_app}
+use Rattle.iloc_line.specs.Command.{entries, farm_app}
 use Rattle.iloc_line.specs.declared.request.Request.{Request}
 use Rattle.iloc_line.specs.declared.request.Task.{Task}
 

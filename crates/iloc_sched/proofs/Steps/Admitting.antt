@@ -1,10 +1,9 @@
 -- What becomes ready goes into the queues.
-use Rattle.std.proofs.Common.{◌≡◌, ◌≢◌, ℕ, zero, suc, ◌+◌, ◌%◌, ◌<◌, ◌≤◌, List, [], ◌∷◌, ◌++◌, length, take, get_or, Option, Some, None, ◌⊎◌, inl, inr, refl, sym, ◌∙◌, ap, subst, arith}
+use Rattle.std.proofs.Common.{◌≡◌, ◌≢◌, ℕ, zero, suc, ◌+◌, ◌%◌, ◌<◌, List, [], ◌∷◌, ◌++◌, length, take, get_or, Some, None, inl, inr, refl, sym, ◌∙◌, ap, subst, arith}
 use Rattle.std.proofs.lemmas.List.{take_more}
 use Rattle.iloc_text.specs.declared.op.Op.{Op}
 use Rattle.iloc_sched.specs.declared.candidate.Candidate.{Candidate}
 use Rattle.iloc_sched.specs.declared.class.Class.{Class}
-use Rattle.iloc_sched.specs.declared.plan.Plan.{Plan}
 use Rattle.iloc_sched.specs.declared.queues.Queues.{Queues}
 use Rattle.iloc_sched.specs.declared.queues.Choice.{Choice}
 use Rattle.iloc_sched.specs.Steps.Members.{In, AreApart}
@@ -14,7 +13,6 @@ use Rattle.iloc_sched.specs.Steps.Queued.{candidates, Takes, AddsTo}
 use Rattle.iloc_sched.specs.Steps.Graph.{Graph, IsGraph}
 use Rattle.iloc_sched.specs.Steps.Progress.{Progress, Waits, CanIssue, KeepsPlaces}
 use Rattle.iloc_sched.specs.Steps.SoFar.{class_at, IsQueued, Admits}
-use Rattle.iloc_sched.proofs.Steps.Cases.{by_eq}
 use Rattle.iloc_sched.proofs.Steps.Lists.{in_front, in_back, in_either}
 use Rattle.iloc_sched.proofs.Steps.Wheel.{due_now, then_due, later_still}
 use Rattle.iloc_sched.proofs.Steps.Issuing.{can_issue_still, can_issue_back}

@@ -1,14 +1,13 @@
 -- The choice of a cycle by the queues is the choice of the definition.
-use Rattle.std.proofs.Common.{◌≡◌, ◌≢◌, ℕ, ◌+◌, ◌<◌, ◌≤◌, ◌==◌, ◌&&◌, ◌||◌, not, Bool, true, false, if◌then◌else◌, List, [], ◌∷◌, length, Option, Some, None, ◌⊎◌, inl, inr, refl, sym, ◌∙◌, ap, subst, arith}
+use Rattle.std.proofs.Common.{◌≡◌, ◌≢◌, ℕ, ◌+◌, ◌==◌, ◌&&◌, ◌||◌, not, Bool, true, false, if◌then◌else◌, List, length, Option, Some, None, refl, sym, ◌∙◌, ap, subst, arith}
 use Rattle.std.proofs.lemmas.Bool.Decides.{nat_tests}
 use Rattle.std.specs.Prelude.{filter}
-use Rattle.iloc_text.specs.declared.op.Op.{Op}
 use Rattle.iloc_meaning.specs.Trace.{op_at}
 use Rattle.iloc_timed.specs.declared.kind.Kind.{Kind}
 use Rattle.iloc_timed.specs.declared.kind.Kind.TheVariants as K
 use Rattle.iloc_timed.specs.declared.row.Row.{Row}
 use Rattle.iloc_timed.specs.Kinds.{kind, is_mult, is_memory}
-use Rattle.iloc_timed.specs.Rows.{empty_row, is_some_kind, kind_in}
+use Rattle.iloc_timed.specs.Rows.{is_some_kind, kind_in}
 use Rattle.iloc_sched.specs.Priority.{priorities}
 use Rattle.iloc_sched.specs.Greedy.{ready, first_of_all, may_stand_beside, on_units, chosen_with, chosen}
 use Rattle.iloc_sched.specs.declared.candidate.Candidate.{Candidate}
@@ -22,7 +21,7 @@ use Rattle.iloc_sched.specs.Steps.Members.{In}
 use Rattle.iloc_sched.specs.Steps.Order.{IsFirst, candidate_at}
 use Rattle.iloc_sched.specs.Steps.Classes.{class_of, excludes, is_memory_class, is_product_class}
 use Rattle.iloc_sched.specs.Steps.Queued.{candidates, IsBest, Takes}
-use Rattle.iloc_sched.specs.Steps.Progress.{CanIssue, MatchesRows}
+use Rattle.iloc_sched.specs.Steps.Progress.{MatchesRows}
 use Rattle.iloc_sched.specs.Steps.Views.{graph_of, progress_of}
 use Rattle.iloc_sched.specs.Steps.SoFar.{class_at, IsPlan, IsUnderWay, number_of, is_memory_choice, row_with}
 use Rattle.iloc_sched.proofs.ListFacts.{in_filter, from_filter}

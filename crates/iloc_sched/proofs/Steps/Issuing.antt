@@ -1,7 +1,7 @@
 -- Who can be issued once another was.
-use Rattle.std.proofs.Common.{◌≡◌, ◌≢◌, ℕ, ◌+◌, ◌<◌, ◌≤◌, Option, Some, None, inl, inr, refl, sym, ◌∙◌, ap, subst, arith}
+use Rattle.std.proofs.Common.{◌≡◌, ◌≢◌, ℕ, ◌+◌, ◌<◌, ◌≤◌, Some, None, inl, inr, sym, ◌∙◌, ap, subst, arith}
 use Rattle.iloc_sched.specs.Steps.Graph.{Graph, IsGraph}
-use Rattle.iloc_sched.specs.Steps.Progress.{Progress, Reaches, Waits, CanIssue, KeepsPlaces}
+use Rattle.iloc_sched.specs.Steps.Progress.{Progress, Waits, CanIssue, KeepsPlaces}
 use Rattle.iloc_sched.proofs.Steps.Cases.{by_eq, by_lt, not_both, same_some}
 use Rattle.iloc_sched.proofs.Steps.Walk.{within_count}
 

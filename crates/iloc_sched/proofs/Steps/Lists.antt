@@ -1,5 +1,5 @@
 -- Lists without repeats.
-use Rattle.std.proofs.Common.{◌≡◌, ◌≢◌, ℕ, List, [], ◌∷◌, ◌++◌, ◌⊎◌, inl, inr, refl, sym, subst}
+use Rattle.std.proofs.Common.{ℕ, List, [], ◌∷◌, ◌++◌, ◌⊎◌, inl, inr, sym}
 use Rattle.iloc_sched.specs.Steps.Members.{In, AreApart}
 
 pub in_front : {X : Type 0} → (xs ys : List X) (x : X) → In xs x → In (xs ++ ys) x

@@ -1,21 +1,20 @@
 -- A schedule begins.
-use Rattle.std.proofs.Common.{◌≡◌, ◌≢◌, ℕ, zero, suc, ◌+◌, ◌%◌, ◌<◌, ◌≤◌, List, [], ◌∷◌, ◌++◌, length, length-append, map, take, get_or, Option, Some, None, inl, inr, refl, sym, ◌∙◌, ap, subst, arith, cond}
+use Rattle.std.proofs.Common.{◌≡◌, ◌≢◌, ℕ, zero, suc, ◌+◌, ◌%◌, ◌<◌, ◌≤◌, List, [], ◌∷◌, ◌++◌, length, take, get_or, Option, None, inl, inr, refl, sym, ◌∙◌, ap, subst, arith, cond}
 use Rattle.std.specs.Prelude.{replicate, count_by, is_none}
 use Rattle.std.proofs.Math.Seq.{take-nil}
 use Rattle.std.proofs.lemmas.List.Sums.{sum_by-cons}
 use Rattle.std.specs.Global.{Vec}
-use Rattle.iloc_text.specs.declared.op.Op.{Op}
 use Rattle.iloc_sched.specs.declared.plan.Plan.{Plan}
 use Rattle.iloc_sched.specs.declared.queues.Queues.{Queues}
 use Rattle.iloc_sched.specs.declared.class.Class.{Class}
 use Rattle.iloc_sched.specs.declared.waiting.Waiting.{Waiting}
 use Rattle.iloc_sched.specs.Steps.Members.{In, AreApart}
 use Rattle.iloc_sched.specs.Steps.Graph.{Graph, IsGraph}
-use Rattle.iloc_sched.specs.Steps.Progress.{Progress, Reaches, Waits, CanIssue, MatchesRows}
+use Rattle.iloc_sched.specs.Steps.Progress.{Progress, Waits}
 use Rattle.iloc_sched.specs.Steps.Views.{graph_of, progress_of, IsSized}
 use Rattle.iloc_sched.specs.Steps.Queued.{candidates}
-use Rattle.iloc_sched.specs.Steps.SoFar.{IsPlan, IsSoFar}
-use Rattle.iloc_sched.specs.Steps.Opening.{AreRoots, bucket_at, IsFreshWheel}
+use Rattle.iloc_sched.specs.Steps.SoFar.{IsSoFar}
+use Rattle.iloc_sched.specs.Steps.Opening.{AreRoots, bucket_at}
 use Rattle.iloc_sched.proofs.Steps.Cases.{by_eq, not_both}
 use Rattle.iloc_sched.proofs.Steps.Lists.{in_front, in_back, in_either, pushed_apart}
 

@@ -1,12 +1,11 @@
 -- What a read or a write of a table says of its view.
-use Rattle.std.proofs.Common.{◌≡◌, ◌≢◌, ℕ, ◌+◌, ◌<◌, ◌≤◌, List, [], ◌∷◌, ◌++◌, length, map, set, get_or, Option, Some, None, refl, sym, ◌∙◌, ap, subst, arith}
+use Rattle.std.proofs.Common.{◌≡◌, ◌≢◌, ℕ, ◌<◌, List, [], length, map, set, get_or, Option, None, sym, ◌∙◌, ap, subst, arith}
 use Rattle.std.proofs.lemmas.List.{length-map, get_or_read, get_or-map, map-set, get_or-set_same, get_or-set_other}
 use Rattle.std.specs.Global.{Vec}
 use Rattle.iloc_sched.specs.declared.edges.Edge.{Edge}
 use Rattle.iloc_sched.specs.declared.edges.Edges.{Edges}
 use Rattle.iloc_sched.specs.declared.waiting.Waiting.{Waiting}
-use Rattle.iloc_sched.specs.Steps.Graph.{Graph, IsGraph}
-use Rattle.iloc_sched.specs.Steps.Progress.{Progress}
+use Rattle.iloc_sched.specs.Steps.Graph.{IsGraph}
 use Rattle.iloc_sched.specs.Steps.Views.{no_edge, edge_at, graph_of, progress_of, IsSized}
 
 pub edge_read : (e : Edges) (x : ℕ) (edge : Edge) → x < length e.edges.items → edge ≡ get_or e.edges.items x edge → edge ≡ edge_at e x

@@ -1,16 +1,16 @@
 -- What can be issued is what is ready.
-use Rattle.std.proofs.Common.{◌≡◌, ◌≢◌, ℕ, zero, suc, ◌+◌, ◌<◌, ◌≤◌, ◌==◌, Bool, true, false, List, [], ◌∷◌, ◌++◌, length, Option, Some, None, inl, inr, refl, sym, ◌∙◌, ap, subst, arith, add-one}
+use Rattle.std.proofs.Common.{◌≡◌, ℕ, ◌+◌, ◌<◌, ◌≤◌, List, length, None, inl, inr, sym, ◌∙◌, ap, subst, arith}
 use Rattle.iloc_text.specs.declared.op.Op.{Op}
 use Rattle.iloc_timed.specs.declared.latencies.Latencies.{Latencies}
 use Rattle.iloc_timed.specs.declared.row.Row.{Row}
-use Rattle.iloc_timed.specs.Rows.{row_at, slots, issue_cycle}
+use Rattle.iloc_timed.specs.Rows.{slots, issue_cycle}
 use Rattle.iloc_sched.specs.Delays.{IsDelayPair}
 use Rattle.iloc_sched.specs.Priority.{priorities}
 use Rattle.iloc_sched.specs.Greedy.{ready}
 use Rattle.iloc_sched.specs.Steps.Choosing.{IsChosenSoFar}
 use Rattle.iloc_sched.specs.Steps.Members.{In}
 use Rattle.iloc_sched.specs.Steps.Near.{IsNear}
-use Rattle.iloc_sched.specs.Steps.Graph.{Graph, IsGraph, IsGraphOf}
+use Rattle.iloc_sched.specs.Steps.Graph.{Graph, IsGraphOf}
 use Rattle.iloc_sched.specs.Steps.Progress.{Progress, Reaches, Waits, CanIssue, MatchesRows}
 use Rattle.iloc_sched.proofs.Readiness.{IsReady, ready_means, ready_from}
 use Rattle.iloc_sched.proofs.Tables.{stands_there}

@@ -1,5 +1,5 @@
 -- One more row of a schedule that is being made, and its end.
-use Rattle.std.proofs.Common.{◌≡◌, ◌≢◌, ℕ, zero, suc, ◌+◌, ◌*◌, ◌<◌, ◌≤◌, ◌||◌, Bool, true, false, cond, if◌then◌else◌, List, [], ◌∷◌, ◌++◌, length, length-append, set, get_or, Option, Some, None, ◌⊎◌, inl, inr, refl, sym, ◌∙◌, ap, subst, arith, rules}
+use Rattle.std.proofs.Common.{◌≡◌, ◌≢◌, ℕ, suc, ◌+◌, ◌*◌, ◌<◌, ◌≤◌, ◌||◌, true, false, cond, List, [], ◌∷◌, ◌++◌, length, length-append, set, get_or, Option, Some, None, ◌⊎◌, inl, inr, refl, sym, ◌∙◌, ap, subst, arith, rules}
 use Rattle.std.specs.Prelude.{count_by, sum_by, is_none, option_to_list}
 use Rattle.std.proofs.lemmas.List.Sums.{sum_by-set, sum_by-le}
 use Rattle.std.specs.Global.{Vec}
@@ -14,24 +14,22 @@ use Rattle.iloc_timed.specs.Rows.{empty_row, row_at, slots, issue_cycle}
 use Rattle.iloc_sched.specs.Renaming.{renamed}
 use Rattle.iloc_sched.specs.Priority.{priorities}
 use Rattle.iloc_sched.specs.Greedy.{ready, chosen_with, IsGreedy}
-use Rattle.iloc_sched.specs.declared.class.Class.{Class}
 use Rattle.iloc_sched.specs.declared.plan.Plan.{Plan}
 use Rattle.iloc_sched.specs.declared.queues.Queues.{Queues}
 use Rattle.iloc_sched.specs.declared.queues.Choice.{Choice}
 use Rattle.iloc_sched.specs.declared.waiting.Waiting.{Waiting}
-use Rattle.iloc_sched.specs.Steps.Choosing.{IsChosenSoFar}
 use Rattle.iloc_sched.specs.Steps.Members.{In}
 use Rattle.iloc_sched.specs.Steps.Classes.{is_product_class}
 use Rattle.iloc_sched.specs.Steps.Queued.{IsBest}
 use Rattle.iloc_sched.specs.Steps.Progress.{MatchesRows}
-use Rattle.iloc_sched.specs.Steps.Views.{graph_of, progress_of}
+use Rattle.iloc_sched.specs.Steps.Views.{progress_of}
 use Rattle.iloc_sched.specs.Steps.SoFar.{IsPlan, IsUnderWay, IsSoFar, Issues, IssuesAny, number_of, is_memory_choice, row_with, slot_count, waiting_count}
 use Rattle.iloc_sched.proofs.RowFacts.{issue_cycle_more, issue_cycle_last, issue_cycle_beyond, row_at_last}
 use Rattle.iloc_sched.proofs.Tables.{holds_from, from_holds}
 use Rattle.iloc_timed.specs.Rows.{holds}
 use Rattle.iloc_sched.proofs.Building.{chosen_more, chosen_is_greedy}
 use Rattle.iloc_sched.proofs.Bounds.{rows_bound}
-use Rattle.iloc_sched.proofs.Steps.Cases.{by_bool, by_eq, by_option, not_both, same_some}
+use Rattle.iloc_sched.proofs.Steps.Cases.{by_bool, by_option, not_both, same_some}
 use Rattle.iloc_sched.proofs.Steps.Issued.{issued_at, issued_other}
 use Rattle.iloc_sched.proofs.Steps.Chosen.{chosen_none, chosen_row}
 

@@ -1,5 +1,5 @@
 -- What becomes ready stands in the bucket of its cycle modulo 32, since no delay is above 16.
-use Rattle.std.proofs.Common.{◌≡◌, ◌≢◌, ℕ, ◌+◌, ◌%◌, ◌<◌, ◌≤◌, List, [], Option, Some, None, ◌⊎◌, inl, inr, refl, sym, ◌∙◌, ap, subst, arith}
+use Rattle.std.proofs.Common.{◌≡◌, ◌≢◌, ℕ, ◌+◌, ◌%◌, ◌<◌, ◌≤◌, List, [], Option, None, ◌⊎◌, inl, inr, sym, ◌∙◌, ap, subst, arith}
 use Rattle.iloc_sched.specs.Steps.Members.{In, AreApart}
 use Rattle.iloc_sched.specs.Steps.Graph.{Graph, IsGraph}
 use Rattle.iloc_sched.specs.Steps.Progress.{Progress, Reaches, Waits, CanIssue}

@@ -1,5 +1,5 @@
 -- What stands in the queues of ready operations.
-use Rattle.std.specs.Prelude.{ℕ, ◌≡◌, ◌≢◌, ◌⊎◌, false, List, Option, Some, None}
+use Rattle.std.specs.Prelude.{◌≡◌, ◌⊎◌, false, List, Option, Some, None}
 use Rattle.std.specs.BinaryHeap.{heap_items}
 use Rattle.iloc_sched.specs.declared.candidate.Candidate.{Candidate}
 use Rattle.iloc_sched.specs.declared.class.Class.{Class}
@@ -8,7 +8,6 @@ use Rattle.iloc_sched.specs.declared.queues.Queues.{Queues}
 use Rattle.iloc_sched.specs.declared.queues.Choice.{Choice}
 use Rattle.iloc_sched.specs.Steps.Members.{In}
 use Rattle.iloc_sched.specs.Steps.Order.{IsFirst}
-use Rattle.iloc_sched.specs.Steps.Changes.{IsFirstOf, Adds, Removes}
 use Rattle.iloc_sched.specs.Steps.Classes.{is_excluded}
 
 -- the candidates of a class

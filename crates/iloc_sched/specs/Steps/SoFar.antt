@@ -1,5 +1,5 @@
 -- What holds of a schedule that is being made.
-use Rattle.std.specs.Prelude.{ℕ, ◌+◌, ◌≡◌, ◌<◌, ◌≤◌, ◌⊎◌, ◌||◌, List, length, slice_index_or, slice_set, count_by, is_none, Option, Some, None, option_map, Bool, false, if◌then◌else◌}
+use Rattle.std.specs.Prelude.{ℕ, ◌+◌, ◌≡◌, ◌<◌, ◌⊎◌, ◌||◌, List, length, slice_index_or, slice_set, count_by, is_none, Option, Some, None, Bool, false, if◌then◌else◌}
 use Rattle.iloc_meaning.specs.Trace.{op_at}
 use Rattle.iloc_text.specs.declared.op.Op.{Op}
 use Rattle.iloc_timed.specs.declared.row.Row.{Row}

@@ -1,4 +1,4 @@
-use Rattle.std.proofs.Common.{◌≡◌, List, ℕ}
+use Rattle.std.proofs.Common.{◌≡◌}
 use Rattle.iloc_farm.specs.Initial.{memory_of}
 use Rattle.iloc_farm.specs.Run.{run_listing}
 use Rattle.iloc_farm.proofs.Simulated.{simulated}

@@ -1,4 +1,3 @@
-use Rattle.iloc_farm.specs.Schedules.{AreGreedy}
 use Rattle.iloc_farm.proofs.Schedules.{are_greedy, greedy_all_same, keep_outcomes}
 use Rattle.iloc_farm.proofs.farm.schedule_all.Goals as goal
 

@@ -1,4 +1,4 @@
-use Rattle.std.proofs.Common.{◌≡◌, ◌+◌, ◌<◌, ◌≤◌, [], length, refl, sym, subst, ◌∙◌, ap, arith}
+use Rattle.std.proofs.Common.{◌≡◌, ◌+◌, ◌≤◌, [], length, sym, subst, ap, arith}
 use Rattle.iloc_timed.specs.Rows.{row_at, slots}
 use Rattle.iloc_sched.specs.Steps.SoFar.{IsSoFar, waiting_count}
 use Rattle.iloc_sched.proofs.Steps.RowsMade.{few_rows, greedy_at_end}

@@ -1,8 +1,7 @@
-use Rattle.std.proofs.Common.{◌≡◌, ℕ, List, ap, ◌∙◌}
+use Rattle.std.proofs.Common.{◌≡◌, ap, ◌∙◌}
 use Rattle.std.specs.Global.{Vec}
 use Rattle.iloc_text.specs.declared.op.Op.{Op}
 use Rattle.iloc_sched.specs.Renaming.{renamed}
-use Rattle.iloc_sched.specs.Greedy.{IsGreedy}
 use Rattle.iloc_sched.proofs.LawfulOutcomes.{lawful_same_outcome}
 use Rattle.iloc_sched.proofs.Steps.Scheduled.{seen_greedy, greedy_only, greedy_least, greedy_most}
 use Rattle.iloc_sched.proofs.scheduler.schedule.Goals as goal

@@ -1,4 +1,4 @@
-use Rattle.std.proofs.Common.{◌%◌, ◌∷◌, ◌++◌, [], ap, sym, ◌∙◌, arith}
+use Rattle.std.proofs.Common.{◌%◌, ◌∷◌, ◌++◌, [], ap, ◌∙◌, arith}
 use Rattle.iloc_sched.proofs.Steps.Reads.{bucket_written, bucket_kept, bucket_read}
 use Rattle.iloc_sched.proofs.waiting.Waiting.enter.Goals as goal
 

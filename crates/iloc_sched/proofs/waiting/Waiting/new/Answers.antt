@@ -1,4 +1,4 @@
-use Rattle.std.proofs.Common.{◌≡◌, ◌-◌, ℕ, length, take, get_or, Option, None, sym, subst, ap, ◌∙◌, arith}
+use Rattle.std.proofs.Common.{◌-◌, length, take, get_or, None, sym, subst, ap, ◌∙◌, arith}
 use Rattle.iloc_sched.specs.declared.waiting.Waiting.{Waiting}
 use Rattle.iloc_sched.specs.Steps.Opening.{AreRoots}
 use Rattle.iloc_sched.specs.Steps.Views.{graph_of, progress_of}
