@@ -84,5 +84,5 @@ def refused_by_all(case):
 
 def by_workers(case):
     if case.words[0] in ("schedule", "counts"):
-        for workers in ("1", "3", "8"):
-            yield again(case, f"workers_{workers}", [*case.words, "--workers", workers])
+        for workers in range(1, 9):
+            yield again(case, f"workers_{workers}", [*case.words, "--workers", str(workers)])
