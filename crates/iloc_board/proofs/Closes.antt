@@ -1,16 +1,17 @@
 -- What a closed board shows.
-use Rattle.std.proofs.Common.{◌≡◌, ℕ, zero, suc, ◌+◌, ◌<◌, ◌≤◌, ◌⊎◌, Bool, true, false, ◌||◌, cond, ◌==◌, List, [], ◌∷◌, length, map, replicate, refl, ap, sym, ◌∙◌, subst, arith, inl, inr, Option, Some, None, length-set}
+use Rattle.std.proofs.Common.{◌≡◌, ◌≢◌, ℕ, zero, suc, ◌+◌, ◌<◌, ◌≤◌, ◌⊎◌, Bool, true, false, ◌||◌, cond, ◌==◌, List, [], ◌∷◌, length, map, replicate, refl, ap, sym, ◌∙◌, subst, arith, inl, inr, Option, Some, None, length-set}
 use Rattle.std.specs.Prelude.{slice_get, slice_set, slice_index, slice_index_or}
-use Rattle.std.specs.List.{range_with_len, All, Contains}
-use Rattle.std.proofs.lemmas.Bool.{eqb-true, eq-eqb, cases_eq, cases_lt, or_cases, or_left, or_right, and_parts, and_from}
+use Rattle.std.specs.List.{range_with_len, All, Contains, list_any}
+use Rattle.std.proofs.lemmas.Bool.{eqb-true, eq-eqb, cases_eq, cases_lt, or_cases, or_left, or_right, or_from, ne_eqb, and_parts, and_from}
 use Rattle.std.proofs.lemmas.List.{length-replicate, length-map, get_or_default}
 use Rattle.std.proofs.lemmas.List.Folds.{list_any-append}
-use Rattle.std.proofs.lemmas.List.Elements.{Contains-append_left, Contains-append_right, Contains-append_cases}
+use Rattle.std.proofs.lemmas.List.Elements.{All-nil, All-cons, All-head, All-tail, Contains-append_left, Contains-append_right, Contains-append_cases}
 use Rattle.std.proofs.lemmas.Option.{slice_get_within, get_or_from_slice_get}
 use mathlib.Core.Option.{some, some-injective, some-ne-none}
 use lib.ListN.{get_elem?}
 use Rattle.iloc_board.specs.declared.step.Step.{Step}
 use Rattle.iloc_board.specs.declared.step.Reply.{Reply}
+use Rattle.iloc_board.specs.declared.state.State.TheVariants.{Holding}
 use Rattle.iloc_board.specs.declared.step.Reply.TheVariants.{Block, NoneLeft, Took, Stale, Handed, NotNow}
 use Rattle.iloc_board.specs.declared.step.Entry.{Entry}
 use Rattle.iloc_board.specs.declared.journal.Journal.{Journal}
@@ -18,14 +19,14 @@ use Rattle.iloc_board.specs.declared.seat_view.Role.TheVariants.{Root}
 use Rattle.iloc_board.specs.Core.{Core, opening, is_holding, worker_of, reply_to, after, played}
 use Rattle.iloc_board.specs.Sequential.{is_pair, is_out}
 use Rattle.iloc_board.specs.History.{taken_by, takes}
-use Rattle.iloc_board.specs.Journal.{entries_of, state_of, seen, handed, all_handed}
+use Rattle.iloc_board.specs.Journal.{entries_of, state_of, saw_none, seen, handed, all_handed}
 use Rattle.iloc_board.specs.Play.{final}
-use Rattle.iloc_board.specs.Steps.Rule.{TableState, Sat, Tells, FitsRoot, IsKept}
+use Rattle.iloc_board.specs.Steps.Rule.{TableState, Sat, Tells, Apart, FitsRoot, IsKept}
 use Rattle.iloc_board.specs.Views.{BoardView, RootView, AllFit, priced}
 use Rattle.iloc_board.specs.Steps.Inside.{IsRoot}
 use Rattle.iloc_board.specs.Steps.Closing.{IsClosed}
 use Rattle.iloc_board.specs.Steps.Row.{placed, IsFirstHole, HoleOf}
-use Rattle.iloc_board.specs.Collecting.{AllMade, Apart, answer, said_in, FitsSaid, IsLegalWith, NoneTwice, jobs_of, AreTheAnswers, IsFirstMissing, IsWhole}
+use Rattle.iloc_board.specs.Collecting.{AllMade, answer, said_in, FitsSaid, IsLegalWith, NoneTwice, jobs_of, workers_of, AreTheAnswers, IsFirstMissing, IsWhole}
 use Rattle.iloc_board.specs.declared.collect.CollectFault.{CollectFault}
 use Rattle.iloc_board.specs.declared.collect.CollectFault.TheVariants.{Missing, NoMemory}
 use Rattle.iloc_board.specs.Faults.{MissingOf, IsNoMemory}
@@ -127,6 +128,47 @@ module _ {A : Type 0} where
       go true e rest = let P : ℕ → Type 0 = λ j. fits j x.1 in subst P (sym (eqb-true k x.0 e)) f.0
       go false e rest = rest
 
+-- Journals by their places
+
+all_from : (P : Journal → Type 0) (js : List Journal) → ((i : ℕ) (j : Journal) → get_elem? js i ≡ some j → P j) → All P js
+all_from P [] each = All-nil P
+all_from P (j ∷ js) each = All-cons P j js (each 0 j refl) (all_from P js (λ i k e. each (suc i) k e))
+
+at_place : (P : Journal → Type 0) (js : List Journal) (i : ℕ) (j : Journal) → All P js → get_elem? js i ≡ some j → P j
+at_place P [] i j each e = absurd (some-ne-none j (sym e))
+at_place P (k ∷ js) zero j each e = subst P (some-injective k j e) (All-head P k js each)
+at_place P (k ∷ js) (suc i) j each e = at_place P js i j (All-tail P k js each) e
+
+-- where no worker stands at two places, none stands twice
+other_workers : (w : ℕ) (js : List Journal) → ((i : ℕ) (j : Journal) → get_elem? js i ≡ some j → w ≢ j.worker) → list_any (λ y. w == y) (workers_of js) ≡ false
+other_workers w [] other = refl
+other_workers w (j ∷ js) other = or_from (w == j.worker) _ (ne_eqb w j.worker (other 0 j refl)) (other_workers w js (λ i k e. other (suc i) k e))
+
+none_twice_from : (js : List Journal) → Apart js → NoneTwice (workers_of js)
+none_twice_from [] apart = tt
+none_twice_from (j ∷ js) apart = (
+  other_workers j.worker js (λ i k e same. let q : 0 ≡ suc i = apart 0 (suc i) j k refl e same in omega arith),
+  none_twice_from js (λ a b x y e f g. let q : suc a ≡ suc b = apart (suc a) (suc b) x y e f g in omega arith),
+)
+
+-- the place of a worker's journal
+place_of : (js : List Journal) (w : ℕ) → Contains (workers_of js) w → (i : ℕ) × (j : Journal) × (get_elem? js i ≡ some j) × (j.worker ≡ w)
+place_of [] w h = absurd (contains_none w h)
+place_of (j ∷ js) w h =
+    elim (contains_cases j.worker (workers_of js) w h) [
+      | inl e ↦ (0, j, refl, e)
+      | inr rest ↦ let r = place_of js w rest in (suc r.0, r.1, r.2, r.3)
+    ]
+
+-- the place of a journal that passes a test
+place_of_any : (test : Journal → Bool) (js : List Journal) → list_any test js ≡ true → (i : ℕ) × (j : Journal) × (get_elem? js i ≡ some j) × (test j ≡ true)
+place_of_any test [] h = absurd (cc)
+place_of_any test (j ∷ js) h =
+    elim (or_cases (test j) (list_any test js) h) [
+      | inl e ↦ (0, j, refl, e)
+      | inr rest ↦ let r = place_of_any test js rest in (suc r.0, r.1, r.2, r.3)
+    ]
+
 -- the journals and all that they handed back
 all_has : (js : List Journal) (p : ℕ × ℕ) → Contains (all_handed js) p → (i : ℕ) × (j : Journal) × (get_elem? js i ≡ some j) × Contains (handed j.entries) p
 all_has [] p h = absurd (contains_none p h)
@@ -215,16 +257,18 @@ module _ {J A : Type 0} (count : ℕ) (fits : ℕ → A → Type 0) (price : A �
       let Q : List Journal → Type 0 = λ js. Apart js in
       let R : List Journal → Type 0 = λ js. (i : ℕ) (j : Journal) → get_elem? js i ≡ some j → Tells count k.steps j in
       let tells = subst R gathered (λ i j e. (mine.gathered i j e).0) in
+      let apart : Apart r.gathered = subst Q gathered mine.apart in
       record {
         one_list = record {
           below = subst P (sym mine.made_is ∙ made) k.below;
           answered = k.answered;
-          journals = λ i j e. (tells i j e).entries;
-          apart = subst Q gathered mine.apart;
+          journals = all_from (λ j. entries_of j.worker (played count (opening count) k.steps) ≡ j.entries) r.gathered (λ i j e. (tells i j e).entries);
+          apart = none_twice_from r.gathered apart;
           exact = laws.exact_play count k.steps;
           once = laws.once count k.steps;
         };
         tells = tells;
+        apart = apart;
         fitting = record { fit = h.fit; each = h.each };
       }
 
@@ -234,7 +278,7 @@ module _ {J A : Type 0} (count : ℕ) (fits : ℕ → A → Type 0) (price : A �
     its k a h =
         let P : List (ℕ × ℕ) → Type 0 = λ q. Contains q (k, price a) in
         let q = all_has r.gathered (k, price a) (subst P c.fitting.each (has_priced price r.answers k a h)) in
-        (q.1.worker, subst P (sym (ap handed (c.one_list.journals q.0 q.1 q.2))) q.3)
+        (q.1.worker, subst P (sym (ap handed (c.tells q.0 q.1 q.2).entries)) q.3)
 
     pub legal : IsLegalWith fits r.answers count steps
     legal = (laws.whole (FitsSaid fits) (said_in r.answers) (said_fits fits r.answers c.fitting.fit) count steps).0
@@ -242,7 +286,7 @@ module _ {J A : Type 0} (count : ℕ) (fits : ℕ → A → Type 0) (price : A �
     pub each_once : NoneTwice (jobs_of r.answers)
     each_once =
         let P : List ℕ → Type 0 = λ q. NoneTwice q in
-        subst P (sym (ap (λ q. jobs_of q) c.fitting.each) ∙ jobs_priced price r.answers) (handed_once (final count steps) _ (played count (opening count) steps) (retired_final count steps) r.gathered c.one_list.apart c.one_list.journals)
+        subst P (sym (ap (λ q. jobs_of q) c.fitting.each) ∙ jobs_priced price r.answers) (handed_once (final count steps) _ (played count (opening count) steps) (retired_final count steps) r.gathered c.apart (λ i j e. (c.tells i j e).entries))
 
     pub below : (k : ℕ) (a : A) → Contains r.answers (k, a) → k < (final count steps).next
     below k a h = let q = its k a h in (retired_final count steps).low q.0 k (price a) q.1
@@ -301,25 +345,36 @@ module _ {J A : Type 0} (count : ℕ) (fits : ℕ → A → Type 0) (price : A �
               ]),
         )
 
+    -- a job that went to a worker whose journal was gathered, and who holds none, has an answer
+    came_back : (k i : ℕ) (j : Journal) → get_elem? r.gathered i ≡ some j → is_holding (state_of j.entries) ≡ false
+        → (final count steps).state j.worker ≡ Holding k ⊎ ((cost : ℕ) × Contains (handed (entries_of j.worker (played count (opening count) steps))) (k, cost))
+        → (a : A) × Contains r.answers (k, a)
+    came_back k i j at idle (inl holding) =
+        let entries : entries_of j.worker (played count (opening count) steps) ≡ j.entries = (c.tells i j at).entries in
+        let busy : is_holding (state_of j.entries) ≡ true =
+        ap (λ t. is_holding (state_of t)) (sym entries) ∙ (ap is_holding (sym ((retired_final count steps).state j.worker)) ∙ ap is_holding holding) in
+        absurd (cc)
+    came_back k i j at idle (inr back) =
+        let P : List (ℕ × ℕ) → Type 0 = λ q. Contains q (k, back.0) in
+        let handed_back : Contains (handed j.entries) (k, back.0) = subst P (ap handed (c.tells i j at).entries) back.1 in
+        priced_has price r.answers k back.0 (subst P (sym c.fitting.each) (has_all r.gathered i j (k, back.0) at handed_back))
+
+    -- the same of a worker, by number
+    came_back_from : (k w : ℕ) → IsWhole r.made r.gathered → w < r.made → is_out w k (takes (played count (opening count) steps)) ≡ true → (a : A) × Contains r.answers (k, a)
+    came_back_from k w all made taken =
+        let its = place_of r.gathered w (all.all w made) in
+        let idle = at_place (λ j. is_holding (state_of j.entries) ≡ false) r.gathered its.0 its.1 all.idle its.2 in
+        let P : ℕ → Type 0 = λ v. is_out v k (takes (played count (opening count) steps)) ≡ true in
+        came_back k its.0 its.1 its.2 idle ((retired_final count steps).fate its.1.worker k (subst P (sym its.3) taken))
+
     -- where all was gathered and all is known to be taken, every job has an answer
     pub none_missing : IsWhole r.made r.gathered → (i : ℕ) → i < count → (a : A) × Contains r.answers (i, a)
     none_missing all i lt =
-        let told = all.told in
+        let told = place_of_any (λ j. saw_none j.entries) r.gathered all.told in
         let sees : count ≤ seen count told.1 = told_none count told.1 told.3 in
         let reached : seen count told.1 ≤ (final count steps).next = (c.tells told.0 told.1 told.2).seen_low in
         let taker = took_from i (takes (played count (opening count) steps)) 0 (final count steps).next c.one_list.once (omega arith) (omega arith) in
-        let w : ℕ = taker.0 in
-        let its = all.all w (taker_made count r.made w i steps (opening count) c.one_list.below taker.1) in
-        let entries : entries_of w (played count (opening count) steps) ≡ its.1.entries = ap (λ v. entries_of v (played count (opening count) steps)) (sym its.3) ∙ c.one_list.journals its.0 its.1 its.2 in
-        elim ((retired_final count steps).fate w i taker.1) [
-          | inl holding ↦
-              let idle : is_holding (state_of its.1.entries) ≡ false = all.idle its.0 its.1 its.2 in
-              let busy : is_holding (state_of its.1.entries) ≡ true = ap (λ t. is_holding (state_of t)) (sym entries) ∙ (ap is_holding (sym ((retired_final count steps).state w)) ∙ ap is_holding holding) in
-              absurd (cc)
-          | inr back ↦
-              let P : List (ℕ × ℕ) → Type 0 = λ q. Contains q (i, back.0) in
-              priced_has price r.answers i back.0 (subst P (sym c.fitting.each) (has_all r.gathered its.0 its.1 (i, back.0) its.2 (subst P (ap handed entries) back.1)))
-        ]
+        came_back_from i taker.0 all (taker_made count r.made taker.0 i steps (opening count) c.one_list.below taker.1) taker.1
 
     -- the same, of a row of `n` places and answers that are the root's
     module _ (n : ℕ) (own : List (ℕ × A)) (same : n ≡ count) (its_own : own ≡ r.answers) where

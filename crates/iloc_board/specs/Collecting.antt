@@ -1,8 +1,6 @@
 -- What is found when a board is closed.
 use Rattle.std.specs.Prelude.{◌≡◌, ◌≢◌, ℕ, ◌<◌, true, false, ◌==◌, cond, List, [], ◌∷◌, length, map, slice_get, slice_index, Some}
-use Rattle.std.specs.List.{Contains, list_any}
-use mathlib.Core.Option.{some}
-use lib.ListN.{get_elem?}
+use Rattle.std.specs.List.{All, Contains, list_any}
 use Rattle.iloc_board.specs.declared.step.Step.{Step}
 use Rattle.iloc_board.specs.declared.step.Reply.TheVariants.{NotNow}
 use Rattle.iloc_board.specs.declared.step.Entry.{Entry}
@@ -23,16 +21,22 @@ abbrev pub AllAnswered : List Entry → Type 0
 AllAnswered [] = Unit {0}
 AllAnswered (e ∷ es) = (e.reply ≢ NotNow) × AllAnswered es
 
--- no worker stands twice
-abbrev pub Apart : List Journal → Type 0
-Apart js = (a b : ℕ) (i j : Journal) → get_elem? js a ≡ some i → get_elem? js b ≡ some j → i.worker ≡ j.worker → a ≡ b
+-- no number stands twice
+abbrev pub NoneTwice : List ℕ → Type 0
+NoneTwice [] = Unit {0}
+NoneTwice (x ∷ xs) = (list_any (λ y. x == y) xs ≡ false) × NoneTwice xs
 
--- one list of steps, by workers that were made, none forbidden, of which each gathered journal is all that its worker did; each take in it is of the job looked at, and no job is taken twice
+-- the workers of these journals
+abbrev pub workers_of : List Journal → List ℕ
+workers_of journals = map (λ j. j.worker) journals
+
+-- One list of steps, by workers that were made, none forbidden, of which each gathered journal is all that its worker
+-- did, and no worker's was gathered twice; each take in it is of the job looked at, and no job is taken twice.
 pub record IsOneList (count made : ℕ) (gathered : List Journal) (steps : List Step) : Type 0 where
   pub below : AllMade made steps
   pub answered : AllAnswered (played count (opening count) steps)
-  pub journals : (i : ℕ) (j : Journal) → get_elem? gathered i ≡ some j → entries_of j.worker (played count (opening count) steps) ≡ j.entries
-  pub apart : Apart gathered
+  pub journals : All (λ j. entries_of j.worker (played count (opening count) steps) ≡ j.entries) gathered
+  pub apart : NoneTwice (workers_of gathered)
   pub exact : IsExact count (opening count) steps
   pub once : TakesEachOnce count steps
 
@@ -40,11 +44,6 @@ pub record IsOneList (count made : ℕ) (gathered : List Journal) (steps : List 
 pub data Said (A : Type 0) : Type 0 where
   answer : A → Said A
   only_cost : ℕ → Said A
-
--- no number stands twice
-abbrev pub NoneTwice : List ℕ → Type 0
-NoneTwice [] = Unit {0}
-NoneTwice (x ∷ xs) = (list_any (λ y. x == y) xs ≡ false) × NoneTwice xs
 
 module _ {A : Type 0} where
   abbrev pub said_in : List (ℕ × A) → ℕ → ℕ → Said A
@@ -75,6 +74,6 @@ module _ {A : Type 0} where
 
 -- all passes that were made were gathered, none of them holds a job, and one was told that none is left
 pub record IsWhole (made : ℕ) (gathered : List Journal) : Type 0 where
-  pub all : (w : ℕ) → w < made → (i : ℕ) × (j : Journal) × (get_elem? gathered i ≡ some j) × (j.worker ≡ w)
-  pub idle : (i : ℕ) (j : Journal) → get_elem? gathered i ≡ some j → is_holding (state_of j.entries) ≡ false
-  pub told : (i : ℕ) × (j : Journal) × (get_elem? gathered i ≡ some j) × (saw_none j.entries ≡ true)
+  pub all : (w : ℕ) → w < made → Contains (workers_of gathered) w
+  pub idle : All (λ j. is_holding (state_of j.entries) ≡ false) gathered
+  pub told : list_any (λ j. saw_none j.entries) gathered ≡ true

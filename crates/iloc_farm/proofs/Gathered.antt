@@ -1,36 +1,26 @@
 -- Where all passes came back done, nothing is missing.
-use Rattle.std.proofs.Common.{◌≡◌, ℕ, zero, suc, ◌+◌, ◌<◌, List, [], ◌∷◌, map, refl, ap, sym, ◌∙◌, subst, arith}
-use Rattle.std.specs.List.{All, range_with_len}
-use Rattle.std.proofs.lemmas.List.Elements.{All-head, All-tail, All-map, All-same}
-use mathlib.Core.Option.{some, some-injective, some-ne-none}
-use lib.ListN.{get_elem?}
+use Rattle.std.proofs.Common.{◌≡◌, ℕ, ◌<◌, true, false, List, [], ◌∷◌, length, map, refl, ap, sym, ◌∙◌, subst, arith}
+use Rattle.std.specs.List.{All, Contains, list_any, range_with_len}
+use Rattle.std.proofs.lemmas.List.{length-map}
+use Rattle.std.proofs.lemmas.List.Elements.{All-head, All-map, All-same, All-weaker}
+use Rattle.std.proofs.lemmas.List.FromFn.{get_or-range_with_len, length-range_with_len}
 use Rattle.iloc_board.specs.Core.{is_holding}
-use Rattle.iloc_board.specs.Journal.{JournalView}
+use Rattle.iloc_board.specs.Journal.{JournalView, state_of, saw_none}
 use Rattle.iloc_board.specs.Working.{IsDone}
-use Rattle.iloc_board.specs.Collecting.{IsWhole}
+use Rattle.iloc_board.specs.Collecting.{workers_of, IsWhole}
 
--- the journal with the number a + i
-found : (js : List JournalView) (a n : ℕ) → map (λ (j : JournalView). j.worker) js ≡ range_with_len a n → All IsDone js → (i : ℕ) → i < n → (j : JournalView) × (get_elem? js i ≡ some j) × (j.worker ≡ a + i) × IsDone j
-found [] a zero e h i lt = absurd (omega arith)
-found [] a (suc n) e h i lt = absurd (cc)
-found (j ∷ js) a zero e h i lt = absurd (omega arith)
-found (j ∷ js) a (suc n) e h zero lt = let first : j.worker ≡ a = cc in (j, refl, omega arith, All-head IsDone j js h)
-found (j ∷ js) a (suc n) e h (suc i) lt =
-    let rest : map (λ (k : JournalView). k.worker) js ≡ range_with_len (a + 1) n = cc in
-    let f = found js (a + 1) n rest (All-tail IsDone j js h) i (omega arith) in
-    let w : f.0.worker ≡ a + 1 + i = f.2 in
-    (f.0, f.1, omega arith, f.3)
+in_range : (n w : ℕ) → w < n → Contains (range_with_len 0 n) w
+in_range n w below = let here = get_or-range_with_len 0 n w w below in (w, omega (arith, length-range_with_len 0 n), omega arith)
 
-done_at : (js : List JournalView) (i : ℕ) (j : JournalView) → All IsDone js → get_elem? js i ≡ some j → IsDone j
-done_at [] i j h e = absurd (some-ne-none j (sym e))
-done_at (k ∷ js) zero j h e = let P : JournalView → Type 0 = λ z. IsDone z in subst P (some-injective k j e) (All-head IsDone k js h)
-done_at (k ∷ js) (suc i) j h e = done_at js i j (All-tail IsDone k js h) e
+first_told : (js : List JournalView) → All IsDone js → 0 < length js → list_any (λ (j : JournalView). saw_none j.entries) js ≡ true
+first_told [] h some = absurd (omega arith)
+first_told (j ∷ js) h some = rw (All-head IsDone j js h).told refl
 
-whole_in : (js : List JournalView) (made : ℕ) → map (λ (j : JournalView). j.worker) js ≡ range_with_len 0 made → All IsDone js → 0 < made → IsWhole made js
+whole_in : (js : List JournalView) (made : ℕ) → workers_of js ≡ range_with_len 0 made → All IsDone js → 0 < made → IsWhole made js
 whole_in js made e h some_made = record {
-  all = λ w lt. let f = found js 0 made e h w lt in let n : f.0.worker ≡ 0 + w = f.2 in (w, f.0, f.1, omega arith);
-  idle = λ i j at. ap is_holding (done_at js i j h at).free;
-  told = let f = found js 0 made e h 0 some_made in (0, f.0, f.1, f.3.told);
+  all = λ w below. let P : List ℕ → Type 0 = λ ws. Contains ws w in subst P (sym e) (in_range made w below);
+  idle = All-weaker IsDone (λ j. is_holding (state_of j.entries) ≡ false) (λ j done. ap is_holding done.free) js h;
+  told = first_told js h (let n = ap length e in omega (arith, length-map js (λ (j : JournalView). j.worker), length-range_with_len 0 made));
 }
 
 map-map : {A B C : Type 0} (f : A → B) (g : B → C) (xs : List A) → map g (map f xs) ≡ map (λ x. g (f x)) xs

@@ -10,7 +10,7 @@ use Rattle.iloc_meaning.specs.Memory.{word_at}
 use Rattle.iloc_meaning.specs.Effect.{effect}
 use Rattle.iloc_meaning.specs.Trace.{Executed, register_after, word_after, then_executed}
 use Rattle.iloc_meaning.specs.Outcome.{has_fault, emitted}
-use Rattle.iloc_meaning.specs.Scratch.{Words}
+use Rattle.iloc_meaning.specs.Scratch.{ScratchView}
 use Rattle.iloc_meaning.specs.Registers.{Values, value_of, ChangesOnly}
 use Rattle.iloc_meaning.specs.Steps.Machine.{Follows}
 use Rattle.iloc_meaning.proofs.Cases.{by_bool}
@@ -41,7 +41,7 @@ after_result memory trace machine op result r new follows is register changes =
     }
 
 -- an operation that writes
-pub after_write : (memory : List ℤ) (trace : List Executed) (machine : Machine) (op : Op) (a : ℕ) (w : ℤ) (new : Words) → Follows memory trace machine → Writes a w ≡ effect op (value_of machine.registers) (word_at machine.memory.words) → new.first ≡ machine.memory.first → new.words ≡ set machine.memory.words (a / 4) w → Follows memory (then_executed memory op trace) (record machine { memory = new })
+pub after_write : (memory : List ℤ) (trace : List Executed) (machine : Machine) (op : Op) (a : ℕ) (w : ℤ) (new : ScratchView) → Follows memory trace machine → Writes a w ≡ effect op (value_of machine.registers) (word_at machine.memory.words) → new.first ≡ machine.memory.first → new.words ≡ set machine.memory.words (a / 4) w → Follows memory (then_executed memory op trace) (record machine { memory = new })
 after_write memory trace machine op a w new follows is kept written =
     rw (effect_after memory trace machine op follows, ← is) record {
       size = follows.size;

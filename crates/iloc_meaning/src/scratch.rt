@@ -24,10 +24,10 @@ pub struct Scratch {
 }
 
 impl Model for Scratch {
-    ghost use Rattle.iloc_meaning.specs.Scratch.{Words};
+    ghost use Rattle.iloc_meaning.specs.Scratch.{ScratchView};
     ghost use Rattle.iloc_meaning.specs.Steps.Scratch.{put_back, AreReplaced};
 
-    ghost Value = { Words };
+    ghost Value = { ScratchView };
 
     ghost view = { λ s. record { first = put_back s.replaced.items s.memory; words = s.memory } };
 

@@ -1,5 +1,5 @@
 -- Where sources come from, and that the numbering of a block has each that one of its operations mentions.
-use Rattle.std.proofs.Common.{◌≡◌, ℕ, zero, suc, ◌<◌, List, [], ◌∷◌, length, map, Some, refl, ap, arith, inl, inr}
+use Rattle.std.proofs.Common.{◌≡◌, ℕ, zero, suc, ◌<◌, List, [], length, map, Some, refl, arith, inl, inr}
 use Rattle.std.proofs.lemmas.Bool.{cases_eq}
 use Rattle.std.proofs.lemmas.List.FromFn.{get_or-map-range_with_len, length-map-range_with_len}
 use Rattle.iloc_text.specs.declared.op.Reg.{Reg}
@@ -12,6 +12,7 @@ use Rattle.iloc_sched.specs.Renaming.{Source, source, own_source, mentions, ment
 use Rattle.iloc_sched.specs.Renaming.Source.{Result}
 use Rattle.iloc_sched.specs.Steps.Naming.{Stands}
 use Rattle.iloc_sched.proofs.Members.{In}
+use Rattle.iloc_sched.proofs.ListFacts.{in_map}
 use Rattle.iloc_sched.proofs.Sources.{is_source-refl, stands_in, stands_left, stands_right, stands_struck}
 
 -- a result that an operation reads is that of an earlier one
@@ -21,11 +22,6 @@ source_earlier ops (suc i) j r is =
     by_bool (is_register r (defined (op_at ops i)))
     (λ t. let here : Result i ≡ Result j = rw t at is in let same : i ≡ j = cc in omega arith)
     (λ t. let earlier : j < i = source_earlier ops i j r (rw t at is) in omega arith)
-
-pub in_map : {X Y : Type 0} (f : X → Y) (xs : List X) (x : X) → In xs x → In (map f xs) (f x)
-in_map f [] x there = absurd there
-in_map f (y ∷ ys) x (inl here) = inl (ap f here)
-in_map f (y ∷ ys) x (inr there) = inr (in_map f ys x there)
 
 mention_stands : (ops : List Op) (n i : ℕ) (s : Source) → i < n → Stands (mentions ops i) s → Stands (mentions_before ops n) s
 mention_stands ops zero i s below there = absurd (omega arith)

@@ -1,29 +1,8 @@
 -- Lists in which a relation holds of each element and each later one.
-use Rattle.std.proofs.Common.{◌≡◌, ℕ, zero, suc, ◌<◌, ◌⊎◌, List, [], ◌∷◌, ◌++◌, length, map, get_or, refl, arith, inl, inr}
+use Rattle.std.proofs.Common.{ℕ, zero, suc, ◌<◌, List, [], ◌∷◌, ◌++◌, length, map, get_or, refl, arith, inl, inr}
 use Rattle.std.specs.List.{AllPairs}
 use Rattle.iloc_sched.proofs.Members.{In}
-
-pub in_left : {X : Type 0} (xs ys : List X) (x : X) → In xs x → In (xs ++ ys) x
-in_left [] ys x there = absurd there
-in_left (z ∷ xs) ys x (inl here) = inl here
-in_left (z ∷ xs) ys x (inr there) = inr (in_left xs ys x there)
-
-pub in_right : {X : Type 0} (xs ys : List X) (x : X) → In ys x → In (xs ++ ys) x
-in_right [] ys x there = there
-in_right (z ∷ xs) ys x there = inr (in_right xs ys x there)
-
-pub from_append : {X : Type 0} (xs ys : List X) (x : X) → In (xs ++ ys) x → In xs x ⊎ In ys x
-from_append [] ys x there = inr there
-from_append (z ∷ xs) ys x (inl here) = inl (inl here)
-from_append (z ∷ xs) ys x (inr there) = elim (from_append xs ys x there) [
-  | inl left ↦ inl (inr left)
-  | inr right ↦ inr right
-]
-
-pub from_map : {X Y : Type 0} (f : X → Y) (xs : List X) (y : Y) → In (map f xs) y → (x : X) × In xs x × (f x ≡ y)
-from_map f [] y there = absurd there
-from_map f (x ∷ xs) y (inl here) = (x, inl refl, here)
-from_map f (x ∷ xs) y (inr there) = let rest = from_map f xs y there in (rest.0, inr rest.1, rest.2)
+use Rattle.iloc_sched.proofs.ListFacts.{from_append, from_map}
 
 -- R holds of each element and each later one
 abbrev pub Ordered : {X : Type 0} → (X → X → Type 0) → List X → Type 0

@@ -12,8 +12,8 @@ use Rattle.iloc_sched.specs.declared.delay_pairs.Pair.{Pair}
 use Rattle.iloc_sched.specs.Delays.{delays, IsDelayPair}
 use Rattle.iloc_sched.specs.Pairs.{ComesBefore, rising, with_delays, pairs_from, pairs_before, pairs}
 use Rattle.iloc_sched.proofs.Members.{In, in_from, contains_from}
-use Rattle.iloc_sched.proofs.Numbering.{in_map}
-use Rattle.iloc_sched.proofs.Ordered.{in_left, in_right, from_append, from_map, Ordered, all_pairs, ordered_append, ordered_map}
+use Rattle.iloc_sched.proofs.ListFacts.{in_left, in_right, in_map, from_append, from_map}
+use Rattle.iloc_sched.proofs.Ordered.{Ordered, all_pairs, ordered_append, ordered_map}
 use Rattle.iloc_sched.proofs.RisingDelays.{Below, rising_ordered, from_rising, in_rising}
 
 -- p is a pair to operation j

@@ -14,7 +14,8 @@ use Rattle.iloc_sched.specs.Renaming.{Source, is_source, source, own_source, num
 use Rattle.iloc_sched.specs.Renaming.Source.{Result}
 use Rattle.iloc_sched.specs.Steps.Naming.{Stands, also, also_all, Follows, NamesNext, Named, numbering_with, UsesNamed, next_renamed}
 use Rattle.iloc_sched.proofs.Members.{In}
-use Rattle.iloc_sched.proofs.Numbering.{in_map, use_numbered, definition_numbered, length-renamed_by}
+use Rattle.iloc_sched.proofs.ListFacts.{in_map}
+use Rattle.iloc_sched.proofs.Numbering.{use_numbered, definition_numbered, length-renamed_by}
 use Rattle.iloc_sched.proofs.SameOutcome.{same_function}
 use Rattle.iloc_sched.proofs.Naming.{place_new, define_new}
 use Rattle.iloc_sched.proofs.Walks.{map_same, op_at_kept, op_at_last, source_kept, length_more, also_all-append, numbering_more, name_also_all, used_stands}

@@ -2,11 +2,13 @@
 ghost use Rattle.std.specs.Prelude.{◌≡◌, ◌∷◌};
 ghost use Rattle.iloc_text.specs.Steps.Lines.{line_end, lines_of, lines_left};
 
+use memchr::memchr;
+
 /// The place of the first line end.
 fn line_end(text: &[u8]) -> Option<usize>
     ensures { result ≡ line_end text.now }
 {
-    text.iter().position(|byte| *byte == b'\n')
+    memchr(b'\n', text)
 }
 
 /// The line before the first line end, and what stands behind that line end, if there is one.

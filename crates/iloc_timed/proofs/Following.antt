@@ -9,7 +9,7 @@ use Rattle.iloc_meaning.specs.declared.effect.Effect.TheVariants.{Faults, Gives,
 use Rattle.iloc_meaning.specs.Address.{is_good}
 use Rattle.iloc_meaning.specs.Memory.{word_at}
 use Rattle.iloc_meaning.specs.Registers.{Values, value_of}
-use Rattle.iloc_meaning.specs.Scratch.{Words}
+use Rattle.iloc_meaning.specs.Scratch.{ScratchView}
 use Rattle.iloc_meaning.specs.Effect.{effect}
 use Rattle.iloc_meaning.specs.Outcome.{is_fault, has_fault, emitted_by}
 use Rattle.iloc_meaning.proofs.Effects.{effect_same, results_go}
@@ -33,7 +33,7 @@ all_land_later c d [] later all = tt
 all_land_later c d (e ∷ earlier) later all = (omega (arith, all.0), all.1, all_land_later c d earlier later all.2)
 
 -- what is due at cycle c has landed
-pub after_landing : (memory : List ℤ) (c : ℕ) (log : List Issued) (machine : Machine) (due : List Pending) (registers : Values) (memory_then : Words) (wheel : List (List Pending)) → Follows memory c log machine → due ≡ list_at machine.wheel c → ((r : Reg) → value_of registers r ≡ fold (landed_in_register r) (value_of machine.registers r) due) → ((a : ℕ) → IsTrue (is_good (pos a)) → word_at memory_then.words a ≡ fold (landed_in_word a) (word_at machine.memory.words a) due) → length memory_then.words ≡ length machine.memory.words → wheel ≡ set machine.wheel (c % 16) [] → Follows memory (c + 1) log (record machine { registers = registers; memory = memory_then; wheel = wheel })
+pub after_landing : (memory : List ℤ) (c : ℕ) (log : List Issued) (machine : Machine) (due : List Pending) (registers : Values) (memory_then : ScratchView) (wheel : List (List Pending)) → Follows memory c log machine → due ≡ list_at machine.wheel c → ((r : Reg) → value_of registers r ≡ fold (landed_in_register r) (value_of machine.registers r) due) → ((a : ℕ) → IsTrue (is_good (pos a)) → word_at memory_then.words a ≡ fold (landed_in_word a) (word_at machine.memory.words a) due) → length memory_then.words ≡ length machine.memory.words → wheel ≡ set machine.wheel (c % 16) [] → Follows memory (c + 1) log (record machine { registers = registers; memory = memory_then; wheel = wheel })
 after_landing memory c log machine due registers memory_then wheel follows is register word size turned =
     let all : due ≡ due_at c log = is ∙ follows.under_way.due c (omega arith) (omega arith) in
     record {

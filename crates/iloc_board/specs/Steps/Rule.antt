@@ -14,7 +14,7 @@ use Rattle.iloc_board.specs.declared.seat_view.SeatView.{SeatView}
 use Rattle.iloc_board.specs.Core.{opening, played, found, missed}
 use Rattle.iloc_board.specs.Journal.{journal_of, entries_of, seen, seen_in, noted}
 use Rattle.iloc_board.specs.Play.{final}
-use Rattle.iloc_board.specs.Collecting.{AllMade, AllAnswered, Apart}
+use Rattle.iloc_board.specs.Collecting.{AllMade, AllAnswered}
 
 abbrev pub TableState : Type 0
 TableState = table.State (Unit {0}) SeatView
@@ -41,6 +41,10 @@ pub record FitsPass (count : ℕ) (steps : List Step) (seat : ℕ) (v : SeatView
   pub place : seat ≡ suc v.journal.worker
   pub counts : v.count ≡ count
   pub tells : Tells count steps v.journal
+
+-- no worker stands at two places
+abbrev pub Apart : List Journal → Type 0
+Apart js = (a b : ℕ) (i j : Journal) → get_elem? js a ≡ some i → get_elem? js b ≡ some j → i.worker ≡ j.worker → a ≡ b
 
 -- the root has the seat 0; where a pass was gathered, its seat is spent
 pub record FitsRoot (count made : ℕ) (steps : List Step) (seats : List SeatView) (seat : ℕ) (v : SeatView) : Type 0 where
