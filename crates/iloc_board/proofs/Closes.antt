@@ -38,12 +38,17 @@ use Rattle.iloc_board.proofs.Lists.{contains_none, contains_here, contains_later
 use Rattle.iloc_board.proofs.Retires.{Retired, retired_final}
 
 module _ {B : Type 0} where
-  set_cases : (l : List B) (i j : ℕ) (b y : B) → slice_get (slice_set l i b) j ≡ Some y → ((j ≡ i) × (b ≡ y)) ⊎ (slice_get l j ≡ Some y)
+  set_cases : (l : List B) (i j : ℕ) (b y : B) → slice_get (slice_set l i b) j ≡ Some y → ((j ≡ i) × (b ≡ y))
+      ⊎ (slice_get l j ≡ Some y)
   set_cases [] i j b y e = inr e
   set_cases (x ∷ xs) zero zero b y e = inl (refl, cc)
   set_cases (x ∷ xs) zero (suc j) b y e = inr e
   set_cases (x ∷ xs) (suc i) zero b y e = inr e
-  set_cases (x ∷ xs) (suc i) (suc j) b y e = elim (set_cases xs i j b y e) [ inl h ↦ inl (ap suc h.0, h.1) | inr h ↦ inr h ]
+  set_cases (x ∷ xs) (suc i) (suc j) b y e = elim (set_cases xs i j b y e) [
+    | inl h ↦ inl (ap suc h.0, h.1)
+    | inr h ↦
+        inr h
+  ]
 
   mapped : (xs : List B) (i : ℕ) (b : B) → slice_get xs i ≡ Some b → slice_get (map (λ x. Some x) xs) i ≡ Some (Some b)
   mapped [] i b e = absurd (cc)
@@ -56,7 +61,8 @@ module _ {A : Type 0} where
   length-placed row [] = refl
   length-placed row (x ∷ xs) = length-placed (slice_set row x.0 (Some x.1)) xs ∙ length-set row x.0 (Some x.1)
 
-  placed_has : (row : List (Option A)) (xs : List (ℕ × A)) (i : ℕ) (a : A) → slice_get (placed row xs) i ≡ Some (Some a) → Contains xs (i, a) ⊎ (slice_get row i ≡ Some (Some a))
+  placed_has : (row : List (Option A)) (xs : List (ℕ × A)) (i : ℕ) (a : A) → slice_get (placed row xs) i ≡ Some (Some a)
+      → Contains xs (i, a) ⊎ (slice_get row i ≡ Some (Some a))
   placed_has row [] i a e = inr e
   placed_has row (x ∷ xs) i a e =
       elim (placed_has (slice_set row x.0 (Some x.1)) xs i a e) [
@@ -67,22 +73,30 @@ module _ {A : Type 0} where
         ]
       ]
 
-  some_stays : (row : List (Option A)) (xs : List (ℕ × A)) (i : ℕ) (a : A) → slice_get row i ≡ Some (Some a) → (b : A) × (slice_get (placed row xs) i ≡ Some (Some b))
+  some_stays : (row : List (Option A)) (xs : List (ℕ × A)) (i : ℕ) (a : A) → slice_get row i ≡ Some (Some a)
+      → (b : A) × (slice_get (placed row xs) i ≡ Some (Some b))
   some_stays row [] i a e = (a, e)
   some_stays row (x ∷ xs) i a e =
       elim (cases_eq i x.0) [
-        | inl p ↦ some_stays (slice_set row x.0 (Some x.1)) xs i x.1 (ap (λ k. slice_get (slice_set row x.0 (Some x.1)) k) p ∙ get_set_same row x.0 (Some x.1) (let lt : i < length row = slice_get_within row i (Some a) e in omega arith))
+        | inl p ↦ some_stays (slice_set row x.0 (Some x.1)) xs i x.1
+            (ap (λ k. slice_get (slice_set row x.0 (Some x.1)) k) p
+            ∙ get_set_same row x.0 (Some x.1) (let lt : i < length row = slice_get_within row i (Some a) e in
+            omega arith))
         | inr ne ↦ some_stays (slice_set row x.0 (Some x.1)) xs i a (get_set_other row x.0 i (Some x.1) ne ∙ e)
       ]
 
-  placed_some : (row : List (Option A)) (xs : List (ℕ × A)) (i : ℕ) (a : A) → i < length row → Contains xs (i, a) → (b : A) × (slice_get (placed row xs) i ≡ Some (Some b))
+  placed_some : (row : List (Option A)) (xs : List (ℕ × A)) (i : ℕ) (a : A) → i < length row → Contains xs (i, a)
+      → (b : A) × (slice_get (placed row xs) i ≡ Some (Some b))
   placed_some row [] i a lt h = absurd (contains_none (i, a) h)
   placed_some row (x ∷ xs) i a lt h =
       elim (contains_cases x xs (i, a) h) [
         | inl e ↦
             let job : x.0 ≡ i = ap (λ (z : ℕ × A). z.0) e in
-            some_stays (slice_set row x.0 (Some x.1)) xs i x.1 (ap (λ k. slice_get (slice_set row x.0 (Some x.1)) k) (sym job) ∙ get_set_same row x.0 (Some x.1) (omega arith))
-        | inr r ↦ placed_some (slice_set row x.0 (Some x.1)) xs i a (let e : length (slice_set row x.0 (Some x.1)) ≡ length row = length-set row x.0 (Some x.1) in omega arith) r
+            some_stays (slice_set row x.0 (Some x.1)) xs i x.1
+            (ap (λ k. slice_get (slice_set row x.0 (Some x.1)) k) (sym job)
+            ∙ get_set_same row x.0 (Some x.1) (omega arith))
+        | inr r ↦ placed_some (slice_set row x.0 (Some x.1)) xs i a (let e : length (slice_set row x.0 (Some x.1))
+            ≡ length row = length-set row x.0 (Some x.1) in omega arith) r
       ]
 
   none_placed : (n i : ℕ) (a : A) → slice_get (replicate n None) i ≡ Some (Some a) → ⊥
@@ -91,7 +105,8 @@ module _ {A : Type 0} where
   none_placed (suc n) (suc i) a e = none_placed n i a e
 
   -- an answer and its cost
-  priced_has : (price : A → ℕ) (xs : List (ℕ × A)) (k c : ℕ) → Contains (priced price xs) (k, c) → (a : A) × Contains xs (k, a)
+  priced_has : (price : A → ℕ) (xs : List (ℕ × A)) (k c : ℕ) → Contains (priced price xs) (k, c)
+      → (a : A) × Contains xs (k, a)
   priced_has price [] k c h = absurd (contains_none (k, c) h)
   priced_has price (x ∷ xs) k c h =
       elim (contains_cases (x.0, price x.1) (priced price xs) (k, c) h) [
@@ -99,7 +114,8 @@ module _ {A : Type 0} where
         | inr r ↦ let p = priced_has price xs k c r in (p.0, contains_later x xs (k, p.0) p.1)
       ]
 
-  has_priced : (price : A → ℕ) (xs : List (ℕ × A)) (k : ℕ) (a : A) → Contains xs (k, a) → Contains (priced price xs) (k, price a)
+  has_priced : (price : A → ℕ) (xs : List (ℕ × A)) (k : ℕ) (a : A) → Contains xs (k, a)
+      → Contains (priced price xs) (k, price a)
   has_priced price [] k a h = absurd (contains_none (k, a) h)
   has_priced price (x ∷ xs) k a h =
       let first : ℕ × ℕ = (x.0, price x.1) in
@@ -108,7 +124,8 @@ module _ {A : Type 0} where
         | inr r ↦ contains_later first (priced price xs) (k, price a) (has_priced price xs k a r)
       ]
 
-  fits_has : (fits : ℕ → A → Type 0) (xs : List (ℕ × A)) (k : ℕ) (a : A) → AllFit fits xs → Contains xs (k, a) → fits k a
+  fits_has : (fits : ℕ → A → Type 0) (xs : List (ℕ × A)) (k : ℕ) (a : A) → AllFit fits xs → Contains xs (k, a)
+      → fits k a
   fits_has fits [] k a f h = absurd (contains_none (k, a) h)
   fits_has fits (x ∷ xs) k a f h =
       elim (contains_cases x xs (k, a) h) [
@@ -120,17 +137,20 @@ module _ {A : Type 0} where
   jobs_priced price [] = refl
   jobs_priced price (x ∷ xs) = ap (λ t. x.0 ∷ t) (jobs_priced price xs)
 
-  said_fits : (fits : ℕ → A → Type 0) (xs : List (ℕ × A)) → AllFit fits xs → (k cost : ℕ) → FitsSaid fits k (said_in xs k cost)
+  said_fits : (fits : ℕ → A → Type 0) (xs : List (ℕ × A)) → AllFit fits xs → (k cost : ℕ)
+      → FitsSaid fits k (said_in xs k cost)
   said_fits fits [] f k cost = tt
   said_fits fits (x ∷ xs) f k cost = go (k == x.0) refl (said_fits fits xs f.1 k cost)
     where
-      go : (b : Bool) → (k == x.0) ≡ b → FitsSaid fits k (said_in xs k cost) → FitsSaid fits k (cond b (answer x.1) (said_in xs k cost))
+      go : (b : Bool) → (k == x.0) ≡ b → FitsSaid fits k (said_in xs k cost)
+          → FitsSaid fits k (cond b (answer x.1) (said_in xs k cost))
       go true e rest = let P : ℕ → Type 0 = λ j. fits j x.1 in subst P (sym (eqb-true k x.0 e)) f.0
       go false e rest = rest
 
 -- Journals by their places
 
-all_from : (P : Journal → Type 0) (js : List Journal) → ((i : ℕ) (j : Journal) → get_elem? js i ≡ some j → P j) → All P js
+all_from : (P : Journal → Type 0) (js : List Journal) → ((i : ℕ) (j : Journal) → get_elem? js i ≡ some j → P j)
+    → All P js
 all_from P [] each = All-nil P
 all_from P (j ∷ js) each = All-cons P j js (each 0 j refl) (all_from P js (λ i k e. each (suc i) k e))
 
@@ -140,9 +160,11 @@ at_place P (k ∷ js) zero j each e = subst P (some-injective k j e) (All-head P
 at_place P (k ∷ js) (suc i) j each e = at_place P js i j (All-tail P k js each) e
 
 -- where no worker stands at two places, none stands twice
-other_workers : (w : ℕ) (js : List Journal) → ((i : ℕ) (j : Journal) → get_elem? js i ≡ some j → w ≢ j.worker) → list_any (λ y. w == y) (workers_of js) ≡ false
+other_workers : (w : ℕ) (js : List Journal) → ((i : ℕ) (j : Journal) → get_elem? js i ≡ some j → w ≢ j.worker)
+    → list_any (λ y. w == y) (workers_of js) ≡ false
 other_workers w [] other = refl
-other_workers w (j ∷ js) other = or_from (w == j.worker) _ (ne_eqb w j.worker (other 0 j refl)) (other_workers w js (λ i k e. other (suc i) k e))
+other_workers w (j ∷ js) other = or_from (w == j.worker) _ (ne_eqb w j.worker (other 0 j refl))
+    (other_workers w js (λ i k e. other (suc i) k e))
 
 none_twice_from : (js : List Journal) → Apart js → NoneTwice (workers_of js)
 none_twice_from [] apart = tt
@@ -152,7 +174,8 @@ none_twice_from (j ∷ js) apart = (
 )
 
 -- the place of a worker's journal
-place_of : (js : List Journal) (w : ℕ) → Contains (workers_of js) w → (i : ℕ) × (j : Journal) × (get_elem? js i ≡ some j) × (j.worker ≡ w)
+place_of : (js : List Journal) (w : ℕ) → Contains (workers_of js) w → (i : ℕ) × (j : Journal)
+    × (get_elem? js i ≡ some j) × (j.worker ≡ w)
 place_of [] w h = absurd (contains_none w h)
 place_of (j ∷ js) w h =
     elim (contains_cases j.worker (workers_of js) w h) [
@@ -161,7 +184,8 @@ place_of (j ∷ js) w h =
     ]
 
 -- the place of a journal that passes a test
-place_of_any : (test : Journal → Bool) (js : List Journal) → list_any test js ≡ true → (i : ℕ) × (j : Journal) × (get_elem? js i ≡ some j) × (test j ≡ true)
+place_of_any : (test : Journal → Bool) (js : List Journal) → list_any test js ≡ true → (i : ℕ) × (j : Journal)
+    × (get_elem? js i ≡ some j) × (test j ≡ true)
 place_of_any test [] h = absurd (cc)
 place_of_any test (j ∷ js) h =
     elim (or_cases (test j) (list_any test js) h) [
@@ -170,7 +194,8 @@ place_of_any test (j ∷ js) h =
     ]
 
 -- the journals and all that they handed back
-all_has : (js : List Journal) (p : ℕ × ℕ) → Contains (all_handed js) p → (i : ℕ) × (j : Journal) × (get_elem? js i ≡ some j) × Contains (handed j.entries) p
+all_has : (js : List Journal) (p : ℕ × ℕ) → Contains (all_handed js) p → (i : ℕ) × (j : Journal)
+    × (get_elem? js i ≡ some j) × Contains (handed j.entries) p
 all_has [] p h = absurd (contains_none p h)
 all_has (j ∷ js) p h =
     elim (Contains-append_cases (handed j.entries) (all_handed js) p h) [
@@ -178,7 +203,8 @@ all_has (j ∷ js) p h =
       | inr q ↦ let r = all_has js p q in (suc r.0, r.1, r.2, r.3)
     ]
 
-has_all : (js : List Journal) (i : ℕ) (j : Journal) (p : ℕ × ℕ) → get_elem? js i ≡ some j → Contains (handed j.entries) p → Contains (all_handed js) p
+has_all : (js : List Journal) (i : ℕ) (j : Journal) (p : ℕ × ℕ) → get_elem? js i ≡ some j
+    → Contains (handed j.entries) p → Contains (all_handed js) p
 has_all [] i j p e h = absurd (some-ne-none j (sym e))
 has_all (k ∷ js) zero j p e h =
     let P : Journal → Type 0 = λ z. Contains (handed z.entries) p in
@@ -186,21 +212,27 @@ has_all (k ∷ js) zero j p e h =
 has_all (k ∷ js) (suc i) j p e h = Contains-append_right (handed k.entries) (all_handed js) p (has_all js i j p e h)
 
 -- each job was handed back once
-handed_once : (c : Core) (taken : List (ℕ × ℕ)) (es : List Entry) → Retired c taken es → (js : List Journal) → Apart js → ((i : ℕ) (j : Journal) → get_elem? js i ≡ some j → entries_of j.worker es ≡ j.entries) → NoneTwice (jobs_of (all_handed js))
+handed_once : (c : Core) (taken : List (ℕ × ℕ)) (es : List Entry) → Retired c taken es → (js : List Journal) → Apart js
+    → ((i : ℕ) (j : Journal) → get_elem? js i ≡ some j → entries_of j.worker es ≡ j.entries)
+    → NoneTwice (jobs_of (all_handed js))
 handed_once c taken es h [] apart own = tt
 handed_once c taken es h (j ∷ js) apart own =
     let mine : handed (entries_of j.worker es) ≡ handed j.entries = ap handed (own 0 j refl) in
     let P : List (ℕ × ℕ) → Type 0 = λ q. NoneTwice (jobs_of q) in
-    none_twice-append (handed j.entries) (all_handed js) (subst P mine (h.twice j.worker)) (handed_once c taken es h js (λ a b x y e f g. let q : suc a ≡ suc b = apart (suc a) (suc b) x y e f g in omega arith) (λ i k e. own (suc i) k e))
+    none_twice-append (handed j.entries) (all_handed js) (subst P mine (h.twice j.worker))
+    (handed_once c taken es h js (λ a b x y e f g. let q : suc a ≡ suc b = apart (suc a) (suc b) x y e f g in
+    omega arith) (λ i k e. own (suc i) k e))
     (λ k a b x y.
     let r = all_has js (k, b) y in
     let Q : List (ℕ × ℕ) → Type 0 = λ q. Contains q (k, a) in
     let R : List (ℕ × ℕ) → Type 0 = λ q. Contains q (k, b) in
-    let same : j.worker ≡ r.1.worker = h.one j.worker r.1.worker k a b (subst Q (sym mine) x) (subst R (sym (ap handed (own (suc r.0) r.1 r.2))) r.3) in
+    let same : j.worker ≡ r.1.worker = h.one j.worker r.1.worker k a b (subst Q (sym mine) x)
+    (subst R (sym (ap handed (own (suc r.0) r.1 r.2))) r.3) in
     let q : 0 ≡ suc r.0 = apart 0 (suc r.0) j r.1 refl r.2 same in absurd (omega arith))
 
 -- who took a job
-took_from : (i : ℕ) (ps : List (ℕ × ℕ)) (a n : ℕ) → map (λ p. p.1) ps ≡ range_with_len a n → a ≤ i → i < a + n → (w : ℕ) × (is_out w i ps ≡ true)
+took_from : (i : ℕ) (ps : List (ℕ × ℕ)) (a n : ℕ) → map (λ p. p.1) ps ≡ range_with_len a n → a ≤ i → i < a + n
+    → (w : ℕ) × (is_out w i ps ≡ true)
 took_from i [] a zero e low high = absurd (omega arith)
 took_from i [] a (suc n) e low high = absurd (cc)
 took_from i (p ∷ ps) a zero e low high = absurd (omega arith)
@@ -208,25 +240,38 @@ took_from i (p ∷ ps) a (suc n) e low high =
     let first : p.1 ≡ a = cc in
     let rest : map (λ (q : ℕ × ℕ). q.1) ps ≡ range_with_len (a + 1) n = cc in
     elim (cases_eq i a) [
-      | inl here ↦ (p.0, or_left (is_pair p.0 i p) _ (and_from (p.0 == p.0) (i == p.1) (eq-eqb p.0 p.0 refl) (eq-eqb i p.1 (here ∙ sym first))))
-      | inr ne ↦ let r = took_from i ps (a + 1) n rest (omega arith) (omega arith) in (r.0, or_right (is_pair r.0 i p) _ r.1)
+      | inl here ↦ (
+        p.0,
+        or_left (is_pair p.0 i p) _
+            (and_from (p.0 == p.0) (i == p.1) (eq-eqb p.0 p.0 refl) (eq-eqb i p.1 (here ∙ sym first))),
+      )
+      | inr ne ↦ let r = took_from i ps (a + 1) n rest (omega arith) (omega arith) in
+          (r.0, or_right (is_pair r.0 i p) _ r.1)
     ]
 
 taker_is : (w k v : ℕ) (r : Reply) → is_out w k (taken_by v r) ≡ true → w ≡ v
-taker_is w k v (Took j) e = elim (or_cases (is_pair w k (v, j)) false e) [ inl p ↦ eqb-true w v (and_parts (w == v) (k == j) p).0 | inr p ↦ absurd (cc) ]
+taker_is w k v (Took j) e = elim (or_cases (is_pair w k (v, j)) false e) [
+  | inl p ↦
+      eqb-true w v (and_parts (w == v) (k == j) p).0
+  | inr p ↦ absurd (cc)
+]
 taker_is w k v (Block j) e = absurd (cc)
 taker_is w k v NoneLeft e = absurd (cc)
 taker_is w k v (Stale j) e = absurd (cc)
 taker_is w k v Handed e = absurd (cc)
 taker_is w k v NotNow e = absurd (cc)
 
-taker_made : (count made w k : ℕ) (xs : List Step) (c : Core) → AllMade made xs → is_out w k (takes (played count c xs)) ≡ true → w < made
+taker_made : (count made w k : ℕ) (xs : List Step) (c : Core) → AllMade made xs → is_out w k (takes (played count c xs))
+    ≡ true → w < made
 taker_made count made w k [] c h e = absurd (cc)
 taker_made count made w k (x ∷ xs) c h e =
     let r : Reply = reply_to count c x in
-    let f : (is_out w k (taken_by (worker_of x) r) || is_out w k (takes (played count (after count c x) xs))) ≡ true = sym (list_any-append (is_pair w k) (taken_by (worker_of x) r) (takes (played count (after count c x) xs))) ∙ e in
+    let f : (is_out w k (taken_by (worker_of x) r) || is_out w k (takes (played count (after count c x) xs))) ≡ true =
+    sym (list_any-append (is_pair w k) (taken_by (worker_of x) r) (takes (played count (after count c x) xs)))
+    ∙ e in
     elim (or_cases _ _ f) [
-      | inl p ↦ let same : w ≡ worker_of x = taker_is w k (worker_of x) r p in let lt : worker_of x < made = h.0 in omega arith
+      | inl p ↦ let same : w ≡ worker_of x = taker_is w k (worker_of x) r p in let lt : worker_of x < made = h.0 in
+          omega arith
       | inr p ↦ taker_made count made w k xs (after count c x) h.1 p
     ]
 
@@ -239,7 +284,8 @@ past : {A : Type 0} (xs : List A) (n : ℕ) → n < length xs → ((i : ℕ) (a 
 past xs n lt low = let q = there xs n lt in let h : n < n = low n q.0 q.1 in absurd (omega arith)
 
 -- where each job below the count is below the next, all are taken
-all_taken : {A : Type 0} (count n : ℕ) (answers : List A) → length answers ≡ count → n ≤ count → ((i : ℕ) (a : A) → slice_get answers i ≡ Some a → i < n) → n ≡ count
+all_taken : {A : Type 0} (count n : ℕ) (answers : List A) → length answers ≡ count → n ≤ count
+    → ((i : ℕ) (a : A) → slice_get answers i ≡ Some a → i < n) → n ≡ count
 all_taken count n answers long up low =
     elim (cases_lt n count) [
       | inl lt ↦ absurd (past answers n (omega arith) low)
@@ -247,7 +293,8 @@ all_taken count n answers long up low =
     ]
 
 module _ {J A : Type 0} (count : ℕ) (fits : ℕ → A → Type 0) (price : A → ℕ) where
-  pub closes : (id : ℕ) (me : Sat) (r : RootView J A) → IsRoot count fits price me r → (s : TableState) (k : IsKept count s) → get_elem? s.views id ≡ some me.0 → IsClosed count fits price r k.steps
+  pub closes : (id : ℕ) (me : Sat) (r : RootView J A) → IsRoot count fits price me r
+      → (s : TableState) (k : IsKept count s) → get_elem? s.views id ≡ some me.0 → IsClosed count fits price r k.steps
   closes id me r h s k at =
       let role : me.0.role ≡ Root = ap (λ (m : Sat). m.0.role) h.seat in
       let made : me.0.made ≡ r.made = ap (λ (m : Sat). m.0.made) h.seat in
@@ -262,7 +309,8 @@ module _ {J A : Type 0} (count : ℕ) (fits : ℕ → A → Type 0) (price : A �
         one_list = record {
           below = subst P (sym mine.made_is ∙ made) k.below;
           answered = k.answered;
-          journals = all_from (λ j. entries_of j.worker (played count (opening count) k.steps) ≡ j.entries) r.gathered (λ i j e. (tells i j e).entries);
+          journals = all_from (λ j. entries_of j.worker (played count (opening count) k.steps) ≡ j.entries) r.gathered
+              (λ i j e. (tells i j e).entries);
           apart = none_twice_from r.gathered apart;
           exact = laws.exact_play count k.steps;
           once = laws.once count k.steps;
@@ -274,7 +322,8 @@ module _ {J A : Type 0} (count : ℕ) (fits : ℕ → A → Type 0) (price : A �
 
   module _ (r : RootView J A) (steps : List Step) (c : IsClosed count fits price r steps) where
     -- an answer that was gathered, as its worker handed it back
-    its : (k : ℕ) (a : A) → Contains r.answers (k, a) → (w : ℕ) × Contains (handed (entries_of w (played count (opening count) steps))) (k, price a)
+    its : (k : ℕ) (a : A) → Contains r.answers (k, a)
+        → (w : ℕ) × Contains (handed (entries_of w (played count (opening count) steps))) (k, price a)
     its k a h =
         let P : List (ℕ × ℕ) → Type 0 = λ q. Contains q (k, price a) in
         let q = all_has r.gathered (k, price a) (subst P c.fitting.each (has_priced price r.answers k a h)) in
@@ -286,7 +335,9 @@ module _ {J A : Type 0} (count : ℕ) (fits : ℕ → A → Type 0) (price : A �
     pub each_once : NoneTwice (jobs_of r.answers)
     each_once =
         let P : List ℕ → Type 0 = λ q. NoneTwice q in
-        subst P (sym (ap (λ q. jobs_of q) c.fitting.each) ∙ jobs_priced price r.answers) (handed_once (final count steps) _ (played count (opening count) steps) (retired_final count steps) r.gathered c.apart (λ i j e. (c.tells i j e).entries))
+        subst P (sym (ap (λ q. jobs_of q) c.fitting.each) ∙ jobs_priced price r.answers)
+        (handed_once (final count steps) _ (played count (opening count) steps) (retired_final count steps)
+        r.gathered c.apart (λ i j e. (c.tells i j e).entries))
 
     pub below : (k : ℕ) (a : A) → Contains r.answers (k, a) → k < (final count steps).next
     below k a h = let q = its k a h in (retired_final count steps).low q.0 k (price a) q.1
@@ -302,12 +353,15 @@ module _ {J A : Type 0} (count : ℕ) (fits : ℕ → A → Type 0) (price : A �
         let l : (final count steps).next ≤ count = low in
         omega arith
 
-    pub the_answers : (answers : List A) (costs : List ℕ) → map (λ a. Some a) answers ≡ placed (replicate count None) r.answers → (final count steps).costs ≡ costs
+    pub the_answers : (answers : List A) (costs : List ℕ)
+        → map (λ a. Some a) answers ≡ placed (replicate count None) r.answers → (final count steps).costs ≡ costs
         → AreTheAnswers count fits price r.answers answers costs × ((final count steps).next ≡ count)
     the_answers answers costs row same =
-        let long : length answers ≡ count = sym (length-map answers (λ (a : A). Some a)) ∙ (ap length row ∙ (length-placed (replicate count None) r.answers ∙ length-replicate count None)) in
+        let long : length answers ≡ count = sym (length-map answers (λ (a : A). Some a))
+        ∙ (ap length row ∙ (length-placed (replicate count None) r.answers ∙ length-replicate count None)) in
         let here : (i : ℕ) (a : A) → slice_get answers i ≡ Some a → Contains r.answers (i, a) = λ i a e.
-        elim (placed_has (replicate count None) r.answers i a (ap (λ t. slice_get t i) (sym row) ∙ mapped answers i a e)) [
+        elim (placed_has (replicate count None) r.answers i a (ap (λ t. slice_get t i) (sym row)
+        ∙ mapped answers i a e)) [
           | inl h ↦ h
           | inr h ↦ absurd (none_placed count i a h)
         ] in
@@ -320,7 +374,8 @@ module _ {J A : Type 0} (count : ℕ) (fits : ℕ → A → Type 0) (price : A �
                 let q = its i a h in (
                   h,
                   fits_has fits r.answers i a c.fitting.fit h,
-                  ap (λ t. slice_index t i) (sym same) ∙ get_or_from_slice_get (final count steps).costs i (price a) 0 ((retired_final count steps).cost_stands q.0 i (price a) q.1),
+                  ap (λ t. slice_index t i) (sym same) ∙ get_or_from_slice_get (final count steps).costs i (price a) 0
+                      ((retired_final count steps).cost_stands q.0 i (price a) q.1),
                 );
           },
           all_taken count (final count steps).next answers long up (λ i a e. below i a (here i a e)),
@@ -330,11 +385,14 @@ module _ {J A : Type 0} (count : ℕ) (fits : ℕ → A → Type 0) (price : A �
     pub missing : (i : ℕ) → IsFirstHole (placed (replicate count None) r.answers) i → IsFirstMissing count r.answers i
     missing i h =
         let none : Option A = None in
-        let long : length (placed (replicate count none) r.answers) ≡ count = length-placed (replicate count None) r.answers ∙ length-replicate count None in
-        let lt : i < length (placed (replicate count none) r.answers) = slice_get_within (placed (replicate count none) r.answers) i none h.0 in (
+        let long : length (placed (replicate count none) r.answers) ≡ count =
+        length-placed (replicate count None) r.answers ∙ length-replicate count None in
+        let lt : i < length (placed (replicate count none) r.answers) =
+        slice_get_within (placed (replicate count none) r.answers) i none h.0 in (
           omega arith,
           (λ a there.
-              let room : i < length (replicate count none) = let e : length (replicate count none) ≡ count = length-replicate count None in omega arith in
+              let room : i < length (replicate count none) = let e : length (replicate count none) ≡ count =
+              length-replicate count None in omega arith in
               let q = placed_some (replicate count None) r.answers i a room there in
               let both : Some none ≡ Some (Some q.0) = sym h.0 ∙ q.1 in absurd (cc)),
           (λ j below.
@@ -347,20 +405,25 @@ module _ {J A : Type 0} (count : ℕ) (fits : ℕ → A → Type 0) (price : A �
 
     -- a job that went to a worker whose journal was gathered, and who holds none, has an answer
     came_back : (k i : ℕ) (j : Journal) → get_elem? r.gathered i ≡ some j → is_holding (state_of j.entries) ≡ false
-        → (final count steps).state j.worker ≡ Holding k ⊎ ((cost : ℕ) × Contains (handed (entries_of j.worker (played count (opening count) steps))) (k, cost))
+        → (final count steps).state j.worker ≡ Holding k
+        ⊎ ((cost : ℕ) × Contains (handed (entries_of j.worker (played count (opening count) steps))) (k, cost))
         → (a : A) × Contains r.answers (k, a)
     came_back k i j at idle (inl holding) =
         let entries : entries_of j.worker (played count (opening count) steps) ≡ j.entries = (c.tells i j at).entries in
         let busy : is_holding (state_of j.entries) ≡ true =
-        ap (λ t. is_holding (state_of t)) (sym entries) ∙ (ap is_holding (sym ((retired_final count steps).state j.worker)) ∙ ap is_holding holding) in
+        ap (λ t. is_holding (state_of t)) (sym entries)
+        ∙ (ap is_holding (sym ((retired_final count steps).state j.worker)) ∙ ap is_holding holding) in
         absurd (cc)
     came_back k i j at idle (inr back) =
         let P : List (ℕ × ℕ) → Type 0 = λ q. Contains q (k, back.0) in
-        let handed_back : Contains (handed j.entries) (k, back.0) = subst P (ap handed (c.tells i j at).entries) back.1 in
-        priced_has price r.answers k back.0 (subst P (sym c.fitting.each) (has_all r.gathered i j (k, back.0) at handed_back))
+        let handed_back : Contains (handed j.entries) (k, back.0) =
+        subst P (ap handed (c.tells i j at).entries) back.1 in
+        priced_has price r.answers k back.0
+        (subst P (sym c.fitting.each) (has_all r.gathered i j (k, back.0) at handed_back))
 
     -- the same of a worker, by number
-    came_back_from : (k w : ℕ) → IsWhole r.made r.gathered → w < r.made → is_out w k (takes (played count (opening count) steps)) ≡ true → (a : A) × Contains r.answers (k, a)
+    came_back_from : (k w : ℕ) → IsWhole r.made r.gathered → w < r.made
+        → is_out w k (takes (played count (opening count) steps)) ≡ true → (a : A) × Contains r.answers (k, a)
     came_back_from k w all made taken =
         let its = place_of r.gathered w (all.all w made) in
         let idle = at_place (λ j. is_holding (state_of j.entries) ≡ false) r.gathered its.0 its.1 all.idle its.2 in
@@ -373,8 +436,10 @@ module _ {J A : Type 0} (count : ℕ) (fits : ℕ → A → Type 0) (price : A �
         let told = place_of_any (λ j. saw_none j.entries) r.gathered all.told in
         let sees : count ≤ seen count told.1 = told_none count told.1 told.3 in
         let reached : seen count told.1 ≤ (final count steps).next = (c.tells told.0 told.1 told.2).seen_low in
-        let taker = took_from i (takes (played count (opening count) steps)) 0 (final count steps).next c.one_list.once (omega arith) (omega arith) in
-        came_back_from i taker.0 all (taker_made count r.made taker.0 i steps (opening count) c.one_list.below taker.1) taker.1
+        let taker = took_from i (takes (played count (opening count) steps)) 0 (final count steps).next c.one_list.once
+        (omega arith) (omega arith) in
+        came_back_from i taker.0 all (taker_made count r.made taker.0 i steps (opening count) c.one_list.below taker.1)
+        taker.1
 
     -- the same, of a row of `n` places and answers that are the root's
     module _ (n : ℕ) (own : List (ℕ × A)) (same : n ≡ count) (its_own : own ≡ r.answers) where
@@ -387,7 +452,8 @@ module _ {J A : Type 0} (count : ℕ) (fits : ℕ → A → Type 0) (price : A �
           let Q : ℕ → Type 0 = λ m. All (λ x. x.0 < m) r.answers in
           subst P (sym its_own) (subst Q (sym same) all_below)
 
-      pub ends_well : (answers : List A) (costs : List ℕ) → map (λ a. Some a) answers ≡ placed (replicate n None) own → (final count steps).costs ≡ costs
+      pub ends_well : (answers : List A) (costs : List ℕ) → map (λ a. Some a) answers ≡ placed (replicate n None) own
+          → (final count steps).costs ≡ costs
           → AreTheAnswers count fits price r.answers answers costs × ((final count steps).next ≡ count)
       ends_well answers costs row e = the_answers answers costs (row ∙ row_is) e
 
@@ -396,7 +462,8 @@ module _ {J A : Type 0} (count : ℕ) (fits : ℕ → A → Type 0) (price : A �
       fault_is (Missing i) h = let P : List (Option A) → Type 0 = λ t. IsFirstHole t i in missing i (subst P row_is h)
       fault_is NoMemory h = tt
 
-      pub whole_is : IsWhole r.made r.gathered → (e : CollectFault) → HoleOf (placed (replicate n None) own) e → IsNoMemory e
+      pub whole_is : IsWhole r.made r.gathered → (e : CollectFault) → HoleOf (placed (replicate n None) own) e
+          → IsNoMemory e
       whole_is all (Missing i) h =
           let m : IsFirstMissing count r.answers i = fault_is (Missing i) h in
           let a = none_missing all i m.0 in
@@ -404,7 +471,8 @@ module _ {J A : Type 0} (count : ℕ) (fits : ℕ → A → Type 0) (price : A �
       whole_is all NoMemory h = tt
 
 -- the number of jobs, from a board's inside to its value
-pub count_is : {J : Type 0} (number : J → ℕ) (b d : BoardView J) (count : ℕ) → count ≡ number b.jobs → b ≡ d → count ≡ number d.jobs
+pub count_is : {J : Type 0} (number : J → ℕ) (b d : BoardView J) (count : ℕ) → count ≡ number b.jobs → b ≡ d
+    → count ≡ number d.jobs
 count_is {J} number b d count n e = n ∙ ap (λ (v : BoardView J). number v.jobs) e
 
 -- the same, from a board's and a root's insides to their values
@@ -415,18 +483,26 @@ module _ {J A : Type 0} (number : J → ℕ) (fits : J → ℕ → A → Type 0)
     pub words : s.words ≡ (final (number d.jobs) steps).next ∷ (final (number d.jobs) steps).costs
     pub closed : IsClosed (number d.jobs) (fits d.jobs) (price d.jobs) q steps
 
-  pub finds_at : (r q : RootView J A) (b d : BoardView J) (id : ℕ) (me : Sat) (count : ℕ) → r ≡ q → b ≡ d → q.board ≡ d → count ≡ number b.jobs → IsRoot (number r.board.jobs) (fits r.board.jobs) (price r.board.jobs) me r
+  pub finds_at : (r q : RootView J A) (b d : BoardView J) (id : ℕ) (me : Sat) (count : ℕ) → r ≡ q → b ≡ d → q.board ≡ d
+      → count ≡ number b.jobs → IsRoot (number r.board.jobs) (fits r.board.jobs) (price r.board.jobs) me r
       → (s : TableState) → IsKept count s → get_elem? s.views id ≡ some me.0 → Found d q s
   finds_at r q b d id me count e f own n h s k at =
-      let jobs : r.board.jobs ≡ d.jobs = ap (λ (v : RootView J A). v.board.jobs) e ∙ ap (λ (v : BoardView J). v.jobs) own in
+      let jobs : r.board.jobs ≡ d.jobs = ap (λ (v : RootView J A). v.board.jobs) e
+      ∙ ap (λ (v : BoardView J). v.jobs) own in
       let same : count ≡ number d.jobs = count_is number b d count n f in
       let P : J → Type 0 = λ j. IsRoot (number j) (fits j) (price j) me r in
       let Q : ℕ → Type 0 = λ m. IsKept m s in
       let R : RootView J A → Type 0 = λ z. Found d z s in
       let kept : IsKept (number d.jobs) s = subst Q same k in
-      subst R e record { steps = kept.steps; words = kept.words; closed = closes (number d.jobs) (fits d.jobs) (price d.jobs) id me r (subst P jobs h) s kept at }
+      subst R e record {
+        steps = kept.steps;
+        words = kept.words;
+        closed = closes (number d.jobs) (fits d.jobs) (price d.jobs) id me r (subst P jobs h) s kept at;
+      }
 
   -- the costs that were read stand behind the next job
-  pub costs_are : (d : BoardView J) (q : RootView J A) (s : TableState) (f : Found d q s) (costs : List ℕ) (next : ℕ) → s.words ≡ next ∷ costs → (final (number d.jobs) f.steps).costs ≡ costs
+  pub costs_are : (d : BoardView J) (q : RootView J A) (s : TableState) (f : Found d q s) (costs : List ℕ) (next : ℕ)
+      → s.words ≡ next ∷ costs → (final (number d.jobs) f.steps).costs ≡ costs
   costs_are d q s f costs next w =
-      let both : (final (number d.jobs) f.steps).next ∷ (final (number d.jobs) f.steps).costs ≡ next ∷ costs = sym f.words ∙ w in cc
+      let both : (final (number d.jobs) f.steps).next ∷ (final (number d.jobs) f.steps).costs ≡ next ∷ costs =
+      sym f.words ∙ w in cc

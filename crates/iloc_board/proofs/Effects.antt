@@ -15,21 +15,29 @@ abbrev pub SameCosts : Core → Step → Type 0
 SameCosts c x = costs_at c.costs (c.state (worker_of x)) x ≡ c.costs
 
 pub data Effect (count : ℕ) (c : Core) (x : Step) : Type 0 where
-  finds : SameCosts c x → is_holding (c.state (worker_of x)) ≡ false → c.next < count → reply_to count c x ≡ Block c.next → Effect count c x
-  misses : SameCosts c x → is_holding (c.state (worker_of x)) ≡ false → c.next < count → reply_to count c x ≡ Stale c.next → Effect count c x
-  none : SameCosts c x → is_holding (c.state (worker_of x)) ≡ false → count ≤ c.next → reply_to count c x ≡ NoneLeft → Effect count c x
-  wins : (k : ℕ) → SameCosts c x → c.state (worker_of x) ≡ Looked k → c.next ≡ k → reply_to count c x ≡ Took k → Effect count c x
-  returns : (w cost k : ℕ) → x ≡ Hand w cost → c.state (worker_of x) ≡ Holding k → handed_by (c.state (worker_of x)) x ≡ (k, cost) ∷ [] → costs_at c.costs (c.state (worker_of x)) x ≡ slice_set c.costs k cost → reply_to count c x ≡ Handed → Effect count c x
+  finds : SameCosts c x → is_holding (c.state (worker_of x)) ≡ false → c.next < count
+      → reply_to count c x ≡ Block c.next → Effect count c x
+  misses : SameCosts c x → is_holding (c.state (worker_of x)) ≡ false → c.next < count
+      → reply_to count c x ≡ Stale c.next → Effect count c x
+  none : SameCosts c x → is_holding (c.state (worker_of x)) ≡ false → count ≤ c.next → reply_to count c x ≡ NoneLeft
+      → Effect count c x
+  wins : (k : ℕ) → SameCosts c x → c.state (worker_of x) ≡ Looked k → c.next ≡ k → reply_to count c x ≡ Took k
+      → Effect count c x
+  returns : (w cost k : ℕ) → x ≡ Hand w cost → c.state (worker_of x) ≡ Holding k → handed_by (c.state (worker_of x)) x
+      ≡ (k, cost) ∷ [] → costs_at c.costs (c.state (worker_of x)) x ≡ slice_set c.costs k cost
+      → reply_to count c x ≡ Handed → Effect count c x
   waits : SameCosts c x → reply_to count c x ≡ NotNow → Effect count c x
 
-looks : (count : ℕ) (c : Core) (w : ℕ) (s : State) → c.state w ≡ s → (b : Bool) → nat_lt c.next count ≡ b → Effect count c (Look w)
+looks : (count : ℕ) (c : Core) (w : ℕ) (s : State) → c.state w ≡ s → (b : Bool) → nat_lt c.next count ≡ b
+    → Effect count c (Look w)
 looks count c w Free e true lt = finds refl (rw e) (ltb-true _ _ lt) (rw (e, lt))
 looks count c w Free e false lt = none refl (rw e) (ltb-false _ _ lt) (rw (e, lt))
 looks count c w (Looked k) e true lt = finds refl (rw e) (ltb-true _ _ lt) (rw (e, lt))
 looks count c w (Looked k) e false lt = none refl (rw e) (ltb-false _ _ lt) (rw (e, lt))
 looks count c w (Holding k) e b lt = waits refl (rw e)
 
-tries : (count : ℕ) (c : Core) (w : ℕ) (s : State) → c.state w ≡ s → (b : Bool) → nat_lt c.next count ≡ b → Effect count c (Try w)
+tries : (count : ℕ) (c : Core) (w : ℕ) (s : State) → c.state w ≡ s → (b : Bool) → nat_lt c.next count ≡ b
+    → Effect count c (Try w)
 tries count c w Free e b lt = waits refl (rw e)
 tries count c w (Holding k) e b lt = waits refl (rw e)
 tries count c w (Looked k) e b lt = go (c.next == k) refl b lt
@@ -50,7 +58,8 @@ effect count c (Try w) = tries count c w (c.state w) refl (nat_lt c.next count) 
 effect count c (Hand w cost) = hands count c w cost (c.state w) refl
 
 -- the state of the worker itself after its step, and of another
-pub state_here : (count : ℕ) (c : Core) (x : Step) (w : ℕ) → w ≡ worker_of x → (after count c x).state w ≡ state_after (c.state w) (reply_to count c x)
+pub state_here : (count : ℕ) (c : Core) (x : Step) (w : ℕ) → w ≡ worker_of x
+    → (after count c x).state w ≡ state_after (c.state w) (reply_to count c x)
 state_here count c x w e = rw (eq-eqb w (worker_of x) e)
 
 pub state_else : (count : ℕ) (c : Core) (x : Step) (w : ℕ) → w ≢ worker_of x → (after count c x).state w ≡ c.state w

@@ -32,14 +32,20 @@ module _ {A : Type 0} where
   in_range (x ∷ xs) zero a e = omega arith
   in_range (x ∷ xs) (suc i) a e = let h : i < length xs = in_range xs i a e in omega arith
 
-  pub at_snoc_place : (l : List A) (a b : A) (j : ℕ) → get_elem? (l ++ a ∷ []) j ≡ some b → (get_elem? l j ≡ some b) ⊎ ((j ≡ length l) × (a ≡ b))
+  pub at_snoc_place : (l : List A) (a b : A) (j : ℕ) → get_elem? (l ++ a ∷ []) j ≡ some b → (get_elem? l j ≡ some b)
+      ⊎ ((j ≡ length l) × (a ≡ b))
   at_snoc_place [] a b zero e = inr (refl, some-injective a b e)
   at_snoc_place [] a b (suc j) e = absurd (some-ne-none b (sym e))
   at_snoc_place (x ∷ xs) a b zero e = inl e
-  at_snoc_place (x ∷ xs) a b (suc j) e = elim (at_snoc_place xs a b j e) [ inl h ↦ inl h | inr h ↦ inr (ap suc h.0, h.1) ]
+  at_snoc_place (x ∷ xs) a b (suc j) e = elim (at_snoc_place xs a b j e) [
+    | inl h ↦ inl h
+    | inr h ↦
+        inr (ap suc h.0, h.1)
+  ]
 
 -- the rule at the beginning
-pub begins : (count : ℕ) (words : List ℕ) → words ≡ 0 ∷ replicate count 0 → IsKept count (table.opening words [] (root_seat count 0 []))
+pub begins : (count : ℕ) (words : List ℕ) → words ≡ 0 ∷ replicate count 0
+    → IsKept count (table.opening words [] (root_seat count 0 []))
 begins count words e = record {
   made = 0;
   seats = refl;
@@ -50,20 +56,34 @@ begins count words e = record {
   fits = λ i v h. first i v h;
 }
   where
-    first : (i : ℕ) (v : SeatView) → get_elem? (root_seat count 0 [] ∷ []) i ≡ some v → Fits count 0 [] (root_seat count 0 [] ∷ []) i v
+    first : (i : ℕ) (v : SeatView) → get_elem? (root_seat count 0 [] ∷ []) i ≡ some v
+        → Fits count 0 [] (root_seat count 0 [] ∷ []) i v
     first zero v h =
         let is : root_seat count 0 [] ≡ v = some-injective _ _ h in
         let P : SeatView → Type 0 = λ u. Fits count 0 [] (root_seat count 0 [] ∷ []) 0 u in
         subst P is (
           (λ role. absurd (cc)),
-          (λ role. record { place = refl; counts = refl; made_is = refl; gathered = λ i j g. absurd (some-ne-none j (sym g)); apart = λ a b i j g. absurd (some-ne-none i (sym g)) }),
+          (λ role. record {
+            place = refl;
+            counts = refl;
+            made_is = refl;
+            gathered = λ i j g.
+                absurd (some-ne-none j (sym g));
+            apart = λ a b i j g. absurd (some-ne-none i (sym g));
+          }),
         )
     first (suc i) v h = absurd (some-ne-none v (sym h))
 
 -- a pass's own step adds its entry
-pub adds_one : (count : ℕ) (s : TableState) (k : IsKept count s) (id : ℕ) (v : SeatView) → get_elem? s.views id ≡ some v → v.role ≡ Pass → (x : Step) → v.journal.worker ≡ worker_of x → (r : Reply)
-    → reply_to count (final count k.steps) x ≡ r → r ≢ NotNow → (ws : List ℕ) → ws ≡ (after count (final count k.steps) x).next ∷ (after count (final count k.steps) x).costs
-    → IsKept count record { words = ws; homes = s.homes; views = set s.views id (pass_seat v.count (noted v.journal x r)) }
+pub adds_one : (count : ℕ) (s : TableState) (k : IsKept count s) (id : ℕ) (v : SeatView) → get_elem? s.views id ≡ some v
+    → v.role ≡ Pass → (x : Step) → v.journal.worker ≡ worker_of x → (r : Reply)
+    → reply_to count (final count k.steps) x ≡ r → r ≢ NotNow → (ws : List ℕ)
+    → ws ≡ (after count (final count k.steps) x).next ∷ (after count (final count k.steps) x).costs
+    → IsKept count record {
+      words = ws;
+      homes = s.homes;
+      views = set s.views id (pass_seat v.count (noted v.journal x r));
+    }
 adds_one count s k id v at role x w r e answered ws words =
     let c : Core = final count k.steps in
     let new : SeatView = pass_seat v.count (noted v.journal x r) in
@@ -71,26 +91,40 @@ adds_one count s k id v at role x w r e answered ws words =
     let steps : List Step = k.steps ++ x ∷ [] in
     let there : id < length s.views = in_range s.views id v at in
     let final' : final count steps ≡ after count c x = final-snoc count k.steps x in
-    let other : (i : ℕ) → i ≢ id → (j : Journal) → i ≡ suc j.worker → j.worker ≢ worker_of x = λ i ne j place same. let p : id ≡ suc v.journal.worker = mine.place in absurd (ne (omega arith)) in
+    let other : (i : ℕ) → i ≢ id → (j : Journal) → i ≡ suc j.worker → j.worker ≢ worker_of x =
+    λ i ne j place same. let p : id ≡ suc v.journal.worker = mine.place in absurd (ne (omega arith)) in
     record {
       made = k.made;
       seats = length-set s.views id new ∙ k.seats;
       steps = steps;
       words = words ∙ ap (λ (q : Core). q.next ∷ q.costs) (sym final');
-      below = made-snoc k.made k.steps x k.below (let p : id ≡ suc v.journal.worker = mine.place in let n : length s.views ≡ suc k.made = k.seats in omega arith);
-      answered = let P : List Entry → Type 0 = λ es. AllAnswered es in subst P (sym (played-snoc count (opening count) k.steps x)) (answered-snoc (played count (opening count) k.steps) x (reply_to count c x) k.answered (λ n. answered (sym e ∙ n)));
+      below = made-snoc k.made k.steps x k.below (let p : id ≡ suc v.journal.worker = mine.place in
+          let n : length s.views ≡ suc k.made = k.seats in omega arith);
+      answered = let P : List Entry → Type 0 = λ es. AllAnswered es in
+          subst P (sym (played-snoc count (opening count) k.steps x))
+          (answered-snoc (played count (opening count) k.steps) x (reply_to count c x) k.answered
+          (λ n. answered (sym e ∙ n)));
       fits = λ i u is.
           elim (at_set s.views id i new u is) [
             | inl p ↦
                 let P : ℕ → Type 0 = λ q. Fits count k.made steps (set s.views id new) q u in
                 let Q : SeatView → Type 0 = λ z. Fits count k.made steps (set s.views id new) id z in
                 subst P (sym p.0) (subst Q p.1 (
-                  (λ role. record { place = mine.place; counts = mine.counts; tells = tells_here count k.steps v.journal x r e w mine.tells }),
+                  (λ role. record {
+                    place = mine.place;
+                    counts = mine.counts;
+                    tells = tells_here count k.steps v.journal x r e w mine.tells;
+                  }),
                   (λ role. absurd (cc)),
                 ))
             | inr p ↦
                 let old : Fits count k.made k.steps s.views i u = k.fits i u p.1 in (
-                  (λ pass. let f = old.0 pass in record { place = f.place; counts = f.counts; tells = tells_else count k.steps u.journal x (other i p.0 u.journal f.place) f.tells }),
+                  (λ pass. let f = old.0 pass in
+                      record {
+                        place = f.place;
+                        counts = f.counts;
+                        tells = tells_else count k.steps u.journal x (other i p.0 u.journal f.place) f.tells;
+                      }),
                   (λ root. let f = old.1 root in record {
                     place = f.place;
                     counts = f.counts;
@@ -100,8 +134,10 @@ adds_one count s k id v at role x w r e answered ws words =
                         let ne : suc j.worker ≢ id = λ q.
                         let P : ℕ → Type 0 = λ z. get_elem? s.views z ≡ some spent_seat in
                         let both : spent_seat ≡ v = some-injective _ _ (sym (subst P q h.1) ∙ at) in
-                        let roles : Spent ≡ v.role = ap (λ (z : SeatView). z.role) both in absurd (cc) in
-                        (tells_else count k.steps j x (other (suc j.worker) ne j refl) h.0, set_else s.views id (suc j.worker) new ne ∙ h.1);
+                        let roles : Spent ≡ v.role = ap (λ (z : SeatView). z.role) both in absurd (cc) in (
+                          tells_else count k.steps j x (other (suc j.worker) ne j refl) h.0,
+                          set_else s.views id (suc j.worker) new ne ∙ h.1,
+                        );
                     apart = f.apart;
                   }),
                 )
@@ -146,11 +182,14 @@ free_looks count next (Looked k) e = refl
 free_looks count next (Holding k) e = absurd (cc)
 
 -- the state that the core has for a live pass
-state_here : (count : ℕ) (s : TableState) (k : IsKept count s) (id : ℕ) (v : SeatView) → get_elem? s.views id ≡ some v → v.role ≡ Pass → (final count k.steps).state v.journal.worker ≡ state_of v.journal.entries
-state_here count s k id v at role = state_final count k.steps v.journal.worker ∙ ap state_of ((k.fits id v at).0 role).tells.entries
+state_here : (count : ℕ) (s : TableState) (k : IsKept count s) (id : ℕ) (v : SeatView) → get_elem? s.views id ≡ some v
+    → v.role ≡ Pass → (final count k.steps).state v.journal.worker ≡ state_of v.journal.entries
+state_here count s k id v at role = state_final count k.steps v.journal.worker
+    ∙ ap state_of ((k.fits id v at).0 role).tells.entries
 
 -- a load of word 0
-pub looks_kept : (count slots id : ℕ) (m : Sat) → m.0.role ≡ Pass → is_holding (state_of m.0.journal.entries) ≡ false → Allows (IsKept count) slots id m 0 (λ n. n) (looks (step slots 0 0 0 none) m)
+pub looks_kept : (count slots id : ℕ) (m : Sat) → m.0.role ≡ Pass → is_holding (state_of m.0.journal.entries) ≡ false
+    → Allows (IsKept count) slots id m 0 (λ n. n) (looks (step slots 0 0 0 none) m)
 looks_kept count slots id m role free s k len at small =
     let v : SeatView = m.0 in
     let x : Step = Look v.journal.worker in
@@ -158,18 +197,29 @@ looks_kept count slots id m role free s k len at small =
     let n : ℕ = slice_index s.words 0 in
     let mine : FitsPass count k.steps id v = (k.fits id v at).0 role in
     let word : n ≡ c.next = next_word s.words c.costs c.next k.words in
-    let state : is_holding (c.state v.journal.worker) ≡ false = ap is_holding (state_here count s k id v at role) ∙ free in
+    let state : is_holding (c.state v.journal.worker) ≡ false = ap is_holding (state_here count s k id v at role)
+    ∙ free in
     let finds : reply_to count c x ≡ found count c.next = free_looks count c.next (c.state v.journal.worker) state in
     let r : Reply = found v.count n in
-    let same : reply_to count c x ≡ r = finds ∙ (ap (λ q. found q c.next) (sym mine.counts) ∙ ap (λ q. found v.count q) (sym word)) in
-    let stays : next_after c.next (reply_to count c x) ≡ c.next = ap (λ q. next_after c.next q) finds ∙ stays_found c.next count in
-    let ws : slice_set s.words 0 n ≡ (after count c x).next ∷ (after count c x).costs = ap (λ t. slice_set t 0 n) k.words ∙ (ap (λ q. q ∷ c.costs) word ∙ ap (λ q. q ∷ c.costs) (sym stays)) in
+    let same : reply_to count c x ≡ r = finds
+    ∙ (ap (λ q. found q c.next) (sym mine.counts) ∙ ap (λ q. found v.count q) (sym word)) in
+    let stays : next_after c.next (reply_to count c x) ≡ c.next = ap (λ q. next_after c.next q) finds
+    ∙ stays_found c.next count in
+    let ws : slice_set s.words 0 n ≡ (after count c x).next ∷ (after count c x).costs =
+    ap (λ t. slice_set t 0 n) k.words ∙ (ap (λ q. q ∷ c.costs) word ∙ ap (λ q. q ∷ c.costs) (sym stays)) in
     let low : seen count v.journal ≤ c.next = mine.tells.seen_low in
-    let low' : seen v.count v.journal ≤ n = let P : ℕ → Type 0 = λ q. seen q v.journal ≤ n in subst P (sym mine.counts) (omega arith) in
-    (pass_seat v.count (noted v.journal x r), keeps, tt, adds_one count s k id v at role x refl r same (found_answers v.count n) (slice_set s.words 0 n) ws, (refl, low'))
+    let low' : seen v.count v.journal ≤ n = let P : ℕ → Type 0 = λ q. seen q v.journal ≤ n in
+    subst P (sym mine.counts) (omega arith) in (
+      pass_seat v.count (noted v.journal x r),
+      keeps,
+      tt,
+      adds_one count s k id v at role x refl r same (found_answers v.count n) (slice_set s.words 0 n) ws,
+      (refl, low'),
+    )
 
 -- a compare and exchange of word 0
-pub tries_kept : (count slots id : ℕ) (m : Sat) (k new : ℕ) → m.0.role ≡ Pass → state_of m.0.journal.entries ≡ Looked k → new ≡ suc k → Allows (IsKept count) slots id m 0 (λ n. either (n == k) new n) (tries (step slots 0 k new none) m)
+pub tries_kept : (count slots id : ℕ) (m : Sat) (k new : ℕ) → m.0.role ≡ Pass → state_of m.0.journal.entries ≡ Looked k
+    → new ≡ suc k → Allows (IsKept count) slots id m 0 (λ n. either (n == k) new n) (tries (step slots 0 k new none) m)
 tries_kept count slots id m j new role looked more s k len at small =
     let v : SeatView = m.0 in
     let x : Step = Try v.journal.worker in
@@ -178,28 +228,46 @@ tries_kept count slots id m j new role looked more s k len at small =
     let mine : FitsPass count k.steps id v = (k.fits id v at).0 role in
     let word : n ≡ c.next = next_word s.words c.costs c.next k.words in
     let state : c.state v.journal.worker ≡ Looked j = state_here count s k id v at role ∙ looked in
-    let tells : reply_to count c x ≡ cond (c.next == j) (Took j) (missed count c.next) = ap (λ q. try_reply count c.next q) state in
+    let tells : reply_to count c x ≡ cond (c.next == j) (Took j) (missed count c.next) =
+    ap (λ q. try_reply count c.next q) state in
     let r : Reply = cond (n == j) (Took j) (missed v.count n) in
-    let same : reply_to count c x ≡ r = tells ∙ (ap (λ q. cond (c.next == j) (Took j) (missed q c.next)) (sym mine.counts) ∙ ap (λ q. cond (q == j) (Took j) (missed v.count q)) (sym word)) in
+    let same : reply_to count c x ≡ r = tells
+    ∙ (ap (λ q. cond (c.next == j) (Took j) (missed q c.next)) (sym mine.counts)
+    ∙ ap (λ q. cond (q == j) (Took j) (missed v.count q)) (sym word)) in
     let moves : (b : Bool) → (n == j) ≡ b → (r ≢ NotNow) × (next_after c.next r ≡ either (n == j) new n) = elim [
       | true ↦ λ e. (
-        let is : r ≡ Took j = ap (λ b. cond b (Took j) (missed v.count n)) e in (λ q. let z : Took j ≡ NotNow = sym is ∙ q in absurd (cc)),
-        ap (λ q. next_after c.next q) (ap (λ b. cond b (Took j) (missed v.count n)) e) ∙ (sym more ∙ ap (λ b. either b new n) (sym e)),
+        let is : r ≡ Took j = ap (λ b. cond b (Took j) (missed v.count n)) e in
+            (λ q. let z : Took j ≡ NotNow = sym is ∙ q in absurd (cc)),
+        ap (λ q. next_after c.next q) (ap (λ b. cond b (Took j) (missed v.count n)) e)
+            ∙ (sym more ∙ ap (λ b. either b new n) (sym e)),
       )
       | false ↦ λ e. (
-        let is : r ≡ missed v.count n = ap (λ b. cond b (Took j) (missed v.count n)) e in (λ q. missed_answers v.count n (sym is ∙ q)),
-        ap (λ q. next_after c.next q) (ap (λ b. cond b (Took j) (missed v.count n)) e) ∙ (ap (λ q. next_after q (missed v.count n)) (sym word) ∙ (stays_missed n v.count ∙ ap (λ b. either b new n) (sym e))),
+        let is : r ≡ missed v.count n = ap (λ b. cond b (Took j) (missed v.count n)) e in
+            (λ q. missed_answers v.count n (sym is ∙ q)),
+        ap (λ q. next_after c.next q) (ap (λ b. cond b (Took j) (missed v.count n)) e)
+            ∙ (ap (λ q. next_after q (missed v.count n)) (sym word)
+            ∙ (stays_missed n v.count ∙ ap (λ b. either b new n) (sym e))),
       )
     ] in
     let moved = moves (n == j) refl in
-    let next : next_after c.next (reply_to count c x) ≡ either (n == j) new n = ap (λ q. next_after c.next q) same ∙ moved.1 in
-    let ws : slice_set s.words 0 (either (n == j) new n) ≡ (after count c x).next ∷ (after count c x).costs = ap (λ t. slice_set t 0 (either (n == j) new n)) k.words ∙ ap (λ q. q ∷ c.costs) (sym next) in
+    let next : next_after c.next (reply_to count c x) ≡ either (n == j) new n = ap (λ q. next_after c.next q) same
+    ∙ moved.1 in
+    let ws : slice_set s.words 0 (either (n == j) new n) ≡ (after count c x).next ∷ (after count c x).costs =
+    ap (λ t. slice_set t 0 (either (n == j) new n)) k.words ∙ ap (λ q. q ∷ c.costs) (sym next) in
     let low : seen count v.journal ≤ c.next = mine.tells.seen_low in
-    let low' : seen v.count v.journal ≤ n = let P : ℕ → Type 0 = λ q. seen q v.journal ≤ n in subst P (sym mine.counts) (omega arith) in
-    (pass_seat v.count (noted v.journal x r), keeps, tt, adds_one count s k id v at role x refl r same moved.0 (slice_set s.words 0 (either (n == j) new n)) ws, (refl, low'))
+    let low' : seen v.count v.journal ≤ n = let P : ℕ → Type 0 = λ q. seen q v.journal ≤ n in
+    subst P (sym mine.counts) (omega arith) in (
+      pass_seat v.count (noted v.journal x r),
+      keeps,
+      tt,
+      adds_one count s k id v at role x refl r same moved.0
+          (slice_set s.words 0 (either (n == j) new n)) ws,
+      (refl, low'),
+    )
 
 -- a store of a cost
-pub hands_kept : (count slots id : ℕ) (m : Sat) (k i cost : ℕ) → m.0.role ≡ Pass → state_of m.0.journal.entries ≡ Holding k → i ≡ suc k
+pub hands_kept : (count slots id : ℕ) (m : Sat) (k i cost : ℕ) → m.0.role ≡ Pass
+    → state_of m.0.journal.entries ≡ Holding k → i ≡ suc k
     → Allows (IsKept count) slots id m i (λ _. cost) (λ _. hands (step slots i cost 0 none) m cost)
 hands_kept count slots id m j i cost role holding place s k len at small =
     let v : SeatView = m.0 in
@@ -210,8 +278,16 @@ hands_kept count slots id m j i cost role holding place s k len at small =
     let stays : next_after c.next (reply_to count c x) ≡ c.next = ap (λ q. next_after c.next q) same in
     let costs : (after count c x).costs ≡ slice_set c.costs j cost = ap (λ q. costs_at c.costs q x) state in
     let ws : slice_set s.words i cost ≡ (after count c x).next ∷ (after count c x).costs =
-    ap (λ t. slice_set s.words t cost) place ∙ (ap (λ t. slice_set t (suc j) cost) k.words ∙ (ap (λ q. q ∷ slice_set c.costs j cost) (sym stays) ∙ ap (λ q. (after count c x).next ∷ q) (sym costs))) in
-    (pass_seat v.count (noted v.journal x Handed), keeps, tt, adds_one count s k id v at role x refl Handed same (λ q. absurd (cc)) (slice_set s.words i cost) ws, refl)
+    ap (λ t. slice_set s.words t cost) place
+    ∙ (ap (λ t. slice_set t (suc j) cost) k.words
+    ∙ (ap (λ q. q ∷ slice_set c.costs j cost) (sym stays) ∙ ap (λ q. (after count c x).next ∷ q) (sym costs))) in (
+      pass_seat v.count (noted v.journal x Handed),
+      keeps,
+      tt,
+      adds_one count s k id v at role x refl Handed same
+          (λ q. absurd (cc)) (slice_set s.words i cost) ws,
+      refl,
+    )
 
 -- a root makes a pass
 pub makes_kept : (count id : ℕ) (v : SeatView) → v.role ≡ Root → Splits (IsKept count) id v (makes v) (made_pass v)
@@ -222,14 +298,17 @@ makes_kept count id v role s k at =
     let views : List SeatView = set s.views id left ++ right ∷ [] in
     let long : length (set s.views id left) ≡ suc k.made = length-set s.views id left ∙ k.seats in
     let fresh : Tells count k.steps right.journal = record {
-      entries = ap (λ w. entries_of w (played count (opening count) k.steps)) mine.made_is ∙ none_yet count (opening count) k.steps k.made k.below;
+      entries = ap (λ w. entries_of w (played count (opening count) k.steps)) mine.made_is
+          ∙ none_yet count (opening count) k.steps k.made k.below;
       seen_low =
           let P : ℕ → Type 0 = λ q. seen_in q v.gathered ≤ (final count k.steps).next in
-          subst P (sym mine.counts) (seen_in_low count (final count k.steps).next v.gathered (λ i j e. (mine.gathered i j e).0.seen_low));
+          subst P (sym mine.counts) (seen_in_low count (final count k.steps).next v.gathered
+          (λ i j e. (mine.gathered i j e).0.seen_low));
     } in
     record {
       made = suc k.made;
-      seats = length-append (set s.views id left) (right ∷ []) ∙ (let e : length (set s.views id left) + 1 ≡ suc (suc k.made) = omega arith in e);
+      seats = length-append (set s.views id left) (right ∷ [])
+          ∙ (let e : length (set s.views id left) + 1 ≡ suc (suc k.made) = omega arith in e);
       steps = k.steps;
       words = k.words;
       below = made_more k.made k.steps k.below;
@@ -249,28 +328,37 @@ makes_kept count id v role s k at =
                       gathered = λ a j e.
                           let h = mine.gathered a j e in
                           let zero_id : id ≡ 0 = mine.place in
-                          let ne : suc j.worker ≢ id = λ z. absurd (omega arith) in
-                          (h.0, at_longer (set s.views id left) (right ∷ []) (suc j.worker) spent_seat (set_else s.views id (suc j.worker) left ne ∙ h.1));
+                          let ne : suc j.worker ≢ id = λ z. absurd (omega arith) in (
+                            h.0,
+                            at_longer (set s.views id left) (right ∷ []) (suc j.worker) spent_seat
+                                (set_else s.views id (suc j.worker) left ne ∙ h.1),
+                          );
                       apart = mine.apart;
                     }),
                   ))
               | inr q ↦
                   let old : Fits count k.made k.steps s.views i u = k.fits i u q.1 in (
                     (λ pass. let f = old.0 pass in record { place = f.place; counts = f.counts; tells = f.tells }),
-                    (λ root. let f = old.1 root in let a : i ≡ 0 = f.place in let b : id ≡ 0 = mine.place in absurd (q.0 (omega arith))),
+                    (λ root. let f = old.1 root in let a : i ≡ 0 = f.place in let b : id ≡ 0 = mine.place in
+                        absurd (q.0 (omega arith))),
                   )
             ]
             | inr p ↦
                 let Q : SeatView → Type 0 = λ z. Fits count (suc k.made) k.steps views i z in
                 subst Q p.1 (
-                  (λ pass. record { place = p.0 ∙ (long ∙ ap suc (sym mine.made_is)); counts = mine.counts; tells = fresh }),
+                  (λ pass. record {
+                    place = p.0 ∙ (long ∙ ap suc (sym mine.made_is));
+                    counts = mine.counts;
+                    tells = fresh;
+                  }),
                   (λ root. absurd (cc)),
                 )
           ];
     }
 
 -- a root gathers a pass
-pub gathers_kept : (count id other : ℕ) (v w : SeatView) → v.role ≡ Root → w.role ≡ Pass → Joins (IsKept count) id v other w (gathers v w) spent_seat
+pub gathers_kept : (count id other : ℕ) (v w : SeatView) → v.role ≡ Root → w.role ≡ Pass
+    → Joins (IsKept count) id v other w (gathers v w) spent_seat
 gathers_kept count id other v w root pass s k at ne there =
     let both : SeatView = gathers v w in
     let mine : FitsRoot count k.made k.steps s.views id v = (k.fits id v at).1 root in
@@ -281,13 +369,17 @@ gathers_kept count id other v w root pass s k at ne there =
     let reach : other < length row = in_range row other w there in
     let id_zero : id ≡ 0 = mine.place in
     -- an old journal's seat stays spent
-    let spent : (j : Journal) → get_elem? s.views (suc j.worker) ≡ some spent_seat → get_elem? views (suc j.worker) ≡ some spent_seat = λ j h.
+    let spent : (j : Journal) → get_elem? s.views (suc j.worker) ≡ some spent_seat → get_elem? views (suc j.worker)
+    ≡ some spent_seat = λ j h.
     elim (cases_eq (suc j.worker) other) [
-      | inl e ↦ let P : ℕ → Type 0 = λ z. get_elem? views z ≡ some spent_seat in subst P (sym e) (set_here row other spent_seat reach)
-      | inr e ↦ let n : suc j.worker ≢ id = λ z. absurd (omega arith) in set_else row other (suc j.worker) spent_seat e ∙ (set_else s.views id (suc j.worker) both n ∙ h)
+      | inl e ↦ let P : ℕ → Type 0 = λ z. get_elem? views z ≡ some spent_seat in
+          subst P (sym e) (set_here row other spent_seat reach)
+      | inr e ↦ let n : suc j.worker ≢ id = λ z. absurd (omega arith) in set_else row other (suc j.worker) spent_seat e
+          ∙ (set_else s.views id (suc j.worker) both n ∙ h)
     ] in
     -- no gathered journal is of this pass's worker
-    let apart : (j : Journal) → get_elem? s.views (suc j.worker) ≡ some spent_seat → j.worker ≢ w.journal.worker = λ j h e.
+    let apart : (j : Journal) → get_elem? s.views (suc j.worker) ≡ some spent_seat → j.worker ≢ w.journal.worker =
+    λ j h e.
     let place : other ≡ suc w.journal.worker = its.place in
     let P : ℕ → Type 0 = λ z. get_elem? s.views z ≡ some spent_seat in
     let same : suc j.worker ≡ other = omega arith in
@@ -320,18 +412,24 @@ gathers_kept count id other v w root pass s k at ne there =
                           elim (at_snoc_place v.gathered w.journal j a e) [
                             | inl old ↦ let h = mine.gathered a j old in (h.0, spent j h.1)
                             | inr new ↦
-                                let R : Journal → Type 0 = λ z. Tells count k.steps z × (get_elem? views (suc z.worker) ≡ some spent_seat) in
-                                let here : get_elem? views (suc w.journal.worker) ≡ some spent_seat = let P : ℕ → Type 0 = λ z. get_elem? views z ≡ some spent_seat in subst P its.place (set_here row other spent_seat reach) in
+                                let R : Journal → Type 0 = λ z. Tells count k.steps z
+                                × (get_elem? views (suc z.worker) ≡ some spent_seat) in
+                                let here : get_elem? views (suc w.journal.worker) ≡ some spent_seat = let P : ℕ
+                                → Type 0 = λ z. get_elem? views z ≡ some spent_seat in
+                                subst P its.place (set_here row other spent_seat reach) in
                                 subst R new.1 (its.tells, here)
                           ];
                       apart = λ a b j l ja lb same.
                           elim (at_snoc_place v.gathered w.journal j a ja) [
                             | inl x ↦ elim (at_snoc_place v.gathered w.journal l b lb) [
                               | inl y ↦ mine.apart a b j l x y same
-                              | inr y ↦ absurd (apart j (mine.gathered a j x).1 (same ∙ ap (λ (z : Journal). z.worker) (sym y.1)))
+                              | inr y ↦ absurd
+                                  (apart j (mine.gathered a j x).1 (same ∙ ap (λ (z : Journal). z.worker) (sym y.1)))
                             ]
                             | inr x ↦ elim (at_snoc_place v.gathered w.journal l b lb) [
-                              | inl y ↦ absurd (apart l (mine.gathered b l y).1 (sym same ∙ ap (λ (z : Journal). z.worker) (sym x.1)))
+                              | inl y ↦ absurd
+                                  (apart l (mine.gathered b l y).1
+                                  (sym same ∙ ap (λ (z : Journal). z.worker) (sym x.1)))
                               | inr y ↦ x.0 ∙ sym y.0
                             ]
                           ];

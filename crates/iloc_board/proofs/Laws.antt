@@ -24,11 +24,14 @@ free_holds (Looked j) k e = refl
 free_holds (Holding j) k e = absurd (cc)
 
 -- a step after which the worker holds a job just if it did before
-same_held : (count : ℕ) (c : Core) (x : Step) (r : Reply) → reply_to count c x ≡ r → ((k : ℕ) → holds_job (state_after (c.state (worker_of x)) r) k ≡ holds_job (c.state (worker_of x)) k)
+same_held : (count : ℕ) (c : Core) (x : Step) (r : Reply) → reply_to count c x ≡ r
+    → ((k : ℕ) → holds_job (state_after (c.state (worker_of x)) r) k ≡ holds_job (c.state (worker_of x)) k)
     → (p : ℕ × ℕ) → is_held (after count c x) p ≡ is_held c p
 same_held count c x r e same p =
     elim (state_by count c x r e p.0) [
-      | inl h ↦ ap (λ s. holds_job s p.1) h.1 ∙ (ap (λ w. holds_job (state_after (c.state w) r) p.1) h.0 ∙ (same p.1 ∙ ap (λ w. holds_job (c.state w) p.1) (sym h.0)))
+      | inl h ↦ ap (λ s. holds_job s p.1) h.1
+          ∙ (ap (λ w. holds_job (state_after (c.state w) r) p.1) h.0
+          ∙ (same p.1 ∙ ap (λ w. holds_job (c.state w) p.1) (sym h.0)))
       | inr h ↦ ap (λ s. holds_job s p.1) h.1
     ]
 
@@ -40,7 +43,8 @@ or_true true = refl
 or_true false = refl
 
 -- the same of the pairs that are there
-filter_on : (f g : ℕ × ℕ → Bool) (ps : List (ℕ × ℕ)) → ((w k : ℕ) → is_out w k ps ≡ true → f (w, k) ≡ g (w, k)) → filter f ps ≡ filter g ps
+filter_on : (f g : ℕ × ℕ → Bool) (ps : List (ℕ × ℕ)) → ((w k : ℕ) → is_out w k ps ≡ true → f (w, k) ≡ g (w, k))
+    → filter f ps ≡ filter g ps
 filter_on f g [] h = refl
 filter_on f g (p ∷ ps) h =
     let here : f p ≡ g p = h p.0 p.1 (rw (eq-eqb p.0 p.0 refl, eq-eqb p.1 p.1 refl)) in
@@ -52,7 +56,8 @@ filter-filter f g [] = refl
 filter-filter f g (p ∷ ps) = go (f p) (filter-filter f g ps)
   where
     go : (b : Bool) → filter g (filter f ps) ≡ filter (λ p. f p && g p) ps
-        → filter g (cond b (p ∷ filter f ps) (filter f ps)) ≡ cond (b && g p) (p ∷ filter (λ p. f p && g p) ps) (filter (λ p. f p && g p) ps)
+        → filter g (cond b (p ∷ filter f ps) (filter f ps)) ≡ cond (b && g p) (p ∷ filter (λ p. f p && g p) ps)
+        (filter (λ p. f p && g p) ps)
     go true e = ap (λ t. cond (g p) (p ∷ t) t) e
     go false e = e
 
@@ -67,22 +72,29 @@ none_waits : (count n : ℕ) → count ≤ n → range_with_len n (count - n) �
 none_waits count n le = let e : count - n ≡ 0 = omega arith in ap (λ m. range_with_len n m) e
 
 -- a worker that holds nothing has nothing out
-has_none_out : (c : Core) (w : ℕ) (taken : List (ℕ × ℕ)) → is_holding (c.state w) ≡ false → has_out w (filter (is_held c) taken) ≡ false
+has_none_out : (c : Core) (w : ℕ) (taken : List (ℕ × ℕ)) → is_holding (c.state w) ≡ false
+    → has_out w (filter (is_held c) taken) ≡ false
 has_none_out c w taken free =
-    any-filter_same (λ (p : ℕ × ℕ). w == p.0) (is_held c) false (λ p e. let same : w ≡ p.0 = eqb-true w p.0 e in ap (λ v. holds_job (c.state v) p.1) (sym same) ∙ free_holds (c.state w) p.1 free) taken
+    any-filter_same (λ (p : ℕ × ℕ). w == p.0) (is_held c) false (λ p e. let same : w ≡ p.0 = eqb-true w p.0 e in
+    ap (λ v. holds_job (c.state v) p.1) (sym same) ∙ free_holds (c.state w) p.1 free) taken
 
 holds_itself : (s : State) (k : ℕ) → s ≡ Holding k → holds_job s k ≡ true
 holds_itself s k e = ap (λ t. holds_job t k) e ∙ eq-eqb k k refl
 
 -- what a worker holds is out with it
-is_out_held : (c : Core) (w k : ℕ) (taken : List (ℕ × ℕ)) → c.state w ≡ Holding k → is_out w k taken ≡ true → is_out w k (filter (is_held c) taken) ≡ true
+is_out_held : (c : Core) (w k : ℕ) (taken : List (ℕ × ℕ)) → c.state w ≡ Holding k → is_out w k taken ≡ true
+    → is_out w k (filter (is_held c) taken) ≡ true
 is_out_held c w k taken holding there =
-    any-filter_same (is_pair w k) (is_held c) true (λ p e. let q = and_parts (w == p.0) (k == p.1) e in let v : w ≡ p.0 = eqb-true w p.0 q.0 in let j : k ≡ p.1 = eqb-true k p.1 q.1 in
-    ap (λ u. holds_job (c.state u) p.1) (sym v) ∙ (ap (λ i. holds_job (c.state w) i) (sym j) ∙ holds_itself (c.state w) k holding)) taken ∙ there
+    any-filter_same (is_pair w k) (is_held c) true (λ p e. let q = and_parts (w == p.0) (k == p.1) e in
+    let v : w ≡ p.0 = eqb-true w p.0 q.0 in let j : k ≡ p.1 = eqb-true k p.1 q.1 in
+    ap (λ u. holds_job (c.state u) p.1) (sym v)
+    ∙ (ap (λ i. holds_job (c.state w) i) (sym j) ∙ holds_itself (c.state w) k holding)) taken ∙ there
 
 -- the pairs that were held, when one more was taken
-held_after_take : (count : ℕ) (c : Core) (taken : List (ℕ × ℕ)) → Stands count c taken → (x : Step) (k : ℕ) → c.state (worker_of x) ≡ Looked k → c.next ≡ k → reply_to count c x ≡ Took k
-    → filter (is_held c) taken ++ (worker_of x, k) ∷ [] ≡ filter (is_held (after count c x)) (taken ++ (worker_of x, k) ∷ [])
+held_after_take : (count : ℕ) (c : Core) (taken : List (ℕ × ℕ)) → Stands count c taken → (x : Step) (k : ℕ)
+    → c.state (worker_of x) ≡ Looked k → c.next ≡ k → reply_to count c x ≡ Took k
+    → filter (is_held c) taken ++ (worker_of x, k) ∷ [] ≡ filter (is_held (after count c x))
+    (taken ++ (worker_of x, k) ∷ [])
 held_after_take count c taken h x k looked at e =
     let d : Core = after count c x in
     let w : ℕ = worker_of x in
@@ -92,12 +104,15 @@ held_after_take count c taken h x k looked at e =
     let lt : j < c.next = h.below v j o in
     let ne : k ≢ j = λ q. absurd (omega arith) in
     elim (by v) [
-      | inl p ↦ ap (λ u. holds_job (c.state u) j) p.0 ∙ (ap (λ s. holds_job s j) looked ∙ (sym (ne_eqb k j ne) ∙ ap (λ s. holds_job s j) (sym p.1)))
+      | inl p ↦ ap (λ u. holds_job (c.state u) j) p.0
+          ∙ (ap (λ s. holds_job s j) looked ∙ (sym (ne_eqb k j ne) ∙ ap (λ s. holds_job s j) (sym p.1)))
       | inr p ↦ ap (λ s. holds_job s j) (sym p.1)
     ]) in
     let new : d.state w ≡ Holding k = state_here count c x w refl ∙ ap (λ r. state_after (c.state w) r) e in
-    let one : filter (is_held d) ((w, k) ∷ []) ≡ (w, k) ∷ [] = ap (λ b. cond b ((w, k) ∷ []) []) (holds_itself (d.state w) k new) in
-    ap (λ t. t ++ (w, k) ∷ []) old ∙ (ap (λ t. filter (is_held d) taken ++ t) (sym one) ∙ sym (filter-append (is_held d) taken ((w, k) ∷ [])))
+    let one : filter (is_held d) ((w, k) ∷ []) ≡ (w, k) ∷ [] =
+    ap (λ b. cond b ((w, k) ∷ []) []) (holds_itself (d.state w) k new) in
+    ap (λ t. t ++ (w, k) ∷ []) old ∙ (ap (λ t. filter (is_held d) taken ++ t) (sym one)
+    ∙ sym (filter-append (is_held d) taken ((w, k) ∷ [])))
 
 not_both : (a b : Bool) → (a && b) && not (true && (a && b)) ≡ false
 not_both true true = refl
@@ -113,30 +128,37 @@ and_true true = refl
 and_true false = refl
 
 -- the pairs that were held, when one was handed back
-held_after_hand : (count : ℕ) (c : Core) (taken : List (ℕ × ℕ)) (x : Step) (k : ℕ) → c.state (worker_of x) ≡ Holding k → reply_to count c x ≡ Handed
+held_after_hand : (count : ℕ) (c : Core) (taken : List (ℕ × ℕ)) (x : Step) (k : ℕ) → c.state (worker_of x) ≡ Holding k
+    → reply_to count c x ≡ Handed
     → without (worker_of x) k (filter (is_held c) taken) ≡ filter (is_held (after count c x)) taken
 held_after_hand count c taken x k holding e =
     let d : Core = after count c x in
     let w : ℕ = worker_of x in
     let by = state_by count c x Handed e in
-    filter-filter (is_held c) (λ p. not (is_pair w k p)) taken ∙ filter_same (λ p. is_held c p && not (is_pair w k p)) (is_held d) (λ p.
+    filter-filter (is_held c) (λ p. not (is_pair w k p)) taken ∙ filter_same (λ p. is_held c p && not (is_pair w k p))
+    (is_held d) (λ p.
     elim (by p.0) [
       | inl h ↦
-          let was : is_held c p ≡ (k == p.1) = ap (λ u. holds_job (c.state u) p.1) h.0 ∙ ap (λ s. holds_job s p.1) holding in
+          let was : is_held c p ≡ (k == p.1) = ap (λ u. holds_job (c.state u) p.1) h.0
+          ∙ ap (λ s. holds_job s p.1) holding in
           let pair : is_pair w k p ≡ (k == p.1) = ap (λ b. b && (k == p.1)) (eq-eqb w p.0 (sym h.0)) in
-          ap (λ b. b && not (is_pair w k p)) was ∙ (ap (λ b. (k == p.1) && not b) pair ∙ (and_not (k == p.1) ∙ ap (λ s. holds_job s p.1) (sym h.1)))
+          ap (λ b. b && not (is_pair w k p)) was
+          ∙ (ap (λ b. (k == p.1) && not b) pair ∙ (and_not (k == p.1) ∙ ap (λ s. holds_job s p.1) (sym h.1)))
       | inr h ↦
           let pair : is_pair w k p ≡ false = ap (λ b. b && (k == p.1)) (ne_eqb w p.0 (λ q. h.0 (sym q))) in
           ap (λ b. is_held c p && not b) pair ∙ (and_true (is_held c p) ∙ ap (λ s. holds_job s p.1) (sym h.1))
     ]) taken
 
 module _ {A : Type 0} where
-  pub board_after-append : (b : SequentialBoard A) (xs ys : List (Call A)) → board_after b (xs ++ ys) ≡ board_after (board_after b xs) ys
+  pub board_after-append : (b : SequentialBoard A) (xs ys : List (Call A))
+      → board_after b (xs ++ ys) ≡ board_after (board_after b xs) ys
   board_after-append b [] ys = refl
   board_after-append b (x ∷ xs) ys = board_after-append (moved b x) xs ys
 
   -- where nothing is taken or given
-  stays : (count : ℕ) (c d : Core) (taken : List (ℕ × ℕ)) (answers : List (ℕ × A)) (b : SequentialBoard A) → StandsAt count c taken answers b → d.next ≡ c.next → ((p : ℕ × ℕ) → is_held d p ≡ is_held c p) → StandsAt count d taken answers b
+  stays : (count : ℕ) (c d : Core) (taken : List (ℕ × ℕ)) (answers : List (ℕ × A)) (b : SequentialBoard A)
+      → StandsAt count c taken answers b → d.next ≡ c.next → ((p : ℕ × ℕ) → is_held d p ≡ is_held c p)
+      → StandsAt count d taken answers b
   stays count c d taken answers b s next same = record {
     waiting = s.waiting ∙ ap (λ n. range_with_len n (count - n)) (sym next);
     out = s.out ∙ filter_same (is_held c) (is_held d) (λ p. sym (same p)) taken;
@@ -145,28 +167,45 @@ module _ {A : Type 0} where
 
   module _ (fits : ℕ → A → Type 0) (said : ℕ → ℕ → A) (fit : (k cost : ℕ) → fits k (said k cost)) where
     -- calls that lead from one board to another, and what follows them
-    pub record Leads (b : SequentialBoard A) (calls : List (Call A)) (count : ℕ) (c : Core) (taken : List (ℕ × ℕ)) (answers : List (ℕ × A)) : Type 0 where
+    pub record Leads (b : SequentialBoard A) (calls : List (Call A)) (count : ℕ) (c : Core) (taken : List (ℕ × ℕ))
+        (answers : List (ℕ × A)) : Type 0 where
       pub legal : (rest : List (Call A)) → Legal fits (board_after b calls) rest → Legal fits b (calls ++ rest)
       pub at : StandsAt count c taken answers (board_after b calls)
 
-    plain : (b : SequentialBoard A) (calls : List (Call A)) (count : ℕ) (c : Core) (taken : List (ℕ × ℕ)) (answers : List (ℕ × A)) → Leads b calls count c taken answers → Leads b calls count c (taken ++ []) (answers ++ [])
+    plain : (b : SequentialBoard A) (calls : List (Call A)) (count : ℕ) (c : Core) (taken : List (ℕ × ℕ))
+        (answers : List (ℕ × A)) → Leads b calls count c taken answers
+        → Leads b calls count c (taken ++ []) (answers ++ [])
     plain b calls count c taken answers h =
         let P : List (ℕ × ℕ) → Type 0 = λ t. Leads b calls count c t (answers ++ []) in
         let Q : List (ℕ × A) → Type 0 = λ a. Leads b calls count c taken a in
         subst P (sym (append-nil taken)) (subst Q (sym (append-nil answers)) h)
 
-    pub leads : (count : ℕ) (c : Core) (taken : List (ℕ × ℕ)) (answers : List (ℕ × A)) (b : SequentialBoard A) → Stands count c taken → StandsAt count c taken answers b → (x : Step)
-        → Leads b (calls_of said (c.state (worker_of x)) x (reply_to count c x)) count (after count c x) (taken ++ taken_by (worker_of x) (reply_to count c x)) (answers ++ map (given said) (accepted (c.state (worker_of x)) x (reply_to count c x)))
+    pub leads : (count : ℕ) (c : Core) (taken : List (ℕ × ℕ)) (answers : List (ℕ × A)) (b : SequentialBoard A)
+        → Stands count c taken → StandsAt count c taken answers b → (x : Step)
+        → Leads b (calls_of said (c.state (worker_of x)) x (reply_to count c x)) count (after count c x)
+        (taken ++ taken_by (worker_of x) (reply_to count c x))
+        (answers ++ map (given said) (accepted (c.state (worker_of x)) x (reply_to count c x)))
     leads count c taken answers b h at x =
         let w : ℕ = worker_of x in
         let s : State = c.state w in
         let d : Core = after count c x in
-        let P : Reply → Type 0 = λ r. Leads b (calls_of said s x r) count d (taken ++ taken_by w r) (answers ++ map (given said) (accepted s x r)) in
-        let same : (r : Reply) → reply_to count c x ≡ r → next_after c.next r ≡ c.next → ((k : ℕ) → holds_job (state_after s r) k ≡ holds_job s k) → StandsAt count d taken answers b =
-        λ r e n q. stays count c d taken answers b at (ap (λ t. next_after c.next t) e ∙ n) (same_held count c x r e q) in
+        let P : Reply → Type 0 = λ r. Leads b (calls_of said s x r) count d (taken ++ taken_by w r)
+        (answers ++ map (given said) (accepted s x r)) in
+        let same : (r : Reply) → reply_to count c x ≡ r → next_after c.next r ≡ c.next
+        → ((k : ℕ) → holds_job (state_after s r) k ≡ holds_job s k) → StandsAt count d taken answers b =
+        λ r e n q. stays count c d taken answers b at (ap (λ t. next_after c.next t) e ∙ n)
+        (same_held count c x r e q) in
         elim (effect count c x) [
-          | finds costs free lt e ↦ subst P (sym e) (plain b [] count d taken answers record { legal = λ rest l. l; at = same _ e refl (λ k. sym (free_holds s k free)) })
-          | misses costs free lt e ↦ subst P (sym e) (plain b [] count d taken answers record { legal = λ rest l. l; at = same _ e refl (λ k. sym (free_holds s k free)) })
+          | finds costs free lt e ↦ subst P (sym e)
+              (plain b [] count d taken answers record {
+                legal = λ rest l. l;
+                at = same _ e refl (λ k. sym (free_holds s k free));
+              })
+          | misses costs free lt e ↦ subst P (sym e)
+              (plain b [] count d taken answers record {
+                legal = λ rest l. l;
+                at = same _ e refl (λ k. sym (free_holds s k free));
+              })
           | none costs free all e ↦ subst P (sym e) (plain b (sequential.NoneLeft w ∷ []) count d taken answers record {
             legal = λ rest l. (at.waiting ∙ none_waits count c.next all, l);
             at = same _ e refl (λ k. sym (free_holds s k free));
@@ -174,12 +213,22 @@ module _ {A : Type 0} where
           | wins k costs looked here e ↦ subst P (sym e) (
               let lt : k < count = looked_within count k s looked (h.within w) in
               let few : c.next < count = omega arith in
-              let waits : b.waiting ≡ k ∷ range_with_len (suc k) (count - suc k) = at.waiting ∙ (first_waits count c.next few ∙ ap (λ n. n ∷ range_with_len (suc n) (count - suc n)) here) in
+              let waits : b.waiting ≡ k ∷ range_with_len (suc k) (count - suc k) =
+              at.waiting ∙ (first_waits count c.next few
+              ∙ ap (λ n. n ∷ range_with_len (suc n) (count - suc n)) here) in
               let free : is_holding s ≡ false = ap is_holding looked in
               let next : d.next ≡ suc k = ap (λ q. next_after c.next q) e in
-              let Q : List (ℕ × A) → Type 0 = λ a. Leads b (sequential.Took w k ∷ []) count d (taken ++ (w, k) ∷ []) a in
+              let Q : List (ℕ × A) → Type 0 =
+              λ a. Leads b (sequential.Took w k ∷ []) count d (taken ++ (w, k) ∷ []) a in
               subst Q (sym (append-nil answers)) record {
-                legal = λ rest l. (((range_with_len (suc k) (count - suc k), waits), ap (λ t. has_out w t) at.out ∙ has_none_out c w taken free), l);
+                legal = λ rest l. (
+                  (
+                    (range_with_len (suc k) (count - suc k), waits),
+                    ap (λ t. has_out w t) at.out
+                        ∙ has_none_out c w taken free,
+                  ),
+                  l,
+                );
                 at = record {
                   waiting = ap (λ t. drop 1 t) waits ∙ ap (λ n. range_with_len n (count - n)) (sym next);
                   out = ap (λ t. t ++ (w, k) ∷ []) at.out ∙ held_after_take count c taken h x k looked here e;
@@ -187,26 +236,38 @@ module _ {A : Type 0} where
                 };
               })
           | returns v cost k is holding by costs e ↦ subst P (sym e) (
-              let Q : List (ℕ × ℕ) → Type 0 = λ l. Leads b (map (λ p. sequential.Gave w p.0 (said p.0 p.1)) l) count d (taken ++ []) (answers ++ map (given said) l) in
-              let R : List (ℕ × ℕ) → Type 0 = λ t. Leads b (sequential.Gave w k (said k cost) ∷ []) count d t (answers ++ (k, said k cost) ∷ []) in
+              let Q : List (ℕ × ℕ) → Type 0 = λ l. Leads b (map (λ p. sequential.Gave w p.0 (said p.0 p.1)) l) count d
+              (taken ++ []) (answers ++ map (given said) l) in
+              let R : List (ℕ × ℕ) → Type 0 = λ t. Leads b (sequential.Gave w k (said k cost) ∷ []) count d t
+              (answers ++ (k, said k cost) ∷ []) in
               let next : d.next ≡ c.next = ap (λ q. next_after c.next q) e in
               subst Q (sym by) (subst R (sym (append-nil taken)) record {
-                legal = λ rest l. ((ap (λ t. is_out w k t) at.out ∙ is_out_held c w k taken holding (h.has w k holding), fit k cost), l);
+                legal = λ rest l. (
+                  (
+                    ap (λ t. is_out w k t) at.out ∙ is_out_held c w k taken holding (h.has w k holding),
+                    fit k cost,
+                  ),
+                  l,
+                );
                 at = record {
                   waiting = at.waiting ∙ ap (λ n. range_with_len n (count - n)) (sym next);
                   out = ap (λ t. without w k t) at.out ∙ held_after_hand count c taken x k holding e;
                   done = ap (λ t. t ++ (k, said k cost) ∷ []) at.done;
                 };
               }))
-          | waits costs e ↦ subst P (sym e) (plain b [] count d taken answers record { legal = λ rest l. l; at = same _ e refl (λ k. refl) })
+          | waits costs e ↦ subst P (sym e)
+              (plain b [] count d taken answers record { legal = λ rest l. l; at = same _ e refl (λ k. refl) })
         ]
 
     -- the law for any steps
-    pub law : (count : ℕ) (xs : List Step) (c : Core) (taken : List (ℕ × ℕ)) (answers : List (ℕ × A)) (b : SequentialBoard A) → Stands count c taken → StandsAt count c taken answers b
-        → Legal fits b (history said count c xs) × StandsAt count (ends count c xs) (taken ++ takes (played count c xs)) (answers ++ map (given said) (hand_backs count c xs)) (board_after b (history said count c xs))
+    pub law : (count : ℕ) (xs : List Step) (c : Core) (taken : List (ℕ × ℕ)) (answers : List (ℕ × A))
+        (b : SequentialBoard A) → Stands count c taken → StandsAt count c taken answers b
+        → Legal fits b (history said count c xs) × StandsAt count (ends count c xs) (taken ++ takes (played count c xs))
+        (answers ++ map (given said) (hand_backs count c xs)) (board_after b (history said count c xs))
     law count [] c taken answers b h at =
         let P : List (ℕ × ℕ) → Type 0 = λ t. StandsAt count c t (answers ++ []) b in
-        let Q : List (ℕ × A) → Type 0 = λ a. StandsAt count c taken a b in (tt, subst P (sym (append-nil taken)) (subst Q (sym (append-nil answers)) at))
+        let Q : List (ℕ × A) → Type 0 = λ a. StandsAt count c taken a b in
+        (tt, subst P (sym (append-nil taken)) (subst Q (sym (append-nil answers)) at))
     law count (x ∷ xs) c taken answers b h at =
         let w : ℕ = worker_of x in
         let r : Reply = reply_to count c x in
@@ -214,24 +275,43 @@ module _ {A : Type 0} where
         let calls : List (Call A) = calls_of said (c.state w) x r in
         let handed : List (ℕ × ℕ) = accepted (c.state w) x r in
         let l = leads count c taken answers b h at x in
-        let rest = law count xs d (taken ++ taken_by w r) (answers ++ map (given said) handed) (board_after b calls) (stands count c taken h x) l.at in
-        let same_taken : (taken ++ taken_by w r) ++ takes (played count d xs) ≡ taken ++ (taken_by w r ++ takes (played count d xs)) = append_assoc taken (taken_by w r) (takes (played count d xs)) in
-        let same_answers : (answers ++ map (given said) handed) ++ map (given said) (hand_backs count d xs) ≡ answers ++ map (given said) (handed ++ hand_backs count d xs) =
-        append_assoc answers (map (given said) handed) (map (given said) (hand_backs count d xs)) ∙ ap (λ t. answers ++ t) (sym (map-append (given said) handed (hand_backs count d xs))) in
-        let P : List (ℕ × ℕ) → Type 0 = λ t. StandsAt count (ends count d xs) t ((answers ++ map (given said) handed) ++ map (given said) (hand_backs count d xs)) (board_after (board_after b calls) (history said count d xs)) in
-        let Q : List (ℕ × A) → Type 0 = λ a. StandsAt count (ends count d xs) (taken ++ (taken_by w r ++ takes (played count d xs))) a (board_after (board_after b calls) (history said count d xs)) in
-        let R : SequentialBoard A → Type 0 = λ q. StandsAt count (ends count d xs) (taken ++ (taken_by w r ++ takes (played count d xs))) (answers ++ map (given said) (handed ++ hand_backs count d xs)) q in
-        (l.legal (history said count d xs) rest.0, subst R (sym (board_after-append b calls (history said count d xs))) (subst Q same_answers (subst P same_taken rest.1)))
+        let rest = law count xs d (taken ++ taken_by w r) (answers ++ map (given said) handed) (board_after b calls)
+        (stands count c taken h x) l.at in
+        let same_taken : (taken ++ taken_by w r) ++ takes (played count d xs)
+        ≡ taken ++ (taken_by w r ++ takes (played count d xs)) =
+        append_assoc taken (taken_by w r) (takes (played count d xs)) in
+        let same_answers : (answers ++ map (given said) handed) ++ map (given said) (hand_backs count d xs)
+        ≡ answers ++ map (given said) (handed ++ hand_backs count d xs) =
+        append_assoc answers (map (given said) handed) (map (given said) (hand_backs count d xs))
+        ∙ ap (λ t. answers ++ t) (sym (map-append (given said) handed (hand_backs count d xs))) in
+        let P : List (ℕ × ℕ) → Type 0 = λ t. StandsAt count (ends count d xs) t
+        ((answers ++ map (given said) handed) ++ map (given said) (hand_backs count d xs))
+        (board_after (board_after b calls) (history said count d xs)) in
+        let Q : List (ℕ × A) → Type 0 = λ a. StandsAt count (ends count d xs)
+        (taken ++ (taken_by w r ++ takes (played count d xs))) a
+        (board_after (board_after b calls) (history said count d xs)) in
+        let R : SequentialBoard A → Type 0 =
+        λ q. StandsAt count (ends count d xs) (taken ++ (taken_by w r ++ takes (played count d xs)))
+        (answers ++ map (given said) (handed ++ hand_backs count d xs)) q in (
+          l.legal (history said count d xs) rest.0,
+          subst R (sym (board_after-append b calls (history said count d xs)))
+              (subst Q same_answers (subst P same_taken rest.1)),
+        )
 
 -- what any steps keep, at their end
-pub stands_all : (count : ℕ) (xs : List Step) (c : Core) (taken : List (ℕ × ℕ)) → Stands count c taken → Stands count (ends count c xs) (taken ++ takes (played count c xs))
-stands_all count [] c taken h = let P : List (ℕ × ℕ) → Type 0 = λ t. Stands count c t in subst P (sym (append-nil taken)) h
+pub stands_all : (count : ℕ) (xs : List Step) (c : Core) (taken : List (ℕ × ℕ)) → Stands count c taken
+    → Stands count (ends count c xs) (taken ++ takes (played count c xs))
+stands_all count [] c taken h = let P : List (ℕ × ℕ) → Type 0 = λ t. Stands count c t in
+    subst P (sym (append-nil taken)) h
 stands_all count (x ∷ xs) c taken h =
-    let rest = stands_all count xs (after count c x) (taken ++ taken_by (worker_of x) (reply_to count c x)) (stands count c taken h x) in
+    let rest = stands_all count xs (after count c x) (taken ++ taken_by (worker_of x) (reply_to count c x))
+    (stands count c taken h x) in
     let P : List (ℕ × ℕ) → Type 0 = λ t. Stands count (ends count (after count c x) xs) t in
-    subst P (append_assoc taken (taken_by (worker_of x) (reply_to count c x)) (takes (played count (after count c x) xs))) rest
+    subst P (append_assoc taken (taken_by (worker_of x) (reply_to count c x))
+    (takes (played count (after count c x) xs))) rest
 
-pub exact_step : (count : ℕ) (c : Core) (taken : List (ℕ × ℕ)) → Stands count c taken → (x : Step) → IsExactReply count c (worker_of x) (reply_to count c x)
+pub exact_step : (count : ℕ) (c : Core) (taken : List (ℕ × ℕ)) → Stands count c taken → (x : Step)
+    → IsExactReply count c (worker_of x) (reply_to count c x)
 exact_step count c taken h x =
     let P : Reply → Type 0 = λ r. IsExactReply count c (worker_of x) r in
     elim (effect count c x) [
@@ -245,16 +325,25 @@ exact_step count c taken h x =
 
 pub exact : (count : ℕ) (xs : List Step) (c : Core) (taken : List (ℕ × ℕ)) → Stands count c taken → IsExact count c xs
 exact count [] c taken h = tt
-exact count (x ∷ xs) c taken h = (exact_step count c taken h x, exact count xs (after count c x) _ (stands count c taken h x))
+exact count (x ∷ xs) c taken h = (
+  exact_step count c taken h x,
+  exact count xs (after count c x) _ (stands count c taken h x),
+)
 
 -- the law for a whole list, from the opening
 module _ {A : Type 0} (fits : ℕ → A → Type 0) (said : ℕ → ℕ → A) (fit : (k cost : ℕ) → fits k (said k cost)) where
   starts : (count : ℕ) → StandsAt {A = A} count (opening count) [] [] (opened count)
-  starts count = record { waiting = let e : count - 0 ≡ count = omega arith in ap (λ n. range_with_len 0 n) (sym e); out = refl; done = refl }
+  starts count = record {
+    waiting = let e : count - 0 ≡ count = omega arith in ap (λ n. range_with_len 0 n) (sym e);
+    out = refl;
+    done = refl;
+  }
 
   pub whole : (count : ℕ) (xs : List Step)
       → Legal fits (opened count) (history said count (opening count) xs)
-      × StandsAt count (ends count (opening count) xs) (takes (played count (opening count) xs)) (map (given said) (hand_backs count (opening count) xs)) (board_after (opened count) (history said count (opening count) xs))
+      × StandsAt count (ends count (opening count) xs) (takes (played count (opening count) xs))
+      (map (given said) (hand_backs count (opening count) xs))
+      (board_after (opened count) (history said count (opening count) xs))
   whole count xs = law fits said fit count xs (opening count) [] [] (opened count) (begins count) (starts count)
 
 -- for `play`

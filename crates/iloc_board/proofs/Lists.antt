@@ -40,16 +40,21 @@ module _ {B : Type 0} where
   get_set_other (x ∷ xs) (suc i) (suc j) b h = get_set_other xs i j b (λ e. h (ap suc e))
 
 -- no pair of the job k is there
-no_job : (ps : List (ℕ × ℕ)) (k : ℕ) → ((cost : ℕ) → Contains ps (k, cost) → ⊥) → list_any (λ y. k == y) (jobs_of ps) ≡ false
+no_job : (ps : List (ℕ × ℕ)) (k : ℕ) → ((cost : ℕ) → Contains ps (k, cost) → ⊥) → list_any (λ y. k == y) (jobs_of ps)
+    ≡ false
 no_job [] k h = refl
 no_job (p ∷ ps) k h =
-    or_from (k == p.0) _ (ne_eqb k p.0 (λ e. h p.1 (contains_here p ps (k, p.1) (λ i. (sym e i, p.1))))) (no_job ps k (λ cost r. h cost (contains_later p ps (k, cost) r)))
+    or_from (k == p.0) _ (ne_eqb k p.0 (λ e. h p.1 (contains_here p ps (k, p.1) (λ i. (sym e i, p.1)))))
+    (no_job ps k (λ cost r. h cost (contains_later p ps (k, cost) r)))
 
 -- where no job stands in both lists, none stands twice in the two together
-pub none_twice-append : (ps qs : List (ℕ × ℕ)) → NoneTwice (jobs_of ps) → NoneTwice (jobs_of qs) → ((k a b : ℕ) → Contains ps (k, a) → Contains qs (k, b) → ⊥) → NoneTwice (jobs_of (ps ++ qs))
+pub none_twice-append : (ps qs : List (ℕ × ℕ)) → NoneTwice (jobs_of ps) → NoneTwice (jobs_of qs)
+    → ((k a b : ℕ) → Contains ps (k, a) → Contains qs (k, b) → ⊥) → NoneTwice (jobs_of (ps ++ qs))
 none_twice-append [] qs h i apart = i
 none_twice-append (p ∷ ps) qs h i apart =
     let jobs : jobs_of (ps ++ qs) ≡ jobs_of ps ++ jobs_of qs = map-append (λ (z : ℕ × ℕ). z.0) ps qs in (
-      ap (λ t. list_any (λ y. p.0 == y) t) jobs ∙ (list_any-append (λ y. p.0 == y) (jobs_of ps) (jobs_of qs) ∙ or_from (list_any (λ y. p.0 == y) (jobs_of ps)) _ h.0 (no_job qs p.0 (λ b r. apart p.0 p.1 b (contains_here p ps p refl) r))),
+      ap (λ t. list_any (λ y. p.0 == y) t) jobs ∙ (list_any-append (λ y. p.0 == y) (jobs_of ps) (jobs_of qs)
+          ∙ or_from (list_any (λ y. p.0 == y) (jobs_of ps)) _ h.0
+          (no_job qs p.0 (λ b r. apart p.0 p.1 b (contains_here p ps p refl) r))),
       none_twice-append ps qs h.1 i (λ k a b x y. apart k a b (contains_later p ps (k, a) x) y),
     )

@@ -24,41 +24,54 @@ pub entries_of-append : (w : ℕ) (xs ys : List Entry) → entries_of w (xs ++ y
 entries_of-append w [] ys = refl
 entries_of-append w (e ∷ xs) ys = go (entries_of-append w xs ys) (w == worker_of e.step)
   where
-    go : entries_of w (xs ++ ys) ≡ entries_of w xs ++ entries_of w ys → (b : Bool) → cond b (e ∷ entries_of w (xs ++ ys)) (entries_of w (xs ++ ys)) ≡ cond b (e ∷ entries_of w xs) (entries_of w xs) ++ entries_of w ys
+    go : entries_of w (xs ++ ys) ≡ entries_of w xs ++ entries_of w ys → (b : Bool)
+        → cond b (e ∷ entries_of w (xs ++ ys)) (entries_of w (xs ++ ys))
+        ≡ cond b (e ∷ entries_of w xs) (entries_of w xs) ++ entries_of w ys
     go rest true = ap (λ t. e ∷ t) rest
     go rest false = rest
 
 -- one entry more is the worker's own, or another's
-pub entries_here : (w : ℕ) (es : List Entry) (x : Step) (r : Reply) → w ≡ worker_of x → entries_of w (es ++ entry x r ∷ []) ≡ entries_of w es ++ entry x r ∷ []
-entries_here w es x r e = entries_of-append w es (entry x r ∷ []) ∙ ap (λ b. entries_of w es ++ cond b (entry x r ∷ []) []) (eq-eqb w (worker_of x) e)
+pub entries_here : (w : ℕ) (es : List Entry) (x : Step) (r : Reply) → w ≡ worker_of x
+    → entries_of w (es ++ entry x r ∷ []) ≡ entries_of w es ++ entry x r ∷ []
+entries_here w es x r e = entries_of-append w es (entry x r ∷ [])
+    ∙ ap (λ b. entries_of w es ++ cond b (entry x r ∷ []) []) (eq-eqb w (worker_of x) e)
 
-pub entries_else : (w : ℕ) (es : List Entry) (x : Step) (r : Reply) → w ≢ worker_of x → entries_of w (es ++ entry x r ∷ []) ≡ entries_of w es
-entries_else w es x r ne = entries_of-append w es (entry x r ∷ []) ∙ (ap (λ b. entries_of w es ++ cond b (entry x r ∷ []) []) (ne_eqb w (worker_of x) ne) ∙ append-nil (entries_of w es))
+pub entries_else : (w : ℕ) (es : List Entry) (x : Step) (r : Reply) → w ≢ worker_of x
+    → entries_of w (es ++ entry x r ∷ []) ≡ entries_of w es
+entries_else w es x r ne = entries_of-append w es (entry x r ∷ [])
+    ∙ (ap (λ b. entries_of w es ++ cond b (entry x r ∷ []) []) (ne_eqb w (worker_of x) ne)
+    ∙ append-nil (entries_of w es))
 
 -- the core's state of a worker follows from the worker's entries
-pub state_is : (count : ℕ) (c : Core) (xs : List Step) (w : ℕ) → (ends count c xs).state w ≡ state_from (c.state w) (entries_of w (played count c xs))
+pub state_is : (count : ℕ) (c : Core) (xs : List Step) (w : ℕ)
+    → (ends count c xs).state w ≡ state_from (c.state w) (entries_of w (played count c xs))
 state_is count c [] w = refl
 state_is count c (x ∷ xs) w = state_is count (after count c x) xs w ∙ go (w == worker_of x)
   where
     rest : List Entry
     rest = entries_of w (played count (after count c x) xs)
 
-    go : (b : Bool) → state_from (cond b (state_after (c.state w) (reply_to count c x)) (c.state w)) rest ≡ state_from (c.state w) (cond b (entry x (reply_to count c x) ∷ rest) rest)
+    go : (b : Bool) → state_from (cond b (state_after (c.state w) (reply_to count c x)) (c.state w)) rest
+        ≡ state_from (c.state w) (cond b (entry x (reply_to count c x) ∷ rest) rest)
     go true = refl
     go false = refl
 
-pub state_final : (count : ℕ) (steps : List Step) (w : ℕ) → (final count steps).state w ≡ state_of (entries_of w (played count (opening count) steps))
+pub state_final : (count : ℕ) (steps : List Step) (w : ℕ)
+    → (final count steps).state w ≡ state_of (entries_of w (played count (opening count) steps))
 state_final count steps w = state_is count (opening count) steps w
 
-pub state_from-snoc : (s : State) (es : List Entry) (x : Step) (r : Reply) → state_from s (es ++ entry x r ∷ []) ≡ state_after (state_from s es) r
+pub state_from-snoc : (s : State) (es : List Entry) (x : Step) (r : Reply) → state_from s (es ++ entry x r ∷ [])
+    ≡ state_after (state_from s es) r
 state_from-snoc s [] x r = refl
 state_from-snoc s (e ∷ es) x r = state_from-snoc (state_after s e.reply) es x r
 
-pub seen_from-snoc : (count start : ℕ) (es : List Entry) (x : Step) (r : Reply) → seen_from count start (es ++ entry x r ∷ []) ≡ max (seen_from count start es) (shown count r)
+pub seen_from-snoc : (count start : ℕ) (es : List Entry) (x : Step) (r : Reply)
+    → seen_from count start (es ++ entry x r ∷ []) ≡ max (seen_from count start es) (shown count r)
 seen_from-snoc count start [] x r = refl
 seen_from-snoc count start (e ∷ es) x r = seen_from-snoc count (max start (shown count e.reply)) es x r
 
-pub made-snoc : (made : ℕ) (xs : List Step) (x : Step) → AllMade made xs → worker_of x < made → AllMade made (xs ++ x ∷ [])
+pub made-snoc : (made : ℕ) (xs : List Step) (x : Step) → AllMade made xs → worker_of x < made
+    → AllMade made (xs ++ x ∷ [])
 made-snoc made [] x h lt = (lt, tt)
 made-snoc made (y ∷ xs) x h lt = (h.0, made-snoc made xs x h.1 lt)
 
@@ -66,17 +79,21 @@ pub made_more : (made : ℕ) (xs : List Step) → AllMade made xs → AllMade (s
 made_more made [] h = tt
 made_more made (y ∷ xs) h = (let lt : worker_of y < made = h.0 in omega arith, made_more made xs h.1)
 
-pub answered-snoc : (es : List Entry) (x : Step) (r : Reply) → AllAnswered es → r ≢ NotNow → AllAnswered (es ++ entry x r ∷ [])
+pub answered-snoc : (es : List Entry) (x : Step) (r : Reply) → AllAnswered es → r ≢ NotNow
+    → AllAnswered (es ++ entry x r ∷ [])
 answered-snoc [] x r h ne = (ne, tt)
 answered-snoc (e ∷ es) x r h ne = (h.0, answered-snoc es x r h.1 ne)
 
 -- a worker that was not made has no entries
-pub none_yet : (count : ℕ) (c : Core) (xs : List Step) (made : ℕ) → AllMade made xs → entries_of made (played count c xs) ≡ []
+pub none_yet : (count : ℕ) (c : Core) (xs : List Step) (made : ℕ) → AllMade made xs
+    → entries_of made (played count c xs) ≡ []
 none_yet count c [] made h = refl
 none_yet count c (x ∷ xs) made h =
     let lt : worker_of x < made = h.0 in
     let ne : made ≢ worker_of x = λ e. absurd (omega arith) in
-    ap (λ b. cond b (entry x (reply_to count c x) ∷ entries_of made (played count (after count c x) xs)) (entries_of made (played count (after count c x) xs))) (ne_eqb made (worker_of x) ne) ∙ none_yet count (after count c x) xs made h.1
+    ap (λ b. cond b (entry x (reply_to count c x) ∷ entries_of made (played count (after count c x) xs))
+    (entries_of made (played count (after count c x) xs))) (ne_eqb made (worker_of x) ne)
+    ∙ none_yet count (after count c x) xs made h.1
 
 -- the next job never falls, and is at least what a reply shows
 pub next_rises : (count : ℕ) (c : Core) (x : Step) → c.next ≤ (after count c x).next
@@ -104,15 +121,20 @@ shown_low count c x =
     ]
 
 -- a journal after its own step, and after another's
-pub tells_here : (count : ℕ) (steps : List Step) (j : Journal) (x : Step) (r : Reply) → reply_to count (final count steps) x ≡ r → j.worker ≡ worker_of x → Tells count steps j → Tells count (steps ++ x ∷ []) (noted j x r)
+pub tells_here : (count : ℕ) (steps : List Step) (j : Journal) (x : Step) (r : Reply)
+    → reply_to count (final count steps) x ≡ r → j.worker ≡ worker_of x → Tells count steps j
+    → Tells count (steps ++ x ∷ []) (noted j x r)
 tells_here count steps j x r e w h =
     let c : Core = final count steps in
     let es : List Entry = played count (opening count) steps in
     let low : seen count j ≤ c.next = h.seen_low in
     let rises : c.next ≤ (after count c x).next = next_rises count c x in
-    let shows : shown count r ≤ (after count c x).next = let P : Reply → Type 0 = λ q. shown count q ≤ (after count c x).next in subst P e (shown_low count c x) in
-    let next : (final count (steps ++ x ∷ [])).next ≡ (after count c x).next = ap (λ (q : Core). q.next) (final-snoc count steps x) in
-    let sees : seen count (noted j x r) ≡ max (seen count j) (shown count r) = seen_from-snoc count j.start j.entries x r in
+    let shows : shown count r ≤ (after count c x).next = let P : Reply → Type 0 =
+    λ q. shown count q ≤ (after count c x).next in subst P e (shown_low count c x) in
+    let next : (final count (steps ++ x ∷ [])).next ≡ (after count c x).next =
+    ap (λ (q : Core). q.next) (final-snoc count steps x) in
+    let sees : seen count (noted j x r) ≡ max (seen count j) (shown count r) =
+    seen_from-snoc count j.start j.entries x r in
     record {
       entries =
           ap (λ t. entries_of j.worker t) (played-snoc count (opening count) steps x ∙ ap (λ q. es ++ entry x q ∷ []) e)
@@ -120,32 +142,40 @@ tells_here count steps j x r e w h =
       seen_low = omega arith;
     }
 
-pub tells_else : (count : ℕ) (steps : List Step) (j : Journal) (x : Step) → j.worker ≢ worker_of x → Tells count steps j → Tells count (steps ++ x ∷ []) j
+pub tells_else : (count : ℕ) (steps : List Step) (j : Journal) (x : Step) → j.worker ≢ worker_of x → Tells count steps j
+    → Tells count (steps ++ x ∷ []) j
 tells_else count steps j x ne h =
     let c : Core = final count steps in
     let low : seen count j ≤ c.next = h.seen_low in
     let rises : c.next ≤ (after count c x).next = next_rises count c x in
-    let next : (final count (steps ++ x ∷ [])).next ≡ (after count c x).next = ap (λ (q : Core). q.next) (final-snoc count steps x) in
+    let next : (final count (steps ++ x ∷ [])).next ≡ (after count c x).next =
+    ap (λ (q : Core). q.next) (final-snoc count steps x) in
     record {
-      entries = ap (λ t. entries_of j.worker t) (played-snoc count (opening count) steps x) ∙ (entries_else j.worker (played count (opening count) steps) x (reply_to count c x) ne ∙ h.entries);
+      entries = ap (λ t. entries_of j.worker t) (played-snoc count (opening count) steps x)
+          ∙ (entries_else j.worker (played count (opening count) steps) x (reply_to count c x) ne ∙ h.entries);
       seen_low = omega arith;
     }
 
-pub seen_in_low : (count n : ℕ) (js : List Journal) → ((i : ℕ) (j : Journal) → get_elem? js i ≡ some j → seen count j ≤ n) → seen_in count js ≤ n
+pub seen_in_low : (count n : ℕ) (js : List Journal)
+    → ((i : ℕ) (j : Journal) → get_elem? js i ≡ some j → seen count j ≤ n) → seen_in count js ≤ n
 seen_in_low count n [] h = omega arith
 seen_in_low count n (j ∷ js) h =
     let here : seen count j ≤ n = h 0 j refl in
     let rest : seen_in count js ≤ n = seen_in_low count n js (λ i k e. h (suc i) k e) in
     omega arith
 
-pub handed_from-snoc : (s : State) (es : List Entry) (x : Step) (r : Reply) → handed_from s (es ++ entry x r ∷ []) ≡ handed_from s es ++ accepted (state_from s es) x r
+pub handed_from-snoc : (s : State) (es : List Entry) (x : Step) (r : Reply) → handed_from s (es ++ entry x r ∷ [])
+    ≡ handed_from s es ++ accepted (state_from s es) x r
 handed_from-snoc s [] x r = append-nil (accepted s x r)
 handed_from-snoc s (e ∷ es) x r =
-    ap (λ t. accepted s e.step e.reply ++ t) (handed_from-snoc (state_after s e.reply) es x r) ∙ sym (append_assoc (accepted s e.step e.reply) (handed_from (state_after s e.reply) es) (accepted (state_from (state_after s e.reply) es) x r))
+    ap (λ t. accepted s e.step e.reply ++ t) (handed_from-snoc (state_after s e.reply) es x r)
+    ∙ sym (append_assoc (accepted s e.step e.reply) (handed_from (state_after s e.reply) es)
+    (accepted (state_from (state_after s e.reply) es) x r))
 
 pub seen_more : (count start : ℕ) (es : List Entry) → start ≤ seen_from count start es
 seen_more count start [] = omega arith
-seen_more count start (e ∷ es) = let h : max start (shown count e.reply) ≤ seen_from count (max start (shown count e.reply)) es = seen_more count (max start (shown count e.reply)) es in omega arith
+seen_more count start (e ∷ es) = let h : max start (shown count e.reply) ≤ seen_from count
+    (max start (shown count e.reply)) es = seen_more count (max start (shown count e.reply)) es in omega arith
 
 shows_count : (count : ℕ) (r : Reply) → is_none_left r ≡ true → shown count r ≡ count
 shows_count count NoneLeft e = refl
@@ -160,14 +190,17 @@ none_seen : (count start : ℕ) (es : List Entry) → saw_none es ≡ true → c
 none_seen count start [] h = absurd (cc)
 none_seen count start (e ∷ es) h =
     elim (or_cases (is_none_left e.reply) (saw_none es) h) [
-      | inl p ↦ let s : shown count e.reply ≡ count = shows_count count e.reply p in let m : max start (shown count e.reply) ≤ seen_from count (max start (shown count e.reply)) es = seen_more count (max start (shown count e.reply)) es in omega arith
+      | inl p ↦ let s : shown count e.reply ≡ count = shows_count count e.reply p in
+          let m : max start (shown count e.reply) ≤ seen_from count (max start (shown count e.reply)) es =
+          seen_more count (max start (shown count e.reply)) es in omega arith
       | inr p ↦ none_seen count (max start (shown count e.reply)) es p
     ]
 
 pub told_none : (count : ℕ) (j : Journal) → saw_none j.entries ≡ true → count ≤ seen count j
 told_none count j h = none_seen count j.start j.entries h
 
-looks_step : (k start count : ℕ) (s : State) (r : Reply) → ((j : ℕ) → s ≡ Looked j → j ≤ start) → state_after s r ≡ Looked k → k ≤ max start (shown count r)
+looks_step : (k start count : ℕ) (s : State) (r : Reply) → ((j : ℕ) → s ≡ Looked j → j ≤ start)
+    → state_after s r ≡ Looked k → k ≤ max start (shown count r)
 looks_step k start count s (Block j) h e = let same : j ≡ k = cc in omega arith
 looks_step k start count s NoneLeft h e = absurd (cc)
 looks_step k start count s (Took j) h e = absurd (cc)
@@ -175,9 +208,11 @@ looks_step k start count s (Stale j) h e = let same : j ≡ k = cc in omega arit
 looks_step k start count s Handed h e = absurd (cc)
 looks_step k start count s NotNow h e = let low : k ≤ start = h k e in omega arith
 
-looks_seen : (k start count : ℕ) (s : State) (es : List Entry) → ((j : ℕ) → s ≡ Looked j → j ≤ start) → state_from s es ≡ Looked k → k ≤ seen_from count start es
+looks_seen : (k start count : ℕ) (s : State) (es : List Entry) → ((j : ℕ) → s ≡ Looked j → j ≤ start)
+    → state_from s es ≡ Looked k → k ≤ seen_from count start es
 looks_seen k start count s [] h e = h k e
-looks_seen k start count s (x ∷ es) h e = looks_seen k (max start (shown count x.reply)) count (state_after s x.reply) es (λ j f. looks_step j start count s x.reply h f) e
+looks_seen k start count s (x ∷ es) h e = looks_seen k (max start (shown count x.reply)) count (state_after s x.reply)
+    es (λ j f. looks_step j start count s x.reply h f) e
 
 -- the job that was looked at is no more than what was seen
 pub looked_seen : (k count : ℕ) (j : Journal) → state_of j.entries ≡ Looked k → k ≤ seen count j

@@ -19,67 +19,93 @@ use Rattle.iloc_board.specs.Journal.{state_of, noted, handed, all_handed, seen, 
 use Rattle.iloc_board.specs.Steps.Rule.{Sat, pass_seat, root_seat, adds, gathers}
 use Rattle.iloc_board.specs.Views.{BoardView, PassView, RootView, state, stepped, job_of, AllFit, priced}
 
-pub all_fit-append : {A : Type 0} (fits : ℕ → A → Type 0) (xs ys : List (ℕ × A)) → AllFit fits xs → AllFit fits ys → AllFit fits (xs ++ ys)
+pub all_fit-append : {A : Type 0} (fits : ℕ → A → Type 0) (xs ys : List (ℕ × A)) → AllFit fits xs → AllFit fits ys
+    → AllFit fits (xs ++ ys)
 all_fit-append fits [] ys h i = i
 all_fit-append fits (x ∷ xs) ys h i = (h.0, all_fit-append fits xs ys h.1 i)
 
 all_handed-snoc : (js : List Journal) (j : Journal) → all_handed (js ++ j ∷ []) ≡ all_handed js ++ handed j.entries
 all_handed-snoc [] j = append-nil (handed j.entries)
-all_handed-snoc (i ∷ js) j = ap (λ t. handed i.entries ++ t) (all_handed-snoc js j) ∙ sym (append_assoc (handed i.entries) (all_handed js) (handed j.entries))
+all_handed-snoc (i ∷ js) j = ap (λ t. handed i.entries ++ t) (all_handed-snoc js j)
+    ∙ sym (append_assoc (handed i.entries) (all_handed js) (handed j.entries))
 
 module _ {J A : Type 0} where
   -- a pass of this board, seen from inside
   pub same_table : (p q : PassView J A) (b d : BoardView J) → p ≡ q → b ≡ d → q.board ≡ d → p.board.table ≡ b.table
-  same_table p q b d e f own = ap (λ (v : PassView J A). v.board.table) e ∙ (ap (λ (v : BoardView J). v.table) own ∙ ap (λ (v : BoardView J). v.table) (sym f))
+  same_table p q b d e f own = ap (λ (v : PassView J A). v.board.table) e
+      ∙ (ap (λ (v : BoardView J). v.table) own ∙ ap (λ (v : BoardView J). v.table) (sym f))
 
   pub same_jobs : (p q : PassView J A) (b d : BoardView J) → p ≡ q → b ≡ d → q.board ≡ d → p.board.jobs ≡ b.jobs
-  same_jobs p q b d e f own = ap (λ (v : PassView J A). v.board.jobs) e ∙ (ap (λ (v : BoardView J). v.jobs) own ∙ ap (λ (v : BoardView J). v.jobs) (sym f))
+  same_jobs p q b d e f own = ap (λ (v : PassView J A). v.board.jobs) e
+      ∙ (ap (λ (v : BoardView J). v.jobs) own ∙ ap (λ (v : BoardView J). v.jobs) (sym f))
 
   pub own_jobs : (p q : PassView J A) (d : BoardView J) → p ≡ q → q.board ≡ d → p.board.jobs ≡ d.jobs
   own_jobs p q d e own = ap (λ (v : PassView J A). v.board.jobs) e ∙ ap (λ (v : BoardView J). v.jobs) own
 
   -- the job that a state inside names
-  pub job_is : (p q : PassView J A) (about : State) → p ≡ q → about ≡ state_of p.journal.entries → job_of (state q) ≡ job_of about
+  pub job_is : (p q : PassView J A) (about : State) → p ≡ q → about ≡ state_of p.journal.entries
+      → job_of (state q) ≡ job_of about
   job_is p q about e s = ap (λ (v : PassView J A). job_of (state v)) (sym e) ∙ ap job_of (sym s)
 
   -- the same of a root
   pub root_table : (p q : RootView J A) (b d : BoardView J) → p ≡ q → b ≡ d → q.board ≡ d → p.board.table ≡ b.table
-  root_table p q b d e f own = ap (λ (v : RootView J A). v.board.table) e ∙ (ap (λ (v : BoardView J). v.table) own ∙ ap (λ (v : BoardView J). v.table) (sym f))
+  root_table p q b d e f own = ap (λ (v : RootView J A). v.board.table) e
+      ∙ (ap (λ (v : BoardView J). v.table) own ∙ ap (λ (v : BoardView J). v.table) (sym f))
 
   pub root_jobs : (p q : RootView J A) (b d : BoardView J) → p ≡ q → b ≡ d → q.board ≡ d → p.board.jobs ≡ b.jobs
-  root_jobs p q b d e f own = ap (λ (v : RootView J A). v.board.jobs) e ∙ (ap (λ (v : BoardView J). v.jobs) own ∙ ap (λ (v : BoardView J). v.jobs) (sym f))
+  root_jobs p q b d e f own = ap (λ (v : RootView J A). v.board.jobs) e
+      ∙ (ap (λ (v : BoardView J). v.jobs) own ∙ ap (λ (v : BoardView J). v.jobs) (sym f))
 
-  pub free_inside : (p q : PassView J A) → p ≡ q → is_holding (state q) ≡ false → is_holding (state_of p.journal.entries) ≡ false
+  pub free_inside : (p q : PassView J A) → p ≡ q → is_holding (state q) ≡ false
+      → is_holding (state_of p.journal.entries) ≡ false
   free_inside p q e h = ap (λ (v : PassView J A). is_holding (state v)) e ∙ h
 
   -- the pass after a step
-  pub step_view : (p q : PassView J A) (me new : Sat) (id : TableId) (x : Step) (r : Reply) → p ≡ q → p.journal ≡ me.0.journal → id ≡ p.board.table → new ≡ adds me x r
-      → record { board = record { table = id; jobs = p.board.jobs }; journal = new.0.journal; answers = p.answers } ≡ stepped q x r
+  pub step_view : (p q : PassView J A) (me new : Sat) (id : TableId) (x : Step) (r : Reply) → p ≡ q
+      → p.journal ≡ me.0.journal → id ≡ p.board.table → new ≡ adds me x r
+      → record { board = record { table = id; jobs = p.board.jobs }; journal = new.0.journal; answers = p.answers }
+      ≡ stepped q x r
   step_view p q me new id x r e j t n =
-      let journal : new.0.journal ≡ noted p.journal x r = ap (λ (v : Sat). v.0.journal) n ∙ ap (λ v. noted v x r) (sym j) in
-      let here : record { board = record { table = id; jobs = p.board.jobs }; journal = new.0.journal; answers = p.answers } ≡ stepped p x r =
+      let journal : new.0.journal ≡ noted p.journal x r = ap (λ (v : Sat). v.0.journal) n
+      ∙ ap (λ v. noted v x r) (sym j) in
+      let here : record {
+        board = record { table = id; jobs = p.board.jobs };
+        journal = new.0.journal;
+        answers = p.answers;
+      } ≡ stepped p x r =
       λ i. record { board = record { table = t i; jobs = p.board.jobs }; journal = journal i; answers = p.answers } in
       here ∙ ap (λ v. stepped v x r) e
 
   -- what a pass keeps inside, after a step that hands nothing back
-  pub steps_inside : (number : ℕ) (fits : ℕ → A → Type 0) (price : A → ℕ) (me new : Sat) (worker : ℕ) (about next : State) (p : PassView J A) (id : TableId) (x : Step) (r : Reply)
-      → IsPass number fits price me worker about p → p.journal ≡ me.0.journal → new ≡ adds me x r → next ≡ state_after about r → IsWithin number next → accepted (state_of p.journal.entries) x r ≡ []
-      → IsPass number fits price new worker next record { board = record { table = id; jobs = p.board.jobs }; journal = new.0.journal; answers = p.answers }
+  pub steps_inside : (number : ℕ) (fits : ℕ → A → Type 0) (price : A → ℕ) (me new : Sat) (worker : ℕ)
+      (about next : State) (p : PassView J A) (id : TableId) (x : Step) (r : Reply)
+      → IsPass number fits price me worker about p → p.journal ≡ me.0.journal → new ≡ adds me x r
+      → next ≡ state_after about r → IsWithin number next → accepted (state_of p.journal.entries) x r ≡ []
+      → IsPass number fits price new worker next record {
+        board = record { table = id; jobs = p.board.jobs };
+        journal = new.0.journal;
+        answers = p.answers;
+      }
   steps_inside number fits price me new worker about next p id x r h j n s within none =
-      let journal : new.0.journal ≡ noted p.journal x r = ap (λ (v : Sat). v.0.journal) n ∙ ap (λ v. noted v x r) (sym j) in
+      let journal : new.0.journal ≡ noted p.journal x r = ap (λ (v : Sat). v.0.journal) n
+      ∙ ap (λ v. noted v x r) (sym j) in
       let entries : new.0.journal.entries ≡ p.journal.entries ++ entry x r ∷ [] = ap (λ v. v.entries) journal in
       let count : me.0.count ≡ number = ap (λ (v : Sat). v.0.count) h.seat in
       let empty : me.1 ≡ [] = ap (λ (v : Sat). v.1) h.seat in
       record {
         seat =
             let e : new ≡ (pass_seat me.0.count (noted me.0.journal x r), me.1) = n in
-            let f : (pass_seat me.0.count (noted me.0.journal x r), me.1) ≡ (pass_seat number new.0.journal, []) = λ i. (pass_seat (count i) ((ap (λ (v : Sat). v.0.journal) (sym n)) i), empty i) in
+            let f : (pass_seat me.0.count (noted me.0.journal x r), me.1) ≡ (pass_seat number new.0.journal, []) =
+            λ i. (pass_seat (count i) ((ap (λ (v : Sat). v.0.journal) (sym n)) i), empty i) in
             e ∙ f;
         worker_is = h.worker_is ∙ ap (λ v. v.worker) (sym journal);
-        state_is = s ∙ (ap (λ t. state_after t r) h.state_is ∙ (sym (state_from-snoc Free p.journal.entries x r) ∙ ap state_of (sym entries)));
+        state_is = s ∙ (ap (λ t. state_after t r) h.state_is
+            ∙ (sym (state_from-snoc Free p.journal.entries x r) ∙ ap state_of (sym entries)));
         within = within;
         fit = h.fit;
-        each = h.each ∙ (sym (append-nil (handed p.journal.entries)) ∙ (ap (λ t. handed p.journal.entries ++ t) (sym none) ∙ (sym (handed_from-snoc Free p.journal.entries x r) ∙ ap handed (sym entries))));
+        each = h.each ∙ (sym (append-nil (handed p.journal.entries))
+            ∙ (ap (λ t. handed p.journal.entries ++ t) (sym none)
+            ∙ (sym (handed_from-snoc Free p.journal.entries x r) ∙ ap handed (sym entries))));
       }
 
 pub finds : (count n m : ℕ) → m ≡ count → n < count → found m n ≡ Block n
@@ -97,85 +123,140 @@ misses_none count n m e le = ap (λ q. missed q n) e ∙ ap (λ b. cond b (Stale
 -- a look that finds the job n
 module _ {J A : Type 0} (number : ℕ) (fits : ℕ → A → Type 0) (price : A → ℕ) where
   pub looked_inside : (me new : Sat) (worker : ℕ) (about : State) (p : PassView J A) (id : TableId) (w n : ℕ)
-      → IsPass number fits price me worker about p → p.journal ≡ me.0.journal → new ≡ adds me (Look w) (found me.0.count n) → n < number
-      → IsPass number fits price new worker (Looked n) record { board = record { table = id; jobs = p.board.jobs }; journal = new.0.journal; answers = p.answers }
+      → IsPass number fits price me worker about p → p.journal ≡ me.0.journal
+      → new ≡ adds me (Look w) (found me.0.count n) → n < number
+      → IsPass number fits price new worker (Looked n) record {
+        board = record { table = id; jobs = p.board.jobs };
+        journal = new.0.journal;
+        answers = p.answers;
+      }
   looked_inside me new worker about p id w n h j e lt =
       let f : found me.0.count n ≡ Block n = finds number n me.0.count (ap (λ (v : Sat). v.0.count) h.seat) lt in
-      steps_inside number fits price me new worker about (Looked n) p id (Look w) (Block n) h j (e ∙ ap (λ r. adds me (Look w) r) f) refl lt refl
+      steps_inside number fits price me new worker about (Looked n) p id (Look w) (Block n) h j
+      (e ∙ ap (λ r. adds me (Look w) r) f) refl lt refl
 
   pub free_again : (me new : Sat) (worker : ℕ) (about : State) (p : PassView J A) (id : TableId) (w n : ℕ)
-      → IsPass number fits price me worker about p → p.journal ≡ me.0.journal → new ≡ adds me (Look w) (found me.0.count n) → number ≤ n
-      → IsPass number fits price new worker Free record { board = record { table = id; jobs = p.board.jobs }; journal = new.0.journal; answers = p.answers }
+      → IsPass number fits price me worker about p → p.journal ≡ me.0.journal
+      → new ≡ adds me (Look w) (found me.0.count n) → number ≤ n
+      → IsPass number fits price new worker Free record {
+        board = record { table = id; jobs = p.board.jobs };
+        journal = new.0.journal;
+        answers = p.answers;
+      }
   free_again me new worker about p id w n h j e le =
       let f : found me.0.count n ≡ NoneLeft = finds_none number n me.0.count (ap (λ (v : Sat). v.0.count) h.seat) le in
-      steps_inside number fits price me new worker about Free p id (Look w) NoneLeft h j (e ∙ ap (λ r. adds me (Look w) r) f) refl tt refl
+      steps_inside number fits price me new worker about Free p id (Look w) NoneLeft h j
+      (e ∙ ap (λ r. adds me (Look w) r) f) refl tt refl
 
   -- what was told once, that none is left, holds of each later number found
-  pub none_stays : (p q : PassView J A) → p ≡ q → (me : Sat) (n : ℕ) → p.journal ≡ me.0.journal → me.0.count ≡ number → seen me.0.count me.0.journal ≤ n → saw_none q.journal.entries ≡ true → number ≤ n
+  pub none_stays : (p q : PassView J A) → p ≡ q → (me : Sat) (n : ℕ) → p.journal ≡ me.0.journal → me.0.count ≡ number
+      → seen me.0.count me.0.journal ≤ n → saw_none q.journal.entries ≡ true → number ≤ n
   none_stays p q e me n j count low told =
-      let mine : saw_none me.0.journal.entries ≡ true = ap (λ (v : Journal). saw_none v.entries) (sym j) ∙ (ap (λ (v : PassView J A). saw_none v.journal.entries) e ∙ told) in
+      let mine : saw_none me.0.journal.entries ≡ true = ap (λ (v : Journal). saw_none v.entries) (sym j)
+      ∙ (ap (λ (v : PassView J A). saw_none v.journal.entries) e ∙ told) in
       let all : number ≤ seen number me.0.journal = told_none number me.0.journal mine in
       let same : seen me.0.count me.0.journal ≡ seen number me.0.journal = ap (λ m. seen m me.0.journal) count in
       omega arith
 
   -- a try that takes the job k
-  pub took_inside : (me new : Sat) (worker : ℕ) (about : State) (p : PassView J A) (id : TableId) (w n k job : ℕ) → k ≡ job
-      → IsPass number fits price me worker about p → p.journal ≡ me.0.journal → new ≡ adds me (Try w) (cond (n == k) (Took k) (missed me.0.count n)) → n ≡ k → job < number
-      → IsPass number fits price new worker (Holding job) record { board = record { table = id; jobs = p.board.jobs }; journal = new.0.journal; answers = p.answers }
+  pub took_inside : (me new : Sat) (worker : ℕ) (about : State) (p : PassView J A) (id : TableId) (w n k job : ℕ)
+      → k ≡ job
+      → IsPass number fits price me worker about p → p.journal ≡ me.0.journal
+      → new ≡ adds me (Try w) (cond (n == k) (Took k) (missed me.0.count n)) → n ≡ k → job < number
+      → IsPass number fits price new worker (Holding job) record {
+        board = record { table = id; jobs = p.board.jobs };
+        journal = new.0.journal;
+        answers = p.answers;
+      }
   took_inside me new worker about p id w n k job same h j e here lt =
-      let f : cond (n == k) (Took k) (missed me.0.count n) ≡ Took job = ap (λ b. cond b (Took k) (missed me.0.count n)) (eq-eqb n k here) ∙ ap Took same in
-      steps_inside number fits price me new worker about (Holding job) p id (Try w) (Took job) h j (e ∙ ap (λ r. adds me (Try w) r) f) refl lt refl
+      let f : cond (n == k) (Took k) (missed me.0.count n) ≡ Took job =
+      ap (λ b. cond b (Took k) (missed me.0.count n)) (eq-eqb n k here) ∙ ap Took same in
+      steps_inside number fits price me new worker about (Holding job) p id (Try w) (Took job) h j
+      (e ∙ ap (λ r. adds me (Try w) r) f) refl lt refl
 
   -- a try that comes too late
   pub late_inside : (me new : Sat) (worker : ℕ) (about : State) (p : PassView J A) (id : TableId) (w n k : ℕ)
-      → IsPass number fits price me worker about p → p.journal ≡ me.0.journal → new ≡ adds me (Try w) (cond (n == k) (Took k) (missed me.0.count n)) → n ≢ k → n < number
-      → IsPass number fits price new worker (Looked n) record { board = record { table = id; jobs = p.board.jobs }; journal = new.0.journal; answers = p.answers }
+      → IsPass number fits price me worker about p → p.journal ≡ me.0.journal
+      → new ≡ adds me (Try w) (cond (n == k) (Took k) (missed me.0.count n)) → n ≢ k → n < number
+      → IsPass number fits price new worker (Looked n) record {
+        board = record { table = id; jobs = p.board.jobs };
+        journal = new.0.journal;
+        answers = p.answers;
+      }
   late_inside me new worker about p id w n k h j e ne lt =
-      let f : cond (n == k) (Took k) (missed me.0.count n) ≡ Stale n = ap (λ b. cond b (Took k) (missed me.0.count n)) (ne_eqb n k ne) ∙ misses number n me.0.count (ap (λ (v : Sat). v.0.count) h.seat) lt in
-      steps_inside number fits price me new worker about (Looked n) p id (Try w) (Stale n) h j (e ∙ ap (λ r. adds me (Try w) r) f) refl lt refl
+      let f : cond (n == k) (Took k) (missed me.0.count n) ≡ Stale n =
+      ap (λ b. cond b (Took k) (missed me.0.count n)) (ne_eqb n k ne)
+      ∙ misses number n me.0.count (ap (λ (v : Sat). v.0.count) h.seat) lt in
+      steps_inside number fits price me new worker about (Looked n) p id (Try w) (Stale n) h j
+      (e ∙ ap (λ r. adds me (Try w) r) f) refl lt refl
 
   pub none_inside : (me new : Sat) (worker : ℕ) (about : State) (p : PassView J A) (id : TableId) (w n k : ℕ)
-      → IsPass number fits price me worker about p → p.journal ≡ me.0.journal → new ≡ adds me (Try w) (cond (n == k) (Took k) (missed me.0.count n)) → n ≢ k → number ≤ n
-      → IsPass number fits price new worker Free record { board = record { table = id; jobs = p.board.jobs }; journal = new.0.journal; answers = p.answers }
+      → IsPass number fits price me worker about p → p.journal ≡ me.0.journal
+      → new ≡ adds me (Try w) (cond (n == k) (Took k) (missed me.0.count n)) → n ≢ k → number ≤ n
+      → IsPass number fits price new worker Free record {
+        board = record { table = id; jobs = p.board.jobs };
+        journal = new.0.journal;
+        answers = p.answers;
+      }
   none_inside me new worker about p id w n k h j e ne le =
-      let f : cond (n == k) (Took k) (missed me.0.count n) ≡ NoneLeft = ap (λ b. cond b (Took k) (missed me.0.count n)) (ne_eqb n k ne) ∙ misses_none number n me.0.count (ap (λ (v : Sat). v.0.count) h.seat) le in
-      steps_inside number fits price me new worker about Free p id (Try w) NoneLeft h j (e ∙ ap (λ r. adds me (Try w) r) f) refl tt refl
+      let f : cond (n == k) (Took k) (missed me.0.count n) ≡ NoneLeft =
+      ap (λ b. cond b (Took k) (missed me.0.count n)) (ne_eqb n k ne)
+      ∙ misses_none number n me.0.count (ap (λ (v : Sat). v.0.count) h.seat) le in
+      steps_inside number fits price me new worker about Free p id (Try w) NoneLeft h j
+      (e ∙ ap (λ r. adds me (Try w) r) f) refl tt refl
 
   -- the state names this job
-  pub looked_below : (me : Sat) (worker : ℕ) (about : State) (p : PassView J A) (k : ℕ) → IsPass number fits price me worker about p → about ≡ Looked k → k < number
+  pub looked_below : (me : Sat) (worker : ℕ) (about : State) (p : PassView J A) (k : ℕ)
+      → IsPass number fits price me worker about p → about ≡ Looked k → k < number
   looked_below me worker about p k h e = let P : State → Type 0 = λ s. IsWithin number s in subst P e h.within
 
-  pub held_below : (me : Sat) (worker : ℕ) (about : State) (p : PassView J A) (k : ℕ) → IsPass number fits price me worker about p → about ≡ Holding k → k < number
+  pub held_below : (me : Sat) (worker : ℕ) (about : State) (p : PassView J A) (k : ℕ)
+      → IsPass number fits price me worker about p → about ≡ Holding k → k < number
   held_below me worker about p k h e = let P : State → Type 0 = λ s. IsWithin number s in subst P e h.within
 
   -- what a try tells: the number found is no less than what was seen, which is no less than the job looked at
-  pub try_fresh : (p q : PassView J A) → p ≡ q → (me : Sat) (worker : ℕ) (about : State) (n k : ℕ) → IsPass number fits price me worker about p → p.journal ≡ me.0.journal → about ≡ Looked k → seen me.0.count me.0.journal ≤ n
+  pub try_fresh : (p q : PassView J A) → p ≡ q → (me : Sat) (worker : ℕ) (about : State) (n k : ℕ)
+      → IsPass number fits price me worker about p → p.journal ≡ me.0.journal → about ≡ Looked k
+      → seen me.0.count me.0.journal ≤ n
       → (seen number q.journal ≤ n) × (k ≤ seen number q.journal) × (job_of (state q) ≡ k)
   try_fresh p q e me worker about n k h j looked low =
       let count : me.0.count ≡ number = ap (λ (v : Sat). v.0.count) h.seat in
-      let same : seen me.0.count me.0.journal ≡ seen number q.journal = ap (λ m. seen m me.0.journal) count ∙ (ap (λ v. seen number v) (sym j) ∙ ap (λ (v : PassView J A). seen number v.journal) e) in
-      let state : state_of q.journal.entries ≡ Looked k = ap (λ (v : PassView J A). state_of v.journal.entries) (sym e) ∙ (sym h.state_is ∙ looked) in
+      let same : seen me.0.count me.0.journal ≡ seen number q.journal = ap (λ m. seen m me.0.journal) count
+      ∙ (ap (λ v. seen number v) (sym j) ∙ ap (λ (v : PassView J A). seen number v.journal) e) in
+      let state : state_of q.journal.entries ≡ Looked k = ap (λ (v : PassView J A). state_of v.journal.entries) (sym e)
+      ∙ (sym h.state_is ∙ looked) in
       (omega arith, looked_seen k number q.journal state, ap job_of state)
 
   -- a hand-back
-  pub handed_inside : (me new : Sat) (worker : ℕ) (about : State) (p : PassView J A) (id : TableId) (k cost w : ℕ) (a : A) (answers : List (ℕ × A))
-      → IsPass number fits price me worker about p → p.journal ≡ me.0.journal → new ≡ adds me (Hand w cost) Handed → about ≡ Holding k → answers ≡ p.answers ++ (k, a) ∷ [] → fits k a → cost ≡ price a
-      → IsPass number fits price new worker Free record { board = record { table = id; jobs = p.board.jobs }; journal = new.0.journal; answers = answers }
+  pub handed_inside : (me new : Sat) (worker : ℕ) (about : State) (p : PassView J A) (id : TableId) (k cost w : ℕ)
+      (a : A) (answers : List (ℕ × A))
+      → IsPass number fits price me worker about p → p.journal ≡ me.0.journal → new ≡ adds me (Hand w cost) Handed
+      → about ≡ Holding k → answers ≡ p.answers ++ (k, a) ∷ [] → fits k a → cost ≡ price a
+      → IsPass number fits price new worker Free record {
+        board = record { table = id; jobs = p.board.jobs };
+        journal = new.0.journal;
+        answers = answers;
+      }
   handed_inside me new worker about p id k cost w a answers h j n holding more fit cheap =
-      let journal : new.0.journal ≡ noted p.journal (Hand w cost) Handed = ap (λ (v : Sat). v.0.journal) n ∙ ap (λ v. noted v (Hand w cost) Handed) (sym j) in
-      let entries : new.0.journal.entries ≡ p.journal.entries ++ entry (Hand w cost) Handed ∷ [] = ap (λ v. v.entries) journal in
+      let journal : new.0.journal ≡ noted p.journal (Hand w cost) Handed = ap (λ (v : Sat). v.0.journal) n
+      ∙ ap (λ v. noted v (Hand w cost) Handed) (sym j) in
+      let entries : new.0.journal.entries ≡ p.journal.entries ++ entry (Hand w cost) Handed ∷ [] =
+      ap (λ v. v.entries) journal in
       let count : me.0.count ≡ number = ap (λ (v : Sat). v.0.count) h.seat in
       let empty : me.1 ≡ [] = ap (λ (v : Sat). v.1) h.seat in
       let state : state_of p.journal.entries ≡ Holding k = sym h.state_is ∙ holding in
       record {
         seat =
             let e : new ≡ (pass_seat me.0.count (noted me.0.journal (Hand w cost) Handed), me.1) = n in
-            let f : (pass_seat me.0.count (noted me.0.journal (Hand w cost) Handed), me.1) ≡ (pass_seat number new.0.journal, []) = λ i. (pass_seat (count i) ((ap (λ (v : Sat). v.0.journal) (sym n)) i), empty i) in
+            let f : (pass_seat me.0.count (noted me.0.journal (Hand w cost) Handed), me.1)
+            ≡ (pass_seat number new.0.journal, []) =
+            λ i. (pass_seat (count i) ((ap (λ (v : Sat). v.0.journal) (sym n)) i), empty i) in
             e ∙ f;
         worker_is = h.worker_is ∙ ap (λ v. v.worker) (sym journal);
         state_is = sym (state_from-snoc Free p.journal.entries (Hand w cost) Handed) ∙ ap state_of (sym entries);
         within = tt;
-        fit = let P : List (ℕ × A) → Type 0 = λ t. AllFit fits t in subst P (sym more) (all_fit-append fits p.answers ((k, a) ∷ []) h.fit (fit, tt));
+        fit = let P : List (ℕ × A) → Type 0 = λ t. AllFit fits t in
+            subst P (sym more) (all_fit-append fits p.answers ((k, a) ∷ []) h.fit (fit, tt));
         each =
             ap (λ t. priced price t) more
             ∙ (map-append (λ (x : ℕ × A). (x.0, price x.1)) p.answers ((k, a) ∷ [])
@@ -186,19 +267,30 @@ module _ {J A : Type 0} (number : ℕ) (fits : ℕ → A → Type 0) (price : A 
       }
 
   -- a root that gathered a pass
-  pub gathered_inside : (me new him : Sat) (worker : ℕ) (about : State) (r : RootView J A) (p : PassView J A) (id : TableId) (answers : List (ℕ × A))
-      → IsRoot number fits price me r → r.gathered ≡ me.0.gathered → IsPass number fits price him worker about p → p.journal ≡ him.0.journal → new ≡ (gathers me.0 him.0, me.1) → answers ≡ r.answers ++ p.answers
-      → IsRoot number fits price new record { board = record { table = id; jobs = r.board.jobs }; workers = r.workers; made = r.made; gathered = new.0.gathered; answers = answers }
+  pub gathered_inside : (me new him : Sat) (worker : ℕ) (about : State) (r : RootView J A) (p : PassView J A)
+      (id : TableId) (answers : List (ℕ × A))
+      → IsRoot number fits price me r → r.gathered ≡ me.0.gathered → IsPass number fits price him worker about p
+      → p.journal ≡ him.0.journal → new ≡ (gathers me.0 him.0, me.1) → answers ≡ r.answers ++ p.answers
+      → IsRoot number fits price new record {
+        board = record { table = id; jobs = r.board.jobs };
+        workers = r.workers;
+        made = r.made;
+        gathered = new.0.gathered;
+        answers = answers;
+      }
   gathered_inside me new him worker about r p id answers h g i j n more =
       let count : me.0.count ≡ number = ap (λ (v : Sat). v.0.count) h.seat in
       let made : me.0.made ≡ r.made = ap (λ (v : Sat). v.0.made) h.seat in
       let empty : me.1 ≡ [] = ap (λ (v : Sat). v.1) h.seat in
-      let gathered : new.0.gathered ≡ r.gathered ++ p.journal ∷ [] = ap (λ (v : Sat). v.0.gathered) n ∙ (ap (λ t. t ++ him.0.journal ∷ []) (sym g) ∙ ap (λ t. r.gathered ++ t ∷ []) (sym j)) in
+      let gathered : new.0.gathered ≡ r.gathered ++ p.journal ∷ [] = ap (λ (v : Sat). v.0.gathered) n
+      ∙ (ap (λ t. t ++ him.0.journal ∷ []) (sym g) ∙ ap (λ t. r.gathered ++ t ∷ []) (sym j)) in
       record {
         seat =
-            let f : (gathers me.0 him.0, me.1) ≡ (root_seat number r.made new.0.gathered, []) = λ k. (root_seat (count k) (made k) ((ap (λ (v : Sat). v.0.gathered) (sym n)) k), empty k) in
+            let f : (gathers me.0 him.0, me.1) ≡ (root_seat number r.made new.0.gathered, []) =
+            λ k. (root_seat (count k) (made k) ((ap (λ (v : Sat). v.0.gathered) (sym n)) k), empty k) in
             n ∙ f;
-        fit = let P : List (ℕ × A) → Type 0 = λ t. AllFit fits t in subst P (sym more) (all_fit-append fits r.answers p.answers h.fit i.fit);
+        fit = let P : List (ℕ × A) → Type 0 = λ t. AllFit fits t in
+            subst P (sym more) (all_fit-append fits r.answers p.answers h.fit i.fit);
         each =
             ap (λ t. priced price t) more
             ∙ (map-append (λ (x : ℕ × A). (x.0, price x.1)) r.answers p.answers

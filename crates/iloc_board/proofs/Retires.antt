@@ -29,9 +29,11 @@ pub record Retired (c : Core) (taken : List (ℕ × ℕ)) (es : List Entry) : Ty
   pub low : (w k cost : ℕ) → Contains (handed (entries_of w es)) (k, cost) → k < c.next
   pub gone : (w v k cost : ℕ) → Contains (handed (entries_of w es)) (k, cost) → c.state v ≡ Holding k → ⊥
   pub cost_stands : (w k cost : ℕ) → Contains (handed (entries_of w es)) (k, cost) → slice_get c.costs k ≡ Some cost
-  pub one : (w v k a b : ℕ) → Contains (handed (entries_of w es)) (k, a) → Contains (handed (entries_of v es)) (k, b) → w ≡ v
+  pub one : (w v k a b : ℕ) → Contains (handed (entries_of w es)) (k, a) → Contains (handed (entries_of v es)) (k, b)
+      → w ≡ v
   pub twice : (w : ℕ) → NoneTwice (jobs_of (handed (entries_of w es)))
-  pub fate : (w k : ℕ) → is_out w k taken ≡ true → (c.state w ≡ Holding k) ⊎ ((cost : ℕ) × Contains (handed (entries_of w es)) (k, cost))
+  pub fate : (w k : ℕ) → is_out w k taken ≡ true → (c.state w ≡ Holding k)
+      ⊎ ((cost : ℕ) × Contains (handed (entries_of w es)) (k, cost))
 
 pub retires_first : (count : ℕ) → Retired (opening count) [] []
 retires_first count = record {
@@ -44,35 +46,45 @@ retires_first count = record {
   fate = λ w k h. absurd (cc);
 }
 
-state_more : (count : ℕ) (c : Core) (es : List Entry) (x : Step) → ((w : ℕ) → c.state w ≡ state_of (entries_of w es)) → (w : ℕ) → (after count c x).state w ≡ state_of (entries_of w (es ++ entry x (reply_to count c x) ∷ []))
+state_more : (count : ℕ) (c : Core) (es : List Entry) (x : Step) → ((w : ℕ) → c.state w ≡ state_of (entries_of w es))
+    → (w : ℕ) → (after count c x).state w ≡ state_of (entries_of w (es ++ entry x (reply_to count c x) ∷ []))
 state_more count c es x h w =
     let r : Reply = reply_to count c x in
     elim (cases_eq w (worker_of x)) [
-      | inl e ↦ state_here count c x w e ∙ (ap (λ s. state_after s r) (h w) ∙ (sym (state_from-snoc Free (entries_of w es) x r) ∙ ap state_of (sym (entries_here w es x r e))))
+      | inl e ↦ state_here count c x w e ∙ (ap (λ s. state_after s r) (h w)
+          ∙ (sym (state_from-snoc Free (entries_of w es) x r) ∙ ap state_of (sym (entries_here w es x r e))))
       | inr ne ↦ state_else count c x w ne ∙ (h w ∙ ap state_of (sym (entries_else w es x r ne)))
     ]
 
 -- what a worker handed back, after a step that hands nothing back
-same_handed : (count : ℕ) (c : Core) (es : List Entry) (x : Step) (r : Reply) → reply_to count c x ≡ r → ((s : State) → accepted s x r ≡ []) → (w : ℕ)
+same_handed : (count : ℕ) (c : Core) (es : List Entry) (x : Step) (r : Reply) → reply_to count c x ≡ r
+    → ((s : State) → accepted s x r ≡ []) → (w : ℕ)
     → handed (entries_of w (es ++ entry x (reply_to count c x) ∷ [])) ≡ handed (entries_of w es)
 same_handed count c es x r e clean w =
     elim (cases_eq w (worker_of x)) [
       | inl same ↦
           ap handed (entries_here w es x (reply_to count c x) same)
-          ∙ (handed_from-snoc Free (entries_of w es) x (reply_to count c x) ∙ (ap (λ q. handed (entries_of w es) ++ accepted (state_of (entries_of w es)) x q) e ∙ (ap (λ t. handed (entries_of w es) ++ t) (clean (state_of (entries_of w es))) ∙ append-nil (handed (entries_of w es)))))
+          ∙ (handed_from-snoc Free (entries_of w es) x (reply_to count c x)
+          ∙ (ap (λ q. handed (entries_of w es) ++ accepted (state_of (entries_of w es)) x q) e
+          ∙ (ap (λ t. handed (entries_of w es) ++ t) (clean (state_of (entries_of w es)))
+          ∙ append-nil (handed (entries_of w es)))))
       | inr ne ↦ ap handed (entries_else w es x (reply_to count c x) ne)
     ]
 
 -- a step that hands nothing back
-idles : (count : ℕ) (c : Core) (taken : List (ℕ × ℕ)) (es : List Entry) → Stands count c taken → Retired c taken es → (x : Step) (r : Reply) → reply_to count c x ≡ r → ((s : State) → accepted s x r ≡ [])
+idles : (count : ℕ) (c : Core) (taken : List (ℕ × ℕ)) (es : List Entry) → Stands count c taken → Retired c taken es
+    → (x : Step) (r : Reply) → reply_to count c x ≡ r → ((s : State) → accepted s x r ≡ [])
     → c.next ≤ (after count c x).next → (after count c x).costs ≡ c.costs
     → ((w v k cost : ℕ) → Contains (handed (entries_of w es)) (k, cost) → (after count c x).state v ≡ Holding k → ⊥)
-    → (later : List (ℕ × ℕ)) → ((w k : ℕ) → is_out w k later ≡ true → ((after count c x).state w ≡ Holding k) ⊎ ((cost : ℕ) × Contains (handed (entries_of w es)) (k, cost)))
+    → (later : List (ℕ × ℕ)) → ((w k : ℕ) → is_out w k later ≡ true → ((after count c x).state w ≡ Holding k)
+    ⊎ ((cost : ℕ) × Contains (handed (entries_of w es)) (k, cost)))
     → Retired (after count c x) later (es ++ entry x (reply_to count c x) ∷ [])
 idles count c taken es st h x r e clean rises costs gone later fate =
     let now : List Entry = es ++ entry x (reply_to count c x) ∷ [] in
     let same : (w : ℕ) → handed (entries_of w now) ≡ handed (entries_of w es) = same_handed count c es x r e clean in
-    let old : (w k cost : ℕ) → Contains (handed (entries_of w now)) (k, cost) → Contains (handed (entries_of w es)) (k, cost) = λ w k cost t. let P : List (ℕ × ℕ) → Type 0 = λ q. Contains q (k, cost) in subst P (same w) t in
+    let old : (w k cost : ℕ) → Contains (handed (entries_of w now)) (k, cost)
+    → Contains (handed (entries_of w es)) (k, cost) = λ w k cost t. let P : List (ℕ × ℕ) → Type 0 =
+    λ q. Contains q (k, cost) in subst P (same w) t in
     record {
       state = state_more count c es x h.state;
       low = λ w k cost t. let lt : k < c.next = h.low w k cost (old w k cost t) in omega arith;
@@ -80,12 +92,18 @@ idles count c taken es st h x r e clean rises costs gone later fate =
       cost_stands = λ w k cost t. ap (λ q. slice_get q k) costs ∙ h.cost_stands w k cost (old w k cost t);
       one = λ w v k a b t u. h.one w v k a b (old w k a t) (old v k b u);
       twice = λ w. let P : List (ℕ × ℕ) → Type 0 = λ q. NoneTwice (jobs_of q) in subst P (sym (same w)) (h.twice w);
-      fate = λ w k o. elim (fate w k o) [ inl p ↦ inl p | inr p ↦ inr (p.0, let P : List (ℕ × ℕ) → Type 0 = λ q. Contains q (k, p.0) in subst P (sym (same w)) p.1) ];
+      fate = λ w k o. elim (fate w k o) [
+        | inl p ↦ inl p
+        | inr p ↦
+            inr (p.0, let P : List (ℕ × ℕ) → Type 0 = λ q. Contains q (k, p.0) in subst P (sym (same w)) p.1)
+      ];
     }
 
 -- a job that its worker hands back
-hands_one : (count : ℕ) (c : Core) (taken : List (ℕ × ℕ)) (es : List Entry) → Stands count c taken → Retired c taken es → length c.costs ≡ count → (x : Step) (cost k : ℕ)
-    → c.state (worker_of x) ≡ Holding k → handed_by (c.state (worker_of x)) x ≡ (k, cost) ∷ [] → costs_at c.costs (c.state (worker_of x)) x ≡ slice_set c.costs k cost → reply_to count c x ≡ Handed
+hands_one : (count : ℕ) (c : Core) (taken : List (ℕ × ℕ)) (es : List Entry) → Stands count c taken → Retired c taken es
+    → length c.costs ≡ count → (x : Step) (cost k : ℕ)
+    → c.state (worker_of x) ≡ Holding k → handed_by (c.state (worker_of x)) x ≡ (k, cost) ∷ []
+    → costs_at c.costs (c.state (worker_of x)) x ≡ slice_set c.costs k cost → reply_to count c x ≡ Handed
     → Retired (after count c x) taken (es ++ entry x (reply_to count c x) ∷ [])
 hands_one count c taken es st h long x cost k holding by costs e =
     let v : ℕ = worker_of x in
@@ -96,10 +114,15 @@ hands_one count c taken es st h long x cost k holding by costs e =
     let few : k < c.next = st.below v k (st.has v k holding) in
     let room : k < count = let low : c.next ≤ count = st.low in omega arith in
     let mine : handed (entries_of v now) ≡ handed (entries_of v es) ++ (k, cost) ∷ [] =
-    ap handed (entries_here v es x r refl) ∙ (handed_from-snoc Free (entries_of v es) x r ∙ ap (λ t. handed (entries_of v es) ++ t) (ap (λ q. accepted (state_of (entries_of v es)) x q) e ∙ (ap (λ s. handed_by s x) (sym (h.state v)) ∙ by))) in
-    let other : (w : ℕ) → w ≢ v → handed (entries_of w now) ≡ handed (entries_of w es) = λ w ne. ap handed (entries_else w es x r ne) in
+    ap handed (entries_here v es x r refl)
+    ∙ (handed_from-snoc Free (entries_of v es) x r
+    ∙ ap (λ t. handed (entries_of v es) ++ t) (ap (λ q. accepted (state_of (entries_of v es)) x q) e
+    ∙ (ap (λ s. handed_by s x) (sym (h.state v)) ∙ by))) in
+    let other : (w : ℕ) → w ≢ v → handed (entries_of w now) ≡ handed (entries_of w es) =
+    λ w ne. ap handed (entries_else w es x r ne) in
     -- a pair is old, or it is the new one
-    let split : (w j a : ℕ) → Contains (handed (entries_of w now)) (j, a) → Contains (handed (entries_of w es)) (j, a) ⊎ ((w ≡ v) × (j ≡ k) × (a ≡ cost)) = λ w j a t.
+    let split : (w j a : ℕ) → Contains (handed (entries_of w now)) (j, a) → Contains (handed (entries_of w es)) (j, a)
+    ⊎ ((w ≡ v) × (j ≡ k) × (a ≡ cost)) = λ w j a t.
     elim (cases_eq w v) [
       | inl same ↦
           let P : ℕ → Type 0 = λ u. Contains (handed (entries_of u now)) (j, a) in
@@ -110,13 +133,15 @@ hands_one count c taken es st h long x cost k holding by costs e =
           ]
       | inr ne ↦ let Q : List (ℕ × ℕ) → Type 0 = λ q. Contains q (j, a) in inl (subst Q (other w ne) t)
     ] in
-    let keep : (w j a : ℕ) → Contains (handed (entries_of w es)) (j, a) → Contains (handed (entries_of w now)) (j, a) = λ w j a t.
+    let keep : (w j a : ℕ) → Contains (handed (entries_of w es)) (j, a) → Contains (handed (entries_of w now)) (j, a) =
+    λ w j a t.
     elim (cases_eq w v) [
       | inl same ↦
           let P : ℕ → Type 0 = λ u. Contains (handed (entries_of u now)) (j, a) in
           let Q : List (ℕ × ℕ) → Type 0 = λ q. Contains q (j, a) in
           let R : ℕ → Type 0 = λ u. Contains (handed (entries_of u es)) (j, a) in
-          subst P (sym same) (subst Q (sym mine) (Contains-append_left (handed (entries_of v es)) ((k, cost) ∷ []) (j, a) (subst R same t)))
+          subst P (sym same) (subst Q (sym mine) (Contains-append_left (handed (entries_of v es)) ((k, cost) ∷ [])
+          (j, a) (subst R same t)))
       | inr ne ↦ let Q : List (ℕ × ℕ) → Type 0 = λ q. Contains q (j, a) in subst Q (sym (other w ne)) t
     ] in
     let held : (w j : ℕ) → d.state w ≡ Holding j → (w ≢ v) × (c.state w ≡ Holding j) = λ w j is.
@@ -128,7 +153,11 @@ hands_one count c taken es st h long x cost k holding by costs e =
     let fresh : (w a : ℕ) → Contains (handed (entries_of w es)) (k, a) → ⊥ = λ w a t. h.gone w v k a t holding in
     record {
       state = state_more count c es x h.state;
-      low = λ w j a t. elim (split w j a t) [ inl p ↦ let lt : j < c.next = h.low w j a p in omega arith | inr p ↦ let eq : j ≡ k = p.1 in omega arith ];
+      low = λ w j a t. elim (split w j a t) [
+        | inl p ↦ let lt : j < c.next = h.low w j a p in omega arith
+        | inr p ↦
+            let eq : j ≡ k = p.1 in omega arith
+      ];
       gone = λ w u j a t is.
           let was = held u j is in
           elim (split w j a t) [
@@ -138,18 +167,22 @@ hands_one count c taken es st h long x cost k holding by costs e =
       cost_stands = λ w j a t.
           ap (λ q. slice_get q j) costs ∙ elim (split w j a t) [
             | inl p ↦
-                let ne : j ≢ k = λ q. let P : ℕ → Type 0 = λ z. Contains (handed (entries_of w es)) (z, a) in fresh w a (subst P q p) in
+                let ne : j ≢ k = λ q. let P : ℕ → Type 0 = λ z. Contains (handed (entries_of w es)) (z, a) in
+                fresh w a (subst P q p) in
                 get_set_other c.costs k j cost ne ∙ h.cost_stands w j a p
-            | inr p ↦ ap (λ z. slice_get (slice_set c.costs k cost) z) p.1 ∙ (get_set_same c.costs k cost (omega arith) ∙ ap (λ z. Some z) (sym p.2))
+            | inr p ↦ ap (λ z. slice_get (slice_set c.costs k cost) z) p.1
+                ∙ (get_set_same c.costs k cost (omega arith) ∙ ap (λ z. Some z) (sym p.2))
           ];
       one = λ w u j a b t s.
           elim (split w j a t) [
             | inl p ↦ elim (split u j b s) [
               | inl q ↦ h.one w u j a b p q
-              | inr q ↦ let P : ℕ → Type 0 = λ z. Contains (handed (entries_of w es)) (z, a) in absurd (fresh w a (subst P q.1 p))
+              | inr q ↦ let P : ℕ → Type 0 = λ z. Contains (handed (entries_of w es)) (z, a) in
+                  absurd (fresh w a (subst P q.1 p))
             ]
             | inr p ↦ elim (split u j b s) [
-              | inl q ↦ let P : ℕ → Type 0 = λ z. Contains (handed (entries_of u es)) (z, b) in absurd (fresh u b (subst P p.1 q))
+              | inl q ↦ let P : ℕ → Type 0 = λ z. Contains (handed (entries_of u es)) (z, b) in
+                  absurd (fresh u b (subst P p.1 q))
               | inr q ↦ p.0 ∙ sym q.0
             ]
           ];
@@ -158,8 +191,13 @@ hands_one count c taken es st h long x cost k holding by costs e =
             | inl same ↦
                 let P : ℕ → Type 0 = λ u. NoneTwice (jobs_of (handed (entries_of u now))) in
                 let Q : List (ℕ × ℕ) → Type 0 = λ q. NoneTwice (jobs_of q) in
-                subst P (sym same) (subst Q (sym mine) (none_twice-append (handed (entries_of v es)) ((k, cost) ∷ []) (h.twice v) (refl, tt) (λ j a b x y. let is : k ≡ j = ap (λ (z : ℕ × ℕ). z.0) (contains_one (k, cost) (j, b) y) in let R : ℕ → Type 0 = λ z. Contains (handed (entries_of v es)) (z, a) in fresh v a (subst R (sym is) x))))
-            | inr ne ↦ let Q : List (ℕ × ℕ) → Type 0 = λ q. NoneTwice (jobs_of q) in subst Q (sym (other w ne)) (h.twice w)
+                subst P (sym same) (subst Q (sym mine) (none_twice-append (handed (entries_of v es)) ((k, cost) ∷ [])
+                (h.twice v) (refl, tt)
+                (λ j a b x y. let is : k ≡ j = ap (λ (z : ℕ × ℕ). z.0) (contains_one (k, cost) (j, b) y) in
+                let R : ℕ → Type 0 = λ z. Contains (handed (entries_of v es)) (z, a) in
+                fresh v a (subst R (sym is) x))))
+            | inr ne ↦ let Q : List (ℕ × ℕ) → Type 0 = λ q. NoneTwice (jobs_of q) in
+                subst Q (sym (other w ne)) (h.twice w)
           ];
       fate = λ w j o.
           elim (h.fate w j o) [
@@ -169,7 +207,12 @@ hands_one count c taken es st h long x cost k holding by costs e =
                   let eq : j ≡ k = cc in
                   let P : ℕ → Type 0 = λ u. Contains (handed (entries_of u now)) (j, cost) in
                   let Q : List (ℕ × ℕ) → Type 0 = λ q. Contains q (j, cost) in
-                  inr (cost, subst P (sym same) (subst Q (sym mine) (Contains-append_right (handed (entries_of v es)) ((k, cost) ∷ []) (j, cost) (contains_here (k, cost) [] (j, cost) (ap (λ z. (z, cost)) (sym eq))))))
+                  inr (
+                    cost,
+                    subst P (sym same)
+                        (subst Q (sym mine) (Contains-append_right (handed (entries_of v es)) ((k, cost) ∷ []) (j, cost)
+                        (contains_here (k, cost) [] (j, cost) (ap (λ z. (z, cost)) (sym eq))))),
+                  )
               | inr ne ↦ inl (state_else count c x w ne ∙ p)
             ]
             | inr p ↦ inr (p.0, keep w j p.0 p.1)
@@ -177,22 +220,29 @@ hands_one count c taken es st h long x cost k holding by costs e =
     }
 
 -- one step more
-pub retires : (count : ℕ) (c : Core) (taken : List (ℕ × ℕ)) (es : List Entry) → Stands count c taken → Retired c taken es → length c.costs ≡ count → (x : Step)
-    → Retired (after count c x) (taken ++ taken_by (worker_of x) (reply_to count c x)) (es ++ entry x (reply_to count c x) ∷ [])
+pub retires : (count : ℕ) (c : Core) (taken : List (ℕ × ℕ)) (es : List Entry) → Stands count c taken
+    → Retired c taken es → length c.costs ≡ count → (x : Step)
+    → Retired (after count c x) (taken ++ taken_by (worker_of x) (reply_to count c x))
+    (es ++ entry x (reply_to count c x) ∷ [])
 retires count c taken es st h long x =
     let w : ℕ = worker_of x in
     let d : Core = after count c x in
     let now : List Entry = es ++ entry x (reply_to count c x) ∷ [] in
     let P : Reply → Type 0 = λ r. Retired d (taken ++ taken_by w r) now in
-    let plain : Retired d taken now → Retired d (taken ++ []) now = λ q. let Q : List (ℕ × ℕ) → Type 0 = λ t. Retired d t now in subst Q (sym (append-nil taken)) q in
+    let plain : Retired d taken now → Retired d (taken ++ []) now = λ q. let Q : List (ℕ × ℕ) → Type 0 =
+    λ t. Retired d t now in subst Q (sym (append-nil taken)) q in
     -- where the worker holds nothing, before and after
-    let free : (r : Reply) → reply_to count c x ≡ r → is_holding (c.state w) ≡ false → ((s : State) (k : ℕ) → state_after s r ≡ Holding k → s ≡ Holding k) → ((s : State) → accepted s x r ≡ []) → next_after c.next r ≡ c.next → d.costs ≡ c.costs → Retired d taken now =
+    let free : (r : Reply) → reply_to count c x ≡ r → is_holding (c.state w) ≡ false
+    → ((s : State) (k : ℕ) → state_after s r ≡ Holding k → s ≡ Holding k) → ((s : State) → accepted s x r ≡ [])
+    → next_after c.next r ≡ c.next → d.costs ≡ c.costs → Retired d taken now =
     λ r e idle holds clean next costs.
     let old : (v k : ℕ) → d.state v ≡ Holding k → c.state v ≡ Holding k = holds_by count c x r e holds in
-    idles count c taken es st h x r e clean (let n : d.next ≡ c.next = ap (λ q. next_after c.next q) e ∙ next in omega arith) costs (λ u v k cost t is. h.gone u v k cost t (old v k is)) taken
+    idles count c taken es st h x r e clean (let n : d.next ≡ c.next = ap (λ q. next_after c.next q) e ∙ next in
+    omega arith) costs (λ u v k cost t is. h.gone u v k cost t (old v k is)) taken
     (λ u k o. elim (h.fate u k o) [
       | inl p ↦
-          let ne : u ≢ w = λ q. let is : false ≡ true = sym idle ∙ (ap (λ z. is_holding (c.state z)) (sym q) ∙ ap is_holding p) in absurd (cc) in
+          let ne : u ≢ w = λ q. let is : false ≡ true =
+          sym idle ∙ (ap (λ z. is_holding (c.state z)) (sym q) ∙ ap is_holding p) in absurd (cc) in
           inl (state_else count c x u ne ∙ p)
       | inr p ↦ inr p
     ]) in
@@ -208,26 +258,39 @@ retires count c taken es st h long x =
             | inr p ↦ inr (sym p.1 ∙ is)
           ] in
           idles count c taken es st h x (Took k) e (λ s. refl) (omega arith) costs
-          (λ u v j cost t is. elim (new v j is) [ inl p ↦ let lt : j < c.next = h.low u j cost t in absurd (omega arith) | inr p ↦ h.gone u v j cost t p ])
+          (λ u v j cost t is. elim (new v j is) [
+            | inl p ↦ let lt : j < c.next = h.low u j cost t in
+                absurd (omega arith)
+            | inr p ↦ h.gone u v j cost t p
+          ])
           (taken ++ (w, k) ∷ [])
           (λ u j o. elim (out_split u j w k taken o) [
             | inl p ↦ elim (h.fate u j p) [
               | inl q ↦
-                  let ne : u ≢ w = λ z. let is : Holding j ≡ Looked k = sym q ∙ (ap c.state z ∙ looked) in absurd (cc) in
+                  let ne : u ≢ w = λ z. let is : Holding j ≡ Looked k = sym q ∙ (ap c.state z ∙ looked) in
+                  absurd (cc) in
                   inl (state_else count c x u ne ∙ q)
               | inr q ↦ inr q
             ]
             | inr p ↦ inl (state_here count c x u p.0 ∙ (ap (λ r. state_after (c.state u) r) e ∙ ap Holding (sym p.1)))
           ]))
-      | returns v cost k is holding by costs e ↦ subst P (sym e) (plain (hands_one count c taken es st h long x cost k holding by costs e))
+      | returns v cost k is holding by costs e ↦
+          subst P (sym e) (plain (hands_one count c taken es st h long x cost k holding by costs e))
       | waits costs e ↦ subst P (sym e) (plain (
-          let same : (v : ℕ) → d.state v ≡ c.state v = λ v. elim (state_by count c x NotNow e v) [ inl p ↦ p.1 | inr p ↦ p.1 ] in
-          idles count c taken es st h x NotNow e (λ s. refl) (let n : d.next ≡ c.next = ap (λ q. next_after c.next q) e in omega arith) costs (λ u v k cost t z. h.gone u v k cost t (sym (same v) ∙ z)) taken
+          let same : (v : ℕ) → d.state v ≡ c.state v = λ v. elim (state_by count c x NotNow e v) [
+            | inl p ↦ p.1
+            | inr p ↦
+                p.1
+          ] in
+          idles count c taken es st h x NotNow e (λ s. refl)
+          (let n : d.next ≡ c.next = ap (λ q. next_after c.next q) e in omega arith) costs
+          (λ u v k cost t z. h.gone u v k cost t (sym (same v) ∙ z)) taken
           (λ u k o. elim (h.fate u k o) [ inl p ↦ inl (same u ∙ p) | inr p ↦ inr p ])))
     ]
 
 -- after all steps
-pub retires_all : (count : ℕ) (xs : List Step) (c : Core) (taken : List (ℕ × ℕ)) (es : List Entry) → Stands count c taken → Retired c taken es → length c.costs ≡ count
+pub retires_all : (count : ℕ) (xs : List Step) (c : Core) (taken : List (ℕ × ℕ)) (es : List Entry)
+    → Stands count c taken → Retired c taken es → length c.costs ≡ count
     → Retired (ends count c xs) (taken ++ takes (played count c xs)) (es ++ played count c xs)
 retires_all count [] c taken es st h long =
     let P : List (ℕ × ℕ) → Type 0 = λ t. Retired c t (es ++ []) in
@@ -236,10 +299,15 @@ retires_all count [] c taken es st h long =
 retires_all count (x ∷ xs) c taken es st h long =
     let r : Reply = reply_to count c x in
     let d : Core = after count c x in
-    let rest = retires_all count xs d (taken ++ taken_by (worker_of x) r) (es ++ entry x r ∷ []) (stands count c taken st x) (retires count c taken es st h long x) (length-costs count c x ∙ long) in
+    let rest = retires_all count xs d (taken ++ taken_by (worker_of x) r) (es ++ entry x r ∷ [])
+    (stands count c taken st x) (retires count c taken es st h long x) (length-costs count c x ∙ long) in
     let P : List (ℕ × ℕ) → Type 0 = λ t. Retired (ends count d xs) t ((es ++ entry x r ∷ []) ++ played count d xs) in
-    let Q : List Entry → Type 0 = λ t. Retired (ends count d xs) (taken ++ (taken_by (worker_of x) r ++ takes (played count d xs))) t in
-    subst Q (append_assoc es (entry x r ∷ []) (played count d xs)) (subst P (append_assoc taken (taken_by (worker_of x) r) (takes (played count d xs))) rest)
+    let Q : List Entry → Type 0 = λ t. Retired (ends count d xs)
+    (taken ++ (taken_by (worker_of x) r ++ takes (played count d xs))) t in
+    subst Q (append_assoc es (entry x r ∷ []) (played count d xs))
+    (subst P (append_assoc taken (taken_by (worker_of x) r) (takes (played count d xs))) rest)
 
-pub retired_final : (count : ℕ) (xs : List Step) → Retired (final count xs) (takes (played count (opening count) xs)) (played count (opening count) xs)
-retired_final count xs = retires_all count xs (opening count) [] [] (begins count) (retires_first count) (length-replicate count 0)
+pub retired_final : (count : ℕ) (xs : List Step) → Retired (final count xs) (takes (played count (opening count) xs))
+    (played count (opening count) xs)
+retired_final count xs = retires_all count xs (opening count) [] [] (begins count) (retires_first count)
+    (length-replicate count 0)

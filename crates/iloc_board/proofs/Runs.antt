@@ -11,11 +11,13 @@ use Rattle.iloc_board.specs.Play.{replies, final}
 use Rattle.iloc_board.specs.Steps.Machine.{Shows}
 use Rattle.iloc_board.proofs.Effects.{finds, misses, none, wins, returns, waits, effect}
 
-pub ends-snoc : (count : ℕ) (c : Core) (xs : List Step) (x : Step) → ends count c (xs ++ x ∷ []) ≡ after count (ends count c xs) x
+pub ends-snoc : (count : ℕ) (c : Core) (xs : List Step) (x : Step)
+    → ends count c (xs ++ x ∷ []) ≡ after count (ends count c xs) x
 ends-snoc count c [] x = refl
 ends-snoc count c (y ∷ xs) x = ends-snoc count (after count c y) xs x
 
-pub played-snoc : (count : ℕ) (c : Core) (xs : List Step) (x : Step) → played count c (xs ++ x ∷ []) ≡ played count c xs ++ entry x (reply_to count (ends count c xs) x) ∷ []
+pub played-snoc : (count : ℕ) (c : Core) (xs : List Step) (x : Step) → played count c (xs ++ x ∷ []) ≡ played count c xs
+    ++ entry x (reply_to count (ends count c xs) x) ∷ []
 played-snoc count c [] x = refl
 played-snoc count c (y ∷ xs) x = ap (λ t. entry y (reply_to count c y) ∷ t) (played-snoc count (after count c y) xs x)
 
@@ -41,25 +43,37 @@ length-costs_final count xs = length-costs_all count xs (opening count) ∙ leng
 pub final-snoc : (count : ℕ) (xs : List Step) (x : Step) → final count (xs ++ x ∷ []) ≡ after count (final count xs) x
 final-snoc count xs x = ends-snoc count (opening count) xs x
 
-pub replies-snoc : (count : ℕ) (xs : List Step) (x : Step) → replies count (xs ++ x ∷ []) ≡ replies count xs ++ reply_to count (final count xs) x ∷ []
+pub replies-snoc : (count : ℕ) (xs : List Step) (x : Step) → replies count (xs ++ x ∷ []) ≡ replies count xs
+    ++ reply_to count (final count xs) x ∷ []
 replies-snoc count xs x =
-    ap (λ t. map (λ (e : Entry). e.reply) t) (played-snoc count (opening count) xs x) ∙ map-append (λ (e : Entry). e.reply) (played count (opening count) xs) (entry x (reply_to count (final count xs) x) ∷ [])
+    ap (λ t. map (λ (e : Entry). e.reply) t) (played-snoc count (opening count) xs x)
+    ∙ map-append (λ (e : Entry). e.reply) (played count (opening count) xs)
+    (entry x (reply_to count (final count xs) x) ∷ [])
 
 -- a loop's step, over the item at i
-pub final_more : (count : ℕ) (xs : List Step) (i : ℕ) (d : Step) → i < length xs → final count (take (i + 1) xs) ≡ after count (final count (take i xs)) (get_or xs i d)
-final_more count xs i d lt = ap (λ t. final count t) (take_more xs i d lt) ∙ final-snoc count (take i xs) (get_or xs i d)
+pub final_more : (count : ℕ) (xs : List Step) (i : ℕ) (d : Step) → i < length xs → final count (take (i + 1) xs)
+    ≡ after count (final count (take i xs)) (get_or xs i d)
+final_more count xs i d lt = ap (λ t. final count t) (take_more xs i d lt)
+    ∙ final-snoc count (take i xs) (get_or xs i d)
 
-pub replies_more : (count : ℕ) (xs : List Step) (i : ℕ) (d : Step) → i < length xs → replies count (take (i + 1) xs) ≡ replies count (take i xs) ++ reply_to count (final count (take i xs)) (get_or xs i d) ∷ []
-replies_more count xs i d lt = ap (λ t. replies count t) (take_more xs i d lt) ∙ replies-snoc count (take i xs) (get_or xs i d)
+pub replies_more : (count : ℕ) (xs : List Step) (i : ℕ) (d : Step) → i < length xs → replies count (take (i + 1) xs)
+    ≡ replies count (take i xs) ++ reply_to count (final count (take i xs)) (get_or xs i d) ∷ []
+replies_more count xs i d lt = ap (λ t. replies count t) (take_more xs i d lt)
+    ∙ replies-snoc count (take i xs) (get_or xs i d)
 
-pub shows_more : (count n : ℕ) (xs : List Step) (i : ℕ) (d : Step) → i < length xs → n ≡ count → (next : ℕ) (costs : List ℕ) (states : BTreeMap ℕ State)
-    → Shows next costs states (after n (final count (take i xs)) (get_or xs i d)) → Shows next costs states (final count (take (i + 1) xs))
+pub shows_more : (count n : ℕ) (xs : List Step) (i : ℕ) (d : Step) → i < length xs → n ≡ count
+    → (next : ℕ) (costs : List ℕ) (states : BTreeMap ℕ State)
+    → Shows next costs states (after n (final count (take i xs)) (get_or xs i d))
+    → Shows next costs states (final count (take (i + 1) xs))
 shows_more count n xs i d lt same next costs states h =
     let P : Core → Type 0 = λ c. Shows next costs states c in
     let Q : ℕ → Type 0 = λ m. Shows next costs states (after m (final count (take i xs)) (get_or xs i d)) in
     subst P (sym (final_more count xs i d lt)) (subst Q same h)
 
-pub told_more : (count n : ℕ) (xs : List Step) (i : ℕ) (d : Step) → i < length xs → n ≡ count → (told : List Reply) (r : Reply)
-    → told ≡ replies count (take i xs) → r ≡ reply_to n (final count (take i xs)) (get_or xs i d) → told ++ r ∷ [] ≡ replies count (take (i + 1) xs)
+pub told_more : (count n : ℕ) (xs : List Step) (i : ℕ) (d : Step) → i < length xs → n ≡ count
+    → (told : List Reply) (r : Reply)
+    → told ≡ replies count (take i xs) → r ≡ reply_to n (final count (take i xs)) (get_or xs i d)
+    → told ++ r ∷ [] ≡ replies count (take (i + 1) xs)
 told_more count n xs i d lt same told r e f =
-    ap (λ t. t ++ r ∷ []) e ∙ (ap (λ q. replies count (take i xs) ++ q ∷ []) (f ∙ ap (λ m. reply_to m (final count (take i xs)) (get_or xs i d)) same) ∙ sym (replies_more count xs i d lt))
+    ap (λ t. t ++ r ∷ []) e ∙ (ap (λ q. replies count (take i xs) ++ q ∷ [])
+    (f ∙ ap (λ m. reply_to m (final count (take i xs)) (get_or xs i d)) same) ∙ sym (replies_more count xs i d lt))

@@ -35,7 +35,8 @@ begins count = record {
 
 -- a worker's state after a step, by the reply
 pub state_by : (count : ℕ) (c : Core) (x : Step) (r : Reply) → reply_to count c x ≡ r → (w : ℕ)
-    → ((w ≡ worker_of x) × ((after count c x).state w ≡ state_after (c.state w) r)) ⊎ ((w ≢ worker_of x) × ((after count c x).state w ≡ c.state w))
+    → ((w ≡ worker_of x) × ((after count c x).state w ≡ state_after (c.state w) r))
+    ⊎ ((w ≢ worker_of x) × ((after count c x).state w ≡ c.state w))
 state_by count c x r e w =
     let h : (w ≡ worker_of x) ⊎ (w ≢ worker_of x) = cases_eq w (worker_of x) in
     elim h [
@@ -43,7 +44,8 @@ state_by count c x r e w =
       | inr other ↦ inr (other, state_else count c x w other)
     ]
 
-pub within_by : (count : ℕ) (c : Core) (x : Step) (r : Reply) → reply_to count c x ≡ r → ((w : ℕ) → IsWithin count (c.state w)) → ((s : State) → IsWithin count s → IsWithin count (state_after s r))
+pub within_by : (count : ℕ) (c : Core) (x : Step) (r : Reply) → reply_to count c x ≡ r
+    → ((w : ℕ) → IsWithin count (c.state w)) → ((s : State) → IsWithin count s → IsWithin count (state_after s r))
     → (w : ℕ) → IsWithin count ((after count c x).state w)
 within_by count c x r e within step w =
     let P : State → Type 0 = λ s. IsWithin count s in
@@ -52,7 +54,8 @@ within_by count c x r e within step w =
       | inr h ↦ subst P (sym h.1) (within w)
     ]
 
-pub holds_by : (count : ℕ) (c : Core) (x : Step) (r : Reply) → reply_to count c x ≡ r → ((s : State) (k : ℕ) → state_after s r ≡ Holding k → s ≡ Holding k)
+pub holds_by : (count : ℕ) (c : Core) (x : Step) (r : Reply) → reply_to count c x ≡ r
+    → ((s : State) (k : ℕ) → state_after s r ≡ Holding k → s ≡ Holding k)
     → (w k : ℕ) → (after count c x).state w ≡ Holding k → c.state w ≡ Holding k
 holds_by count c x r e step w k is =
     elim (state_by count c x r e w) [
@@ -61,12 +64,15 @@ holds_by count c x r e step w k is =
     ]
 
 -- a step that takes nothing
-idles : (count : ℕ) (c : Core) (taken : List (ℕ × ℕ)) → Stands count c taken → (x : Step) (r : Reply) → reply_to count c x ≡ r → next_after c.next r ≡ c.next
-    → ((s : State) → IsWithin count s → IsWithin count (state_after s r)) → ((s : State) (k : ℕ) → state_after s r ≡ Holding k → s ≡ Holding k)
+idles : (count : ℕ) (c : Core) (taken : List (ℕ × ℕ)) → Stands count c taken → (x : Step) (r : Reply)
+    → reply_to count c x ≡ r → next_after c.next r ≡ c.next
+    → ((s : State) → IsWithin count s → IsWithin count (state_after s r))
+    → ((s : State) (k : ℕ) → state_after s r ≡ Holding k → s ≡ Holding k)
     → Stands count (after count c x) taken
 idles count c taken h x r e stays within holds =
     let next : (after count c x).next ≡ c.next = ap (λ q. next_after c.next q) e ∙ stays in
-    let old : (w k : ℕ) → (after count c x).state w ≡ Holding k → c.state w ≡ Holding k = holds_by count c x r e holds in
+    let old : (w k : ℕ) → (after count c x).state w ≡ Holding k → c.state w ≡ Holding k =
+    holds_by count c x r e holds in
     record {
       low = let P : ℕ → Type 0 = λ n. n ≤ count in subst P (sym next) h.low;
       within = within_by count c x r e h.within within;
@@ -87,14 +93,17 @@ pair_self : (w k : ℕ) → is_pair w k (w, k) ≡ true
 pair_self w k = and_from (w == w) (k == k) (eq-eqb w w refl) (eq-eqb k k refl)
 
 pub out_at_end : (w k : ℕ) (taken : List (ℕ × ℕ)) → is_out w k (taken ++ (w, k) ∷ []) ≡ true
-out_at_end w k taken = list_any-append (is_pair w k) taken ((w, k) ∷ []) ∙ or_right (is_out w k taken) _ (or_left (is_pair w k (w, k)) false (pair_self w k))
+out_at_end w k taken = list_any-append (is_pair w k) taken ((w, k) ∷ [])
+    ∙ or_right (is_out w k taken) _ (or_left (is_pair w k (w, k)) false (pair_self w k))
 
 pub out_more : (w k v j : ℕ) (taken : List (ℕ × ℕ)) → is_out w k taken ≡ true → is_out w k (taken ++ (v, j) ∷ []) ≡ true
 out_more w k v j taken o = list_any-append (is_pair w k) taken ((v, j) ∷ []) ∙ or_left (is_out w k taken) _ o
 
-pub out_split : (w k v j : ℕ) (taken : List (ℕ × ℕ)) → is_out w k (taken ++ (v, j) ∷ []) ≡ true → (is_out w k taken ≡ true) ⊎ ((w ≡ v) × (k ≡ j))
+pub out_split : (w k v j : ℕ) (taken : List (ℕ × ℕ)) → is_out w k (taken ++ (v, j) ∷ []) ≡ true
+    → (is_out w k taken ≡ true) ⊎ ((w ≡ v) × (k ≡ j))
 out_split w k v j taken o =
-    let e : (is_out w k taken || (is_pair w k (v, j) || false)) ≡ true = sym (list_any-append (is_pair w k) taken ((v, j) ∷ [])) ∙ o in
+    let e : (is_out w k taken || (is_pair w k (v, j) || false)) ≡ true =
+    sym (list_any-append (is_pair w k) taken ((v, j) ∷ [])) ∙ o in
     elim (or_cases _ _ e) [
       | inl h ↦ inl h
       | inr h ↦ elim (or_cases _ _ h) [
@@ -103,25 +112,29 @@ out_split w k v j taken o =
       ]
     ]
 
-takes_one : (count : ℕ) (c : Core) (taken : List (ℕ × ℕ)) → Stands count c taken → (x : Step) (k : ℕ) → c.state (worker_of x) ≡ Looked k → c.next ≡ k → reply_to count c x ≡ Took k
+takes_one : (count : ℕ) (c : Core) (taken : List (ℕ × ℕ)) → Stands count c taken → (x : Step) (k : ℕ)
+    → c.state (worker_of x) ≡ Looked k → c.next ≡ k → reply_to count c x ≡ Took k
     → Stands count (after count c x) (taken ++ (worker_of x, k) ∷ [])
 takes_one count c taken h x k looked at e =
     let w : ℕ = worker_of x in
     let few : k < count = looked_within count k (c.state w) looked (h.within w) in
     let next : (after count c x).next ≡ suc k = ap (λ q. next_after c.next q) e in
     let by = state_by count c x (Took k) e in
-    let new : (v j : ℕ) → (after count c x).state v ≡ Holding j → ((v ≡ w) × (j ≡ k)) ⊎ ((v ≢ w) × (c.state v ≡ Holding j)) = λ v j is.
+    let new : (v j : ℕ) → (after count c x).state v ≡ Holding j → ((v ≡ w) × (j ≡ k))
+    ⊎ ((v ≢ w) × (c.state v ≡ Holding j)) = λ v j is.
     elim (by v) [
       | inl p ↦ let q : Holding j ≡ Holding k = sym is ∙ p.1 in inl (p.0, cc)
       | inr p ↦ inr (p.0, sym p.1 ∙ is)
     ] in
-    let held : (v j : ℕ) → c.state v ≡ Holding j → j < k = λ v j is. let P : ℕ → Type 0 = λ n. j < n in subst P at (h.below v j (h.has v j is)) in
+    let held : (v j : ℕ) → c.state v ≡ Holding j → j < k = λ v j is. let P : ℕ → Type 0 = λ n. j < n in
+    subst P at (h.below v j (h.has v j is)) in
     record {
       low = let P : ℕ → Type 0 = λ n. n ≤ count in subst P (sym next) (omega arith);
       within = within_by count c x (Took k) e h.within (λ s i. few);
       once =
           map-append (λ (p : ℕ × ℕ). p.1) taken ((w, k) ∷ [])
-          ∙ (ap (λ t. t ++ k ∷ []) (h.once ∙ ap (λ n. range_with_len 0 n) at) ∙ (sym (range_more 0 k k (omega arith)) ∙ ap (λ n. range_with_len 0 n) (sym next)));
+          ∙ (ap (λ t. t ++ k ∷ []) (h.once ∙ ap (λ n. range_with_len 0 n) at)
+          ∙ (sym (range_more 0 k k (omega arith)) ∙ ap (λ n. range_with_len 0 n) (sym next)));
       below = λ v j o.
           let P : ℕ → Type 0 = λ n. j < n in
           subst P (sym next) (elim (out_split v j w k taken o) [
@@ -131,7 +144,8 @@ takes_one count c taken h x k looked at e =
       has = λ v j is.
           elim (new v j is) [
             | inl p ↦ let P : ℕ → Type 0 = λ u. is_out u j (taken ++ (w, k) ∷ []) ≡ true in
-                subst P (sym p.0) (let Q : ℕ → Type 0 = λ i. is_out w i (taken ++ (w, k) ∷ []) ≡ true in subst Q (sym p.1) (out_at_end w k taken))
+                subst P (sym p.0) (let Q : ℕ → Type 0 = λ i. is_out w i (taken ++ (w, k) ∷ []) ≡ true in
+                subst Q (sym p.1) (out_at_end w k taken))
             | inr p ↦ out_more v j w k taken (h.has v j p.1)
           ];
       one = λ v u j is same.
@@ -148,15 +162,22 @@ takes_one count c taken h x k looked at e =
     }
 
 -- one step more
-pub stands : (count : ℕ) (c : Core) (taken : List (ℕ × ℕ)) → Stands count c taken → (x : Step) → Stands count (after count c x) (taken ++ taken_by (worker_of x) (reply_to count c x))
+pub stands : (count : ℕ) (c : Core) (taken : List (ℕ × ℕ)) → Stands count c taken → (x : Step)
+    → Stands count (after count c x) (taken ++ taken_by (worker_of x) (reply_to count c x))
 stands count c taken h x =
     let P : Reply → Type 0 = λ r. Stands count (after count c x) (taken ++ taken_by (worker_of x) r) in
-    let same : Stands count (after count c x) taken → Stands count (after count c x) (taken ++ []) = λ s. let Q : List (ℕ × ℕ) → Type 0 = λ t. Stands count (after count c x) t in subst Q (sym (append-nil taken)) s in
+    let same : Stands count (after count c x) taken → Stands count (after count c x) (taken ++ []) =
+    λ s. let Q : List (ℕ × ℕ) → Type 0 = λ t. Stands count (after count c x) t in
+    subst Q (sym (append-nil taken)) s in
     elim (effect count c x) [
-      | finds costs free lt e ↦ subst P (sym e) (same (idles count c taken h x _ e refl (λ s i. lt) (λ s k f. absurd (cc))))
-      | misses costs free lt e ↦ subst P (sym e) (same (idles count c taken h x _ e refl (λ s i. lt) (λ s k f. absurd (cc))))
-      | none costs free all e ↦ subst P (sym e) (same (idles count c taken h x _ e refl (λ s i. tt) (λ s k f. absurd (cc))))
+      | finds costs free lt e ↦ subst P (sym e)
+          (same (idles count c taken h x _ e refl (λ s i. lt) (λ s k f. absurd (cc))))
+      | misses costs free lt e ↦ subst P (sym e)
+          (same (idles count c taken h x _ e refl (λ s i. lt) (λ s k f. absurd (cc))))
+      | none costs free all e ↦ subst P (sym e)
+          (same (idles count c taken h x _ e refl (λ s i. tt) (λ s k f. absurd (cc))))
       | wins k costs looked at e ↦ subst P (sym e) (takes_one count c taken h x k looked at e)
-      | returns w cost k is holding by costs e ↦ subst P (sym e) (same (idles count c taken h x _ e refl (λ s i. tt) (λ s j f. absurd (cc))))
+      | returns w cost k is holding by costs e ↦
+          subst P (sym e) (same (idles count c taken h x _ e refl (λ s i. tt) (λ s j f. absurd (cc))))
       | waits costs e ↦ subst P (sym e) (same (idles count c taken h x _ e refl (λ s i. i) (λ s k f. f)))
     ]

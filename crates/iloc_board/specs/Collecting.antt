@@ -56,21 +56,25 @@ module _ {A : Type 0} where
 
   -- the list of steps is a legal history, with the answers that were gathered
   abbrev pub IsLegalWith : (ℕ → A → Type 0) → List (ℕ × A) → ℕ → List Step → Type 0
-  IsLegalWith fits answers count steps = Legal (FitsSaid fits) (opened count) (history (said_in answers) count (opening count) steps)
+  IsLegalWith fits answers count steps =
+      Legal (FitsSaid fits) (opened count) (history (said_in answers) count (opening count) steps)
 
   -- the jobs of these answers
   abbrev pub jobs_of : List (ℕ × A) → List ℕ
   jobs_of xs = map (λ x. x.0) xs
 
   -- each job has the answer that came back for it, which fits it, and that answer's cost
-  pub record AreTheAnswers (count : ℕ) (fits : ℕ → A → Type 0) (price : A → ℕ) (handed : List (ℕ × A)) (answers : List A) (costs : List ℕ) : Type 0 where
+  pub record AreTheAnswers (count : ℕ) (fits : ℕ → A → Type 0) (price : A → ℕ)
+      (handed : List (ℕ × A)) (answers : List A) (costs : List ℕ) : Type 0 where
     pub long : length answers ≡ count
     pub priced : length costs ≡ count
-    pub each : (i : ℕ) (a : A) → slice_get answers i ≡ Some a → Contains handed (i, a) × fits i a × (slice_index costs i ≡ price a)
+    pub each : (i : ℕ) (a : A) → slice_get answers i ≡ Some a
+        → Contains handed (i, a) × fits i a × (slice_index costs i ≡ price a)
 
   -- the lowest job that has no answer
   abbrev pub IsFirstMissing : ℕ → List (ℕ × A) → ℕ → Type 0
-  IsFirstMissing count handed i = (i < count) × ((a : A) → ¬ Contains handed (i, a)) × ((j : ℕ) → j < i → (a : A) × Contains handed (j, a))
+  IsFirstMissing count handed i = (i < count) × ((a : A) → ¬ Contains handed (i, a))
+      × ((j : ℕ) → j < i → (a : A) × Contains handed (j, a))
 
 -- all passes that were made were gathered, none of them holds a job, and one was told that none is left
 pub record IsWhole (made : ℕ) (gathered : List Journal) : Type 0 where

@@ -25,7 +25,8 @@ accepted s x r = []
 -- the accepted hand-backs in order, each the job with its cost
 abbrev pub hand_backs : ℕ → Core → List Step → List (ℕ × ℕ)
 hand_backs count c [] = []
-hand_backs count c (x ∷ xs) = accepted (c.state (worker_of x)) x (reply_to count c x) ++ hand_backs count (after count c x) xs
+hand_backs count c (x ∷ xs) =
+    accepted (c.state (worker_of x)) x (reply_to count c x) ++ hand_backs count (after count c x) xs
 
 abbrev pub taken_by : ℕ → Reply → List (ℕ × ℕ)
 taken_by w (Took k) = (w, k) ∷ []
@@ -49,7 +50,8 @@ IsExactReply count c w (Took k) = (c.state w ≡ Looked k) × (c.next ≡ k)
 IsExactReply count c w NoneLeft = c.next ≡ count
 IsExactReply count c w r = Unit {0}
 
--- a worker takes only the job that it looked at and that is the next, and is told that none is left only where the next is past the last
+-- A worker takes only the job that it looked at and that is the next, and is told that none is left only where the
+-- next is past the last.
 abbrev pub IsExact : ℕ → Core → List Step → Type 0
 IsExact count c [] = Unit {0}
 IsExact count c (x ∷ xs) = IsExactReply count c (worker_of x) (reply_to count c x) × IsExact count (after count c x) xs
@@ -72,8 +74,10 @@ module _ {A : Type 0} (said : ℕ → ℕ → A) where
   history count c [] = []
   history count c (x ∷ xs) = calls_of (c.state (worker_of x)) x (reply_to count c x) ++ history count (after count c x) xs
 
--- the board of one thread stands where the core does: the jobs from next on wait; those that were taken and are still held are out, in the order of the takes; and these answers are done
-pub record StandsAt {A : Type 0} (count : ℕ) (c : Core) (taken : List (ℕ × ℕ)) (answers : List (ℕ × A)) (b : SequentialBoard A) : Type 0 where
+-- The board of one thread stands where the core does: the jobs from next on wait; those that were taken and are still
+-- held are out, in the order of the takes; and these answers are done.
+pub record StandsAt {A : Type 0} (count : ℕ) (c : Core)
+    (taken : List (ℕ × ℕ)) (answers : List (ℕ × A)) (b : SequentialBoard A) : Type 0 where
   pub waiting : b.waiting ≡ range_with_len c.next (count - c.next)
   pub out : b.out ≡ filter (is_held c) taken
   pub done : b.done ≡ answers

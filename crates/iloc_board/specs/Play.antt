@@ -34,4 +34,7 @@ TakesEachOnce count steps = taken_jobs count steps ≡ range_with_len 0 (final c
 -- the history ends where the core does, with the holders in the order of their takes and the accepted hand-backs in order
 abbrev pub EndsAlike : ℕ → List Step → Type 0
 EndsAlike count steps =
-    StandsAt count (final count steps) (takes (played count (opening count) steps)) (hand_backs count (opening count) steps) (board_after (opened count) (calls_with_costs count steps))
+    StandsAt count (final count steps)
+    (takes (played count (opening count) steps))
+    (hand_backs count (opening count) steps)
+    (board_after (opened count) (calls_with_costs count steps))

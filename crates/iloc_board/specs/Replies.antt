@@ -21,7 +21,8 @@ tried_reply (got.Took k) = Took k
 tried_reply (got.Stale k) = Stale k
 tried_reply got.NoneLeft = NoneLeft
 
--- a job taken is the one looked at, and is just what was seen before; a later one is past the one looked at, and no less than all that was seen before
+-- A job taken is the one looked at, and is just what was seen before; a later one is past the one looked at, and no
+-- less than all that was seen before.
 abbrev pub IsFreshTried : ℕ → ℕ → ℕ → Tried → Type 0
 IsFreshTried count before looked (got.Took k) = (k ≡ before) × (k ≡ looked)
 IsFreshTried count before looked (got.Stale k) = (before ≤ k) × (looked < k) × (k < count)

@@ -8,7 +8,8 @@ pub data Call (A : Type 0) : Type 0 where
   Gave : ℕ → ℕ → A → Call A
   NoneLeft : ℕ → Call A
 
--- the jobs that wait, the jobs that are out, each with its worker before it, and the jobs that are done, each with its answer
+-- The jobs that wait; the jobs that are out, each with its worker before it; the jobs that are done, each with its
+-- answer.
 pub record SequentialBoard (A : Type 0) : Type 0 where
   pub waiting : List ℕ
   pub out : List (ℕ × ℕ)
@@ -47,7 +48,8 @@ module _ {A : Type 0} where
   board_after b (x ∷ xs) = board_after (moved b x) xs
 
   module _ (fits : ℕ → A → Type 0) where
-    -- only the first job that waits is taken, by a worker that has none out; an answer is given for a job that is out with the worker, and fits it; none is left where none waits
+    -- Only the first job that waits is taken, by a worker that has none out; an answer is given for a job that is out
+    -- with the worker, and fits it; none is left where none waits.
     abbrev pub Allowed : SequentialBoard A → Call A → Type 0
     Allowed b (Took w i) = ((later : List ℕ) × (b.waiting ≡ i ∷ later)) × (has_out w b.out ≡ false)
     Allowed b (Gave w i a) = (is_out w i b.out ≡ true) × fits i a

@@ -21,7 +21,8 @@ pub record PassView (J A : Type 0) : Type 0 where
   pub journal : Journal
   pub answers : List (ℕ × A)
 
--- a root: its board, how many passes there may be and how many were made, and the journals and answers of the passes that it gathered
+-- A root: its board, how many passes there may be and how many were made, and the journals and answers of the passes
+-- that it gathered.
 pub record RootView (J A : Type 0) : Type 0 where
   pub board : BoardView J
   pub workers : ℕ
@@ -39,7 +40,8 @@ abbrev pub priced : {A : Type 0} → (A → ℕ) → List (ℕ × A) → List (�
 priced price xs = map (λ x. (x.0, price x.1)) xs
 
 -- the answers fit, and are one for each of these hand-backs, at its cost
-pub record AreFitting {A : Type 0} (fits : ℕ → A → Type 0) (price : A → ℕ) (answers : List (ℕ × A)) (handed : List (ℕ × ℕ)) : Type 0 where
+pub record AreFitting {A : Type 0} (fits : ℕ → A → Type 0) (price : A → ℕ)
+    (answers : List (ℕ × A)) (handed : List (ℕ × ℕ)) : Type 0 where
   pub fit : AllFit fits answers
   pub each : priced price answers ≡ handed
 
@@ -61,15 +63,18 @@ module _ {J A : Type 0} where
 
   -- the pass after a step with its reply
   abbrev pub stepped : PassView J A → Step → Reply → PassView J A
-  stepped p x r = record { board = p.board; journal = noted p.journal x r; answers = p.answers }
+  stepped p x r = record p { journal = noted p.journal x r }
 
   -- the pass after it handed back an answer to the job k
   abbrev pub with_answer : PassView J A → ℕ → A → ℕ → PassView J A
-  with_answer p k a cost = record { board = p.board; journal = noted p.journal (Hand p.journal.worker cost) Handed; answers = p.answers ++ (k, a) ∷ [] }
+  with_answer p k a cost = record p {
+    journal = noted p.journal (Hand p.journal.worker cost) Handed;
+    answers = p.answers ++ (k, a) ∷ [];
+  }
 
   -- the root after it made a pass
   abbrev pub with_pass : RootView J A → RootView J A
-  with_pass r = record { board = r.board; workers = r.workers; made = suc r.made; gathered = r.gathered; answers = r.answers }
+  with_pass r = record r { made = suc r.made }
 
   -- the pass that a root makes next: the greatest that the gathered journals show is its start
   abbrev pub new_pass : ℕ → RootView J A → PassView J A
@@ -77,4 +82,7 @@ module _ {J A : Type 0} where
 
   -- the root after it gathered a pass
   abbrev pub with_gathered : RootView J A → PassView J A → RootView J A
-  with_gathered r p = record { board = r.board; workers = r.workers; made = r.made; gathered = r.gathered ++ p.journal ∷ []; answers = r.answers ++ p.answers }
+  with_gathered r p = record r {
+    gathered = r.gathered ++ p.journal ∷ [];
+    answers = r.answers ++ p.answers;
+  }

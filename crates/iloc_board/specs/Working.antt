@@ -36,7 +36,8 @@ pub record Runs (count : ℕ) (j t : Journal) : Type 0 where
   pub few : length added ≤ 3 * count + 1
   pub late : stales added ≤ count
 
--- the answers that were there stay, and behind them stands one for each job that was handed back since, which fits the job, at the cost of its hand-back
+-- The answers that were there stay, and behind them stands one for each job that was handed back since, which fits the
+-- job, at the cost of its hand-back.
 pub record HandsBack {J A : Type 0} (fits : ℕ → A → Type 0) (price : A → ℕ) (p q : PassView J A) : Type 0 where
   pub more : List (ℕ × A)
   pub answers : q.answers ≡ p.answers ++ more

@@ -67,7 +67,8 @@ impl<'a, J: Jobs> Board<'a, J> {
         workers: u32,
     ) -> Result<(Board<'a, J>, Root<'a, J>), NoMemory>
         ensures jobs { IfOk result (λ r. r.0.jobs ≡ jobs.now) }
-        ensures root { IfOk result (λ r. r.1 ≡ record { board = r.0; workers = workers; made = 0; gathered = []; answers = [] }) }
+        ensures root { IfOk result (λ r. r.1 ≡
+            record { board = r.0; workers = workers; made = 0; gathered = []; answers = [] }) }
     {
         let count = jobs.count();
         let words = vec![in alloc; 0u64; count as usize + 1]?;
@@ -164,7 +165,8 @@ impl<'a, J: Jobs> Board<'a, J> {
         }
     }
 
-    /// Hands back an answer to the job that the pass holds. For want of memory the answer is given back, and nothing has changed.
+    /// Hands back an answer to the job that the pass holds. For want of memory the answer is given back, and
+    /// nothing has changed.
     pub fn hand_back(
         &self,
         pass: &mut Pass<'a, J>,

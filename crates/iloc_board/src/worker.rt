@@ -47,7 +47,8 @@ fn claim<'a, J: Jobs, G: Gate>(
     ensures nothing { HandsNothing pass.old pass.new }
     ensures claimed { MatchOption result
         (Ended (J.number board.now.jobs) pass.old.journal pass.new.journal × IsDone pass.new.journal)
-        (λ k. Goes (J.number board.now.jobs) pass.old.journal pass.new.journal × (state pass.new ≡ about.Holding k) × (k < J.number board.now.jobs)) }
+        (λ k. Goes (J.number board.now.jobs) pass.old.journal pass.new.journal
+        × (state pass.new ≡ about.Holding k) × (k < J.number board.now.jobs)) }
 {
     let Seen::Block(job) = board.look(pass) else {
         return None;

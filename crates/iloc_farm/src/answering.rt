@@ -25,7 +25,8 @@ pub fn answer_all<J: Jobs + Sync, G: Gate + Sync, R: Threads + Wait + Sync>(
 where
     J::Answer: Send,
     requires { 0 < workers }
-    ensures { IfOk result (λ c. (handed : List (ℕ × J.Answer)) × AreTheAnswers (J.number jobs.now) (J.fits jobs.now) (J.price jobs.now) handed c.answers.items c.costs.items) }
+    ensures { let jobs = jobs.now in IfOk result (λ c. (handed : List (ℕ × J.Answer))
+        × AreTheAnswers (J.number jobs) (J.fits jobs) (J.price jobs) handed c.answers.items c.costs.items) }
 {
     let (board, mut root) = Board::new(alloc, jobs, workers)?;
     let shifts = shifts(alloc, &board, &mut root, gate)?;
@@ -45,8 +46,10 @@ fn shifts<'s, 'a, J: Jobs, G: Gate>(
     requires fresh { (root.old.made ≡ 0) × (root.old.gathered ≡ []) }
     ensures own { root.new.board ≡ board.now }
     ensures gathered { root.new.gathered ≡ [] }
-    ensures ready { IfOk result (λ made. All (λ s. (s.pass.board ≡ s.board.now) × (s.board.now ≡ board.now) × (state s.pass ≡ about.Free)) made.items) }
-    ensures numbered { IfOk result (λ made. map (λ s. s.pass.journal.worker) made.items ≡ range_with_len 0 root.new.made) }
+    ensures ready { IfOk result (λ made.
+        All (λ s. (s.pass.board ≡ s.board.now) × (s.board.now ≡ board.now) × (state s.pass ≡ about.Free)) made.items) }
+    ensures numbered { IfOk result (λ made.
+        map (λ s. s.pass.journal.worker) made.items ≡ range_with_len 0 root.new.made) }
     ensures all { OnOk result (root.old.workers ≤ root.new.made) }
 {
     let mut made = Vec::new(alloc);
@@ -68,7 +71,8 @@ fn gather_one<'a, J: Jobs>(
     requires done { OnOk worked.done (IsDone worked.pass.journal) }
     ensures own { root.new.board ≡ board.now }
     ensures made { root.new.made ≡ root.old.made }
-    ensures ok { OnOk result ((root.new.gathered ≡ root.old.gathered ++ worked.entry.pass.journal ∷ []) × IsDone worked.entry.pass.journal) }
+    ensures ok { OnOk result ((root.new.gathered ≡ root.old.gathered ++ worked.entry.pass.journal ∷ [])
+        × IsDone worked.entry.pass.journal) }
 {
     let Worked { pass, done } = worked;
     board.gather(root, pass)?;
@@ -85,7 +89,8 @@ fn gather_all<'a, J: Jobs>(
     requires each { All (λ w. (w.pass.board ≡ board.now) × OnOk w.done (IsDone w.pass.journal)) worked.items }
     ensures own { root.new.board ≡ board.now }
     ensures made { root.new.made ≡ root.old.made }
-    ensures gathered { OnOk result (root.new.gathered ≡ root.old.gathered ++ map (λ w. w.pass.journal) worked.entry.items) }
+    ensures gathered { OnOk result
+        (root.new.gathered ≡ root.old.gathered ++ map (λ w. w.pass.journal) worked.entry.items) }
     ensures done { OnOk result (All (λ w. IsDone w.pass.journal) worked.entry.items) }
 {
     let mut all = Ok(());
@@ -104,7 +109,8 @@ fn finish<'a, J: Jobs>(
 ) -> Result<Collected<J::Answer>, NoMemory>
     requires own { root.board ≡ board }
     requires whole { IsWhole root.made root.gathered }
-    ensures { let jobs = board.entry.jobs in IfOk result (λ c. AreTheAnswers (J.number jobs) (J.fits jobs) (J.price jobs) root.entry.answers c.answers.items c.costs.items) }
+    ensures { let jobs = board.entry.jobs in IfOk result (λ c.
+        AreTheAnswers (J.number jobs) (J.fits jobs) (J.price jobs) root.entry.answers c.answers.items c.costs.items) }
 {
     match board.collect(root) {
         Ok(collected) => Ok(collected),

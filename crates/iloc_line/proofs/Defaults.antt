@@ -10,7 +10,8 @@ use Rattle.clap.specs.declared.parser.matches.ValueSource.TheVariants.{DefaultVa
 use Rattle.iloc_line.proofs.Rows.{AllKept, both_empty, with_values_kept}
 use Rattle.iloc_line.proofs.Uses.{IsOurs}
 
-default_kept : (rules : List Rule) (a : Rule) (rows : List Row) → IsOurs rules a → default_fault rows a ≡ [] → AllKept rules rows
+default_kept : (rules : List Rule) (a : Rule) (rows : List Row) → IsOurs rules a → default_fault rows a ≡ []
+    → AllKept rules rows
     → AllKept rules (with_default rows a)
 default_kept rules a rows ours e kept = go (has_row a.id rows) a.defaults e
   where
@@ -24,7 +25,8 @@ default_kept rules a rows ours e kept = go (has_row a.id rows) a.defaults e
         let parts = both_empty (request_kinds (action_of a)) (values_fault a (v ∷ vs)) (rw some at e) in
         with_values_kept rules a DefaultValue (v ∷ vs) rows ours.first parts.1 kept
 
-pub defaults_kept : (rules xs : List Rule) (rows : List Row) → AllByRecursion (IsOurs rules) xs → defaults_fault rows xs ≡ []
+pub defaults_kept : (rules xs : List Rule) (rows : List Row) → AllByRecursion (IsOurs rules) xs
+    → defaults_fault rows xs ≡ []
     → AllKept rules rows → AllKept rules (fold with_default rows xs)
 unfolding defaults_fault
 defaults_kept rules [] rows ours e kept = kept

@@ -15,7 +15,8 @@ use Rattle.iloc_line.specs.Steps.Taken.{AreNumbersIn, HoldsIn, IsNumberIn}
 abbrev pub ReadsWord : Text → Result ℕ ParseIntError → Type 0
 ReadsWord text r = ParsesUnsigned 32 10 text r × ExplainsUnsignedError 10 text r × HasUnsignedDigitsIfOk text r
 
-number_read : (low high : ℕ) (text : Text) (r : Result ℕ ParseIntError) → high < 2 ^ 32 → IsNumberIn low high text → ReadsWord text r
+number_read : (low high : ℕ) (text : Text) (r : Result ℕ ParseIntError) → high < 2 ^ 32 → IsNumberIn low high text
+    → ReadsWord text r
     → (n : ℕ) × (r ≡ Ok n) × (number_of text ≡ n)
 number_read low high text (Ok n) small h reads = (n, refl, sym reads.0.1)
 number_read low high text (Err e) small h reads = absurd (reads.0 (h.numeral, omega (arith, h.at_most)))
@@ -27,8 +28,10 @@ pub record IsNumberFor (low high otherwise : ℕ) (id : Text) (rows : List Row) 
   pub at_most : n ≤ high
 
 -- `get_one`
-pub one_read : (id : Text) (f : Found) (low high otherwise : ℕ) (r : Option ℕ) → high < 2 ^ 32 → low ≤ otherwise → otherwise ≤ high
-    → HoldsIn low high id (rows_of f) → (one_text f id ≡ None → r ≡ None) → ((t : Text) → one_text f id ≡ Some t → ReadsOne ReadsWord t r)
+pub one_read : (id : Text) (f : Found) (low high otherwise : ℕ) (r : Option ℕ) → high < 2 ^ 32 → low ≤ otherwise
+    → otherwise ≤ high
+    → HoldsIn low high id (rows_of f) → (one_text f id ≡ None → r ≡ None)
+    → ((t : Text) → one_text f id ≡ Some t → ReadsOne ReadsWord t r)
     → IsNumberFor low high otherwise id (rows_of f) (unwrap_or r otherwise)
 one_read id f low high otherwise r small above below holds none reads =
     let got = go (one_of id (rows_of f)) (one_text-rows f id) holds in
@@ -39,7 +42,8 @@ one_read id f low high otherwise r small above below holds none reads =
     read t None h reads = absurd (reads.1.0 (h.numeral, omega (arith, h.at_most)))
 
     go : (o : Option Text) → one_text f id ≡ o → IfSome o (IsNumberIn low high)
-        → (unwrap_or r otherwise ≡ unwrap_or (option_map number_of o) otherwise) × (low ≤ unwrap_or r otherwise) × (unwrap_or r otherwise ≤ high)
+        → (unwrap_or r otherwise ≡ unwrap_or (option_map number_of o) otherwise) × (low ≤ unwrap_or r otherwise)
+        × (unwrap_or r otherwise ≤ high)
     go None is h = rw (none is) (refl, above, below)
     go (Some t) is h = rw (read t r h (reads t is)) (refl, h.at_least, h.at_most)
 
@@ -69,11 +73,13 @@ pub many_in_range : (low high : ℕ) (id : Text) (rows : List Row) (left : List 
     → AreNumbersIn low high (unwrap_or (many_of id rows) []) → AreNumbersIn low high left
 many_in_range low high id rows left some h = subst (λ o. AreNumbersIn low high (unwrap_or o [])) some h
 
-pub many_none : (f : Found) (id : Text) → None ≡ option_map typed_values (matched_of f id) → numbers_in id (rows_of f) ≡ []
+pub many_none : (f : Found) (id : Text) → None ≡ option_map typed_values (matched_of f id)
+    → numbers_in id (rows_of f) ≡ []
 many_none f id given = ap (λ o. map number_of (unwrap_or o [])) (sym (given ∙ typed_values-rows f id))
 
 -- one value more has been read
-pub one_more : (words pushed before after whole : List ℕ) (n m : ℕ) → pushed ≡ words ++ n ∷ [] → before ≡ m ∷ after → m ≡ n
+pub one_more : (words pushed before after whole : List ℕ) (n m : ℕ) → pushed ≡ words ++ n ∷ [] → before ≡ m ∷ after
+    → m ≡ n
     → words ++ before ≡ whole → pushed ++ after ≡ whole
 one_more words pushed before after whole n m push step same done =
     rw (push, append_assoc, ← same, ← step) done

@@ -35,29 +35,34 @@ abbrev pub TakesIn : ℕ → ℕ → Text → List Rule → Type 0
 TakesIn low high id rules = IfSome (arg_by_id rules id) (λ a. a.parser ≡ Some (Signed (pos low) (pos high)))
 
 -- the values of a row are such numbers
-row_read : (low high : ℕ) (id : Text) (rules : List Rule) (r : Row) → TakesIn low high id rules → IsKept rules r × (r.id ≡ id)
+row_read : (low high : ℕ) (id : Text) (rules : List Rule) (r : Row) → TakesIn low high id rules → IsKept rules r
+    × (r.id ≡ id)
     → (r.reading ≡ WithoutMinus) × AreNumbersIn low high (map (read_as WithoutMinus) r.values)
 row_read low high id rules r takes kept =
     let found : arg_by_id rules id ≡ Some kept.0.rule = ap (arg_by_id rules) (sym kept.1) ∙ kept.0.first in
-    let is : kept.0.rule.parser ≡ Some (Signed (pos low) (pos high)) = subst (λ o. IfSome o (λ (a : Rule). a.parser ≡ Some (Signed (pos low) (pos high)))) found takes in (
+    let is : kept.0.rule.parser ≡ Some (Signed (pos low) (pos high)) =
+    subst (λ o. IfSome o (λ (a : Rule). a.parser ≡ Some (Signed (pos low) (pos high)))) found takes in (
       kept.0.holds.reading ∙ ap (λ p. reading_of (parser_of_value p)) is,
       taken_numbers kept.0.rule.ignore_case low high r.values
           (subst (λ p. values_kinds kept.0.rule.ignore_case (parser_of_value p) r.values ≡ []) is kept.0.holds.values),
     )
 
-option_read : (low high : ℕ) (id : Text) (rules : List Rule) (o : Option Row) → TakesIn low high id rules → IfSome o (λ r. IsKept rules r × (r.id ≡ id))
+option_read : (low high : ℕ) (id : Text) (rules : List Rule) (o : Option Row) → TakesIn low high id rules
+    → IfSome o (λ r. IsKept rules r × (r.id ≡ id))
     → IfSome (option_and_then row_text o) (IsNumberIn low high)
 option_read low high id rules None takes kept = tt
 option_read low high id rules (Some r) takes kept =
     let read = row_read low high id rules r takes kept in
     go r.reading r.values read.0 read.1
   where
-    go : (how : Reading) (values : List Text) → how ≡ WithoutMinus → AreNumbersIn low high (map (read_as WithoutMinus) values)
+    go : (how : Reading) (values : List Text) → how ≡ WithoutMinus
+        → AreNumbersIn low high (map (read_as WithoutMinus) values)
         → IfSome (option_map (read_as how) (slice_get values 0)) (IsNumberIn low high)
     go how [] reading numbers = tt
     go how (v ∷ vs) reading numbers = subst (λ (h : Reading). IsNumberIn low high (read_as h v)) (sym reading) numbers.0
 
-values_read : (low high : ℕ) (id : Text) (rules : List Rule) (o : Option Row) → TakesIn low high id rules → IfSome o (λ r. IsKept rules r × (r.id ≡ id))
+values_read : (low high : ℕ) (id : Text) (rules : List Rule) (o : Option Row) → TakesIn low high id rules
+    → IfSome o (λ r. IsKept rules r × (r.id ≡ id))
     → AreNumbersIn low high (unwrap_or (option_map (λ r. map (read_as r.reading) r.values) o) [])
 values_read low high id rules None takes kept = tt
 values_read low high id rules (Some r) takes kept =
@@ -89,7 +94,8 @@ leaf_holds s words fit e =
     record {
       workers = holds 1 8 (codes "workers") fit.workers;
       at = holds 0 65532 (codes "at") fit.at;
-      words = values_read 0 4294967295 (codes "words") s.rules (row_in (codes "words") rows) fit.words (found_kept s.rules (codes "words") rows kept);
+      words = values_read 0 4294967295 (codes "words") s.rules (row_in (codes "words") rows) fit.words
+          (found_kept s.rules (codes "words") rows kept);
       load = holds 1 16 (codes "load") fit.load;
       store = holds 1 16 (codes "store") fit.store;
       mult = holds 1 16 (codes "mult") fit.mult;
@@ -97,7 +103,10 @@ leaf_holds s words fit e =
 
 run_fit : IsFit (built_of run_entry).rules
 run_fit = record {
-  ours = (record { first = refl; action = tt }, (record { first = refl; action = tt }, (record { first = refl; action = tt }, tt)));
+  ours = (
+    record { first = refl; action = tt },
+    (record { first = refl; action = tt }, (record { first = refl; action = tt }, tt)),
+  );
   workers = tt;
   at = refl;
   words = refl;
@@ -110,7 +119,16 @@ simulate_fit : IsFit (built_of simulate_entry).rules
 simulate_fit = record {
   ours = (
     record { first = refl; action = tt },
-    (record { first = refl; action = tt }, (record { first = refl; action = tt }, (record { first = refl; action = tt }, (record { first = refl; action = tt }, (record { first = refl; action = tt }, tt))))),
+    (
+      record { first = refl; action = tt },
+      (
+        record { first = refl; action = tt },
+        (
+          record { first = refl; action = tt },
+          (record { first = refl; action = tt }, (record { first = refl; action = tt }, tt)),
+        ),
+      ),
+    ),
   );
   workers = tt;
   at = refl;
@@ -122,7 +140,16 @@ simulate_fit = record {
 
 schedule_fit : IsFit (built_of schedule_entry).rules
 schedule_fit = record {
-  ours = (record { first = refl; action = tt }, (record { first = refl; action = tt }, (record { first = refl; action = tt }, (record { first = refl; action = tt }, (record { first = refl; action = tt }, tt)))));
+  ours = (
+    record { first = refl; action = tt },
+    (
+      record { first = refl; action = tt },
+      (
+        record { first = refl; action = tt },
+        (record { first = refl; action = tt }, (record { first = refl; action = tt }, tt)),
+      ),
+    ),
+  );
   workers = refl;
   at = tt;
   words = tt;
@@ -143,9 +170,11 @@ pub record IsEntered (es : List Entry) (word : Text) (named : Text × List Row) 
   pub first : find (λ e. bytes_eq e.name word) es ≡ Some entry
   pub hold : HoldNumbers named.1
 
-entered_one : (es : List Entry) (p : Text × List Text) (named : Text × List Row) → AllByRecursion (λ e. IsFit (built_of e).rules) es
+entered_one : (es : List Entry) (p : Text × List Text) (named : Text × List Row)
+    → AllByRecursion (λ e. IsFit (built_of e).rules) es
     → option_map (λ s. rows_at s p.1) (find (λ s. answers_to p.0 (label_of s)) (map built_of es)) ≡ Some named
-    → option_map_or (λ s. level_fault s [] nothing_held p.1 false []) (find (λ s. answers_to p.0 (label_of s)) (map built_of es)) [] ≡ []
+    → option_map_or (λ s. level_fault s [] nothing_held p.1 false [])
+    (find (λ s. answers_to p.0 (label_of s)) (map built_of es)) [] ≡ []
     → IsEntered es p.0 named
 entered_one [] p named fit is e = cc
 entered_one (x ∷ es) p named fit is e = go (bytes_eq x.name p.0) refl is e (entered_one es p named fit.1)
@@ -154,10 +183,13 @@ entered_one (x ∷ es) p named fit is e = go (bytes_eq x.name p.0) refl is e (en
     rest = find (λ s. answers_to p.0 (label_of s)) (map built_of es)
 
     go : (b : Bool) → bytes_eq x.name p.0 ≡ b
-        → option_map (λ s. rows_at s p.1) (cond (b || false) (Some (built_of x)) (find (λ s. answers_to p.0 (label_of s)) (map built_of es))) ≡ Some named
-        → option_map_or (λ s. level_fault s [] nothing_held p.1 false []) (cond (b || false) (Some (built_of x)) (find (λ s. answers_to p.0 (label_of s)) (map built_of es))) [] ≡ []
+        → option_map (λ s. rows_at s p.1) (cond (b || false) (Some (built_of x))
+        (find (λ s. answers_to p.0 (label_of s)) (map built_of es))) ≡ Some named
+        → option_map_or (λ s. level_fault s [] nothing_held p.1 false [])
+        (cond (b || false) (Some (built_of x)) (find (λ s. answers_to p.0 (label_of s)) (map built_of es))) [] ≡ []
         → (option_map (λ s. rows_at s p.1) (find (λ s. answers_to p.0 (label_of s)) (map built_of es)) ≡ Some named
-        → option_map_or (λ s. level_fault s [] nothing_held p.1 false []) (find (λ s. answers_to p.0 (label_of s)) (map built_of es)) [] ≡ []
+        → option_map_or (λ s. level_fault s [] nothing_held p.1 false [])
+        (find (λ s. answers_to p.0 (label_of s)) (map built_of es)) [] ≡ []
         → IsEntered es p.0 named)
         → IsEntered (x ∷ es) p.0 named
     go true same is e later =
@@ -180,12 +212,14 @@ entered_some (Some p) named is e =
     record {
       same = refl;
       entry = found.entry;
-      first = subst (λ (w : Text). find (λ e. bytes_eq e.name w) entries ≡ Some found.entry) (sym found.same) found.first;
+      first = subst (λ (w : Text). find (λ e. bytes_eq e.name w) entries ≡ Some found.entry) (sym found.same)
+          found.first;
       hold = found.hold;
     }
 
 -- the words name a command, and its matches hold numbers in their ranges
-pub taken_matches : (words : List Text) (named : Text × List Row) → subcommand_of farm_app words ≡ Some named → faults_in words ≡ []
+pub taken_matches : (words : List Text) (named : Text × List Row) → subcommand_of farm_app words ≡ Some named
+    → faults_in words ≡ []
     → IsEntered entries named.0 named
 unfolding faults_in
 taken_matches words named is e =
@@ -203,8 +237,10 @@ pub record IsCommand (words : List Text) (name : Text) (rows : List Row) : Type 
   pub hold : HoldNumbers rows
   pub asks : asked words ≡ Some (asked_as task rows)
 
-pub entered_command : (words : List Text) (name : Text) (rows : List Row) (o : Option (Text × List Row)) → o ≡ subcommand_of farm_app words
-    → Some rows ≡ option_map (λ p. p.1) o → Some name ≡ option_map (λ p. p.0) o → faults_in words ≡ [] → IsCommand words name rows
+pub entered_command : (words : List Text) (name : Text) (rows : List Row) (o : Option (Text × List Row))
+    → o ≡ subcommand_of farm_app words
+    → Some rows ≡ option_map (λ p. p.1) o → Some name ≡ option_map (λ p. p.0) o → faults_in words ≡ []
+    → IsCommand words name rows
 entered_command words name rows None is has named e = cc
 entered_command words name rows (Some p) is has named e =
     let found = taken_matches words p (sym is) e in
@@ -215,7 +251,8 @@ entered_command words name rows (Some p) is has named e =
       task = found.entry.task;
       named = ap task_named (sym same_name) ∙ task;
       hold = subst HoldNumbers same_rows found.hold;
-      asks = ap (option_and_then asked_by) (sym is) ∙ (ap (option_map (λ t. asked_as t p.1)) task ∙ ap (λ rs. Some (asked_as found.entry.task rs)) same_rows);
+      asks = ap (option_and_then asked_by) (sym is)
+          ∙ (ap (option_map (λ t. asked_as t p.1)) task ∙ ap (λ rs. Some (asked_as found.entry.task rs)) same_rows);
     }
 
 module _ {Z : Type 0} where

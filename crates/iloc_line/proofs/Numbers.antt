@@ -41,7 +41,11 @@ read_number low high t passed = subst (IsNumberIn low high) (sym (without_minus-
         let high_ok = rw minus at passed.3 in
         let numeral : IsNumeral 10 (drop 1 t) = rw minus at passed.0 in
         let same = numeral_has_no_plus (drop 1 t) numeral in
-        record { numeral = rw same numeral; at_least = rw same (omega (arith, ints)); at_most = rw same (omega (arith, ints)) }
+        record {
+          numeral = rw same numeral;
+          at_least = rw same (omega (arith, ints));
+          at_most = rw same (omega (arith, ints));
+        }
     go false minus =
         let low_ok = rw minus at passed.2 in
         let high_ok = rw minus at passed.3 in
@@ -49,13 +53,15 @@ read_number low high t passed = subst (IsNumberIn low high) (sym (without_minus-
         record { numeral = numeral; at_least = omega (arith, ints); at_most = omega (arith, ints) }
 
 -- values in which the parser finds no fault are numbers
-pub taken_numbers : (ignore_case : Bool) (low high : ℕ) (texts : List Text) → values_kinds ignore_case (Signed (pos low) (pos high)) texts ≡ []
+pub taken_numbers : (ignore_case : Bool) (low high : ℕ) (texts : List Text)
+    → values_kinds ignore_case (Signed (pos low) (pos high)) texts ≡ []
     → AreNumbersIn low high (map (read_as WithoutMinus) texts)
 taken_numbers ignore_case low high [] e = tt
 taken_numbers ignore_case low high (text ∷ rest) e =
     let p = Signed (pos low) (pos high) in
     let parts = both_empty (value_kinds ignore_case p text) (values_kinds ignore_case p rest) e in (
-      read_number low high text (accepts-Accepts ignore_case p text (taken (accepts ignore_case p text) ValueValidation parts.0)),
+      read_number low high text (accepts-Accepts ignore_case p text
+          (taken (accepts ignore_case p text) ValueValidation parts.0)),
       taken_numbers ignore_case low high rest parts.1,
     )
   where

@@ -53,11 +53,13 @@ at_row_kept rules id change missing (r ∷ rs) kept changed new =
     go true e later = kept-append rules (change r) rs (changed r kept.0 ((bytes_eq-Decides r.id id).0 e)) kept.1
     go false e later = (kept.0, later)
 
-pub without_kept : (rules : List Rule) (id : Text) (rows : List Row) → AllKept rules rows → AllKept rules (without id rows)
+pub without_kept : (rules : List Rule) (id : Text) (rows : List Row) → AllKept rules rows
+    → AllKept rules (without id rows)
 without_kept rules id rows kept = at_row_kept rules id (λ _. []) [] rows kept (λ r k e. tt) tt
 
 -- values that the parser takes join the row of their argument, or begin it
-pub with_values_kept : (rules : List Rule) (a : Rule) (s : ValueSource) (values : List Text) (rows : List Row) → arg_by_id rules a.id ≡ Some a
+pub with_values_kept : (rules : List Rule) (a : Rule) (s : ValueSource) (values : List Text) (rows : List Row)
+    → arg_by_id rules a.id ≡ Some a
     → values_fault a values ≡ [] → AllKept rules rows → AllKept rules (with_values a.id (reading_by a) s values rows)
 with_values_kept rules a s values rows own taken kept = at_row_kept rules a.id (more_values s values) _ rows kept
     (λ r k is.

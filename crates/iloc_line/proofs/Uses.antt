@@ -28,7 +28,8 @@ pub record IsOurs (rules : List Rule) (a : Rule) : Type 0 where
 abbrev pub AllOurs : List Rule → Type 0
 AllOurs rules = AllByRecursion (IsOurs rules) rules
 
-pub found_ours : (rules : List Rule) (p : Rule → Bool) (xs : List Rule) (a : Rule) → AllByRecursion (IsOurs rules) xs → find p xs ≡ Some a → IsOurs rules a
+pub found_ours : (rules : List Rule) (p : Rule → Bool) (xs : List Rule) (a : Rule) → AllByRecursion (IsOurs rules) xs
+    → find p xs ≡ Some a → IsOurs rules a
 found_ours rules p [] a ours found = cc
 found_ours rules p (x ∷ xs) a ours found = go (p x) found (found_ours rules p xs a ours.1)
   where
@@ -36,7 +37,8 @@ found_ours rules p (x ∷ xs) a ours found = go (p x) found (found_ours rules p 
     go true e later = subst (IsOurs rules) (ap (λ o. unwrap_or o a) e) ours.0
     go false e later = later e
 
-pub use_kept : (rules : List Rule) (again : Bool) (a : Rule) (values : List Text) (rows : List Row) → IsOurs rules a → AllKept rules rows
+pub use_kept : (rules : List Rule) (again : Bool) (a : Rule) (values : List Text) (rows : List Row) → IsOurs rules a
+    → AllKept rules rows
     → use_fault again a values rows ≡ [] → AllKept rules (used a values rows)
 use_kept rules again a values rows ours kept e = go (action_of a) ours.action counts.1
   where
@@ -48,13 +50,15 @@ use_kept rules again a values rows ours kept e = go (action_of a) ours.action co
         → AllKept rules (used_as x a.id (reading_by a) (values_or_missing a values) rows)
     go Set is e =
         let once = both_empty (repeat_fault again a.id rows) (values_fault a (values_or_missing a values)) e in
-        with_values_kept rules a CommandLine (values_or_missing a values) (without a.id rows) ours.first once.1 (without_kept rules a.id rows kept)
+        with_values_kept rules a CommandLine (values_or_missing a values) (without a.id rows) ours.first once.1
+        (without_kept rules a.id rows kept)
     go Append is e = with_values_kept rules a CommandLine (values_or_missing a values) rows ours.first e kept
     go Help is e = cc
     go _ is e = absurd is
 
 -- the argument whose values were being read is used with them
-pub settled_kept : (rules : List Rule) (again : Bool) (h : Held) → AllOurs rules → AllKept rules h.rows → settle_fault rules again h ≡ []
+pub settled_kept : (rules : List Rule) (again : Bool) (h : Held) → AllOurs rules → AllKept rules h.rows
+    → settle_fault rules again h ≡ []
     → AllKept rules (settled rules h).rows
 settled_kept rules again h ours kept e = go h.pending e
   where

@@ -13,34 +13,47 @@ use Rattle.iloc_meaning.specs.Results.{GivesOrFaults, GivesNothing, GoesTo}
 use Rattle.iloc_meaning.proofs.Cases.{by_bool}
 
 -- acts that agree at good addresses do the same at every address
-pub at_address_same : (z : ℤ) (act other : ℕ → Effect) → ((a : ℕ) → is_good (pos a) ≡ true → act a ≡ other a) → at_address (good_address z) act ≡ at_address (good_address z) other
+pub at_address_same : (z : ℤ) (act other : ℕ → Effect) → ((a : ℕ) → is_good (pos a) ≡ true → act a ≡ other a)
+    → at_address (good_address z) act ≡ at_address (good_address z) other
 at_address_same (pos a) act other same = by_bool (is_good (pos a)) (λ t. rw t (same a t)) (λ t. rw t refl)
 at_address_same (negsuc n) act other same = refl
 
 -- what is done at an address is a fault, or it is done at a good address
-pub at_address_cases : (P : Effect → Type 0) (z : ℤ) (act : ℕ → Effect) → P Faults → ((a : ℕ) → is_good (pos a) ≡ true → P (act a)) → P (at_address (good_address z) act)
+pub at_address_cases : (P : Effect → Type 0) (z : ℤ) (act : ℕ → Effect) → P Faults
+    → ((a : ℕ) → is_good (pos a) ≡ true → P (act a)) → P (at_address (good_address z) act)
 at_address_cases P (pos a) act fault done = by_bool (is_good (pos a)) (λ t. rw t (done a t)) (λ t. rw t fault)
 at_address_cases P (negsuc n) act fault done = fault
 
 -- the first used register, and the second, have the same value
-first_same : (rs : List Reg) (r : Reg) (reg reg' : Reg → ℤ) → ((s : Reg) → Contains (r ∷ rs) s → reg s ≡ reg' s) → reg r ≡ reg' r
+first_same : (rs : List Reg) (r : Reg) (reg reg' : Reg → ℤ) → ((s : Reg) → Contains (r ∷ rs) s → reg s ≡ reg' s)
+    → reg r ≡ reg' r
 first_same rs r reg reg' same = same r (0, omega arith, refl)
 
-second_same : (rs : List Reg) (r s : Reg) (reg reg' : Reg → ℤ) → ((t : Reg) → Contains (r ∷ s ∷ rs) t → reg t ≡ reg' t) → reg s ≡ reg' s
+second_same : (rs : List Reg) (r s : Reg) (reg reg' : Reg → ℤ) → ((t : Reg) → Contains (r ∷ s ∷ rs) t → reg t ≡ reg' t)
+    → reg s ≡ reg' s
 second_same rs r s reg reg' same = same s (1, omega arith, refl)
 
 -- an effect depends on the values of the used registers and on the words at good addresses alone
-pub effect_same : (op : Op) (reg reg' : Reg → ℤ) (word word' : ℕ → ℤ) → ((r : Reg) → Contains (used op) r → reg r ≡ reg' r) → ((a : ℕ) → is_good (pos a) ≡ true → word a ≡ word' a) → effect op reg word ≡ effect op reg' word'
+pub effect_same : (op : Op) (reg reg' : Reg → ℤ) (word word' : ℕ → ℤ)
+    → ((r : Reg) → Contains (used op) r → reg r ≡ reg' r) → ((a : ℕ) → is_good (pos a) ≡ true → word a ≡ word' a)
+    → effect op reg word ≡ effect op reg' word'
 effect_same (Load addr dest) reg reg' word word' regs words =
     rw (first_same [] addr reg reg' regs) (at_address_same (reg' addr) _ _ (λ a good. ap Gives (words a good)))
 effect_same (LoadI value dest) reg reg' word word' regs words = refl
-effect_same (Store value addr) reg reg' word word' regs words = rw (first_same (addr ∷ []) value reg reg' regs, second_same [] value addr reg reg' regs) refl
-effect_same (Add left right dest) reg reg' word word' regs words = rw (first_same (right ∷ []) left reg reg' regs, second_same [] left right reg reg' regs) refl
-effect_same (Sub left right dest) reg reg' word word' regs words = rw (first_same (right ∷ []) left reg reg' regs, second_same [] left right reg reg' regs) refl
-effect_same (Mult left right dest) reg reg' word word' regs words = rw (first_same (right ∷ []) left reg reg' regs, second_same [] left right reg reg' regs) refl
-effect_same (Lshift left right dest) reg reg' word word' regs words = rw (first_same (right ∷ []) left reg reg' regs, second_same [] left right reg reg' regs) refl
-effect_same (Rshift left right dest) reg reg' word word' regs words = rw (first_same (right ∷ []) left reg reg' regs, second_same [] left right reg reg' regs) refl
-effect_same (Output addr) reg reg' word word' regs words = at_address_same (constant addr) _ _ (λ a good. ap Emits (words a good))
+effect_same (Store value addr) reg reg' word word' regs words =
+    rw (first_same (addr ∷ []) value reg reg' regs, second_same [] value addr reg reg' regs) refl
+effect_same (Add left right dest) reg reg' word word' regs words =
+    rw (first_same (right ∷ []) left reg reg' regs, second_same [] left right reg reg' regs) refl
+effect_same (Sub left right dest) reg reg' word word' regs words =
+    rw (first_same (right ∷ []) left reg reg' regs, second_same [] left right reg reg' regs) refl
+effect_same (Mult left right dest) reg reg' word word' regs words =
+    rw (first_same (right ∷ []) left reg reg' regs, second_same [] left right reg reg' regs) refl
+effect_same (Lshift left right dest) reg reg' word word' regs words =
+    rw (first_same (right ∷ []) left reg reg' regs, second_same [] left right reg reg' regs) refl
+effect_same (Rshift left right dest) reg reg' word word' regs words =
+    rw (first_same (right ∷ []) left reg reg' regs, second_same [] left right reg reg' regs) refl
+effect_same (Output addr) reg reg' word word' regs words =
+    at_address_same (constant addr) _ _ (λ a good. ap Emits (words a good))
 effect_same Nop reg reg' word word' regs words = refl
 effect_same (AddI left value dest) reg reg' word word' regs words = rw (first_same [] left reg reg' regs) refl
 effect_same (SubI left value dest) reg reg' word word' regs words = rw (first_same [] left reg reg' regs) refl
@@ -48,11 +61,14 @@ effect_same (MultI left value dest) reg reg' word word' regs words = rw (first_s
 effect_same (LshiftI left value dest) reg reg' word word' regs words = rw (first_same [] left reg reg' regs) refl
 effect_same (RshiftI left value dest) reg reg' word word' regs words = rw (first_same [] left reg reg' regs) refl
 effect_same (LoadAI addr offset dest) reg reg' word word' regs words =
-    rw (first_same [] addr reg reg' regs) (at_address_same (wrapped (reg' addr +ℤ constant offset)) _ _ (λ a good. ap Gives (words a good)))
-effect_same (StoreAI value addr offset) reg reg' word word' regs words = rw (first_same (addr ∷ []) value reg reg' regs, second_same [] value addr reg reg' regs) refl
+    rw (first_same [] addr reg reg' regs) (at_address_same (wrapped (reg' addr +ℤ constant offset)) _ _
+    (λ a good. ap Gives (words a good)))
+effect_same (StoreAI value addr offset) reg reg' word word' regs words =
+    rw (first_same (addr ∷ []) value reg reg' regs, second_same [] value addr reg reg' regs) refl
 
 -- an operation with other registers does what its own would do with the values of the new ones
-pub effect-with_registers : (new : Reg → Reg) (own : Reg) (op : Op) (reg : Reg → ℤ) (word : ℕ → ℤ) → effect (with_registers new own op) reg word ≡ effect op (λ r. reg (new r)) word
+pub effect-with_registers : (new : Reg → Reg) (own : Reg) (op : Op) (reg : Reg → ℤ) (word : ℕ → ℤ)
+    → effect (with_registers new own op) reg word ≡ effect op (λ r. reg (new r)) word
 effect-with_registers new own (Load addr dest) reg word = refl
 effect-with_registers new own (LoadI value dest) reg word = refl
 effect-with_registers new own (Store value addr) reg word = refl
@@ -76,10 +92,12 @@ pub results_go : (op : Op) (reg : Reg → ℤ) (word : ℕ → ℤ) → GoesTo (
 results_go (Load addr dest) reg word = at_address_cases GivesOrFaults (reg addr) (λ a. Gives (word a)) tt (λ a good. tt)
 results_go (LoadAI addr offset dest) reg word =
     at_address_cases GivesOrFaults (wrapped (reg addr +ℤ constant offset)) (λ a. Gives (word a)) tt (λ a good. tt)
-results_go (Store value addr) reg word = at_address_cases GivesNothing (reg addr) (λ a. Writes a (reg value)) tt (λ a good. tt)
+results_go (Store value addr) reg word = at_address_cases GivesNothing (reg addr) (λ a. Writes a (reg value)) tt
+    (λ a good. tt)
 results_go (StoreAI value addr offset) reg word =
     at_address_cases GivesNothing (wrapped (reg addr +ℤ constant offset)) (λ a. Writes a (reg value)) tt (λ a good. tt)
-results_go (Output addr) reg word = at_address_cases GivesNothing (constant addr) (λ a. Emits (word a)) tt (λ a good. tt)
+results_go (Output addr) reg word = at_address_cases GivesNothing (constant addr) (λ a. Emits (word a)) tt
+    (λ a good. tt)
 results_go _ reg word = tt
 
 -- whether an effect is neither a result nor a fault
@@ -94,7 +112,8 @@ load_has_result : (z : ℤ) (word : ℕ → ℤ) → has_no_result (at_address (
 load_has_result z word = at_address_cases (λ e. has_no_result e ≡ false) z (λ a. Gives (word a)) refl (λ a good. refl)
 
 -- an operation that gives no result defines no register
-pub defined-no_result : (op : Op) (reg : Reg → ℤ) (word : ℕ → ℤ) → has_no_result (effect op reg word) ≡ true → defined op ≡ None
+pub defined-no_result : (op : Op) (reg : Reg → ℤ) (word : ℕ → ℤ) → has_no_result (effect op reg word) ≡ true
+    → defined op ≡ None
 defined-no_result (Store value addr) reg word is = refl
 defined-no_result (StoreAI value addr offset) reg word is = refl
 defined-no_result (Output addr) reg word is = refl
@@ -102,7 +121,8 @@ defined-no_result Nop reg word is = refl
 defined-no_result (Load addr dest) reg word is =
     let not : has_no_result (effect (Load addr dest) reg word) ≡ false = load_has_result (reg addr) word in absurd cc
 defined-no_result (LoadAI addr offset dest) reg word is =
-    let not : has_no_result (effect (LoadAI addr offset dest) reg word) ≡ false = load_has_result (wrapped (reg addr +ℤ constant offset)) word in absurd cc
+    let not : has_no_result (effect (LoadAI addr offset dest) reg word) ≡ false =
+    load_has_result (wrapped (reg addr +ℤ constant offset)) word in absurd cc
 defined-no_result _ reg word is = absurd cc
 
 -- whether a write, if the effect is one, is to a good address
@@ -127,6 +147,7 @@ pub writes_well-effect : (op : Op) (reg : Reg → ℤ) (word : ℕ → ℤ) → 
 writes_well-effect (Load addr dest) reg word = read_writes_well (reg addr) word
 writes_well-effect (LoadAI addr offset dest) reg word = read_writes_well (wrapped (reg addr +ℤ constant offset)) word
 writes_well-effect (Store value addr) reg word = store_writes_well (reg addr) (reg value)
-writes_well-effect (StoreAI value addr offset) reg word = store_writes_well (wrapped (reg addr +ℤ constant offset)) (reg value)
+writes_well-effect (StoreAI value addr offset) reg word =
+    store_writes_well (wrapped (reg addr +ℤ constant offset)) (reg value)
 writes_well-effect (Output addr) reg word = output_writes_well (constant addr) word
 writes_well-effect _ reg word = refl

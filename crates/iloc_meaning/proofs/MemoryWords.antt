@@ -13,18 +13,24 @@ four_times a good = grind (arith, nat_tests)
 pub word_number : (a n : ℕ) → is_good (pos a) ≡ true → n ≡ 16384 → a / 4 < n
 word_number a n good size = grind (arith, nat_tests)
 
-pub word_at-with_words : (memory : List ℤ) (word : ℕ → ℤ) (a : ℕ) → length memory ≡ 16384 → is_good (pos a) ≡ true → word_at (with_words memory word) a ≡ word a
+pub word_at-with_words : (memory : List ℤ) (word : ℕ → ℤ) (a : ℕ) → length memory ≡ 16384 → is_good (pos a) ≡ true
+    → word_at (with_words memory word) a ≡ word a
 word_at-with_words memory word a size good =
-    get_or-map-range_with_len (λ k. word (4 * k)) 0 (length memory) (a / 4) (a / 4) (pos 0) (word_number a _ good size) (omega arith)
+    get_or-map-range_with_len (λ k. word (4 * k)) 0 (length memory) (a / 4) (a / 4) (pos 0) (word_number a _ good size)
+    (omega arith)
     ∙ ap word (four_times a good)
 
 -- a write at a good address changes the one word
-pub set-with_words : (memory : List ℤ) (word next : ℕ → ℤ) (a : ℕ) (w : ℤ) → length memory ≡ 16384 → is_good (pos a) ≡ true → next a ≡ w → ((b : ℕ) → b ≢ a → next b ≡ word b) → set (with_words memory word) (a / 4) w ≡ with_words memory next
+pub set-with_words : (memory : List ℤ) (word next : ℕ → ℤ) (a : ℕ) (w : ℤ) → length memory ≡ 16384
+    → is_good (pos a) ≡ true → next a ≡ w → ((b : ℕ) → b ≢ a → next b ≡ word b) → set (with_words memory word) (a / 4) w
+    ≡ with_words memory next
 set-with_words memory word next a w size good at others =
-    fill_by_all (λ k. next (4 * k)) (set (with_words memory word) (a / 4) w) (length memory) (pos 0) (length-set _ _ _ ∙ same_size) (λ k below. elim (cases_eq k (a / 4)) [
+    fill_by_all (λ k. next (4 * k)) (set (with_words memory word) (a / 4) w) (length memory) (pos 0) (length-set _ _ _
+    ∙ same_size) (λ k below. elim (cases_eq k (a / 4)) [
       | inl here ↦
           let within : a / 4 < length (with_words memory word) = rw same_size (word_number a _ good size) in
-          let look : get_or (set (with_words memory word) (a / 4) w) k (pos 0) ≡ w = rw here (get_or-set_same (with_words memory word) (a / 4) w (pos 0) within) in
+          let look : get_or (set (with_words memory word) (a / 4) w) k (pos 0) ≡ w =
+          rw here (get_or-set_same (with_words memory word) (a / 4) w (pos 0) within) in
           let address : 4 * k ≡ a = rw here (four_times a good) in
           look ∙ sym at ∙ ap next (sym address)
       | inr elsewhere ↦

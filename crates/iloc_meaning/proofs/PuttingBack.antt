@@ -6,12 +6,15 @@ use Rattle.iloc_meaning.specs.Memory.{word_at}
 use Rattle.iloc_meaning.specs.Steps.Scratch.{put_back}
 
 -- the last word that was replaced is put back first
-pub put_back-last : (replaced : List Replaced) (r : Replaced) (words : List ℤ) → put_back (replaced ++ r ∷ []) words ≡ put_back replaced (set words (r.address / 4) r.word)
+pub put_back-last : (replaced : List Replaced) (r : Replaced) (words : List ℤ) → put_back (replaced ++ r ∷ []) words
+    ≡ put_back replaced (set words (r.address / 4) r.word)
 put_back-last [] r words = refl
 put_back-last (s ∷ later) r words = ap (λ back. set back (s.address / 4) s.word) (put_back-last later r words)
 
 -- a write is undone
-pub put_back-write : (replaced : List Replaced) (words : List ℤ) (a : ℕ) (old new : ℤ) → old ≡ word_at words a → put_back (replaced ++ record { address = a; word = old } ∷ []) (set words (a / 4) new) ≡ put_back replaced words
+pub put_back-write : (replaced : List Replaced) (words : List ℤ) (a : ℕ) (old new : ℤ) → old ≡ word_at words a
+    → put_back (replaced ++ record { address = a; word = old } ∷ []) (set words (a / 4) new) ≡ put_back replaced words
 put_back-write replaced words a old new was =
     put_back-last replaced (record { address = a; word = old }) (set words (a / 4) new)
-    ∙ ap (put_back replaced) (set-set words (a / 4) new old ∙ ap (set words (a / 4)) was ∙ set-get_or words (a / 4) (pos 0))
+    ∙ ap (put_back replaced) (set-set words (a / 4) new old ∙ ap (set words (a / 4)) was
+    ∙ set-get_or words (a / 4) (pos 0))

@@ -14,7 +14,8 @@ find_is_lookup n [] = refl
 find_is_lookup n (e ∷ entries) = ap (cond (eq_by_cmp nat_cmp n e.0) (Some e.1)) (find_is_lookup n entries)
 
 -- a number finds its place in a table whose places are numbered from k on
-find_table : (k i n : ℕ) (table : List ℤ) (others : List (ℕ × ℤ)) → n ≡ k + i → i < length table → find nat_cmp n (enumerate_from k table ++ others) ≡ Some (get_or table i (pos 0))
+find_table : (k i n : ℕ) (table : List ℤ) (others : List (ℕ × ℤ)) → n ≡ k + i → i < length table
+    → find nat_cmp n (enumerate_from k table ++ others) ≡ Some (get_or table i (pos 0))
 find_table k i n [] others is below = absurd (omega arith)
 find_table k zero n (v ∷ table) others is below =
     let same : n ≡ k = omega arith in
@@ -25,7 +26,8 @@ find_table k (suc i) n (v ∷ table) others is below =
     rw there (find_table (k + 1) i n table others (omega arith) (omega arith))
 
 -- a number past the table is looked for behind it
-find_past : (k n : ℕ) (table : List ℤ) (others : List (ℕ × ℤ)) → k + length table ≤ n → find nat_cmp n (enumerate_from k table ++ others) ≡ find nat_cmp n others
+find_past : (k n : ℕ) (table : List ℤ) (others : List (ℕ × ℤ)) → k + length table ≤ n
+    → find nat_cmp n (enumerate_from k table ++ others) ≡ find nat_cmp n others
 find_past k n [] others past = refl
 find_past k n (v ∷ table) others past =
     let there : eq_by_cmp nat_cmp n k ≡ false = unsigned_tied n k ∙ ne_eqb n k (λ same. omega arith) in
@@ -36,19 +38,24 @@ abbrev pub values : List ℤ → List (ℕ × ℤ) → Values
 values table others = from_entries (enumerate_from 0 table ++ others)
 
 -- the value of a register with a place in the table
-pub value_of-table : (table : List ℤ) (others : List (ℕ × ℤ)) (r : Reg) → r.0 < length table → value_of (values table others) r ≡ get_or table r.0 (pos 0)
+pub value_of-table : (table : List ℤ) (others : List (ℕ × ℤ)) (r : Reg) → r.0 < length table
+    → value_of (values table others) r ≡ get_or table r.0 (pos 0)
 unfolding value_of
 value_of-table table others r below =
-    ap (λ o. unwrap_or o (pos 0)) (get-from_entries nat_cmp_total (enumerate_from 0 table ++ others) r.0 ∙ find_table 0 r.0 r.0 table others (omega arith) below)
+    ap (λ o. unwrap_or o (pos 0)) (get-from_entries nat_cmp_total (enumerate_from 0 table ++ others) r.0
+    ∙ find_table 0 r.0 r.0 table others (omega arith) below)
 
 -- the value of any other register
-pub value_of-others : (table : List ℤ) (others : List (ℕ × ℤ)) (r : Reg) → length table ≤ r.0 → value_of (values table others) r ≡ unwrap_or (lookup (eq_by_cmp nat_cmp r.0) others) (pos 0)
+pub value_of-others : (table : List ℤ) (others : List (ℕ × ℤ)) (r : Reg) → length table ≤ r.0
+    → value_of (values table others) r ≡ unwrap_or (lookup (eq_by_cmp nat_cmp r.0) others) (pos 0)
 unfolding value_of
 value_of-others table others r past =
-    ap (λ o. unwrap_or o (pos 0)) (get-from_entries nat_cmp_total (enumerate_from 0 table ++ others) r.0 ∙ find_past 0 r.0 table others (omega arith) ∙ find_is_lookup r.0 others)
+    ap (λ o. unwrap_or o (pos 0)) (get-from_entries nat_cmp_total (enumerate_from 0 table ++ others) r.0
+    ∙ find_past 0 r.0 table others (omega arith) ∙ find_is_lookup r.0 others)
 
 -- a table of zeros and no other entry
-pub values_of_zeros : (table : List ℤ) (others : List (ℕ × ℤ)) → ((n : ℕ) → get_or table n (pos 0) ≡ pos 0) → others ≡ [] → (r : Reg) → value_of (values table others) r ≡ pos 0
+pub values_of_zeros : (table : List ℤ) (others : List (ℕ × ℤ)) → ((n : ℕ) → get_or table n (pos 0) ≡ pos 0)
+    → others ≡ [] → (r : Reg) → value_of (values table others) r ≡ pos 0
 values_of_zeros table others zeros none r = elim (cases_lt r.0 (length table)) [
   | inl below ↦ value_of-table table others r below ∙ zeros r.0
   | inr past ↦
@@ -57,11 +64,13 @@ values_of_zeros table others zeros none r = elim (cases_lt r.0 (length table)) [
 ]
 
 -- a write to a place of the table
-pub set_in_table : (table : List ℤ) (others : List (ℕ × ℤ)) (r : Reg) (value : ℤ) → r.0 < length table → ChangesOnly (values table others) (values (set table r.0 value) others) r value
+pub set_in_table : (table : List ℤ) (others : List (ℕ × ℤ)) (r : Reg) (value : ℤ) → r.0 < length table
+    → ChangesOnly (values table others) (values (set table r.0 value) others) r value
 set_in_table table others r value below =
     let same_size : length (set table r.0 value) ≡ length table = length-set _ _ _ in
     record {
-      changed = value_of-table (set table r.0 value) others r (omega arith) ∙ get_or-set_same table r.0 value (pos 0) below;
+      changed = value_of-table (set table r.0 value) others r (omega arith)
+          ∙ get_or-set_same table r.0 value (pos 0) below;
       others = λ s apart. elim (cases_lt s.0 (length table)) [
         | inl within ↦
             value_of-table (set table r.0 value) others s (omega arith)
@@ -74,7 +83,10 @@ set_in_table table others r value below =
     }
 
 -- where the entry of one number past the table is set, the others stay
-pub set_in_others : (table : List ℤ) (old new : List (ℕ × ℤ)) (r : Reg) (value : ℤ) → length table ≤ r.0 → lookup (eq_by_cmp nat_cmp r.0) new ≡ Some value → ((n : ℕ) → eq_by_cmp nat_cmp r.0 n ≡ false → lookup (eq_by_cmp nat_cmp n) new ≡ lookup (eq_by_cmp nat_cmp n) old) → ChangesOnly (values table old) (values table new) r value
+pub set_in_others : (table : List ℤ) (old new : List (ℕ × ℤ)) (r : Reg) (value : ℤ) → length table ≤ r.0
+    → lookup (eq_by_cmp nat_cmp r.0) new ≡ Some value
+    → ((n : ℕ) → eq_by_cmp nat_cmp r.0 n ≡ false → lookup (eq_by_cmp nat_cmp n) new ≡ lookup (eq_by_cmp nat_cmp n) old)
+    → ChangesOnly (values table old) (values table new) r value
 set_in_others table old new r value beyond set stay = record {
   changed = value_of-others table new r beyond ∙ ap (λ o. unwrap_or o (pos 0)) set;
   others = λ s apart. elim (cases_lt s.0 (length table)) [

@@ -19,7 +19,9 @@ with_words_same memory =
     (λ k below. let same : 4 * k / 4 ≡ k = omega arith in ap (λ j. get_or memory j (pos 0)) (sym same))
 
 -- a block begins with all registers 0, the memory handed in and no output
-pub begins : (machine : Machine) (memory : List ℤ) → length memory ≡ 16384 → ((r : Reg) → value_of machine.registers r ≡ pos 0) → machine.memory ≡ record { first = memory; words = memory } → machine.outputs.items ≡ [] → Follows memory [] machine
+pub begins : (machine : Machine) (memory : List ℤ) → length memory ≡ 16384
+    → ((r : Reg) → value_of machine.registers r ≡ pos 0) → machine.memory ≡ record { first = memory; words = memory }
+    → machine.outputs.items ≡ [] → Follows memory [] machine
 begins machine memory size registers words outputs = record {
   size = size;
   first = ap (λ m. m.first) words;
@@ -30,13 +32,16 @@ begins machine memory size registers words outputs = record {
 }
 
 -- the trace with the operation that comes next
-pub next : (memory : List ℤ) (ops items : List Op) (i : ℕ) (other : Op) → items ≡ ops → i < length items → before memory ops (i + 1) ≡ then_executed memory (get_or items i other) (before memory ops i)
+pub next : (memory : List ℤ) (ops items : List Op) (i : ℕ) (other : Op) → items ≡ ops → i < length items
+    → before memory ops (i + 1) ≡ then_executed memory (get_or items i other) (before memory ops i)
 next memory ops items i other same within =
     let here : get_or ops i Nop ≡ get_or items i other = rw same (get_or_default ops i Nop other (rw same at within)) in
     rw add-one (ap (λ op. then_executed memory op (before memory ops i)) here)
 
 -- a run that takes the next operation goes on
-pub goes_on : (memory : List ℤ) (ops items : List Op) (i : ℕ) (other : Op) (machine : Machine) → items ≡ ops → i < length items → Follows memory (then_executed memory (get_or items i other) (before memory ops i)) machine → Follows memory (before memory ops (i + 1)) machine
+pub goes_on : (memory : List ℤ) (ops items : List Op) (i : ℕ) (other : Op) (machine : Machine) → items ≡ ops
+    → i < length items → Follows memory (then_executed memory (get_or items i other) (before memory ops i)) machine
+    → Follows memory (before memory ops (i + 1)) machine
 goes_on memory ops items i other machine same within follows = rw (next memory ops items i other same within) follows
 
 or_right : (a b : Bool) → b ≡ true → (a || b) ≡ true
@@ -44,15 +49,18 @@ or_right true b holds = refl
 or_right false b holds = holds
 
 -- a fault stays
-pub fault_stays : (memory : List ℤ) (ops : List Op) (i more : ℕ) → has_fault (before memory ops i) ≡ true → has_fault (before memory ops (i + more)) ≡ true
+pub fault_stays : (memory : List ℤ) (ops : List Op) (i more : ℕ) → has_fault (before memory ops i) ≡ true
+    → has_fault (before memory ops (i + more)) ≡ true
 fault_stays memory ops i zero fault = rw add-zero fault
 fault_stays memory ops i (suc more) fault = rw add-suc (or_right _ _ (fault_stays memory ops i more fault))
 
 -- a run that stops at the next operation has the outcome of a fault
-pub stops : (memory : List ℤ) (ops items : List Op) (i : ℕ) (other : Op) → items ≡ ops → i < length items → has_fault (then_executed memory (get_or items i other) (before memory ops i)) ≡ true → Fault ≡ outcome ops memory
+pub stops : (memory : List ℤ) (ops items : List Op) (i : ℕ) (other : Op) → items ≡ ops → i < length items
+    → has_fault (then_executed memory (get_or items i other) (before memory ops i)) ≡ true → Fault ≡ outcome ops memory
 stops memory ops items i other same within fault =
     let there : i < length ops = rw same at within in
     let rest : i + 1 + (length ops - (i + 1)) ≡ length ops = omega arith in
     let here : has_fault (before memory ops (i + 1)) ≡ true = rw (next memory ops items i other same within) fault in
-    let faulted : has_fault (before memory ops (length ops)) ≡ true = rw rest at (fault_stays memory ops (i + 1) (length ops - (i + 1)) here) in
+    let faulted : has_fault (before memory ops (length ops)) ≡ true =
+    rw rest at (fault_stays memory ops (i + 1) (length ops - (i + 1)) here) in
     rw faulted refl

@@ -18,30 +18,46 @@ use Rattle.iloc_meaning.proofs.MemoryWords.{word_at-with_words, set-with_words}
 use Rattle.iloc_meaning.proofs.Effects.{effect_same, has_no_result, defined-no_result, writes_well, writes_well-effect}
 
 -- the trace's registers and words give an operation the effect that the machine's give it
-pub effect_after : (memory : List ℤ) (trace : List Executed) (machine : Machine) (op : Op) → Follows memory trace machine → effect op (register_after trace) (word_after memory trace) ≡ effect op (value_of machine.registers) (word_at machine.memory.words)
+pub effect_after : (memory : List ℤ) (trace : List Executed) (machine : Machine) (op : Op)
+    → Follows memory trace machine → effect op (register_after trace) (word_after memory trace)
+    ≡ effect op (value_of machine.registers) (word_at machine.memory.words)
 effect_after memory trace machine op follows =
-    effect_same op _ _ _ _ (λ r used. sym (follows.registers r)) (λ a good. sym (ap (λ words. word_at words a) follows.words ∙ word_at-with_words memory (word_after memory trace) a follows.size good))
+    effect_same op _ _ _ _ (λ r used. sym (follows.registers r))
+    (λ a good. sym (ap (λ words. word_at words a) follows.words
+    ∙ word_at-with_words memory (word_after memory trace) a follows.size good))
 
 -- an operation that faults
-pub after_fault : (memory : List ℤ) (trace : List Executed) (machine : Machine) (op : Op) → Follows memory trace machine → Faults ≡ effect op (value_of machine.registers) (word_at machine.memory.words) → has_fault (then_executed memory op trace) ≡ true
+pub after_fault : (memory : List ℤ) (trace : List Executed) (machine : Machine) (op : Op) → Follows memory trace machine
+    → Faults ≡ effect op (value_of machine.registers) (word_at machine.memory.words)
+    → has_fault (then_executed memory op trace) ≡ true
 after_fault memory trace machine op follows is = rw (effect_after memory trace machine op follows, ← is) refl
 
 -- an operation that gives a result
-pub after_result : (memory : List ℤ) (trace : List Executed) (machine : Machine) (op : Op) (result : ℤ) (r : Reg) (new : Values) → Follows memory trace machine → Gives result ≡ effect op (value_of machine.registers) (word_at machine.memory.words) → Some r ≡ defined op → ChangesOnly machine.registers new r result → Follows memory (then_executed memory op trace) (record machine { registers = new })
+pub after_result : (memory : List ℤ) (trace : List Executed) (machine : Machine) (op : Op) (result : ℤ) (r : Reg)
+    (new : Values) → Follows memory trace machine
+    → Gives result ≡ effect op (value_of machine.registers) (word_at machine.memory.words) → Some r ≡ defined op
+    → ChangesOnly machine.registers new r result
+    → Follows memory (then_executed memory op trace) (record machine { registers = new })
 after_result memory trace machine op result r new follows is register changes =
     rw (effect_after memory trace machine op follows, ← is) record {
       size = follows.size;
       first = follows.first;
       registers = λ s. rw (← register) (by_bool (s.0 == r.0)
-          (λ t. rw t (let same : s.0 ≡ r.0 = grind (arith, nat_tests) in ap (λ n. value_of new (record { 0 = n })) same ∙ changes.changed))
-          (λ t. rw t (let apart : s.0 ≢ r.0 = grind (arith, nat_tests) in changes.others s apart ∙ follows.registers s)));
+          (λ t. rw t (let same : s.0 ≡ r.0 = grind (arith, nat_tests) in ap (λ n. value_of new (record { 0 = n })) same
+          ∙ changes.changed))
+          (λ t. rw t (let apart : s.0 ≢ r.0 = grind (arith, nat_tests) in changes.others s apart
+          ∙ follows.registers s)));
       words = follows.words;
       outputs = follows.outputs ∙ sym (append-nil (emitted trace));
       no_fault = follows.no_fault;
     }
 
 -- an operation that writes
-pub after_write : (memory : List ℤ) (trace : List Executed) (machine : Machine) (op : Op) (a : ℕ) (w : ℤ) (new : ScratchView) → Follows memory trace machine → Writes a w ≡ effect op (value_of machine.registers) (word_at machine.memory.words) → new.first ≡ machine.memory.first → new.words ≡ set machine.memory.words (a / 4) w → Follows memory (then_executed memory op trace) (record machine { memory = new })
+pub after_write : (memory : List ℤ) (trace : List Executed) (machine : Machine) (op : Op) (a : ℕ) (w : ℤ)
+    (new : ScratchView) → Follows memory trace machine
+    → Writes a w ≡ effect op (value_of machine.registers) (word_at machine.memory.words)
+    → new.first ≡ machine.memory.first → new.words ≡ set machine.memory.words (a / 4) w
+    → Follows memory (then_executed memory op trace) (record machine { memory = new })
 after_write memory trace machine op a w new follows is kept written =
     rw (effect_after memory trace machine op follows, ← is) record {
       size = follows.size;
@@ -50,7 +66,9 @@ after_write memory trace machine op a w new follows is kept written =
       words =
           written
           ∙ ap (λ words. set words (a / 4) w) follows.words
-          ∙ set-with_words memory (word_after memory trace) (word_after memory (record { op = op; effect = Writes a w } ∷ trace)) a w follows.size (ap writes_well is ∙ writes_well-effect op _ _)
+          ∙ set-with_words memory (word_after memory trace)
+          (word_after memory (record { op = op; effect = Writes a w } ∷ trace)) a w follows.size (ap writes_well is
+          ∙ writes_well-effect op _ _)
           (let same : (a == a) ≡ true = grind (arith, nat_tests) in rw same refl)
           (λ b apart. let differs : (b == a) ≡ false = grind (arith, nat_tests) in rw differs refl);
       outputs = follows.outputs ∙ sym (append-nil (emitted trace));
@@ -58,7 +76,10 @@ after_write memory trace machine op a w new follows is kept written =
     }
 
 -- an operation that emits
-pub after_output : (memory : List ℤ) (trace : List Executed) (machine : Machine) (op : Op) (w : ℤ) (new : Vec ℤ Global) → Follows memory trace machine → Emits w ≡ effect op (value_of machine.registers) (word_at machine.memory.words) → new.items ≡ machine.outputs.items ++ w ∷ [] → Follows memory (then_executed memory op trace) (record machine { outputs = new })
+pub after_output : (memory : List ℤ) (trace : List Executed) (machine : Machine) (op : Op) (w : ℤ) (new : Vec ℤ Global)
+    → Follows memory trace machine → Emits w ≡ effect op (value_of machine.registers) (word_at machine.memory.words)
+    → new.items ≡ machine.outputs.items ++ w ∷ []
+    → Follows memory (then_executed memory op trace) (record machine { outputs = new })
 after_output memory trace machine op w new follows is pushed =
     rw (effect_after memory trace machine op follows, ← is) record {
       size = follows.size;
@@ -70,7 +91,9 @@ after_output memory trace machine op w new follows is pushed =
     }
 
 -- an operation that does nothing
-pub after_nothing : (memory : List ℤ) (trace : List Executed) (machine : Machine) (op : Op) → Follows memory trace machine → Nothing ≡ effect op (value_of machine.registers) (word_at machine.memory.words) → Follows memory (then_executed memory op trace) machine
+pub after_nothing : (memory : List ℤ) (trace : List Executed) (machine : Machine) (op : Op)
+    → Follows memory trace machine → Nothing ≡ effect op (value_of machine.registers) (word_at machine.memory.words)
+    → Follows memory (then_executed memory op trace) machine
 after_nothing memory trace machine op follows is =
     rw (effect_after memory trace machine op follows, ← is) record {
       size = follows.size;

@@ -12,7 +12,8 @@ zero_at table count n zeros = ap (λ t. get_or t n (pos 0)) zeros ∙ elim (case
 ]
 
 -- where none was given a value, all are 0
-pub all_zero : (given : List ℕ) (table : List ℤ) → given ≡ [] → AreGiven given table → (n : ℕ) → get_or table n (pos 0) ≡ pos 0
+pub all_zero : (given : List ℕ) (table : List ℤ) → given ≡ [] → AreGiven given table → (n : ℕ)
+    → get_or table n (pos 0) ≡ pos 0
 all_zero given table none are n = elim (are.rest n) [
   | inl is ↦ is
   | inr among ↦ let there : Contains [] n = rw none at among in absurd (omega (arith, there.1))

@@ -29,26 +29,33 @@ use Rattle.iloc_sched.proofs.PriorityFacts.{is_priority}
 use Rattle.iloc_sched.proofs.Covers.{Covered, covered_sum, sum_by_numbers}
 
 -- each issue with its latency is over by the number of cycles
-pub ends_within : (lat : Latencies) (ops : List Op) (rows : List Row) (i : ℕ) → i < length ops → issue_cycle rows i + latency lat (op_at ops i) ≤ cycles lat ops rows
+pub ends_within : (lat : Latencies) (ops : List Op) (rows : List Row) (i : ℕ) → i < length ops
+    → issue_cycle rows i + latency lat (op_at ops i) ≤ cycles lat ops rows
 ends_within lat ops rows i within =
-    fold_max_each 0 (map (λ k. issue_cycle rows k + latency lat (op_at ops k)) (range_with_len 0 (length ops))) (issue_cycle rows i + latency lat (op_at ops i))
-    (in_map (λ k. issue_cycle rows k + latency lat (op_at ops k)) (range_with_len 0 (length ops)) i (in_range_from 0 (length ops) i (omega arith) (omega arith)))
+    fold_max_each 0 (map (λ k. issue_cycle rows k + latency lat (op_at ops k)) (range_with_len 0 (length ops)))
+    (issue_cycle rows i + latency lat (op_at ops i))
+    (in_map (λ k. issue_cycle rows k + latency lat (op_at ops k)) (range_with_len 0 (length ops)) i
+    (in_range_from 0 (length ops) i (omega arith) (omega arith)))
 
-priority_within : (lat : Latencies) (ops : List Op) (rows : List Row) → Waits lat ops rows → (n i : ℕ) → i < length ops → length ops ≤ i + n → issue_cycle rows i + priority lat ops i ≤ cycles lat ops rows
+priority_within : (lat : Latencies) (ops : List Op) (rows : List Row) → Waits lat ops rows → (n i : ℕ) → i < length ops
+    → length ops ≤ i + n → issue_cycle rows i + priority lat ops i ≤ cycles lat ops rows
 priority_within lat ops rows waits zero i within far = absurd (omega arith)
 priority_within lat ops rows waits (suc n) i within far = elim ((is_priority lat ops).reached i within) [
-  | inl own ↦ let end : issue_cycle rows i + latency lat (op_at ops i) ≤ cycles lat ops rows = ends_within lat ops rows i within in
+  | inl own ↦ let end : issue_cycle rows i + latency lat (op_at ops i) ≤ cycles lat ops rows =
+      ends_within lat ops rows i within in
       subst (λ p. issue_cycle rows i + p ≤ cycles lat ops rows) (sym own) end
   | inr pair ↦
       let order : i < pair.0 = pair.2.order in
-      let rest : issue_cycle rows pair.0 + priority lat ops pair.0 ≤ cycles lat ops rows = priority_within lat ops rows waits n pair.0 pair.2.within (omega arith) in
+      let rest : issue_cycle rows pair.0 + priority lat ops pair.0 ≤ cycles lat ops rows =
+      priority_within lat ops rows waits n pair.0 pair.2.within (omega arith) in
       let later : issue_cycle rows i + pair.1 ≤ issue_cycle rows pair.0 = waits i pair.0 pair.1 pair.2 in
       let limit : ℕ = cycles lat ops rows in
       subst (λ p. issue_cycle rows i + p ≤ cycles lat ops rows) (sym pair.3) (omega arith)
 ]
 
 -- an operation is issued so early that its priority is left
-pub priority_bound : (lat : Latencies) (ops : List Op) (rows : List Row) → Waits lat ops rows → (i : ℕ) → i < length ops → issue_cycle rows i + priority lat ops i ≤ cycles lat ops rows
+pub priority_bound : (lat : Latencies) (ops : List Op) (rows : List Row) → Waits lat ops rows → (i : ℕ) → i < length ops
+    → issue_cycle rows i + priority lat ops i ≤ cycles lat ops rows
 priority_bound lat ops rows waits i within = priority_within lat ops rows waits (length ops) i within (omega arith)
 
 -- the lowest number below n that passes
@@ -61,7 +68,13 @@ record IsLowest (p : ℕ → Bool) (n : ℕ) : Type 0 where
 lowest : (p : ℕ → Bool) (n : ℕ) → IsLowest p n ⊎ ((k : ℕ) → k < n → p k ≡ false)
 lowest p zero = inr (λ k below. absurd (omega arith))
 lowest p (suc n) = elim (lowest p n) [
-  | inl found ↦ inl (record { at = found.at; below = let under : found.at < n = found.below in omega arith; passes = found.passes; others = found.others })
+  | inl found ↦ inl (record {
+    at = found.at;
+    below = let under : found.at < n = found.below in
+        omega arith;
+    passes = found.passes;
+    others = found.others;
+  })
   | inr none ↦
       by_bool (p n)
       (λ t. inl (record { at = n; below = omega arith; passes = t; others = none }))
@@ -80,41 +93,52 @@ module _ (lat : Latencies) (ops : List Op) (rows : List Row) (so_far : IsChosenS
   size h = latency lat (op_at ops h)
 
   -- where an operation is ready one is issued
-  covered_by_ready : (c i : ℕ) → c < length rows → IsReady lat ops rows c i → Covered (issue_cycle rows) size (length ops) c
+  covered_by_ready : (c i : ℕ) → c < length rows → IsReady lat ops rows c i
+      → Covered (issue_cycle rows) size (length ops) c
   unfolding size
   covered_by_ready c i below is =
       let row_is : row_at rows c ≡ chosen ops (priorities lat ops) (ready lat ops rows c) = so_far c below in
-      let member = some_member (slots (row_at rows c)) (λ empty. chosen_some ops (priorities lat ops) (ready lat ops rows c) i (ready_from lat ops rows c i is) (sym (ap slots row_is) ∙ empty)) in
+      let member = some_member (slots (row_at rows c))
+      (λ empty. chosen_some ops (priorities lat ops) (ready lat ops rows c) i (ready_from lat ops rows c i is)
+      (sym (ap slots row_is) ∙ empty)) in
       let early : issue_cycle rows member.0 ≤ c = issued_by rows c member.0 member.1 in
       let was = was_ready lat ops rows so_far c member.0 member.1 in
       let late : c ≤ issue_cycle rows member.0 = was.waiting in
       let some : 1 ≤ latency lat (op_at ops member.0) = latency_at_least lat (op_at ops member.0) in
       record { by = member.0; within = was.within; begun = early; goes_on = omega arith }
 
-  covered_by_delay : (c i : ℕ) → i < length ops → ((h : ℕ) → h < i → issue_cycle rows h < c) → list_all (all_over lat ops rows c i) (range_with_len 0 i) ≡ false → Covered (issue_cycle rows) size (length ops) c
+  covered_by_delay : (c i : ℕ) → i < length ops → ((h : ℕ) → h < i → issue_cycle rows h < c)
+      → list_all (all_over lat ops rows c i) (range_with_len 0 i) ≡ false
+      → Covered (issue_cycle rows) size (length ops) c
   unfolding size
   covered_by_delay c i within earlier fails =
       let from = not_all (all_over lat ops rows c i) (range_with_len 0 i) fails in
       let place : (0 ≤ from.0) × (from.0 < 0 + i) = from_range 0 i from.0 from.1 in
       let delay = not_all (is_over rows c from.0) (delays lat (op_at ops from.0) (op_at ops i)) from.2 in
       let late : c < issue_cycle rows from.0 + delay.0 = leb-false (issue_cycle rows from.0 + delay.0) c delay.2 in
-      let most : delay.0 ≤ latency lat (op_at ops from.0) = delay_at_most lat (op_at ops from.0) (op_at ops i) delay.0 (contains_from _ delay.0 delay.1) in
+      let most : delay.0 ≤ latency lat (op_at ops from.0) =
+      delay_at_most lat (op_at ops from.0) (op_at ops i) delay.0 (contains_from _ delay.0 delay.1) in
       let early : issue_cycle rows from.0 < c = earlier from.0 (omega arith) in
       record { by = from.0; within = omega arith; begun = omega arith; goes_on = omega arith }
 
-  covered_by_lowest : (c i : ℕ) → c < length rows → i < length ops → c ≤ issue_cycle rows i → ((h : ℕ) → h < i → issue_cycle rows h < c) → Covered (issue_cycle rows) size (length ops) c
+  covered_by_lowest : (c i : ℕ) → c < length rows → i < length ops → c ≤ issue_cycle rows i
+      → ((h : ℕ) → h < i → issue_cycle rows h < c) → Covered (issue_cycle rows) size (length ops) c
   covered_by_lowest c i below within waiting earlier =
       by_bool (list_all (all_over lat ops rows c i) (range_with_len 0 i))
       (λ t. covered_by_ready c i below (all_ready t))
       (λ t. covered_by_delay c i within earlier t)
     where
       all_ready : list_all (all_over lat ops rows c i) (range_with_len 0 i) ≡ true → IsReady lat ops rows c i
-      all_ready t = ready_means lat ops rows c i (in_filter (is_ready lat ops rows c) (range_with_len 0 (length ops)) i (in_range_from 0 (length ops) i (omega arith) (omega arith)) (and_from _ _ (le-leb c (issue_cycle rows i) waiting) t))
+      all_ready t = ready_means lat ops rows c i (in_filter (is_ready lat ops rows c) (range_with_len 0 (length ops)) i
+          (in_range_from 0 (length ops) i (omega arith) (omega arith))
+          (and_from _ _ (le-leb c (issue_cycle rows i) waiting) t))
 
   -- while an operation waits, each cycle has one at work
-  covered : (c i : ℕ) → c < length rows → i < length ops → c ≤ issue_cycle rows i → Covered (issue_cycle rows) size (length ops) c
+  covered : (c i : ℕ) → c < length rows → i < length ops → c ≤ issue_cycle rows i
+      → Covered (issue_cycle rows) size (length ops) c
   covered c i below within waiting = elim (lowest (λ k. nat_le c (issue_cycle rows k)) (length ops)) [
-    | inl found ↦ covered_by_lowest c found.at below found.below (leb-true c (issue_cycle rows found.at) found.passes) (λ h less. leb-false c (issue_cycle rows h) (found.others h less))
+    | inl found ↦ covered_by_lowest c found.at below found.below (leb-true c (issue_cycle rows found.at) found.passes)
+        (λ h less. leb-false c (issue_cycle rows h) (found.others h less))
     | inr none ↦ absurd (true≢false (sym (le-leb c (issue_cycle rows i) waiting) ∙ none i within))
   ]
 
@@ -123,32 +147,43 @@ module _ (lat : Latencies) (ops : List Op) (rows : List Row) (so_far : IsChosenS
   sizes = sum_by_numbers (latency lat) ops Nop
 
   -- while an operation waits there are no more rows than cycles of work
-  pub rows_bound_at : (i : ℕ) → i < length ops → length rows ≤ issue_cycle rows i → length rows ≤ sum_by (latency lat) ops
+  pub rows_bound_at : (i : ℕ) → i < length ops → length rows ≤ issue_cycle rows i
+      → length rows ≤ sum_by (latency lat) ops
   rows_bound_at i within waits =
-      subst (λ n. length rows ≤ n) sizes (covered_sum (issue_cycle rows) size (length ops) (length rows) (λ c below. covered c i below within (omega arith)))
+      subst (λ n. length rows ≤ n) sizes (covered_sum (issue_cycle rows) size (length ops) (length rows)
+      (λ c below. covered c i below within (omega arith)))
 
-  covered_to_end : (m h : ℕ) → h < length ops → issue_cycle rows h < length rows → m ≤ issue_cycle rows h + size h → (c : ℕ) → c < m → Covered (issue_cycle rows) size (length ops) c
+  covered_to_end : (m h : ℕ) → h < length ops → issue_cycle rows h < length rows → m ≤ issue_cycle rows h + size h
+      → (c : ℕ) → c < m → Covered (issue_cycle rows) size (length ops) c
   covered_to_end m h within issued end c below = elim (cases_lt c (issue_cycle rows h)) [
     | inl before ↦ covered c h (omega arith) within (omega arith)
     | inr working ↦ record { by = h; within = within; begun = working; goes_on = omega arith }
   ]
 
-  pub cycles_bound : ((i : ℕ) → i < length ops → issue_cycle rows i < length rows) → cycles lat ops rows ≤ sum_by (latency lat) ops
+  pub cycles_bound : ((i : ℕ) → i < length ops → issue_cycle rows i < length rows)
+      → cycles lat ops rows ≤ sum_by (latency lat) ops
   unfolding size
-  cycles_bound all_issued = elim (fold_max_reached 0 (map (λ k. issue_cycle rows k + latency lat (op_at ops k)) (range_with_len 0 (length ops)))) [
-    | inl none ↦ subst (λ n. n ≤ sum_by (latency lat) ops) (sym none) (omega arith)
-    | inr there ↦
-        let at = from_map (λ k. issue_cycle rows k + latency lat (op_at ops k)) (range_with_len 0 (length ops)) (cycles lat ops rows) there in
-        let place : (0 ≤ at.0) × (at.0 < 0 + length ops) = from_range 0 (length ops) at.0 at.1 in
-        let within : at.0 < length ops = omega arith in
-        subst (λ n. cycles lat ops rows ≤ n) sizes
-        (covered_sum (issue_cycle rows) size (length ops) (cycles lat ops rows)
-        (covered_to_end (cycles lat ops rows) at.0 within (all_issued at.0 within) (subst (λ n. cycles lat ops rows ≤ n) (sym at.2) (le_self (cycles lat ops rows)))))
-  ]
+  cycles_bound all_issued =
+      elim (fold_max_reached 0 (map (λ k. issue_cycle rows k + latency lat (op_at ops k))
+      (range_with_len 0 (length ops)))) [
+        | inl none ↦ subst (λ n. n ≤ sum_by (latency lat) ops) (sym none) (omega arith)
+        | inr there ↦
+            let at = from_map (λ k. issue_cycle rows k + latency lat (op_at ops k)) (range_with_len 0 (length ops))
+            (cycles lat ops rows) there in
+            let place : (0 ≤ at.0) × (at.0 < 0 + length ops) = from_range 0 (length ops) at.0 at.1 in
+            let within : at.0 < length ops = omega arith in
+            subst (λ n. cycles lat ops rows ≤ n) sizes
+            (covered_sum (issue_cycle rows) size (length ops) (cycles lat ops rows)
+            (covered_to_end (cycles lat ops rows) at.0 within (all_issued at.0 within)
+            (subst (λ n. cycles lat ops rows ≤ n) (sym at.2) (le_self (cycles lat ops rows)))))
+      ]
 
-pub rows_bound : (lat : Latencies) (ops : List Op) (rows : List Row) (i : ℕ) → IsChosenSoFar lat ops rows → i < length ops → length rows ≤ issue_cycle rows i → length rows ≤ sum_by (latency lat) ops
+pub rows_bound : (lat : Latencies) (ops : List Op) (rows : List Row) (i : ℕ) → IsChosenSoFar lat ops rows
+    → i < length ops → length rows ≤ issue_cycle rows i → length rows ≤ sum_by (latency lat) ops
 rows_bound lat ops rows i so_far within waits = rows_bound_at lat ops rows so_far i within waits
 
 -- a greedy schedule takes no more cycles than its operations one after another
-pub busy_bound : (lat : Latencies) (block ops : List Op) (rows : List Row) → IsGreedy lat block ops rows → cycles lat ops rows ≤ sum_by (latency lat) ops
-busy_bound lat block ops rows greedy = cycles_bound lat ops rows greedy.each (λ i within. issued_within ops rows greedy.lawful.table i within)
+pub busy_bound : (lat : Latencies) (block ops : List Op) (rows : List Row) → IsGreedy lat block ops rows
+    → cycles lat ops rows ≤ sum_by (latency lat) ops
+busy_bound lat block ops rows greedy = cycles_bound lat ops rows greedy.each
+    (λ i within. issued_within ops rows greedy.lawful.table i within)

@@ -18,7 +18,9 @@ use Rattle.iloc_sched.proofs.Readiness.{IsReady, ready_means, ready_kept}
 use Rattle.iloc_sched.proofs.Choices.{chosen_units, chosen_in, once_in}
 use Rattle.iloc_sched.proofs.DelayFacts.{Waits}
 
-pub chosen_more : (lat : Latencies) (ops : List Op) (rows : List Row) (row : Row) → IsChosenSoFar lat ops rows → row ≡ chosen ops (priorities lat ops) (ready lat ops rows (length rows)) → IsChosenSoFar lat ops (rows ++ row ∷ [])
+pub chosen_more : (lat : Latencies) (ops : List Op) (rows : List Row) (row : Row) → IsChosenSoFar lat ops rows
+    → row ≡ chosen ops (priorities lat ops) (ready lat ops rows (length rows))
+    → IsChosenSoFar lat ops (rows ++ row ∷ [])
 chosen_more lat ops rows row so_far is c below =
     let longer : length (rows ++ row ∷ []) ≡ length rows + 1 = length_push rows row in
     elim (cases_lt c (length rows)) [
@@ -41,14 +43,16 @@ module _ (lat : Latencies) (ops : List Op) (rows : List Row) (so_far : IsChosenS
   was_ready c i there = elim (cases_lt c (length rows)) [
     | inl below ↦
         ready_means lat ops rows c i
-        (chosen_in ops (priorities lat ops) (ready lat ops rows c) i (subst (λ row. In (slots row) i) (so_far c below) there))
+        (chosen_in ops (priorities lat ops) (ready lat ops rows c) i
+        (subst (λ row. In (slots row) i) (so_far c below) there))
     | inr past ↦ absurd (subst (λ row. In (slots row) i) (row_at_past rows c past) there)
   ]
 
   stands_once : (c i : ℕ) → c < length rows → In (slots (row_at rows c)) i → count_in (row_at rows c) i ≡ 1
   stands_once c i below there =
       let row_is : row_at rows c ≡ chosen ops (priorities lat ops) (ready lat ops rows c) = so_far c below in
-      ap (λ row. count_in row i) row_is ∙ once_in ops (priorities lat ops) (ready lat ops rows c) i (subst (λ row. In (slots row) i) row_is there)
+      ap (λ row. count_in row i) row_is ∙ once_in ops (priorities lat ops) (ready lat ops rows c) i
+      (subst (λ row. In (slots row) i) row_is there)
 
   units_kept : (c : ℕ) → IsTrue (keeps_units ops (row_at rows c))
   units_kept c = elim (cases_lt c (length rows)) [
@@ -64,7 +68,8 @@ module _ (lat : Latencies) (ops : List Op) (rows : List Row) (so_far : IsChosenS
         (λ c above under there. let waiting : c ≤ issue_cycle rows i = (was_ready c i there).waiting in omega arith)
 
     waited : Waits lat ops rows
-    waited i j d pair = (was_ready (issue_cycle rows j) j (stands_there rows j (all_issued j pair.within))).over i d pair
+    waited i j d pair = (was_ready (issue_cycle rows j) j (stands_there rows j (all_issued j pair.within))).over i d
+        pair
 
     is_table : IsTable ops rows
     is_table = record {
@@ -73,10 +78,15 @@ module _ (lat : Latencies) (ops : List Op) (rows : List Row) (so_far : IsChosenS
       units = units_kept;
     }
 
-pub chosen_is_greedy : (lat : Latencies) (block ops : List Op) (rows : List Row) → ops ≡ renamed block → IsChosenSoFar lat ops rows → ((i : ℕ) → i < length ops → issue_cycle rows i < length rows)
+pub chosen_is_greedy : (lat : Latencies) (block ops : List Op) (rows : List Row) → ops ≡ renamed block
+    → IsChosenSoFar lat ops rows → ((i : ℕ) → i < length ops → issue_cycle rows i < length rows)
     → ((c : ℕ) → length rows ≡ c + 1 → slots (row_at rows c) ≢ []) → IsGreedy lat block ops rows
 chosen_is_greedy lat block ops rows names so_far all_issued last = record {
-  lawful = record { names = names; table = is_table lat ops rows so_far all_issued; waits = waited lat ops rows so_far all_issued };
+  lawful = record {
+    names = names;
+    table = is_table lat ops rows so_far all_issued;
+    waits = waited lat ops rows so_far all_issued;
+  };
   last = last;
   each = so_far;
 }

@@ -17,7 +17,8 @@ use Rattle.iloc_sched.proofs.FirstOfAll.{first_in, first_some}
 
 -- whether the rules of the units hold of the kinds on unit 0 and unit 1
 abbrev fits : Option Kind → Option Kind → Bool
-fits zero one = not (is_some_kind is_mult zero) && not (is_some_kind is_memory one) && not (is_some_kind is_output zero && is_some_kind is_output one)
+fits zero one = not (is_some_kind is_mult zero) && not (is_some_kind is_memory one)
+    && not (is_some_kind is_output zero && is_some_kind is_output one)
 
 -- whether the choice puts the first on unit 1
 abbrev goes_on_one : Kind → Kind → Bool
@@ -66,24 +67,34 @@ on_units_fit ops a (Some b) beside =
     (λ t. on_one t may)
     (λ t. on_zero t may)
   where
-    on_one : goes_on_one (kind (op_at ops a)) (kind (op_at ops b)) ≡ true → may_stand_beside (kind (op_at ops a)) (kind (op_at ops b)) ≡ true → keeps_units ops (on_units ops a (Some b)) ≡ true
+    on_one : goes_on_one (kind (op_at ops a)) (kind (op_at ops b)) ≡ true
+        → may_stand_beside (kind (op_at ops a)) (kind (op_at ops b)) ≡ true → keeps_units ops (on_units ops a (Some b))
+        ≡ true
     on_one t may =
-        subst (λ v. keeps_units ops (cond v (record { zero = Some b; one = Some a }) (record { zero = Some a; one = Some b })) ≡ true) (sym t)
+        subst (λ v. keeps_units ops (cond v (record { zero = Some b; one = Some a })
+        (record { zero = Some a; one = Some b })) ≡ true) (sym t)
         (subst (λ u. (not true || (not u || fits (Some (kind (op_at ops b))) (Some (kind (op_at ops a))))) ≡ true) t
-        (subst (λ u. (not u || (not (goes_on_one (kind (op_at ops a)) (kind (op_at ops b))) || fits (Some (kind (op_at ops b))) (Some (kind (op_at ops a))))) ≡ true) may
+        (subst (λ u. (not u || (not (goes_on_one (kind (op_at ops a)) (kind (op_at ops b)))
+        || fits (Some (kind (op_at ops b))) (Some (kind (op_at ops a))))) ≡ true) may
         (first_on_one (kind (op_at ops a)) (kind (op_at ops b)))))
 
-    on_zero : goes_on_one (kind (op_at ops a)) (kind (op_at ops b)) ≡ false → may_stand_beside (kind (op_at ops a)) (kind (op_at ops b)) ≡ true → keeps_units ops (on_units ops a (Some b)) ≡ true
+    on_zero : goes_on_one (kind (op_at ops a)) (kind (op_at ops b)) ≡ false
+        → may_stand_beside (kind (op_at ops a)) (kind (op_at ops b)) ≡ true → keeps_units ops (on_units ops a (Some b))
+        ≡ true
     on_zero t may =
-        subst (λ v. keeps_units ops (cond v (record { zero = Some b; one = Some a }) (record { zero = Some a; one = Some b })) ≡ true) (sym t)
+        subst (λ v. keeps_units ops (cond v (record { zero = Some b; one = Some a })
+        (record { zero = Some a; one = Some b })) ≡ true) (sym t)
         (subst (λ u. (not true || (u || fits (Some (kind (op_at ops a))) (Some (kind (op_at ops b))))) ≡ true) t
-        (subst (λ u. (not u || (goes_on_one (kind (op_at ops a)) (kind (op_at ops b)) || fits (Some (kind (op_at ops a))) (Some (kind (op_at ops b))))) ≡ true) may
+        (subst (λ u. (not u || (goes_on_one (kind (op_at ops a)) (kind (op_at ops b))
+        || fits (Some (kind (op_at ops a))) (Some (kind (op_at ops b))))) ≡ true) may
         (first_on_zero (kind (op_at ops a)) (kind (op_at ops b)))))
 
 -- a slot for each of the two, in one order or the other
-slots_of : (ops : List Op) (a : ℕ) (b : Option ℕ) → (slots (on_units ops a b) ≡ a ∷ option_to_list b) ⊎ (slots (on_units ops a b) ≡ option_to_list b ++ a ∷ [])
+slots_of : (ops : List Op) (a : ℕ) (b : Option ℕ) → (slots (on_units ops a b) ≡ a ∷ option_to_list b)
+    ⊎ (slots (on_units ops a b) ≡ option_to_list b ++ a ∷ [])
 slots_of ops a b =
-    by_bool (is_mult (kind (op_at ops a)) || is_some_kind is_memory (kind_in ops b)) (λ t. rw t (inl refl)) (λ t. rw t (inr refl))
+    by_bool (is_mult (kind (op_at ops a)) || is_some_kind is_memory (kind_in ops b)) (λ t. rw t (inl refl))
+    (λ t. rw t (inr refl))
 
 in_option : (b : Option ℕ) (i : ℕ) → In (option_to_list b) i → b ≡ Some i
 in_option None i there = absurd there
@@ -103,7 +114,8 @@ from_slots ops a b i there = elim (slots_of ops a b) [
 abbrev Apart : ℕ → Option ℕ → Type 0
 Apart a b = (k : ℕ) → b ≡ Some k → a ≢ k
 
-count_two : (i a : ℕ) (b : Option ℕ) → Apart a b → (a ≡ i) ⊎ (b ≡ Some i) → (count_by (λ j. i == j) (a ∷ option_to_list b) ≡ 1) × (count_by (λ j. i == j) (option_to_list b ++ a ∷ []) ≡ 1)
+count_two : (i a : ℕ) (b : Option ℕ) → Apart a b → (a ≡ i) ⊎ (b ≡ Some i)
+    → (count_by (λ j. i == j) (a ∷ option_to_list b) ≡ 1) × (count_by (λ j. i == j) (option_to_list b ++ a ∷ []) ≡ 1)
 count_two i a None apart (inl first) = let here : (i == a) ≡ true = eq-eqb i a (sym first) in rw here (refl, refl)
 count_two i a None apart (inr second) = absurd cc
 count_two i a (Some b) apart (inl first) =
@@ -116,7 +128,8 @@ count_two i a (Some b) apart (inr second) =
     let not_there : (i == a) ≡ false = ne_eqb i a (λ other. apart b refl (sym other ∙ sym same)) in
     rw (here, not_there) (refl, refl)
 
-count_once : (ops : List Op) (a : ℕ) (b : Option ℕ) (i : ℕ) → Apart a b → In (slots (on_units ops a b)) i → count_in (on_units ops a b) i ≡ 1
+count_once : (ops : List Op) (a : ℕ) (b : Option ℕ) (i : ℕ) → Apart a b → In (slots (on_units ops a b)) i
+    → count_in (on_units ops a b) i ≡ 1
 count_once ops a b i apart there = elim (slots_of ops a b) [
   | inl front ↦ ap (count_by (λ j. i == j)) front ∙ (count_two i a b apart (from_slots ops a b i there)).0
   | inr back ↦ ap (count_by (λ j. i == j)) back ∙ (count_two i a b apart (from_slots ops a b i there)).1
@@ -140,27 +153,34 @@ module _ (ops : List Op) (prios candidates : List ℕ) where
   abbrev beside : ℕ → List ℕ
   beside a = filter (λ b. not (a == b) && may_stand_beside (kind (op_at ops a)) (kind (op_at ops b))) candidates
 
-  second : (a k : ℕ) → first_of_all prios (beside a) ≡ Some k → In candidates k × ((not (a == k) && may_stand_beside (kind (op_at ops a)) (kind (op_at ops k))) ≡ true)
-  second a k is = from_filter (λ b. not (a == b) && may_stand_beside (kind (op_at ops a)) (kind (op_at ops b))) candidates k (first_in prios (beside a) k is)
+  second : (a k : ℕ) → first_of_all prios (beside a) ≡ Some k → In candidates k
+      × ((not (a == k) && may_stand_beside (kind (op_at ops a)) (kind (op_at ops k))) ≡ true)
+  second a k is = from_filter (λ b. not (a == b) && may_stand_beside (kind (op_at ops a)) (kind (op_at ops b)))
+      candidates k (first_in prios (beside a) k is)
 
   second_fits : (a : ℕ) → FitsBeside ops a (first_of_all prios (beside a))
-  second_fits a k is = (and_parts (not (a == k)) (may_stand_beside (kind (op_at ops a)) (kind (op_at ops k))) (second a k is).1).1
+  second_fits a k is = (and_parts (not (a == k)) (may_stand_beside (kind (op_at ops a)) (kind (op_at ops k)))
+      (second a k is).1).1
 
   second_apart : (a : ℕ) → Apart a (first_of_all prios (beside a))
-  second_apart a k is = eqb-false a k (not-true (a == k) (and_parts (not (a == k)) (may_stand_beside (kind (op_at ops a)) (kind (op_at ops k))) (second a k is).1).0)
+  second_apart a k is =
+      eqb-false a k (not-true (a == k) (and_parts (not (a == k))
+      (may_stand_beside (kind (op_at ops a)) (kind (op_at ops k))) (second a k is).1).0)
 
   with_units : (a : Option ℕ) → keeps_units ops (chosen_with ops prios candidates a) ≡ true
   with_units None = refl
   with_units (Some a) = on_units_fit ops a (first_of_all prios (beside a)) (second_fits a)
 
-  with_in : (a : Option ℕ) (i : ℕ) → ((k : ℕ) → a ≡ Some k → In candidates k) → In (slots (chosen_with ops prios candidates a)) i → In candidates i
+  with_in : (a : Option ℕ) (i : ℕ) → ((k : ℕ) → a ≡ Some k → In candidates k)
+      → In (slots (chosen_with ops prios candidates a)) i → In candidates i
   with_in None i first there = absurd there
   with_in (Some a) i first there = elim (from_slots ops a (first_of_all prios (beside a)) i there) [
     | inl here ↦ first i (ap Some here)
     | inr other ↦ (second a i other).0
   ]
 
-  with_once : (a : Option ℕ) (i : ℕ) → In (slots (chosen_with ops prios candidates a)) i → count_in (chosen_with ops prios candidates a) i ≡ 1
+  with_once : (a : Option ℕ) (i : ℕ) → In (slots (chosen_with ops prios candidates a)) i
+      → count_in (chosen_with ops prios candidates a) i ≡ 1
   with_once None i there = absurd there
   with_once (Some a) i there = count_once ops a (first_of_all prios (beside a)) i (second_apart a) there
 
@@ -182,4 +202,5 @@ module _ (ops : List Op) (prios candidates : List ℕ) where
 
   -- where there is a candidate, one is chosen
   pub chosen_some : (i : ℕ) → In candidates i → slots (chosen ops prios candidates) ≢ []
-  chosen_some i there = let found = first_some prios candidates i there in with_some (first_of_all prios candidates) found.0 found.1
+  chosen_some i there = let found = first_some prios candidates i there in
+      with_some (first_of_all prios candidates) found.0 found.1

@@ -43,13 +43,15 @@ from_when b d e there =
 
 -- a delay is the latency of the first or 1
 pub delay_is : (lat : Latencies) (i j : Op) (d : ℕ) → Contains (delays lat i j) d → (latency lat i ≡ d) ⊎ (1 ≡ d)
-delay_is lat i j d there = elim (from_append (when (uses_result i j) (latency lat i)) (memory_delays lat i j) d (in_from (delays lat i j) d there)) [
-  | inl used ↦ inl (from_when (uses_result i j) (latency lat i) d used).1
-  | inr memory ↦ elim (from_append (when (reads_stored (kind i) (kind j)) (latency lat i)) (when (keeps_order (kind i) (kind j)) 1) d memory) [
-    | inl stored ↦ inl (from_when (reads_stored (kind i) (kind j)) (latency lat i) d stored).1
-    | inr order ↦ inr (from_when (keeps_order (kind i) (kind j)) 1 d order).1
-  ]
-]
+delay_is lat i j d there = elim (from_append (when (uses_result i j) (latency lat i)) (memory_delays lat i j) d
+    (in_from (delays lat i j) d there)) [
+      | inl used ↦ inl (from_when (uses_result i j) (latency lat i) d used).1
+      | inr memory ↦ elim (from_append (when (reads_stored (kind i) (kind j)) (latency lat i))
+          (when (keeps_order (kind i) (kind j)) 1) d memory) [
+            | inl stored ↦ inl (from_when (reads_stored (kind i) (kind j)) (latency lat i) d stored).1
+            | inr order ↦ inr (from_when (keeps_order (kind i) (kind j)) 1 d order).1
+          ]
+    ]
 
 pub delay_at_least : (lat : Latencies) (i j : Op) (d : ℕ) → Contains (delays lat i j) d → 1 ≤ d
 delay_at_least lat i j d there = elim (delay_is lat i j d there) [
@@ -76,35 +78,47 @@ is_register_from r o is = ap (is_register r) is ∙ eq-eqb r.0 r.0 refl
 
 module _ (lat : Latencies) (ops : List Op) (rows : List Row) (waits : Waits lat ops rows) where
   -- what is used was issued so early that it has arrived
-  pub used_in_time : (i k : ℕ) (r : Reg) → i < length ops → k < i → In (used (op_at ops i)) r → defined (op_at ops k) ≡ Some r → issue_cycle rows k + latency lat (op_at ops k) ≤ issue_cycle rows i
+  pub used_in_time : (i k : ℕ) (r : Reg) → i < length ops → k < i → In (used (op_at ops i)) r
+      → defined (op_at ops k) ≡ Some r → issue_cycle rows k + latency lat (op_at ops k) ≤ issue_cycle rows i
   used_in_time i k r within before uses defines =
       let test : uses_result (op_at ops k) (op_at ops i) ≡ true =
-      any_at (λ s. is_register s (defined (op_at ops k))) (used (op_at ops i)) r uses (is_register_from r (defined (op_at ops k)) defines) in
+      any_at (λ s. is_register s (defined (op_at ops k))) (used (op_at ops i)) r uses
+      (is_register_from r (defined (op_at ops k)) defines) in
       waits k i (latency lat (op_at ops k)) record {
         order = before;
         within = within;
-        delay = contains_from (delays lat (op_at ops k) (op_at ops i)) (latency lat (op_at ops k)) (in_left (when (uses_result (op_at ops k) (op_at ops i)) (latency lat (op_at ops k))) (memory_delays lat (op_at ops k) (op_at ops i)) _ (in_when _ _ test));
+        delay = contains_from (delays lat (op_at ops k) (op_at ops i)) (latency lat (op_at ops k))
+            (in_left (when (uses_result (op_at ops k) (op_at ops i)) (latency lat (op_at ops k)))
+            (memory_delays lat (op_at ops k) (op_at ops i)) _ (in_when _ _ test));
       }
 
-  by_memory : (k i d : ℕ) → i < length ops → k < i → In (memory_delays lat (op_at ops k) (op_at ops i)) d → issue_cycle rows k + d ≤ issue_cycle rows i
+  by_memory : (k i d : ℕ) → i < length ops → k < i → In (memory_delays lat (op_at ops k) (op_at ops i)) d
+      → issue_cycle rows k + d ≤ issue_cycle rows i
   by_memory k i d within before there = waits k i d record {
     order = before;
     within = within;
-    delay = contains_from (delays lat (op_at ops k) (op_at ops i)) d (in_right (when (uses_result (op_at ops k) (op_at ops i)) (latency lat (op_at ops k))) (memory_delays lat (op_at ops k) (op_at ops i)) d there);
+    delay = contains_from (delays lat (op_at ops k) (op_at ops i)) d
+        (in_right (when (uses_result (op_at ops k) (op_at ops i)) (latency lat (op_at ops k)))
+        (memory_delays lat (op_at ops k) (op_at ops i)) d there);
   }
 
   -- what is read was stored so early that it has arrived
-  pub stored_in_time : (i k : ℕ) → i < length ops → k < i → is_store (kind (op_at ops k)) ≡ true → reads_memory (kind (op_at ops i)) ≡ true → issue_cycle rows k + latency lat (op_at ops k) ≤ issue_cycle rows i
+  pub stored_in_time : (i k : ℕ) → i < length ops → k < i → is_store (kind (op_at ops k)) ≡ true
+      → reads_memory (kind (op_at ops i)) ≡ true → issue_cycle rows k + latency lat (op_at ops k) ≤ issue_cycle rows i
   stored_in_time i k within before store reads =
       by_memory k i (latency lat (op_at ops k)) within before
-      (in_left (when (reads_stored (kind (op_at ops k)) (kind (op_at ops i))) (latency lat (op_at ops k))) (when (keeps_order (kind (op_at ops k)) (kind (op_at ops i))) 1) (latency lat (op_at ops k)) (in_when _ _ (and_from _ _ store reads)))
+      (in_left (when (reads_stored (kind (op_at ops k)) (kind (op_at ops i))) (latency lat (op_at ops k)))
+      (when (keeps_order (kind (op_at ops k)) (kind (op_at ops i))) 1) (latency lat (op_at ops k))
+      (in_when _ _ (and_from _ _ store reads)))
 
   -- what has to come after is issued later
-  pub kept_in_order : (k i : ℕ) → i < length ops → k < i → keeps_order (kind (op_at ops k)) (kind (op_at ops i)) ≡ true → issue_cycle rows k < issue_cycle rows i
+  pub kept_in_order : (k i : ℕ) → i < length ops → k < i → keeps_order (kind (op_at ops k)) (kind (op_at ops i)) ≡ true
+      → issue_cycle rows k < issue_cycle rows i
   kept_in_order k i within before order =
       let later : issue_cycle rows k + 1 ≤ issue_cycle rows i =
       by_memory k i 1 within before
-      (in_right (when (reads_stored (kind (op_at ops k)) (kind (op_at ops i))) (latency lat (op_at ops k))) (when (keeps_order (kind (op_at ops k)) (kind (op_at ops i))) 1) 1 (in_when _ _ order)) in
+      (in_right (when (reads_stored (kind (op_at ops k)) (kind (op_at ops i))) (latency lat (op_at ops k)))
+      (when (keeps_order (kind (op_at ops k)) (kind (op_at ops i))) 1) 1 (in_when _ _ order)) in
       omega arith
 
 pub read_then_store : (a b : Kind) → reads_memory a ≡ true → is_store b ≡ true → keeps_order a b ≡ true

@@ -39,7 +39,9 @@ AllIssued ops rows = (i : ℕ) → i < length ops → issue_cycle rows i < lengt
 issued_or_waits : (ops : List Op) (rows : List Row) → AllIssued ops rows ⊎ WaitsAt ops rows (length rows)
 issued_or_waits ops rows =
     by_bool (list_all (λ i. nat_lt (issue_cycle rows i) (length rows)) (range_with_len 0 (length ops)))
-    (λ t. inl (λ i below. ltb-true (issue_cycle rows i) (length rows) (from_all (λ k. nat_lt (issue_cycle rows k) (length rows)) (range_with_len 0 (length ops)) i t (in_range_from 0 (length ops) i (omega arith) (omega arith)))))
+    (λ t. inl (λ i below. ltb-true (issue_cycle rows i) (length rows)
+    (from_all (λ k. nat_lt (issue_cycle rows k) (length rows)) (range_with_len 0 (length ops)) i t
+    (in_range_from 0 (length ops) i (omega arith) (omega arith)))))
     (λ t.
     let one = not_all (λ i. nat_lt (issue_cycle rows i) (length rows)) (range_with_len 0 (length ops)) t in
     let place : (0 ≤ one.0) × (one.0 < 0 + length ops) = from_range 0 (length ops) one.0 one.1 in
@@ -49,40 +51,48 @@ module _ (lat : Latencies) (ops : List Op) where
   next_row : List Row → Row
   next_row rows = chosen ops (priorities lat ops) (ready lat ops rows (length rows))
 
-  one_more : (rows : List Row) → IsBegun lat ops rows → WaitsAt ops rows (length rows) → IsBegun lat ops (rows ++ next_row rows ∷ [])
+  one_more : (rows : List Row) → IsBegun lat ops rows → WaitsAt ops rows (length rows)
+      → IsBegun lat ops (rows ++ next_row rows ∷ [])
   unfolding next_row
   one_more rows begun waits = record {
     so_far = chosen_more lat ops rows (next_row rows) begun.so_far refl;
     last = λ c is.
         let longer : length (rows ++ next_row rows ∷ []) ≡ length rows + 1 = length_push rows (next_row rows) in
-        let back : issue_cycle (rows ++ next_row rows ∷ []) waits.by ≡ length rows + issue_cycle (next_row rows ∷ []) waits.by = issue_cycle_back rows (next_row rows ∷ []) waits.by waits.waiting in
+        let back : issue_cycle (rows ++ next_row rows ∷ []) waits.by ≡ length rows + issue_cycle (next_row rows ∷ [])
+        waits.by = issue_cycle_back rows (next_row rows ∷ []) waits.by waits.waiting in
         record { by = waits.by; within = waits.within; waiting = subst (λ n. c ≤ n) (sym back) (omega arith) };
   }
 
-  to_the_end : (fuel : ℕ) (rows : List Row) → IsBegun lat ops rows → sum_by (latency lat) ops < length rows + fuel → (all : List Row) × IsBegun lat ops all × AllIssued ops all
+  to_the_end : (fuel : ℕ) (rows : List Row) → IsBegun lat ops rows → sum_by (latency lat) ops < length rows + fuel
+      → (all : List Row) × IsBegun lat ops all × AllIssued ops all
   to_the_end zero rows begun enough = elim (issued_or_waits ops rows) [
     | inl done ↦ (rows, begun, done)
     | inr waits ↦
-        let bound : length rows ≤ sum_by (latency lat) ops = rows_bound lat ops rows waits.by begun.so_far waits.within waits.waiting in
+        let bound : length rows ≤ sum_by (latency lat) ops =
+        rows_bound lat ops rows waits.by begun.so_far waits.within waits.waiting in
         absurd (omega arith)
   ]
   to_the_end (suc fuel) rows begun enough = elim (issued_or_waits ops rows) [
     | inl done ↦ (rows, begun, done)
     | inr waits ↦
         let longer : length (rows ++ next_row rows ∷ []) ≡ length rows + 1 = length_push rows (next_row rows) in
-        to_the_end fuel (rows ++ next_row rows ∷ []) (one_more rows begun waits) (subst (λ n. sum_by (latency lat) ops < n + fuel) (sym longer) (omega arith))
+        to_the_end fuel (rows ++ next_row rows ∷ []) (one_more rows begun waits)
+        (subst (λ n. sum_by (latency lat) ops < n + fuel) (sym longer) (omega arith))
   ]
 
-  last_row_some : (rows : List Row) → IsBegun lat ops rows → AllIssued ops rows → (c : ℕ) → length rows ≡ c + 1 → slots (row_at rows c) ≢ []
+  last_row_some : (rows : List Row) → IsBegun lat ops rows → AllIssued ops rows → (c : ℕ) → length rows ≡ c + 1
+      → slots (row_at rows c) ≢ []
   last_row_some rows begun done c is empty =
       let waits = begun.last c is in
       let issued : issue_cycle rows waits.by < length rows = done waits.by waits.within in
       let late : c ≤ issue_cycle rows waits.by = waits.waiting in
       let at : issue_cycle rows waits.by ≡ c = omega arith in
-      subst (λ is. In is waits.by) empty (subst (λ k. In (slots (row_at rows k)) waits.by) at (stands_there rows waits.by issued))
+      subst (λ is. In is waits.by) empty (subst (λ k. In (slots (row_at rows k)) waits.by) at
+      (stands_there rows waits.by issued))
 
 pub greedy_exists : (lat : Latencies) (block : List Op) → (rows : List Row) × IsGreedy lat block (renamed block) rows
 greedy_exists lat block =
     let ops : List Op = renamed block in
-    let end = to_the_end lat ops (sum_by (latency lat) ops + 1) [] (record { so_far = λ c below. absurd (omega arith); last = λ c is. absurd (omega arith) }) (omega arith) in
+    let end = to_the_end lat ops (sum_by (latency lat) ops + 1) []
+    (record { so_far = λ c below. absurd (omega arith); last = λ c is. absurd (omega arith) }) (omega arith) in
     (end.0, chosen_is_greedy lat block ops end.0 refl end.1.so_far end.2 (last_row_some lat ops end.0 end.1 end.2))

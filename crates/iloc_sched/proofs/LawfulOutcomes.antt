@@ -10,8 +10,10 @@ use Rattle.iloc_sched.specs.Lawful.{IsLawful}
 use Rattle.iloc_sched.proofs.RenamedBlocks.{renamed_is_renamed, renaming_keeps_the_outcome}
 use Rattle.iloc_sched.proofs.TimedOutcomes.{timed_is_plain}
 
-pub lawful_same_outcome : (lat : Latencies) (block ops : List Op) (rows : List Row) (memory : List ℤ) → IsLawful lat block ops rows → timed_outcome lat ops rows memory ≡ outcome block memory
+pub lawful_same_outcome : (lat : Latencies) (block ops : List Op) (rows : List Row) (memory : List ℤ)
+    → IsLawful lat block ops rows → timed_outcome lat ops rows memory ≡ outcome block memory
 lawful_same_outcome lat block ops rows memory lawful =
-    timed_is_plain lat ops rows memory (subst IsRenamed (sym lawful.names) (renamed_is_renamed block)) lawful.table lawful.waits
+    timed_is_plain lat ops rows memory (subst IsRenamed (sym lawful.names) (renamed_is_renamed block)) lawful.table
+    lawful.waits
     ∙ ap (λ os. outcome os memory) lawful.names
     ∙ renaming_keeps_the_outcome block memory

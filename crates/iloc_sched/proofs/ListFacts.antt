@@ -42,8 +42,13 @@ pub from_filter : {X : Type 0} → (p : X → Bool) (xs : List X) (x : X) → In
 from_filter p [] x there = absurd there
 from_filter p (y ∷ xs) x there =
     by_bool (p y)
-    (λ t. elim (rw t at there) [ inl here ↦ (inl here, sym (ap p here) ∙ t) | inr rest ↦ (inr (from_filter p xs x rest).0, (from_filter p xs x rest).1) ])
-    (λ t. let rest : In (filter p xs) x = rw t at there in (inr (from_filter p xs x rest).0, (from_filter p xs x rest).1))
+    (λ t. elim (rw t at there) [
+      | inl here ↦ (inl here, sym (ap p here) ∙ t)
+      | inr rest ↦
+          (inr (from_filter p xs x rest).0, (from_filter p xs x rest).1)
+    ])
+    (λ t. let rest : In (filter p xs) x = rw t at there in
+    (inr (from_filter p xs x rest).0, (from_filter p xs x rest).1))
 
 pub any_at : {X : Type 0} → (p : X → Bool) (xs : List X) (x : X) → In xs x → p x ≡ true → list_any p xs ≡ true
 any_at p [] x there passes = absurd there
@@ -61,7 +66,8 @@ from_any p (y ∷ xs) passes =
     ]
 
 -- a test finds as much in one list as in another that has its members
-pub any_same : {X : Type 0} → (p : X → Bool) (xs ys : List X) → ((x : X) → In xs x → In ys x) → ((x : X) → In ys x → In xs x) → list_any p xs ≡ list_any p ys
+pub any_same : {X : Type 0} → (p : X → Bool) (xs ys : List X) → ((x : X) → In xs x → In ys x)
+    → ((x : X) → In ys x → In xs x) → list_any p xs ≡ list_any p ys
 any_same p xs ys to from =
     by_bool (list_any p xs)
     (λ t. let w = from_any p xs t in t ∙ sym (any_at p ys w.0 (to w.0 w.1) w.2))
@@ -102,4 +108,5 @@ in_range_from a (suc n) k above below =
 pub from_range : (a n k : ℕ) → In (range_with_len a n) k → (a ≤ k) × (k < a + n)
 from_range a zero k there = absurd there
 from_range a (suc n) k (inl here) = omega arith
-from_range a (suc n) k (inr there) = let rest : (a + 1 ≤ k) × (k < a + 1 + n) = from_range (a + 1) n k there in omega arith
+from_range a (suc n) k (inr there) = let rest : (a + 1 ≤ k) × (k < a + 1 + n) = from_range (a + 1) n k there in
+    omega arith

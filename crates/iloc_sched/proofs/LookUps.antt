@@ -18,14 +18,19 @@ last_due_in : (es : List Issued) (f : Issued) → last_due es ≡ Some f → In 
 last_due_in [] f is = absurd (none-some f is)
 last_due_in (e ∷ es) f is =
     let same : later e (last_due es) ≡ f = same_Some _ f is in
-    elim (later_of e (last_due es)) [ inl first ↦ inl (sym first ∙ same) | inr rest ↦ inr (last_due_in es f (rest ∙ ap Some same)) ]
+    elim (later_of e (last_due es)) [
+      | inl first ↦ inl (sym first ∙ same)
+      | inr rest ↦
+          inr (last_due_in es f (rest ∙ ap Some same))
+    ]
 
 later_stays : (e : Issued) (o : Option Issued) → ((f : Issued) → o ≡ Some f → f.due ≤ e.due) → later e o ≡ e
 later_stays e None low = refl
 later_stays e (Some f) low = let not : nat_lt e.due f.due ≡ false = le-ltb e.due f.due (low f refl) in rw not refl
 
 -- one that is due after all others is the last
-last_due_is : (es : List Issued) (e : Issued) → In es e → ((f : Issued) → In es f → (f ≡ e) ⊎ (f.due < e.due)) → last_due es ≡ Some e
+last_due_is : (es : List Issued) (e : Issued) → In es e → ((f : Issued) → In es f → (f ≡ e) ⊎ (f.due < e.due))
+    → last_due es ≡ Some e
 last_due_is [] e there best = absurd there
 last_due_is (x ∷ es) e there best = elim (best x (inl refl)) [
   | inl same ↦
@@ -43,7 +48,8 @@ last_due_is (x ∷ es) e there best = elim (best x (inl refl)) [
   ]
 ]
 
-find-map : {X Y : Type 0} → (q : Y → Bool) (f : X → Y) (xs : List X) → find q (map f xs) ≡ option_map f (find (λ x. q (f x)) xs)
+find-map : {X Y : Type 0} → (q : Y → Bool) (f : X → Y) (xs : List X)
+    → find q (map f xs) ≡ option_map f (find (λ x. q (f x)) xs)
 find-map q f [] = refl
 find-map q f (x ∷ xs) = by_bool (q (f x)) (λ t. rw t refl) (λ t. rw t (find-map q f xs))
 
@@ -68,7 +74,9 @@ look_up_same q done due n log below within ordered = elim (finds (λ k. q (done 
       ∙ sym (find-map q done (countdown n) ∙ ap (option_map done) none.is)
   | inr some ↦
       let m = some.0 in
-      let there : In passing (entry done due m) = in_filter (λ (f : Issued). q f.executed) log (entry done due m) (within m some.1.below some.1.passes) some.1.passes in
+      let there : In passing (entry done due m) =
+      in_filter (λ (f : Issued). q f.executed) log (entry done due m) (within m some.1.below some.1.passes)
+      some.1.passes in
       let best : (f : Issued) → In passing f → (f ≡ entry done due m) ⊎ (f.due < due m) = λ f inside.
       let both = from_filter (λ (g : Issued). q g.executed) log f inside in
       let at = below f both.0 both.1 in
@@ -77,7 +85,8 @@ look_up_same q done due n log below within ordered = elim (finds (λ k. q (done 
       elim (cases_order at.0 m) [
         | inl same ↦ inl (at.2 ∙ ap (entry done due) same)
         | inr differs ↦ elim differs [
-          | inl less ↦ inr (let earlier : due at.0 < due m = ordered at.0 m less some.1.below passes some.1.passes in omega arith)
+          | inl less ↦ inr (let earlier : due at.0 < due m = ordered at.0 m less some.1.below passes some.1.passes in
+              omega arith)
           | inr more ↦ absurd (true≢false (sym passes ∙ some.1.fails at.0 more at.1))
         ]
       ] in

@@ -10,7 +10,8 @@ fold_max_start a (x ∷ xs) = let rest : max a x ≤ fold max (max a x) xs = fol
 
 pub fold_max_each : (a : ℕ) (xs : List ℕ) (x : ℕ) → In xs x → x ≤ fold max a xs
 fold_max_each a [] x there = absurd there
-fold_max_each a (y ∷ ys) x (inl here) = let rest : max a y ≤ fold max (max a y) ys = fold_max_start (max a y) ys in omega arith
+fold_max_each a (y ∷ ys) x (inl here) = let rest : max a y ≤ fold max (max a y) ys = fold_max_start (max a y) ys in
+    omega arith
 fold_max_each a (y ∷ ys) x (inr there) = fold_max_each (max a y) ys x there
 
 max_is : (a b : ℕ) → (max a b ≡ a) ⊎ (max a b ≡ b)

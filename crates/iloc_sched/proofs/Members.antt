@@ -10,7 +10,8 @@ pub contains_from : {X : Type 0} → (xs : List X) (x : X) → In xs x → Conta
 contains_from [] x there = absurd there
 contains_from (y ∷ ys) x (inl here) = (0, omega arith, here)
 contains_from (y ∷ ys) x (inr there) =
-    let rest : Contains ys x = contains_from ys x there in (suc rest.0, let below : rest.0 < length ys = rest.1 in omega arith, rest.2)
+    let rest : Contains ys x = contains_from ys x there in
+    (suc rest.0, let below : rest.0 < length ys = rest.1 in omega arith, rest.2)
 
 at : {X : Type 0} → (xs : List X) (k : ℕ) (x : X) → k < length xs → slice_index_or xs k x ≡ x → In xs x
 at [] k x below is = absurd (omega arith)

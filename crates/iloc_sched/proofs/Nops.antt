@@ -19,7 +19,9 @@ pub record Alike (memory : List ℤ) (trace other : List Executed) : Type 0 wher
   pub end : SameEnd memory trace other
 
 -- one operation goes on from both with the same effect
-alike_more : (memory : List ℤ) (trace other : List Executed) (op : Op) (e e' : Effect) → e ≡ e' → Alike memory trace other → Alike memory (record { op = op; effect = e } ∷ trace) (record { op = op; effect = e' } ∷ other)
+alike_more : (memory : List ℤ) (trace other : List Executed) (op : Op) (e e' : Effect) → e ≡ e'
+    → Alike memory trace other → Alike memory (record { op = op; effect = e } ∷ trace)
+    (record { op = op; effect = e' } ∷ other)
 alike_more memory trace other op e e' same alike = record {
   registers = λ r. by_bool (is_register r (defined op)) (λ d. rw d (ap result_of same)) (λ d. rw d (alike.registers r));
   end = record {
@@ -29,9 +31,11 @@ alike_more memory trace other op e e' same alike = record {
   };
 }
 
-alike_after : (memory : List ℤ) (trace other : List Executed) (op : Op) → Alike memory trace other → Alike memory (then_executed memory op trace) (then_executed memory op other)
+alike_after : (memory : List ℤ) (trace other : List Executed) (op : Op) → Alike memory trace other
+    → Alike memory (then_executed memory op trace) (then_executed memory op other)
 alike_after memory trace other op alike =
-    alike_more memory trace other op _ _ (effect_same op _ _ _ _ (λ r there. alike.registers r) (λ a good. alike.end.words a)) alike
+    alike_more memory trace other op _ _ (effect_same op _ _ _ _ (λ r there. alike.registers r)
+    (λ a good. alike.end.words a)) alike
 
 pub is_nop-true : (op : Op) → is_nop op ≡ true → op ≡ Nop
 is_nop-true Nop is = refl
@@ -42,7 +46,8 @@ is_nop-with_registers new own (Load addr dest) = refl
 is_nop-with_registers new own _ = refl
 
 -- a `nop` changes nothing
-alike_nop : (memory : List ℤ) (trace other : List Executed) (op : Op) → is_nop op ≡ true → Alike memory trace other → Alike memory trace (then_executed memory op other)
+alike_nop : (memory : List ℤ) (trace other : List Executed) (op : Op) → is_nop op ≡ true → Alike memory trace other
+    → Alike memory trace (then_executed memory op other)
 alike_nop memory trace other op is alike =
     rw (is_nop-true op is) record {
       registers = alike.registers;
@@ -58,7 +63,8 @@ abbrev onward : List ℤ → List Op → List Executed → List Executed
 onward memory [] trace = trace
 onward memory (op ∷ rest) trace = onward memory rest (then_executed memory op trace)
 
-onward_alike : (memory : List ℤ) (ops : List Op) (trace other : List Executed) → Alike memory trace other → Alike memory (onward memory (without_nops ops) trace) (onward memory ops other)
+onward_alike : (memory : List ℤ) (ops : List Op) (trace other : List Executed) → Alike memory trace other
+    → Alike memory (onward memory (without_nops ops) trace) (onward memory ops other)
 onward_alike memory [] trace other alike = alike
 onward_alike memory (op ∷ rest) trace other alike =
     by_bool (is_nop op)
@@ -66,7 +72,8 @@ onward_alike memory (op ∷ rest) trace other alike =
     (λ t. rw t (onward_alike memory rest _ _ (alike_after memory trace other op alike)))
 
 -- the operations that are left lead to the whole trace
-onward_rest : (memory : List ℤ) (ops : List Op) (left i : ℕ) → left + i ≡ length ops → onward memory (drop i ops) (before memory ops i) ≡ before memory ops (length ops)
+onward_rest : (memory : List ℤ) (ops : List Op) (left i : ℕ) → left + i ≡ length ops
+    → onward memory (drop i ops) (before memory ops i) ≡ before memory ops (length ops)
 onward_rest memory ops zero i all =
     let last : i ≡ length ops = omega arith in rw (last, drop-length ops) refl
 onward_rest memory ops (suc left) i all =
@@ -79,4 +86,5 @@ onward_all memory ops = onward_rest memory ops (length ops) 0 (omega arith)
 pub outcome_without_nops : (ops : List Op) (memory : List ℤ) → outcome (without_nops ops) memory ≡ outcome ops memory
 outcome_without_nops ops memory =
     rw (← onward_all memory (without_nops ops), ← onward_all memory ops)
-    (same_outcome memory _ _ (onward_alike memory ops [] [] (record { registers = λ r. refl; end = record { words = λ a. refl; outputs = refl; faults = refl } })).end)
+    (same_outcome memory _ _ (onward_alike memory ops [] []
+    (record { registers = λ r. refl; end = record { words = λ a. refl; outputs = refl; faults = refl } })).end)

@@ -23,7 +23,8 @@ source_earlier ops (suc i) j r is =
     (λ t. let here : Result i ≡ Result j = rw t at is in let same : i ≡ j = cc in omega arith)
     (λ t. let earlier : j < i = source_earlier ops i j r (rw t at is) in omega arith)
 
-mention_stands : (ops : List Op) (n i : ℕ) (s : Source) → i < n → Stands (mentions ops i) s → Stands (mentions_before ops n) s
+mention_stands : (ops : List Op) (n i : ℕ) (s : Source) → i < n → Stands (mentions ops i) s
+    → Stands (mentions_before ops n) s
 mention_stands ops zero i s below there = absurd (omega arith)
 mention_stands ops (suc n) i s below there = elim (cases_eq i n) [
   | inl last ↦ stands_right (mentions_before ops n) (mentions ops n) s (rw last at there)
@@ -34,17 +35,22 @@ numbered : (ops : List Op) (i : ℕ) (s : Source) → i < length ops → Stands 
 numbered ops i s below there =
     stands_struck (mentions_before ops (length ops)) [] s (mention_stands ops (length ops) i s below there)
 
-pub use_numbered : (ops : List Op) (i : ℕ) (r : Reg) → i < length ops → In (used (op_at ops i)) r → Stands (numbering ops) (source ops i r)
+pub use_numbered : (ops : List Op) (i : ℕ) (r : Reg) → i < length ops → In (used (op_at ops i)) r
+    → Stands (numbering ops) (source ops i r)
 use_numbered ops i r below there =
-    let mentioned : Stands (map (source ops i) (used (op_at ops i))) (source ops i r) = stands_in _ _ (in_map (source ops i) (used (op_at ops i)) r there) in
-    numbered ops i (source ops i r) below (stands_left (map (source ops i) (used (op_at ops i))) _ (source ops i r) mentioned)
+    let mentioned : Stands (map (source ops i) (used (op_at ops i))) (source ops i r) =
+    stands_in _ _ (in_map (source ops i) (used (op_at ops i)) r there) in
+    numbered ops i (source ops i r) below (stands_left (map (source ops i) (used (op_at ops i))) _ (source ops i r)
+    mentioned)
 
-pub definition_numbered : (ops : List Op) (i : ℕ) (r : Reg) → i < length ops → defined (op_at ops i) ≡ Some r → Stands (numbering ops) (Result i)
+pub definition_numbered : (ops : List Op) (i : ℕ) (r : Reg) → i < length ops → defined (op_at ops i) ≡ Some r
+    → Stands (numbering ops) (Result i)
 definition_numbered ops i r below is =
     let own : Stands (own_source i (defined (op_at ops i))) (Result i) = rw (is, is_source-refl (Result i)) refl in
     numbered ops i (Result i) below (stands_right (map (source ops i) (used (op_at ops i))) _ (Result i) own)
 
-pub renamed_op_at : (ops : List Op) (sources : List Source) (i : ℕ) → i < length ops → op_at (renamed_by ops sources) i ≡ renamed_op ops sources i
+pub renamed_op_at : (ops : List Op) (sources : List Source) (i : ℕ) → i < length ops → op_at (renamed_by ops sources) i
+    ≡ renamed_op ops sources i
 renamed_op_at ops sources i below =
     get_or-map-range_with_len (renamed_op ops sources) 0 (length ops) i i Nop below (omega arith)
 

@@ -15,7 +15,8 @@ use Rattle.iloc_sched.proofs.Readiness.{SameBelow, ready_same}
 use Rattle.iloc_sched.proofs.Building.{was_ready}
 
 -- where the rows below cycle c are the same, so are the cycles of what they issue
-cycles_agree : (rows rows' : List Row) (c i : ℕ) → c ≤ length rows → c ≤ length rows' → ((k : ℕ) → k < c → row_at rows k ≡ row_at rows' k) → SameBelow rows rows' c i
+cycles_agree : (rows rows' : List Row) (c i : ℕ) → c ≤ length rows → c ≤ length rows'
+    → ((k : ℕ) → k < c → row_at rows k ≡ row_at rows' k) → SameBelow rows rows' c i
 cycles_agree rows rows' zero i within within' same = inr (omega arith, omega arith)
 cycles_agree [] rows' (suc c) i within within' same = absurd (omega arith)
 cycles_agree (row ∷ rows) [] (suc c) i within within' same = absurd (omega arith)
@@ -27,13 +28,20 @@ cycles_agree (row ∷ rows) (row' ∷ rows') (suc c) i within within' same =
     rw (t, also) (inl refl))
     (λ t.
     let also : holds row' i ≡ false = ap (λ r. holds r i) (sym first) ∙ t in
-    rw (t, also) (next (cycles_agree rows rows' c i (omega arith) (omega arith) (λ k below. same (suc k) (omega arith)))))
+    rw (t, also) (next (cycles_agree rows rows' c i (omega arith) (omega arith)
+    (λ k below. same (suc k) (omega arith)))))
   where
-    next : SameBelow rows rows' c i → (issue_cycle rows i + 1 ≡ issue_cycle rows' i + 1) ⊎ ((suc c ≤ issue_cycle rows i + 1) × (suc c ≤ issue_cycle rows' i + 1))
+    next : SameBelow rows rows' c i → (issue_cycle rows i + 1 ≡ issue_cycle rows' i + 1)
+        ⊎ ((suc c ≤ issue_cycle rows i + 1) × (suc c ≤ issue_cycle rows' i + 1))
     next (inl one) = inl (ap (λ n. n + 1) one)
-    next (inr none) = inr (let first : c ≤ issue_cycle rows i = none.0 in omega arith, let second : c ≤ issue_cycle rows' i = none.1 in omega arith)
+    next (inr none) = inr (
+      let first : c ≤ issue_cycle rows i = none.0 in
+          omega arith,
+      let second : c ≤ issue_cycle rows' i = none.1 in omega arith,
+    )
 
-module _ (lat : Latencies) (block ops : List Op) (rows rows' : List Row) (greedy : IsGreedy lat block ops rows) (greedy' : IsGreedy lat block ops rows') where
+module _ (lat : Latencies) (block ops : List Op) (rows rows' : List Row) (greedy : IsGreedy lat block ops rows)
+    (greedy' : IsGreedy lat block ops rows') where
   rows_agree : (c : ℕ) → c ≤ length rows → c ≤ length rows' → (k : ℕ) → k < c → row_at rows k ≡ row_at rows' k
   rows_agree zero within within' k below = absurd (omega arith)
   rows_agree (suc c) within within' k below =
@@ -41,7 +49,9 @@ module _ (lat : Latencies) (block ops : List Op) (rows rows' : List Row) (greedy
         | inl here ↦
             subst (λ n. row_at rows n ≡ row_at rows' n) (sym here)
             (greedy.each c (omega arith)
-            ∙ ap (chosen ops (priorities lat ops)) (ready_same lat ops rows rows' c (λ i. cycles_agree rows rows' c i (omega arith) (omega arith) (rows_agree c (omega arith) (omega arith))))
+            ∙ ap (chosen ops (priorities lat ops))
+            (ready_same lat ops rows rows' c (λ i. cycles_agree rows rows' c i (omega arith) (omega arith)
+            (rows_agree c (omega arith) (omega arith))))
             ∙ sym (greedy'.each c (omega arith)))
         | inr apart ↦ rows_agree c (omega arith) (omega arith) k (omega arith)
       ]
@@ -54,12 +64,14 @@ module _ (lat : Latencies) (block ops : List Op) (rows rows' : List Row) (greedy
       let was = was_ready lat ops rows' greedy'.each (length rows' - 1) i there in
       let waiting : length rows' - 1 ≤ issue_cycle rows' i = was.waiting in
       let issued : issue_cycle rows i < length rows = issued_within ops rows greedy.lawful.table i was.within in
-      elim (cycles_agree rows rows' (length rows) i (omega arith) (omega arith) (rows_agree (length rows) (omega arith) (omega arith))) [
+      elim (cycles_agree rows rows' (length rows) i (omega arith) (omega arith)
+      (rows_agree (length rows) (omega arith) (omega arith))) [
         | inl one ↦ omega arith
         | inr none ↦ let far : length rows ≤ issue_cycle rows i = none.0 in omega arith
       ]))
 
-greedy_rows : (lat : Latencies) (block ops : List Op) (rows rows' : List Row) → IsGreedy lat block ops rows → IsGreedy lat block ops rows' → rows ≡ rows'
+greedy_rows : (lat : Latencies) (block ops : List Op) (rows rows' : List Row) → IsGreedy lat block ops rows
+    → IsGreedy lat block ops rows' → rows ≡ rows'
 greedy_rows lat block ops rows rows' greedy greedy' = ext_get_or empty_row rows rows' same_length (λ c below.
     rows_agree lat block ops rows rows' greedy greedy' (length rows) (omega arith) (omega (arith, same_length)) c below)
   where
@@ -72,7 +84,8 @@ greedy_rows lat block ops rows rows' greedy greedy' = ext_get_or empty_row rows 
       ]
     ]
 
-pub greedy_same : (lat : Latencies) (block ops ops' : List Op) (rows rows' : List Row) → IsGreedy lat block ops rows → IsGreedy lat block ops' rows' → (ops ≡ ops') × (rows ≡ rows')
+pub greedy_same : (lat : Latencies) (block ops ops' : List Op) (rows rows' : List Row) → IsGreedy lat block ops rows
+    → IsGreedy lat block ops' rows' → (ops ≡ ops') × (rows ≡ rows')
 greedy_same lat block ops ops' rows rows' greedy greedy' =
     let same : ops ≡ ops' = greedy.lawful.names ∙ sym greedy'.lawful.names in
     (same, greedy_rows lat block ops rows rows' greedy (subst (λ os. IsGreedy lat block os rows') (sym same) greedy'))

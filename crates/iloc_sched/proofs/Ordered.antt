@@ -22,7 +22,8 @@ all_pairs R (x ∷ xs) ordered (suc i) zero d before below = absurd (omega arith
 all_pairs R (x ∷ xs) ordered (suc i) (suc j) d before below =
     all_pairs R xs ordered.1 i j d (omega arith) (omega arith)
 
-pub ordered_append : {X : Type 0} (R : X → X → Type 0) (xs ys : List X) → Ordered R xs → Ordered R ys → ((x y : X) → In xs x → In ys y → R x y) → Ordered R (xs ++ ys)
+pub ordered_append : {X : Type 0} (R : X → X → Type 0) (xs ys : List X) → Ordered R xs → Ordered R ys
+    → ((x y : X) → In xs x → In ys y → R x y) → Ordered R (xs ++ ys)
 ordered_append R [] ys left right across = right
 ordered_append R (x ∷ xs) ys left right across = (
   λ y there. elim (from_append xs ys y there) [
@@ -32,7 +33,8 @@ ordered_append R (x ∷ xs) ys left right across = (
   ordered_append R xs ys left.1 right (λ a b in_xs in_ys. across a b (inr in_xs) in_ys),
 )
 
-pub ordered_map : {X Y : Type 0} (R : X → X → Type 0) (S : Y → Y → Type 0) (f : X → Y) (xs : List X) → ((a b : X) → R a b → S (f a) (f b)) → Ordered R xs → Ordered S (map f xs)
+pub ordered_map : {X Y : Type 0} (R : X → X → Type 0) (S : Y → Y → Type 0) (f : X → Y) (xs : List X)
+    → ((a b : X) → R a b → S (f a) (f b)) → Ordered R xs → Ordered S (map f xs)
 ordered_map R S f [] keeps ordered = tt
 ordered_map R S f (x ∷ xs) keeps ordered = (
   λ y there. let found = from_map f xs y there in rw (← found.2) (keeps x found.0 (ordered.0 found.0 found.1)),

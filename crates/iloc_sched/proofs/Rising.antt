@@ -17,8 +17,10 @@ Falls (x ∷ xs) = ((y : ℕ) → In xs y → y < x) × Falls xs
 
 pub rises_range : (a n : ℕ) → Rises (range_with_len a n)
 rises_range a zero = tt
-rises_range a (suc n) =
-    ((λ y there. let b : (a + 1 ≤ y) × (y < a + 1 + n) = from_range (a + 1) n y there in omega arith), rises_range (a + 1) n)
+rises_range a (suc n) = (
+  (λ y there. let b : (a + 1 ≤ y) × (y < a + 1 + n) = from_range (a + 1) n y there in omega arith),
+  rises_range (a + 1) n,
+)
 
 pub rises_filter : (p : ℕ → Bool) (xs : List ℕ) → Rises xs → Rises (filter p xs)
 rises_filter p [] r = tt
@@ -35,7 +37,8 @@ falls_filter p (x ∷ xs) f =
     (λ t. rw t (falls_filter p xs f.1))
 
 -- two falling lists with the same members are one
-pub falls_same : (xs ys : List ℕ) → Falls xs → Falls ys → ((z : ℕ) → In xs z → In ys z) → ((z : ℕ) → In ys z → In xs z) → xs ≡ ys
+pub falls_same : (xs ys : List ℕ) → Falls xs → Falls ys → ((z : ℕ) → In xs z → In ys z) → ((z : ℕ) → In ys z → In xs z)
+    → xs ≡ ys
 falls_same [] [] f g to from = refl
 falls_same [] (y ∷ ys) f g to from = absurd (from y (inl refl))
 falls_same (x ∷ xs) [] f g to from = absurd (to x (inl refl))
@@ -47,14 +50,26 @@ falls_same (x ∷ xs) (y ∷ ys) f g to from =
       | inl here ↦ sym here
       | inr there ↦
           let low : x < y = g.0 x there in
-          elim (from y (inl refl)) [ inl same ↦ absurd (omega arith) | inr other ↦ let high : y < x = f.0 y other in absurd (omega arith) ]
+          elim (from y (inl refl)) [
+            | inl same ↦ absurd (omega arith)
+            | inr other ↦ let high : y < x = f.0 y other in
+                absurd (omega arith)
+          ]
     ]
 
     rest_to : (z : ℕ) → In xs z → In ys z
-    rest_to z there = elim (to z (inr there)) [ inl here ↦ let low : z < x = f.0 z there in absurd (omega (arith, heads)) | inr rest ↦ rest ]
+    rest_to z there = elim (to z (inr there)) [
+      | inl here ↦ let low : z < x = f.0 z there in
+          absurd (omega (arith, heads))
+      | inr rest ↦ rest
+    ]
 
     rest_from : (z : ℕ) → In ys z → In xs z
-    rest_from z there = elim (from z (inr there)) [ inl here ↦ let low : z < y = g.0 z there in absurd (omega (arith, heads)) | inr rest ↦ rest ]
+    rest_from z there = elim (from z (inr there)) [
+      | inl here ↦ let low : z < y = g.0 z there in
+          absurd (omega (arith, heads))
+      | inr rest ↦ rest
+    ]
 
 -- the numbers below n, the greatest first
 abbrev pub countdown : ℕ → List ℕ
@@ -63,7 +78,11 @@ countdown (suc n) = n ∷ countdown n
 
 pub in_countdown : (n k : ℕ) → k < n → In (countdown n) k
 in_countdown zero k below = absurd (omega arith)
-in_countdown (suc n) k below = elim (cases_eq n k) [ inl here ↦ inl here | inr apart ↦ inr (in_countdown n k (omega arith)) ]
+in_countdown (suc n) k below = elim (cases_eq n k) [
+  | inl here ↦ inl here
+  | inr apart ↦
+      inr (in_countdown n k (omega arith))
+]
 
 pub from_countdown : (n k : ℕ) → In (countdown n) k → k < n
 from_countdown zero k there = absurd there
@@ -89,7 +108,16 @@ pub finds : (p : ℕ → Bool) (n : ℕ) → FindsNone p n ⊎ ((m : ℕ) × Fin
 finds p zero = inl (record { is = refl; fails = λ k below. absurd (omega arith) })
 finds p (suc n) =
     by_bool (p n)
-    (λ t. inr (n, record { is = rw t refl; below = omega arith; passes = t; fails = λ k above below. absurd (omega arith) }))
+    (λ t. inr (
+      n,
+      record {
+        is = rw t refl;
+        below = omega arith;
+        passes = t;
+        fails = λ k above below.
+            absurd (omega arith);
+      },
+    ))
     (λ t. elim (finds p n) [
       | inl none ↦ inl (record {
         is = rw t none.is;
@@ -101,7 +129,11 @@ finds p (suc n) =
           is = rw t some.1.is;
           below = let within : some.0 < n = some.1.below in omega arith;
           passes = some.1.passes;
-          fails = λ k above below. elim (cases_eq k n) [ inl here ↦ ap p here ∙ t | inr apart ↦ some.1.fails k above (omega arith) ];
+          fails = λ k above below. elim (cases_eq k n) [
+            | inl here ↦ ap p here ∙ t
+            | inr apart ↦
+                some.1.fails k above (omega arith)
+          ];
         },
       )
     ])
@@ -111,26 +143,34 @@ abbrev pub Ordered : {X : Type 0} → (X → X → Type 0) → List X → Type 0
 Ordered R [] = Unit {0}
 Ordered R (x ∷ xs) = ((y : _) → In xs y → R x y) × Ordered R xs
 
-pub ordered_append : {X : Type 0} → (R : X → X → Type 0) (xs ys : List X) → Ordered R xs → Ordered R ys → ((x y : X) → In xs x → In ys y → R x y) → Ordered R (xs ++ ys)
+pub ordered_append : {X : Type 0} → (R : X → X → Type 0) (xs ys : List X) → Ordered R xs → Ordered R ys
+    → ((x y : X) → In xs x → In ys y → R x y) → Ordered R (xs ++ ys)
 ordered_append R [] ys o p across = p
 ordered_append R (x ∷ xs) ys o p across = (
   (λ y there. elim (from_append xs ys y there) [ inl front ↦ o.0 y front | inr back ↦ across x y (inl refl) back ]),
   ordered_append R xs ys o.1 p (λ z y front back. across z y (inr front) back),
 )
 
-pub ordered_pair : {X : Type 0} → (R : X → X → Type 0) (a b : Option X) → ((x y : X) → a ≡ Some x → b ≡ Some y → R x y) → Ordered R (option_to_list a ++ option_to_list b)
+pub ordered_pair : {X : Type 0} → (R : X → X → Type 0) (a b : Option X) → ((x y : X) → a ≡ Some x → b ≡ Some y → R x y)
+    → Ordered R (option_to_list a ++ option_to_list b)
 ordered_pair R None None across = tt
 ordered_pair R None (Some y) across = ((λ z there. absurd there), tt)
 ordered_pair R (Some x) None across = ((λ z there. absurd there), tt)
-ordered_pair R (Some x) (Some y) across =
-    ((λ z there. elim there [ inl here ↦ subst (R x) here (across x y refl refl) | inr none ↦ absurd none ]), ((λ z there. absurd there), tt))
+ordered_pair R (Some x) (Some y) across = (
+  (λ z there. elim there [ inl here ↦ subst (R x) here (across x y refl refl) | inr none ↦ absurd none ]),
+  ((λ z there. absurd there), tt),
+)
 
-pub falls_from : (R : ℕ → ℕ → Type 0) (xs : List ℕ) → Ordered R xs → ((x y : ℕ) → In xs x → In xs y → R x y → y < x) → Falls xs
+pub falls_from : (R : ℕ → ℕ → Type 0) (xs : List ℕ) → Ordered R xs → ((x y : ℕ) → In xs x → In xs y → R x y → y < x)
+    → Falls xs
 falls_from R [] o below = tt
-falls_from R (x ∷ xs) o below =
-    ((λ y there. below x y (inl refl) (inr there) (o.0 y there)), falls_from R xs o.1 (λ z y front back. below z y (inr front) (inr back)))
+falls_from R (x ∷ xs) o below = (
+  (λ y there. below x y (inl refl) (inr there) (o.0 y there)),
+  falls_from R xs o.1 (λ z y front back. below z y (inr front) (inr back)),
+)
 
-pub ordered_filter : {X : Type 0} → (R : X → X → Type 0) (p : X → Bool) (xs : List X) → Ordered R xs → Ordered R (filter p xs)
+pub ordered_filter : {X : Type 0} → (R : X → X → Type 0) (p : X → Bool) (xs : List X) → Ordered R xs
+    → Ordered R (filter p xs)
 ordered_filter R p [] o = tt
 ordered_filter R p (x ∷ xs) o =
     by_bool (p x)

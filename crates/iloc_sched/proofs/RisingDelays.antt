@@ -15,7 +15,8 @@ from_with d (e ∷ rest) x there = by_bool (nat_lt d e)
     (λ t. inr (rw (f, t) at there))
     (λ g. later (rw (f, g) at there) (from_with d rest x)))
   where
-    later : (e ≡ x) ⊎ In (with_delay d rest) x → (In (with_delay d rest) x → (d ≡ x) ⊎ In rest x) → (d ≡ x) ⊎ ((e ≡ x) ⊎ In rest x)
+    later : (e ≡ x) ⊎ In (with_delay d rest) x → (In (with_delay d rest) x → (d ≡ x) ⊎ In rest x)
+        → (d ≡ x) ⊎ ((e ≡ x) ⊎ In rest x)
     later (inl here) go = inr (inl here)
     later (inr there) go = elim (go there) [
       | inl new ↦ inl new

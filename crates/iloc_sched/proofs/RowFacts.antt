@@ -15,7 +15,8 @@ issue_cycle_within (row ∷ rows) i =
     let rest : issue_cycle rows i ≤ length rows = issue_cycle_within rows i in
     by_bool (holds row i) (λ t. rw t (omega arith)) (λ t. rw t (omega arith))
 
-pub issue_cycle_front : (rows more : List Row) (i : ℕ) → issue_cycle rows i < length rows → issue_cycle (rows ++ more) i ≡ issue_cycle rows i
+pub issue_cycle_front : (rows more : List Row) (i : ℕ) → issue_cycle rows i < length rows
+    → issue_cycle (rows ++ more) i ≡ issue_cycle rows i
 issue_cycle_front [] more i within = absurd (omega arith)
 issue_cycle_front (row ∷ rows) more i within =
     by_bool (holds row i)
@@ -25,26 +26,32 @@ issue_cycle_front (row ∷ rows) more i within =
     let rest : issue_cycle (rows ++ more) i ≡ issue_cycle rows i = issue_cycle_front rows more i (omega arith) in
     rw (t, rest) refl)
 
-pub issue_cycle_back : (rows more : List Row) (i : ℕ) → length rows ≤ issue_cycle rows i → issue_cycle (rows ++ more) i ≡ length rows + issue_cycle more i
+pub issue_cycle_back : (rows more : List Row) (i : ℕ) → length rows ≤ issue_cycle rows i
+    → issue_cycle (rows ++ more) i ≡ length rows + issue_cycle more i
 issue_cycle_back [] more i beyond = omega arith
 issue_cycle_back (row ∷ rows) more i beyond =
     by_bool (holds row i)
     (λ t. let none : suc (length rows) ≤ 0 = rw t at beyond in absurd (omega arith))
     (λ t.
     let past : suc (length rows) ≤ issue_cycle rows i + 1 = rw t at beyond in
-    let rest : issue_cycle (rows ++ more) i ≡ length rows + issue_cycle more i = issue_cycle_back rows more i (omega arith) in
+    let rest : issue_cycle (rows ++ more) i ≡ length rows + issue_cycle more i =
+    issue_cycle_back rows more i (omega arith) in
     rw t (omega arith))
 
-pub issue_cycle_more : (rows : List Row) (row : Row) (i : ℕ) → issue_cycle rows i < length rows → issue_cycle (rows ++ row ∷ []) i ≡ issue_cycle rows i
+pub issue_cycle_more : (rows : List Row) (row : Row) (i : ℕ) → issue_cycle rows i < length rows
+    → issue_cycle (rows ++ row ∷ []) i ≡ issue_cycle rows i
 issue_cycle_more rows row i within = issue_cycle_front rows (row ∷ []) i within
 
-pub issue_cycle_last : (rows : List Row) (row : Row) (i : ℕ) → length rows ≤ issue_cycle rows i → In (slots row) i → issue_cycle (rows ++ row ∷ []) i ≡ length rows
+pub issue_cycle_last : (rows : List Row) (row : Row) (i : ℕ) → length rows ≤ issue_cycle rows i → In (slots row) i
+    → issue_cycle (rows ++ row ∷ []) i ≡ length rows
 issue_cycle_last rows row i beyond there =
     let here : issue_cycle (row ∷ []) i ≡ 0 = rw (holds_from row i there) refl in
-    let sum : issue_cycle (rows ++ row ∷ []) i ≡ length rows + issue_cycle (row ∷ []) i = issue_cycle_back rows (row ∷ []) i beyond in
+    let sum : issue_cycle (rows ++ row ∷ []) i ≡ length rows + issue_cycle (row ∷ []) i =
+    issue_cycle_back rows (row ∷ []) i beyond in
     sum ∙ ap (λ n. length rows + n) here ∙ omega arith
 
-pub issue_cycle_beyond : (rows : List Row) (row : Row) (i : ℕ) → length rows ≤ issue_cycle rows i → (In (slots row) i → ⊥) → issue_cycle (rows ++ row ∷ []) i ≡ length rows + 1
+pub issue_cycle_beyond : (rows : List Row) (row : Row) (i : ℕ) → length rows ≤ issue_cycle rows i
+    → (In (slots row) i → ⊥) → issue_cycle (rows ++ row ∷ []) i ≡ length rows + 1
 issue_cycle_beyond rows row i beyond not_there =
     by_bool (holds row i)
     (λ t. absurd (not_there (from_holds row i t)))
@@ -70,15 +77,18 @@ issued_by (row ∷ rows) (suc c) i there =
     by_bool (holds row i) (λ t. rw t (omega arith)) (λ t. rw t (omega arith))
 
 -- an operation that no row holds is issued in no slot
-pub times_none : (rows : List Row) (i : ℕ) → ((c : ℕ) → c < length rows → In (slots (row_at rows c)) i → ⊥) → times_issued rows i ≡ 0
+pub times_none : (rows : List Row) (i : ℕ) → ((c : ℕ) → c < length rows → In (slots (row_at rows c)) i → ⊥)
+    → times_issued rows i ≡ 0
 times_none [] i none = refl
 times_none (row ∷ rows) i none =
     let rest : times_issued rows i ≡ 0 = times_none rows i (λ c below there. none (suc c) (omega arith) there) in
-    let here : count_in row i ≡ 0 = by_bool (holds row i) (λ t. absurd (none 0 (omega arith) (from_holds row i t))) (λ t. count_in_none row i t) in
+    let here : count_in row i ≡ 0 = by_bool (holds row i) (λ t. absurd (none 0 (omega arith) (from_holds row i t)))
+    (λ t. count_in_none row i t) in
     times_issued-cons row rows i ∙ omega arith
 
 -- an operation that stands once in the row of its cycle, and in no later one, is issued in one slot
-pub times_one : (rows : List Row) (i : ℕ) → issue_cycle rows i < length rows → count_in (row_at rows (issue_cycle rows i)) i ≡ 1
+pub times_one : (rows : List Row) (i : ℕ) → issue_cycle rows i < length rows
+    → count_in (row_at rows (issue_cycle rows i)) i ≡ 1
     → ((c : ℕ) → issue_cycle rows i < c → c < length rows → In (slots (row_at rows c)) i → ⊥) → times_issued rows i ≡ 1
 times_one [] i within once none = absurd (omega arith)
 times_one (row ∷ rows) i within once none =
@@ -86,7 +96,8 @@ times_one (row ∷ rows) i within once none =
     (λ t.
     let first : issue_cycle (row ∷ rows) i ≡ 0 = rw t refl in
     let here : count_in row i ≡ 1 = rw t at once in
-    let rest : times_issued rows i ≡ 0 = times_none rows i (λ c below there. none (suc c) (subst (λ n. n < suc c) (sym first) (omega arith)) (omega arith) there) in
+    let rest : times_issued rows i ≡ 0 = times_none rows i
+    (λ c below there. none (suc c) (subst (λ n. n < suc c) (sym first) (omega arith)) (omega arith) there) in
     times_issued-cons row rows i ∙ omega arith)
     (λ t.
     let later : issue_cycle (row ∷ rows) i ≡ suc (issue_cycle rows i) = rw (t, add-one) refl in

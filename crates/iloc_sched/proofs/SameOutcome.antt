@@ -15,10 +15,12 @@ pub record SameEnd (memory : List ℤ) (trace other : List Executed) : Type 0 wh
   pub outputs : emitted trace ≡ emitted other
   pub faults : has_fault trace ≡ has_fault other
 
-pub same_outcome : (memory : List ℤ) (trace other : List Executed) → SameEnd memory trace other → outcome_of memory trace ≡ outcome_of memory other
+pub same_outcome : (memory : List ℤ) (trace other : List Executed) → SameEnd memory trace other
+    → outcome_of memory trace ≡ outcome_of memory other
 same_outcome memory trace other same =
     rw (same.faults, same.outputs)
-    (ap (λ (words : ℕ → ℤ). if has_fault other then Fault else Finished (emitted other) (with_words memory words)) (same_function same.words))
+    (ap (λ (words : ℕ → ℤ). if has_fault other then Fault else Finished (emitted other) (with_words memory words))
+    (same_function same.words))
 
 -- each operation of the one has the effect of its fellow in the other
 abbrev pub SameEffects : List Executed → List Executed → Type 0
@@ -27,7 +29,8 @@ SameEffects [] (f ∷ others) = ⊥
 SameEffects (e ∷ trace) [] = ⊥
 SameEffects (e ∷ trace) (f ∷ others) = (e.effect ≡ f.effect) × SameEffects trace others
 
-pub same_words : (memory : List ℤ) (trace other : List Executed) → SameEffects trace other → (a : ℕ) → word_after memory trace a ≡ word_after memory other a
+pub same_words : (memory : List ℤ) (trace other : List Executed) → SameEffects trace other → (a : ℕ)
+    → word_after memory trace a ≡ word_after memory other a
 same_words memory [] [] same a = refl
 same_words memory [] (f ∷ others) same a = absurd same
 same_words memory (e ∷ trace) [] same a = absurd same

@@ -45,7 +45,8 @@ stands_right [] ys s there = there
 stands_right (x ∷ xs) ys s there = or_right _ _ (stands_right xs ys s there)
 
 -- what stands in the list stood before, or stands in what is left of the list
-pub stands_struck : (sources stood : List Source) (s : Source) → Stands sources s → (list_any (is_source s) stood || list_any (is_source s) (struck stood sources)) ≡ true
+pub stands_struck : (sources stood : List Source) (s : Source) → Stands sources s
+    → (list_any (is_source s) stood || list_any (is_source s) (struck stood sources)) ≡ true
 stands_struck [] stood s there = absurd cc
 stands_struck (x ∷ rest) stood s there = by_bool (is_source s x) here (λ f.
     let behind : Stands rest s = rw f at there in
@@ -53,13 +54,16 @@ stands_struck (x ∷ rest) stood s there = by_bool (is_source s x) here (λ f.
     (λ stood_before. rw stood_before (stands_struck rest stood s behind))
     (λ new. rw (new, f) (rw f at (stands_struck rest (x ∷ stood) s behind))))
   where
-    here : is_source s x ≡ true → (list_any (is_source s) stood || list_any (is_source s) (struck stood (x ∷ rest))) ≡ true
+    here : is_source s x ≡ true → (list_any (is_source s) stood || list_any (is_source s) (struck stood (x ∷ rest)))
+        ≡ true
     here t = by_bool (list_any (is_source x) stood)
-        (λ stood_before. let first : list_any (is_source s) stood ≡ true = rw (is_source-true s x t) stood_before in rw first refl)
+        (λ stood_before. let first : list_any (is_source s) stood ≡ true = rw (is_source-true s x t) stood_before in
+        rw first refl)
         (λ new. rw (new, t) (or_right (list_any (is_source s) stood) true refl))
 
 -- two sources of a numbering have one place only if they are one source
-pub place_apart : (sources : List Source) (s t : Source) → Stands sources s → Stands sources t → place_of sources s ≡ place_of sources t → s ≡ t
+pub place_apart : (sources : List Source) (s t : Source) → Stands sources s → Stands sources t
+    → place_of sources s ≡ place_of sources t → s ≡ t
 place_apart [] s t there other same = absurd cc
 place_apart (x ∷ rest) s t there other same =
     by_bool (is_source s x)
@@ -72,5 +76,6 @@ place_apart (x ∷ rest) s t there other same =
     place_apart rest s t (rw a at there) (rw b at other) (omega arith)))
 
 -- the same of the registers that are named for them
-pub name_apart : (sources : List Source) (s t : Source) → Stands sources s → Stands sources t → name_of sources s ≡ name_of sources t → s ≡ t
+pub name_apart : (sources : List Source) (s t : Source) → Stands sources s → Stands sources t
+    → name_of sources s ≡ name_of sources t → s ≡ t
 name_apart sources s t there other same = place_apart sources s t there other (ap (λ (r : Reg). r.0) same)

@@ -12,7 +12,8 @@ use Rattle.iloc_sched.proofs.Members.{In, contains_from}
 use Rattle.iloc_sched.proofs.ListFacts.{from_append, in_left, in_right, any_at, from_any}
 use Rattle.iloc_sched.proofs.Rising.{Ordered, ordered_append, ordered_pair}
 
-count_by-cons : {X : Type 0} → (p : X → Bool) (x : X) (xs : List X) → count_by p (x ∷ xs) ≡ cond (p x) 1 0 + count_by p xs
+count_by-cons : {X : Type 0} → (p : X → Bool) (x : X) (xs : List X)
+    → count_by p (x ∷ xs) ≡ cond (p x) 1 0 + count_by p xs
 count_by-cons p x xs = sum_by-cons (λ y. cond (p y) 1 0) x xs
 
 pub count_none : {X : Type 0} → (p : X → Bool) (xs : List X) → list_any p xs ≡ false → count_by p xs ≡ 0
@@ -35,7 +36,8 @@ count_some p (y ∷ xs) x (inr there) passes =
 abbrev pub count_in : Row → ℕ → ℕ
 count_in row i = count_by (λ j. i == j) (slots row)
 
-pub times_issued-cons : (row : Row) (rows : List Row) (i : ℕ) → times_issued (row ∷ rows) i ≡ count_in row i + times_issued rows i
+pub times_issued-cons : (row : Row) (rows : List Row) (i : ℕ)
+    → times_issued (row ∷ rows) i ≡ count_in row i + times_issued rows i
 times_issued-cons row rows i = sum_by-cons (λ r. count_in r i) row rows
 
 pub holds_from : (row : Row) (i : ℕ) → In (slots row) i → holds row i ≡ true
@@ -65,7 +67,8 @@ count_in_within (row ∷ rows) (suc c) i =
     subst (λ n. count_in (row_at rows c) i ≤ n) (sym (times_issued-cons row rows i)) (omega arith)
 
 -- an operation that stands in one slot is issued at the cycle of a row where it stands
-pub issued_there : (rows : List Row) (c i : ℕ) → times_issued rows i ≡ 1 → In (slots (row_at rows c)) i → issue_cycle rows i ≡ c
+pub issued_there : (rows : List Row) (c i : ℕ) → times_issued rows i ≡ 1 → In (slots (row_at rows c)) i
+    → issue_cycle rows i ≡ c
 issued_there [] c i once there = absurd there
 issued_there (row ∷ rows) zero i once there = rw (holds_from row i there) refl
 issued_there (row ∷ rows) (suc c) i once there =
@@ -82,12 +85,14 @@ issued_there (row ∷ rows) (suc c) i once there =
     rw (t, rest) (omega arith))
 
 -- an operation that is issued stands in the row of its cycle
-pub stands_there : (rows : List Row) (i : ℕ) → issue_cycle rows i < length rows → In (slots (row_at rows (issue_cycle rows i))) i
+pub stands_there : (rows : List Row) (i : ℕ) → issue_cycle rows i < length rows
+    → In (slots (row_at rows (issue_cycle rows i))) i
 stands_there [] i within = absurd (omega arith)
 stands_there (row ∷ rows) i within =
     by_bool (holds row i)
     (λ t. rw t (from_holds row i t))
-    (λ t. let below : issue_cycle rows i + 1 < suc (length rows) = rw t at within in rw (t, add-one) (stands_there rows i (omega arith)))
+    (λ t. let below : issue_cycle rows i + 1 < suc (length rows) = rw t at within in
+    rw (t, add-one) (stands_there rows i (omega arith)))
 
 pub is_issued : (rows : List Row) (i : ℕ) → 1 ≤ times_issued rows i → issue_cycle rows i < length rows
 is_issued [] i once = absurd (omega arith)
@@ -125,13 +130,15 @@ module _ (ops : List Op) (rows : List Row) (table : IsTable ops rows) where
   issued_early zero i there = absurd there
   issued_early (suc c) i there = elim (from_append (slots (row_at rows c)) (numbers_before rows c) i there) [
     | inl here ↦ let at : issue_cycle rows i ≡ c = cycle_is c i here in (within c i here, omega arith)
-    | inr rest ↦ let before : (i < length ops) × (issue_cycle rows i < c) = issued_early c i rest in (before.0, omega arith)
+    | inr rest ↦ let before : (i < length ops) × (issue_cycle rows i < c) = issued_early c i rest in
+        (before.0, omega arith)
   ]
 
   pub early_issued : (c i : ℕ) → i < length ops → issue_cycle rows i < c → In (numbers_before rows c) i
   early_issued zero i below early = absurd (omega arith)
   early_issued (suc c) i below early = elim (cases_eq (issue_cycle rows i) c) [
-    | inl here ↦ in_left _ _ i (subst (λ k. In (slots (row_at rows k)) i) here (stands_there rows i (issued_within i below)))
+    | inl here ↦ in_left _ _ i (subst (λ k. In (slots (row_at rows k)) i) here
+        (stands_there rows i (issued_within i below)))
     | inr apart ↦ in_right (slots (row_at rows c)) _ i (early_issued c i below (omega arith))
   ]
 
@@ -146,15 +153,24 @@ module _ (ops : List Op) (rows : List Row) (table : IsTable ops rows) where
   row_in_order : (c : ℕ) → Ordered (ComesLater rows) (slots (row_at rows c))
   row_in_order c = ordered_pair (ComesLater rows) (row_at rows c).one (row_at rows c).zero (λ x y one two. record {
     later =
-        let first : issue_cycle rows x ≡ c = cycle_is c x (in_left (option_to_list (row_at rows c).one) (option_to_list (row_at rows c).zero) x (rw one (inl refl))) in
-        let second : issue_cycle rows y ≡ c = cycle_is c y (in_right (option_to_list (row_at rows c).one) (option_to_list (row_at rows c).zero) y (rw two (inl refl))) in
+        let first : issue_cycle rows x ≡ c =
+        cycle_is c x (in_left (option_to_list (row_at rows c).one) (option_to_list (row_at rows c).zero) x
+        (rw one (inl refl))) in
+        let second : issue_cycle rows y ≡ c =
+        cycle_is c y (in_right (option_to_list (row_at rows c).one) (option_to_list (row_at rows c).zero) y
+        (rw two (inl refl))) in
         omega arith;
     apart = λ same. one_slot c x one (two ∙ ap Some (sym same));
   })
 
   pub issued_in_order : (c : ℕ) → Ordered (ComesLater rows) (numbers_before rows c)
   issued_in_order zero = tt
-  issued_in_order (suc c) = ordered_append (ComesLater rows) (slots (row_at rows c)) (numbers_before rows c) (row_in_order c) (issued_in_order c) (λ x y here before.
+  issued_in_order (suc c) = ordered_append (ComesLater rows) (slots (row_at rows c)) (numbers_before rows c)
+      (row_in_order c) (issued_in_order c) (λ x y here before.
       let at : issue_cycle rows x ≡ c = cycle_is c x here in
       let early : issue_cycle rows y < c = (issued_early c y before).1 in
-      record { later = omega arith; apart = λ same. let moved : issue_cycle rows x ≡ issue_cycle rows y = ap (issue_cycle rows) same in omega arith })
+      record {
+        later = omega arith;
+        apart = λ same. let moved : issue_cycle rows x
+            ≡ issue_cycle rows y = ap (issue_cycle rows) same in omega arith;
+      })

@@ -27,7 +27,8 @@ op_at_kept done op i below = get_or-append done (op ∷ []) Nop i below
 pub op_at_last : (done : List Op) (op : Op) → op_at (done ++ op ∷ []) (length done) ≡ op
 op_at_last done op = get_or-append_seam done op [] Nop
 
-pub source_kept : (done : List Op) (op : Op) (i : ℕ) (r : Reg) → i ≤ length done → source (done ++ op ∷ []) i r ≡ source done i r
+pub source_kept : (done : List Op) (op : Op) (i : ℕ) (r : Reg) → i ≤ length done
+    → source (done ++ op ∷ []) i r ≡ source done i r
 source_kept done op zero r within = refl
 source_kept done op (suc i) r within =
     let below : i < length done = omega arith in
@@ -36,9 +37,11 @@ source_kept done op (suc i) r within =
 mentions_kept : (done : List Op) (op : Op) (i : ℕ) → i < length done → mentions (done ++ op ∷ []) i ≡ mentions done i
 mentions_kept done op i below =
     ap (λ o. map (source (done ++ op ∷ []) i) (used o) ++ own_source i (defined o)) (op_at_kept done op i below)
-    ∙ ap (λ f. map f (used (op_at done i)) ++ own_source i (defined (op_at done i))) (same_function (λ r. source_kept done op i r (omega arith)))
+    ∙ ap (λ f. map f (used (op_at done i)) ++ own_source i (defined (op_at done i)))
+    (same_function (λ r. source_kept done op i r (omega arith)))
 
-mentions_before_kept : (done : List Op) (op : Op) (n : ℕ) → n ≤ length done → mentions_before (done ++ op ∷ []) n ≡ mentions_before done n
+mentions_before_kept : (done : List Op) (op : Op) (n : ℕ) → n ≤ length done → mentions_before (done ++ op ∷ []) n
+    ≡ mentions_before done n
 mentions_before_kept done op zero within = refl
 mentions_before_kept done op (suc n) within =
     rw (mentions_before_kept done op n (omega arith), mentions_kept done op n (omega arith)) refl
@@ -51,21 +54,27 @@ pub length_more : (done : List Op) (op : Op) → length (done ++ op ∷ []) ≡ 
 length_more done op = omega (arith, length-append done (op ∷ []))
 
 -- one more operation adds the sources of its uses, and itself if it defines a register
-pub numbering_more : (done : List Op) (op : Op) → numbering (done ++ op ∷ []) ≡ also_all (numbering_with done (used op)) (own_source (length done) (defined op))
+pub numbering_more : (done : List Op) (op : Op) → numbering (done ++ op ∷ []) ≡ also_all (numbering_with done (used op))
+    (own_source (length done) (defined op))
 numbering_more done op =
     ap (λ n. struck [] (mentions_before (done ++ op ∷ []) n)) (length_more done op)
-    ∙ ap (λ ms. struck [] (ms ++ mentions (done ++ op ∷ []) (length done))) (mentions_before_kept done op (length done) (omega arith))
+    ∙ ap (λ ms. struck [] (ms ++ mentions (done ++ op ∷ []) (length done)))
+    (mentions_before_kept done op (length done) (omega arith))
     ∙ struck_more (mentions_before done (length done)) (mentions (done ++ op ∷ []) (length done))
-    ∙ ap (λ o. also_all (numbering done) (map (source (done ++ op ∷ []) (length done)) (used o) ++ own_source (length done) (defined o))) (op_at_last done op)
-    ∙ ap (λ f. also_all (numbering done) (map f (used op) ++ own_source (length done) (defined op))) (same_function (λ r. source_kept done op (length done) r (omega arith)))
-    ∙ also_all-append (numbering done) (map (source done (length done)) (used op)) (own_source (length done) (defined op))
+    ∙ ap (λ o. also_all (numbering done) (map (source (done ++ op ∷ []) (length done)) (used o)
+    ++ own_source (length done) (defined o))) (op_at_last done op)
+    ∙ ap (λ f. also_all (numbering done) (map f (used op) ++ own_source (length done) (defined op)))
+    (same_function (λ r. source_kept done op (length done) r (omega arith)))
+    ∙ also_all-append (numbering done) (map (source done (length done)) (used op))
+    (own_source (length done) (defined op))
 
 -- what stands goes on to stand, under its number
 stands_also : (sources : List Source) (s t : Source) → Stands sources t → Stands (also sources s) t
 stands_also sources s t there =
     by_bool (list_any (is_source s) sources) (λ b. rw b there) (λ b. rw b (stands_left sources (s ∷ []) t there))
 
-place_also : (sources : List Source) (s t : Source) → Stands sources t → place_of (also sources s) t ≡ place_of sources t
+place_also : (sources : List Source) (s t : Source) → Stands sources t
+    → place_of (also sources s) t ≡ place_of sources t
 place_also sources s t there =
     by_bool (list_any (is_source s) sources) (λ b. rw b refl) (λ b. rw b (place_kept sources s t there))
 
@@ -73,12 +82,14 @@ stands_also_all : (sources more : List Source) (t : Source) → Stands sources t
 stands_also_all sources [] t there = there
 stands_also_all sources (s ∷ more) t there = stands_also_all (also sources s) more t (stands_also sources s t there)
 
-place_also_all : (sources more : List Source) (t : Source) → Stands sources t → place_of (also_all sources more) t ≡ place_of sources t
+place_also_all : (sources more : List Source) (t : Source) → Stands sources t → place_of (also_all sources more) t
+    ≡ place_of sources t
 place_also_all sources [] t there = refl
 place_also_all sources (s ∷ more) t there =
     place_also_all (also sources s) more t (stands_also sources s t there) ∙ place_also sources s t there
 
-pub name_also_all : (sources more : List Source) (t : Source) → Stands sources t → name_of (also_all sources more) t ≡ name_of sources t
+pub name_also_all : (sources more : List Source) (t : Source) → Stands sources t → name_of (also_all sources more) t
+    ≡ name_of sources t
 name_also_all sources more t there = ap (λ (n : ℕ). record { 0 = n }) (place_also_all sources more t there)
 
 pub also_stands : (sources : List Source) (s : Source) → Stands (also sources s) s

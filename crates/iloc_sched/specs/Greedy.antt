@@ -13,11 +13,14 @@ use Rattle.iloc_sched.specs.Delays.{delays}
 use Rattle.iloc_sched.specs.Priority.{priorities}
 use Rattle.iloc_sched.specs.Lawful.{IsLawful}
 
+-- whether each delay from operation h to operation i is over at cycle c
+abbrev pub are_over : Latencies → List Op → List Row → ℕ → ℕ → ℕ → Bool
+are_over lat ops rows c i h =
+    list_all (λ d. nat_le (issue_cycle rows h + d) c) (delays lat (op_at ops h) (op_at ops i))
+
 -- whether operation i is ready at cycle c: it is not issued before, and each delay is over
 abbrev pub is_ready : Latencies → List Op → List Row → ℕ → ℕ → Bool
-is_ready lat ops rows c i =
-    nat_le c (issue_cycle rows i)
-    && list_all (λ h. list_all (λ d. nat_le (issue_cycle rows h + d) c) (delays lat (op_at ops h) (op_at ops i))) (range_with_len 0 i)
+is_ready lat ops rows c i = nat_le c (issue_cycle rows i) && list_all (are_over lat ops rows c i) (range_with_len 0 i)
 
 -- the ready operations, by rising number
 abbrev pub ready : Latencies → List Op → List Row → ℕ → List ℕ
@@ -35,7 +38,12 @@ first_of_all prios (i ∷ is) = Some (better prios i (first_of_all prios is))
 
 -- whether the units let two operations be issued together
 abbrev pub may_stand_beside : Kind → Kind → Bool
-may_stand_beside a b = not (is_memory a && is_memory b) && not (is_mult a && is_mult b) && not (is_output a && is_output b)
+may_stand_beside a b =
+    not (is_memory a && is_memory b) && not (is_mult a && is_mult b) && not (is_output a && is_output b)
+
+-- whether b is another operation than a, and may be issued together with it
+abbrev pub can_go_beside : List Op → ℕ → ℕ → Bool
+can_go_beside ops a b = not (a == b) && may_stand_beside (kind (op_at ops a)) (kind (op_at ops b))
 
 -- a goes on unit 1 where it is a product or b a memory operation, else on unit 0; b goes on the other
 abbrev pub on_units : List Op → ℕ → Option ℕ → Row
@@ -47,7 +55,7 @@ on_units ops a b =
 abbrev pub chosen_with : List Op → List ℕ → List ℕ → Option ℕ → Row
 chosen_with ops prios candidates None = empty_row
 chosen_with ops prios candidates (Some a) =
-    on_units ops a (first_of_all prios (filter (λ b. not (a == b) && may_stand_beside (kind (op_at ops a)) (kind (op_at ops b))) candidates))
+    on_units ops a (first_of_all prios (filter (can_go_beside ops a) candidates))
 
 -- the choice from the candidates
 abbrev pub chosen : List Op → List ℕ → List ℕ → Row

@@ -20,7 +20,8 @@ LawfulSchedulesKeepTheOutcome = (lat : Latencies) (block ops : List Op) (rows : 
 -- a block has just one greedy schedule
 pub record BlocksHaveOneGreedySchedule : Type 0 where
   pub exists : (lat : Latencies) (block : List Op) → (ops : List Op) × (rows : List Row) × IsGreedy lat block ops rows
-  pub same : (lat : Latencies) (block ops ops' : List Op) (rows rows' : List Row) → IsGreedy lat block ops rows → IsGreedy lat block ops' rows' → (ops ≡ ops') × (rows ≡ rows')
+  pub same : (lat : Latencies) (block ops ops' : List Op) (rows rows' : List Row)
+      → IsGreedy lat block ops rows → IsGreedy lat block ops' rows' → (ops ≡ ops') × (rows ≡ rows')
 
 -- in a lawful schedule the cycle of issue of an operation and its priority together are at most the cycles
 abbrev pub PrioritiesBoundTheCycles : Type 0

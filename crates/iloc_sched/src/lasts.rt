@@ -62,7 +62,8 @@ impl Lasts {
         requires there { j < length ops.now }
         requires lasts { IsLasts ops.now self.old j }
         ensures lasts { OnOk result (IsLasts ops.now self.new (j + 1)) }
-        ensures loads { OnOk result (length self.new.loads.items + loads_before (kind (op_at ops.now j)) self.old ≤ length self.old.loads.items + 1) }
+        ensures loads { OnOk result (length self.new.loads.items + loads_before (kind (op_at ops.now j)) self.old
+            ≤ length self.old.loads.items + 1) }
     {
         self.definers.note(&ops[j], j as u32)?;
         self.note_kind(Kind::of(&ops[j]), j as u32)

@@ -27,7 +27,8 @@ impl Edges {
     /// No edge between so many operations.
     fn new(alloc: Global, count: usize) -> Result<Edges, NoMemory>
         requires { count ≤ 10000 }
-        ensures partial { IfOk result (λ edges. (lat : Latencies) (ops : List Op) → length ops ≡ count → IsPartialGraph lat ops (graph_of edges) 0) }
+        ensures partial { IfOk result (λ edges. (lat : Latencies) (ops : List Op) → length ops ≡ count
+            → IsPartialGraph lat ops (graph_of edges) 0) }
         ensures starts { IfOk result (λ edges. length edges.starts.items ≡ 1) }
         ensures edges { IfOk result (λ edges. length edges.edges.items ≡ 0) }
     {
@@ -161,7 +162,8 @@ impl Edges {
         requires partial { IsPartialGraph latencies.now ops.now (graph_of self.old) j }
         ensures grows { OnOk result (Grows latencies.now ops.now (graph_of self.old) (graph_of self.new) j) }
         ensures covers { OnOk result (CoversMemory latencies.now ops.now (graph_of self.new) j) }
-        ensures count { OnOk result (length self.new.edges.items ≤ length self.old.edges.items + 2 + loads_before (kind (op_at ops.now j)) lasts.now) }
+        ensures count { OnOk result (length self.new.edges.items ≤ length self.old.edges.items + 2
+            + loads_before (kind (op_at ops.now j)) lasts.now) }
         ensures heads { length self.new.heads.items ≡ length self.old.heads.items }
         ensures starts { self.new.starts ≡ self.old.starts }
     {
@@ -197,7 +199,8 @@ impl Edges {
         requires starts { length self.old.starts.items ≡ j + 1 }
         requires partial { IsPartialGraph latencies.now ops.now (graph_of self.old) j }
         ensures partial { OnOk result (IsPartialGraph latencies.now ops.now (graph_of self.new) (j + 1)) }
-        ensures count { OnOk result (length self.new.edges.items ≤ length self.old.edges.items + 4 + loads_before (kind (op_at ops.now j)) lasts.now) }
+        ensures count { OnOk result (length self.new.edges.items ≤ length self.old.edges.items + 4
+            + loads_before (kind (op_at ops.now j)) lasts.now) }
         ensures starts { OnOk result (length self.new.starts.items ≡ j + 2) }
     {
         self.add_uses(ops, latencies, lasts, j)?;

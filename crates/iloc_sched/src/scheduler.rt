@@ -24,7 +24,8 @@ use std::alloc::Global;
 /// The rows of the greedy schedule.
 fn greedy_rows(alloc: Global, plan: &Plan) -> Result<Vec<Row>, NoMemory>
     requires { IsPlan plan.now }
-    ensures greedy { IfOk result (λ rows. (block : List Op) → plan.now.ops.items ≡ renamed block → IsGreedy plan.now.latencies block plan.now.ops.items rows.items) }
+    ensures greedy { IfOk result (λ rows. (block : List Op) → plan.now.ops.items ≡ renamed block
+        → IsGreedy plan.now.latencies block plan.now.ops.items rows.items) }
     ensures few { IfOk result (λ rows. length rows.items ≤ 160001) }
 {
     let mut waiting = Waiting::new(alloc, &plan.edges)?;
@@ -49,7 +50,8 @@ pub fn schedule(alloc: Global, block: &Block, latencies: &Latencies) -> Result<S
     ensures only { IfOk result (λ s. (ops : List Op) (rows : List Row) →
         IsGreedy latencies.now block.now.ops ops rows → (ops ≡ s.ops) × (rows ≡ s.rows)) }
     ensures outcome { OnOk result ((ops : List Op) (rows : List Row) (memory : List ℤ) →
-        IsLawful latencies.now block.now.ops ops rows → timed_outcome latencies.now ops rows memory ≡ outcome block.now.ops memory) }
+        IsLawful latencies.now block.now.ops ops rows
+        → timed_outcome latencies.now ops rows memory ≡ outcome block.now.ops memory) }
     ensures least { IfOk result (λ s. (i : ℕ) → i < length s.ops →
         issue_cycle s.rows i + priority latencies.now s.ops i ≤ cycles latencies.now s.ops s.rows) }
     ensures most { IfOk result (λ s. cycles latencies.now s.ops s.rows ≤ sum_by (latency latencies.now) s.ops) }

@@ -38,11 +38,14 @@ impl Waiting {
         requires there { j < length edges.now.heads.items }
         requires graph { IsGraph (graph_of edges.now) }
         requires sized { IsSized edges.now self.now }
-        requires early { (k t : ℕ) → k < length edges.now.heads.items → (progress_of self.now).issued k ≡ Some t → t < 1000000 }
-        requires start { Reaches (graph_of edges.now) (progress_of self.now).issued j ((progress_of self.now).watch j) ((progress_of self.now).earliest j) }
+        requires early { (k t : ℕ) → k < length edges.now.heads.items
+            → (progress_of self.now).issued k ≡ Some t → t < 1000000 }
+        requires start { Reaches (graph_of edges.now) (progress_of self.now).issued j
+            ((progress_of self.now).watch j) ((progress_of self.now).earliest j) }
         ensures reaches { Reaches (graph_of edges.now) (progress_of self.now).issued j result.place result.earliest }
         ensures on { (progress_of self.now).watch j ≤ result.place }
-        ensures stuck { result.place < (graph_of edges.now).start (j + 1) → (progress_of self.now).issued ((graph_of edges.now).from result.place) ≡ None }
+        ensures stuck { result.place < (graph_of edges.now).start (j + 1)
+            → (progress_of self.now).issued ((graph_of edges.now).from result.place) ≡ None }
     {
         let end = edges.starts[j + 1];
         let mut place = self.watch[j];
@@ -61,8 +64,10 @@ impl Waiting {
     /// Puts operation j into the bucket of a cycle.
     fn enter(&mut self, j: u32, cycle: u32) -> Result<(), NoMemory>
         requires { length self.old.wheel.items ≡ 32 }
-        ensures bucket { OnOk result ((progress_of self.new).bucket (cycle % 32) ≡ (progress_of self.old).bucket (cycle % 32) ++ j ∷ []) }
-        ensures others { OnOk result ((b : ℕ) → b ≢ cycle % 32 → (progress_of self.new).bucket b ≡ (progress_of self.old).bucket b) }
+        ensures bucket { OnOk result ((progress_of self.new).bucket (cycle % 32)
+            ≡ (progress_of self.old).bucket (cycle % 32) ++ j ∷ []) }
+        ensures others { OnOk result ((b : ℕ) → b ≢ cycle % 32
+            → (progress_of self.new).bucket b ≡ (progress_of self.old).bucket b) }
         ensures size { length self.new.wheel.items ≡ 32 }
         ensures issued { self.new.issued ≡ self.old.issued }
         ensures watch { self.new.watch ≡ self.old.watch }
@@ -80,9 +85,11 @@ impl Waiting {
         requires graph { IsGraph (graph_of edges.now) }
         requires sized { IsSized edges.now self.old }
         requires issued { (progress_of self.old).issued ((graph_of edges.now).from x) ≡ Some cycle }
-        requires waits { Waits (graph_of edges.now) (progress_of self.old) (cycle + 1) ((graph_of edges.now).from x) (Some x) }
+        requires waits { Waits (graph_of edges.now) (progress_of self.old) (cycle + 1)
+            ((graph_of edges.now).from x) (Some x) }
         ensures next { IfOk result (λ next. next ≡ (graph_of edges.now).next x) }
-        ensures waits { IfOk result (λ next. Waits (graph_of edges.now) (progress_of self.new) (cycle + 1) ((graph_of edges.now).from x) next) }
+        ensures waits { IfOk result (λ next. Waits (graph_of edges.now) (progress_of self.new) (cycle + 1)
+            ((graph_of edges.now).from x) next) }
         ensures keeps { OnOk result (KeepsPlaces (graph_of edges.now) (progress_of self.old) (progress_of self.new)) }
         ensures issued { self.new.issued ≡ self.old.issued }
         ensures sized { OnOk result (IsSized edges.now self.new) }

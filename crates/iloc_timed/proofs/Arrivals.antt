@@ -24,44 +24,61 @@ if_some None P each = tt
 if_some (Some i) P each = each i refl
 
 -- the cycles of a schedule are a bound on each arrival, and the least
-pub arrival_le_cycles : (lat : Latencies) (ops : List Op) (rows : List Row) (i : ℕ) → i < length ops → issue_cycle rows i + latency lat (op_at ops i) ≤ cycles lat ops rows
+pub arrival_le_cycles : (lat : Latencies) (ops : List Op) (rows : List Row) (i : ℕ) → i < length ops
+    → issue_cycle rows i + latency lat (op_at ops i) ≤ cycles lat ops rows
 arrival_le_cycles lat ops rows i within =
     let f : ℕ → ℕ = λ j. issue_cycle rows j + latency lat (op_at ops j) in
-    let size : length (map f (range_with_len 0 (length ops))) ≡ length ops = length-map-range_with_len f 0 (length ops) in
-    let item : get_or (map f (range_with_len 0 (length ops))) i 0 ≡ f i = get_or-map-range_with_len f 0 (length ops) i i 0 within (omega arith) in
+    let size : length (map f (range_with_len 0 (length ops))) ≡ length ops =
+    length-map-range_with_len f 0 (length ops) in
+    let item : get_or (map f (range_with_len 0 (length ops))) i 0 ≡ f i =
+    get_or-map-range_with_len f 0 (length ops) i i 0 within (omega arith) in
     rw (← item) (item_le_fold_max 0 (map f (range_with_len 0 (length ops))) i (rw size within))
 
-pub cycles_le : (lat : Latencies) (ops : List Op) (rows : List Row) (m : ℕ) → ((i : ℕ) → i < length ops → issue_cycle rows i + latency lat (op_at ops i) ≤ m) → cycles lat ops rows ≤ m
+pub cycles_le : (lat : Latencies) (ops : List Op) (rows : List Row) (m : ℕ)
+    → ((i : ℕ) → i < length ops → issue_cycle rows i + latency lat (op_at ops i) ≤ m) → cycles lat ops rows ≤ m
 cycles_le lat ops rows m each =
     let f : ℕ → ℕ = λ j. issue_cycle rows j + latency lat (op_at ops j) in
-    let size : length (map f (range_with_len 0 (length ops))) ≡ length ops = length-map-range_with_len f 0 (length ops) in
+    let size : length (map f (range_with_len 0 (length ops))) ≡ length ops =
+    length-map-range_with_len f 0 (length ops) in
     fold_max_le 0 (map f (range_with_len 0 (length ops))) m (omega arith) (λ k within.
     let below : k < length ops = rw size at within in
     rw (get_or-map-range_with_len f 0 (length ops) k k 0 below (omega arith)) (each k below))
 
 -- what a slot of a row holds arrives by the last cycle
-slot_le_cycles : (lat : Latencies) (ops : List Op) (rows : List Row) (c : ℕ) (slot : Option ℕ) → c < length rows → IsTable ops rows → ((i : ℕ) → slot ≡ Some i → holds (row_at rows c) i ≡ true) → arrival_in lat ops c slot ≤ cycles lat ops rows
+slot_le_cycles : (lat : Latencies) (ops : List Op) (rows : List Row) (c : ℕ) (slot : Option ℕ) → c < length rows
+    → IsTable ops rows → ((i : ℕ) → slot ≡ Some i → holds (row_at rows c) i ≡ true)
+    → arrival_in lat ops c slot ≤ cycles lat ops rows
 slot_le_cycles lat ops rows c None within table there = omega arith
 slot_le_cycles lat ops rows c (Some i) within table there =
     let known : i < length ops = table.in_range c i (any_contains (slots (row_at rows c)) i (there i refl)) in
     let at : issue_cycle rows i ≡ c = issued_there rows c i (table.once i known) within (there i refl) in
     rw (← at) (arrival_le_cycles lat ops rows i known)
 
-pub zero_le_cycles : (lat : Latencies) (ops : List Op) (rows : List Row) (c : ℕ) → c < length rows → IsTable ops rows → arrival_in lat ops c (row_at rows c).zero ≤ cycles lat ops rows
-zero_le_cycles lat ops rows c within table = slot_le_cycles lat ops rows c (row_at rows c).zero within table (λ i is. holds_zero (row_at rows c) i is)
+pub zero_le_cycles : (lat : Latencies) (ops : List Op) (rows : List Row) (c : ℕ) → c < length rows → IsTable ops rows
+    → arrival_in lat ops c (row_at rows c).zero ≤ cycles lat ops rows
+zero_le_cycles lat ops rows c within table = slot_le_cycles lat ops rows c (row_at rows c).zero within table
+    (λ i is. holds_zero (row_at rows c) i is)
 
-pub one_le_cycles : (lat : Latencies) (ops : List Op) (rows : List Row) (c : ℕ) → c < length rows → IsTable ops rows → arrival_in lat ops c (row_at rows c).one ≤ cycles lat ops rows
-one_le_cycles lat ops rows c within table = slot_le_cycles lat ops rows c (row_at rows c).one within table (λ i is. holds_one (row_at rows c) i is)
+pub one_le_cycles : (lat : Latencies) (ops : List Op) (rows : List Row) (c : ℕ) → c < length rows → IsTable ops rows
+    → arrival_in lat ops c (row_at rows c).one ≤ cycles lat ops rows
+one_le_cycles lat ops rows c within table =
+    slot_le_cycles lat ops rows c (row_at rows c).one within table (λ i is. holds_one (row_at rows c) i is)
 
 -- the slots of a row are numbers of operations
-pub zero_known : (ops : List Op) (rows : List Row) (c : ℕ) → IsTable ops rows → IfSome (row_at rows c).zero (λ i. i < length ops)
-zero_known ops rows c table = if_some (row_at rows c).zero _ (λ i is. table.in_range c i (any_contains (slots (row_at rows c)) i (holds_zero (row_at rows c) i is)))
+pub zero_known : (ops : List Op) (rows : List Row) (c : ℕ) → IsTable ops rows
+    → IfSome (row_at rows c).zero (λ i. i < length ops)
+zero_known ops rows c table = if_some (row_at rows c).zero _
+    (λ i is. table.in_range c i (any_contains (slots (row_at rows c)) i (holds_zero (row_at rows c) i is)))
 
-pub one_known : (ops : List Op) (rows : List Row) (c : ℕ) → IsTable ops rows → IfSome (row_at rows c).one (λ i. i < length ops)
-one_known ops rows c table = if_some (row_at rows c).one _ (λ i is. table.in_range c i (any_contains (slots (row_at rows c)) i (holds_one (row_at rows c) i is)))
+pub one_known : (ops : List Op) (rows : List Row) (c : ℕ) → IsTable ops rows
+    → IfSome (row_at rows c).one (λ i. i < length ops)
+one_known ops rows c table = if_some (row_at rows c).one _
+    (λ i is. table.in_range c i (any_contains (slots (row_at rows c)) i (holds_one (row_at rows c) i is)))
 
 -- of what the slots of a row hold, the later arrives at the greater of the two cycles
-either_arrives : (lat : Latencies) (ops : List Op) (c i : ℕ) (one zero : Option ℕ) → list_any (λ j. i == j) (option_to_list one ++ option_to_list zero) ≡ true → c + latency lat (op_at ops i) ≤ max (arrival_in lat ops c zero) (arrival_in lat ops c one)
+either_arrives : (lat : Latencies) (ops : List Op) (c i : ℕ) (one zero : Option ℕ)
+    → list_any (λ j. i == j) (option_to_list one ++ option_to_list zero) ≡ true
+    → c + latency lat (op_at ops i) ≤ max (arrival_in lat ops c zero) (arrival_in lat ops c one)
 either_arrives lat ops c i None None any = absurd cc
 either_arrives lat ops c i None (Some z) any = elim (or_cases (i == z) false any) [
   | inl same ↦ let is : i ≡ z = eqb-true i z same in rw is (omega arith)
@@ -80,12 +97,17 @@ either_arrives lat ops c i (Some o) (Some z) any = elim (or_cases (i == o) ((i =
 ]
 
 -- what is issued in row c arrives by the greater of the two cycles
-pub issued_arrives : (lat : Latencies) (ops : List Op) (rows : List Row) (i : ℕ) → i < length ops → IsTable ops rows → issue_cycle rows i + latency lat (op_at ops i) ≤ max (arrival_in lat ops (issue_cycle rows i) (row_at rows (issue_cycle rows i)).zero) (arrival_in lat ops (issue_cycle rows i) (row_at rows (issue_cycle rows i)).one)
+pub issued_arrives : (lat : Latencies) (ops : List Op) (rows : List Row) (i : ℕ) → i < length ops → IsTable ops rows
+    → issue_cycle rows i + latency lat (op_at ops i)
+    ≤ max (arrival_in lat ops (issue_cycle rows i) (row_at rows (issue_cycle rows i)).zero)
+    (arrival_in lat ops (issue_cycle rows i) (row_at rows (issue_cycle rows i)).one)
 issued_arrives lat ops rows i within table =
     let once : times_issued rows i ≡ 1 = table.once i within in
-    either_arrives lat ops (issue_cycle rows i) i (row_at rows (issue_cycle rows i)).one (row_at rows (issue_cycle rows i)).zero (stands_there rows i (omega arith)).1
+    either_arrives lat ops (issue_cycle rows i) i (row_at rows (issue_cycle rows i)).one
+    (row_at rows (issue_cycle rows i)).zero (stands_there rows i (omega arith)).1
 
-pub issued_within : (ops : List Op) (rows : List Row) (i : ℕ) → i < length ops → IsTable ops rows → issue_cycle rows i < length rows
+pub issued_within : (ops : List Op) (rows : List Row) (i : ℕ) → i < length ops → IsTable ops rows
+    → issue_cycle rows i < length rows
 issued_within ops rows i within table =
     let once : times_issued rows i ≡ 1 = table.once i within in (stands_there rows i (omega arith)).0
 
@@ -100,22 +122,30 @@ none_before lat ops rows = record {
   each = λ i within before. absurd (omega arith);
 }
 
-pub one_row_more : (lat : Latencies) (ops : List Op) (rows : List Row) (c last next final : ℕ) → IsTable ops rows → c < length rows → IsLastBefore lat ops rows c last → next ≡ max (arrival_in lat ops c (row_at rows c).zero) last → final ≡ max (arrival_in lat ops c (row_at rows c).one) next → IsLastBefore lat ops rows (c + 1) final
+pub one_row_more : (lat : Latencies) (ops : List Op) (rows : List Row) (c last next final : ℕ) → IsTable ops rows
+    → c < length rows → IsLastBefore lat ops rows c last → next ≡ max (arrival_in lat ops c (row_at rows c).zero) last
+    → final ≡ max (arrival_in lat ops c (row_at rows c).one) next → IsLastBefore lat ops rows (c + 1) final
 one_row_more lat ops rows c last next final table within so_far first second = record {
   most =
-      let a : arrival_in lat ops c (row_at rows c).zero ≤ cycles lat ops rows = zero_le_cycles lat ops rows c within table in
-      let b : arrival_in lat ops c (row_at rows c).one ≤ cycles lat ops rows = one_le_cycles lat ops rows c within table in
+      let a : arrival_in lat ops c (row_at rows c).zero ≤ cycles lat ops rows =
+      zero_le_cycles lat ops rows c within table in
+      let b : arrival_in lat ops c (row_at rows c).one ≤ cycles lat ops rows =
+      one_le_cycles lat ops rows c within table in
       omega (arith, so_far.most);
   each = λ i known before. elim (cases_lt (issue_cycle rows i) c) [
     | inl earlier ↦ omega (arith, so_far.each i known earlier)
     | inr here ↦
         let at : issue_cycle rows i ≡ c = omega arith in
-        let by : c + latency lat (op_at ops i) ≤ max (arrival_in lat ops c (row_at rows c).zero) (arrival_in lat ops c (row_at rows c).one) = rw at at (issued_arrives lat ops rows i known table) in
+        let by : c + latency lat (op_at ops i) ≤ max (arrival_in lat ops c (row_at rows c).zero)
+        (arrival_in lat ops c (row_at rows c).one) = rw at at (issued_arrives lat ops rows i known table) in
         rw at (omega arith)
   ];
 }
 
-pub last_is_cycles : (lat : Latencies) (ops : List Op) (rows : List Row) (c last : ℕ) → IsTable ops rows → length rows ≤ c → IsLastBefore lat ops rows c last → last ≡ cycles lat ops rows
+pub last_is_cycles : (lat : Latencies) (ops : List Op) (rows : List Row) (c last : ℕ) → IsTable ops rows
+    → length rows ≤ c → IsLastBefore lat ops rows c last → last ≡ cycles lat ops rows
 last_is_cycles lat ops rows c last table past so_far =
-    let least : cycles lat ops rows ≤ last = cycles_le lat ops rows last (λ i known. so_far.each i known (omega (arith, issued_within ops rows i known table))) in
+    let least : cycles lat ops rows ≤ last =
+    cycles_le lat ops rows last (λ i known.
+    so_far.each i known (omega (arith, issued_within ops rows i known table))) in
     omega (arith, so_far.most)

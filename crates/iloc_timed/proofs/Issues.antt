@@ -9,38 +9,48 @@ use Rattle.iloc_timed.specs.Rows.{empty_row, row_at, slots, holds, issue_cycle, 
 use Rattle.iloc_timed.proofs.Counts.{count_by_some, count_by_none}
 
 -- an operation that stands in a slot of some row stands at least once
-pub stands_once : (rows : List Row) (c i : ℕ) → c < length rows → holds (row_at rows c) i ≡ true → 1 ≤ times_issued rows i
+pub stands_once : (rows : List Row) (c i : ℕ) → c < length rows → holds (row_at rows c) i ≡ true
+    → 1 ≤ times_issued rows i
 stands_once rows c i within there =
-    let here : 1 ≤ count_by (λ j. i == j) (slots (row_at rows c)) = count_by_some (λ j. i == j) (slots (row_at rows c)) there in
-    let all : count_by (λ j. i == j) (slots (row_at rows c)) ≤ times_issued rows i = get_or-le-sum_by (λ row. count_by (λ j. i == j) (slots row)) rows c empty_row within in
+    let here : 1 ≤ count_by (λ j. i == j) (slots (row_at rows c)) =
+    count_by_some (λ j. i == j) (slots (row_at rows c)) there in
+    let all : count_by (λ j. i == j) (slots (row_at rows c)) ≤ times_issued rows i =
+    get_or-le-sum_by (λ row. count_by (λ j. i == j) (slots row)) rows c empty_row within in
     omega arith
 
-times-cons : (row : Row) (rows : List Row) (i : ℕ) → times_issued (row ∷ rows) i ≡ count_by (λ j. i == j) (slots row) + times_issued rows i
+times-cons : (row : Row) (rows : List Row) (i : ℕ) → times_issued (row ∷ rows) i ≡ count_by (λ j. i == j) (slots row)
+    + times_issued rows i
 times-cons row rows i = sum_by-cons (λ r. count_by (λ j. i == j) (slots r)) row rows
 
 -- the one row that holds an operation is that of its issue
-pub issued_there : (rows : List Row) (c i : ℕ) → times_issued rows i ≡ 1 → c < length rows → holds (row_at rows c) i ≡ true → issue_cycle rows i ≡ c
+pub issued_there : (rows : List Row) (c i : ℕ) → times_issued rows i ≡ 1 → c < length rows
+    → holds (row_at rows c) i ≡ true → issue_cycle rows i ≡ c
 issued_there [] c i once within there = absurd (omega arith)
 issued_there (row ∷ rows) zero i once within there = rw there refl
 issued_there (row ∷ rows) (suc c) i once within there =
     let less : c < length rows = omega arith in
     let later : 1 ≤ times_issued rows i = stands_once rows c i less there in
-    let both : times_issued (row ∷ rows) i ≡ count_by (λ j. i == j) (slots row) + times_issued rows i = times-cons row rows i in
+    let both : times_issued (row ∷ rows) i ≡ count_by (λ j. i == j) (slots row) + times_issued rows i =
+    times-cons row rows i in
     by_bool (holds row i)
-    (λ t. let here : 1 ≤ count_by (λ j. i == j) (slots row) = count_by_some (λ j. i == j) (slots row) t in absurd (omega arith))
+    (λ t. let here : 1 ≤ count_by (λ j. i == j) (slots row) = count_by_some (λ j. i == j) (slots row) t in
+    absurd (omega arith))
     (λ f. let none : count_by (λ j. i == j) (slots row) ≡ 0 = count_by_none (λ j. i == j) (slots row) f in
     let rest : times_issued rows i ≡ 1 = omega arith in
     rw f (ap (λ n. n + 1) (issued_there rows c i rest less there) ∙ add-one c))
 
 -- an operation that stands somewhere is issued in a row, which holds it
-pub stands_there : (rows : List Row) (i : ℕ) → 1 ≤ times_issued rows i → (issue_cycle rows i < length rows) × (holds (row_at rows (issue_cycle rows i)) i ≡ true)
+pub stands_there : (rows : List Row) (i : ℕ) → 1 ≤ times_issued rows i → (issue_cycle rows i < length rows)
+    × (holds (row_at rows (issue_cycle rows i)) i ≡ true)
 stands_there [] i some = absurd (omega arith)
 stands_there (row ∷ rows) i some =
-    let both : times_issued (row ∷ rows) i ≡ count_by (λ j. i == j) (slots row) + times_issued rows i = times-cons row rows i in
+    let both : times_issued (row ∷ rows) i ≡ count_by (λ j. i == j) (slots row) + times_issued rows i =
+    times-cons row rows i in
     by_bool (holds row i)
     (λ t. rw t (omega arith, t))
     (λ f. let none : count_by (λ j. i == j) (slots row) ≡ 0 = count_by_none (λ j. i == j) (slots row) f in
-    let rest : (issue_cycle rows i < length rows) × (holds (row_at rows (issue_cycle rows i)) i ≡ true) = stands_there rows i (omega arith) in
+    let rest : (issue_cycle rows i < length rows) × (holds (row_at rows (issue_cycle rows i)) i ≡ true) =
+    stands_there rows i (omega arith) in
     rw (f, add-one) (omega arith, rest.1))
 
 any_last : (one : Option ℕ) (i : ℕ) → list_any (λ j. i == j) (option_to_list one ++ option_to_list (Some i)) ≡ true

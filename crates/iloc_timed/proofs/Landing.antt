@@ -41,7 +41,8 @@ recent_below : (test : Executed → Bool) (c : ℕ) (log : List Issued) → IfSo
 recent_below test c [] = tt
 recent_below test c (e ∷ earlier) = by_bool (nat_lt e.due c)
     (λ below. by_bool (test e.executed)
-    (λ passes. rw (below, passes) (later_below c e (recent test c earlier) (grind (arith, nat_tests)) (recent_below test c earlier)))
+    (λ passes. rw (below, passes) (later_below c e (recent test c earlier) (grind (arith, nat_tests))
+    (recent_below test c earlier)))
     (λ fails. rw (below, fails) (recent_below test c earlier)))
     (λ above. rw above (recent_below test c earlier))
 
@@ -52,7 +53,8 @@ newest_due test d (e ∷ earlier) = by_bool (test e.executed && (e.due == d))
     (λ fails. rw fails (newest_due test d earlier))
 
 -- against one that was due before, the newest stays
-later_or_else : (e : Issued) (d : ℕ) (new old : Option Issued) → e.due < d → IfSome new (λ f. f.due ≡ d) → Some (later e (or_else new old)) ≡ or_else new (Some (later e old))
+later_or_else : (e : Issued) (d : ℕ) (new old : Option Issued) → e.due < d → IfSome new (λ f. f.due ≡ d)
+    → Some (later e (or_else new old)) ≡ or_else new (Some (later e old))
 unfolding or_else
 later_or_else e d None old before due = refl
 later_or_else e d (Some f) old before due =
@@ -66,7 +68,8 @@ later_newest e (Some f) below =
     rw least refl
 
 -- one cycle on, the last is the newest of those that are due, or else the last before
-recent_more : (test : Executed → Bool) (d : ℕ) (log : List Issued) → recent test (d + 1) log ≡ or_else (newest test d log) (recent test d log)
+recent_more : (test : Executed → Bool) (d : ℕ) (log : List Issued)
+    → recent test (d + 1) log ≡ or_else (newest test d log) (recent test d log)
 unfolding or_else
 recent_more test d [] = refl
 recent_more test d (e ∷ earlier) = by_bool (test e.executed)
@@ -75,12 +78,14 @@ recent_more test d (e ∷ earlier) = by_bool (test e.executed)
     let less : e.due < d = grind (arith, nat_tests) in
     let now : nat_lt e.due (d + 1) ≡ true = lt-ltb e.due (d + 1) (omega arith) in
     let apart : (e.due == d) ≡ false = ne_eqb e.due d (λ same. omega arith) in
-    rw (now, before, passes, apart) (ap (λ o. Some (later e o)) (recent_more test d earlier) ∙ later_or_else e d (newest test d earlier) (recent test d earlier) less (newest_due test d earlier)))
+    rw (now, before, passes, apart) (ap (λ o. Some (later e o)) (recent_more test d earlier)
+    ∙ later_or_else e d (newest test d earlier) (recent test d earlier) less (newest_due test d earlier)))
     (λ after. by_bool (e.due == d)
     (λ here.
     let same : e.due ≡ d = eqb-true e.due d here in
     let now : nat_lt e.due (d + 1) ≡ true = lt-ltb e.due (d + 1) (omega arith) in
-    let below : IfSome (recent test (d + 1) earlier) (λ f. f.due < e.due + 1) = rw same (recent_below test (d + 1) earlier) in
+    let below : IfSome (recent test (d + 1) earlier) (λ f. f.due < e.due + 1) =
+    rw same (recent_below test (d + 1) earlier) in
     rw (now, after, passes, here) (ap Some (later_newest e (recent test (d + 1) earlier) below)))
     (λ elsewhere.
     let now : nat_lt e.due (d + 1) ≡ false = le-ltb e.due (d + 1) (grind (arith, nat_tests)) in
@@ -101,7 +106,9 @@ left_by_issued : (Executed → ℤ) → ℤ → Option Issued → ℤ
 left_by_issued left v None = v
 left_by_issued left v (Some e) = left e.executed
 
-left_by-or_else : (left : Executed → ℤ) (v : ℤ) (new old : Option Issued) → left_by left v (option_map (λ (e : Issued). e.executed) (or_else new old)) ≡ left_by_issued left (left_by left v (option_map (λ (e : Issued). e.executed) old)) new
+left_by-or_else : (left : Executed → ℤ) (v : ℤ) (new old : Option Issued)
+    → left_by left v (option_map (λ (e : Issued). e.executed) (or_else new old))
+    ≡ left_by_issued left (left_by left v (option_map (λ (e : Issued). e.executed) old)) new
 unfolding or_else left_by left_by_issued
 left_by-or_else left v None old = refl
 left_by-or_else left v (Some e) old = refl
@@ -110,22 +117,30 @@ left_by-or_else left v (Some e) old = refl
 record LandsAt (test : Executed → Bool) (left : Executed → ℤ) (land : ℤ → Pending → ℤ) : Type 0 where
   one : (e : Executed) (v : ℤ) → Lands e → fold land v (option_to_list (sent e)) ≡ (if test e then left e else v)
 
-fold_due : (test : Executed → Bool) (left : Executed → ℤ) (land : ℤ → Pending → ℤ) → LandsAt test left land → (n d : ℕ) (v : ℤ) (log : List Issued) → AllLand n log → fold land v (due_at d log) ≡ left_by_issued left v (newest test d log)
+fold_due : (test : Executed → Bool) (left : Executed → ℤ) (land : ℤ → Pending → ℤ) → LandsAt test left land
+    → (n d : ℕ) (v : ℤ) (log : List Issued) → AllLand n log
+    → fold land v (due_at d log) ≡ left_by_issued left v (newest test d log)
 unfolding left_by_issued
 fold_due test left land lands n d v [] all = refl
 fold_due test left land lands n d v (e ∷ earlier) all = by_bool (e.due == d)
     (λ here.
-    let front : fold land v (due_at d earlier ++ option_to_list (sent e.executed)) ≡ fold land (fold land v (due_at d earlier)) (option_to_list (sent e.executed)) = fold-append land v (due_at d earlier) (option_to_list (sent e.executed)) in
+    let front : fold land v (due_at d earlier ++ option_to_list (sent e.executed))
+    ≡ fold land (fold land v (due_at d earlier)) (option_to_list (sent e.executed)) =
+    fold-append land v (due_at d earlier) (option_to_list (sent e.executed)) in
     by_bool (test e.executed)
     (λ passes. rw (here, passes) (front ∙ lands.one e.executed _ all.1 ∙ rw passes refl))
-    (λ fails. rw (here, fails) (front ∙ lands.one e.executed _ all.1 ∙ rw fails (fold_due test left land lands n d v earlier all.2))))
+    (λ fails. rw (here, fails) (front ∙ lands.one e.executed _ all.1
+    ∙ rw fails (fold_due test left land lands n d v earlier all.2))))
     (λ elsewhere.
-    let front : fold land v (due_at d earlier ++ []) ≡ fold land v (due_at d earlier) = ap (fold land v) (append-nil (due_at d earlier)) in
+    let front : fold land v (due_at d earlier ++ []) ≡ fold land v (due_at d earlier) =
+    ap (fold land v) (append-nil (due_at d earlier)) in
     let skip : (test e.executed && false) ≡ false = and_right (test e.executed) false refl in
     rw (elsewhere, skip) (front ∙ fold_due test left land lands n d v earlier all.2))
 
 -- what is due at cycle d turns what was left before into what is left then
-left_more : (test : Executed → Bool) (left : Executed → ℤ) (land : ℤ → Pending → ℤ) → LandsAt test left land → (n d : ℕ) (v : ℤ) (log : List Issued) → AllLand n log → left_by left v (last_that test (landed (d + 1) log)) ≡ fold land (left_by left v (last_that test (landed d log))) (due_at d log)
+left_more : (test : Executed → Bool) (left : Executed → ℤ) (land : ℤ → Pending → ℤ) → LandsAt test left land
+    → (n d : ℕ) (v : ℤ) (log : List Issued) → AllLand n log → left_by left v (last_that test (landed (d + 1) log))
+    ≡ fold land (left_by left v (last_that test (landed d log))) (due_at d log)
 left_more test left land lands n d v log all =
     ap (λ o. left_by left v (option_map (λ (e : Issued). e.executed) o)) (recent_more test d log)
     ∙ left_by-or_else left v (newest test d log) (recent test d log)
@@ -141,7 +156,9 @@ unfolding left_by
 word_is_left v None = refl
 word_is_left v (Some e) = refl
 
-register_case : (r : Reg) (register : Option Reg) (effect : Effect) (v : ℤ) → is_fault effect ≡ false → GoesTo register effect → fold (landed_in_register r) v (option_to_list (sent_by register effect)) ≡ (if is_register r register then result_of effect else v)
+register_case : (r : Reg) (register : Option Reg) (effect : Effect) (v : ℤ) → is_fault effect ≡ false
+    → GoesTo register effect → fold (landed_in_register r) v (option_to_list (sent_by register effect))
+    ≡ (if is_register r register then result_of effect else v)
 register_case r None Faults v fault goes = refl
 register_case r None (Gives result) v fault goes = absurd goes
 register_case r None (Writes a w) v fault goes = refl
@@ -153,7 +170,9 @@ register_case r (Some s) (Writes a w) v fault goes = absurd goes
 register_case r (Some s) (Emits w) v fault goes = absurd goes
 register_case r (Some s) Nothing v fault goes = absurd goes
 
-word_case : (a : ℕ) (register : Option Reg) (effect : Effect) (v : ℤ) → fold (landed_in_word a) v (option_to_list (sent_by register effect)) ≡ (if is_write_to a effect then written_by effect else v)
+word_case : (a : ℕ) (register : Option Reg) (effect : Effect) (v : ℤ)
+    → fold (landed_in_word a) v (option_to_list (sent_by register effect))
+    ≡ (if is_write_to a effect then written_by effect else v)
 word_case a register Faults v = refl
 word_case a None (Gives result) v = refl
 word_case a (Some s) (Gives result) v = refl
@@ -162,19 +181,25 @@ word_case a register (Emits w) v = refl
 word_case a register Nothing v = refl
 
 -- one cycle on, the registers and the words are those before with what is due then
-pub register_more : (r : Reg) (n d : ℕ) (log : List Issued) → AllLand n log → register_in (landed (d + 1) log) r ≡ fold (landed_in_register r) (register_in (landed d log) r) (due_at d log)
+pub register_more : (r : Reg) (n d : ℕ) (log : List Issued) → AllLand n log → register_in (landed (d + 1) log) r
+    ≡ fold (landed_in_register r) (register_in (landed d log) r) (due_at d log)
 register_more r n d log all =
-    let lands : LandsAt (defines r) (λ (e : Executed). result_of e.effect) (landed_in_register r) = record { one = λ e v ok. register_case r (defined e.op) e.effect v ok.no_fault ok.goes } in
+    let lands : LandsAt (defines r) (λ (e : Executed). result_of e.effect) (landed_in_register r) =
+    record { one = λ e v ok. register_case r (defined e.op) e.effect v ok.no_fault ok.goes } in
     result_is_left (last_that (defines r) (landed (d + 1) log))
     ∙ left_more (defines r) _ _ lands n d (pos 0) log all
-    ∙ ap (λ v. fold (landed_in_register r) v (due_at d log)) (sym (result_is_left (last_that (defines r) (landed d log))))
+    ∙ ap (λ v. fold (landed_in_register r) v (due_at d log))
+    (sym (result_is_left (last_that (defines r) (landed d log))))
 
-pub word_more : (memory : List ℤ) (a n d : ℕ) (log : List Issued) → AllLand n log → word_in memory (landed (d + 1) log) a ≡ fold (landed_in_word a) (word_in memory (landed d log) a) (due_at d log)
+pub word_more : (memory : List ℤ) (a n d : ℕ) (log : List Issued) → AllLand n log
+    → word_in memory (landed (d + 1) log) a ≡ fold (landed_in_word a) (word_in memory (landed d log) a) (due_at d log)
 word_more memory a n d log all =
-    let lands : LandsAt (writes_to a) (λ (e : Executed). written_by e.effect) (landed_in_word a) = record { one = λ e v ok. word_case a (defined e.op) e.effect v } in
+    let lands : LandsAt (writes_to a) (λ (e : Executed). written_by e.effect) (landed_in_word a) =
+    record { one = λ e v ok. word_case a (defined e.op) e.effect v } in
     word_is_left (word_at memory a) (last_that (writes_to a) (landed (d + 1) log))
     ∙ left_more (writes_to a) _ _ lands n d (word_at memory a) log all
-    ∙ ap (λ v. fold (landed_in_word a) v (due_at d log)) (sym (word_is_left (word_at memory a) (last_that (writes_to a) (landed d log))))
+    ∙ ap (λ v. fold (landed_in_word a) v (due_at d log))
+    (sym (word_is_left (word_at memory a) (last_that (writes_to a) (landed d log))))
 
 -- what isn't due before cycle c hasn't landed then
 pub landed-later : (c : ℕ) (e : Issued) (log : List Issued) → c ≤ e.due → landed c (e ∷ log) ≡ landed c log
@@ -188,4 +213,5 @@ landed_all c (e ∷ earlier) all =
 
 -- what has arrived at cycle c is what landed before the next
 pub landed_is_arrived : (c : ℕ) (log : List Issued) → landed (c + 1) log ≡ arrived c log
-landed_is_arrived c log = filter_agree (λ (e : Issued). nat_lt e.due (c + 1)) (λ (e : Issued). nat_le e.due c) (λ e. grind (arith, nat_tests)) log
+landed_is_arrived c log = filter_agree (λ (e : Issued). nat_lt e.due (c + 1)) (λ (e : Issued). nat_le e.due c)
+    (λ e. grind (arith, nat_tests)) log

@@ -12,12 +12,15 @@ use Rattle.iloc_timed.specs.Rows.{empty_row, row_at, slots, times_issued, keeps_
 use Rattle.iloc_timed.specs.Schedule.{in_range, is_sound, AreSound, AreInRange, AreOnce}
 
 -- the slots of a sound row have operations' numbers
-pub sound_in_range : (ops : List Op) (row : Row) (i : ℕ) → is_sound ops row ≡ true → Contains (slots row) i → i < length ops
+pub sound_in_range : (ops : List Op) (row : Row) (i : ℕ) → is_sound ops row ≡ true → Contains (slots row) i
+    → i < length ops
 sound_in_range ops row i sound there =
     let all : list_all (λ j. nat_lt j (length ops)) (slots row) ≡ true = (and_parts _ (keeps_units ops row) sound).0 in
-    ltb-true i (length ops) (All-contains (λ j. nat_lt j (length ops) ≡ true) (slots row) i (AllPass-from_list_all _ (slots row) all) there)
+    ltb-true i (length ops) (All-contains (λ j. nat_lt j (length ops) ≡ true) (slots row) i
+    (AllPass-from_list_all _ (slots row) all) there)
 
-each_slot : (n : ℕ) (one zero : Option ℕ) → list_all (λ j. nat_lt j n) (option_to_list one ++ option_to_list zero) ≡ true → IfSome one (λ i. i < n) × IfSome zero (λ i. i < n)
+each_slot : (n : ℕ) (one zero : Option ℕ) → list_all (λ j. nat_lt j n) (option_to_list one ++ option_to_list zero)
+    ≡ true → IfSome one (λ i. i < n) × IfSome zero (λ i. i < n)
 each_slot n None None all = (tt, tt)
 each_slot n None (Some z) all = (tt, ltb-true z n (and_parts (nat_lt z n) true all).0)
 each_slot n (Some o) None all = (ltb-true o n (and_parts (nat_lt o n) true all).0, tt)
@@ -37,10 +40,16 @@ pub sound_rows_in_range : (ops : List Op) (rows : List Row) → AreSound ops row
 sound_rows_in_range ops rows sound c within = (and_parts _ (keeps_units ops (row_at rows c)) (sound c within)).0
 
 -- one more row
-pub times_more : (rows : List Row) (c i : ℕ) (d : Row) → c < length rows → times_issued (take (c + 1) rows) i ≡ times_issued (take c rows) i + (count_by (λ j. i == j) (option_to_list (get_or rows c d).zero) + count_by (λ j. i == j) (option_to_list (get_or rows c d).one))
+pub times_more : (rows : List Row) (c i : ℕ) (d : Row) → c < length rows → times_issued (take (c + 1) rows) i
+    ≡ times_issued (take c rows) i + (count_by (λ j. i == j) (option_to_list (get_or rows c d).zero)
+    + count_by (λ j. i == j) (option_to_list (get_or rows c d).one))
 times_more rows c i d within =
-    let step : times_issued (take (c + 1) rows) i ≡ times_issued (take c rows) i + count_by (λ j. i == j) (slots (get_or rows c d)) = sum_by_more (λ row. count_by (λ j. i == j) (slots row)) rows c d within in
-    let both : count_by (λ j. i == j) (slots (get_or rows c d)) ≡ count_by (λ j. i == j) (option_to_list (get_or rows c d).one) + count_by (λ j. i == j) (option_to_list (get_or rows c d).zero) = sum_by-append _ (option_to_list (get_or rows c d).one) (option_to_list (get_or rows c d).zero) in
+    let step : times_issued (take (c + 1) rows) i ≡ times_issued (take c rows) i + count_by (λ j. i == j)
+    (slots (get_or rows c d)) = sum_by_more (λ row. count_by (λ j. i == j) (slots row)) rows c d within in
+    let both : count_by (λ j. i == j) (slots (get_or rows c d))
+    ≡ count_by (λ j. i == j) (option_to_list (get_or rows c d).one) + count_by (λ j. i == j)
+    (option_to_list (get_or rows c d).zero) =
+    sum_by-append _ (option_to_list (get_or rows c d).one) (option_to_list (get_or rows c d).zero) in
     omega arith
 
 -- sound rows in which each operation stands once are a table

@@ -40,7 +40,10 @@ some_latency lat K.Output = omega arith
 some_latency lat K.Other = omega arith
 
 -- a schedule begins with all registers 0, the memory handed in, no output and nothing under way
-pub begins : (machine : Machine) (memory : List ℤ) → length memory ≡ 16384 → ((r : Reg) → value_of machine.registers r ≡ pos 0) → machine.memory ≡ record { first = memory; words = memory } → machine.outputs.items ≡ [] → length machine.wheel ≡ 16 → ((c : ℕ) → list_at machine.wheel c ≡ []) → Follows memory 0 [] machine
+pub begins : (machine : Machine) (memory : List ℤ) → length memory ≡ 16384
+    → ((r : Reg) → value_of machine.registers r ≡ pos 0) → machine.memory ≡ record { first = memory; words = memory }
+    → machine.outputs.items ≡ [] → length machine.wheel ≡ 16 → ((c : ℕ) → list_at machine.wheel c ≡ [])
+    → Follows memory 0 [] machine
 begins machine memory size registers words outputs count empty = record {
   size = size;
   same_size = ap (λ m. length m.words) words ∙ size;
@@ -52,70 +55,105 @@ begins machine memory size registers words outputs count empty = record {
 }
 
 -- what is issued in a slot
-pub slot_issued : (lat : Latencies) (memory : List ℤ) (ops : List Op) (c i : ℕ) (op : Op) (log : List Issued) → op ≡ op_at ops i → then_issued memory (c + 1) (c + latency lat op) op log ≡ issue_all lat memory ops c (option_to_list (Some i)) log
+pub slot_issued : (lat : Latencies) (memory : List ℤ) (ops : List Op) (c i : ℕ) (op : Op) (log : List Issued)
+    → op ≡ op_at ops i → then_issued memory (c + 1) (c + latency lat op) op log
+    ≡ issue_all lat memory ops c (option_to_list (Some i)) log
 slot_issued lat memory ops c i op log is =
-    ap (λ l. record { due = c + latency lat op; executed = record { op = op; effect = effect op (register_in l) (word_in memory l) } } ∷ log) (landed_is_arrived c log)
+    ap (λ l. record {
+      due = c + latency lat op;
+      executed = record { op = op; effect = effect op (register_in l) (word_in memory l) };
+    } ∷ log)
+    (landed_is_arrived c log)
     ∙ ap (λ o. issue lat memory c log o ∷ log) is
 
 -- what is issued in a cycle has not arrived in it
-arrived-issue : (lat : Latencies) (memory : List ℤ) (c : ℕ) (log before : List Issued) (op : Op) → arrived c (issue lat memory c before op ∷ log) ≡ arrived c log
+arrived-issue : (lat : Latencies) (memory : List ℤ) (c : ℕ) (log before : List Issued) (op : Op)
+    → arrived c (issue lat memory c before op ∷ log) ≡ arrived c log
 arrived-issue lat memory c log before op =
     let some : 1 ≤ latency lat op = some_latency lat (kind op) in
     let later : nat_le (c + latency lat op) c ≡ false = lt-leb (c + latency lat op) c (omega arith) in
     rw later refl
 
-both_issued : (lat : Latencies) (memory : List ℤ) (ops : List Op) (c : ℕ) (one other : Option ℕ) (log : List Issued) → issue_all lat memory ops c (option_to_list one) (issue_all lat memory ops c (option_to_list other) log) ≡ issue_all lat memory ops c (option_to_list one ++ option_to_list other) log
+both_issued : (lat : Latencies) (memory : List ℤ) (ops : List Op) (c : ℕ) (one other : Option ℕ) (log : List Issued)
+    → issue_all lat memory ops c (option_to_list one) (issue_all lat memory ops c (option_to_list other) log)
+    ≡ issue_all lat memory ops c (option_to_list one ++ option_to_list other) log
 both_issued lat memory ops c None None log = refl
 both_issued lat memory ops c None (Some z) log = refl
 both_issued lat memory ops c (Some o) None log = refl
 both_issued lat memory ops c (Some o) (Some z) log =
     let first : Issued = issue lat memory c log (op_at ops z) in
-    ap (λ l. record { due = c + latency lat (op_at ops o); executed = record { op = op_at ops o; effect = effect (op_at ops o) (register_in l) (word_in memory l) } } ∷ first ∷ log) (arrived-issue lat memory c log log (op_at ops z))
+    ap (λ l. record {
+      due = c + latency lat (op_at ops o);
+      executed = record { op = op_at ops o; effect = effect (op_at ops o) (register_in l) (word_in memory l) };
+    }
+    ∷ first ∷ log) (arrived-issue lat memory c log log (op_at ops z))
 
 -- the slots of a row, unit 0 first, read the same
-pub row_issued : (lat : Latencies) (memory : List ℤ) (ops : List Op) (c : ℕ) (row : Row) (log : List Issued) → issue_all lat memory ops c (option_to_list row.one) (issue_all lat memory ops c (option_to_list row.zero) log) ≡ issue_all lat memory ops c (slots row) log
+pub row_issued : (lat : Latencies) (memory : List ℤ) (ops : List Op) (c : ℕ) (row : Row) (log : List Issued)
+    → issue_all lat memory ops c (option_to_list row.one) (issue_all lat memory ops c (option_to_list row.zero) log)
+    ≡ issue_all lat memory ops c (slots row) log
 row_issued lat memory ops c row log = both_issued lat memory ops c row.one row.zero log
 
 -- a fault stays
-fault_stays : (more log : List Issued) → has_fault (executed_in log) ≡ true → has_fault (executed_in (more ++ log)) ≡ true
+fault_stays : (more log : List Issued) → has_fault (executed_in log) ≡ true → has_fault (executed_in (more ++ log))
+    ≡ true
 fault_stays [] log fault = fault
-fault_stays (e ∷ more) log fault = or_right (is_fault e.executed.effect) (has_fault (executed_in (more ++ log))) (fault_stays more log fault)
+fault_stays (e ∷ more) log fault = or_right (is_fault e.executed.effect) (has_fault (executed_in (more ++ log)))
+    (fault_stays more log fault)
 
-pub fault_in_row : (lat : Latencies) (memory : List ℤ) (ops : List Op) (c : ℕ) (row : Row) (log : List Issued) → has_fault (executed_in (issue_all lat memory ops c (option_to_list row.zero) log)) ≡ true → has_fault (executed_in (issue_all lat memory ops c (slots row) log)) ≡ true
+pub fault_in_row : (lat : Latencies) (memory : List ℤ) (ops : List Op) (c : ℕ) (row : Row) (log : List Issued)
+    → has_fault (executed_in (issue_all lat memory ops c (option_to_list row.zero) log)) ≡ true
+    → has_fault (executed_in (issue_all lat memory ops c (slots row) log)) ≡ true
 fault_in_row lat memory ops c row log fault =
-    rw (← row_issued lat memory ops c row log) (fault_stays (map _ (option_to_list row.one)) (issue_all lat memory ops c (option_to_list row.zero) log) fault)
+    rw (← row_issued lat memory ops c row log)
+    (fault_stays (map _ (option_to_list row.one)) (issue_all lat memory ops c (option_to_list row.zero) log) fault)
 
-pub fault_later : (lat : Latencies) (memory : List ℤ) (ops : List Op) (rows : List Row) (c more : ℕ) → has_fault (executed_in (issued_before lat memory ops rows c)) ≡ true → has_fault (executed_in (issued_before lat memory ops rows (c + more))) ≡ true
+pub fault_later : (lat : Latencies) (memory : List ℤ) (ops : List Op) (rows : List Row) (c more : ℕ)
+    → has_fault (executed_in (issued_before lat memory ops rows c)) ≡ true
+    → has_fault (executed_in (issued_before lat memory ops rows (c + more))) ≡ true
 fault_later lat memory ops rows c zero fault = rw add-zero fault
-fault_later lat memory ops rows c (suc more) fault = rw add-suc (fault_stays (map _ (slots (row_at rows (c + more)))) (issued_before lat memory ops rows (c + more)) (fault_later lat memory ops rows c more fault))
+fault_later lat memory ops rows c (suc more) fault =
+    rw add-suc (fault_stays (map _ (slots (row_at rows (c + more)))) (issued_before lat memory ops rows (c + more))
+    (fault_later lat memory ops rows c more fault))
 
 -- one row more
-pub row_more : (lat : Latencies) (memory : List ℤ) (ops : List Op) (rows : List Row) (c : ℕ) → issue_all lat memory ops c (slots (row_at rows c)) (issued_before lat memory ops rows c) ≡ issued_before lat memory ops rows (c + 1)
+pub row_more : (lat : Latencies) (memory : List ℤ) (ops : List Op) (rows : List Row) (c : ℕ)
+    → issue_all lat memory ops c (slots (row_at rows c)) (issued_before lat memory ops rows c)
+    ≡ issued_before lat memory ops rows (c + 1)
 row_more lat memory ops rows c = rw add-one refl
 
 -- a run that stops at a fault
-pub stops : (lat : Latencies) (memory : List ℤ) (ops : List Op) (rows : List Row) (c : ℕ) → c < length rows → has_fault (executed_in (issue_all lat memory ops c (slots (row_at rows c)) (issued_before lat memory ops rows c))) ≡ true → Fault ≡ timed_outcome lat ops rows memory
+pub stops : (lat : Latencies) (memory : List ℤ) (ops : List Op) (rows : List Row) (c : ℕ) → c < length rows
+    → has_fault (executed_in (issue_all lat memory ops c (slots (row_at rows c)) (issued_before lat memory ops rows c)))
+    ≡ true → Fault ≡ timed_outcome lat ops rows memory
 stops lat memory ops rows c within fault =
     let rest : c + 1 + (length rows - (c + 1)) ≡ length rows = omega arith in
-    let here : has_fault (executed_in (issued_before lat memory ops rows (c + 1))) ≡ true = rw (← row_more lat memory ops rows c) fault in
-    let last : has_fault (executed_in (issued_before lat memory ops rows (length rows))) ≡ true = rw rest at (fault_later lat memory ops rows (c + 1) (length rows - (c + 1)) here) in
+    let here : has_fault (executed_in (issued_before lat memory ops rows (c + 1))) ≡ true =
+    rw (← row_more lat memory ops rows c) fault in
+    let last : has_fault (executed_in (issued_before lat memory ops rows (length rows))) ≡ true =
+    rw rest at (fault_later lat memory ops rows (c + 1) (length rows - (c + 1)) here) in
     rw last refl
 
 no_fault : (c : ℕ) (log : List Issued) → AllLand c log → has_fault (executed_in log) ≡ false
 no_fault c [] all = refl
-no_fault c (e ∷ earlier) all = or_from (is_fault e.executed.effect) (has_fault (executed_in earlier)) all.1.no_fault (no_fault c earlier all.2)
+no_fault c (e ∷ earlier) all = or_from (is_fault e.executed.effect) (has_fault (executed_in earlier)) all.1.no_fault
+    (no_fault c earlier all.2)
 
 good_word : (k : ℕ) → k < 16384 → is_good (pos (4 * k)) ≡ true
 good_word k within = grind (arith, nat_tests)
 
 -- a run whose results have all landed
-pub finishes : (memory : List ℤ) (n : ℕ) (log : List Issued) (machine : Machine) → AllLand n log → Follows memory n log machine → Finished machine.outputs.items machine.memory.words ≡ timed_outcome_of memory log
+pub finishes : (memory : List ℤ) (n : ℕ) (log : List Issued) (machine : Machine) → AllLand n log
+    → Follows memory n log machine → Finished machine.outputs.items machine.memory.words ≡ timed_outcome_of memory log
 finishes memory n log machine all follows =
     let everything : landed n log ≡ log = landed_all n log all in
-    let words : machine.memory.words ≡ with_words memory (word_in memory log) = fill_by_all (λ k. word_in memory log (4 * k)) machine.memory.words (length memory) (pos 0) (follows.same_size ∙ sym follows.size) (λ k below.
+    let words : machine.memory.words ≡ with_words memory (word_in memory log) =
+    fill_by_all (λ k. word_in memory log (4 * k)) machine.memory.words (length memory) (pos 0) (follows.same_size
+    ∙ sym follows.size) (λ k below.
     let small : k < 16384 = rw follows.size at below in
     let number : 4 * k / 4 ≡ k = omega arith in
-    ap (λ j. get_or machine.memory.words j (pos 0)) (sym number) ∙ follows.words (4 * k) (good_word k small) ∙ ap (λ l. word_in memory l (4 * k)) everything) in
+    ap (λ j. get_or machine.memory.words j (pos 0)) (sym number) ∙ follows.words (4 * k) (good_word k small)
+    ∙ ap (λ l. word_in memory l (4 * k)) everything) in
     let fine : has_fault (executed_in log) ≡ false = no_fault n log all in
     rw (fine, follows.outputs, words) refl
 
@@ -127,28 +165,46 @@ short_latency lat K.Output = omega arith
 short_latency lat K.Other = omega arith
 
 -- the operation of a slot, issued by the machine
-pub after_slot : (lat : Latencies) (ops : List Op) (c i lasts : ℕ) (slot : Option ℕ) (other : Op) (old new : Machine) (goes_on : Bool) → slot ≡ Some i → IfSome slot (λ j. j < length ops) → lasts ≡ latency lat (get_or ops i other) → ((memory : List ℤ) (n : ℕ) (log : List Issued) → n ≤ c + lasts → c + lasts < n + 16 → Follows memory n log old → After goes_on memory n (then_issued memory n (c + lasts) (get_or ops i other) log) new) → (memory : List ℤ) (log : List Issued) → Follows memory (c + 1) log old → After goes_on memory (c + 1) (issue_all lat memory ops c (option_to_list slot) log) new
+pub after_slot : (lat : Latencies) (ops : List Op) (c i lasts : ℕ) (slot : Option ℕ) (other : Op) (old new : Machine)
+    (goes_on : Bool) → slot ≡ Some i → IfSome slot (λ j. j < length ops) → lasts ≡ latency lat (get_or ops i other)
+    → ((memory : List ℤ) (n : ℕ) (log : List Issued) → n ≤ c + lasts → c + lasts < n + 16 → Follows memory n log old
+    → After goes_on memory n (then_issued memory n (c + lasts) (get_or ops i other) log) new)
+    → (memory : List ℤ) (log : List Issued) → Follows memory (c + 1) log old
+    → After goes_on memory (c + 1) (issue_all lat memory ops c (option_to_list slot) log) new
 after_slot lat ops c i lasts slot other old new goes_on is known takes says memory log follows =
     let within : i < length ops = rw is at known in
     let there : get_or ops i other ≡ op_at ops i = get_or_default ops i other Nop within in
     let some : 1 ≤ latency lat (get_or ops i other) = some_latency lat (kind (get_or ops i other)) in
     let short : latency lat (get_or ops i other) ≤ 16 = short_latency lat (kind (get_or ops i other)) in
-    let same : then_issued memory (c + 1) (c + lasts) (get_or ops i other) log ≡ issue_all lat memory ops c (option_to_list slot) log =
+    let same : then_issued memory (c + 1) (c + lasts) (get_or ops i other) log
+    ≡ issue_all lat memory ops c (option_to_list slot) log =
     ap (λ n. then_issued memory (c + 1) (c + n) (get_or ops i other) log) takes
     ∙ slot_issued lat memory ops c i (get_or ops i other) log there
     ∙ ap (λ s. issue_all lat memory ops c (option_to_list s) log) (sym is) in
     subst (λ l. After goes_on memory (c + 1) l new) same (says memory (c + 1) log (omega arith) (omega arith) follows)
 
 -- both slots of a row
-pub after_row : (lat : Latencies) (ops : List Op) (c : ℕ) (row : Row) (old mid new : Machine) (goes_on : Bool) → ((memory : List ℤ) (log : List Issued) → Follows memory c log old → Follows memory (c + 1) (issue_all lat memory ops c (option_to_list row.zero) log) mid) → ((memory : List ℤ) (log : List Issued) → Follows memory (c + 1) log mid → After goes_on memory (c + 1) (issue_all lat memory ops c (option_to_list row.one) log) new) → (memory : List ℤ) (log : List Issued) → Follows memory c log old → After goes_on memory (c + 1) (issue_all lat memory ops c (slots row) log) new
+pub after_row : (lat : Latencies) (ops : List Op) (c : ℕ) (row : Row) (old mid new : Machine) (goes_on : Bool)
+    → ((memory : List ℤ) (log : List Issued) → Follows memory c log old
+    → Follows memory (c + 1) (issue_all lat memory ops c (option_to_list row.zero) log) mid)
+    → ((memory : List ℤ) (log : List Issued) → Follows memory (c + 1) log mid
+    → After goes_on memory (c + 1) (issue_all lat memory ops c (option_to_list row.one) log) new)
+    → (memory : List ℤ) (log : List Issued) → Follows memory c log old
+    → After goes_on memory (c + 1) (issue_all lat memory ops c (slots row) log) new
 after_row lat ops c row old mid new goes_on first second memory log follows =
-    subst (λ l. After goes_on memory (c + 1) l new) (row_issued lat memory ops c row log) (second memory (issue_all lat memory ops c (option_to_list row.zero) log) (first memory log follows))
+    subst (λ l. After goes_on memory (c + 1) l new) (row_issued lat memory ops c row log)
+    (second memory (issue_all lat memory ops c (option_to_list row.zero) log) (first memory log follows))
 
 -- all rows have run, and the rest lands
-pub ends : (lat : Latencies) (memory : List ℤ) (ops : List Op) (rows : List Row) (c from : ℕ) (before after : Machine) → c ≡ length rows → from ≡ length rows → Follows memory c (issued_before lat memory ops rows c) before → ((words : List ℤ) (log : List Issued) → Follows words from log before → Follows words (from + 16) log after) → Finished after.outputs.items after.memory.words ≡ timed_outcome lat ops rows memory
+pub ends : (lat : Latencies) (memory : List ℤ) (ops : List Op) (rows : List Row) (c from : ℕ) (before after : Machine)
+    → c ≡ length rows → from ≡ length rows → Follows memory c (issued_before lat memory ops rows c) before
+    → ((words : List ℤ) (log : List Issued) → Follows words from log before → Follows words (from + 16) log after)
+    → Finished after.outputs.items after.memory.words ≡ timed_outcome lat ops rows memory
 ends lat memory ops rows c from before after last count follows lands =
     let log : List Issued = issued_before lat memory ops rows (length rows) in
-    let begun : Follows memory (length rows) log before = subst (λ n. Follows memory n (issued_before lat memory ops rows n) before) last follows in
-    let ended : Follows memory (from + 16) log after = lands memory log (subst (λ n. Follows memory n log before) (sym count) begun) in
+    let begun : Follows memory (length rows) log before =
+    subst (λ n. Follows memory n (issued_before lat memory ops rows n) before) last follows in
+    let ended : Follows memory (from + 16) log after =
+    lands memory log (subst (λ n. Follows memory n log before) (sym count) begun) in
     let all : AllLand (from + 16) log = subst (λ n. AllLand (n + 16) log) (sym count) begun.all_land in
     finishes memory (from + 16) log after all ended

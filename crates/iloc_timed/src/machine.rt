@@ -23,8 +23,10 @@ fn land_one(
 ) -> Result<(), NoMemory>
     requires { CanLand pending }
     ensures first { memory.new.first ≡ memory.old.first }
-    ensures registers { OnOk result ((r : Register) → value_of registers.new r ≡ landed_in_register r (value_of registers.old r) pending) }
-    ensures words { OnOk result ((a : ℕ) → IsTrue (is_good (pos a)) → word_at memory.new.words a ≡ landed_in_word a (word_at memory.old.words a) pending) }
+    ensures registers { OnOk result ((r : Register)
+        → value_of registers.new r ≡ landed_in_register r (value_of registers.old r) pending) }
+    ensures words { OnOk result ((a : ℕ) → IsTrue (is_good (pos a))
+        → word_at memory.new.words a ≡ landed_in_word a (word_at memory.old.words a) pending) }
     ensures size { OnOk result (length memory.new.words ≡ length memory.old.words) }
 {
     match pending {
@@ -42,8 +44,10 @@ fn land_all(
 ) -> Result<(), NoMemory>
     requires { All CanLand due.now }
     ensures first { memory.new.first ≡ memory.old.first }
-    ensures registers { OnOk result ((r : Register) → value_of registers.new r ≡ fold (landed_in_register r) (value_of registers.old r) due.now) }
-    ensures words { OnOk result ((a : ℕ) → IsTrue (is_good (pos a)) → word_at memory.new.words a ≡ fold (landed_in_word a) (word_at memory.old.words a) due.now) }
+    ensures registers { OnOk result ((r : Register)
+        → value_of registers.new r ≡ fold (landed_in_register r) (value_of registers.old r) due.now) }
+    ensures words { OnOk result ((a : ℕ) → IsTrue (is_good (pos a))
+        → word_at memory.new.words a ≡ fold (landed_in_word a) (word_at memory.old.words a) due.now) }
     ensures size { OnOk result (length memory.new.words ≡ length memory.old.words) }
 {
     for pending in due {
@@ -140,7 +144,8 @@ impl Machine {
         ensures first { self.new.memory.first ≡ self.old.memory.first }
         ensures after { IfOk result (λ goes_on. (memory : List ℤ) (log : List Issued) →
             Follows memory (cycle + 1) log self.old →
-            After goes_on memory (cycle + 1) (issue_all latencies.now memory ops.now cycle (option_to_list slot) log) self.new) }
+            After goes_on memory (cycle + 1)
+            (issue_all latencies.now memory ops.now cycle (option_to_list slot) log) self.new) }
     {
         match slot {
             Some(i) => {

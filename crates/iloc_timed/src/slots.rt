@@ -17,7 +17,9 @@ pub(crate) fn first_bad_row(ops: &[Op], rows: &[Row]) -> Option<usize>
 /// Counts the operation in a slot, up to 255.
 fn count_slot(times: &mut [u8], slot: Option<usize>)
     requires { IfSome slot (λ i. i < length times.old) }
-    ensures { (i : ℕ) → i < length times.new → slice_index times.new i ≡ min 255 (slice_index times.old i + count_by (λ j. i == j) (option_to_list slot)) }
+    ensures { (i : ℕ) → i < length times.new
+        → slice_index times.new i ≡
+        min 255 (slice_index times.old i + count_by (λ j. i == j) (option_to_list slot)) }
 {
     if let Some(i) = slot {
         times[i] = times[i].saturating_add(1);
@@ -27,7 +29,8 @@ fn count_slot(times: &mut [u8], slot: Option<usize>)
 /// Counts the operations in the slots of rows, each up to 255.
 fn count_rows(times: &mut [u8], rows: &[Row])
     requires { AreInRange (length times.old) rows.now }
-    ensures { (i : ℕ) → i < length times.new → slice_index times.new i ≡ min 255 (slice_index times.old i + times_issued rows.now i) }
+    ensures { (i : ℕ) → i < length times.new
+        → slice_index times.new i ≡ min 255 (slice_index times.old i + times_issued rows.now i) }
 {
     for row in rows {
         count_slot(times, row.zero);

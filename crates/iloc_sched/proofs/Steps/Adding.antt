@@ -48,9 +48,11 @@ tables_graph edges starts heads = record {
   next = λ x. (get_or edges x no_edge).next;
 }
 
-pub one_more : (edges : List Edge) (starts : List ℕ) (heads : List (Option ℕ)) (i j d : ℕ) (edge : Edge) → i < length heads
+pub one_more : (edges : List Edge) (starts : List ℕ) (heads : List (Option ℕ)) (i j d : ℕ) (edge : Edge)
+    → i < length heads
     → edge.from ≡ i → edge.to ≡ j → edge.delay ≡ d → edge.next ≡ get_or heads i None
-    → HasOneMore (tables_graph edges starts heads) (tables_graph (edges ++ edge ∷ []) starts (set heads i (Some (length edges)))) i j d
+    → HasOneMore (tables_graph edges starts heads)
+    (tables_graph (edges ++ edge ∷ []) starts (set heads i (Some (length edges)))) i j d
 one_more edges starts heads i j d edge there from_is to_is delay_is next_is = record {
   ops = length-set heads i (Some (length edges));
   count = length_push edges edge;
@@ -68,22 +70,34 @@ one_more edges starts heads i j d edge there from_is to_is delay_is next_is = re
 }
 
 -- one edge is pushed, and it is the last from i
-pub adds_one : (edges edges' : List Edge) (starts : List ℕ) (heads : List (Option ℕ)) (i j d place : ℕ) (next : Option ℕ) → i < length heads
-    → place ≡ length edges → next ≡ get_or heads i None → edges' ≡ edges ++ record { from = i; to = j; delay = d; next = next } ∷ []
-    → AddsFrom (λ k. k ≡ i) (tables_graph edges starts heads) (tables_graph edges' starts (set heads i (Some place))) j d
+pub adds_one : (edges edges' : List Edge) (starts : List ℕ) (heads : List (Option ℕ)) (i j d place : ℕ)
+    (next : Option ℕ) → i < length heads
+    → place ≡ length edges → next ≡ get_or heads i None
+    → edges' ≡ edges ++ record { from = i; to = j; delay = d; next = next } ∷ []
+    → AddsFrom (λ k. k ≡ i) (tables_graph edges starts heads) (tables_graph edges' starts (set heads i (Some place))) j
+    d
 adds_one edges edges' starts heads i j d place next there place_is next_is pushed =
-    subst (λ es. AddsFrom (λ k. k ≡ i) (tables_graph edges starts heads) (tables_graph es starts (set heads i (Some place))) j d) (sym pushed)
-    (subst (λ p. AddsFrom (λ k. k ≡ i) (tables_graph edges starts heads) (tables_graph (edges ++ record { from = i; to = j; delay = d; next = next } ∷ []) starts (set heads i (Some p))) j d) (sym place_is)
+    subst (λ es. AddsFrom (λ k. k ≡ i) (tables_graph edges starts heads)
+    (tables_graph es starts (set heads i (Some place))) j d) (sym pushed)
+    (subst (λ p. AddsFrom (λ k. k ≡ i) (tables_graph edges starts heads)
+    (tables_graph (edges ++ record { from = i; to = j; delay = d; next = next } ∷ []) starts (set heads i (Some p)))
+    j d) (sym place_is)
     (λ lat ops is pairs.
     let edge : Edge = record { from = i; to = j; delay = d; next = next } in
-    let more : HasOneMore (tables_graph edges starts heads) (tables_graph (edges ++ edge ∷ []) starts (set heads i (Some (length edges)))) i j d = one_more edges starts heads i j d edge there refl refl refl next_is in
+    let more : HasOneMore (tables_graph edges starts heads)
+    (tables_graph (edges ++ edge ∷ []) starts (set heads i (Some (length edges)))) i j d =
+    one_more edges starts heads i j d edge there refl refl refl next_is in
     let pair : IsDelayPair lat ops i j d = pairs i refl in (
-      grows_by_one lat ops (tables_graph edges starts heads) (tables_graph (edges ++ edge ∷ []) starts (set heads i (Some (length edges)))) i j d is pair more,
-      λ k same. subst (λ m. HasEdge (tables_graph (edges ++ edge ∷ []) starts (set heads i (Some (length edges)))) j m d) (sym same)
-          (has_new lat ops (tables_graph edges starts heads) (tables_graph (edges ++ edge ∷ []) starts (set heads i (Some (length edges)))) i j d is pair more),
+      grows_by_one lat ops (tables_graph edges starts heads)
+          (tables_graph (edges ++ edge ∷ []) starts (set heads i (Some (length edges)))) i j d is pair more,
+      λ k same. subst (λ m. HasEdge (tables_graph (edges ++ edge ∷ []) starts (set heads i (Some (length edges)))) j m
+          d) (sym same)
+          (has_new lat ops (tables_graph edges starts heads)
+          (tables_graph (edges ++ edge ∷ []) starts (set heads i (Some (length edges)))) i j d is pair more),
     )))
 
-pub adds_some : (o : Option ℕ) (i : ℕ) (a b : Graph) (j d : ℕ) → o ≡ Some i → AddsFrom (λ k. k ≡ i) a b j d → AddsFrom (λ k. o ≡ Some k) a b j d
+pub adds_some : (o : Option ℕ) (i : ℕ) (a b : Graph) (j d : ℕ) → o ≡ Some i → AddsFrom (λ k. k ≡ i) a b j d
+    → AddsFrom (λ k. o ≡ Some k) a b j d
 adds_some o i a b j d at adds = λ lat ops is pairs.
     let h = adds lat ops is (λ k same. pairs k (at ∙ ap Some (sym same))) in
     (h.0, λ k at_k. h.1 k (same_some o k i at_k at))
@@ -91,7 +105,8 @@ adds_some o i a b j d at adds = λ lat ops is pairs.
 pub adds_nothing : (a : Graph) (j d : ℕ) → AddsFrom (In []) a a j d
 adds_nothing a j d = λ lat ops is pairs. (grows_none lat ops a j is, λ k none. absurd none)
 
-pub adds_more : (front : List ℕ) (x : ℕ) (a b c : Graph) (j d : ℕ) → AddsFrom (In front) a b j d → AddsFrom (λ k. k ≡ x) b c j d → AddsFrom (In (front ++ x ∷ [])) a c j d
+pub adds_more : (front : List ℕ) (x : ℕ) (a b c : Graph) (j d : ℕ) → AddsFrom (In front) a b j d
+    → AddsFrom (λ k. k ≡ x) b c j d → AddsFrom (In (front ++ x ∷ [])) a c j d
 adds_more front x a b c j d first second = λ lat ops is pairs.
     let h = first lat ops is (λ k held. pairs k (in_front front (x ∷ []) k held)) in
     let g = second lat ops h.0.partial (λ k same. pairs k (in_back front (x ∷ []) k (inl (sym same)))) in (
@@ -102,51 +117,66 @@ adds_more front x a b c j d first second = λ lat ops is pairs.
       ],
     )
 
-module _ (lat : Latencies) (ops : List Op) (lasts : Lasts) (j : ℕ) (is : IsLasts ops lasts j) (within : j < length ops) where
-  pub adds_use : (a b : Graph) (r : Reg) (i d : ℕ) → IsRenamed ops → Contains (used (op_at ops j)) r → IsPartialGraph lat ops a j → definer lasts.definers r.0 ≡ Some i → d ≡ latency lat (op_at ops i)
-      → AddsFrom (λ k. k ≡ i) a b j d → Grows lat ops a b j × CoversUse lat ops b j r
-  adds_use a b r i d renamed uses partial at long adds =
-      let pair : IsDelayPair lat ops i j d = subst (λ e. IsDelayPair lat ops i j e) (sym long) (use_pair lat ops j lasts is within r uses i at) in
-      let h = adds lat ops partial (λ k same. subst (λ m. IsDelayPair lat ops m j d) (sym same) pair) in (
-        h.0,
-        covers_use lat ops j lasts is b renamed r
-            (λ k at_k.
-            let same : k ≡ i = same_some (definer lasts.definers r.0) k i at_k at in
-            subst (λ e. HasEdge b j k e) (long ∙ ap (λ m. latency lat (op_at ops m)) (sym same)) (h.1 k same)),
-      )
+module _ (lat : Latencies) (ops : List Op) (lasts : Lasts) (j : ℕ) (is : IsLasts ops lasts j) (within : j < length ops)
+  where
+    pub adds_use : (a b : Graph) (r : Reg) (i d : ℕ) → IsRenamed ops → Contains (used (op_at ops j)) r
+        → IsPartialGraph lat ops a j → definer lasts.definers r.0 ≡ Some i → d ≡ latency lat (op_at ops i)
+        → AddsFrom (λ k. k ≡ i) a b j d → Grows lat ops a b j × CoversUse lat ops b j r
+    adds_use a b r i d renamed uses partial at long adds =
+        let pair : IsDelayPair lat ops i j d =
+        subst (λ e. IsDelayPair lat ops i j e) (sym long) (use_pair lat ops j lasts is within r uses i at) in
+        let h = adds lat ops partial (λ k same. subst (λ m. IsDelayPair lat ops m j d) (sym same) pair) in (
+          h.0,
+          covers_use lat ops j lasts is b renamed r
+              (λ k at_k.
+              let same : k ≡ i = same_some (definer lasts.definers r.0) k i at_k at in
+              subst (λ e. HasEdge b j k e) (long ∙ ap (λ m. latency lat (op_at ops m)) (sym same)) (h.1 k same)),
+        )
 
-  pub no_use : (a : Graph) (r : Reg) → IsRenamed ops → definer lasts.definers r.0 ≡ None → CoversUse lat ops a j r
-  no_use a r renamed none = covers_use lat ops j lasts is a renamed r (λ k at. not_both (definer lasts.definers r.0) k none at)
+    pub no_use : (a : Graph) (r : Reg) → IsRenamed ops → definer lasts.definers r.0 ≡ None → CoversUse lat ops a j r
+    no_use a r renamed none = covers_use lat ops j lasts is a renamed r
+        (λ k at. not_both (definer lasts.definers r.0) k none at)
 
-  pub memory_load : (a b : Graph) → IsPartialGraph lat ops a j → kind (op_at ops j) ≡ K.Load → AddsFrom (λ i. lasts.store ≡ Some i) a b j lat.store → Grows lat ops a b j × CoversMemory lat ops b j
-  memory_load a b partial kind_is stored =
-      let h = stored lat ops partial (store_before_load lat ops j lasts is within kind_is) in
-      (h.0, covers_load lat ops j lasts is b kind_is h.1)
+    pub memory_load : (a b : Graph) → IsPartialGraph lat ops a j → kind (op_at ops j) ≡ K.Load
+        → AddsFrom (λ i. lasts.store ≡ Some i) a b j lat.store → Grows lat ops a b j × CoversMemory lat ops b j
+    memory_load a b partial kind_is stored =
+        let h = stored lat ops partial (store_before_load lat ops j lasts is within kind_is) in
+        (h.0, covers_load lat ops j lasts is b kind_is h.1)
 
-  pub memory_output : (a b c : Graph) → IsPartialGraph lat ops a j → kind (op_at ops j) ≡ K.Output → AddsFrom (λ i. lasts.store ≡ Some i) a b j lat.store → AddsFrom (λ i. lasts.output ≡ Some i) b c j 1 → Grows lat ops a c j × CoversMemory lat ops c j
-  memory_output a b c partial kind_is stored emitted =
-      let h = stored lat ops partial (store_before_output lat ops j lasts is within kind_is) in
-      let g = emitted lat ops h.0.partial (output_before_output lat ops j lasts is within kind_is) in
-      (grows_then lat ops a b c j h.0 g.0, covers_output lat ops j lasts is c kind_is (λ i at. g.0.keeps i lat.store (h.1 i at)) g.1)
+    pub memory_output : (a b c : Graph) → IsPartialGraph lat ops a j → kind (op_at ops j) ≡ K.Output
+        → AddsFrom (λ i. lasts.store ≡ Some i) a b j lat.store → AddsFrom (λ i. lasts.output ≡ Some i) b c j 1
+        → Grows lat ops a c j × CoversMemory lat ops c j
+    memory_output a b c partial kind_is stored emitted =
+        let h = stored lat ops partial (store_before_output lat ops j lasts is within kind_is) in
+        let g = emitted lat ops h.0.partial (output_before_output lat ops j lasts is within kind_is) in (
+          grows_then lat ops a b c j h.0 g.0,
+          covers_output lat ops j lasts is c kind_is (λ i at. g.0.keeps i lat.store (h.1 i at)) g.1,
+        )
 
-  pub memory_store : (a b c e : Graph) → IsPartialGraph lat ops a j → kind (op_at ops j) ≡ K.Store → AddsFrom (λ i. lasts.store ≡ Some i) a b j 1 → AddsFrom (λ i. lasts.output ≡ Some i) b c j 1 → AddsFrom (In lasts.loads.items) c e j 1 → Grows lat ops a e j × CoversMemory lat ops e j
-  memory_store a b c e partial kind_is stored emitted loaded =
-      let h = stored lat ops partial (store_before_store lat ops j lasts is within kind_is) in
-      let g = emitted lat ops h.0.partial (output_before_store lat ops j lasts is within kind_is) in
-      let f = loaded lat ops g.0.partial (load_before_store lat ops j lasts is within kind_is) in (
-        grows_then lat ops a c e j (grows_then lat ops a b c j h.0 g.0) f.0,
-        covers_store lat ops j lasts is e kind_is
-            (λ i at. f.0.keeps i 1 (g.0.keeps i 1 (h.1 i at)))
-            (λ i at. f.0.keeps i 1 (g.1 i at))
-            f.1,
-      )
+    pub memory_store : (a b c e : Graph) → IsPartialGraph lat ops a j → kind (op_at ops j) ≡ K.Store
+        → AddsFrom (λ i. lasts.store ≡ Some i) a b j 1 → AddsFrom (λ i. lasts.output ≡ Some i) b c j 1
+        → AddsFrom (In lasts.loads.items) c e j 1 → Grows lat ops a e j × CoversMemory lat ops e j
+    memory_store a b c e partial kind_is stored emitted loaded =
+        let h = stored lat ops partial (store_before_store lat ops j lasts is within kind_is) in
+        let g = emitted lat ops h.0.partial (output_before_store lat ops j lasts is within kind_is) in
+        let f = loaded lat ops g.0.partial (load_before_store lat ops j lasts is within kind_is) in (
+          grows_then lat ops a c e j (grows_then lat ops a b c j h.0 g.0) f.0,
+          covers_store lat ops j lasts is e kind_is
+              (λ i at. f.0.keeps i 1 (g.0.keeps i 1 (h.1 i at)))
+              (λ i at. f.0.keeps i 1 (g.1 i at))
+              f.1,
+        )
 
 -- what grows still covers
-pub use_covered : (lat : Latencies) (ops : List Op) (a b : Graph) (j : ℕ) (r : Reg) → Grows lat ops a b j → CoversUse lat ops a j r → CoversUse lat ops b j r
-use_covered lat ops a b j r grows covers = λ i below defines. grows.keeps i (latency lat (op_at ops i)) (covers i below defines)
+pub use_covered : (lat : Latencies) (ops : List Op) (a b : Graph) (j : ℕ) (r : Reg) → Grows lat ops a b j
+    → CoversUse lat ops a j r → CoversUse lat ops b j r
+use_covered lat ops a b j r grows covers =
+    λ i below defines. grows.keeps i (latency lat (op_at ops i)) (covers i below defines)
 
 -- one register more of those used
-pub uses_more : (lat : Latencies) (ops : List Op) (a b : Graph) (j : ℕ) (front : List Reg) (r : Reg) → Grows lat ops a b j → ((s : Reg) → In front s → CoversUse lat ops a j s) → CoversUse lat ops b j r → (s : Reg) → In (front ++ r ∷ []) s → CoversUse lat ops b j s
+pub uses_more : (lat : Latencies) (ops : List Op) (a b : Graph) (j : ℕ) (front : List Reg) (r : Reg)
+    → Grows lat ops a b j → ((s : Reg) → In front s → CoversUse lat ops a j s) → CoversUse lat ops b j r → (s : Reg)
+    → In (front ++ r ∷ []) s → CoversUse lat ops b j s
 uses_more lat ops a b j front r grows before last s held =
     elim (in_either front (r ∷ []) s held) [
       | inl early ↦ use_covered lat ops a b j s grows (before s early)
@@ -154,12 +184,14 @@ uses_more lat ops a b j front r grows before last s held =
     ]
 
 -- the start of the next operation is pushed
-pub starts_pushed : (starts starts' : List ℕ) (n j : ℕ) → starts' ≡ starts ++ n ∷ [] → length starts ≡ j + 1 → ((b : ℕ) → b ≤ j → get_or starts' b 0 ≡ get_or starts b 0) × (get_or starts' (j + 1) 0 ≡ n)
+pub starts_pushed : (starts starts' : List ℕ) (n j : ℕ) → starts' ≡ starts ++ n ∷ [] → length starts ≡ j + 1
+    → ((b : ℕ) → b ≤ j → get_or starts' b 0 ≡ get_or starts b 0) × (get_or starts' (j + 1) 0 ≡ n)
 starts_pushed starts starts' n j pushed size = (
   λ b most. ap (λ ss. get_or ss b 0) pushed ∙ front_at starts (n ∷ []) b 0 (omega arith),
   ap (λ ss. get_or ss (j + 1) 0) pushed ∙ get_or_push starts n 0 (j + 1) size,
 )
 
-pub covers_along : (lat : Latencies) (ops : List Op) (graph : Graph) (j : ℕ) (taken regs : List Reg) → taken ≡ regs → regs ≡ used (op_at ops j) → ((r : Reg) → In taken r → CoversUse lat ops graph j r) → CoversUses lat ops graph j
+pub covers_along : (lat : Latencies) (ops : List Op) (graph : Graph) (j : ℕ) (taken regs : List Reg) → taken ≡ regs
+    → regs ≡ used (op_at ops j) → ((r : Reg) → In taken r → CoversUse lat ops graph j r) → CoversUses lat ops graph j
 covers_along lat ops graph j taken regs all are covers = λ r held.
     covers r (subst (λ xs. In xs r) (sym (all ∙ are)) (in_from (used (op_at ops j)) r held))

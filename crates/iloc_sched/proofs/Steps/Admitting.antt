@@ -37,14 +37,16 @@ pub admits_none : (ops : List Op) (prios : List ℕ) (q : Queues) → Admits ops
 admits_none ops prios q = record { comes = λ j held. absurd held; stays = λ k c held. held; was = λ k c held. inl held }
 
 -- the queues don't have what comes next
-pub next_is_new : (ops : List Op) (prios : List ℕ) (q q1 : Queues) (js : List ℕ) (i j : ℕ) → Admits ops prios q q1 (take i js) → AreApart js → i < length js → j ≡ get_or js i 0
+pub next_is_new : (ops : List Op) (prios : List ℕ) (q q1 : Queues) (js : List ℕ) (i j : ℕ)
+    → Admits ops prios q q1 (take i js) → AreApart js → i < length js → j ≡ get_or js i 0
     → ((j : ℕ) (k : Class) → In js j → HasNone (candidates q k) j) → (k : Class) → HasNone (candidates q1 k) j
 next_is_new ops prios q q1 js i j admits apart below is new k c held same = elim (admits.was k c held) [
   | inl old ↦ new j k (subst (λ y. In js y) (sym is) (in_at js i below)) c old same
   | inr come ↦ taken_before js i apart below (subst (λ y. In (take i js) y) (same ∙ is) come.0)
 ]
 
-pub admits_more : (ops : List Op) (prios : List ℕ) (q q1 q2 : Queues) (js : List ℕ) (i j : ℕ) (k : Class) (c : Candidate) → Admits ops prios q q1 (take i js) → i < length js → j ≡ get_or js i 0
+pub admits_more : (ops : List Op) (prios : List ℕ) (q q1 q2 : Queues) (js : List ℕ) (i j : ℕ) (k : Class)
+    (c : Candidate) → Admits ops prios q q1 (take i js) → i < length js → j ≡ get_or js i 0
     → k ≡ class_at ops j → c ≡ candidate_at prios j → AddsTo q1 q2 k c → Admits ops prios q q2 (take (i + 1) js)
 admits_more ops prios q q1 q2 js i j k c admits below is class candidate adds =
     subst (λ taken. Admits ops prios q q2 taken) (sym (taken_more js i below)) (record {
@@ -54,13 +56,18 @@ admits_more ops prios q q1 q2 js i j k c admits below is class candidate adds =
           | inl last ↦
               let same : j ≡ n = is ∙ last in
               subst (λ m. In (candidates q2 (class_at ops m)) (candidate_at prios m)) same
-              (subst (λ d. In (candidates q2 (class_at ops j)) d) candidate (subst (λ l. In (candidates q2 l) c) class adds.there))
+              (subst (λ d. In (candidates q2 (class_at ops j)) d) candidate
+              (subst (λ l. In (candidates q2 l) c) class adds.there))
           | inr none ↦ absurd none
         ]
       ];
       stays = λ l d held. adds.stays l d (admits.stays l d held);
       was = λ l d held. elim (adds.was l d held) [
-        | inl old ↦ elim (admits.was l d old) [ inl first ↦ inl first | inr come ↦ inr (in_front (take i js) (get_or js i 0 ∷ []) d.number.0 come.0, come.1, come.2) ]
+        | inl old ↦ elim (admits.was l d old) [
+          | inl first ↦ inl first
+          | inr come ↦
+              inr (in_front (take i js) (get_or js i 0 ∷ []) d.number.0 come.0, come.1, come.2)
+        ]
         | inr new ↦
             let number : d.number.0 ≡ j = ap (λ (e : Candidate). e.number.0) (new.1 ∙ candidate) in
             inr (
@@ -71,7 +78,8 @@ admits_more ops prios q q1 q2 js i j k c admits below is class candidate adds =
       ];
     })
 
-module _ (ops : List Op) (prios : List ℕ) (graph : Graph) (w : Progress) (c : ℕ) (q : Queues) (is : IsGraph graph) (waits : Waits graph w c 0 None) (queued : IsQueued ops prios graph w c q) where
+module _ (ops : List Op) (prios : List ℕ) (graph : Graph) (w : Progress) (c : ℕ) (q : Queues) (is : IsGraph graph)
+    (waits : Waits graph w c 0 None) (queued : IsQueued ops prios graph w c q) where
   -- what becomes ready at cycle c isn't in the queues yet
   pub due_is_new : (j : ℕ) (k : Class) → In (w.bucket (c % 32)) j → HasNone (candidates q k) j
   due_is_new j k due d held same =
@@ -81,12 +89,14 @@ module _ (ops : List Op) (prios : List ℕ) (graph : Graph) (w : Progress) (c : 
       let e : w.earliest d.number.0 ≡ w.earliest j = ap w.earliest same in
       absurd (omega arith)
 
-  pub queued_with_due : (q' : Queues) (bucket' : ℕ → List ℕ) → Admits ops prios q q' (w.bucket (c % 32)) → IsQueued ops prios graph (record w { bucket = bucket' }) (c + 1) q'
+  pub queued_with_due : (q' : Queues) (bucket' : ℕ → List ℕ) → Admits ops prios q q' (w.bucket (c % 32))
+      → IsQueued ops prios graph (record w { bucket = bucket' }) (c + 1) q'
   queued_with_due q' bucket' admits = record {
-    has = λ j can. elim (then_due graph w c waits j (record { there = can.there; waiting = can.waiting; past_all = can.past_all; soon = can.soon })) [
-      | inl before ↦ admits.stays _ _ (queued.has j before)
-      | inr due ↦ admits.comes j due
-    ];
+    has = λ j can. elim (then_due graph w c waits j
+        (record { there = can.there; waiting = can.waiting; past_all = can.past_all; soon = can.soon })) [
+          | inl before ↦ admits.stays _ _ (queued.has j before)
+          | inr due ↦ admits.comes j due
+        ];
     only = λ k d held. elim (admits.was k d held) [
       | inl old ↦
           let h = queued.only k d old in
@@ -99,18 +109,23 @@ module _ (ops : List Op) (prios : List ℕ) (graph : Graph) (w : Progress) (c : 
   }
 
 -- the queues once a choice was taken and issued
-pub queued_after : (ops : List Op) (prios : List ℕ) (graph : Graph) (w w' : Progress) (c : ℕ) (q q' : Queues) (choice : Choice) → IsGraph graph
-    → Waits graph w (c + 1) 0 None → Waits graph w' (c + 1) 0 None → w'.issued choice.candidate.number.0 ≡ Some c → ((k : ℕ) → k ≢ choice.candidate.number.0 → w'.issued k ≡ w.issued k) → KeepsPlaces graph w w'
-    → In (candidates q choice.class) choice.candidate → Takes q q' choice → IsQueued ops prios graph w (c + 1) q → IsQueued ops prios graph w' (c + 1) q'
+pub queued_after : (ops : List Op) (prios : List ℕ) (graph : Graph) (w w' : Progress) (c : ℕ) (q q' : Queues)
+    (choice : Choice) → IsGraph graph
+    → Waits graph w (c + 1) 0 None → Waits graph w' (c + 1) 0 None → w'.issued choice.candidate.number.0 ≡ Some c
+    → ((k : ℕ) → k ≢ choice.candidate.number.0 → w'.issued k ≡ w.issued k) → KeepsPlaces graph w w'
+    → In (candidates q choice.class) choice.candidate → Takes q q' choice → IsQueued ops prios graph w (c + 1) q
+    → IsQueued ops prios graph w' (c + 1) q'
 queued_after ops prios graph w w' c q q' choice is waits waits' at others keeps held takes queued =
     let n : ℕ = choice.candidate.number.0 in
     record {
       has = λ j can.
-          let before : (j ≢ n) × CanIssue graph w (c + 1) j = can_issue_back graph w w' c n is waits waits' at others keeps j can in
+          let before : (j ≢ n) × CanIssue graph w (c + 1) j =
+          can_issue_back graph w w' c n is waits waits' at others keeps j can in
           takes.stays (class_at ops j) (candidate_at prios j) (queued.has j before.1) (λ _ same. before.0 same);
       only = λ k d there.
           let old : In (candidates q k) d × (k ≡ choice.class → d.number.0 ≡ n → ⊥) = takes.was k d there in
           let h = queued.only k d old.0 in
-          let apart : d.number.0 ≢ n = (λ same. old.1 (sym h.1 ∙ ap (λ m. class_at ops m) same ∙ (queued.only choice.class choice.candidate held).1) same) in
+          let apart : d.number.0 ≢ n = (λ same. old.1 (sym h.1 ∙ ap (λ m. class_at ops m) same
+          ∙ (queued.only choice.class choice.candidate held).1) same) in
           (can_issue_still graph w w' c n is waits waits' at others keeps d.number.0 apart h.0, h.1, h.2);
     }

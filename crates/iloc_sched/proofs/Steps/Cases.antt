@@ -14,7 +14,11 @@ by_lt a b below above = elim (cases_lt a b) [ inl l ↦ below l | inr l ↦ abov
 
 pub by_option : {X P : Type 0} → (o : Option X) → (o ≡ None → P) → ((x : X) → o ≡ Some x → P) → P
 by_option {X} {P} o none some =
-    elim o as (λ v. (v ≡ None → P) → ((x : X) → v ≡ Some x → P) → P) [ None ↦ λ f g. f refl | Some x ↦ λ f g. g x refl ] none some
+    elim o as (λ v. (v ≡ None → P) → ((x : X) → v ≡ Some x → P) → P) [
+      | None ↦ λ f g. f refl
+      | Some x ↦
+          λ f g. g x refl
+    ] none some
 
 pub not_both : {X P : Type 0} → (o : Option X) (x : X) → o ≡ None → o ≡ Some x → P
 not_both o x none some = cc

@@ -7,7 +7,8 @@ pub last_none : (P : ℕ → Type 0) → IsLast P 0 None
 last_none P = λ k below here. absurd (omega arith)
 
 -- it depends only on what holds below n
-pub last_same : (P Q : ℕ → Type 0) (n : ℕ) (o : Option ℕ) → ((k : ℕ) → k < n → P k → Q k) → ((k : ℕ) → k < n → Q k → P k) → IsLast P n o → IsLast Q n o
+pub last_same : (P Q : ℕ → Type 0) (n : ℕ) (o : Option ℕ) → ((k : ℕ) → k < n → P k → Q k)
+    → ((k : ℕ) → k < n → Q k → P k) → IsLast P n o → IsLast Q n o
 last_same P Q n None to back last = λ k below here. last k below (back k below here)
 last_same P Q n (Some m) to back last =
     (last.0, to m last.0 last.1, λ k after below here. last.2 k after below (back k below here))
@@ -31,7 +32,8 @@ last_before P n (Some m) not last =
     )
 
 -- with nothing after it, it is the last
-pub last_is : (P : ℕ → Type 0) (n : ℕ) (o : Option ℕ) (i : ℕ) → IsLast P n o → i < n → P i → ((k : ℕ) → i < k → k < n → P k → ⊥) → o ≡ Some i
+pub last_is : (P : ℕ → Type 0) (n : ℕ) (o : Option ℕ) (i : ℕ) → IsLast P n o → i < n → P i
+    → ((k : ℕ) → i < k → k < n → P k → ⊥) → o ≡ Some i
 last_is P n None i last below here none = absurd (last i below here)
 last_is P n (Some m) i last below here none =
     by_eq m i

@@ -52,7 +52,8 @@ over_load lat K.Output d held = absurd held
 over_load lat K.Other d held = absurd held
 
 -- b takes the place of a, so what a delays is delayed by way of b
-by_way : (lat : Latencies) (a b c : Kind) (d : ℕ) → (if is_output a then is_output b else is_store b) ≡ true → In (kind_delays lat a c) d → In (kind_delays lat a b) 1 × Follows lat b c d
+by_way : (lat : Latencies) (a b c : Kind) (d : ℕ) → (if is_output a then is_output b else is_store b) ≡ true
+    → In (kind_delays lat a c) d → In (kind_delays lat a b) 1 × Follows lat b c d
 by_way lat K.Output K.Output c d takes held = (inl refl, over_output lat c d held)
 by_way lat K.Load K.Store c d takes held = (inl refl, over_load lat c d held)
 by_way lat K.Store K.Store c d takes held = (inl refl, over_store lat c d held)
@@ -80,12 +81,17 @@ by_way lat K.Other K.Output c d takes held = cc
 by_way lat K.Other K.Other c d takes held = cc
 
 -- one between that passes, or none
-passes_between : (test : ℕ → Bool) (a b : ℕ) → ((k : ℕ) × (a < k) × (k < b) × (test k ≡ true)) ⊎ ((k : ℕ) → a < k → k < b → test k ≡ false)
+passes_between : (test : ℕ → Bool) (a b : ℕ) → ((k : ℕ) × (a < k) × (k < b) × (test k ≡ true))
+    ⊎ ((k : ℕ) → a < k → k < b → test k ≡ false)
 passes_between test a zero = inr (λ k after before. absurd (omega arith))
 passes_between test a (suc b) = elim (passes_between test a b) [
   | inl found ↦ inl (found.0, found.1, let below : found.0 < b = found.2 in omega arith, found.3)
   | inr none ↦ by_bool (test b)
-      (λ passes. elim (cases_lt a b) [ inl after ↦ inl (b, after, omega arith, passes) | inr early ↦ inr (λ k after before. absurd (omega arith)) ])
+      (λ passes. elim (cases_lt a b) [
+        | inl after ↦ inl (b, after, omega arith, passes)
+        | inr early ↦
+            inr (λ k after before. absurd (omega arith))
+      ])
       (λ fails. inr (λ k after before. by_eq k b (λ same. ap test same ∙ fails) (λ apart. none k after (omega arith))))
 ]
 
@@ -102,23 +108,38 @@ in_when true x d (inl is) = (refl, sym is)
 in_when true x d (inr none) = absurd none
 in_when false x d held = absurd held
 
-goes_by : (lat : Latencies) (ops : List Op) (i j k d : ℕ) → i < k → k < j → j < length ops → takes_over (op_at ops i) (op_at ops k) ≡ true → In (memory_delays lat (op_at ops i) (op_at ops j)) d → GoesBy lat ops i j d
+goes_by : (lat : Latencies) (ops : List Op) (i j k d : ℕ) → i < k → k < j → j < length ops
+    → takes_over (op_at ops i) (op_at ops k) ≡ true → In (memory_delays lat (op_at ops i) (op_at ops j)) d
+    → GoesBy lat ops i j d
 goes_by lat ops i j k d after before within takes held =
-    let way : In (kind_delays lat (kind (op_at ops i)) (kind (op_at ops k))) 1 × Follows lat (kind (op_at ops k)) (kind (op_at ops j)) d =
+    let way : In (kind_delays lat (kind (op_at ops i)) (kind (op_at ops k))) 1
+    × Follows lat (kind (op_at ops k)) (kind (op_at ops j)) d =
     by_way lat (kind (op_at ops i)) (kind (op_at ops k)) (kind (op_at ops j)) d takes held in
     let rest : Follows lat (kind (op_at ops k)) (kind (op_at ops j)) d = way.1 in
     record {
       way = k;
       first_delay = 1;
       second_delay = rest.0;
-      first = record { order = after; within = omega arith; delay = contains_from _ _ (in_back (when (uses_result (op_at ops i) (op_at ops k)) (latency lat (op_at ops i))) _ 1 way.0) };
-      second = record { order = before; within = within; delay = contains_from _ _ (in_back (when (uses_result (op_at ops k) (op_at ops j)) (latency lat (op_at ops k))) _ rest.0 rest.1) };
+      first = record {
+        order = after;
+        within = omega arith;
+        delay = contains_from _ _ (in_back
+            (when (uses_result (op_at ops i) (op_at ops k)) (latency lat (op_at ops i))) _ 1 way.0);
+      };
+      second = record {
+        order = before;
+        within = within;
+        delay = contains_from _ _ (in_back
+            (when (uses_result (op_at ops k) (op_at ops j)) (latency lat (op_at ops k))) _ rest.0 rest.1);
+      };
       enough = rest.2;
     }
 
-pub near_or_by_way : (lat : Latencies) (ops : List Op) (i j d : ℕ) → IsDelayPair lat ops i j d → IsNear lat ops i j d ⊎ GoesBy lat ops i j d
+pub near_or_by_way : (lat : Latencies) (ops : List Op) (i j d : ℕ) → IsDelayPair lat ops i j d → IsNear lat ops i j d
+    ⊎ GoesBy lat ops i j d
 near_or_by_way lat ops i j d pair =
-    elim (in_either (when (uses_result (op_at ops i) (op_at ops j)) (latency lat (op_at ops i))) (memory_delays lat (op_at ops i) (op_at ops j)) d (in_from _ _ pair.delay)) [
+    elim (in_either (when (uses_result (op_at ops i) (op_at ops j)) (latency lat (op_at ops i)))
+    (memory_delays lat (op_at ops i) (op_at ops j)) d (in_from _ _ pair.delay)) [
       | inl result ↦ inl (inl (in_when _ _ _ result))
       | inr memory ↦ elim (passes_between (λ k. takes_over (op_at ops i) (op_at ops k)) i j) [
         | inl found ↦ inr (goes_by lat ops i j found.0 d found.1 found.2 pair.within found.3 memory)
@@ -136,7 +157,8 @@ module _ (lat : Latencies) (ops : List Op) (t : ℕ → ℕ) (c j : ℕ)
     | inr by ↦
         let order : i < by.way = by.first.order in
         let rest : t by.way + by.second_delay ≤ c = over_within n by.way by.second_delay (omega arith) by.second in
-        let long : 1 ≤ by.second_delay = delay_at_least lat (op_at ops by.way) (op_at ops j) by.second_delay by.second.delay in
+        let long : 1 ≤ by.second_delay = delay_at_least lat (op_at ops by.way) (op_at ops j) by.second_delay
+        by.second.delay in
         let start : t i + by.first_delay ≤ t by.way = waited i by.way by.first_delay by.first (omega arith) in
         let enough : d ≤ by.first_delay + by.second_delay = by.enough in
         omega arith

@@ -21,20 +21,30 @@ use Rattle.iloc_sched.proofs.Steps.Lists.{in_front, in_back, in_either, pushed_a
 pub no_roots : (graph : Graph) → AreRoots graph [] 0
 no_roots graph = record { all = λ j below. absurd (omega arith); only = λ j held. absurd held; apart = tt }
 
-pub roots_pushed : (graph : Graph) (js : List ℕ) (n : ℕ) → AreRoots graph js n → graph.start n ≡ graph.start (n + 1) → AreRoots graph (js ++ n ∷ []) (n + 1)
+pub roots_pushed : (graph : Graph) (js : List ℕ) (n : ℕ) → AreRoots graph js n → graph.start n ≡ graph.start (n + 1)
+    → AreRoots graph (js ++ n ∷ []) (n + 1)
 roots_pushed graph js n roots free = record {
-  all = λ j below none. by_eq j n (λ same. in_back js (n ∷ []) j (inl (sym same))) (λ apart. in_front js (n ∷ []) j (roots.all j (omega arith) none));
+  all = λ j below none. by_eq j n (λ same. in_back js (n ∷ []) j (inl (sym same)))
+      (λ apart. in_front js (n ∷ []) j (roots.all j (omega arith) none));
   only = λ j held. elim (in_either js (n ∷ []) j held) [
-    | inl old ↦ let h : (j < n) × (graph.start j ≡ graph.start (j + 1)) = roots.only j old in (let below : j < n = h.0 in omega arith, h.1)
-    | inr new ↦ elim new [ inl is ↦ (omega arith, subst (λ k. graph.start k ≡ graph.start (k + 1)) is free) | inr none ↦ absurd none ]
+    | inl old ↦ let h : (j < n) × (graph.start j ≡ graph.start (j + 1)) = roots.only j old in
+        (let below : j < n = h.0 in omega arith, h.1)
+    | inr new ↦ elim new [
+      | inl is ↦ (omega arith, subst (λ k. graph.start k ≡ graph.start (k + 1)) is free)
+      | inr none ↦
+          absurd none
+    ]
   ];
   apart = pushed_apart js n roots.apart (λ held. let h : n < n = (roots.only n held).0 in absurd (omega arith));
 }
 
-pub roots_kept : (graph : Graph) (js : List ℕ) (n : ℕ) → AreRoots graph js n → graph.start n ≢ graph.start (n + 1) → AreRoots graph js (n + 1)
+pub roots_kept : (graph : Graph) (js : List ℕ) (n : ℕ) → AreRoots graph js n → graph.start n ≢ graph.start (n + 1)
+    → AreRoots graph js (n + 1)
 roots_kept graph js n roots free = record {
-  all = λ j below none. by_eq j n (λ same. absurd (free (subst (λ k. graph.start k ≡ graph.start (k + 1)) same none))) (λ apart. roots.all j (omega arith) none);
-  only = λ j held. let h : (j < n) × (graph.start j ≡ graph.start (j + 1)) = roots.only j held in (let below : j < n = h.0 in omega arith, h.1);
+  all = λ j below none. by_eq j n (λ same. absurd (free (subst (λ k. graph.start k ≡ graph.start (k + 1)) same none)))
+      (λ apart. roots.all j (omega arith) none);
+  only = λ j held. let h : (j < n) × (graph.start j ≡ graph.start (j + 1)) = roots.only j held in
+      (let below : j < n = h.0 in omega arith, h.1);
   apart = roots.apart;
 }
 
@@ -44,7 +54,8 @@ read_front (x ∷ xs) y d zero below = refl
 read_front (x ∷ xs) y d (suc k) below = read_front xs y d k (omega arith)
 
 -- an empty bucket more
-pub bucket_pushed : (wheel : List (Vec ℕ)) (v : Vec ℕ) (b : ℕ) → v.items ≡ [] → bucket_at (wheel ++ v ∷ []) b ≡ bucket_at wheel b
+pub bucket_pushed : (wheel : List (Vec ℕ)) (v : Vec ℕ) (b : ℕ) → v.items ≡ []
+    → bucket_at (wheel ++ v ∷ []) b ≡ bucket_at wheel b
 bucket_pushed [] v zero empty = empty
 bucket_pushed [] v (suc b) empty = refl
 bucket_pushed (w ∷ wheel) v zero empty = refl
@@ -72,15 +83,19 @@ pub count_replicate : (n : ℕ) → count_by is_none (replicate n not_issued) �
 count_replicate zero = refl
 count_replicate (suc n) =
     let rest : count_by is_none (replicate n not_issued) ≡ n = count_replicate n in
-    let step : count_by is_none (not_issued ∷ replicate n not_issued) ≡ 1 + count_by is_none (replicate n not_issued) = sum_by-cons (λ (o : Option ℕ). cond (is_none o) 1 0) not_issued (replicate n not_issued) in
+    let step : count_by is_none (not_issued ∷ replicate n not_issued) ≡ 1 + count_by is_none (replicate n not_issued) =
+    sum_by-cons (λ (o : Option ℕ). cond (is_none o) 1 0) not_issued (replicate n not_issued) in
     omega arith
 
 -- an empty list that is filled up
-pub filled_up : {X : Type 0} (xs ys : List X) (n m : ℕ) (x : X) → ys ≡ take n xs ++ replicate m x → xs ≡ [] → ys ≡ replicate m x
-filled_up xs ys n m x is empty = is ∙ ap (λ zs. take n zs ++ replicate m x) empty ∙ ap (λ zs. zs ++ replicate m x) (take-nil n)
+pub filled_up : {X : Type 0} (xs ys : List X) (n m : ℕ) (x : X) → ys ≡ take n xs ++ replicate m x → xs ≡ []
+    → ys ≡ replicate m x
+filled_up xs ys n m x is empty = is ∙ ap (λ zs. take n zs ++ replicate m x) empty
+    ∙ ap (λ zs. zs ++ replicate m x) (take-nil n)
 
 -- nothing is issued yet
-pub opened : (graph : Graph) (w : Progress) → IsGraph graph → ((j : ℕ) → w.issued j ≡ None) → ((j : ℕ) → j < graph.ops → w.watch j ≡ graph.start j) → ((j : ℕ) → w.earliest j ≡ 0)
+pub opened : (graph : Graph) (w : Progress) → IsGraph graph → ((j : ℕ) → w.issued j ≡ None)
+    → ((j : ℕ) → j < graph.ops → w.watch j ≡ graph.start j) → ((j : ℕ) → w.earliest j ≡ 0)
     → AreRoots graph (w.bucket 0) graph.ops → ((b : ℕ) → b ≢ 0 → w.bucket b ≡ []) → Waits graph w 0 0 None
 opened graph w is none watch earliest roots others = record {
   reach = λ j there.
@@ -94,17 +109,22 @@ opened graph w is none watch earliest roots others = record {
   stuck = λ j there left. inl (none (graph.from (w.watch j)));
   complete = λ j t there was. not_both (w.issued j) t (none j) was;
   times = λ j t there was. not_both (w.issued j) t (none j) was;
-  waits = λ j there waiting all late. subst (λ b. In (w.bucket b) j) (sym (ap (λ e. e % 32) (earliest j))) (roots.all j there (sym (watch j there) ∙ all));
+  waits = λ j there waiting all late. subst (λ b. In (w.bucket b) j) (sym (ap (λ e. e % 32) (earliest j)))
+      (roots.all j there (sym (watch j there) ∙ all));
   only = λ b j small held. by_eq b 0
       (λ same.
-      let h : (j < graph.ops) × (graph.start j ≡ graph.start (j + 1)) = roots.only j (subst (λ a. In (w.bucket a) j) same held) in
+      let h : (j < graph.ops) × (graph.start j ≡ graph.start (j + 1)) =
+      roots.only j (subst (λ a. In (w.bucket a) j) same held) in
       (h.0, none j, watch j h.0 ∙ h.1, omega arith, ap (λ e. e % 32) (earliest j) ∙ sym same))
       (λ apart. absurd (subst (λ js. In js j) (others b apart) held));
-  apart = λ b small. by_eq b 0 (λ same. subst (λ a. AreApart (w.bucket a)) (sym same) roots.apart) (λ apart. subst AreApart (sym (others b apart)) tt);
+  apart = λ b small. by_eq b 0 (λ same. subst (λ a. AreApart (w.bucket a)) (sym same) roots.apart)
+      (λ apart. subst AreApart (sym (others b apart)) tt);
 }
 
 -- no row yet
-pub so_far_opened : (p : Plan) (w : Waiting) (q : Queues) → Waits (graph_of p.edges) (progress_of w) 0 0 None → IsSized p.edges w → ((j : ℕ) → (progress_of w).issued j ≡ None) → ((k : Class) → candidates q k ≡ []) → IsSoFar p w q []
+pub so_far_opened : (p : Plan) (w : Waiting) (q : Queues) → Waits (graph_of p.edges) (progress_of w) 0 0 None
+    → IsSized p.edges w → ((j : ℕ) → (progress_of w).issued j ≡ None) → ((k : Class) → candidates q k ≡ [])
+    → IsSoFar p w q []
 so_far_opened p w q waits sized none empty = record {
   under_way = record {
     sized = sized;

@@ -15,9 +15,11 @@ use Rattle.iloc_sched.proofs.DelayFacts.{delay_at_least, delay_at_most}
 use Rattle.iloc_sched.proofs.Steps.Cases.{by_eq, by_lt}
 use Rattle.iloc_sched.proofs.Steps.LastOnes.{last_same, last_here, last_before}
 
-pair_along : (lat : Latencies) (ops : List Op) (i i' j j' d d' : ℕ) → i' ≡ i → j' ≡ j → d' ≡ d → IsDelayPair lat ops i j d → IsDelayPair lat ops i' j' d'
+pair_along : (lat : Latencies) (ops : List Op) (i i' j j' d d' : ℕ) → i' ≡ i → j' ≡ j → d' ≡ d
+    → IsDelayPair lat ops i j d → IsDelayPair lat ops i' j' d'
 pair_along lat ops i i' j j' d d' i_is j_is d_is pair =
-    subst (λ x. IsDelayPair lat ops x j' d') (sym i_is) (subst (λ x. IsDelayPair lat ops i x d') (sym j_is) (subst (λ x. IsDelayPair lat ops i j x) (sym d_is) pair))
+    subst (λ x. IsDelayPair lat ops x j' d') (sym i_is)
+    (subst (λ x. IsDelayPair lat ops i x d') (sym j_is) (subst (λ x. IsDelayPair lat ops i j x) (sym d_is) pair))
 
 -- one edge more
 module _ (lat : Latencies) (ops : List Op) (graph graph' : Graph) (i j d : ℕ) (is : IsPartialGraph lat ops graph j)
@@ -92,16 +94,20 @@ module _ (lat : Latencies) (ops : List Op) (graph graph' : Graph) (i j d : ℕ) 
         let first : graph'.start j ≡ graph.start j = more.start j in
         let early : x < graph.start j = omega arith in
         let same : graph'.to x ≡ graph.to x = more.to x (earlier_there x early) in
-        let old : (graph.to x < j) × (graph.start (graph.to x) ≤ x) × (x < graph.start (graph.to x + 1)) = is.to_there x early in
-        let begin : graph'.start (graph'.to x) ≡ graph.start (graph.to x) = more.start (graph'.to x) ∙ ap graph.start same in
-        let end : graph'.start (graph'.to x + 1) ≡ graph.start (graph.to x + 1) = more.start (graph'.to x + 1) ∙ ap (λ t. graph.start (t + 1)) same in
+        let old : (graph.to x < j) × (graph.start (graph.to x) ≤ x) × (x < graph.start (graph.to x + 1)) =
+        is.to_there x early in
+        let begin : graph'.start (graph'.to x) ≡ graph.start (graph.to x) = more.start (graph'.to x)
+        ∙ ap graph.start same in
+        let end : graph'.start (graph'.to x + 1) ≡ graph.start (graph.to x + 1) = more.start (graph'.to x + 1)
+        ∙ ap (λ t. graph.start (t + 1)) same in
         let below : graph.to x < j = old.0 in
         let after : graph.start (graph.to x) ≤ x = old.1 in
         let until : x < graph.start (graph.to x + 1) = old.2 in
         (omega arith, omega arith, omega arith);
     sound = λ x there.
         by_lt x graph.count
-        (λ before. pair_along lat ops _ _ _ _ _ _ (more.from x before) (more.to x before) (more.delay x before) (is.sound x before))
+        (λ before. pair_along lat ops _ _ _ _ _ _ (more.from x before) (more.to x before) (more.delay x before)
+        (is.sound x before))
         (λ after.
         subst (λ z. IsDelayPair lat ops (graph'.from z) (graph'.to z) (graph'.delay z)) (sym (last_place x there after))
         (pair_along lat ops _ _ _ _ _ _ more.last_from more.last_to more.last_delay pair));
@@ -145,13 +151,25 @@ module _ (lat : Latencies) (ops : List Op) (graph graph' : Graph) (i j d : ℕ) 
       let size : graph'.count ≡ graph.count + 1 = more.count in
       let top : graph.start j ≤ graph.count = is.top in
       let same : graph'.delay graph.count ≡ d = more.last_delay in
-      record { place = graph.count; after = omega arith; there = omega arith; source = more.last_from; long = omega arith }
+      record {
+        place = graph.count;
+        after = omega arith;
+        there = omega arith;
+        source = more.last_from;
+        long = omega arith;
+      }
 
-pub grows_none : (lat : Latencies) (ops : List Op) (graph : Graph) (j : ℕ) → IsPartialGraph lat ops graph j → Grows lat ops graph graph j
+pub grows_none : (lat : Latencies) (ops : List Op) (graph : Graph) (j : ℕ) → IsPartialGraph lat ops graph j
+    → Grows lat ops graph graph j
 grows_none lat ops graph j is = record { partial = is; keeps = λ i d edge. edge }
 
-pub grows_then : (lat : Latencies) (ops : List Op) (a b c : Graph) (j : ℕ) → Grows lat ops a b j → Grows lat ops b c j → Grows lat ops a c j
-grows_then lat ops a b c j first second = record { partial = second.partial; keeps = λ i d edge. second.keeps i d (first.keeps i d edge) }
+pub grows_then : (lat : Latencies) (ops : List Op) (a b c : Graph) (j : ℕ) → Grows lat ops a b j → Grows lat ops b c j
+    → Grows lat ops a c j
+grows_then lat ops a b c j first second = record {
+  partial = second.partial;
+  keeps = λ i d edge.
+      second.keeps i d (first.keeps i d edge);
+}
 
 -- the edges into j are all there, and those into the next operation begin behind them
 module _ (lat : Latencies) (ops : List Op) (graph : Graph) (j : ℕ) (is : IsPartialGraph lat ops graph j)
@@ -192,11 +210,13 @@ module _ (lat : Latencies) (ops : List Op) (graph : Graph) (j : ℕ) (is : IsPar
       let second : start' (b + 1) ≡ graph.start (b + 1) = starts (b + 1) (omega arith) in
       is.into b x (omega arith) (omega arith) (omega arith))
 
-  to_there_more : (x : ℕ) → x < start' (j + 1) → (graph.to x < j + 1) × (start' (graph.to x) ≤ x) × (x < start' (graph.to x + 1))
+  to_there_more : (x : ℕ) → x < start' (j + 1) → (graph.to x < j + 1) × (start' (graph.to x) ≤ x)
+      × (x < start' (graph.to x + 1))
   to_there_more x there =
       by_lt x (graph.start j)
       (λ before.
-      let old : (graph.to x < j) × (graph.start (graph.to x) ≤ x) × (x < graph.start (graph.to x + 1)) = is.to_there x before in
+      let old : (graph.to x < j) × (graph.start (graph.to x) ≤ x) × (x < graph.start (graph.to x + 1)) =
+      is.to_there x before in
       let below : graph.to x < j = old.0 in
       let after : graph.start (graph.to x) ≤ x = old.1 in
       let until : x < graph.start (graph.to x + 1) = old.2 in
@@ -209,11 +229,13 @@ module _ (lat : Latencies) (ops : List Op) (graph : Graph) (j : ℕ) (is : IsPar
       let second : start' (graph.to x + 1) ≡ graph.count = ap (λ k. start' (k + 1)) same ∙ end in
       (omega arith, omega arith, omega arith))
 
-  all_more : (i b d : ℕ) → b < j + 1 → IsDelayPair lat ops i b d → IsNear lat ops i b d → (x : ℕ) × (x < start' (j + 1)) × (graph.to x ≡ b) × (graph.from x ≡ i) × (d ≤ graph.delay x)
+  all_more : (i b d : ℕ) → b < j + 1 → IsDelayPair lat ops i b d → IsNear lat ops i b d → (x : ℕ) × (x < start' (j + 1))
+      × (graph.to x ≡ b) × (graph.from x ≡ i) × (d ≤ graph.delay x)
   all_more i b d below pair is_near =
       by_eq b j
       (λ same.
-      let edge : HasEdge graph j i d = near i d (subst (λ k. IsDelayPair lat ops i k d) same pair) (subst (λ k. IsNear lat ops i k d) same is_near) in
+      let edge : HasEdge graph j i d = near i d (subst (λ k. IsDelayPair lat ops i k d) same pair)
+      (subst (λ k. IsNear lat ops i k d) same is_near) in
       let there : edge.place < graph.count = edge.there in
       (edge.place, omega arith, is.into_last edge.place edge.after there ∙ sym same, edge.source, edge.long))
       (λ apart.
@@ -267,14 +289,18 @@ module _ (lat : Latencies) (ops : List Op) (graph : Graph) (is : IsPartialGraph 
       last = ap graph.start is.size ∙ at_end;
       into = λ j x below. is.into j x (subst (λ n. j < n) is.size below);
       to_there = λ x there.
-          let h : (graph.to x < length ops) × (graph.start (graph.to x) ≤ x) × (x < graph.start (graph.to x + 1)) = is.to_there x (subst (λ n. x < n) (sym at_end) there) in
+          let h : (graph.to x < length ops) × (graph.start (graph.to x) ≤ x) × (x < graph.start (graph.to x + 1)) =
+          is.to_there x (subst (λ n. x < n) (sym at_end) there) in
           (subst (λ n. graph.to x < n) (sym is.size) h.0, h.1, h.2);
       earlier = λ x there. (is.sound x there).order;
       delays = λ x there.
           let pair : IsDelayPair lat ops (graph.from x) (graph.to x) (graph.delay x) = is.sound x there in
-          let most : graph.delay x ≤ latency lat (op_at ops (graph.from x)) = delay_at_most lat (op_at ops (graph.from x)) (op_at ops (graph.to x)) (graph.delay x) pair.delay in
-          let short : latency lat (op_at ops (graph.from x)) ≤ 16 = short_latency lat (op_at ops (graph.from x)) in
-          (delay_at_least lat (op_at ops (graph.from x)) (op_at ops (graph.to x)) (graph.delay x) pair.delay, omega arith);
+          let most : graph.delay x ≤ latency lat (op_at ops (graph.from x)) =
+          delay_at_most lat (op_at ops (graph.from x)) (op_at ops (graph.to x)) (graph.delay x) pair.delay in
+          let short : latency lat (op_at ops (graph.from x)) ≤ 16 = short_latency lat (op_at ops (graph.from x)) in (
+            delay_at_least lat (op_at ops (graph.from x)) (op_at ops (graph.to x)) (graph.delay x) pair.delay,
+            omega arith,
+          );
       heads = is.heads;
       nexts = is.nexts;
     };

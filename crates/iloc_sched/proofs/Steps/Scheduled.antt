@@ -13,15 +13,21 @@ use Rattle.iloc_sched.proofs.Bounds.{priority_bound, busy_bound}
 use Rattle.iloc_sched.proofs.OneGreedy.{greedy_same}
 
 -- the same schedule by the names that callers see
-pub seen_greedy : (lat seen : Latencies) (block ops ops' : List Op) (rows rows' : List Row) → lat ≡ seen → ops' ≡ ops → rows' ≡ rows → IsGreedy lat block ops rows → IsGreedy seen block ops' rows'
+pub seen_greedy : (lat seen : Latencies) (block ops ops' : List Op) (rows rows' : List Row) → lat ≡ seen → ops' ≡ ops
+    → rows' ≡ rows → IsGreedy lat block ops rows → IsGreedy seen block ops' rows'
 seen_greedy lat seen block ops ops' rows rows' same_lat same_ops same_rows greedy =
-    subst (λ l. IsGreedy l block ops' rows') same_lat (subst (λ os. IsGreedy lat block os rows') (sym same_ops) (subst (λ rs. IsGreedy lat block ops rs) (sym same_rows) greedy))
+    subst (λ l. IsGreedy l block ops' rows') same_lat
+    (subst (λ os. IsGreedy lat block os rows') (sym same_ops)
+    (subst (λ rs. IsGreedy lat block ops rs) (sym same_rows) greedy))
 
-pub greedy_only : (lat : Latencies) (block ops ops' : List Op) (rows rows' : List Row) → IsGreedy lat block ops rows → IsGreedy lat block ops' rows' → (ops' ≡ ops) × (rows' ≡ rows)
+pub greedy_only : (lat : Latencies) (block ops ops' : List Op) (rows rows' : List Row) → IsGreedy lat block ops rows
+    → IsGreedy lat block ops' rows' → (ops' ≡ ops) × (rows' ≡ rows)
 greedy_only lat block ops ops' rows rows' greedy other = greedy_same lat block ops' ops rows' rows other greedy
 
-pub greedy_least : (lat : Latencies) (block ops : List Op) (rows : List Row) → IsGreedy lat block ops rows → (i : ℕ) → i < length ops → issue_cycle rows i + priority lat ops i ≤ cycles lat ops rows
+pub greedy_least : (lat : Latencies) (block ops : List Op) (rows : List Row) → IsGreedy lat block ops rows → (i : ℕ)
+    → i < length ops → issue_cycle rows i + priority lat ops i ≤ cycles lat ops rows
 greedy_least lat block ops rows greedy i below = priority_bound lat ops rows greedy.lawful.waits i below
 
-pub greedy_most : (lat : Latencies) (block ops : List Op) (rows : List Row) → IsGreedy lat block ops rows → cycles lat ops rows ≤ sum_by (latency lat) ops
+pub greedy_most : (lat : Latencies) (block ops : List Op) (rows : List Row) → IsGreedy lat block ops rows
+    → cycles lat ops rows ≤ sum_by (latency lat) ops
 greedy_most lat block ops rows greedy = busy_bound lat block ops rows greedy

@@ -7,13 +7,17 @@ use Rattle.iloc_board.proofs.Laws.{within_final}
 use Rattle.iloc_board.proofs.machine.play.Goals as goal
 
 pub step-requires-clause-costs : goal.step-requires-clause-costs
-step-requires-clause-costs c = ap length c.loop-step.invariant.shows.costs_are ∙ (length-costs_final c.args.count (take c.loop-step.step-index c.args.steps.now) ∙ sym c.loop-step.invariant.same)
+step-requires-clause-costs c = ap length c.loop-step.invariant.shows.costs_are
+    ∙ (length-costs_final c.args.count (take c.loop-step.step-index c.args.steps.now) ∙ sym c.loop-step.invariant.same)
 
 pub step-requires-clause-within : goal.step-requires-clause-within
 step-requires-clause-within c = λ q.
     let P : State → Type 0 = λ s. IsWithin c.loop-step.machine.count s in
-    let Q : ℕ → Type 0 = λ n. IsWithin n ((final c.args.count (take c.loop-step.step-index c.args.steps.now)).state q) in
-    subst P (sym (c.loop-step.invariant.shows.states_are q)) (subst Q (sym c.loop-step.invariant.same) (within_final c.args.count (take c.loop-step.step-index c.args.steps.now) q))
+    let Q : ℕ → Type 0 = λ n. IsWithin n ((final c.args.count (take c.loop-step.step-index c.args.steps.now)).state
+    q) in
+    subst P (sym (c.loop-step.invariant.shows.states_are q))
+    (subst Q (sym c.loop-step.invariant.same)
+    (within_final c.args.count (take c.loop-step.step-index c.args.steps.now) q))
 
 pub loop-step-preserved : goal.loop-step-preserved
 loop-step-preserved c =
@@ -24,5 +28,6 @@ loop-step-preserved c =
     record {
       same = made.1 ∙ same;
       shows = shows_more c.args.count _ c.args.steps.now c.loop-step.step-index _ here same _ _ _ made.2;
-      told = c.in_ok-push.ensures.items ∙ told_more c.args.count _ c.args.steps.now c.loop-step.step-index _ here same _ _ c.loop-step.invariant.told made.0;
+      told = c.in_ok-push.ensures.items ∙ told_more c.args.count _ c.args.steps.now c.loop-step.step-index _ here same _
+          _ c.loop-step.invariant.told made.0;
     }

@@ -5,5 +5,10 @@ use Rattle.iloc_line.proofs.line.latency_in.Goals as goal
 
 pub returns : goal.returns
 returns c =
-    let got = one_read c.args.option.now (found_of c.args.given.now) 1 16 c.args.usual c.get_one.result (lit< tt) c.requires.known.0 c.requires.known.1 c.requires.held c.get_one.ensures.none c.get_one.ensures.value in
-    record { value = c.unwrap_or.ensures ∙ got.value; within = (rw c.unwrap_or.ensures got.at_least, rw c.unwrap_or.ensures got.at_most) }
+    let got = one_read c.args.option.now (found_of c.args.given.now) 1 16 c.args.usual c.get_one.result
+    (lit< tt) c.requires.known.0 c.requires.known.1 c.requires.held c.get_one.ensures.none
+    c.get_one.ensures.value in
+    record {
+      value = c.unwrap_or.ensures ∙ got.value;
+      within = (rw c.unwrap_or.ensures got.at_least, rw c.unwrap_or.ensures got.at_most);
+    }

@@ -29,7 +29,8 @@ loop-value-preserved c =
     let got = value_read _ _ c.in-Some-value.value c.in-Some-value.ensures.steps c.loop-value.invariant.in_range in
     let same = ok_same got.0 c.unwrap.result c.in-Some-value.value got.1 c.unwrap.ensures in
     record {
-      numbers = one_more c.loop-value.words.items c.push.new.self.items _ _ _ c.unwrap.result got.0 c.in_ok-push.ensures.items got.2 same c.loop-value.invariant.numbers;
+      numbers = one_more c.loop-value.words.items c.push.new.self.items _ _ _ c.unwrap.result got.0
+          c.in_ok-push.ensures.items got.2 same c.loop-value.invariant.numbers;
       in_range = got.3;
     }
 
@@ -37,7 +38,9 @@ pub returns : goal.returns
 returns c = elim c.match-get_many.branch [
   | in-Some+in-None w ↦
       let none = no_value _ _ w.in-None.ensures.steps in
-      ap (λ v. v.items) w.words-is ∙ (sym (append-nil w.loop-value.words.items) ∙ (ap (λ l. w.loop-value.words.items ++ l) (sym none) ∙ w.loop-value.invariant.numbers))
+      ap (λ v. v.items) w.words-is ∙ (sym (append-nil w.loop-value.words.items)
+      ∙ (ap (λ l. w.loop-value.words.items ++ l) (sym none) ∙ w.loop-value.invariant.numbers))
   | in_default w ↦
-      ap (λ v. v.items) w.words-is ∙ (c.new-words.ensures.items ∙ sym (many_none (found_of c.args.given.now) (codes "words") w.in_default.ensures))
+      ap (λ v. v.items) w.words-is ∙ (c.new-words.ensures.items
+      ∙ sym (many_none (found_of c.args.given.now) (codes "words") w.in_default.ensures))
 ]

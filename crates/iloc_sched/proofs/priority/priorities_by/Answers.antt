@@ -12,7 +12,8 @@ loop-x-init c =
     let graph : Graph = graph_of c.args.edges.now in
     let all : c.len-x.result ≡ graph.count = omega arith in
     subst (λ x. IsRaised c.args.latencies.now c.args.ops.now graph c.in_ok-prios.prios.items x) (sym all)
-    (raised_none c.args.latencies.now c.args.ops.now graph c.requires.graph c.in_ok-prios.prios.items c.in_ok-prios.ensures)
+    (raised_none c.args.latencies.now c.args.ops.now graph c.requires.graph c.in_ok-prios.prios.items
+    c.in_ok-prios.ensures)
 
 pub overflow_add-through : goal.overflow_add-through
 overflow_add-through c =
@@ -21,7 +22,8 @@ overflow_add-through c =
     let x : ℕ = c.loop-x.x - 1 in
     let prios : List ℕ = c.loop-x.prios.items in
     let below : x < length e.edges.items = omega arith in
-    let edge : c.index-edge.result.now ≡ edge_at e x = edge_read e x c.index-edge.result.now below c.index-edge.ensures in
+    let edge : c.index-edge.result.now ≡ edge_at e x =
+    edge_read e x c.index-edge.result.now below c.index-edge.ensures in
     let to_is : c.index-edge.result.now.to ≡ graph.to x = ap (λ (d : Edge). d.to) edge in
     let delay_is : c.index-edge.result.now.delay ≡ graph.delay x = ap (λ (d : Edge). d.delay) edge in
     let short : graph.delay x ≤ 16 = (c.requires.graph.is_graph.delays x below).1 in
@@ -30,9 +32,11 @@ overflow_add-through c =
     let size : length prios ≡ length c.args.ops.now = c.loop-x.invariant.size in
     let few : graph.ops ≤ 10000 = e.short in
     let within : c.index-edge.result.now.to < length prios = omega arith in
-    let read : c.index.result.now ≡ get_or prios c.index-edge.result.now.to 0 = get_or_read prios c.index-edge.result.now.to c.index.result.now within c.index.ensures 0 in
+    let read : c.index.result.now ≡ get_or prios c.index-edge.result.now.to 0 =
+    get_or_read prios c.index-edge.result.now.to c.index.result.now within c.index.ensures 0 in
     let small : get_or prios c.index-edge.result.now.to 0 ≤ 16 * length c.args.ops.now =
-    raised_small c.args.latencies.now c.args.ops.now graph c.requires.graph prios c.loop-x.x c.index-edge.result.now.to c.loop-x.invariant (omega arith) in
+    raised_small c.args.latencies.now c.args.ops.now graph c.requires.graph prios c.loop-x.x c.index-edge.result.now.to
+    c.loop-x.invariant (omega arith) in
     omega arith
 
 pub loop-x-preserved : goal.loop-x-preserved
@@ -42,7 +46,8 @@ loop-x-preserved c =
     let x : ℕ = c.loop-x.x - 1 in
     let prios : List ℕ = c.loop-x.prios.items in
     let below : x < length e.edges.items = omega arith in
-    let edge : c.index-edge.result.now ≡ edge_at e x = edge_read e x c.index-edge.result.now below c.index-edge.ensures in
+    let edge : c.index-edge.result.now ≡ edge_at e x =
+    edge_read e x c.index-edge.result.now below c.index-edge.ensures in
     let from_is : c.index-edge.result.now.from ≡ graph.from x = ap (λ (d : Edge). d.from) edge in
     let to_is : c.index-edge.result.now.to ≡ graph.to x = ap (λ (d : Edge). d.to) edge in
     let delay_is : c.index-edge.result.now.delay ≡ graph.delay x = ap (λ (d : Edge). d.delay) edge in
@@ -50,15 +55,20 @@ loop-x-preserved c =
     let earlier : graph.from x < graph.to x = c.requires.graph.is_graph.earlier x below in
     let ops_size : graph.ops ≡ length c.args.ops.now = c.requires.graph.size in
     let size : length prios ≡ length c.args.ops.now = c.loop-x.invariant.size in
-    let read_to : c.index.result.now ≡ get_or prios c.index-edge.result.now.to 0 = get_or_read prios c.index-edge.result.now.to c.index.result.now (omega arith) c.index.ensures 0 in
-    let read_from : c.index-in-loop-x.result.now ≡ get_or prios c.index-edge.result.now.from 0 = get_or_read prios c.index-edge.result.now.from c.index-in-loop-x.result.now (omega arith) c.index-in-loop-x.ensures 0 in
+    let read_to : c.index.result.now ≡ get_or prios c.index-edge.result.now.to 0 =
+    get_or_read prios c.index-edge.result.now.to c.index.result.now (omega arith) c.index.ensures 0 in
+    let read_from : c.index-in-loop-x.result.now ≡ get_or prios c.index-edge.result.now.from 0 =
+    get_or_read prios c.index-edge.result.now.from c.index-in-loop-x.result.now
+    (omega arith) c.index-in-loop-x.ensures 0 in
     let delay_read : c.from.result ≡ c.index-edge.result.now.delay = omega arith in
-    let greatest : c.max.result ≡ max (get_or prios c.index-edge.result.now.from 0) (c.index-edge.result.now.delay + get_or prios c.index-edge.result.now.to 0) =
+    let greatest : c.max.result ≡ max (get_or prios c.index-edge.result.now.from 0)
+    (c.index-edge.result.now.delay + get_or prios c.index-edge.result.now.to 0) =
     c.max.ensures ∙ ap (λ v. max v (c.from.result + c.index.result.now)) read_from
     ∙ ap (λ v. max (get_or prios c.index-edge.result.now.from 0) (v + c.index.result.now)) delay_read
     ∙ ap (λ v. max (get_or prios c.index-edge.result.now.from 0) (c.index-edge.result.now.delay + v)) read_to in
     let before : c.loop-x.x ≡ x + 1 = omega arith in
-    raised_more c.args.latencies.now c.args.ops.now graph c.requires.graph prios (set prios c.index-edge.result.now.from c.max.result) x
+    raised_more c.args.latencies.now c.args.ops.now graph c.requires.graph prios
+    (set prios c.index-edge.result.now.from c.max.result) x
     c.index-edge.result.now.from c.index-edge.result.now.to c.index-edge.result.now.delay
     (subst (λ y. IsRaised c.args.latencies.now c.args.ops.now graph prios y) before c.loop-x.invariant)
     below from_is to_is delay_is (ap (set prios c.index-edge.result.now.from) greatest)
@@ -67,4 +77,5 @@ pub returns : goal.returns
 returns c =
     let done : c.loop-x.x ≡ 0 = omega arith in
     raised_all c.args.latencies.now c.args.ops.now (graph_of c.args.edges.now) c.requires.graph c.loop-x.prios.items
-    (subst (λ y. IsRaised c.args.latencies.now c.args.ops.now (graph_of c.args.edges.now) c.loop-x.prios.items y) done c.loop-x.invariant)
+    (subst (λ y. IsRaised c.args.latencies.now c.args.ops.now (graph_of c.args.edges.now) c.loop-x.prios.items y) done
+    c.loop-x.invariant)

@@ -8,4 +8,5 @@ abbrev pub invariant-loop-op : goal.invariant-loop-op
 invariant-loop-op l =
     (l.names.given ≤ 3 * l.op-index)
     × Named (without_nops (take l.op-index l.op-items)) l.names.given (current_of l.names)
-    × (l.renamed.items ≡ renamed_by (without_nops (take l.op-index l.op-items)) (numbering (without_nops (take l.op-index l.op-items))))
+    × (l.renamed.items ≡ renamed_by (without_nops (take l.op-index l.op-items))
+    (numbering (without_nops (take l.op-index l.op-items))))

@@ -14,7 +14,8 @@ loop-left-init c =
     let count : waiting_count c.in_ok-waiting.waiting ≡ length p.edges.heads.items = c.in_ok-waiting.ensures.count in
     record {
       so_far = subst (λ rows. IsSoFar p c.in_ok-waiting.waiting c.new-queues.result rows) (sym none)
-          (so_far_opened p c.in_ok-waiting.waiting c.new-queues.result c.in_ok-waiting.ensures.waits c.in_ok-waiting.ensures.sized c.in_ok-waiting.ensures.none c.new-queues.ensures);
+          (so_far_opened p c.in_ok-waiting.waiting c.new-queues.result c.in_ok-waiting.ensures.waits
+          c.in_ok-waiting.ensures.sized c.in_ok-waiting.ensures.none c.new-queues.ensures);
       left = omega (arith, c.len-left.ensures, p.ops.ok.0);
       last = λ zero n one. absurd (omega arith);
       few = omega arith;
@@ -25,14 +26,16 @@ loop-left-preserved c =
     let p = c.args.plan.now in
     let inv = c.loop-left.invariant in
     let left : c.loop-left.left ≡ waiting_count c.loop-left.waiting = inv.left in
-    let few : length c.loop-left.rows.items ≤ 160000 = few_rows p c.loop-left.waiting c.loop-left.queues c.loop-left.rows.items c.requires inv.so_far (omega arith) in
+    let few : length c.loop-left.rows.items ≤ 160000 =
+    few_rows p c.loop-left.waiting c.loop-left.queues c.loop-left.rows.items c.requires inv.so_far (omega arith) in
     let more : length c.step.new.rows.items ≡ length c.loop-left.rows.items + 1 = c.in_ok-left.ensures.length in
     record {
       so_far = c.in_ok-left.ensures.so_far;
       left = omega (arith, c.in_ok-left.ensures.count);
       last = λ none n one empty.
           let at : n ≡ length c.loop-left.rows.items = omega arith in
-          c.in_ok-left.ensures.filled (omega (arith, c.in_ok-left.ensures.count)) (subst (λ k. slots (row_at c.step.new.rows.items k) ≡ []) at empty);
+          c.in_ok-left.ensures.filled (omega (arith, c.in_ok-left.ensures.count))
+          (subst (λ k. slots (row_at c.step.new.rows.items k) ≡ []) at empty);
       few = omega arith;
     }
 
@@ -40,4 +43,5 @@ pub returns-clause-greedy : goal.returns-clause-greedy
 returns-clause-greedy c = λ block is.
     let inv = c.loop-left.invariant in
     let left : c.loop-left.left ≡ waiting_count c.loop-left.waiting = inv.left in
-    greedy_at_end c.args.plan.now c.loop-left.waiting c.loop-left.queues c.loop-left.rows.items block c.requires inv.so_far (omega arith) (inv.last (omega arith)) is
+    greedy_at_end c.args.plan.now c.loop-left.waiting c.loop-left.queues c.loop-left.rows.items block c.requires
+    inv.so_far (omega arith) (inv.last (omega arith)) is

@@ -17,4 +17,10 @@ pub loop-row-preserved : goal.loop-row-preserved
 loop-row-preserved c = λ i below.
     let first : i < length c.loop-row.times = omega arith in
     let second : i < length c.count_slot.new.times = omega arith in
-    omega (arith, c.loop-row.invariant i first, c.count_slot.ensures i second, c.count_slot-in-loop-row.ensures i below, times_more c.args.rows.now c.loop-row.row-index i empty_row c.loop-row-test.true)
+    omega (
+      arith,
+      c.loop-row.invariant i first,
+      c.count_slot.ensures i second,
+      c.count_slot-in-loop-row.ensures i below,
+      times_more c.args.rows.now c.loop-row.row-index i empty_row c.loop-row-test.true,
+    )

@@ -11,7 +11,8 @@ join_seat-requires g c = (
   passes.same_table _ _ _ _ c.pass.view_is c.self.view_is c.requires.pass,
   ap (λ m. m.1) c.pass.invariant.seat,
   omega (arith, c.self.invariant.words),
-  keeps.gathers_kept c.self.inside.table.shared.key c.root.inside.seat.id c.pass.inside.seat.id c.root.inside.seat.me.0 c.pass.inside.seat.me.0 (ap (λ m. m.0.role) c.root.invariant.seat) (ap (λ m. m.0.role) c.pass.invariant.seat),
+  keeps.gathers_kept c.self.inside.table.shared.key c.root.inside.seat.id c.pass.inside.seat.id c.root.inside.seat.me.0
+      c.pass.inside.seat.me.0 (ap (λ m. m.0.role) c.root.invariant.seat) (ap (λ m. m.0.role) c.pass.invariant.seat),
 )
 
 pub invariant_of-root-2 : goal.invariant_of-root-2
@@ -21,6 +22,11 @@ invariant_of-root-2 g c =
       journal = c.pass.inside.seat.me.0.journal;
       answers = c.pass.inside.answers.items;
     } in
-    let jobs : c.pass.inside.jobs.now ≡ c.root.inside.jobs.now = passes.same_jobs _ _ _ _ c.pass.view_is c.self.view_is c.requires.pass ∙ sym (passes.root_jobs _ _ _ _ c.root.view_is c.self.view_is c.requires.root) in
-    let inside = subst (λ (z : g.row.J.Denot). IsPass (g.J.Jobs.number z) (g.J.Jobs.fits z) (g.J.Jobs.price z) c.pass.inside.seat.me c.pass.inside.worker c.pass.inside.state p) jobs c.pass.invariant in
-    passes.gathered_inside (g.J.Jobs.number c.root.inside.jobs.now) (g.J.Jobs.fits c.root.inside.jobs.now) (g.J.Jobs.price c.root.inside.jobs.now) _ _ c.pass.inside.seat.me _ _ _ p _ _ c.root.invariant refl inside refl c.join_seat.ensures.2 (c.in_default.ensures.items)
+    let jobs : c.pass.inside.jobs.now ≡ c.root.inside.jobs.now =
+    passes.same_jobs _ _ _ _ c.pass.view_is c.self.view_is c.requires.pass
+    ∙ sym (passes.root_jobs _ _ _ _ c.root.view_is c.self.view_is c.requires.root) in
+    let inside = subst (λ (z : g.row.J.Denot). IsPass (g.J.Jobs.number z) (g.J.Jobs.fits z) (g.J.Jobs.price z)
+    c.pass.inside.seat.me c.pass.inside.worker c.pass.inside.state p) jobs c.pass.invariant in
+    passes.gathered_inside (g.J.Jobs.number c.root.inside.jobs.now) (g.J.Jobs.fits c.root.inside.jobs.now)
+    (g.J.Jobs.price c.root.inside.jobs.now) _ _ c.pass.inside.seat.me _ _ _ p _ _ c.root.invariant refl inside refl
+    c.join_seat.ensures.2 (c.in_default.ensures.items)

@@ -10,11 +10,14 @@ use Rattle.iloc_board.proofs.board.Board.hand_back.Goals as goal
 pub store-requires : goal.store-requires
 store-requires g c =
     let number : ℕ = g.J.Jobs.number c.pass.inside.jobs.now in
-    let same : c.self.inside.count ≡ number = c.self.invariant.count_is ∙ sym (ap g.J.Jobs.number (passes.same_jobs _ _ _ _ c.pass.view_is c.self.view_is c.requires.own)) in
-    let below : c.in-Holding.job < number = passes.held_below number (g.J.Jobs.fits c.pass.inside.jobs.now) (g.J.Jobs.price c.pass.inside.jobs.now) _ _ _ _ _ c.pass.invariant c.in-Holding.is in (
+    let same : c.self.inside.count ≡ number = c.self.invariant.count_is
+    ∙ sym (ap g.J.Jobs.number (passes.same_jobs _ _ _ _ c.pass.view_is c.self.view_is c.requires.own)) in
+    let below : c.in-Holding.job < number = passes.held_below number (g.J.Jobs.fits c.pass.inside.jobs.now)
+    (g.J.Jobs.price c.pass.inside.jobs.now) _ _ _ _ _ c.pass.invariant c.in-Holding.is in (
       passes.same_table _ _ _ _ c.pass.view_is c.self.view_is c.requires.own,
       omega (arith, c.self.invariant.words),
-      keeps.hands_kept c.self.inside.table.shared.key c.self.inside.table.shared.table_id.slots c.pass.inside.seat.id c.pass.inside.seat.me c.in-Holding.job _ _ (ap (λ m. m.0.role) c.pass.invariant.seat)
+      keeps.hands_kept c.self.inside.table.shared.key c.self.inside.table.shared.table_id.slots c.pass.inside.seat.id
+          c.pass.inside.seat.me c.in-Holding.job _ _ (ap (λ m. m.0.role) c.pass.invariant.seat)
           (sym c.pass.invariant.state_is ∙ c.in-Holding.is) (omega arith),
     )
 
@@ -22,13 +25,19 @@ pub invariant_of-pass-2 : goal.invariant_of-pass-2
 invariant_of-pass-2 g c =
     let number : ℕ = g.J.Jobs.number c.pass.inside.jobs.now in
     let jobs : c.pass.inside.jobs.now ≡ c.args.self.now.jobs = passes.own_jobs _ _ _ c.pass.view_is c.requires.own in
-    let job : job_of (state c.args.pass.now) ≡ c.in-Holding.job = passes.job_is _ _ _ c.pass.view_is c.pass.invariant.state_is ∙ ap job_of c.in-Holding.is in
+    let job : job_of (state c.args.pass.now) ≡ c.in-Holding.job =
+    passes.job_is _ _ _ c.pass.view_is c.pass.invariant.state_is ∙ ap job_of c.in-Holding.is in
     let fit : g.J.Jobs.fits c.pass.inside.jobs.now c.in-Holding.job c.args.answer =
-    subst (λ (z : g.row.J.Denot). g.J.Jobs.fits z c.in-Holding.job c.args.answer) (sym jobs) (subst (λ (k : ℕ). g.J.Jobs.fits c.args.self.now.jobs k c.args.answer) job c.requires.fits) in
+    subst (λ (z : g.row.J.Denot). g.J.Jobs.fits z c.in-Holding.job c.args.answer) (sym jobs)
+    (subst (λ (k : ℕ). g.J.Jobs.fits c.args.self.now.jobs k c.args.answer) job c.requires.fits) in
     let price : c.cost-cost.result ≡ g.J.Jobs.price c.pass.inside.jobs.now c.args.answer =
-    c.cost-cost.ensures.price ∙ ap (λ (z : g.row.J.Denot). g.J.Jobs.price z c.args.answer) (sym (passes.same_jobs _ _ _ _ c.pass.view_is c.self.view_is c.requires.own)) in
-    passes.handed_inside number (g.J.Jobs.fits c.pass.inside.jobs.now) (g.J.Jobs.price c.pass.inside.jobs.now) _ _ _ _ _ _ c.in-Holding.job c.cost-cost.result _ c.args.answer _ c.pass.invariant refl c.store.ensures.2 c.in-Holding.is
+    c.cost-cost.ensures.price ∙ ap (λ (z : g.row.J.Denot). g.J.Jobs.price z c.args.answer)
+    (sym (passes.same_jobs _ _ _ _ c.pass.view_is c.self.view_is c.requires.own)) in
+    passes.handed_inside number (g.J.Jobs.fits c.pass.inside.jobs.now) (g.J.Jobs.price c.pass.inside.jobs.now) _ _ _ _ _
+    _ c.in-Holding.job c.cost-cost.result _ c.args.answer _ c.pass.invariant refl c.store.ensures.2 c.in-Holding.is
     (passes.pushed _ _ _ _ c.reserve.ensures.items c.push_reserved.ensures.items) fit price
 
 pub returns-clause-state : goal.returns-clause-state
-returns-clause-state g c = ap (λ (m : Sat). state_of m.0.journal.entries) c.store.ensures.2 ∙ passes.free_after c.pass.inside.seat.me.0.journal.entries (Hand c.pass.inside.seat.me.0.journal.worker c.cost-cost.result)
+returns-clause-state g c = ap (λ (m : Sat). state_of m.0.journal.entries) c.store.ensures.2
+    ∙ passes.free_after c.pass.inside.seat.me.0.journal.entries
+    (Hand c.pass.inside.seat.me.0.journal.worker c.cost-cost.result)

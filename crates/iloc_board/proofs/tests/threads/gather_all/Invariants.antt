@@ -3,4 +3,7 @@ use Rattle.std.specs.List.{All}
 use Rattle.iloc_board.proofs.tests.threads.gather_all.Given as goal
 
 abbrev pub invariant-loop-pass : goal.invariant-loop-pass
-invariant-loop-pass l = record { root : l.root.board ≡ l.board; each : All (λ p. p.board ≡ l.board) l.pass-iterator.rest.items }
+invariant-loop-pass l = record {
+  root : l.root.board ≡ l.board;
+  each : All (λ p. p.board ≡ l.board) l.pass-iterator.rest.items;
+}

@@ -5,7 +5,10 @@ use Rattle.iloc_board.specs.Views.{state}
 use Rattle.iloc_board.proofs.tests.threads.passes.Given as goal
 
 abbrev pub invariant-loop-made : goal.invariant-loop-made
-invariant-loop-made l = record { root : l.root.board ≡ l.board; each : All (λ p. (p.board ≡ l.board) × (state p ≡ Free)) l.made.items }
+invariant-loop-made l = record {
+  root : l.root.board ≡ l.board;
+  each : All (λ p. (p.board ≡ l.board) × (state p ≡ Free)) l.made.items;
+}
 
 abbrev pub decreases-loop-made : goal.decreases-loop-made
 decreases-loop-made l = l.root.workers - l.root.made

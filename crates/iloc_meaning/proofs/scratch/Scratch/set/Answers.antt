@@ -7,4 +7,5 @@ pub returns-clause-first : goal.returns-clause-first
 returns-clause-first c =
     let fits : FitsSigned w32 c.get-replaced.result = search rules in
     rw (c.in_ok-push.ensures.items, c.set.ensures.written, ← c.self.view_is)
-    (put_back-write c.self.inside.replaced.items c.self.inside.memory c.args.address _ _ (to_z-of_z w32 c.get-replaced.result fits ∙ c.get-replaced.ensures.word))
+    (put_back-write c.self.inside.replaced.items c.self.inside.memory c.args.address _ _
+    (to_z-of_z w32 c.get-replaced.result fits ∙ c.get-replaced.ensures.word))

@@ -17,8 +17,10 @@ loop-i-preserved c =
     let xs = c.args.from.now in
     let below : k < length xs = omega arith in
     record {
-      adds = subst (λ ys. AddsFrom (In ys) (graph_of c.args.self.now) (graph_of c.add.new.self) c.args.to c.args.delay) (sym (take_more xs k 0 below))
-          (adds_more (take k xs) _ (graph_of c.args.self.now) (graph_of c.loop-i.self) (graph_of c.add.new.self) c.args.to c.args.delay c.loop-i.invariant.adds c.in_ok-add.ensures.adds);
+      adds = subst (λ ys. AddsFrom (In ys) (graph_of c.args.self.now) (graph_of c.add.new.self) c.args.to c.args.delay)
+          (sym (take_more xs k 0 below))
+          (adds_more (take k xs) _ (graph_of c.args.self.now) (graph_of c.loop-i.self) (graph_of c.add.new.self)
+          c.args.to c.args.delay c.loop-i.invariant.adds c.in_ok-add.ensures.adds);
       count = omega (arith, c.in_ok-add.ensures.count);
       heads = omega arith;
       starts = cc;
@@ -26,4 +28,5 @@ loop-i-preserved c =
 
 pub returns-clause-adds : goal.returns-clause-adds
 returns-clause-adds c =
-    subst (λ ys. AddsFrom (In ys) (graph_of c.args.self.now) (graph_of c.loop-i.self) c.args.to c.args.delay) (take_all c.loop-i.i-index c.args.from.now (omega arith)) c.loop-i.invariant.adds
+    subst (λ ys. AddsFrom (In ys) (graph_of c.args.self.now) (graph_of c.loop-i.self) c.args.to c.args.delay)
+    (take_all c.loop-i.i-index c.args.from.now (omega arith)) c.loop-i.invariant.adds

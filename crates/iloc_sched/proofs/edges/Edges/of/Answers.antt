@@ -16,4 +16,5 @@ pub returns-clause-graph : goal.returns-clause-graph
 returns-clause-graph c =
     let at_end : c.loop-j.j ≡ length c.args.ops.now = omega arith in
     kept_at_end c.args.latencies.now c.args.ops.now (graph_of c.loop-j.edges)
-    (subst (λ n. IsPartialGraph c.args.latencies.now c.args.ops.now (graph_of c.loop-j.edges) n) at_end c.loop-j.invariant.partial)
+    (subst (λ n. IsPartialGraph c.args.latencies.now c.args.ops.now (graph_of c.loop-j.edges) n) at_end
+    c.loop-j.invariant.partial)

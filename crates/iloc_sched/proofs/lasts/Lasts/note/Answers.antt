@@ -7,6 +7,8 @@ use Rattle.iloc_sched.proofs.lasts.Lasts.note.Goals as goal
 pub returns-clause-lasts : goal.returns-clause-lasts
 returns-clause-lasts c =
     on_ok_weaker c.note_kind.result
-    (noted_in_turn c.args.ops.now c.args.j c.args.self.now c.note_kind.new.self c.note.new.self _ c.of.result c.requires.lasts
-    (get_or_default c.args.ops.now c.args.j _ Nop c.requires.there) c.of.ensures c.in_ok-note.ensures c.note_kind.ensures.definers)
+    (noted_in_turn c.args.ops.now c.args.j c.args.self.now c.note_kind.new.self c.note.new.self _ c.of.result
+    c.requires.lasts
+    (get_or_default c.args.ops.now c.args.j _ Nop c.requires.there) c.of.ensures c.in_ok-note.ensures
+    c.note_kind.ensures.definers)
     c.note_kind.ensures.kind

@@ -62,7 +62,8 @@ renamed : IsRenamed ops
 renamed = record {
   no_nop = no_nop;
   once = λ i j r at_i at_j. own i r at_i ∙ sym (own j r at_j);
-  defined_before = λ i j r uses defines. subst (λ n. n < i) (sym (own j r defines)) (lower i r (in_from (used (op_at ops i)) r uses));
+  defined_before = λ i j r uses defines. subst (λ n. n < i) (sym (own j r defines))
+      (lower i r (in_from (used (op_at ops i)) r uses));
 }
 
 pub priorities-requires-clause-renamed : goal.priorities-requires-clause-renamed

@@ -5,4 +5,8 @@ use Rattle.iloc_sched.proofs.queue.Queue.new.Goals as goal
 
 pub invariant_of-result : goal.invariant_of-result
 unfolding IsDistinct
-invariant_of-result c = record { ordered = c.new.ensures.heap_order; distinct = subst (λ cs. IsDistinct same_number cs) (sym c.new.ensures.items) tt }
+invariant_of-result c = record {
+  ordered = c.new.ensures.heap_order;
+  distinct = subst (λ cs. IsDistinct same_number cs)
+      (sym c.new.ensures.items) tt;
+}

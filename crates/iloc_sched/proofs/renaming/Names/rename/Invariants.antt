@@ -8,4 +8,5 @@ abbrev pub invariant-loop-register : goal.invariant-loop-register
 invariant-loop-register l =
     (length l.names.items ≡ l.register-index)
     × (l.self.given ≤ l.initial.self.given + l.register-index)
-    × ((done : List Op) → Named done l.initial.self.given (current_of l.initial.self) → UsesNamed done (take l.register-index l.register-items) l.names.items l.self.given (current_of l.self))
+    × ((done : List Op) → Named done l.initial.self.given (current_of l.initial.self)
+    → UsesNamed done (take l.register-index l.register-items) l.names.items l.self.given (current_of l.self))

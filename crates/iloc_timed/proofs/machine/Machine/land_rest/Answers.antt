@@ -7,5 +7,8 @@ returns-clause-follows c = λ memory log follows.
     rw (← last) (c.loop-cycle.invariant.1 memory log follows)
 
 pub loop-cycle-preserved : goal.loop-cycle-preserved
-loop-cycle-preserved c =
-    (c.in_ok-land.ensures.first ∙ c.loop-cycle.invariant.0, λ memory log follows. c.in_ok-land.ensures.follows memory log (c.loop-cycle.invariant.1 memory log follows))
+loop-cycle-preserved c = (
+  c.in_ok-land.ensures.first ∙ c.loop-cycle.invariant.0,
+  λ memory log follows.
+      c.in_ok-land.ensures.follows memory log (c.loop-cycle.invariant.1 memory log follows),
+)

@@ -6,4 +6,5 @@ use Rattle.iloc_timed.proofs.machine.Machine.run.Given as goal
 abbrev pub invariant-loop-cycle : goal.invariant-loop-cycle
 invariant-loop-cycle l =
     (l.self.memory.first ≡ l.fn.self.memory.first)
-    × Follows l.fn.self.memory.first l.cycle (issued_before l.latencies l.fn.self.memory.first l.schedule.ops l.schedule.rows l.cycle) l.self
+    × Follows l.fn.self.memory.first l.cycle
+    (issued_before l.latencies l.fn.self.memory.first l.schedule.ops l.schedule.rows l.cycle) l.self
