@@ -6,3 +6,4 @@ pub mod Tasks
 pub mod Gathered
 pub mod Schedules
 pub mod Simulated
+pub mod Listed

@@ -1,54 +1,36 @@
 //! The whole run: from the bytes that a reader gives to those that a writer takes.
-ghost use Rattle.std.specs.Prelude.{◌≡◌, ◌≢◌, ◌≤◌, ◌<◌, ◌^◌, length, Err, IfOk, IfErr, OnOk, List, ℕ};
-ghost use Rattle.std.specs.List.{All};
+ghost use Rattle.std.specs.Prelude.{◌≡◌, ◌≢◌, ◌<◌, ◌^◌, length, IfOk, IfErr, OnOk, List, ℕ};
 ghost use Rattle.std.specs.Io.KnownBytes.{Appends};
-ghost use Rattle.iloc_text.specs.declared.fault.ReadFault.{ReadFault as read_fault};
-ghost use Rattle.iloc_farm.specs.Steps.Runner.{runs};
+ghost use Rattle.iloc_text.specs.Files.{Denotes, IsRefused};
+ghost use Rattle.iloc_farm.specs.Steps.OfInput.{EndsText, ListsInput};
 ghost use Rattle.iloc_farm.specs.Listing.{total_cycles};
-ghost use Rattle.iloc_farm.specs.Run.{EndsRun, IsListing, run_listing, ReadsFile, Lists, Refuses};
+ghost use Rattle.iloc_farm.specs.Run.{EndsRun, Lists};
 ghost use Rattle.iloc_farm.specs.Schedules.{AreGreedy, AreTheOnlyGreedy, IsWithinLimits};
 
 use crate::device::{read_input, write_text};
 use crate::farm::schedule_all;
 use crate::fault::{FarmFault, RunFault};
 use crate::initial::initial_memory;
-use crate::listing::{counts_text, push_outcome, schedules_text};
+use crate::listing::{counts_text, schedules_text};
+use crate::outcomes::outcomes_listed;
 use crate::runner::Runner;
 use iloc_board::FreeGate;
 use iloc_line::{Request, Task};
 use iloc_text::laws::files_are_within_limits;
-use iloc_text::{IlocFile, NoMemory, read_file};
+use iloc_text::{IlocFile, ReadFault, read_file};
 use iloc_timed::Schedule;
 use std::alloc::Global;
 use std::io::{Read, Write};
 use std::sync::Wait;
 use std::thread::Threads;
 
-/// The file that the reader's bytes denote.
-fn read_blocks<R: Read>(alloc: Global, reader: &mut R) -> Result<IlocFile, RunFault>
-    ensures ok { IfOk result (λ file.
-        ReadsFile (R.remaining reader.old) (R.remaining reader.new) file.blocks) }
-    ensures text { (fault : read_fault) → result ≡ Err (RunFault.Text fault) →
-        Refuses (R.remaining reader.old) (R.remaining reader.new) fault }
-    ensures not_write { IfErr result (λ fault. fault ≢ RunFault.WriteFailed) }
-    ensures limits { IfOk result (λ file. IsWithinLimits file.blocks) }
+/// The file that the input denotes; the input is let go.
+fn file_of(alloc: Global, input: Vec<u8>) -> Result<IlocFile, ReadFault>
+    ensures ok { IfOk result (λ file. Denotes input.items file.blocks × IsWithinLimits file.blocks) }
+    ensures err { IfErr result (λ fault. fault ≢ ReadFault.NoMemory → IsRefused input.items fault) }
 {
     files_are_within_limits();
-    let input = read_input(alloc, reader)?;
-    Ok(read_file(alloc, &input)?)
-}
-
-/// The listing of the outcomes of the file's blocks, run one after another.
-fn outcomes_listed(alloc: Global, file: &IlocFile, mut runner: Runner) -> Result<Vec<u8>, NoMemory>
-    requires { All (λ b. length b.ops ≤ 10000) file.now.blocks }
-    ensures { IfOk result (λ text. text.items ≡ run_listing (runs runner).memory file.now.blocks) }
-{
-    let mut text = Vec::new(alloc);
-    for (index, block) in file.blocks.as_slice().iter().enumerate() {
-        runner.run(alloc, block)?;
-        push_outcome(&mut text, index + 1, block.name.as_ref(), runner.outputs())?;
-    }
-    Ok(text)
+    read_file(alloc, &input)
 }
 
 /// The greedy schedules of the file's blocks, for the request's latencies and by its workers.
@@ -72,34 +54,36 @@ fn schedules_of<R: Threads + Wait + Sync>(
     Ok(schedules)
 }
 
-/// What the request lists of the file.
+/// What the request lists of the blocks that the input denotes.
 fn request_text<R: Threads + Wait + Sync>(
     rt: &R,
     alloc: Global,
-    file: &IlocFile,
+    input: Vec<u8>,
     request: &Request,
-) -> Result<Vec<u8>, FarmFault>
-    requires { IsWithinLimits file.now.blocks }
-    ensures { IfOk result (λ text. IsListing request.now file.now.blocks text.items) }
+) -> Result<Vec<u8>, RunFault>
+    ensures ok { IfOk result (λ text. ListsInput request.now input.items text.items) }
+    ensures err { IfErr result (EndsText input.items) }
 {
     let latencies = &request.latencies;
     match request.task {
         Task::Run => {
             let memory = initial_memory(alloc, request)?;
-            Ok(outcomes_listed(alloc, file, Runner::plain(alloc, memory)?)?)
+            Ok(outcomes_listed(alloc, &input, Runner::plain(alloc, memory)?)?)
         }
         Task::Simulate => {
             let memory = initial_memory(alloc, request)?;
             let runner = Runner::timed(alloc, memory, *latencies)?;
-            Ok(outcomes_listed(alloc, file, runner)?)
+            Ok(outcomes_listed(alloc, &input, runner)?)
         }
         Task::Schedule => {
-            let schedules = schedules_of(rt, alloc, file, request)?;
-            Ok(schedules_text(alloc, file, latencies, &schedules)?)
+            let file = file_of(alloc, input)?;
+            let schedules = schedules_of(rt, alloc, &file, request)?;
+            Ok(schedules_text(alloc, &file, latencies, &schedules)?)
         }
         Task::Counts => {
-            let schedules = schedules_of(rt, alloc, file, request)?;
-            Ok(counts_text(alloc, file, latencies, &schedules)?)
+            let file = file_of(alloc, input)?;
+            let schedules = schedules_of(rt, alloc, &file, request)?;
+            Ok(counts_text(alloc, &file, latencies, &schedules)?)
         }
     }
 }
@@ -124,8 +108,8 @@ pub fn run<H: Threads + Wait + Sync, R: Read, W: Write>(
         (R.remaining reader.old) (R.remaining reader.new)
         (W.contents writer.old) (W.contents writer.new)) }
 {
-    let file = read_blocks(alloc, reader)?;
-    let text = request_text(rt, alloc, &file, request)?;
+    let input = read_input(alloc, reader)?;
+    let text = request_text(rt, alloc, input, request)?;
     write_text(writer, &text)?;
     Ok(())
 }

@@ -151,6 +151,17 @@ impl From<FarmFault> for RunFault {
     }
 }
 
+impl From<NoMemory> for RunFault {
+    ghost use Rattle.iloc_farm.specs.declared.fault.FarmFault.TheVariants.{NoMemory as no_memory};
+    ghost use Rattle.iloc_farm.specs.declared.fault.RunFault.TheVariants.{Farm};
+
+    ghost from_gives = { λ _ given. given ≡ Farm no_memory };
+
+    fn from(_: NoMemory) -> RunFault {
+        RunFault::Farm(FarmFault::NoMemory)
+    }
+}
+
 impl From<WriteFailed> for RunFault {
     ghost use Rattle.iloc_farm.specs.declared.fault.RunFault.TheVariants.{WriteFailed as write_failed};
 

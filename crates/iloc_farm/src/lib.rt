@@ -12,6 +12,7 @@ mod farm;
 mod fault;
 mod initial;
 mod listing;
+mod outcomes;
 mod program;
 #[cfg(test)]
 mod refusals;

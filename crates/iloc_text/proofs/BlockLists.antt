@@ -28,7 +28,7 @@ pub length-file : (rs : List Reading) → length (file_of rs) ≡ block_count rs
 unfolding file_of
 length-file rs = length-blocks 1 (block_names rs) rs ∙ length-names rs
 
-with_op-snoc : (op : Op) (bs : List Block) (b : Block) → with_op op (bs ++ b ∷ []) ≡ bs ++ record { name = b.name; ops = b.ops ++ op ∷ [] } ∷ []
+pub with_op-snoc : (op : Op) (bs : List Block) (b : Block) → with_op op (bs ++ b ∷ []) ≡ bs ++ record { name = b.name; ops = b.ops ++ op ∷ [] } ∷ []
 with_op-snoc op [] b = refl
 with_op-snoc op (x ∷ []) b = refl
 with_op-snoc op (x ∷ y ∷ bs) b = ap (λ l. x ∷ l) (with_op-snoc op (y ∷ bs) b)

@@ -1,59 +1,77 @@
 -- What the steps of the reader do to the blocks.
-use Rattle.std.proofs.Common.{◌≡◌, ◌≢◌, ◌∙◌, ℕ, zero, suc, ◌+◌, ◌<◌, ◌≤◌, List, [], ◌∷◌, ◌++◌, length, get_or, set, refl, sym, ap, subst, subst₂, Option, Some, None, Result, Err, length-append, arith}
+use Rattle.std.proofs.Common.{◌≡◌, ◌∙◌, ℕ, suc, ◌+◌, ◌-◌, ◌<◌, ◌≤◌, List, [], ◌∷◌, ◌++◌, length, refl, sym, ap, subst, subst₂, is_some, true, Option, Some, None, Result, Ok, Err, length-append, inl, inr, arith}
 use Rattle.iloc_text.specs.declared.op.Op.{Op}
 use Rattle.iloc_text.specs.declared.file.Block.{Block}
+use Rattle.iloc_text.specs.declared.open_block.OpenBlock.{OpenBlock}
 use Rattle.iloc_text.specs.declared.fault.ReadFault.{ReadFault}
 use Rattle.iloc_text.specs.declared.fault.ReadFault.TheVariants.{InputTooLong, BadLine, NumberTooLarge, TooManyBlocks, TooManyOperations, NoMemory}
 use Rattle.iloc_text.specs.Steps.Growth.{opened, with_op, with_optional_op, with_line, last_ops, AreWithin, Grows}
-use Rattle.iloc_text.proofs.BlockLists.{last-snoc}
+use Rattle.iloc_text.specs.Steps.Open.{AreSoFar, HasTaken}
+use Rattle.iloc_text.proofs.Counts.{none_or_some}
+use Rattle.iloc_text.proofs.BlockLists.{last-snoc, with_op-snoc}
 
-pub opened_within : (name : Option (List ℕ)) (blocks : List Block) → AreWithin blocks → length blocks ≢ 65535 → AreWithin (opened name blocks)
-opened_within name blocks h other = record {
-  count = let most = h.count in omega (arith, length-append blocks (record { name = name; ops = [] } ∷ []));
-  last = let none = ap length (last-snoc blocks (record { name = name; ops = [] })) in omega arith;
-}
-
-pub opened_above : (name : Option (List ℕ)) (blocks : List Block) → length blocks ≡ 65535 → 65535 < length (opened name blocks)
-opened_above name blocks h = omega (arith, length-append blocks (record { name = name; ops = [] } ∷ []))
-
-pub with_op-set : (op : Op) (bs : List Block) (b : Block) (n : ℕ) → length bs ≡ n + 1 → b ≡ get_or bs n b
-    → set bs n (record { name = b.name; ops = b.ops ++ op ∷ [] }) ≡ with_op op bs
-with_op-set op [] b n len e = absurd (omega arith)
-with_op-set op (x ∷ []) b zero len e = ap (λ (y : Block). record { name = y.name; ops = y.ops ++ op ∷ [] } ∷ []) e
-with_op-set op (x ∷ []) b (suc n) len e = absurd (omega arith)
-with_op-set op (x ∷ y ∷ bs) b zero len e = absurd (omega arith)
-with_op-set op (x ∷ y ∷ bs) b (suc n) len e = ap (λ l. x ∷ l) (with_op-set op (y ∷ bs) b n (omega arith) e)
-
-pub last-get : (bs : List Block) (b : Block) (n : ℕ) → length bs ≡ n + 1 → b ≡ get_or bs n b → last_ops bs ≡ b.ops
-last-get [] b n len e = absurd (omega arith)
-last-get (x ∷ []) b zero len e = ap (λ (y : Block). y.ops) (sym e)
-last-get (x ∷ []) b (suc n) len e = absurd (omega arith)
-last-get (x ∷ y ∷ bs) b zero len e = absurd (omega arith)
-last-get (x ∷ y ∷ bs) b (suc n) len e = last-get (y ∷ bs) b n (omega arith) e
+-- The open block
 
 pub length-with_op : (op : Op) (bs : List Block) → length (with_op op bs) ≡ length bs
 length-with_op op [] = refl
 length-with_op op (x ∷ []) = refl
 length-with_op op (x ∷ y ∷ bs) = ap suc (length-with_op op (y ∷ bs))
 
-last-with_op : (op : Op) (bs : List Block) → 0 < length bs → last_ops (with_op op bs) ≡ last_ops bs ++ op ∷ []
-last-with_op op [] some = absurd (omega arith)
-last-with_op op (x ∷ []) some = refl
-last-with_op op (x ∷ y ∷ []) some = refl
-last-with_op op (x ∷ y ∷ z ∷ bs) some = last-with_op op (y ∷ z ∷ bs) (omega arith)
+no_blocks : (bs : List Block) → length bs ≡ 0 → bs ≡ []
+no_blocks [] none = refl
+no_blocks (b ∷ bs) none = absurd (omega arith)
 
-last_len : (op : Op) (bs : List Block) → 0 < length bs → length (last_ops (with_op op bs)) ≡ length (last_ops bs) + 1
-last_len op bs some = ap length (last-with_op op bs some) ∙ length-append (last_ops bs) (op ∷ [])
+pub all_done : (done blocks : List Block) (o : OpenBlock) → AreSoFar done o blocks → o.count ≡ 0 → done ≡ blocks
+all_done done blocks o h none =
+    let before = h.before in
+    let count = h.count in
+    no_blocks done (omega arith) ∙ sym (no_blocks blocks (omega arith))
 
-pub with_op_within : (op : Op) (bs : List Block) → AreWithin bs → 0 < length bs → length (last_ops bs) ≢ 10000 → AreWithin (with_op op bs)
-with_op_within op bs h some other = record {
-  count = let most = h.count in omega (arith, length-with_op op bs);
-  last = let most = h.last in omega (arith, last_len op bs some);
+pub opened_so_far : (name : Option (List ℕ)) (blocks : List Block) (o : OpenBlock) → o.count ≡ length blocks + 1 → o.block ≡ record { name = name; ops = [] }
+    → AreSoFar blocks o (opened name blocks)
+opened_so_far name blocks o count block = record {
+  before = omega arith;
+  count = length-append blocks (record { name = name; ops = [] } ∷ []) ∙ sym count;
+  last = λ some. ap (λ b. blocks ++ b ∷ []) (sym block);
 }
 
-pub with_op_above : (op : Op) (bs : List Block) → AreWithin bs → 0 < length bs → length (last_ops bs) ≡ 10000
-    → (length (with_op op bs) ≤ 65535) × (10000 < length (last_ops (with_op op bs)))
-with_op_above op bs h some full = (let most = h.count in omega (arith, length-with_op op bs), omega (arith, last_len op bs some))
+pub pushed_so_far : (op : Op) (done blocks : List Block) (o p : OpenBlock) → AreSoFar done o blocks → 0 < length blocks → p.count ≡ o.count
+    → p.block ≡ record { name = o.block.name; ops = o.block.ops ++ op ∷ [] } → AreSoFar done p (with_op op blocks)
+pushed_so_far op done blocks o p h some count block =
+    let n = h.count in
+    let same : with_op op blocks ≡ done ++ p.block ∷ [] =
+    ap (with_op op) (h.last (omega arith)) ∙ with_op-snoc op done o.block ∙ ap (λ b. done ++ b ∷ []) (sym block) in
+    record {
+      before = h.before ∙ ap (λ n. n - 1) (sym count);
+      count = length-with_op op blocks ∙ h.count ∙ sym count;
+      last = λ _. same;
+    }
+
+pub so_far_within : (done blocks : List Block) (o : OpenBlock) → AreSoFar done o blocks → AreWithin blocks
+so_far_within done blocks o h = record {
+  count = let count = h.count in let few = o.few in omega arith;
+  last = let short = o.short in elim (none_or_some o.count) [
+    | inl none ↦ (let e = ap (λ bs. length (last_ops bs)) (no_blocks blocks (h.count ∙ none)) in omega arith)
+    | inr some ↦ (let e = ap (λ bs. length (last_ops bs)) (h.last some) in let l = ap length (last-snoc done o.block) in omega arith)
+  ];
+}
+
+pub pushed_above : (op : Op) (done blocks : List Block) (o : OpenBlock) → AreSoFar done o blocks → 0 < length blocks → length o.block.ops ≡ 10000
+    → (length (with_op op blocks) ≤ 65535) × (10000 < length (last_ops (with_op op blocks)))
+pushed_above op done blocks o h some full =
+    let few = o.few in
+    let count = h.count in
+    let e = ap (λ bs. length (last_ops bs)) (ap (with_op op) (h.last (omega arith)) ∙ with_op-snoc op done o.block) in
+    let l = ap length (last-snoc done (record { name = o.block.name; ops = o.block.ops ++ op ∷ [] })) in
+    (omega (arith, length-with_op op blocks), omega (arith, length-append o.block.ops (op ∷ [])))
+
+pub length-opened : (name : Option (List ℕ)) (blocks : List Block) → length (opened name blocks) ≡ length blocks + 1
+length-opened name blocks = length-append blocks (record { name = name; ops = [] } ∷ [])
+
+pub opened_above : (name : Option (List ℕ)) (blocks : List Block) → length blocks ≡ 65535 → 65535 < length (opened name blocks)
+opened_above name blocks h = omega (arith, length-append blocks (record { name = name; ops = [] } ∷ []))
+
+-- Lines
 
 pub with_optional-some : (op : Op) (bs : List Block) → 0 < length bs → with_optional_op (Some op) bs ≡ with_op op bs
 with_optional-some op [] some = absurd (omega arith)
@@ -68,30 +86,47 @@ length-with_optional None bs = omega arith
 length-with_optional (Some op) [] = omega arith
 length-with_optional (Some op) (b ∷ bs) = omega (arith, length-with_op op (b ∷ bs))
 
--- where the first of two steps fails, the line as a whole has that fault
-pub Grows-then : (op : Option Op) (wanted new : List Block) (line : ℕ) (fault : ReadFault) → Grows wanted line (Err fault) new
-    → ((n : ℕ) → fault ≢ TooManyOperations n) → Grows (with_optional_op op wanted) line (Err fault) new
-Grows-then op wanted new line InputTooLong g other = absurd g
-Grows-then op wanted new line (BadLine n) g other = absurd g
-Grows-then op wanted new line (NumberTooLarge n) g other = absurd g
-Grows-then op wanted new line (TooManyBlocks n) g other = (g.0, let more = g.1 in omega (arith, length-with_optional op wanted))
-Grows-then op wanted new line (TooManyOperations n) g other = absurd (other n refl)
-Grows-then op wanted new line NoMemory g other = tt
+-- a fault doesn't hang on what would stand without it
+pub Grows-fault : (Stand Other : List Block → Type 0) (wanted : List Block) (line : ℕ) (fault : ReadFault)
+    → Grows Stand wanted line (Err fault) → Grows Other wanted line (Err fault)
+Grows-fault Stand Other wanted line InputTooLong g = g
+Grows-fault Stand Other wanted line (BadLine n) g = g
+Grows-fault Stand Other wanted line (NumberTooLarge n) g = g
+Grows-fault Stand Other wanted line (TooManyBlocks n) g = g
+Grows-fault Stand Other wanted line (TooManyOperations n) g = g
+Grows-fault Stand Other wanted line NoMemory g = tt
 
--- an opened block has no operations
-pub opened_fault : (name : Option (List ℕ)) (blocks new : List Block) (line : ℕ) (fault : ReadFault) → Grows (opened name blocks) line (Err fault) new
-    → (n : ℕ) → fault ≢ TooManyOperations n
-opened_fault name blocks new line fault g n e =
-    let here : Grows (opened name blocks) line (Err (TooManyOperations n)) new = subst (λ f. Grows (opened name blocks) line (Err f) new) e g in
+-- where opening a block fails, the line as a whole has that fault
+pub first_fails : (Stand : List Block → Type 0) (name : Option (List ℕ)) (op : Option Op) (blocks : List Block) (line : ℕ) (fault : ReadFault)
+    → Grows Stand (opened name blocks) line (Err fault) → Grows Stand (with_optional_op op (opened name blocks)) line (Err fault)
+first_fails Stand name op blocks line InputTooLong g = absurd g
+first_fails Stand name op blocks line (BadLine n) g = absurd g
+first_fails Stand name op blocks line (NumberTooLarge n) g = absurd g
+first_fails Stand name op blocks line (TooManyBlocks n) g = (g.0, let more = g.1 in omega (arith, length-with_optional op (opened name blocks)))
+first_fails Stand name op blocks line (TooManyOperations n) g =
     let none = ap length (last-snoc blocks (record { name = name; ops = [] })) in
-    let many = here.2 in omega arith
+    let many = g.2 in absurd (omega arith)
+first_fails Stand name op blocks line NoMemory g = tt
 
-pub first_fails : (name : Option (List ℕ)) (op : Option Op) (blocks new : List Block) (line : ℕ) (fault : ReadFault)
-    → Grows (opened name blocks) line (Err fault) new → Grows (with_optional_op op (opened name blocks)) line (Err fault) new
-first_fails name op blocks new line fault g = Grows-then op (opened name blocks) new line fault g (opened_fault name blocks new line fault g)
+-- an operation is added behind what was taken
+pub pushed_behind : {T : Type 0} (took : T → List Block → T → Type 0) (start taker : T) (o p : OpenBlock) (op : Op) (blocks : List Block) (line : ℕ) (result : Result (Unit {0}) ReadFault)
+    → HasTaken took start taker o blocks → ((done : List Block) → AreSoFar done o blocks → Grows (AreSoFar done p) (with_op op blocks) line result)
+    → Grows (HasTaken took start taker p) (with_op op blocks) line result
+pushed_behind took start taker o p op blocks line (Ok done) h pushed = (h.0, h.1, pushed h.0 h.2)
+pushed_behind took start taker o p op blocks line (Err fault) h pushed =
+    Grows-fault (AreSoFar h.0 p) (HasTaken took start taker p) (with_op op blocks) line fault (pushed h.0 h.2)
 
-pub label_fails : (label found : Option (List ℕ)) (op : Option Op) (blocks new : List Block) (line : ℕ) (result : Result (Unit {0}) ReadFault) (fault : ReadFault)
-    → label ≡ found → result ≡ Err fault → Grows (with_line found op blocks) line (Err fault) new → Grows (with_line label op blocks) line result new
-label_fails label found op blocks new line result fault e f g =
-    let P : Option (List ℕ) → Result (Unit {0}) ReadFault → Type 0 = λ l r. Grows (with_line l op blocks) line r new in
-    subst₂ P (sym e) (sym f) g
+-- the fault of an opening is that of a line with this label
+pub label_fails : (Stand : List Block → Type 0) (label found : Option (List ℕ)) (op : Option Op) (blocks : List Block) (line : ℕ) (result : Result (Unit {0}) ReadFault) (fault : ReadFault)
+    → label ≡ found → is_some found ≡ true → result ≡ Err fault → Grows Stand (opened found blocks) line (Err fault) → Grows Stand (with_line label op blocks) line result
+label_fails Stand label None op blocks line result fault e some f g = cc
+label_fails Stand label (Some name) op blocks line result fault e some f g =
+    let P : Option (List ℕ) → Result (Unit {0}) ReadFault → Type 0 = λ l r. Grows Stand (with_line l op blocks) line r in
+    subst₂ P (sym e) (sym f) (first_fails Stand (Some name) op blocks line fault g)
+
+-- and of a line with an operation where no block is open
+pub unnamed_fails : (Stand : List Block → Type 0) (op : Op) (blocks : List Block) (line : ℕ) (result : Result (Unit {0}) ReadFault) (fault : ReadFault)
+    → length blocks ≡ 0 → result ≡ Err fault → Grows Stand (opened None blocks) line (Err fault) → Grows Stand (with_optional_op (Some op) blocks) line result
+unnamed_fails Stand op [] line result fault none f g =
+    subst (Grows Stand (with_optional_op (Some op) []) line) (sym f) (first_fails Stand None (Some op) [] line fault g)
+unnamed_fails Stand op (b ∷ bs) line result fault none f g = absurd (omega arith)

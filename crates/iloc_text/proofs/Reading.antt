@@ -70,7 +70,6 @@ pub record Progress (input : List ℕ) (blocks : List Block) (number : ℕ) (res
   pub read : ReadAs before readings
   pub none_faulty : NoneFaulty readings
   pub blocks_are : blocks ≡ file_of readings
-  pub within : AreWithin blocks
   pub number_is : number ≡ length before
   pub lines : lines_of input ≡ before ++ lines_left rest
 
@@ -78,32 +77,30 @@ nothing_read : file_of [] ≡ []
 unfolding file_of block_names
 nothing_read = refl
 
-pub progress_begins : (input : Bor (List ℕ)) (blocks : List Block) → blocks ≡ [] → Progress input.now blocks 0 (Some input)
-progress_begins input blocks e = record {
+pub progress_begins : (input : Bor (List ℕ)) → Progress input.now [] 0 (Some input)
+progress_begins input = record {
   before = [];
   readings = [];
   read = tt;
   none_faulty = tt;
-  blocks_are = e ∙ sym nothing_read;
-  within = subst AreWithin (sym e) (record { count = omega arith; last = omega arith });
+  blocks_are = sym nothing_read;
   number_is = refl;
   lines = refl;
 }
 
 pub progress_step : {input : List ℕ} {blocks : List Block} {number : ℕ} {text : Bor (List ℕ)} (p : Progress input blocks number (Some text))
-    (line : List ℕ) (after : Option (Bor (List ℕ))) (label : Option (List ℕ)) (op : Option Op) (blocks' : List Block)
-    → lines_of text.now ≡ line ∷ lines_left after → Reads line label op → (blocks' ≡ with_line label op blocks) × AreWithin blocks'
-    → Progress input blocks' (number + 1) after
-progress_step {input} {blocks} {number} {text} p line after label op blocks' split reads grown =
+    (line : List ℕ) (after : Option (Bor (List ℕ))) (label : Option (List ℕ)) (op : Option Op)
+    → lines_of text.now ≡ line ∷ lines_left after → Reads line label op → AreWithin (with_line label op blocks)
+    → Progress input (with_line label op blocks) (number + 1) after
+progress_step {input} {blocks} {number} {text} p line after label op split reads within =
     let r : Reading = record { label = label; op = op } in
-    let file : blocks' ≡ file_of (p.readings ++ r ∷ []) = grown.0 ∙ ap (with_line label op) p.blocks_are ∙ sym (file-snoc p.readings r) in
+    let file : with_line label op blocks ≡ file_of (p.readings ++ r ∷ []) = ap (with_line label op) p.blocks_are ∙ sym (file-snoc p.readings r) in
     record {
       before = p.before ++ line ∷ [];
       readings = p.readings ++ r ∷ [];
       read = ReadAs-snoc p.before p.readings line r p.read reads;
-      none_faulty = NoneFaulty-snoc p.readings r p.none_faulty (within_by (p.readings ++ r ∷ []) (subst AreWithin file grown.1));
+      none_faulty = NoneFaulty-snoc p.readings r p.none_faulty (within_by (p.readings ++ r ∷ []) (subst AreWithin file within));
       blocks_are = file;
-      within = grown.1;
       number_is = omega (arith, length-append p.before (line ∷ []), p.number_is);
       lines = p.lines ∙ ap (λ l. p.before ++ l) split ∙ sym (append_assoc p.before (line ∷ []) (lines_left after));
     }
@@ -150,16 +147,16 @@ fault_here {input} {blocks} {number} {text} p line after fault short split memor
   faulty = subst (λ n. IsFaulty p.readings line n fault) (ap (λ n. n + 1) p.number_is) faulty;
 })
 
-grown_faulty : (rs : List Reading) (line : List ℕ) (n : ℕ) (label : Option (List ℕ)) (op : Option Op) (fault : ReadFault) (new : List Block)
-    → Reads line label op → Grows (with_line label op (file_of rs)) n (Err fault) new → fault ≢ NoMemory → IsFaulty rs line n fault
-grown_faulty rs line n label op InputTooLong new reads g memory = absurd g
-grown_faulty rs line n label op (BadLine k) new reads g memory = absurd g
-grown_faulty rs line n label op (NumberTooLarge k) new reads g memory = absurd g
-grown_faulty rs line n label op (TooManyBlocks k) new reads g memory =
+grown_faulty : (rs : List Reading) (line : List ℕ) (n : ℕ) (label : Option (List ℕ)) (op : Option Op) (fault : ReadFault) (Stand : List Block → Type 0)
+    → Reads line label op → Grows Stand (with_line label op (file_of rs)) n (Err fault) → fault ≢ NoMemory → IsFaulty rs line n fault
+grown_faulty rs line n label op InputTooLong Stand reads g memory = absurd g
+grown_faulty rs line n label op (BadLine k) Stand reads g memory = absurd g
+grown_faulty rs line n label op (NumberTooLarge k) Stand reads g memory = absurd g
+grown_faulty rs line n label op (TooManyBlocks k) Stand reads g memory =
     let r : Reading = record { label = label; op = op } in
     let more = g.1 in
     (g.0, record { reading = r; read = reads; blocks = omega (arith, length-file (rs ++ r ∷ []), ap length (file-snoc rs r)) })
-grown_faulty rs line n label op (TooManyOperations k) new reads g memory =
+grown_faulty rs line n label op (TooManyOperations k) Stand reads g memory =
     let r : Reading = record { label = label; op = op } in
     let most = g.1 in
     let more = g.2 in (
@@ -171,19 +168,19 @@ grown_faulty rs line n label op (TooManyOperations k) new reads g memory =
         operations = omega (arith, ap length (last-file (rs ++ r ∷ [])), ap (λ bs. length (last_ops bs)) (file-snoc rs r));
       },
     )
-grown_faulty rs line n label op NoMemory new reads g memory = absurd (memory refl)
+grown_faulty rs line n label op NoMemory Stand reads g memory = absurd (memory refl)
 
-not_long : (wanted new : List Block) (n : ℕ) (fault : ReadFault) → Grows wanted n (Err fault) new → fault ≢ InputTooLong
-not_long wanted new n fault g e = let P : ReadFault → Type 0 = λ f. Grows wanted n (Err f) new in subst P e g
+not_long : (Stand : List Block → Type 0) (wanted : List Block) (n : ℕ) (fault : ReadFault) → Grows Stand wanted n (Err fault) → fault ≢ InputTooLong
+not_long Stand wanted n fault g e = let P : ReadFault → Type 0 = λ f. Grows Stand wanted n (Err f) in subst P e g
 
 pub grown_here : {input : List ℕ} {blocks : List Block} {number : ℕ} {text : Bor (List ℕ)} (p : Progress input blocks number (Some text))
-    (line : List ℕ) (after : Option (Bor (List ℕ))) (fault : ReadFault) (label : Option (List ℕ)) (op : Option Op) (new : List Block)
+    (line : List ℕ) (after : Option (Bor (List ℕ))) (fault : ReadFault) (label : Option (List ℕ)) (op : Option Op) (Stand : List Block → Type 0)
     → length input ≤ 16777216 → lines_of text.now ≡ line ∷ lines_left after → Reads line label op
-    → Grows (with_line label op blocks) (number + 1) (Err fault) new → fault ≢ NoMemory → IsRefused input fault
-grown_here {input} {blocks} {number} {text} p line after fault label op new short split reads g memory =
-    let P : List Block → Type 0 = λ bs. Grows (with_line label op bs) (number + 1) (Err fault) new in
-    fault_here p line after fault short split memory (not_long (with_line label op blocks) new (number + 1) fault g)
-    (grown_faulty p.readings line (number + 1) label op fault new reads (subst P p.blocks_are g) memory)
+    → Grows Stand (with_line label op blocks) (number + 1) (Err fault) → fault ≢ NoMemory → IsRefused input fault
+grown_here {input} {blocks} {number} {text} p line after fault label op Stand short split reads g memory =
+    let P : List Block → Type 0 = λ bs. Grows Stand (with_line label op bs) (number + 1) (Err fault) in
+    fault_here p line after fault short split memory (not_long Stand (with_line label op blocks) (number + 1) fault g)
+    (grown_faulty p.readings line (number + 1) label op fault Stand reads (subst P p.blocks_are g) memory)
 
 -- the fault that a call hands on
 pub err_is_refused : {T : Type 0} (input : List ℕ) (r : Result T ReadFault) (fault : ReadFault) → r ≡ Err fault → (fault ≢ NoMemory → IsRefused input fault)

@@ -5,3 +5,4 @@ pub mod Opcodes
 pub mod Scan
 pub mod OnePass
 pub mod Growth
+pub mod Open

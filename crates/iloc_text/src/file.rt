@@ -26,6 +26,16 @@ impl Name {
         Name { text }
     }
 
+    /// Becomes the name with this text, in the room that it has; where memory is refused it is empty.
+    pub fn set(&mut self, text: &str) -> Result<(), NoMemory>
+        ensures ok { OnOk result (self.new ≡ text.now) }
+        ensures err { OnErr result (self.new ≡ []) }
+    {
+        self.text.clear();
+        self.text.push_str(text)?;
+        Ok(())
+    }
+
     /// The text of the name.
     pub fn as_str(&self) -> &str
         ensures { result.now ≡ self.now }
@@ -82,6 +92,13 @@ impl Ops {
     {
         self.items.push(op)?;
         Ok(())
+    }
+
+    /// Lets all operations go; the room for them stays.
+    pub fn clear(&mut self)
+        ensures { self.new ≡ [] }
+    {
+        self.items.clear();
     }
 
     /// The operations, lent.
@@ -160,10 +177,13 @@ mod tests {
 
     #[test]
     fn gives_back_what_it_holds(rt: HostRuntime) -> Result<(), Fail> {
-        let name = Name::new(String::from_str(rt.alloc(), "loop")?);
+        let mut name = Name::new(String::from_str(rt.alloc(), "L")?);
+        name.set("loop")?;
         assert_eq!(rt; name.as_str(), "loop");
         let mut ops = Ops::new(Vec::new(rt.alloc()));
         assert!(rt; ops.is_empty());
+        ops.push(Op::Output { addr: 0 })?;
+        ops.clear();
         ops.push(Op::Nop)?;
         assert_eq!(rt; ops.into_vec().as_slice(), [Op::Nop].as_slice());
         let block = Block {

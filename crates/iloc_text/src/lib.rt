@@ -1,6 +1,7 @@
 //! The text of ILOC: its operations and files, how they are read, and how they are spelled.
 #![tactic(auto)]
 
+mod copies;
 mod fault;
 mod file;
 mod growth;
@@ -11,16 +12,19 @@ mod line_ends;
 mod one_pass;
 mod op;
 mod opcode;
+mod open_block;
 mod operation;
 mod reader;
 mod registers;
 mod scan;
 mod spelling;
+mod taker;
 
 pub use fault::{NoMemory, ReadFault};
 pub use file::{Block, Blocks, IlocFile, Name, Ops};
 pub use limits::{MAX_BLOCKS, MAX_INPUT, MAX_OPS};
 pub use op::{Op, Reg};
-pub use reader::read_file;
+pub use reader::{read_blocks, read_file};
 pub use registers::{defines, uses, with_registers};
 pub use spelling::{push_number, push_op};
+pub use taker::TakeBlocks;

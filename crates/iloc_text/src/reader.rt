@@ -1,16 +1,19 @@
-//! The reader: from bytes to the file that they denote.
-ghost use Rattle.std.specs.Prelude.{◌≢◌, IfOk, IfErr};
+//! The reader: from bytes to the blocks that they denote.
+ghost use Rattle.std.specs.Prelude.{◌≢◌, List, IfOk, IfErr, OnOk};
+ghost use Rattle.iloc_text.specs.declared.file.Block.{Block};
 ghost use Rattle.iloc_text.specs.declared.fault.ReadFault.TheVariants.{NoMemory as no_memory};
 ghost use Rattle.iloc_text.specs.Steps.LineReads.{FirstLine};
 ghost use Rattle.iloc_text.specs.Files.{Denotes, IsRefused};
 
+use crate::copies::Copies;
 use crate::fault::ReadFault;
 use crate::file::{Blocks, IlocFile};
-use crate::growth::add_line;
 use crate::limits::MAX_INPUT;
 use crate::line::{Line, LineFault, read_line};
 use crate::line_ends::split_line;
 use crate::one_pass::usual_line;
+use crate::open_block::OpenBlock;
+use crate::taker::TakeBlocks;
 use std::alloc::Global;
 
 /// The first line of the text and what stands behind its line end, if it has one; or why it has no reading.
@@ -25,19 +28,26 @@ fn first_line(text: &[u8]) -> Result<(Line<'_>, Option<&[u8]>), LineFault>
     Ok((line, after))
 }
 
-/// Reads a file of ILOC: exactly the file that the text denotes, or the refusal that it denotes.
+/// Reads a text of ILOC and hands each block over, in order, as soon as its last line is read: exactly the
+/// blocks that the text denotes, or the refusal that it denotes.
 ///
 /// A text that is too long is refused before any line is looked at; otherwise the earliest faulty line
 /// is named. On one line `BadLine` comes before `NumberTooLarge`, `TooManyBlocks` and
-/// `TooManyOperations`. `NoMemory` may come besides, where the growth of a list is refused.
-pub fn read_file(alloc: Global, input: &[u8]) -> Result<IlocFile, ReadFault>
-    ensures ok { IfOk result (λ file. Denotes input.now file.blocks) }
+/// `TooManyOperations`. `NoMemory` may come besides, where the taker answers it or a growth is refused.
+/// Where a text is refused, blocks may have been handed over.
+pub fn read_blocks<T: TakeBlocks>(
+    alloc: Global,
+    input: &[u8],
+    taker: &mut T,
+) -> Result<(), ReadFault>
+    ensures ok { OnOk result
+        ((blocks : List Block) × Denotes input.now blocks × T.took taker.old blocks taker.new) }
     ensures err { IfErr result (λ fault. fault ≢ no_memory → IsRefused input.now fault) }
 {
     if input.len() > MAX_INPUT {
         return Err(ReadFault::InputTooLong);
     }
-    let mut blocks = Vec::new(alloc);
+    let mut open = OpenBlock::none(alloc);
     let mut number = 0;
     let mut rest = Some(input);
     while let Some(text) = rest {
@@ -47,11 +57,25 @@ pub fn read_file(alloc: Global, input: &[u8]) -> Result<IlocFile, ReadFault>
             Err(LineFault::Bad) => return Err(ReadFault::BadLine(number)),
             Err(LineFault::NumberTooLarge) => return Err(ReadFault::NumberTooLarge(number)),
         };
-        add_line(alloc, &mut blocks, line, number)?;
+        open.add_line(alloc, taker, line, number)?;
         rest = after;
     }
+    open.hand_over(alloc, taker)?;
+    Ok(())
+}
+
+/// Reads a file of ILOC: exactly the file that the text denotes, or the refusal that it denotes, as
+/// `read_blocks` says.
+pub fn read_file(alloc: Global, input: &[u8]) -> Result<IlocFile, ReadFault>
+    ensures ok { IfOk result (λ file. Denotes input.now file.blocks) }
+    ensures err { IfErr result (λ fault. fault ≢ no_memory → IsRefused input.now fault) }
+{
+    let mut copies = Copies {
+        blocks: Vec::new(alloc),
+    };
+    read_blocks(alloc, input, &mut copies)?;
     Ok(IlocFile {
-        blocks: Blocks::new(blocks),
+        blocks: Blocks::new(copies.blocks),
     })
 }
 

@@ -1,7 +1,7 @@
 //! The tokens of a line. Each function reads one at the front of the bytes and gives what stands behind it.
 ghost use Rattle.std.specs.Prelude.{◌≡◌, ◌≤◌, ◌<◌, ◌-◌, ◌+◌, ◌*◌, option_map, length};
 ghost use Rattle.iloc_text.specs.Grammar.{is_blank, is_word_byte};
-ghost use Rattle.iloc_text.specs.Steps.Scan.{after_blanks, some_blanks_at, capped, number_at, register_at, arrow_at, comma_at, after_word, word_of};
+ghost use Rattle.iloc_text.specs.Steps.Scan.{after_blanks, some_blanks_at, capped, digits_after, number_at, register_at, arrow_at, comma_at, after_word, word_of};
 
 use crate::op::Reg;
 
@@ -46,6 +46,17 @@ fn with_digit(value: u32, digit: u8) -> u32
     wide.min(u64::from(ABOVE_LIMIT)) as u32
 }
 
+/// The bytes behind the zeros at the front, which count for nothing in a number.
+fn after_zeros(bytes: &[u8]) -> &[u8]
+    ensures { digits_after 0 result.now ≡ digits_after 0 bytes.now }
+{
+    let mut rest = bytes;
+    while let [b'0', after @ ..] = rest {
+        rest = after;
+    }
+    rest
+}
+
 /// A number, which counts as `ABOVE_LIMIT` where it is greater.
 pub fn number_at(bytes: &[u8]) -> Option<(u32, &[u8])>
     ensures { option_map (λ found. (found.0, found.1.now)) result ≡ number_at bytes.now }
@@ -57,7 +68,7 @@ pub fn number_at(bytes: &[u8]) -> Option<(u32, &[u8])>
         return None;
     }
     let mut value = 0;
-    let mut rest = bytes;
+    let mut rest = after_zeros(bytes);
     while let [digit, after @ ..] = rest
         && digit.is_ascii_digit()
     {

@@ -39,12 +39,12 @@ pub record AreWithin (blocks : List Block) : Type 0 where
   pub count : length blocks ≤ 65535
   pub last : length (last_ops blocks) ≤ 10000
 
--- what comes of a step that makes these blocks wanted, on this line
-abbrev pub Grows : List Block → ℕ → Result (Unit {0}) ReadFault → List Block → Type 0
-Grows wanted line (Ok done) new = (new ≡ wanted) × AreWithin new
-Grows wanted line (Err InputTooLong) new = ⊥
-Grows wanted line (Err (BadLine n)) new = ⊥
-Grows wanted line (Err (NumberTooLarge n)) new = ⊥
-Grows wanted line (Err (TooManyBlocks n)) new = (n ≡ line) × (65535 < length wanted)
-Grows wanted line (Err (TooManyOperations n)) new = (n ≡ line) × (length wanted ≤ 65535) × (10000 < length (last_ops wanted))
-Grows wanted line (Err NoMemory) new = Unit {0}
+-- What comes of a step that makes these blocks wanted, on this line: at its end `Stand` holds of them.
+abbrev pub Grows : (List Block → Type 0) → List Block → ℕ → Result (Unit {0}) ReadFault → Type 0
+Grows Stand wanted line (Ok done) = Stand wanted
+Grows Stand wanted line (Err InputTooLong) = ⊥
+Grows Stand wanted line (Err (BadLine n)) = ⊥
+Grows Stand wanted line (Err (NumberTooLarge n)) = ⊥
+Grows Stand wanted line (Err (TooManyBlocks n)) = (n ≡ line) × (65535 < length wanted)
+Grows Stand wanted line (Err (TooManyOperations n)) = (n ≡ line) × (length wanted ≤ 65535) × (10000 < length (last_ops wanted))
+Grows Stand wanted line (Err NoMemory) = Unit {0}

@@ -1,4 +1,6 @@
 use super::*;
+use crate::fault::NoMemory;
+use crate::file::Block;
 use crate::limits::{MAX_BLOCKS, MAX_OPS};
 use crate::op::{Op, Reg};
 use std::alloc::AllocError;
@@ -241,5 +243,88 @@ fn refuses_an_input_that_is_too_long(rt: HostRuntime) -> Result<(), Fail> {
         fault_of(&rt, text.as_slice()),
         Some(ReadFault::InputTooLong)
     );
+    Ok(())
+}
+
+/// Writes down what it is handed, for so many blocks as it has room for.
+#[derive(Drop)]
+struct Diary {
+    room: usize,
+    // The number of the last block, taken or refused.
+    asked: usize,
+    numbers: Vec<usize>,
+    names: String,
+    ops: Vec<Op>,
+}
+
+impl Diary {
+    /// With nothing written down.
+    fn new(alloc: Global, room: usize) -> Diary {
+        Diary {
+            room,
+            asked: 0,
+            numbers: Vec::new(alloc),
+            names: String::new(alloc),
+            ops: Vec::new(alloc),
+        }
+    }
+}
+
+impl TakeBlocks for Diary {
+    ghost took = { λ _ _ _. Unit {0} };
+
+    fn take(&mut self, _alloc: Global, number: usize, block: &Block) -> Result<(), NoMemory> {
+        self.asked = number;
+        if self.numbers.len() == self.room {
+            return Err(NoMemory);
+        }
+        self.numbers.push(number)?;
+        self.names
+            .push_str(block.name.as_ref().map_or("-", |name| name.as_str()))?;
+        self.names.push('.')?;
+        self.ops.extend_from_slice(block.ops.as_slice())?;
+        Ok(())
+    }
+
+    ghost took_none = { λ _. tt };
+}
+
+const MIXED: &[u8] = b"output 0\noutput 4\nlonger: nop\nb:\nc: output 8 // last";
+
+#[test]
+fn hands_each_block_over_once(rt: HostRuntime) -> Result<(), Fail> {
+    let mut diary = Diary::new(rt.alloc(), 9);
+    read_blocks(rt.alloc(), MIXED, &mut diary)?;
+    assert_eq!(rt; diary.numbers.as_slice(), [1, 2, 3, 4].as_slice());
+    assert_eq!(rt; diary.names.as_str(), "-.longer.b.c.");
+    let output = |addr| Op::Output { addr };
+    assert_eq!(rt;
+        diary.ops.as_slice(),
+        [output(0), output(4), Op::Nop, output(8)].as_slice()
+    );
+    Ok(())
+}
+
+#[test]
+fn hands_nothing_over_behind_a_refusal(rt: HostRuntime) {
+    for room in 0..4 {
+        let mut diary = Diary::new(rt.alloc(), room);
+        let answer = read_blocks(rt.alloc(), MIXED, &mut diary);
+        assert_eq!(rt; answer, Err(ReadFault::NoMemory));
+        assert_eq!(rt; diary.numbers.len(), room);
+        assert_eq!(rt; diary.asked, room + 1);
+    }
+}
+
+#[test]
+fn hands_over_what_stands_before_a_fault(rt: HostRuntime) -> Result<(), Fail> {
+    let mut diary = Diary::new(rt.alloc(), 9);
+    let answer = read_blocks(
+        rt.alloc(),
+        b"output 0\nA: output 4\nB: output 8\noutput",
+        &mut diary,
+    );
+    assert_eq!(rt; answer, Err(ReadFault::BadLine(4)));
+    assert_eq!(rt; diary.names.as_str(), "-.A.");
     Ok(())
 }

@@ -1,13 +1,18 @@
-use Rattle.std.proofs.Common.{◌≡◌}
+use Rattle.std.proofs.Common.{◌≡◌, ◌∙◌, ap, subst}
+use Rattle.iloc_text.specs.Files.{Denotes}
 use Rattle.iloc_farm.specs.Initial.{memory_of}
 use Rattle.iloc_farm.specs.Run.{run_listing}
 use Rattle.iloc_farm.proofs.Simulated.{simulated}
 use Rattle.iloc_farm.proofs.end_to_end.request_text.Goals as goal
 
-pub returns-in_ok-outcomes_listed-in-Simulate : goal.returns-in_ok-outcomes_listed-in-Simulate
-returns-in_ok-outcomes_listed-in-Simulate g c =
-    let blocks = c.args.file.now.blocks in
+pub returns-in_ok-outcomes_listed-in-Simulate-clause-ok : goal.returns-in_ok-outcomes_listed-in-Simulate-clause-ok
+returns-in_ok-outcomes_listed-in-Simulate-clause-ok g c =
+    let listed = c.in_ok-outcomes_listed-in-Simulate.ensures.ok in
+    let blocks = listed.0 in
     let text = c.in_ok-outcomes_listed-in-Simulate.field-0.items in
     let whole : text ≡ run_listing (memory_of c.args.request.now) blocks =
-    rw (c.in_ok-runner-in-Simulate.ensures, c.in_ok-memory-in-Simulate.ensures) at c.in_ok-outcomes_listed-in-Simulate.ensures in
-    rw c.in-Simulate.is (simulated c.args.request.now.latencies (memory_of c.args.request.now) blocks text whole, whole)
+    listed.2 ∙ ap (λ memory. run_listing memory blocks) (c.in_ok-runner-in-Simulate.ensures ∙ c.in_ok-memory-in-Simulate.ensures) in (
+      blocks,
+      subst (λ input. Denotes input blocks) c.deref-in-Simulate.ensures.value listed.1,
+      rw c.in-Simulate.is (simulated c.args.request.now.latencies (memory_of c.args.request.now) blocks text whole, whole),
+    )

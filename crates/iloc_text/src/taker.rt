@@ -1,0 +1,24 @@
+//! What the reader hands the blocks of a text to.
+ghost use Rattle.std.specs.Prelude.{◌≡◌, ◌+◌, ◌≤◌, List, [], ◌∷◌, ◌++◌, length, OnOk};
+ghost use Rattle.iloc_text.specs.declared.file.Block.{Block as block_value};
+
+use crate::fault::NoMemory;
+use crate::file::Block;
+use std::alloc::Global;
+
+/// Takes the blocks of a text, one after another.
+pub trait TakeBlocks {
+    // From the first state to the second one it took these blocks.
+    ghost took: { Self → List block_value → Self → Type 0 };
+
+    /// Takes the block with this number, counted from 1. The block is lent: its room serves the next one.
+    fn take(&mut self, alloc: Global, number: usize, block: &Block) -> Result<(), NoMemory>
+        requires first { 1 ≤ number }
+        requires last { number ≤ 65535 }
+        requires short { length block.now.ops ≤ 10000 }
+        ensures { (start : Self) (blocks : List block_value) → took start blocks self.old →
+            length blocks + 1 ≡ number → OnOk result (took start (blocks ++ block.now ∷ []) self.new) };
+
+    // At first it took none.
+    ghost took_none: { (start : Self) → took start [] start };
+}
