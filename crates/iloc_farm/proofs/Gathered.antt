@@ -10,17 +10,21 @@ use Rattle.iloc_board.specs.Working.{IsDone}
 use Rattle.iloc_board.specs.Collecting.{workers_of, IsWhole}
 
 in_range : (n w : ℕ) → w < n → Contains (range_with_len 0 n) w
-in_range n w below = let here = get_or-range_with_len 0 n w w below in (w, omega (arith, length-range_with_len 0 n), omega arith)
+in_range n w below = let here = get_or-range_with_len 0 n w w below in
+    (w, omega (arith, length-range_with_len 0 n), omega arith)
 
-first_told : (js : List JournalView) → All IsDone js → 0 < length js → list_any (λ (j : JournalView). saw_none j.entries) js ≡ true
+first_told : (js : List JournalView) → All IsDone js → 0 < length js
+    → list_any (λ (j : JournalView). saw_none j.entries) js ≡ true
 first_told [] h some = absurd (omega arith)
 first_told (j ∷ js) h some = rw (All-head IsDone j js h).told refl
 
-whole_in : (js : List JournalView) (made : ℕ) → workers_of js ≡ range_with_len 0 made → All IsDone js → 0 < made → IsWhole made js
+whole_in : (js : List JournalView) (made : ℕ) → workers_of js ≡ range_with_len 0 made → All IsDone js → 0 < made
+    → IsWhole made js
 whole_in js made e h some_made = record {
   all = λ w below. let P : List ℕ → Type 0 = λ ws. Contains ws w in subst P (sym e) (in_range made w below);
   idle = All-weaker IsDone (λ j. is_holding (state_of j.entries) ≡ false) (λ j done. ap is_holding done.free) js h;
-  told = first_told js h (let n = ap length e in omega (arith, length-map js (λ (j : JournalView). j.worker), length-range_with_len 0 made));
+  told = first_told js h (let n = ap length e in
+      omega (arith, length-map js (λ (j : JournalView). j.worker), length-range_with_len 0 made));
 }
 
 map-map : {A B C : Type 0} (f : A → B) (g : B → C) (xs : List A) → map g (map f xs) ≡ map (λ x. g (f x)) xs
@@ -28,6 +32,9 @@ map-map f g [] = refl
 map-map f g (x ∷ xs) = ap (λ t. g (f x) ∷ t) (map-map f g xs)
 
 -- what was gathered of passes that are all done
-pub whole : {W : Type 0} (f : W → JournalView) (ws : List W) (js : List JournalView) (made : ℕ) → js ≡ map f ws → map (λ w. (f w).worker) ws ≡ range_with_len 0 made → All (λ w. IsDone (f w)) ws → 0 < made → IsWhole made js
+pub whole : {W : Type 0} (f : W → JournalView) (ws : List W) (js : List JournalView) (made : ℕ) → js ≡ map f ws
+    → map (λ w. (f w).worker) ws ≡ range_with_len 0 made → All (λ w. IsDone (f w)) ws → 0 < made → IsWhole made js
 whole f ws js made e n h some_made =
-    whole_in js made (ap (λ t. map (λ (j : JournalView). j.worker) t) e ∙ (map-map f (λ (j : JournalView). j.worker) ws ∙ n)) (All-same IsDone js (map f ws) e (All-map IsDone f ws h)) some_made
+    whole_in js made (ap (λ t. map (λ (j : JournalView). j.worker) t) e
+    ∙ (map-map f (λ (j : JournalView). j.worker) ws ∙ n)) (All-same IsDone js (map f ws) e (All-map IsDone f ws h))
+    some_made

@@ -11,15 +11,18 @@ entries-snoc : (k n : ℕ) (memory : List ℤ) (blocks : List Block) (b : Block)
     ≡ entries outcome_entry k blocks (plain_outcomes memory blocks) ++ outcome_entry n b.name (outcome b.ops memory)
 entries-snoc k n memory [] b e = append-nil _ ∙ ap (λ m. outcome_entry m b.name (outcome b.ops memory)) (omega arith)
 entries-snoc k n memory (x ∷ xs) b e =
-    ap (λ rest. outcome_entry k x.name (outcome x.ops memory) ++ rest) (entries-snoc (k + 1) n memory xs b (omega arith))
-    ∙ sym (append_assoc (outcome_entry k x.name (outcome x.ops memory)) (entries outcome_entry (k + 1) xs (plain_outcomes memory xs)) (outcome_entry n b.name (outcome b.ops memory)))
+    ap (λ rest. outcome_entry k x.name (outcome x.ops memory) ++ rest)
+    (entries-snoc (k + 1) n memory xs b (omega arith))
+    ∙ sym (append_assoc (outcome_entry k x.name (outcome x.ops memory))
+    (entries outcome_entry (k + 1) xs (plain_outcomes memory xs)) (outcome_entry n b.name (outcome b.ops memory)))
 
 -- the entry of the next block stands behind the listing of those before it
 listed-snoc : (memory : List ℤ) (blocks : List Block) (b : Block) (n : ℕ) → length blocks + 1 ≡ n
     → run_listing memory (blocks ++ b ∷ []) ≡ run_listing memory blocks ++ outcome_entry n b.name (outcome b.ops memory)
 listed-snoc memory blocks b n e = entries-snoc 1 n memory blocks b (omega arith)
 
-pub listed_next : (memory : List ℤ) (start old new : List ℕ) (blocks : List Block) (b : Block) (n : ℕ) → old ≡ start ++ run_listing memory blocks → length blocks + 1 ≡ n
+pub listed_next : (memory : List ℤ) (start old new : List ℕ) (blocks : List Block) (b : Block) (n : ℕ)
+    → old ≡ start ++ run_listing memory blocks → length blocks + 1 ≡ n
     → new ≡ old ++ outcome_entry n b.name (outcome b.ops memory) → new ≡ start ++ run_listing memory (blocks ++ b ∷ [])
 listed_next memory start old new blocks b n listed number pushed =
     let entry = outcome_entry n b.name (outcome b.ops memory) in

@@ -10,19 +10,24 @@ pub placed_none : (at : ℕ) → at ≤ 65532 → zeros ≡ words_from at []
 unfolding zeros
 placed_none at within =
     let size : at / 4 + (16384 - (at / 4 + 0)) ≡ 16384 = omega arith in
-    rw append-nil (sym (replicate-append-replicate (at / 4) (16384 - (at / 4 + 0)) (pos 0) ∙ ap (λ n. replicate n (pos 0)) size))
+    rw append-nil (sym (replicate-append-replicate (at / 4) (16384 - (at / 4 + 0)) (pos 0)
+    ∙ ap (λ n. replicate n (pos 0)) size))
 
 -- a word in place of the first of the zeros behind others
-pub set_first_zero : (front longer : List ℤ) (n m k : ℕ) (word : ℤ) → length front ≡ n → longer ≡ front ++ word ∷ [] → k ≡ m + 1 → set (front ++ replicate k (pos 0)) n word ≡ longer ++ replicate m (pos 0)
+pub set_first_zero : (front longer : List ℤ) (n m k : ℕ) (word : ℤ) → length front ≡ n → longer ≡ front ++ word ∷ []
+    → k ≡ m + 1 → set (front ++ replicate k (pos 0)) n word ≡ longer ++ replicate m (pos 0)
 set_first_zero front longer n m k word here more next =
     rw (next, add-one, more, append_assoc) (set_at front (pos 0) (replicate m (pos 0)) word n here)
 
 -- the next word stands where the zeros behind the others begin
-pub placed_more : (at : ℕ) (words : List ℕ) (i d : ℕ) → i < length words → at / 4 + length words ≤ 16384 → set (words_from at (take i words)) (at / 4 + i) (cast_signed w32 (get_or words i d)) ≡ words_from at (take (i + 1) words)
+pub placed_more : (at : ℕ) (words : List ℕ) (i d : ℕ) → i < length words → at / 4 + length words ≤ 16384
+    → set (words_from at (take i words)) (at / 4 + i) (cast_signed w32 (get_or words i d))
+    ≡ words_from at (take (i + 1) words)
 placed_more at words i d within fits =
     let taken : length (take i words) ≡ i = length-take-le i words (omega arith) in
     let more : length (take (i + 1) words) ≡ i + 1 = length-take-le (i + 1) words (omega arith) in
-    let front : length (replicate (at / 4) (pos 0) ++ map (cast_signed w32) (take i words)) ≡ at / 4 + i = rw (length-append, length-map, length-replicate, taken) refl in
+    let front : length (replicate (at / 4) (pos 0) ++ map (cast_signed w32) (take i words)) ≡ at / 4 + i =
+    rw (length-append, length-map, length-replicate, taken) refl in
     set_first_zero _ _ _ _ _ _ front
     (rw (map_more (cast_signed w32) words i d within, append_assoc) refl)
     (omega (arith, taken, more))

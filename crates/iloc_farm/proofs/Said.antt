@@ -11,11 +11,15 @@ use Rattle.iloc_farm.specs.declared.device.WriteFailed.{WriteFailed}
 use Rattle.iloc_farm.proofs.Written.{says_text}
 
 -- the line was made from the text, and what it holds then was written
-pub named_said : {T : Type 0} (n : ℕ) (line made : ArrayString n) (text : Option (List ℕ)) (old new : Option (List ℕ)) (result : Result T WriteFailed) (written : List ℕ)
-    → WritesText (λ (s : ArrayString n) bs (t : ArrayString n). t.bytes ≡ s.bytes ++ bs) line (Some (codes "ilocfarm: ") ++? (text ++? Some (codes "\n"))) made
-    → line.bytes ≡ [] → written ≡ made.bytes → OnOk result (Appends old new written) → OnErr result (WritesFront old new written)
+pub named_said : {T : Type 0} (n : ℕ) (line made : ArrayString n) (text : Option (List ℕ)) (old new : Option (List ℕ))
+    (result : Result T WriteFailed) (written : List ℕ)
+    → WritesText (λ (s : ArrayString n) bs (t : ArrayString n). t.bytes ≡ s.bytes ++ bs) line
+    (Some (codes "ilocfarm: ") ++? (text ++? Some (codes "\n"))) made
+    → line.bytes ≡ [] → written ≡ made.bytes → OnOk result (Appends old new written)
+    → OnErr result (WritesFront old new written)
     → IfSome text (λ t. Says old new result (named_line t))
 named_said n line made None old new result written writes none same ok err = tt
 named_said n line made (Some t) old new result written writes none same ok err =
-    let whole = contents_after_writes (λ (s : ArrayString n) bs (t : ArrayString n). t.bytes ≡ s.bytes ++ bs) (λ (s : ArrayString n). s.bytes) (λ s bs t e. e) line (named_line t) made writes in
+    let whole = contents_after_writes (λ (s : ArrayString n) bs (t : ArrayString n). t.bytes ≡ s.bytes ++ bs)
+    (λ (s : ArrayString n). s.bytes) (λ s bs t e. e) line (named_line t) made writes in
     says_text old new result written (named_line t) ok err (same ∙ (whole ∙ ap (λ bs. bs ++ named_line t) none))

@@ -36,7 +36,8 @@ table_same s t ops rows = λ i. record { ops = ops i; rows = rows i }
 cons_same : {X : Type 0} (x y : X) (xs ys : List X) → x ≡ y → xs ≡ ys → x ∷ xs ≡ y ∷ ys
 cons_same x y xs ys head tail = rw (head, tail) refl
 
-pub greedy_all_same : (lat : Latencies) (blocks : List Block) (schedules others : List Table) → AreGreedy lat blocks schedules → AreGreedy lat blocks others → others ≡ schedules
+pub greedy_all_same : (lat : Latencies) (blocks : List Block) (schedules others : List Table)
+    → AreGreedy lat blocks schedules → AreGreedy lat blocks others → others ≡ schedules
 greedy_all_same lat [] [] [] greedy other = refl
 greedy_all_same lat [] [] (t ∷ others) greedy other = absurd other
 greedy_all_same lat [] (s ∷ schedules) others greedy other = absurd greedy
@@ -44,16 +45,19 @@ greedy_all_same lat (b ∷ blocks) [] others greedy other = absurd greedy
 greedy_all_same lat (b ∷ blocks) (s ∷ schedules) [] greedy other = absurd other
 greedy_all_same lat (b ∷ blocks) (s ∷ schedules) (t ∷ others) greedy other =
     let same : (t.ops ≡ s.ops) × (t.rows ≡ s.rows) = greedy_same lat b.ops t.ops s.ops t.rows s.rows other.0 greedy.0 in
-    cons_same t s others schedules (table_same t s same.0 same.1) (greedy_all_same lat blocks schedules others greedy.1 other.1)
+    cons_same t s others schedules (table_same t s same.0 same.1)
+    (greedy_all_same lat blocks schedules others greedy.1 other.1)
 
 -- Outcomes
 
-pub keep_outcomes : (lat : Latencies) (blocks : List Block) (schedules : List Table) → AreGreedy lat blocks schedules → KeepOutcomes lat blocks schedules
+pub keep_outcomes : (lat : Latencies) (blocks : List Block) (schedules : List Table) → AreGreedy lat blocks schedules
+    → KeepOutcomes lat blocks schedules
 keep_outcomes lat [] [] greedy memory = refl
 keep_outcomes lat [] (s ∷ schedules) greedy memory = absurd greedy
 keep_outcomes lat (b ∷ blocks) [] greedy memory = absurd greedy
 keep_outcomes lat (b ∷ blocks) (s ∷ schedules) greedy memory =
-    cons_same _ _ _ _ (lawful_same_outcome lat b.ops s.ops s.rows memory greedy.0.lawful) (keep_outcomes lat blocks schedules greedy.1 memory)
+    cons_same _ _ _ _ (lawful_same_outcome lat b.ops s.ops s.rows memory greedy.0.lawful)
+    (keep_outcomes lat blocks schedules greedy.1 memory)
 
 -- Cycles
 
@@ -72,17 +76,21 @@ latencies_at_most lat (op ∷ ops) =
 
 pub renamed_no_longer : (block : List Op) → length (renamed block) ≤ length block
 renamed_no_longer block =
-    let kept : length (without_nops block) ≤ length block = rw (length-filter (λ op. not (is_nop op)) block) (count_by-le-length (λ op. not (is_nop op)) block) in
-    rw (length-map-range_with_len (renamed_op (without_nops block) (numbering (without_nops block))) 0 (length (without_nops block))) kept
+    let kept : length (without_nops block) ≤ length block =
+    rw (length-filter (λ op. not (is_nop op)) block) (count_by-le-length (λ op. not (is_nop op)) block) in
+    rw (length-map-range_with_len (renamed_op (without_nops block) (numbering (without_nops block))) 0
+    (length (without_nops block))) kept
 
-pub cycles_few : (lat : Latencies) (block : List Op) (s : Table) → IsGreedy lat block s.ops s.rows → length block ≤ 10000 → cycles_of lat s ≤ 160000
+pub cycles_few : (lat : Latencies) (block : List Op) (s : Table) → IsGreedy lat block s.ops s.rows
+    → length block ≤ 10000 → cycles_of lat s ≤ 160000
 cycles_few lat block s greedy short =
     let busy : cycles lat s.ops s.rows ≤ sum_by (latency lat) s.ops = busy_bound lat block s.ops s.rows greedy in
     let most : sum_by (latency lat) s.ops ≤ 16 * length s.ops = latencies_at_most lat s.ops in
     let longest : length s.ops ≤ length block = rw greedy.lawful.names (renamed_no_longer block) in
     omega arith
 
-pub total_few : (lat : Latencies) (blocks : List Block) (schedules : List Table) → AreGreedy lat blocks schedules → AllByRecursion (λ b. length b.ops ≤ 10000) blocks → total_cycles lat schedules ≤ 160000 * length blocks
+pub total_few : (lat : Latencies) (blocks : List Block) (schedules : List Table) → AreGreedy lat blocks schedules
+    → AllByRecursion (λ b. length b.ops ≤ 10000) blocks → total_cycles lat schedules ≤ 160000 * length blocks
 total_few lat [] [] greedy short = omega arith
 total_few lat [] (s ∷ schedules) greedy short = absurd greedy
 total_few lat (b ∷ blocks) [] greedy short = absurd greedy
@@ -99,7 +107,8 @@ cycles_within lat ops rows = elim (fold_max_reached 0 (map ends (range_with_len 
       let found = from_map ends (range_with_len 0 (length ops)) (cycles lat ops rows) there in
       let is : ends found.0 ≡ cycles lat ops rows = found.2 in
       let issued : issue_cycle rows found.0 ≤ length rows = issue_cycle_within rows found.0 in
-      let short : latency lat (op_at ops found.0) ≤ 16 = latency_of_at_most lat (kind (op_at ops found.0)) in omega arith
+      let short : latency lat (op_at ops found.0) ≤ 16 = latency_of_at_most lat (kind (op_at ops found.0)) in
+      omega arith
 ]
   where
     ends : ℕ → ℕ
@@ -109,21 +118,25 @@ cycles_within lat ops rows = elim (fold_max_reached 0 (map ends (range_with_len 
 
 -- each schedule is that of its block
 pub are_greedy : (lat : Latencies) (blocks : List Block) (schedules : List Table) → length schedules ≡ length blocks
-    → ((i : ℕ) (s : Table) → slice_get schedules i ≡ Some s → IsScheduleOf lat blocks i s) → AreGreedy lat blocks schedules
+    → ((i : ℕ) (s : Table) → slice_get schedules i ≡ Some s → IsScheduleOf lat blocks i s)
+    → AreGreedy lat blocks schedules
 are_greedy lat [] [] long each = tt
 are_greedy lat [] (s ∷ schedules) long each = absurd (omega arith)
 are_greedy lat (b ∷ blocks) [] long each = absurd (omega arith)
 are_greedy lat (b ∷ blocks) (s ∷ schedules) long each =
     (each 0 s refl, are_greedy lat blocks schedules (omega arith) (λ i t at. each (suc i) t at))
 
-pub greedy_long : (lat : Latencies) (blocks : List Block) (schedules : List Table) → AreGreedy lat blocks schedules → length schedules ≡ length blocks
+pub greedy_long : (lat : Latencies) (blocks : List Block) (schedules : List Table) → AreGreedy lat blocks schedules
+    → length schedules ≡ length blocks
 greedy_long lat [] [] greedy = refl
 greedy_long lat [] (s ∷ schedules) greedy = absurd greedy
 greedy_long lat (b ∷ blocks) [] greedy = absurd greedy
-greedy_long lat (b ∷ blocks) (s ∷ schedules) greedy = let rest : length schedules ≡ length blocks = greedy_long lat blocks schedules greedy.1 in omega arith
+greedy_long lat (b ∷ blocks) (s ∷ schedules) greedy = let rest : length schedules ≡ length blocks =
+    greedy_long lat blocks schedules greedy.1 in omega arith
 
 -- there is a list of greedy schedules, whatever the blocks
-pub greedy_all_exist : (lat : Latencies) (blocks : List Block) → (schedules : List Table) × AreGreedy lat blocks schedules
+pub greedy_all_exist : (lat : Latencies) (blocks : List Block) → (schedules : List Table)
+    × AreGreedy lat blocks schedules
 greedy_all_exist lat [] = ([], tt)
 greedy_all_exist lat (b ∷ blocks) =
     let first : (rows : List Row) × IsGreedy lat b.ops (renamed b.ops) rows = greedy_exists lat b.ops in
@@ -132,7 +145,9 @@ greedy_all_exist lat (b ∷ blocks) =
     (table ∷ rest.0, (first.1, rest.1))
 
 -- the total of a file's greedy schedules
-pub total_small : (lat : Latencies) (blocks : List Block) (schedules : List Table) → AreGreedy lat blocks schedules → IsWithinLimits blocks → total_cycles lat schedules < 2 ^ 63
+pub total_small : (lat : Latencies) (blocks : List Block) (schedules : List Table) → AreGreedy lat blocks schedules
+    → IsWithinLimits blocks → total_cycles lat schedules < 2 ^ 63
 total_small lat blocks schedules greedy limits =
-    let few : total_cycles lat schedules ≤ 160000 * length blocks = total_few lat blocks schedules greedy limits.short_blocks in
+    let few : total_cycles lat schedules ≤ 160000 * length blocks =
+    total_few lat blocks schedules greedy limits.short_blocks in
     let most : length blocks ≤ 65535 = limits.few_blocks in omega arith

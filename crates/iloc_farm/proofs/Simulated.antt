@@ -8,7 +8,8 @@ use Rattle.iloc_farm.specs.Run.{ListsGreedy, run_listing, simulate_listing}
 use Rattle.iloc_farm.specs.Schedules.{AreGreedy}
 use Rattle.iloc_farm.proofs.Schedules.{greedy_all_exist, greedy_all_same, keep_outcomes}
 
-pub simulated : (lat : Latencies) (memory : List ℤ) (blocks : List Block) (text : List ℕ) → text ≡ run_listing memory blocks → ListsGreedy lat blocks (simulate_listing lat memory blocks) text
+pub simulated : (lat : Latencies) (memory : List ℤ) (blocks : List Block) (text : List ℕ)
+    → text ≡ run_listing memory blocks → ListsGreedy lat blocks (simulate_listing lat memory blocks) text
 simulated lat memory blocks text whole =
     let found : (schedules : List Table) × AreGreedy lat blocks schedules = greedy_all_exist lat blocks in
     record {

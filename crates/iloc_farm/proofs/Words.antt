@@ -19,33 +19,52 @@ use Rattle.iloc_farm.specs.declared.fault.RunFault.TheVariants.{ReadFailed, Text
 use Rattle.iloc_farm.specs.declared.program.Fault.TheVariants.{Run}
 
 -- what the words behind the name ask for is what the words do
-pub made_some : (words : Result Args Error) (args : Args) (behind : List (String Global)) (result : Result Request LineFault) → words ≡ Ok args
-    → behind ≡ drop 1 (into_iter_items args) → IfOk result (λ request. Asks (map string_bytes behind) (asked_in request)) → IfOk result (λ request. AskFor words (asked_in request))
+pub made_some : (words : Result Args Error) (args : Args) (behind : List (String Global))
+    (result : Result Request LineFault) → words ≡ Ok args
+    → behind ≡ drop 1 (into_iter_items args)
+    → IfOk result (λ request. Asks (map string_bytes behind) (asked_in request))
+    → IfOk result (λ request. AskFor words (asked_in request))
 made_some words args behind result given same asks =
-    subst (λ (w : Result Args Error). IfOk result (λ request. AskFor w (asked_in request))) (sym given) (subst (λ (b : List (String Global)). IfOk result (λ request. Asks (map string_bytes b) (asked_in request))) same asks)
+    subst (λ (w : Result Args Error). IfOk result (λ request. AskFor w (asked_in request))) (sym given)
+    (subst (λ (b : List (String Global)). IfOk result (λ request. Asks (map string_bytes b) (asked_in request)))
+    same asks)
 
 -- a fault of the words behind the name is one of the words
-pub made_none : (words : Result Args Error) (args : Args) (behind : List (String Global)) (result : Result Request LineFault) → words ≡ Ok args
-    → behind ≡ drop 1 (into_iter_items args) → IfErr result (IsDue (map string_bytes behind)) → IfErr result (MakeNone words)
+pub made_none : (words : Result Args Error) (args : Args) (behind : List (String Global))
+    (result : Result Request LineFault) → words ≡ Ok args
+    → behind ≡ drop 1 (into_iter_items args) → IfErr result (IsDue (map string_bytes behind))
+    → IfErr result (MakeNone words)
 made_none words args behind result given same due =
-    subst (λ (w : Result Args Error). IfErr result (MakeNone w)) (sym given) (subst (λ (b : List (String Global)). IfErr result (IsDue (map string_bytes b))) same due)
+    subst (λ (w : Result Args Error). IfErr result (MakeNone w)) (sym given)
+    (subst (λ (b : List (String Global)). IfErr result (IsDue (map string_bytes b))) same due)
 
 -- a fault that ends the run stops the program
-pub run_stopped : (words : Result Args Error) (request : Request) (read_old read_new written_old written_new : Option (List ℕ)) (fault : RunFault) → AskFor words (asked_in request)
-    → EndsRun request read_old read_new written_old written_new fault → IsStopped words read_old read_new written_old written_new (Run fault)
-run_stopped words request read_old read_new written_old written_new ReadFailed asked ended = record { request = request; asked = asked; ended = ended }
-run_stopped words request read_old read_new written_old written_new (Text fault) asked ended = record { request = request; asked = asked; ended = ended }
-run_stopped words request read_old read_new written_old written_new (Farm fault) asked ended = record { request = request; asked = asked; ended = ended }
+pub run_stopped : (words : Result Args Error) (request : Request)
+    (read_old read_new written_old written_new : Option (List ℕ)) (fault : RunFault) → AskFor words (asked_in request)
+    → EndsRun request read_old read_new written_old written_new fault
+    → IsStopped words read_old read_new written_old written_new (Run fault)
+run_stopped words request read_old read_new written_old written_new ReadFailed asked ended =
+    record { request = request; asked = asked; ended = ended }
+run_stopped words request read_old read_new written_old written_new (Text fault) asked ended =
+    record { request = request; asked = asked; ended = ended }
+run_stopped words request read_old read_new written_old written_new (Farm fault) asked ended =
+    record { request = request; asked = asked; ended = ended }
 run_stopped words request read_old read_new written_old written_new WriteFailed asked ended =
-    record { text = ended.0; asked = inr (record { request = request; asked = asked; listed = ended.1 }); written = ended.2 }
+    record {
+      text = ended.0;
+      asked = inr (record { request = request; asked = asked; listed = ended.1 });
+      written = ended.2;
+    }
 
 -- what holds of the error that is made holds of the error that is returned
-pub made_err : {T E : Type 0} (result : Result T E) (made : E) (P : E → Type 0) → IsErrAnd result (λ e. e ≡ made) → P made → IfErr result P
+pub made_err : {T E : Type 0} (result : Result T E) (made : E) (P : E → Type 0) → IsErrAnd result (λ e. e ≡ made)
+    → P made → IfErr result P
 made_err (Ok x) made P is p = tt
 made_err (Err e) made P is p = subst P (sym is) p
 
 -- the text that is written is that of the help
-pub is_help : (words : Result Args Error) (read : Option (List ℕ)) (fault : LineFault) (help shown : String Global) (text : List ℕ) → MakeNone words fault
+pub is_help : (words : Result Args Error) (read : Option (List ℕ)) (fault : LineFault) (help shown : String Global)
+    (text : List ℕ) → MakeNone words fault
     → fault ≡ Help help → shown ≡ help → text ≡ string_bytes shown → IsHelp words read read text
 is_help words read fault help shown text asked is same whole = record {
   help = help;

@@ -7,20 +7,23 @@ use Rattle.iloc_farm.proofs.answering.gather_all.Goals as goal
 
 pub loop-shift-init : goal.loop-shift-init
 loop-shift-init g c =
-    let ready = λ (w : Worked g.row.J.Denot g.row.J-Answer.Denot). (w.pass.board ≡ c.args.board.now) × OnOk w.done (IsDone w.pass.journal) in
+    let ready = λ (w : Worked g.row.J.Denot g.row.J-Answer.Denot). (w.pass.board ≡ c.args.board.now)
+    × OnOk w.done (IsDone w.pass.journal) in
     let done = λ (w : Worked g.row.J.Denot g.row.J-Answer.Denot). IsDone w.pass.journal in
     let same = c.into_iter-shift-iterator.ensures.into_iter_gives.0 in
     record {
       own = c.requires.root;
       made = refl;
       each = All-same ready _ _ same c.requires.each;
-      gathered = ap (λ t. c.args.root.now.gathered ++ map (λ (w : Worked g.row.J.Denot g.row.J-Answer.Denot). w.pass.journal) t) same;
+      gathered = ap (λ t. c.args.root.now.gathered ++ map (λ (w : Worked g.row.J.Denot g.row.J-Answer.Denot).
+          w.pass.journal) t) same;
       done = All-same done _ _ (sym same);
     }
 
 pub loop-shift-preserved-in-Err : goal.loop-shift-preserved-in-Err
 loop-shift-preserved-in-Err g c =
-    let ready = λ (w : Worked g.row.J.Denot g.row.J-Answer.Denot). (w.pass.board ≡ c.args.board.now) × OnOk w.done (IsDone w.pass.journal) in
+    let ready = λ (w : Worked g.row.J.Denot g.row.J-Answer.Denot). (w.pass.board ≡ c.args.board.now)
+    × OnOk w.done (IsDone w.pass.journal) in
     record {
       own = c.in-Err.ensures.own;
       made = c.in-Err.ensures.made ∙ c.loop-shift.invariant.made;
@@ -31,14 +34,17 @@ loop-shift-preserved-in-Err g c =
 
 pub loop-shift-preserved : goal.loop-shift-preserved
 loop-shift-preserved g c =
-    let ready = λ (w : Worked g.row.J.Denot g.row.J-Answer.Denot). (w.pass.board ≡ c.args.board.now) × OnOk w.done (IsDone w.pass.journal) in
+    let ready = λ (w : Worked g.row.J.Denot g.row.J-Answer.Denot). (w.pass.board ≡ c.args.board.now)
+    × OnOk w.done (IsDone w.pass.journal) in
     let done = λ (w : Worked g.row.J.Denot g.row.J-Answer.Denot). IsDone w.pass.journal in
     record {
       own = c.in_default.ensures.own;
       made = c.in_default.ensures.made ∙ c.loop-shift.invariant.made;
       each = All-rest ready _ _ _ c.in-Some.ensures.steps.0 c.loop-shift.invariant.each;
-      gathered = rows.on_ok _ _ (λ h. rows.gathered_more (λ w. w.pass.journal) _ _ _ _ _ _ h c.in_default.ensures.ok.0 c.in-Some.ensures.steps.0) c.loop-shift.all c.loop-shift.invariant.gathered;
-      done = rows.on_ok _ _ (λ h. rows.done_more done _ _ _ _ h c.in_default.ensures.ok.1 c.in-Some.ensures.steps.0) c.loop-shift.all c.loop-shift.invariant.done;
+      gathered = rows.on_ok _ _ (λ h. rows.gathered_more (λ w. w.pass.journal) _ _ _ _ _ _ h c.in_default.ensures.ok.0
+          c.in-Some.ensures.steps.0) c.loop-shift.all c.loop-shift.invariant.gathered;
+      done = rows.on_ok _ _ (λ h. rows.done_more done _ _ _ _ h c.in_default.ensures.ok.1 c.in-Some.ensures.steps.0)
+          c.loop-shift.all c.loop-shift.invariant.done;
     }
 
 pub returns-clause-done : goal.returns-clause-done

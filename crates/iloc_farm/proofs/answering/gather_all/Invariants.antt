@@ -9,6 +9,8 @@ invariant-loop-shift g l = record {
   own : l.root.board ≡ l.board;
   made : l.root.made ≡ l.fn.root.made;
   each : All (λ w. (w.pass.board ≡ l.board) × OnOk w.done (IsDone w.pass.journal)) l.shift-iterator.rest.items;
-  gathered : OnOk l.all (l.root.gathered ++ map (λ w. w.pass.journal) l.shift-iterator.rest.items ≡ l.fn.root.gathered ++ map (λ w. w.pass.journal) l.fn.worked.items);
-  done : OnOk l.all (All (λ w. IsDone w.pass.journal) l.shift-iterator.rest.items → All (λ w. IsDone w.pass.journal) l.fn.worked.items);
+  gathered : OnOk l.all (l.root.gathered ++ map (λ w. w.pass.journal) l.shift-iterator.rest.items ≡ l.fn.root.gathered
+      ++ map (λ w. w.pass.journal) l.fn.worked.items);
+  done : OnOk l.all (All (λ w. IsDone w.pass.journal) l.shift-iterator.rest.items
+      → All (λ w. IsDone w.pass.journal) l.fn.worked.items);
 }

@@ -8,11 +8,17 @@ use Rattle.iloc_farm.proofs.answering.shifts.Goals as goal
 pub loop-made-preserved : goal.loop-made-preserved
 loop-made-preserved g c =
     let made = ap (λ r. r.made) c.pass-pass.ensures.root in
-    let ready = λ (s : Shift g.row.J.Denot g.row.G.Denot g.row.J-Answer.Denot). (s.pass.board ≡ s.board.now) × (s.board.now ≡ c.args.board.now) × (state s.pass ≡ about.Free) in
+    let ready = λ (s : Shift g.row.J.Denot g.row.G.Denot g.row.J-Answer.Denot). (s.pass.board ≡ s.board.now)
+    × (s.board.now ≡ c.args.board.now) × (state s.pass ≡ about.Free) in
     record {
       own = ap (λ r. r.board) c.pass-pass.ensures.root ∙ c.loop-made.invariant.own;
       workers = ap (λ r. r.workers) c.pass-pass.ensures.root ∙ c.loop-made.invariant.workers;
       gathered = ap (λ r. r.gathered) c.pass-pass.ensures.root ∙ c.loop-made.invariant.gathered;
-      ready = rows.all_more ready _ _ _ c.in_ok-push.ensures.items c.loop-made.invariant.ready (ap (λ p. p.board) c.pass-pass.ensures.pass ∙ c.loop-made.invariant.own, refl, ap state c.pass-pass.ensures.pass);
-      numbered = rows.numbered_more (λ s. s.pass.journal.worker) _ _ _ _ _ c.in_ok-push.ensures.items c.loop-made.invariant.numbered (ap (λ p. p.journal.worker) c.pass-pass.ensures.pass) made;
+      ready = rows.all_more ready _ _ _ c.in_ok-push.ensures.items c.loop-made.invariant.ready (
+        ap (λ p. p.board) c.pass-pass.ensures.pass ∙ c.loop-made.invariant.own,
+        refl,
+        ap state c.pass-pass.ensures.pass,
+      );
+      numbered = rows.numbered_more (λ s. s.pass.journal.worker) _ _ _ _ _ c.in_ok-push.ensures.items
+          c.loop-made.invariant.numbered (ap (λ p. p.journal.worker) c.pass-pass.ensures.pass) made;
     }

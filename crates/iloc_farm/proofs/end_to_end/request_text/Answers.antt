@@ -11,8 +11,12 @@ returns-in_ok-outcomes_listed-in-Simulate-clause-ok g c =
     let blocks = listed.0 in
     let text = c.in_ok-outcomes_listed-in-Simulate.field-0.items in
     let whole : text ≡ run_listing (memory_of c.args.request.now) blocks =
-    listed.2 ∙ ap (λ memory. run_listing memory blocks) (c.in_ok-runner-in-Simulate.ensures ∙ c.in_ok-memory-in-Simulate.ensures) in (
+    listed.2 ∙ ap (λ memory. run_listing memory blocks) (c.in_ok-runner-in-Simulate.ensures
+    ∙ c.in_ok-memory-in-Simulate.ensures) in (
       blocks,
       subst (λ input. Denotes input blocks) c.deref-in-Simulate.ensures.value listed.1,
-      rw c.in-Simulate.is (simulated c.args.request.now.latencies (memory_of c.args.request.now) blocks text whole, whole),
+      rw c.in-Simulate.is (
+        simulated c.args.request.now.latencies (memory_of c.args.request.now) blocks text whole,
+        whole,
+      ),
     )

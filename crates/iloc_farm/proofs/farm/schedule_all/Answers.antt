@@ -4,7 +4,8 @@ use Rattle.iloc_farm.proofs.farm.schedule_all.Goals as goal
 pub returns-clause-greedy : goal.returns-clause-greedy
 returns-clause-greedy g c =
     let found = c.in_ok-collected.ensures.1 in
-    rw c.as_slice.ensures at (are_greedy c.args.latencies.now c.as_slice.result.now c.in_ok-collected.collected.answers.items found.long (λ i s at. (found.each i s at).1))
+    rw c.as_slice.ensures at (are_greedy c.args.latencies.now c.as_slice.result.now
+    c.in_ok-collected.collected.answers.items found.long (λ i s at. (found.each i s at).1))
 
 pub returns-clause-only : goal.returns-clause-only
 returns-clause-only g c = λ others greedy. greedy_all_same _ _ _ others (returns-clause-greedy g c) greedy

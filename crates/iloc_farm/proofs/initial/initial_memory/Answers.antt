@@ -14,4 +14,11 @@ loop-index-preserved c =
     let place : (request.at + 4 * i) / 4 ≡ request.at / 4 + i = omega (arith, request.aligned) in
     let fits : FitsSigned w32 c.cast_signed.result = search rules in
     let more = placed_more request.at request.words.items i 0 within (omega (arith, request.fits)) in
-    rw (c.set.ensures.written, to_z-of_z w32 c.cast_signed.result fits, c.cast_signed.ensures, c.loop-index.invariant, c.as_slice-word-items.ensures.value, place) more
+    rw (
+      c.set.ensures.written,
+      to_z-of_z w32 c.cast_signed.result fits,
+      c.cast_signed.ensures,
+      c.loop-index.invariant,
+      c.as_slice-word-items.ensures.value,
+      place,
+    ) more

@@ -8,4 +8,5 @@ pub returns : goal.returns
 returns c =
     let len : into_iter_len c.args.words ≡ length (into_iter_items c.args.words) = c.args.words.rest.ok.0 in
     items_from_collect c.collect.result c.collect.ensures.ran
-    (YieldsList-from_skip 1 (YieldsList-from_vec (into_iter_items c.args.words) (ap into_iter_items c.skip.ensures.source) (ap into_iter_len c.skip.ensures.source ∙ len)) c.skip.ensures.count)
+    (YieldsList-from_skip 1 (YieldsList-from_vec (into_iter_items c.args.words)
+    (ap into_iter_items c.skip.ensures.source) (ap into_iter_len c.skip.ensures.source ∙ len)) c.skip.ensures.count)
