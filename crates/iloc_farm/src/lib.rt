@@ -25,5 +25,5 @@ pub use end_to_end::run;
 pub use farm::schedule_all;
 pub use fault::{FarmFault, RunFault, run_status};
 pub use initial::initial_memory;
-pub use listing::{counts_text, outcomes_text, push_outcome, schedules_text};
+pub use listing::{counts_text, outcomes_text, schedules_text};
 pub use program::{Ending, run_program};

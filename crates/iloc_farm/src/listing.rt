@@ -43,7 +43,7 @@ fn push_words(text: &mut Vec<u8>, words: &[i32]) -> Result<(), NoMemory>
 
 /// Appends what is listed of the block with this number, counted from 1, which emitted these words,
 /// or faulted where there are none. After a refusal a part of it may stand behind the text.
-pub fn push_outcome(
+pub(crate) fn push_outcome(
     text: &mut Vec<u8>,
     number: usize,
     name: Option<&Name>,
