@@ -12,7 +12,7 @@ use Rattle.iloc_text.specs.Steps.Scan.{line_at, is_within}
 use Rattle.iloc_text.specs.Steps.Lines.{is_line_end, lines_of}
 use Rattle.iloc_text.specs.Files.{HasNoLineEnd, AreLines, Reading, ReadAs, block_count, ops_of, fronts, file_of, IsWithin, Denotes, IsFaulty, HasFirstFault, IsRefused}
 use Rattle.iloc_text.specs.Laws.{TextsHaveOneAnswer}
-use Rattle.iloc_text.proofs.Operations.{capped_op}
+use Rattle.iloc_text.proofs.Names.{capped_op}
 use Rattle.iloc_text.proofs.Lines.{found_reads, FindsLine, line_read, line_again, line_good}
 
 -- The lines of a text

@@ -8,7 +8,8 @@ use Rattle.iloc_text.proofs.Parts.{Before, Before-join, Before-split, Before-all
 use Rattle.iloc_text.proofs.Tokens.{blanks_read, blanks_none, blanks_over, blanks_again, blanks_starts}
 use Rattle.iloc_text.proofs.Opcodes.{bind_each}
 use Rattle.iloc_text.proofs.Starts.{blanks_fail, blank_is_no_word_byte}
-use Rattle.iloc_text.proofs.Operations.{capped_op, operation_read, operation_again, operation_starts}
+use Rattle.iloc_text.proofs.Names.{capped_op}
+use Rattle.iloc_text.proofs.Operations.{operation_read, operation_again, operation_starts}
 
 -- An operation or none
 

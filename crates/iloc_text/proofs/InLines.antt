@@ -4,10 +4,13 @@ use Rattle.std.specs.List.{list_all}
 use Rattle.std.specs.Char.{digit_value}
 use Rattle.std.specs.Str.Parse.{AllDigits}
 use Rattle.std.proofs.lemmas.Bool.Decides.{nat_tests}
-use Rattle.iloc_text.specs.declared.op.Reg.{Reg}
 use Rattle.iloc_text.specs.declared.op.Op.{Op}
-use Rattle.iloc_text.specs.declared.op.Op.TheVariants.{Load, LoadI, Store, Add, Sub, Mult, Lshift, Rshift, Output, Nop, AddI, SubI, MultI, LshiftI, RshiftI, LoadAI, StoreAI}
-use Rattle.iloc_text.specs.Grammar.{◌⋅◌, Text, is_blank, is_word_byte, Blanks, SomeBlanks, Number, Register, Arrow, Comma, Behind, Transfer, TwoSources, Immediate, Operation, OptionalOperation, Name, OptionalLabel}
+use Rattle.iloc_text.specs.declared.op.Op.TheVariants.{Nop}
+use Rattle.iloc_text.specs.Forms.{Lead, Value, Operand, opcode, operands}
+use Rattle.iloc_text.specs.Forms.Lead.{space, comma, arrow}
+use Rattle.iloc_text.specs.Forms.Value.{register, number}
+use Rattle.iloc_text.specs.Forms.Operand.{◌▹◌}
+use Rattle.iloc_text.specs.Grammar.{◌⋅◌, Text, is_blank, is_word_byte, Blanks, Number, LeadText, ValueText, OperandsText, Operation, OptionalOperation, Name, OptionalLabel}
 use Rattle.iloc_text.specs.Files.{HasNoLineEnd}
 use Rattle.iloc_text.proofs.Tokens.{IsWord}
 use Rattle.iloc_text.proofs.Labels.{name_is_word}
@@ -41,9 +44,6 @@ pub blanks_inside : IsInside Blanks
 blanks_inside [] h = tt
 blanks_inside (c ∷ cs) h = (blank_inside c h.0, blanks_inside cs h.1)
 
-some_blanks_inside : IsInside SomeBlanks
-some_blanks_inside = λ bytes h. blanks_inside bytes h.1
-
 digit_inside : (c : ℕ) → digit_value c < 10 → c ≡ 10 → ⊥
 digit_inside c h e = grind (arith, nat_tests)
 
@@ -54,51 +54,25 @@ digits_inside (c ∷ cs) h = (digit_inside c h.0, digits_inside cs h.1)
 number_inside : {n : ℕ} → IsInside (Number n)
 number_inside = λ bytes h. digits_inside bytes h.0.1
 
-register_inside : {r : Reg} → IsInside (Register r)
-register_inside = join_inside (text_inside (codes "r") refl) number_inside
+lead_inside : (lead : Lead) → IsInside (LeadText lead)
+lead_inside space = λ bytes h. blanks_inside bytes h.1
+lead_inside comma = join_inside blanks_inside (join_inside (text_inside (codes ",") refl) blanks_inside)
+lead_inside arrow = join_inside blanks_inside (join_inside (text_inside (codes "=>") refl) blanks_inside)
 
-arrow_inside : IsInside Arrow
-arrow_inside = join_inside blanks_inside (join_inside (text_inside (codes "=>") refl) blanks_inside)
+value_inside : (value : Value) → IsInside (ValueText value)
+value_inside (register r) = join_inside (text_inside (codes "r") refl) number_inside
+value_inside (number n) = number_inside
 
-comma_inside : IsInside Comma
-comma_inside = join_inside blanks_inside (join_inside (text_inside (codes ",") refl) blanks_inside)
+operands_inside : (operands : List Operand) → IsInside (OperandsText operands)
+operands_inside [] = text_inside [] refl
+operands_inside (lead ▹ value ∷ more) = join_inside (lead_inside lead) (join_inside (value_inside value) (operands_inside more))
 
-behind_inside : (opcode : List ℕ) → list_all (λ c. not (c == 10)) opcode ≡ true → {Q : List ℕ → Type 0} → IsInside Q → IsInside (Behind opcode Q)
-behind_inside opcode h q = join_inside (text_inside opcode h) (join_inside some_blanks_inside q)
-
-number_to_inside : {n : ℕ} {r : Reg} → IsInside (Number n ⋅ Arrow ⋅ Register r)
-number_to_inside = join_inside number_inside (join_inside arrow_inside register_inside)
-
-transfer_inside : {r s : Reg} → IsInside (Transfer r s)
-transfer_inside = join_inside register_inside (join_inside arrow_inside register_inside)
-
-sources_inside : {r s t : Reg} → IsInside (TwoSources r s t)
-sources_inside = join_inside register_inside (join_inside comma_inside transfer_inside)
-
-immediate_inside : {r t : Reg} {n : ℕ} → IsInside (Immediate r n t)
-immediate_inside = join_inside register_inside (join_inside comma_inside number_to_inside)
-
-offset_inside : {r s : Reg} {n : ℕ} → IsInside (Register r ⋅ Arrow ⋅ Register s ⋅ Comma ⋅ Number n)
-offset_inside = join_inside register_inside (join_inside arrow_inside (join_inside register_inside (join_inside comma_inside number_inside)))
+opcode_inside : (op : Op) → IsInside (Text (opcode op))
+opcode_inside Nop = text_inside (codes "nop") refl
+opcode_inside op = text_inside (opcode op) refl
 
 operation_inside : (op : Op) → IsInside (Operation op)
-operation_inside (Load addr dest) = behind_inside (codes "load") refl transfer_inside
-operation_inside (LoadI value dest) = behind_inside (codes "loadI") refl number_to_inside
-operation_inside (Store value addr) = behind_inside (codes "store") refl transfer_inside
-operation_inside (Add left right dest) = behind_inside (codes "add") refl sources_inside
-operation_inside (Sub left right dest) = behind_inside (codes "sub") refl sources_inside
-operation_inside (Mult left right dest) = behind_inside (codes "mult") refl sources_inside
-operation_inside (Lshift left right dest) = behind_inside (codes "lshift") refl sources_inside
-operation_inside (Rshift left right dest) = behind_inside (codes "rshift") refl sources_inside
-operation_inside (Output addr) = behind_inside (codes "output") refl number_inside
-operation_inside Nop = text_inside (codes "nop") refl
-operation_inside (AddI left value dest) = behind_inside (codes "addI") refl immediate_inside
-operation_inside (SubI left value dest) = behind_inside (codes "subI") refl immediate_inside
-operation_inside (MultI left value dest) = behind_inside (codes "multI") refl immediate_inside
-operation_inside (LshiftI left value dest) = behind_inside (codes "lshiftI") refl immediate_inside
-operation_inside (RshiftI left value dest) = behind_inside (codes "rshiftI") refl immediate_inside
-operation_inside (LoadAI addr offset dest) = behind_inside (codes "loadAI") refl immediate_inside
-operation_inside (StoreAI value addr offset) = behind_inside (codes "storeAI") refl offset_inside
+operation_inside op = join_inside (opcode_inside op) (operands_inside (operands op))
 
 pub optional_operation_inside : (op : Option Op) → IsInside (OptionalOperation op)
 optional_operation_inside None = text_inside [] refl

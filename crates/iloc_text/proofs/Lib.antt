@@ -4,6 +4,7 @@ pub mod Tokens
 pub mod Opcodes
 pub mod Starts
 pub mod Operands
+pub mod Names
 pub mod Operations
 pub mod Bodies
 pub mod Labels

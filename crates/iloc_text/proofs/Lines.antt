@@ -2,16 +2,18 @@
 use Rattle.std.proofs.Common.{◌≡◌, ◌∙◌, ℕ, nat_lt, true, false, List, ◌++◌, refl, sym, ap, subst, Option, Some, None, IfSome, option_map, unwrap_or}
 use Rattle.std.specs.List.{list_all}
 use Rattle.iloc_text.specs.declared.op.Op.{Op}
-use Rattle.iloc_text.specs.Grammar.{is_blank, is_word_byte, ReadsWidely, numbers, Reads, HasReading, HasWideReading}
+use Rattle.iloc_text.specs.Forms.{numbers}
+use Rattle.iloc_text.specs.Grammar.{is_blank, is_word_byte, ReadsWidely, Reads, HasReading, HasWideReading}
 use Rattle.iloc_text.specs.Steps.Scan.{after_blanks, optional_label_at, body_at, line_at, is_within}
 use Rattle.iloc_text.proofs.Parts.{Before-join, Before-split, Before-all, all-Before, starts}
 use Rattle.iloc_text.proofs.Tokens.{blanks_read, blanks_over, blanks_again}
 use Rattle.iloc_text.proofs.Opcodes.{bind_each}
 use Rattle.iloc_text.proofs.Starts.{blanks_fail, blank_is_no_word_byte}
-use Rattle.iloc_text.proofs.Operations.{capped_op, operation_starts, operation_colon}
+use Rattle.iloc_text.proofs.Names.{capped_op, numbers-capped}
+use Rattle.iloc_text.proofs.Operations.{operation_starts, operation_colon}
 use Rattle.iloc_text.proofs.Bodies.{end_starts, Body, body_read, no_blank_start, body_again, body_skips}
 use Rattle.iloc_text.proofs.Labels.{is_colon, label_read, label_none, label_not_here, label_again}
-use Rattle.iloc_text.proofs.Caps.{capped-within, numbers-capped, small_all, within_limit}
+use Rattle.iloc_text.proofs.Caps.{capped-within, small_all, within_limit}
 
 abbrev pub FindsLine : List ℕ → Option (List ℕ) × Option Op → Type 0
 FindsLine bytes found = (op : Option Op) × ReadsWidely bytes found.0 op × (found.1 ≡ option_map capped_op op)

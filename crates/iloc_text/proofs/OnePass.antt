@@ -10,7 +10,8 @@ use Rattle.iloc_text.specs.Steps.Scan.{after_blanks, is_end, is_within}
 use Rattle.iloc_text.specs.Steps.OnePass.{OperationAt, label_if, WordsAt}
 use Rattle.iloc_text.proofs.Parts.{Before, Before-join, Before-split, Before-all, all-Before}
 use Rattle.iloc_text.proofs.Tokens.{blanks_read}
-use Rattle.iloc_text.proofs.Operations.{capped_op, called_finds}
+use Rattle.iloc_text.proofs.Names.{capped_op}
+use Rattle.iloc_text.proofs.Operations.{called_finds}
 use Rattle.iloc_text.proofs.Bodies.{FindsOptional, nothing_first, slashes, end_read}
 use Rattle.iloc_text.proofs.Labels.{no_label, label_read}
 use Rattle.iloc_text.proofs.Lines.{reads_found}

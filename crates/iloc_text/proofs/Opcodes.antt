@@ -2,11 +2,9 @@
 use Rattle.std.proofs.Common.{◌≡◌, ℕ, Bool, true, false, cond, ◌&&◌, List, [], ◌∷◌, ◌++◌, refl, sym, Option, Some, None, IfSome, find, bytes_eq}
 use Rattle.std.specs.List.{list_all}
 use Rattle.std.proofs.lemmas.Slice.Eq.{bytes_eq-Decides}
-use Rattle.iloc_text.specs.declared.opcode.Opcode.{Opcode}
-use Rattle.iloc_text.specs.declared.opcode.Opcode.TheVariants as opcode
-use Rattle.iloc_text.specs.declared.opcode.Transfer.TheVariants as transfer
-use Rattle.iloc_text.specs.declared.opcode.TwoSources.TheVariants as two
-use Rattle.iloc_text.specs.declared.opcode.Immediate.TheVariants as immediate
+use Rattle.iloc_text.specs.declared.op.Op.{Op}
+use Rattle.iloc_text.specs.declared.op.Op.TheVariants.{Nop}
+use Rattle.iloc_text.specs.Forms.{opcode}
 use Rattle.iloc_text.specs.Grammar.{is_word_byte}
 use Rattle.iloc_text.specs.Steps.Opcodes.{opcodes, opcode_text, opcode_of}
 use Rattle.iloc_text.specs.Steps.Scan.{◌>>=◌}
@@ -29,25 +27,6 @@ found_passes {A} p (x ∷ xs) = by (p x) refl (found_passes p xs)
 pub opcode_read : (word : List ℕ) → IfSome (opcode_of word) (λ o. word ≡ opcode_text o)
 opcode_read word = some_map (λ o e. sym ((bytes_eq-Decides (opcode_text o) word).0 e)) (opcode_of word) (found_passes (λ o. bytes_eq (opcode_text o) word) opcodes)
 
-pub opcode_again : (o : Opcode) → opcode_of (opcode_text o) ≡ Some o
-opcode_again (opcode.Transfer transfer.Load) = refl
-opcode_again opcode.LoadI = refl
-opcode_again (opcode.Transfer transfer.Store) = refl
-opcode_again (opcode.TwoSources two.Add) = refl
-opcode_again (opcode.TwoSources two.Sub) = refl
-opcode_again (opcode.TwoSources two.Mult) = refl
-opcode_again (opcode.TwoSources two.Lshift) = refl
-opcode_again (opcode.TwoSources two.Rshift) = refl
-opcode_again opcode.Output = refl
-opcode_again opcode.Nop = refl
-opcode_again (opcode.Immediate immediate.AddI) = refl
-opcode_again (opcode.Immediate immediate.SubI) = refl
-opcode_again (opcode.Immediate immediate.MultI) = refl
-opcode_again (opcode.Immediate immediate.LshiftI) = refl
-opcode_again (opcode.Immediate immediate.RshiftI) = refl
-opcode_again (opcode.Immediate immediate.LoadAI) = refl
-opcode_again opcode.StoreAI = refl
-
 pub word_by_test : (bytes : List ℕ) → list_all is_word_byte bytes ≡ true → IsWord bytes
 word_by_test [] h = tt
 word_by_test (c ∷ cs) h = by (is_word_byte c) refl (word_by_test cs) h
@@ -56,43 +35,13 @@ word_by_test (c ∷ cs) h = by (is_word_byte c) refl (word_by_test cs) h
     by true e rest h = (e, rest h)
     by false e rest h = cc
 
-pub opcode_passes : (o : Opcode) → list_all is_word_byte (opcode_text o) ≡ true
-opcode_passes (opcode.Transfer transfer.Load) = refl
-opcode_passes opcode.LoadI = refl
-opcode_passes (opcode.Transfer transfer.Store) = refl
-opcode_passes (opcode.TwoSources two.Add) = refl
-opcode_passes (opcode.TwoSources two.Sub) = refl
-opcode_passes (opcode.TwoSources two.Mult) = refl
-opcode_passes (opcode.TwoSources two.Lshift) = refl
-opcode_passes (opcode.TwoSources two.Rshift) = refl
-opcode_passes opcode.Output = refl
-opcode_passes opcode.Nop = refl
-opcode_passes (opcode.Immediate immediate.AddI) = refl
-opcode_passes (opcode.Immediate immediate.SubI) = refl
-opcode_passes (opcode.Immediate immediate.MultI) = refl
-opcode_passes (opcode.Immediate immediate.LshiftI) = refl
-opcode_passes (opcode.Immediate immediate.RshiftI) = refl
-opcode_passes (opcode.Immediate immediate.LoadAI) = refl
-opcode_passes opcode.StoreAI = refl
+opcode_passes : (op : Op) → list_all is_word_byte (opcode op) ≡ true
+opcode_passes Nop = refl
+opcode_passes _ = refl
 
-pub opcode_is_word : (o : Opcode) → IsWord (opcode_text o)
-opcode_is_word o = word_by_test (opcode_text o) (opcode_passes o)
+pub opcode_is_word : (op : Op) → IsWord (opcode op)
+opcode_is_word op = word_by_test (opcode op) (opcode_passes op)
 
-pub opcode_starts : (o : Opcode) (rest : List ℕ) → starts is_word_byte (opcode_text o ++ rest) ≡ true
-opcode_starts (opcode.Transfer transfer.Load) rest = refl
-opcode_starts opcode.LoadI rest = refl
-opcode_starts (opcode.Transfer transfer.Store) rest = refl
-opcode_starts (opcode.TwoSources two.Add) rest = refl
-opcode_starts (opcode.TwoSources two.Sub) rest = refl
-opcode_starts (opcode.TwoSources two.Mult) rest = refl
-opcode_starts (opcode.TwoSources two.Lshift) rest = refl
-opcode_starts (opcode.TwoSources two.Rshift) rest = refl
-opcode_starts opcode.Output rest = refl
-opcode_starts opcode.Nop rest = refl
-opcode_starts (opcode.Immediate immediate.AddI) rest = refl
-opcode_starts (opcode.Immediate immediate.SubI) rest = refl
-opcode_starts (opcode.Immediate immediate.MultI) rest = refl
-opcode_starts (opcode.Immediate immediate.LshiftI) rest = refl
-opcode_starts (opcode.Immediate immediate.RshiftI) rest = refl
-opcode_starts (opcode.Immediate immediate.LoadAI) rest = refl
-opcode_starts opcode.StoreAI rest = refl
+pub opcode_starts : (op : Op) (rest : List ℕ) → starts is_word_byte (opcode op ++ rest) ≡ true
+opcode_starts Nop rest = refl
+opcode_starts _ rest = refl

@@ -2,8 +2,11 @@
 use Rattle.std.proofs.Common.{◌≡◌, ◌∙◌, ℕ, ◌<◌, Bool, true, false, List, [], ◌∷◌, ◌++◌, refl, ap, arith}
 use Rattle.std.specs.Char.{is_ascii_digit, digit_value}
 use Rattle.std.proofs.lemmas.Bool.Decides.{nat_tests}
-use Rattle.iloc_text.specs.declared.op.Reg.{Reg}
-use Rattle.iloc_text.specs.Grammar.{is_word_byte, Text, is_blank, Blanks, SomeBlanks, Number, Register, Arrow, Comma}
+use Rattle.iloc_text.specs.Forms.{Lead, Value, Operand}
+use Rattle.iloc_text.specs.Forms.Lead.{space, comma, arrow}
+use Rattle.iloc_text.specs.Forms.Value.{register, number}
+use Rattle.iloc_text.specs.Forms.Operand.{◌▹◌}
+use Rattle.iloc_text.specs.Grammar.{◌⋅◌, is_word_byte, Text, is_blank, Blanks, SomeBlanks, Number, LeadText, ValueText, OperandsText}
 use Rattle.iloc_text.proofs.Parts.{Before, Before-split, starts}
 
 pub blanks_start : (front rest : List ℕ) (test : ℕ → Bool) → Blanks front → ((c : ℕ) → is_blank c ≡ true → test c ≡ false) → starts test rest ≡ false → starts test (front ++ rest) ≡ false
@@ -40,30 +43,38 @@ some_fail {rest} {bytes} test fails b = ap (starts test) b.whole ∙ by b.front 
     by [] h = absurd (omega (arith, h.0))
     by (c ∷ cs) h = fails c h.1.0
 
-pub arrow_starts : {rest bytes : List ℕ} → Before Arrow rest bytes → starts is_ascii_digit bytes ≡ false
-arrow_starts b =
+-- a test that fails where a lead begins
+pub record FailsLeads (test : ℕ → Bool) : Type 0 where
+  pub blank : (c : ℕ) → is_blank c ≡ true → test c ≡ false
+  pub sign : (test 44 ≡ false) × (test 61 ≡ false)
+
+sign_fails : {sign rest bytes : List ℕ} (test : ℕ → Bool) → ((c : ℕ) → is_blank c ≡ true → test c ≡ false) → ((rest : List ℕ) → starts test (sign ++ rest) ≡ false)
+    → Before (Blanks ⋅ Text sign ⋅ Blanks) rest bytes → starts test bytes ≡ false
+sign_fails test blank sign b =
     let outer = Before-split b in
     let inner = Before-split outer.2 in
-    blanks_fail is_ascii_digit blank_is_no_digit outer.1 (text_starts is_ascii_digit inner.1)
+    blanks_fail test blank outer.1 (text_starts test inner.1 ∙ sign inner.0)
 
-pub comma_starts : {rest bytes : List ℕ} → Before Comma rest bytes → starts is_ascii_digit bytes ≡ false
-comma_starts b =
-    let outer = Before-split b in
-    let inner = Before-split outer.2 in
-    blanks_fail is_ascii_digit blank_is_no_digit outer.1 (text_starts is_ascii_digit inner.1)
+pub lead_fails : (lead : Lead) {rest bytes : List ℕ} (test : ℕ → Bool) → FailsLeads test → Before (LeadText lead) rest bytes → starts test bytes ≡ false
+lead_fails space test fails b = some_fail test fails.blank b
+lead_fails comma test fails b = sign_fails test fails.blank (λ _. fails.sign.0) b
+lead_fails arrow test fails b = sign_fails test fails.blank (λ _. fails.sign.1) b
 
-pub register_fails : {r : Reg} {rest bytes : List ℕ} (test : ℕ → Bool) → test 114 ≡ false → Before (Register r) rest bytes → starts test bytes ≡ false
-register_fails test letter b = text_starts test (Before-split b).1 ∙ letter
+-- operands, and a rest that does not pass either
+pub operands_fail : (operands : List Operand) {rest bytes : List ℕ} (test : ℕ → Bool) → FailsLeads test → Before (OperandsText operands) rest bytes
+    → starts test rest ≡ false → starts test bytes ≡ false
+operands_fail [] test fails b s = text_starts test b ∙ s
+operands_fail (lead ▹ value ∷ more) test fails b s = lead_fails lead test fails (Before-split b).1
 
-pub register_starts : {r : Reg} {rest bytes : List ℕ} → Before (Register r) rest bytes → starts is_blank bytes ≡ false
-register_starts b = register_fails is_blank refl b
+-- a test that fails where a value begins
+pub record FailsValues (test : ℕ → Bool) : Type 0 where
+  pub digit : (c : ℕ) → digit_value c < 10 → test c ≡ false
+  pub letter : test 114 ≡ false
 
-pub number_fails : {n : ℕ} {rest bytes : List ℕ} (test : ℕ → Bool) → ((c : ℕ) → digit_value c < 10 → test c ≡ false) → Before (Number n) rest bytes → starts test bytes ≡ false
-number_fails {n} {rest} {bytes} test fails b = ap (starts test) b.whole ∙ by b.front b.first
+pub value_fails : (value : Value) {rest bytes : List ℕ} (test : ℕ → Bool) → FailsValues test → Before (ValueText value) rest bytes → starts test bytes ≡ false
+value_fails (register r) test fails b = text_starts test (Before-split b).1 ∙ fails.letter
+value_fails (number n) {rest} {bytes} test fails b = ap (starts test) b.whole ∙ by b.front b.first
   where
     by : (front : List ℕ) → Number n front → starts test (front ++ rest) ≡ false
     by [] h = absurd (omega (arith, h.0.0))
-    by (c ∷ cs) h = fails c h.0.1.0
-
-pub number_starts : {n : ℕ} {rest bytes : List ℕ} → Before (Number n) rest bytes → starts is_blank bytes ≡ false
-number_starts b = number_fails is_blank digit_is_no_blank b
+    by (c ∷ cs) h = fails.digit c h.0.1.0

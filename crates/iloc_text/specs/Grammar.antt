@@ -5,7 +5,10 @@ use Rattle.std.specs.Char.{is_ascii_digit, is_ascii_alphabetic}
 use Rattle.std.specs.Str.Parse.{IsNumeral, digits_value}
 use Rattle.iloc_text.specs.declared.op.Reg.{Reg}
 use Rattle.iloc_text.specs.declared.op.Op.{Op}
-use Rattle.iloc_text.specs.declared.op.Op.TheVariants.{Load, LoadI, Store, Add, Sub, Mult, Lshift, Rshift, Output, Nop, AddI, SubI, MultI, LshiftI, RshiftI, LoadAI, StoreAI}
+use Rattle.iloc_text.specs.Forms.{Lead, Value, Operand, opcode, operands, numbers}
+use Rattle.iloc_text.specs.Forms.Lead.{space, comma, arrow}
+use Rattle.iloc_text.specs.Forms.Value.{register, number}
+use Rattle.iloc_text.specs.Forms.Operand.{◌▹◌}
 
 -- a text of the first language, and then one of the second
 pub record Joins (P Q : List ℕ → Type 0) (bytes : List ℕ) : Type 0 where
@@ -50,41 +53,22 @@ Arrow = Blanks ⋅ Text (codes "=>") ⋅ Blanks
 abbrev pub Comma : List ℕ → Type 0
 Comma = Blanks ⋅ Text (codes ",") ⋅ Blanks
 
--- an opcode with its operands: one blank or more stands between them
-abbrev pub Behind : List ℕ → (List ℕ → Type 0) → List ℕ → Type 0
-Behind opcode Operands = Text opcode ⋅ SomeBlanks ⋅ Operands
+abbrev pub LeadText : Lead → List ℕ → Type 0
+LeadText space = SomeBlanks
+LeadText comma = Comma
+LeadText arrow = Arrow
 
--- `register => register`
-abbrev pub Transfer : Reg → Reg → List ℕ → Type 0
-Transfer source target = Register source ⋅ Arrow ⋅ Register target
+abbrev pub ValueText : Value → List ℕ → Type 0
+ValueText (register r) = Register r
+ValueText (number n) = Number n
 
--- `register, register => register`
-abbrev pub TwoSources : Reg → Reg → Reg → List ℕ → Type 0
-TwoSources left right dest = Register left ⋅ Comma ⋅ Register right ⋅ Arrow ⋅ Register dest
-
--- `register, number => register`
-abbrev pub Immediate : Reg → ℕ → Reg → List ℕ → Type 0
-Immediate left value dest = Register left ⋅ Comma ⋅ Number value ⋅ Arrow ⋅ Register dest
+abbrev pub OperandsText : List Operand → List ℕ → Type 0
+OperandsText [] = Text []
+OperandsText (lead ▹ value ∷ more) = LeadText lead ⋅ ValueText value ⋅ OperandsText more
 
 -- an operation, with numbers however large
 abbrev pub Operation : Op → List ℕ → Type 0
-Operation (Load addr dest) = Behind (codes "load") (Transfer addr dest)
-Operation (LoadI value dest) = Behind (codes "loadI") (Number value ⋅ Arrow ⋅ Register dest)
-Operation (Store value addr) = Behind (codes "store") (Transfer value addr)
-Operation (Add left right dest) = Behind (codes "add") (TwoSources left right dest)
-Operation (Sub left right dest) = Behind (codes "sub") (TwoSources left right dest)
-Operation (Mult left right dest) = Behind (codes "mult") (TwoSources left right dest)
-Operation (Lshift left right dest) = Behind (codes "lshift") (TwoSources left right dest)
-Operation (Rshift left right dest) = Behind (codes "rshift") (TwoSources left right dest)
-Operation (Output addr) = Behind (codes "output") (Number addr)
-Operation Nop = Text (codes "nop")
-Operation (AddI left value dest) = Behind (codes "addI") (Immediate left value dest)
-Operation (SubI left value dest) = Behind (codes "subI") (Immediate left value dest)
-Operation (MultI left value dest) = Behind (codes "multI") (Immediate left value dest)
-Operation (LshiftI left value dest) = Behind (codes "lshiftI") (Immediate left value dest)
-Operation (RshiftI left value dest) = Behind (codes "rshiftI") (Immediate left value dest)
-Operation (LoadAI addr offset dest) = Behind (codes "loadAI") (Immediate addr offset dest)
-Operation (StoreAI value addr offset) = Behind (codes "storeAI") (Register value ⋅ Arrow ⋅ Register addr ⋅ Comma ⋅ Number offset)
+Operation op = Text (opcode op) ⋅ OperandsText (operands op)
 
 abbrev pub OptionalOperation : Option Op → List ℕ → Type 0
 OptionalOperation None = Text []
@@ -118,26 +102,6 @@ OptionalLabel (Some name) = Name name ⋅ Blanks ⋅ Text (codes ":")
 abbrev pub ReadsWidely : List ℕ → Option (List ℕ) → Option Op → Type 0
 ReadsWidely line label op =
     (Blanks ⋅ OptionalLabel label ⋅ Blanks ⋅ OptionalOperation op ⋅ Blanks ⋅ OptionalComment) line
-
--- the numbers of an operation, its registers' among them
-abbrev pub numbers : Op → List ℕ
-numbers (Load addr dest) = addr.0 ∷ dest.0 ∷ []
-numbers (LoadI value dest) = value ∷ dest.0 ∷ []
-numbers (Store value addr) = value.0 ∷ addr.0 ∷ []
-numbers (Add left right dest) = left.0 ∷ right.0 ∷ dest.0 ∷ []
-numbers (Sub left right dest) = left.0 ∷ right.0 ∷ dest.0 ∷ []
-numbers (Mult left right dest) = left.0 ∷ right.0 ∷ dest.0 ∷ []
-numbers (Lshift left right dest) = left.0 ∷ right.0 ∷ dest.0 ∷ []
-numbers (Rshift left right dest) = left.0 ∷ right.0 ∷ dest.0 ∷ []
-numbers (Output addr) = addr ∷ []
-numbers Nop = []
-numbers (AddI left value dest) = left.0 ∷ value ∷ dest.0 ∷ []
-numbers (SubI left value dest) = left.0 ∷ value ∷ dest.0 ∷ []
-numbers (MultI left value dest) = left.0 ∷ value ∷ dest.0 ∷ []
-numbers (LshiftI left value dest) = left.0 ∷ value ∷ dest.0 ∷ []
-numbers (RshiftI left value dest) = left.0 ∷ value ∷ dest.0 ∷ []
-numbers (LoadAI addr offset dest) = addr.0 ∷ offset ∷ dest.0 ∷ []
-numbers (StoreAI value addr offset) = value.0 ∷ addr.0 ∷ offset ∷ []
 
 -- each number is at most 2147483647
 abbrev pub IsWithinLimit : Op → Type 0

@@ -1,3 +1,4 @@
+pub mod Forms
 pub mod Registers
 pub mod Spelling
 pub mod Grammar

@@ -1,6 +1,10 @@
 //! The operation of a line, scanned with numbers that count as `ABOVE_LIMIT` where they are above the limit.
-ghost use Rattle.std.specs.Prelude.{◌≡◌, option_map};
-ghost use Rattle.iloc_text.specs.Steps.Scan.{number_to_register_at, register_to_register_at, registers_to_register_at, immediate_to_register_at, register_to_offset_at, operands_at, called_at, operation_at, optional_operation_at};
+ghost use Rattle.std.specs.Prelude.{◌≡◌, [], ◌∷◌, option_map};
+ghost use Rattle.iloc_text.specs.Forms.Lead.{arrow};
+ghost use Rattle.iloc_text.specs.Forms.Operand.{◌▹◌};
+ghost use Rattle.iloc_text.specs.declared.opcode.Opcode.TheVariants as opcodes;
+ghost use Rattle.iloc_text.specs.Steps.Opcodes.{any_register, any_number};
+ghost use Rattle.iloc_text.specs.Steps.Scan.{value_then, operands_at, called_at, operation_at, optional_operation_at};
 
 use crate::op::{Op, Reg};
 use crate::opcode::{Opcode, opcode_of};
@@ -9,9 +13,10 @@ use crate::scan::{
 };
 
 /// `number => register`.
-#[tactic(auto, unfolding(crate::specs::Steps::Scan::number_to_register_at))]
+#[tactic(auto, unfolding(crate::specs::Steps::Scan::value_then))]
 fn number_to_register_at(bytes: &[u8]) -> Option<(u32, Reg, &[u8])>
-    ensures { option_map (λ found. (found.0, found.1, found.2.now)) result ≡ number_to_register_at bytes.now }
+    ensures { option_map (λ found. (found.0 ∷ found.1.0 ∷ [], found.2.now)) result
+        ≡ value_then any_number (operands_at (arrow ▹ any_register ∷ [])) bytes.now }
 {
     let (value, rest) = number_at(bytes)?;
     let (dest, rest) = register_at(arrow_at(rest)?)?;
@@ -19,97 +24,62 @@ fn number_to_register_at(bytes: &[u8]) -> Option<(u32, Reg, &[u8])>
 }
 
 /// `register => register`.
-#[tactic(auto, unfolding(crate::specs::Steps::Scan::register_to_register_at))]
+#[tactic(auto, unfolding(crate::specs::Steps::Scan::value_then))]
 fn register_to_register_at(bytes: &[u8]) -> Option<(Reg, Reg, &[u8])>
-    ensures { option_map (λ found. (found.0, found.1, found.2.now)) result ≡ register_to_register_at bytes.now }
+    ensures { option_map (λ found. (found.0.0 ∷ found.1.0 ∷ [], found.2.now)) result
+        ≡ value_then any_register (operands_at (arrow ▹ any_register ∷ [])) bytes.now }
 {
     let (source, rest) = register_at(bytes)?;
     let (target, rest) = register_at(arrow_at(rest)?)?;
     Some((source, target, rest))
 }
 
-/// `register, register => register`.
-#[tactic(auto, unfolding(crate::specs::Steps::Scan::registers_to_register_at))]
-fn registers_to_register_at(bytes: &[u8]) -> Option<(Reg, Reg, Reg, &[u8])>
-    ensures { option_map (λ found. (found.0, found.1, found.2, found.3.now)) result
-        ≡ registers_to_register_at bytes.now }
+/// A `storeAI`: `register => register, number`.
+#[tactic(auto, unfolding(crate::specs::Steps::Scan::called_at, crate::specs::Steps::Scan::value_then))]
+fn store_at_offset_at(bytes: &[u8]) -> Option<(Op, &[u8])>
+    ensures { option_map (λ found. (found.0, found.1.now)) result ≡ called_at opcodes.StoreAI bytes.now }
 {
-    let (left, rest) = register_at(bytes)?;
-    let (right, dest, rest) = register_to_register_at(comma_at(rest)?)?;
-    Some((left, right, dest, rest))
-}
-
-/// `register, number => register`.
-#[tactic(auto, unfolding(crate::specs::Steps::Scan::immediate_to_register_at))]
-fn immediate_to_register_at(bytes: &[u8]) -> Option<(Reg, u32, Reg, &[u8])>
-    ensures { option_map (λ found. (found.0, found.1, found.2, found.3.now)) result
-        ≡ immediate_to_register_at bytes.now }
-{
-    let (left, rest) = register_at(bytes)?;
-    let (value, dest, rest) = number_to_register_at(comma_at(rest)?)?;
-    Some((left, value, dest, rest))
-}
-
-/// `register => register, number`.
-#[tactic(auto, unfolding(crate::specs::Steps::Scan::register_to_offset_at))]
-fn register_to_offset_at(bytes: &[u8]) -> Option<(Reg, Reg, u32, &[u8])>
-    ensures { option_map (λ found. (found.0, found.1, found.2, found.3.now)) result
-        ≡ register_to_offset_at bytes.now }
-{
-    let (source, target, rest) = register_to_register_at(bytes)?;
+    let (value, rest) = register_at(some_blanks_at(bytes)?)?;
+    let (addr, rest) = register_at(arrow_at(rest)?)?;
     let (offset, rest) = number_at(comma_at(rest)?)?;
-    Some((source, target, offset, rest))
-}
-
-/// What stands behind the blanks behind an opcode.
-#[tactic(auto, unfolding(crate::specs::Steps::Scan::operands_at))]
-fn operands_at(opcode: Opcode, bytes: &[u8]) -> Option<(Op, &[u8])>
-    ensures { option_map (λ found. (found.0, found.1.now)) result ≡ operands_at opcode bytes.now }
-{
-    match opcode {
-        Opcode::Nop => Some((Op::Nop, bytes)),
-        Opcode::Output => {
-            let (addr, rest) = number_at(bytes)?;
-            Some((Op::Output { addr }, rest))
-        }
-        Opcode::LoadI => {
-            let (value, dest, rest) = number_to_register_at(bytes)?;
-            Some((Op::LoadI { value, dest }, rest))
-        }
-        Opcode::Transfer(transfer) => {
-            let (source, target, rest) = register_to_register_at(bytes)?;
-            Some((transfer.op(source, target), rest))
-        }
-        Opcode::TwoSources(sources) => {
-            let (left, right, dest, rest) = registers_to_register_at(bytes)?;
-            Some((sources.op(left, right, dest), rest))
-        }
-        Opcode::Immediate(immediate) => {
-            let (left, value, dest, rest) = immediate_to_register_at(bytes)?;
-            Some((immediate.op(left, value, dest), rest))
-        }
-        Opcode::StoreAI => {
-            let (value, addr, offset, rest) = register_to_offset_at(bytes)?;
-            Some((
-                Op::StoreAI {
-                    value,
-                    addr,
-                    offset,
-                },
-                rest,
-            ))
-        }
-    }
+    let op = Op::StoreAI {
+        value,
+        addr,
+        offset,
+    };
+    Some((op, rest))
 }
 
 /// What stands behind an opcode: blanks and operands, or nothing behind `nop`.
-#[tactic(auto, unfolding(crate::specs::Steps::Scan::called_at))]
+#[tactic(auto, unfolding(crate::specs::Steps::Scan::called_at, crate::specs::Steps::Scan::value_then))]
 pub fn called_at(opcode: Opcode, bytes: &[u8]) -> Option<(Op, &[u8])>
     ensures { option_map (λ found. (found.0, found.1.now)) result ≡ called_at opcode bytes.now }
 {
     match opcode {
         Opcode::Nop => Some((Op::Nop, bytes)),
-        _ => operands_at(opcode, some_blanks_at(bytes)?),
+        Opcode::Output => {
+            let (addr, rest) = number_at(some_blanks_at(bytes)?)?;
+            Some((Op::Output { addr }, rest))
+        }
+        Opcode::LoadI => {
+            let (value, dest, rest) = number_to_register_at(some_blanks_at(bytes)?)?;
+            Some((Op::LoadI { value, dest }, rest))
+        }
+        Opcode::Transfer(transfer) => {
+            let (source, target, rest) = register_to_register_at(some_blanks_at(bytes)?)?;
+            Some((transfer.op(source, target), rest))
+        }
+        Opcode::TwoSources(sources) => {
+            let (left, rest) = register_at(some_blanks_at(bytes)?)?;
+            let (right, dest, rest) = register_to_register_at(comma_at(rest)?)?;
+            Some((sources.op(left, right, dest), rest))
+        }
+        Opcode::Immediate(immediate) => {
+            let (left, rest) = register_at(some_blanks_at(bytes)?)?;
+            let (value, dest, rest) = number_to_register_at(comma_at(rest)?)?;
+            Some((immediate.op(left, value, dest), rest))
+        }
+        Opcode::StoreAI => store_at_offset_at(bytes),
     }
 }
 

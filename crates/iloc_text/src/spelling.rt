@@ -1,11 +1,18 @@
 //! How operations and numbers are written.
-ghost use Rattle.std.specs.Prelude.{◌≡◌, ◌++◌, OnOk, OnErr, take, vec_len, vec_capacity, length, ◌+◌, ◌<◌, ◌≤◌, codes};
+ghost use Rattle.std.specs.Prelude.{◌≡◌, ◌++◌, OnOk, OnErr, [], ◌∷◌, drop, vec_len, vec_capacity, length, codes, ◌+◌, ◌<◌, ◌≤◌};
 ghost use Rattle.std.specs.Fmt.{decimal, signed_decimal};
-ghost use Rattle.iloc_text.specs.Spelling.{register, spelling};
+ghost use Rattle.iloc_text.specs.Forms.{opcode, operands};
+ghost use Rattle.iloc_text.specs.Forms.Lead.{space, comma, arrow};
+ghost use Rattle.iloc_text.specs.Forms.Value.{register, number};
+ghost use Rattle.iloc_text.specs.Forms.Operand.{◌▹◌};
+ghost use Rattle.iloc_text.specs.Spelling.{spelled_operands, spelling};
 
 use crate::fault::NoMemory;
 use crate::op::{Op, Reg};
-use itoa::Buffer;
+use itoa::{Buffer, write_digits};
+
+/// More bytes than an operation is spelled with.
+const ROOM: usize = 64;
 
 /// Appends `number` in decimal, with a `-` before a negative one and no other sign.
 ///
@@ -31,118 +38,136 @@ pub fn push_op(text: &mut Vec<u8>, op: &Op) -> Result<(), NoMemory>
     ensures full { OnErr result
         (vec_capacity text.old < vec_len text.old + length (spelling op.now)) }
 {
-    let before = text.len();
-    let written = push_pieces(text, op);
-    if written.is_err() {
-        text.truncate(before);
-    }
-    written
+    let mut line = [0; ROOM];
+    let start = write_operands(&mut line, op);
+    let start = write_text(&mut line, start, opcode(op));
+    text.extend_from_slice(&line[start..])?;
+    Ok(())
 }
 
-/// Appends the spelling piece by piece; where memory is refused, a part of it may stand behind the text.
-fn push_pieces(text: &mut Vec<u8>, op: &Op) -> Result<(), NoMemory>
-    ensures ok { OnOk result (text.new.items ≡ text.old.items ++ spelling op.now) }
-    ensures err { OnErr result (take (vec_len text.old) text.new.items ≡ text.old.items) }
-    ensures full { OnErr result
-        (vec_capacity text.old < vec_len text.old + length (spelling op.now)) }
-    ensures grown { vec_capacity text.old ≤ vec_capacity text.new }
+/// The opcode of the operation, as it is written.
+fn opcode(op: &Op) -> &'static [u8]
+    ensures text { result.now ≡ opcode op.now }
+    ensures short { length result.now ≤ 7 }
+{
+    match op {
+        Op::Load { .. } => b"load",
+        Op::LoadI { .. } => b"loadI",
+        Op::Store { .. } => b"store",
+        Op::Add { .. } => b"add",
+        Op::Sub { .. } => b"sub",
+        Op::Mult { .. } => b"mult",
+        Op::Lshift { .. } => b"lshift",
+        Op::Rshift { .. } => b"rshift",
+        Op::Output { .. } => b"output",
+        Op::Nop => b"nop",
+        Op::AddI { .. } => b"addI",
+        Op::SubI { .. } => b"subI",
+        Op::MultI { .. } => b"multI",
+        Op::LshiftI { .. } => b"lshiftI",
+        Op::RshiftI { .. } => b"rshiftI",
+        Op::LoadAI { .. } => b"loadAI",
+        Op::StoreAI { .. } => b"storeAI",
+    }
+}
+
+/// Writes the operands to the end of the line, the last of them first, and gives where they start.
+#[tactic(auto, using(crate::proofs::Spelled::nothing_behind))]
+fn write_operands(line: &mut [u8], op: &Op) -> usize
+    requires { length line.old ≡ 64 }
+    ensures room { (7 ≤ result) × (result ≤ 64) }
+    ensures written { drop result line.new ≡ spelled_operands (operands op.now) }
 {
     match *op {
-        Op::Load { addr, dest } => push_transfer(text, b"load r", addr, dest),
+        Op::Nop => ROOM,
+        Op::Output { addr } => write_operand(line, ROOM, b" ", addr),
         Op::LoadI { value, dest } => {
-            push_piece(text, b"loadI ", value)?;
-            push_piece(text, b" => r", dest.0)
+            let end = write_operand(line, ROOM, b" => r", dest.0);
+            write_operand(line, end, b" ", value)
         }
-        Op::Store { value, addr } => push_transfer(text, b"store r", value, addr),
-        Op::Add { left, right, dest } => push_two_sources(text, b"add r", left, right, dest),
-        Op::Sub { left, right, dest } => push_two_sources(text, b"sub r", left, right, dest),
-        Op::Mult { left, right, dest } => push_two_sources(text, b"mult r", left, right, dest),
-        Op::Lshift { left, right, dest } => push_two_sources(text, b"lshift r", left, right, dest),
-        Op::Rshift { left, right, dest } => push_two_sources(text, b"rshift r", left, right, dest),
-        Op::Output { addr } => push_piece(text, b"output ", addr),
-        Op::Nop => Ok(text.extend_from_slice(b"nop")?),
-        Op::AddI { left, value, dest } => push_immediate(text, b"addI r", left, value, dest),
-        Op::SubI { left, value, dest } => push_immediate(text, b"subI r", left, value, dest),
-        Op::MultI { left, value, dest } => push_immediate(text, b"multI r", left, value, dest),
-        Op::LshiftI { left, value, dest } => push_immediate(text, b"lshiftI r", left, value, dest),
-        Op::RshiftI { left, value, dest } => push_immediate(text, b"rshiftI r", left, value, dest),
-        Op::LoadAI { addr, offset, dest } => push_immediate(text, b"loadAI r", addr, offset, dest),
+        Op::Load { addr, dest } => write_transfer(line, ROOM, addr, dest),
+        Op::Store { value, addr } => write_transfer(line, ROOM, value, addr),
+        Op::Add { left, right, dest }
+        | Op::Sub { left, right, dest }
+        | Op::Mult { left, right, dest }
+        | Op::Lshift { left, right, dest }
+        | Op::Rshift { left, right, dest } => write_two_sources(line, left, right, dest),
+        Op::AddI { left, value, dest }
+        | Op::SubI { left, value, dest }
+        | Op::MultI { left, value, dest }
+        | Op::LshiftI { left, value, dest }
+        | Op::RshiftI { left, value, dest } => write_immediate(line, left, value, dest),
+        Op::LoadAI { addr, offset, dest } => write_immediate(line, addr, offset, dest),
         Op::StoreAI {
             value,
             addr,
             offset,
         } => {
-            push_transfer(text, b"storeAI r", value, addr)?;
-            push_piece(text, b", ", offset)
+            let end = write_operand(line, ROOM, b", ", offset);
+            write_transfer(line, end, value, addr)
         }
     }
 }
 
-/// Appends `lead`, a register's number, ` => ` and a register.
-fn push_transfer(text: &mut Vec<u8>, lead: &[u8], source: Reg, target: Reg) -> Result<(), NoMemory>
-    ensures ok { OnOk result (text.new.items ≡ text.old.items
-        ++ (lead.now ++ decimal source.0 ++ codes " => " ++ register target)) }
-    ensures err { OnErr result (take (vec_len text.old) text.new.items ≡ text.old.items) }
-    ensures full { OnErr result (vec_capacity text.old < vec_len text.old
-        + length (lead.now ++ decimal source.0 ++ codes " => " ++ register target)) }
-    ensures grown { vec_capacity text.old ≤ vec_capacity text.new }
+/// Writes `source => target` behind a space, so that it ends at `end`, and gives where it starts.
+fn write_transfer(line: &mut [u8], end: usize, source: Reg, target: Reg) -> usize
+    requires { (34 ≤ end) × (end ≤ length line.old) }
+    ensures room { (result ≤ end) × (end ≤ result + 27) }
+    ensures written { drop result line.new
+        ≡ codes " r" ++ (decimal source.0 ++ (codes " => r" ++ (decimal target.0 ++ drop end line.old))) }
 {
-    push_piece(text, lead, source.0)?;
-    push_piece(text, b" => r", target.0)
+    let start = write_operand(line, end, b" => r", target.0);
+    write_operand(line, start, b" r", source.0)
 }
 
-/// Appends `lead`, a register's number, `, `, a register, ` => ` and a register.
-fn push_two_sources(
-    text: &mut Vec<u8>,
-    lead: &[u8],
-    left: Reg,
-    right: Reg,
-    dest: Reg,
-) -> Result<(), NoMemory>
-    ensures ok { OnOk result (text.new.items ≡ text.old.items
-        ++ (lead.now ++ decimal left.0 ++ codes ", " ++ register right ++ codes " => " ++ register dest)) }
-    ensures err { OnErr result (take (vec_len text.old) text.new.items ≡ text.old.items) }
-    ensures full { OnErr result (vec_capacity text.old < vec_len text.old
-        + length (lead.now ++ decimal left.0 ++ codes ", " ++ register right ++ codes " => " ++ register dest)) }
-    ensures grown { vec_capacity text.old ≤ vec_capacity text.new }
+/// Writes `left, right => dest` behind a space to the end of the line, and gives where it starts.
+#[tactic(auto, using(crate::proofs::Spelled::nothing_behind))]
+fn write_two_sources(line: &mut [u8], left: Reg, right: Reg, dest: Reg) -> usize
+    requires { length line.old ≡ 64 }
+    ensures room { (7 ≤ result) × (result ≤ 64) }
+    ensures written { drop result line.new
+        ≡ spelled_operands (space ▹ register left ∷ comma ▹ register right ∷ arrow ▹ register dest ∷ []) }
 {
-    push_piece(text, lead, left.0)?;
-    push_piece(text, b", r", right.0)?;
-    push_piece(text, b" => r", dest.0)
+    let end = write_operand(line, ROOM, b" => r", dest.0);
+    let end = write_operand(line, end, b", r", right.0);
+    write_operand(line, end, b" r", left.0)
 }
 
-/// Appends `lead`, a register's number, `, `, a constant, ` => ` and a register.
-fn push_immediate(
-    text: &mut Vec<u8>,
-    lead: &[u8],
-    left: Reg,
-    value: u32,
-    dest: Reg,
-) -> Result<(), NoMemory>
-    ensures ok { OnOk result (text.new.items ≡ text.old.items
-        ++ (lead.now ++ decimal left.0 ++ codes ", " ++ decimal value ++ codes " => " ++ register dest)) }
-    ensures err { OnErr result (take (vec_len text.old) text.new.items ≡ text.old.items) }
-    ensures full { OnErr result (vec_capacity text.old < vec_len text.old
-        + length (lead.now ++ decimal left.0 ++ codes ", " ++ decimal value ++ codes " => " ++ register dest)) }
-    ensures grown { vec_capacity text.old ≤ vec_capacity text.new }
+/// Writes `left, value => dest` behind a space to the end of the line, and gives where it starts.
+#[tactic(auto, using(crate::proofs::Spelled::nothing_behind))]
+fn write_immediate(line: &mut [u8], left: Reg, value: u32, dest: Reg) -> usize
+    requires { length line.old ≡ 64 }
+    ensures room { (7 ≤ result) × (result ≤ 64) }
+    ensures written { drop result line.new
+        ≡ spelled_operands (space ▹ register left ∷ comma ▹ number value ∷ arrow ▹ register dest ∷ []) }
 {
-    push_piece(text, lead, left.0)?;
-    push_piece(text, b", ", value)?;
-    push_piece(text, b" => r", dest.0)
+    let end = write_operand(line, ROOM, b" => r", dest.0);
+    let end = write_operand(line, end, b", ", value);
+    write_operand(line, end, b" r", left.0)
 }
 
-/// Appends `lead` and the number behind it.
-fn push_piece(text: &mut Vec<u8>, lead: &[u8], number: u32) -> Result<(), NoMemory>
-    ensures ok { OnOk result (text.new.items ≡ text.old.items ++ (lead.now ++ decimal number)) }
-    ensures err { OnErr result (take (vec_len text.old) text.new.items ≡ text.old.items) }
-    ensures full { OnErr result
-        (vec_capacity text.old < vec_len text.old + length (lead.now ++ decimal number)) }
-    ensures grown { vec_capacity text.old ≤ vec_capacity text.new }
+/// Writes `lead` and the number so that they end at `end`, and gives where they start.
+#[inline(always)]
+#[tactic(auto, using(crate::proofs::Spelled::decimal_is_short))]
+fn write_operand(line: &mut [u8], end: usize, lead: &[u8], number: u32) -> usize
+    requires { (length lead.now + 10 ≤ end) × (end ≤ length line.old) }
+    ensures room { (result ≤ end) × (end ≤ result + (length lead.now + 10)) }
+    ensures written { drop result line.new ≡ lead.now ++ (decimal number ++ drop end line.old) }
 {
-    let mut digits = Buffer::new();
-    text.extend_from_slice(lead)?;
-    text.extend_from_slice(digits.format(number).as_bytes())?;
-    Ok(())
+    let start = write_digits(u64::from(number), line, end);
+    write_text(line, start, lead)
+}
+
+/// Writes the text so that it ends at `end`, and gives where it starts.
+#[inline(always)]
+fn write_text(line: &mut [u8], end: usize, text: &[u8]) -> usize
+    requires { (length text.now ≤ end) × (end ≤ length line.old) }
+    ensures start { result + length text.now ≡ end }
+    ensures written { drop result line.new ≡ text.now ++ drop end line.old }
+{
+    let start = end - text.len();
+    line[start..end].copy_from_slice(text);
+    start
 }
 
 #[cfg(test)]

@@ -4,11 +4,13 @@ use Rattle.std.specs.List.{list_all}
 use Rattle.std.specs.Char.{is_ascii_digit, is_ascii_alphabetic}
 use Rattle.iloc_text.specs.declared.op.Reg.{Reg}
 use Rattle.iloc_text.specs.declared.op.Op.{Op}
-use Rattle.iloc_text.specs.declared.op.Op.TheVariants.{LoadI, StoreAI, Output, Nop}
 use Rattle.iloc_text.specs.declared.opcode.Opcode.{Opcode}
-use Rattle.iloc_text.specs.declared.opcode.Opcode.TheVariants as opcode
-use Rattle.iloc_text.specs.Grammar.{is_blank, is_word_byte, numbers}
-use Rattle.iloc_text.specs.Steps.Opcodes.{opcode_of, transfer_op, two_sources_op, immediate_op}
+use Rattle.iloc_text.specs.Forms.{Lead, Value, Operand, numbers}
+use Rattle.iloc_text.specs.Forms.Lead.{space, comma, arrow}
+use Rattle.iloc_text.specs.Forms.Value.{register, number}
+use Rattle.iloc_text.specs.Forms.Operand.{◌▹◌}
+use Rattle.iloc_text.specs.Grammar.{is_blank, is_word_byte}
+use Rattle.iloc_text.specs.Steps.Opcodes.{opcode_of, op_of, operands_of}
 
 infixl 10 ◌>>=◌
 abbrev pub ◌>>=◌ : {A B : Type 0} → Option A → (A → Option B) → Option B
@@ -63,74 +65,33 @@ after_word (c ∷ cs) = if is_word_byte c then after_word cs else c ∷ cs
 abbrev pub word_of : List ℕ → List ℕ
 word_of bytes = take (length bytes - length (after_word bytes)) bytes
 
--- `number => register`
-unfoldable pub number_to_register_at : List ℕ → Option (ℕ × Reg × List ℕ)
-number_to_register_at bytes = do
-  value ← number_at bytes
-  rest ← arrow_at value.1
-  dest ← register_at rest
-  Some (value.0, dest.0, dest.1)
+abbrev pub lead_at : Lead → List ℕ → Option (List ℕ)
+lead_at space bytes = some_blanks_at bytes
+lead_at comma bytes = comma_at bytes
+lead_at arrow bytes = arrow_at bytes
 
--- `register => register`
-unfoldable pub register_to_register_at : List ℕ → Option (Reg × Reg × List ℕ)
-register_to_register_at bytes = do
-  source ← register_at bytes
-  rest ← arrow_at source.1
-  target ← register_at rest
-  Some (source.0, target.0, target.1)
+-- the number of a value of this kind
+abbrev pub value_at : Value → List ℕ → Option (ℕ × List ℕ)
+value_at (register r) bytes = register_at bytes >>= (λ found. Some (found.0.0, found.1))
+value_at (number n) bytes = number_at bytes
 
--- `register, register => register`
-unfoldable pub registers_to_register_at : List ℕ → Option (Reg × Reg × Reg × List ℕ)
-registers_to_register_at bytes = do
-  left ← register_at bytes
-  rest ← comma_at left.1
-  right ← register_to_register_at rest
-  Some (left.0, right.0, right.1, right.2)
+-- the number of a value of this kind, and the numbers behind it
+unfoldable pub value_then : Value → (List ℕ → Option (List ℕ × List ℕ)) → List ℕ → Option (List ℕ × List ℕ)
+value_then value more bytes = do
+  found ← value_at value bytes
+  others ← more found.1
+  Some (found.0 ∷ others.0, others.1)
 
--- `register, number => register`
-unfoldable pub immediate_to_register_at : List ℕ → Option (Reg × ℕ × Reg × List ℕ)
-immediate_to_register_at bytes = do
-  left ← register_at bytes
-  rest ← comma_at left.1
-  value ← number_to_register_at rest
-  Some (left.0, value.0, value.1, value.2)
+-- the numbers of operands that are as these but for their numbers
+abbrev pub operands_at : List Operand → List ℕ → Option (List ℕ × List ℕ)
+operands_at [] bytes = Some ([], bytes)
+operands_at (lead ▹ value ∷ more) bytes = lead_at lead bytes >>= value_then value (operands_at more)
 
--- `register => register, number`
-unfoldable pub register_to_offset_at : List ℕ → Option (Reg × Reg × ℕ × List ℕ)
-register_to_offset_at bytes = do
-  found ← register_to_register_at bytes
-  rest ← comma_at found.2
-  offset ← number_at rest
-  Some (found.0, found.1, offset.0, offset.1)
-
--- what stands behind the blanks behind an opcode
-unfoldable pub operands_at : Opcode → List ℕ → Option (Op × List ℕ)
-operands_at opcode.Nop bytes = Some (Nop, bytes)
-operands_at opcode.Output bytes = do
-  found ← number_at bytes
-  Some (Output found.0, found.1)
-operands_at opcode.LoadI bytes = do
-  found ← number_to_register_at bytes
-  Some (LoadI found.0 found.1, found.2)
-operands_at (opcode.Transfer which) bytes = do
-  found ← register_to_register_at bytes
-  Some (transfer_op which found.0 found.1, found.2)
-operands_at (opcode.TwoSources which) bytes = do
-  found ← registers_to_register_at bytes
-  Some (two_sources_op which found.0 found.1 found.2, found.3)
-operands_at (opcode.Immediate which) bytes = do
-  found ← immediate_to_register_at bytes
-  Some (immediate_op which found.0 found.1 found.2, found.3)
-operands_at opcode.StoreAI bytes = do
-  found ← register_to_offset_at bytes
-  Some (StoreAI found.0 found.1 found.2, found.3)
-
--- an opcode and what belongs behind it
+-- an operation of which the opcode was read
 unfoldable pub called_at : Opcode → List ℕ → Option (Op × List ℕ)
-called_at opcode.Nop bytes = Some (Nop, bytes)
 called_at opcode bytes = do
-  rest ← some_blanks_at bytes
-  operands_at opcode rest
+  found ← operands_at (operands_of opcode) bytes
+  Some (op_of opcode found.0, found.1)
 
 unfoldable pub operation_at : List ℕ → Option (Op × List ℕ)
 operation_at bytes = do
