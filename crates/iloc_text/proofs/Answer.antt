@@ -25,7 +25,8 @@ no_end [] h k d lt = absurd (omega arith)
 no_end (c ∷ cs) h zero d lt = other_byte c h.0
 no_end (c ∷ cs) h (suc k) d lt = no_end cs h.1 k d (omega arith)
 
-lines_joined : (lines : List (List ℕ)) → 0 < length lines → AllByRecursion HasNoLineEnd lines → lines_of (join_with_byte 10 lines) ≡ lines
+lines_joined : (lines : List (List ℕ)) → 0 < length lines → AllByRecursion HasNoLineEnd lines
+    → lines_of (join_with_byte 10 lines) ≡ lines
 lines_joined [] some each = absurd (omega arith)
 lines_joined (l ∷ []) some each = slice_split_none is_line_end l (no_end l each.0)
 lines_joined (l ∷ m ∷ ls) some each =
@@ -39,74 +40,97 @@ lines_are_of input lines a = ap lines_of a.whole ∙ lines_joined lines a.some a
 
 abbrev limited : List Reading → Reading → ℕ → Result Reading ReadFault
 limited rs r n = cond (nat_lt 65535 (block_count (rs ++ r ∷ []))) (Err (TooManyBlocks n))
-    (cond (nat_lt 10000 (length (ops_of (block_count (rs ++ r ∷ [])) (rs ++ r ∷ [])))) (Err (TooManyOperations n)) (Ok r))
+    (cond (nat_lt 10000 (length (ops_of (block_count (rs ++ r ∷ [])) (rs ++ r ∷ [])))) (Err (TooManyOperations n))
+    (Ok r))
 
 abbrev verdict_on : Option (Option (List ℕ) × Option Op) → List Reading → ℕ → Result Reading ReadFault
 verdict_on None rs n = Err (BadLine n)
-verdict_on (Some found) rs n = cond (is_within found.1) (limited rs (record { label = found.0; op = found.1 }) n) (Err (NumberTooLarge n))
+verdict_on (Some found) rs n = cond (is_within found.1) (limited rs (record { label = found.0; op = found.1 }) n)
+    (Err (NumberTooLarge n))
 
 abbrev verdict : List Reading → List ℕ → ℕ → Result Reading ReadFault
 verdict rs line n = verdict_on (line_at line) rs n
 
 abbrev answer_from : List Reading → List (List ℕ) → Result (List Reading) ReadFault
 answer_from rs [] = Ok rs
-answer_from rs (line ∷ lines) = elim (verdict rs line (length rs + 1)) as (λ _. Result (List Reading) ReadFault) [ Ok r ↦ answer_from (rs ++ r ∷ []) lines | Err f ↦ Err f ]
+answer_from rs (line ∷ lines) = elim (verdict rs line (length rs + 1)) as (λ _. Result (List Reading) ReadFault)
+    [ Ok r ↦ answer_from (rs ++ r ∷ []) lines | Err f ↦ Err f ]
 
-reads_verdict : (rs : List Reading) (line : List ℕ) (n : ℕ) (r : Reading) → Reads line r.label r.op → verdict rs line n ≡ limited rs r n
+reads_verdict : (rs : List Reading) (line : List ℕ) (n : ℕ) (r : Reading) → Reads line r.label r.op
+    → verdict rs line n ≡ limited rs r n
 reads_verdict rs line n r h = let f = found_reads line r.label r.op h in
     ap (λ o. verdict_on o rs n) f.0 ∙ ap (λ b. cond b (limited rs r n) (Err (NumberTooLarge n))) f.1
 
-within_verdict : (rs : List Reading) (line : List ℕ) (n : ℕ) (r : Reading) → Reads line r.label r.op → IsWithin (rs ++ r ∷ []) → verdict rs line n ≡ Ok r
+within_verdict : (rs : List Reading) (line : List ℕ) (n : ℕ) (r : Reading) → Reads line r.label r.op
+    → IsWithin (rs ++ r ∷ []) → verdict rs line n ≡ Ok r
 within_verdict rs line n r h w =
     let blocks : nat_lt 65535 (block_count (rs ++ r ∷ [])) ≡ false = let most = w.blocks in grind (arith, nat_tests) in
-    let operations : nat_lt 10000 (length (ops_of (block_count (rs ++ r ∷ [])) (rs ++ r ∷ []))) ≡ false = let most = w.operations in grind (arith, nat_tests) in
+    let operations : nat_lt 10000 (length (ops_of (block_count (rs ++ r ∷ [])) (rs ++ r ∷ []))) ≡ false = let most =
+    w.operations in grind (arith, nat_tests) in
     reads_verdict rs line n r h ∙ (rw (blocks, operations) refl)
 
-bad_verdict : (rs : List Reading) (line : List ℕ) (n : ℕ) → (HasWideReading line → ⊥) → verdict rs line n ≡ Err (BadLine n)
+bad_verdict : (rs : List Reading) (line : List ℕ) (n : ℕ) → (HasWideReading line → ⊥)
+    → verdict rs line n ≡ Err (BadLine n)
 bad_verdict rs line n h = by (line_at line) (line_read line)
   where
     by : (o : Option (Option (List ℕ) × Option Op)) → IfSome o (FindsLine line) → verdict_on o rs n ≡ Err (BadLine n)
     by None f = refl
     by (Some found) f = absurd (h (found.0, f.0, f.1))
 
-large_verdict : (rs : List Reading) (line : List ℕ) (n : ℕ) → HasWideReading line → (HasReading line → ⊥) → verdict rs line n ≡ Err (NumberTooLarge n)
+large_verdict : (rs : List Reading) (line : List ℕ) (n : ℕ) → HasWideReading line → (HasReading line → ⊥)
+    → verdict rs line n ≡ Err (NumberTooLarge n)
 large_verdict rs line n wide none =
     let found = line_again line wide.0 wide.1 wide.2 in
     ap (λ o. verdict_on o rs n) found ∙ by (is_within (option_map capped_op wide.1)) refl found
   where
-    by : (b : Bool) → is_within (option_map capped_op wide.1) ≡ b → line_at line ≡ Some (wide.0, option_map capped_op wide.1)
-        → cond b (limited rs (record { label = wide.0; op = option_map capped_op wide.1 }) n) (Err (NumberTooLarge n)) ≡ Err (NumberTooLarge n)
-    by true e found = absurd (none (wide.0, option_map capped_op wide.1, line_good line wide.0 (option_map capped_op wide.1) found e))
+    by : (b : Bool) → is_within (option_map capped_op wide.1) ≡ b
+        → line_at line ≡ Some (wide.0, option_map capped_op wide.1)
+        → cond b (limited rs (record { label = wide.0; op = option_map capped_op wide.1 }) n) (Err (NumberTooLarge n))
+        ≡ Err (NumberTooLarge n)
+    by true e found =
+        absurd (none (wide.0, option_map capped_op wide.1, line_good line wide.0 (option_map capped_op wide.1) found e))
     by false e found = refl
 
-faulty_verdict : (rs : List Reading) (line : List ℕ) (n : ℕ) (fault : ReadFault) → IsFaulty rs line n fault → verdict rs line n ≡ Err fault
+faulty_verdict : (rs : List Reading) (line : List ℕ) (n : ℕ) (fault : ReadFault) → IsFaulty rs line n fault
+    → verdict rs line n ≡ Err fault
 faulty_verdict rs line n InputTooLong h = absurd h
 faulty_verdict rs line n (BadLine k) h = bad_verdict rs line n h.1 ∙ ap (λ m. Err (BadLine m)) (sym h.0)
-faulty_verdict rs line n (NumberTooLarge k) h = large_verdict rs line n h.1 h.2 ∙ ap (λ m. Err (NumberTooLarge m)) (sym h.0)
+faulty_verdict rs line n (NumberTooLarge k) h = large_verdict rs line n h.1 h.2
+    ∙ ap (λ m. Err (NumberTooLarge m)) (sym h.0)
 faulty_verdict rs line n (TooManyBlocks k) h =
     let r = h.1.reading in
     let blocks : nat_lt 65535 (block_count (rs ++ r ∷ [])) ≡ true = let more = h.1.blocks in grind (arith, nat_tests) in
     reads_verdict rs line n r h.1.read
-    ∙ ap (λ b. cond b (Err (TooManyBlocks n)) (cond (nat_lt 10000 (length (ops_of (block_count (rs ++ r ∷ [])) (rs ++ r ∷ [])))) (Err (TooManyOperations n)) (Ok r))) blocks
+    ∙ ap (λ b. cond b (Err (TooManyBlocks n))
+    (cond (nat_lt 10000 (length (ops_of (block_count (rs ++ r ∷ [])) (rs ++ r ∷ [])))) (Err (TooManyOperations n))
+    (Ok r))) blocks
     ∙ ap (λ m. Err (TooManyBlocks m)) (sym h.0)
 faulty_verdict rs line n (TooManyOperations k) h =
     let r = h.1.reading in
-    let blocks : nat_lt 65535 (block_count (rs ++ r ∷ [])) ≡ false = let most = h.1.blocks in grind (arith, nat_tests) in
-    let operations : nat_lt 10000 (length (ops_of (block_count (rs ++ r ∷ [])) (rs ++ r ∷ []))) ≡ true = let more = h.1.operations in grind (arith, nat_tests) in
+    let blocks : nat_lt 65535 (block_count (rs ++ r ∷ [])) ≡ false = let most = h.1.blocks in
+    grind (arith, nat_tests) in
+    let operations : nat_lt 10000 (length (ops_of (block_count (rs ++ r ∷ [])) (rs ++ r ∷ []))) ≡ true = let more =
+    h.1.operations in grind (arith, nat_tests) in
     reads_verdict rs line n r h.1.read
     ∙ ap₂ (λ a b. cond a (Err (TooManyBlocks n)) (cond b (Err (TooManyOperations n)) (Ok r))) blocks operations
     ∙ ap (λ m. Err (TooManyOperations m)) (sym h.0)
 faulty_verdict rs line n NoMemory h = absurd h
 
-all-behind : (front : List Reading) (r : Reading) (fs : List (List Reading)) → AllByRecursion (λ f. IsWithin (front ++ f)) (map (λ f. r ∷ f) fs)
+all-behind : (front : List Reading) (r : Reading) (fs : List (List Reading))
+    → AllByRecursion (λ f. IsWithin (front ++ f)) (map (λ f. r ∷ f) fs)
     → AllByRecursion (λ f. IsWithin ((front ++ r ∷ []) ++ f)) fs
 all-behind front r [] h = tt
 all-behind front r (f ∷ fs) h = (subst IsWithin (sym (append_assoc front (r ∷ []) f)) h.0, all-behind front r fs h.1)
 
 on_verdict : (rs : List Reading) (lines : List (List ℕ)) → Result Reading ReadFault → Result (List Reading) ReadFault
-on_verdict rs lines v = elim v as (λ _. Result (List Reading) ReadFault) [ Ok r ↦ answer_from (rs ++ r ∷ []) lines | Err f ↦ Err f ]
+on_verdict rs lines v = elim v as (λ _. Result (List Reading) ReadFault) [
+  | Ok r ↦
+      answer_from (rs ++ r ∷ []) lines
+  | Err f ↦ Err f
+]
 
-answered : (front rs : List Reading) (lines rest : List (List ℕ)) → ReadAs lines rs → AllByRecursion (λ f. IsWithin (front ++ f)) (fronts rs)
+answered : (front rs : List Reading) (lines rest : List (List ℕ)) → ReadAs lines rs
+    → AllByRecursion (λ f. IsWithin (front ++ f)) (fronts rs)
     → answer_from front (lines ++ rest) ≡ answer_from (front ++ rs) rest
 unfolding on_verdict
 answered front [] [] rest h w = ap (λ f. answer_from f rest) (sym (append-nil front))
@@ -123,21 +147,25 @@ length-ReadAs [] (r ∷ rs) h = absurd h
 length-ReadAs (l ∷ ls) [] h = absurd h
 length-ReadAs (l ∷ ls) (r ∷ rs) h = ap suc (length-ReadAs ls rs h.1)
 
-file_answer : (input : List ℕ) (blocks : List Block) (d : Denotes input blocks) → answer_from [] (lines_of input) ≡ Ok d.readings
+file_answer : (input : List ℕ) (blocks : List Block) (d : Denotes input blocks) → answer_from [] (lines_of input)
+    ≡ Ok d.readings
 file_answer input blocks d = ap (answer_from []) (lines_are_of input d.lines d.are_lines ∙ sym (append-nil d.lines))
     ∙ answered [] d.readings d.lines [] d.read d.none_faulty
 
-fault_answer : (input : List ℕ) (fault : ReadFault) → HasFirstFault input fault → answer_from [] (lines_of input) ≡ Err fault
+fault_answer : (input : List ℕ) (fault : ReadFault) → HasFirstFault input fault → answer_from [] (lines_of input)
+    ≡ Err fault
 unfolding on_verdict
 fault_answer input fault h =
     ap (answer_from []) (lines_are_of input (h.before ++ h.line ∷ h.after) h.are_lines)
     ∙ answered [] h.readings h.before (h.line ∷ h.after) h.read h.none_faulty
-    ∙ ap (on_verdict h.readings h.after) (ap (λ n. verdict h.readings h.line (n + 1)) (length-ReadAs h.before h.readings h.read)
+    ∙ ap (on_verdict h.readings h.after) (ap (λ n. verdict h.readings h.line (n + 1))
+    (length-ReadAs h.before h.readings h.read)
     ∙ faulty_verdict h.readings h.line (length h.before + 1) fault h.faulty)
 
 -- a refusal is that of the first faulty line, or that the input is too long
 refusal_answer : (input : List ℕ) (fault : ReadFault) → IsRefused input fault
-    → ((fault ≡ InputTooLong) × (16777216 < length input)) ⊎ ((length input ≤ 16777216) × (answer_from [] (lines_of input) ≡ Err fault))
+    → ((fault ≡ InputTooLong) × (16777216 < length input))
+    ⊎ ((length input ≤ 16777216) × (answer_from [] (lines_of input) ≡ Err fault))
 refusal_answer input InputTooLong h = inl (refl, h)
 refusal_answer input (BadLine n) h = inr (h.short, fault_answer input (BadLine n) h)
 refusal_answer input (NumberTooLarge n) h = inr (h.short, fault_answer input (NumberTooLarge n) h)
@@ -157,7 +185,8 @@ not_both a b r e f = cc
 pub one_answer : TextsHaveOneAnswer
 one_answer = record {
   file = λ input blocks blocks' d e.
-      d.file ∙ ap file_of (same_ok d.readings e.readings (answer_from [] (lines_of input)) (file_answer input blocks d) (file_answer input blocks' e)) ∙ sym e.file;
+      d.file ∙ ap file_of (same_ok d.readings e.readings (answer_from [] (lines_of input)) (file_answer input blocks d)
+      (file_answer input blocks' e)) ∙ sym e.file;
   refusal = λ input fault fault' h k. elim (refusal_answer input fault h) [
     | inl a ↦ (elim (refusal_answer input fault' k) [
       | inl b ↦ a.0 ∙ sym b.0

@@ -7,20 +7,25 @@ use Rattle.iloc_text.specs.Steps.Growth.{with_op, with_optional_op, with_line, l
 use Rattle.iloc_text.proofs.Counts.{length-names, names-label, names-empty, names-op, names-first, count-label, count-op, count-first, none_or_some}
 use Rattle.iloc_text.proofs.BlockOps.{ops_of-here, ops_of-else, ops_of-no_op, no_more}
 
-blocks-same : (k : ℕ) (names : List (Option (List ℕ))) (rs ss : List Reading) → ((j : ℕ) → j < k + length names → ops_of j ss ≡ ops_of j rs)
+blocks-same : (k : ℕ) (names : List (Option (List ℕ))) (rs ss : List Reading)
+    → ((j : ℕ) → j < k + length names → ops_of j ss ≡ ops_of j rs)
     → blocks_from k names ss ≡ blocks_from k names rs
 blocks-same k [] rs ss h = refl
 blocks-same k (name ∷ names) rs ss h =
-    ap₂ (λ ops rest. record { name = name; ops = ops } ∷ rest) (h k (omega arith)) (blocks-same (k + 1) names rs ss (λ j lt. h j (omega arith)))
+    ap₂ (λ ops rest. record { name = name; ops = ops } ∷ rest) (h k (omega arith))
+    (blocks-same (k + 1) names rs ss (λ j lt. h j (omega arith)))
 
 blocks-snoc : (k : ℕ) (names : List (Option (List ℕ))) (name : Option (List ℕ)) (rs : List Reading)
-    → blocks_from k (names ++ name ∷ []) rs ≡ blocks_from k names rs ++ record { name = name; ops = ops_of (k + length names) rs } ∷ []
+    → blocks_from k (names ++ name ∷ []) rs ≡ blocks_from k names rs
+    ++ record { name = name; ops = ops_of (k + length names) rs } ∷ []
 blocks-snoc k [] name rs = ap (λ n. record { name = name; ops = ops_of n rs } ∷ []) (omega arith)
 blocks-snoc k (n ∷ names) name rs =
     ap (λ rest. record { name = n; ops = ops_of k rs } ∷ rest)
-    (blocks-snoc (k + 1) names name rs ∙ ap (λ m. blocks_from (k + 1) names rs ++ record { name = name; ops = ops_of m rs } ∷ []) (omega arith))
+    (blocks-snoc (k + 1) names name rs ∙ ap
+    (λ m. blocks_from (k + 1) names rs ++ record { name = name; ops = ops_of m rs } ∷ []) (omega arith))
 
-length-blocks : (k : ℕ) (names : List (Option (List ℕ))) (rs : List Reading) → length (blocks_from k names rs) ≡ length names
+length-blocks : (k : ℕ) (names : List (Option (List ℕ))) (rs : List Reading) → length (blocks_from k names rs)
+    ≡ length names
 length-blocks k [] rs = refl
 length-blocks k (n ∷ names) rs = ap suc (length-blocks (k + 1) names rs)
 
@@ -28,12 +33,14 @@ pub length-file : (rs : List Reading) → length (file_of rs) ≡ block_count rs
 unfolding file_of
 length-file rs = length-blocks 1 (block_names rs) rs ∙ length-names rs
 
-pub with_op-snoc : (op : Op) (bs : List Block) (b : Block) → with_op op (bs ++ b ∷ []) ≡ bs ++ record { name = b.name; ops = b.ops ++ op ∷ [] } ∷ []
+pub with_op-snoc : (op : Op) (bs : List Block) (b : Block)
+    → with_op op (bs ++ b ∷ []) ≡ bs ++ record { name = b.name; ops = b.ops ++ op ∷ [] } ∷ []
 with_op-snoc op [] b = refl
 with_op-snoc op (x ∷ []) b = refl
 with_op-snoc op (x ∷ y ∷ bs) b = ap (λ l. x ∷ l) (with_op-snoc op (y ∷ bs) b)
 
-with_optional-snoc : (op : Option Op) (bs : List Block) (b : Block) → with_optional_op op (bs ++ b ∷ []) ≡ bs ++ record { name = b.name; ops = b.ops ++ option_to_list op } ∷ []
+with_optional-snoc : (op : Option Op) (bs : List Block) (b : Block) → with_optional_op op (bs ++ b ∷ [])
+    ≡ bs ++ record { name = b.name; ops = b.ops ++ option_to_list op } ∷ []
 with_optional-snoc None bs b = ap (λ ops. bs ++ record { name = b.name; ops = ops } ∷ []) (sym (append-nil b.ops))
 with_optional-snoc (Some op) [] b = refl
 with_optional-snoc (Some op) (x ∷ bs) b = with_op-snoc op (x ∷ bs) b
@@ -66,7 +73,8 @@ file-label rs r name op h g =
     let here : ops_of (1 + length (block_names rs)) (rs ++ r ∷ []) ≡ option_to_list op =
     ops_of-here (1 + length (block_names rs)) rs r (omega arith)
     ∙ ap₂ (λ a o. a ++ option_to_list o) ((no_more rs).1 (1 + length (block_names rs)) (omega arith)) g in
-    ap (λ ns. blocks_from 1 ns (rs ++ r ∷ [])) (names-label rs r name h) ∙ blocks-snoc 1 (block_names rs) (Some name) (rs ++ r ∷ [])
+    ap (λ ns. blocks_from 1 ns (rs ++ r ∷ [])) (names-label rs r name h)
+    ∙ blocks-snoc 1 (block_names rs) (Some name) (rs ++ r ∷ [])
     ∙ ap₂ (λ bs ops. bs ++ record { name = Some name; ops = ops } ∷ []) before here
     ∙ sym (with_optional-snoc op (blocks_from 1 (block_names rs) rs) (record { name = Some name; ops = [] }))
 
@@ -81,7 +89,8 @@ unfolding file_of
 file-first rs r op h g none =
     let names : block_names rs ≡ [] = empty (block_names rs) (length-names rs ∙ none) in
     let ops : ops_of 1 (rs ++ r ∷ []) ≡ op ∷ [] =
-    ops_of-here 1 rs r (count-first rs r op h g none) ∙ ap₂ (λ a o. a ++ option_to_list o) ((no_more rs).1 1 (omega arith)) g in
+    ops_of-here 1 rs r (count-first rs r op h g none)
+    ∙ ap₂ (λ a o. a ++ option_to_list o) ((no_more rs).1 1 (omega arith)) g in
     ap (λ ns. blocks_from 1 ns (rs ++ r ∷ [])) (names-first rs r op h g none)
     ∙ ap (λ o. record { name = None; ops = o } ∷ []) ops
     ∙ sym (ap (λ ns. with_optional_op (Some op) (blocks_from 1 ns rs)) names)
@@ -99,19 +108,24 @@ file-op rs r op h g some = elim (ends (block_names rs)) [
 ]
   where
     by : (front : List (Option (List ℕ))) (name : Option (List ℕ)) → block_names rs ≡ front ++ name ∷ []
-        → blocks_from 1 (block_names (rs ++ r ∷ [])) (rs ++ r ∷ []) ≡ with_optional_op (Some op) (blocks_from 1 (block_names rs) rs)
+        → blocks_from 1 (block_names (rs ++ r ∷ [])) (rs ++ r ∷ [])
+        ≡ with_optional_op (Some op) (blocks_from 1 (block_names rs) rs)
     by front name e =
         let count = count-op rs r op h g some in
-        let len : block_count rs ≡ length front + 1 = sym (length-names rs) ∙ ap length e ∙ length-append front (name ∷ []) in
+        let len : block_count rs ≡ length front + 1 = sym (length-names rs) ∙ ap length e
+        ∙ length-append front (name ∷ []) in
         let before : blocks_from 1 front (rs ++ r ∷ []) ≡ blocks_from 1 front rs =
         blocks-same 1 front rs (rs ++ r ∷ []) (λ j lt. ops_of-else j rs r (λ z. omega arith)) in
         let here : ops_of (1 + length front) (rs ++ r ∷ []) ≡ ops_of (1 + length front) rs ++ op ∷ [] =
-        ops_of-here (1 + length front) rs r (omega arith) ∙ ap (λ o. ops_of (1 + length front) rs ++ option_to_list o) g in
-        ap (λ ns. blocks_from 1 ns (rs ++ r ∷ [])) (names-op rs r op h g some ∙ e) ∙ blocks-snoc 1 front name (rs ++ r ∷ [])
+        ops_of-here (1 + length front) rs r (omega arith)
+        ∙ ap (λ o. ops_of (1 + length front) rs ++ option_to_list o) g in
+        ap (λ ns. blocks_from 1 ns (rs ++ r ∷ [])) (names-op rs r op h g some ∙ e)
+        ∙ blocks-snoc 1 front name (rs ++ r ∷ [])
         ∙ ap₂ (λ bs ops. bs ++ record { name = name; ops = ops } ∷ []) before here
         ∙ sym (ap (λ ns. with_optional_op (Some op) (blocks_from 1 ns rs)) e
         ∙ ap (with_optional_op (Some op)) (blocks-snoc 1 front name rs)
-        ∙ with_optional-snoc (Some op) (blocks_from 1 front rs) (record { name = name; ops = ops_of (1 + length front) rs }))
+        ∙ with_optional-snoc (Some op) (blocks_from 1 front rs)
+        (record { name = name; ops = ops_of (1 + length front) rs }))
 
 file-by : (rs : List Reading) (r : Reading) (label : Option (List ℕ)) (op : Option Op) → r.label ≡ label → r.op ≡ op
     → file_of (rs ++ r ∷ []) ≡ with_line label op (file_of rs)
@@ -131,7 +145,8 @@ unfolding file_of
 last-file rs = elim (ends (block_names rs)) [
   | Nowhere e ↦ (let none : block_count rs ≡ 0 = sym (length-names rs) ∙ ap length e in
       ap (λ ns. last_ops (blocks_from 1 ns rs)) e ∙ sym (ap (λ k. ops_of k rs) none ∙ (no_more rs).0))
-  | With front name e ↦ (let len : block_count rs ≡ length front + 1 = sym (length-names rs) ∙ ap length e ∙ length-append front (name ∷ []) in
+  | With front name e ↦ (let len : block_count rs ≡ length front + 1 = sym (length-names rs) ∙ ap length e
+      ∙ length-append front (name ∷ []) in
       ap (λ ns. last_ops (blocks_from 1 ns rs)) e ∙ ap last_ops (blocks-snoc 1 front name rs)
       ∙ last-snoc (blocks_from 1 front rs) (record { name = name; ops = ops_of (1 + length front) rs })
       ∙ ap (λ k. ops_of k rs) (omega arith))

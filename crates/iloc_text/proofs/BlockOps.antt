@@ -17,24 +17,29 @@ filter_map-one f x = by (f x) refl
     by None e = rw e refl
     by (Some op) e = rw e refl
 
-pub ops_of-snoc : (k : ℕ) (rs : List Reading) (r : Reading) → ops_of k (rs ++ r ∷ []) ≡ ops_of k rs ++ cond (block_count (rs ++ r ∷ []) == k) (option_to_list r.op) []
+pub ops_of-snoc : (k : ℕ) (rs : List Reading) (r : Reading)
+    → ops_of k (rs ++ r ∷ []) ≡ ops_of k rs ++ cond (block_count (rs ++ r ∷ []) == k) (option_to_list r.op) []
 unfolding ops_of
 ops_of-snoc k rs r =
     let f : List Reading → Option Op = λ front. cond (block_count front == k) (last_op front) None in
     ap (filter_map f) (fronts-snoc rs r) ∙ filter_map-append f (fronts rs) ((rs ++ r ∷ []) ∷ [])
     ∙ ap (λ o. filter_map f (fronts rs) ++ o)
-    (filter_map-one f (rs ++ r ∷ []) ∙ one_or_none (block_count (rs ++ r ∷ []) == k) (rs ++ r ∷ []) r.op (last_op-snoc rs r))
+    (filter_map-one f (rs ++ r ∷ []) ∙ one_or_none (block_count (rs ++ r ∷ []) == k) (rs ++ r ∷ []) r.op
+    (last_op-snoc rs r))
 
-pub ops_of-here : (k : ℕ) (rs : List Reading) (r : Reading) → block_count (rs ++ r ∷ []) ≡ k → ops_of k (rs ++ r ∷ []) ≡ ops_of k rs ++ option_to_list r.op
+pub ops_of-here : (k : ℕ) (rs : List Reading) (r : Reading) → block_count (rs ++ r ∷ []) ≡ k
+    → ops_of k (rs ++ r ∷ []) ≡ ops_of k rs ++ option_to_list r.op
 ops_of-here k rs r h = let same : (block_count (rs ++ r ∷ []) == k) ≡ true = eq-eqb _ _ h in
     ops_of-snoc k rs r ∙ ap (λ b. ops_of k rs ++ cond b (option_to_list r.op) []) same
 
-pub ops_of-else : (k : ℕ) (rs : List Reading) (r : Reading) → block_count (rs ++ r ∷ []) ≢ k → ops_of k (rs ++ r ∷ []) ≡ ops_of k rs
+pub ops_of-else : (k : ℕ) (rs : List Reading) (r : Reading) → block_count (rs ++ r ∷ []) ≢ k
+    → ops_of k (rs ++ r ∷ []) ≡ ops_of k rs
 ops_of-else k rs r h = let other : (block_count (rs ++ r ∷ []) == k) ≡ false = ne_eqb _ _ h in
     ops_of-snoc k rs r ∙ ap (λ b. ops_of k rs ++ cond b (option_to_list r.op) []) other ∙ append-nil (ops_of k rs)
 
 pub ops_of-no_op : (k : ℕ) (rs : List Reading) (r : Reading) → r.op ≡ None → ops_of k (rs ++ r ∷ []) ≡ ops_of k rs
-ops_of-no_op k rs r h = ops_of-snoc k rs r ∙ ap (λ o. ops_of k rs ++ cond (block_count (rs ++ r ∷ []) == k) (option_to_list o) []) h
+ops_of-no_op k rs r h = ops_of-snoc k rs r
+    ∙ ap (λ o. ops_of k rs ++ cond (block_count (rs ++ r ∷ []) == k) (option_to_list o) []) h
     ∙ ap (λ o. ops_of k rs ++ o) (by (block_count (rs ++ r ∷ []) == k)) ∙ append-nil (ops_of k rs)
   where
     by : (b : Bool) → ◌≡◌ {A = List Op} (cond b [] []) []
@@ -42,9 +47,11 @@ ops_of-no_op k rs r h = ops_of-snoc k rs r ∙ ap (λ o. ops_of k rs ++ cond (bl
     by false = refl
 
 -- from line to line
-pub over_lines : (P : List Reading → Type 0) → ((rs : List Reading) (r : Reading) → P rs → P (rs ++ r ∷ [])) → (front rest : List Reading) → P front → P (front ++ rest)
+pub over_lines : (P : List Reading → Type 0) → ((rs : List Reading) (r : Reading) → P rs → P (rs ++ r ∷ []))
+    → (front rest : List Reading) → P front → P (front ++ rest)
 over_lines P step front [] p = subst P (sym (append-nil front)) p
-over_lines P step front (r ∷ rest) p = subst P (append_assoc front (r ∷ []) rest) (over_lines P step (front ++ r ∷ []) rest (step front r p))
+over_lines P step front (r ∷ rest) p = subst P (append_assoc front (r ∷ []) rest)
+    (over_lines P step (front ++ r ∷ []) rest (step front r p))
 
 -- no operation belongs to a block before the first or behind the last
 abbrev pub HasNoMore : List Reading → Type 0
@@ -58,7 +65,8 @@ no_more-step rs r h = (zeroth r.op refl, later)
 
     zeroth : (op : Option Op) → r.op ≡ op → ops_of 0 (rs ++ r ∷ []) ≡ []
     zeroth None e = ops_of-no_op 0 rs r e ∙ h.0
-    zeroth (Some op) e = let some : 0 < block_count (rs ++ r ∷ []) = grown.1 (ap is_some e) in ops_of-else 0 rs r (λ z. omega arith) ∙ h.0
+    zeroth (Some op) e = let some : 0 < block_count (rs ++ r ∷ []) = grown.1 (ap is_some e) in
+        ops_of-else 0 rs r (λ z. omega arith) ∙ h.0
 
     later : (k : ℕ) → block_count (rs ++ r ∷ []) < k → ops_of k (rs ++ r ∷ []) ≡ []
     later k lt = ops_of-else k rs r (λ z. omega arith) ∙ h.1 k (omega (arith, grown.0))

@@ -14,7 +14,8 @@ use Rattle.iloc_text.proofs.Operations.{operation_read, operation_again, operati
 -- An operation or none
 
 abbrev pub FindsOptional : List ℕ → Option Op × List ℕ → Type 0
-FindsOptional bytes found = (op : Option Op) × Before (OptionalOperation op) found.1 bytes × (found.0 ≡ option_map capped_op op)
+FindsOptional bytes found = (op : Option Op) × Before (OptionalOperation op) found.1 bytes
+    × (found.0 ≡ option_map capped_op op)
 
 pub nothing_first : (bytes : List ℕ) → FindsOptional bytes (None, bytes)
 nothing_first bytes = (None, record { front = []; first = refl; whole = refl }, refl)
@@ -24,20 +25,26 @@ unfolding optional_operation_at
 optional_read [] = nothing_first []
 optional_read (c ∷ cs) = by (is_word_byte c)
   where
-    by : (b : Bool) → IfSome (cond b (operation_at (c ∷ cs) >>= (λ found. Some (Some found.0, found.1))) (Some (None, c ∷ cs))) (FindsOptional (c ∷ cs))
-    by true = bind_each (FindsOptional (c ∷ cs)) (operation_at (c ∷ cs)) (λ found. Some (Some found.0, found.1)) (operation_read (c ∷ cs))
+    by : (b : Bool) → IfSome (cond b (operation_at (c ∷ cs) >>= (λ found. Some (Some found.0, found.1)))
+        (Some (None, c ∷ cs))) (FindsOptional (c ∷ cs))
+    by true = bind_each (FindsOptional (c ∷ cs)) (operation_at (c ∷ cs)) (λ found. Some (Some found.0, found.1))
+        (operation_read (c ∷ cs))
         (λ found f. (Some f.0, f.1, ap (λ op. Some op) f.2))
     by false = nothing_first (c ∷ cs)
 
-pub optional_here : (bytes : List ℕ) → starts is_word_byte bytes ≡ true → optional_operation_at bytes ≡ (operation_at bytes >>= (λ found. Some (Some found.0, found.1)))
+pub optional_here : (bytes : List ℕ) → starts is_word_byte bytes ≡ true
+    → optional_operation_at bytes ≡ (operation_at bytes >>= (λ found. Some (Some found.0, found.1)))
 unfolding optional_operation_at
 optional_here [] h = cc
-optional_here (c ∷ cs) h = ap (λ b. cond b (operation_at (c ∷ cs) >>= (λ found. Some (Some found.0, found.1))) (Some (None, c ∷ cs))) h
+optional_here (c ∷ cs) h = ap (λ b. cond b (operation_at (c ∷ cs) >>= (λ found. Some (Some found.0, found.1)))
+    (Some (None, c ∷ cs))) h
 
-pub optional_none : (bytes : List ℕ) → starts is_word_byte bytes ≡ false → optional_operation_at bytes ≡ Some (None, bytes)
+pub optional_none : (bytes : List ℕ) → starts is_word_byte bytes ≡ false
+    → optional_operation_at bytes ≡ Some (None, bytes)
 unfolding optional_operation_at
 optional_none [] h = refl
-optional_none (c ∷ cs) h = ap (λ b. cond b (operation_at (c ∷ cs) >>= (λ found. Some (Some found.0, found.1))) (Some (None, c ∷ cs))) h
+optional_none (c ∷ cs) h = ap (λ b. cond b (operation_at (c ∷ cs) >>= (λ found. Some (Some found.0, found.1)))
+    (Some (None, c ∷ cs))) h
 
 -- The end of a line
 
@@ -69,10 +76,12 @@ FindsBody bytes found = (op : Option Op) × Body op bytes × (found ≡ option_m
 
 pub body_read : (bytes : List ℕ) → IfSome (body_at bytes) (FindsBody bytes)
 unfolding body_at
-body_read bytes = bind_each (FindsBody bytes) (optional_operation_at (after_blanks bytes)) _ (optional_read (after_blanks bytes)) (λ found f.
+body_read bytes = bind_each (FindsBody bytes) (optional_operation_at (after_blanks bytes)) _
+    (optional_read (after_blanks bytes)) (λ found f.
     ends found f (is_end (after_blanks found.1)) refl)
   where
-    ends : (found : Option Op × List ℕ) → FindsOptional (after_blanks bytes) found → (b : Bool) → is_end (after_blanks found.1) ≡ b
+    ends : (found : Option Op × List ℕ) → FindsOptional (after_blanks bytes) found → (b : Bool)
+        → is_end (after_blanks found.1) ≡ b
         → IfSome (cond b (Some found.0) None) (FindsBody bytes)
     ends found f false e = tt
     ends found f true e = (
@@ -114,7 +123,8 @@ body_again bytes None r =
     let skipped : after_blanks bytes ≡ third.0 =
     blanks_over first.0 bytes first.1 ∙ ap after_blanks (second.1.whole ∙ ap (λ f. f ++ second.0) second.1.first)
     ∙ blanks_over third.0 second.0 third.1 ∙ still in
-    rw (skipped, optional_none third.0 (end_starts is_word_byte refl third.0 comment), still, end_again third.0 comment) refl
+    rw (skipped, optional_none third.0 (end_starts is_word_byte refl third.0 comment), still, end_again third.0 comment)
+    refl
 
 pub body_skips : (bytes : List ℕ) → body_at (after_blanks bytes) ≡ body_at bytes
 unfolding body_at

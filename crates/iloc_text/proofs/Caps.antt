@@ -20,18 +20,23 @@ pub capped-within : (op : Op) → IsWithinLimit op → capped_op op ≡ op
 unfolding capped_op
 capped-within op h = ap (op_of (name op)) (all_within (numbers op) h) ∙ name_same op
 
-pub all_small : (ns : List ℕ) → list_all (λ n. nat_lt n 2147483648) (map capped ns) ≡ true → AllByRecursion (λ n. n ≤ 2147483647) ns
+pub all_small : (ns : List ℕ) → list_all (λ n. nat_lt n 2147483648) (map capped ns) ≡ true
+    → AllByRecursion (λ n. n ≤ 2147483647) ns
 all_small [] h = tt
 all_small (n ∷ ns) h = by (nat_lt (capped n) 2147483648) refl (all_small ns) h
   where
-    by : (b : Bool) → nat_lt (capped n) 2147483648 ≡ b → (list_all (λ n. nat_lt n 2147483648) (map capped ns) ≡ true → AllByRecursion (λ n. n ≤ 2147483647) ns)
-        → (b && list_all (λ n. nat_lt n 2147483648) (map capped ns)) ≡ true → AllByRecursion (λ n. n ≤ 2147483647) (n ∷ ns)
+    by : (b : Bool) → nat_lt (capped n) 2147483648 ≡ b → (list_all (λ n. nat_lt n 2147483648) (map capped ns) ≡ true
+        → AllByRecursion (λ n. n ≤ 2147483647) ns)
+        → (b && list_all (λ n. nat_lt n 2147483648) (map capped ns)) ≡ true
+        → AllByRecursion (λ n. n ≤ 2147483647) (n ∷ ns)
     by true e rest h = (grind (arith, nat_tests), rest h)
     by false e rest h = cc
 
-pub small_all : (ns : List ℕ) → AllByRecursion (λ n. n ≤ 2147483647) ns → list_all (λ n. nat_lt n 2147483648) (map capped ns) ≡ true
+pub small_all : (ns : List ℕ) → AllByRecursion (λ n. n ≤ 2147483647) ns
+    → list_all (λ n. nat_lt n 2147483648) (map capped ns) ≡ true
 small_all [] h = refl
-small_all (n ∷ ns) h = let small : nat_lt (capped n) 2147483648 ≡ true = let le : n ≤ 2147483647 = h.0 in grind (arith, nat_tests) in rw (small, small_all ns h.1) refl
+small_all (n ∷ ns) h = let small : nat_lt (capped n) 2147483648 ≡ true = let le : n ≤ 2147483647 = h.0 in
+    grind (arith, nat_tests) in rw (small, small_all ns h.1) refl
 
 pub within_limit : (op : Op) → is_within (Some (capped_op op)) ≡ true → IsWithinLimit op
 within_limit op h = all_small (numbers op) (ap (list_all (λ n. nat_lt n 2147483648)) (sym (numbers-capped op)) ∙ h)

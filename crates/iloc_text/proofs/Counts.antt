@@ -19,17 +19,20 @@ last_op-snoc (x ∷ y ∷ xs) r = last_op-snoc (y ∷ xs) r
 pub labels-snoc : (rs : List Reading) (r : Reading) → labels (rs ++ r ∷ []) ≡ labels rs ++ option_to_list r.label
 labels-snoc rs r = filter_map-append (λ (s : Reading). s.label) rs (r ∷ []) ∙ ap (λ l. labels rs ++ l) (by r.label)
   where
-    by : (label : Option (List ℕ)) → filter_map (λ (s : Reading). s.label) (record { label = label; op = r.op } ∷ []) ≡ option_to_list label
+    by : (label : Option (List ℕ)) → filter_map (λ (s : Reading). s.label) (record { label = label; op = r.op } ∷ [])
+        ≡ option_to_list label
     by None = refl
     by (Some name) = refl
 
 -- a label changes nothing about what stands before every label
-pub opens-label : (rs : List Reading) (r : Reading) → is_some r.label ≡ true → opens_unnamed (rs ++ r ∷ []) ≡ opens_unnamed rs
+pub opens-label : (rs : List Reading) (r : Reading) → is_some r.label ≡ true
+    → opens_unnamed (rs ++ r ∷ []) ≡ opens_unnamed rs
 opens-label [] r h = rw h refl
 opens-label (x ∷ xs) r h = ap (λ b. not (is_some x.label) && (is_some x.op || b)) (opens-label xs r h)
 
 -- nor does a line without an operation
-pub opens-empty : (rs : List Reading) (r : Reading) → is_some r.op ≡ false → opens_unnamed (rs ++ r ∷ []) ≡ opens_unnamed rs
+pub opens-empty : (rs : List Reading) (r : Reading) → is_some r.op ≡ false
+    → opens_unnamed (rs ++ r ∷ []) ≡ opens_unnamed rs
 opens-empty [] r h = rw h (by (is_some r.label))
   where
     by : (b : Bool) → (not b && (false || false)) ≡ false
@@ -45,7 +48,8 @@ opens-op (x ∷ xs) r h g = rw (opens-op xs r h g) (by x.label x.op (opens_unnam
   where
     by : (label : Option (List ℕ)) (op : Option Op) (opens : Bool)
         → (not (is_some label) && (is_some op || (opens || (length (labels xs) == 0))))
-        ≡ ((not (is_some label) && (is_some op || opens)) || (length (labels (record { label = label; op = op } ∷ xs)) == 0))
+        ≡ ((not (is_some label) && (is_some op || opens))
+        || (length (labels (record { label = label; op = op } ∷ xs)) == 0))
     by (Some name) op opens = sym (grind (arith, nat_tests))
     by None None opens = refl
     by None (Some op) opens = refl
@@ -56,21 +60,31 @@ pub length-names : (rs : List Reading) → length (block_names rs) ≡ block_cou
 unfolding block_names block_count
 length-names rs = by (opens_unnamed rs)
   where
-    by : (b : Bool) → length ((cond b (None ∷ []) []) ++ map (λ name. Some name) (labels rs)) ≡ cond b 1 0 + length (labels rs)
+    by : (b : Bool) → length ((cond b (None ∷ []) []) ++ map (λ name. Some name) (labels rs))
+        ≡ cond b 1 0 + length (labels rs)
     by true = omega (arith, length-map (labels rs) (λ (name : List ℕ). Some name))
     by false = omega (arith, length-map (labels rs) (λ (name : List ℕ). Some name))
 
-pub names-label : (rs : List Reading) (r : Reading) (name : List ℕ) → r.label ≡ Some name → block_names (rs ++ r ∷ []) ≡ block_names rs ++ Some name ∷ []
+pub names-label : (rs : List Reading) (r : Reading) (name : List ℕ) → r.label ≡ Some name
+    → block_names (rs ++ r ∷ []) ≡ block_names rs ++ Some name ∷ []
 unfolding block_names
 names-label rs r name h =
-    rw (opens-label rs r (ap is_some h), labels-snoc rs r, h, map-append (λ (n : List ℕ). Some n) (labels rs) (name ∷ []))
+    rw (
+      opens-label rs r (ap is_some h),
+      labels-snoc rs r,
+      h,
+      map-append (λ (n : List ℕ). Some n) (labels rs)
+          (name ∷ []),
+    )
     (sym (append_assoc (cond (opens_unnamed rs) (None ∷ []) []) (map (λ n. Some n) (labels rs)) (Some name ∷ [])))
 
-pub names-empty : (rs : List Reading) (r : Reading) → r.label ≡ None → r.op ≡ None → block_names (rs ++ r ∷ []) ≡ block_names rs
+pub names-empty : (rs : List Reading) (r : Reading) → r.label ≡ None → r.op ≡ None
+    → block_names (rs ++ r ∷ []) ≡ block_names rs
 unfolding block_names
 names-empty rs r h g = rw (opens-empty rs r (ap is_some g), labels-snoc rs r, h, append-nil (labels rs)) refl
 
-pub names-op : (rs : List Reading) (r : Reading) (op : Op) → r.label ≡ None → r.op ≡ Some op → 0 < block_count rs → block_names (rs ++ r ∷ []) ≡ block_names rs
+pub names-op : (rs : List Reading) (r : Reading) (op : Op) → r.label ≡ None → r.op ≡ Some op → 0 < block_count rs
+    → block_names (rs ++ r ∷ []) ≡ block_names rs
 unfolding block_names block_count
 names-op rs r op h g some =
     rw (opens-op rs r (ap is_some h) (ap is_some g), labels-snoc rs r, h, append-nil (labels rs))
@@ -80,10 +94,12 @@ names-op rs r op h g some =
     by true some = refl
     by false some = grind (arith, nat_tests)
 
-pub names-first : (rs : List Reading) (r : Reading) (op : Op) → r.label ≡ None → r.op ≡ Some op → block_count rs ≡ 0 → block_names (rs ++ r ∷ []) ≡ None ∷ []
+pub names-first : (rs : List Reading) (r : Reading) (op : Op) → r.label ≡ None → r.op ≡ Some op → block_count rs ≡ 0
+    → block_names (rs ++ r ∷ []) ≡ None ∷ []
 unfolding block_names block_count
 names-first rs r op h g none =
-    rw (opens-op rs r (ap is_some h) (ap is_some g), labels-snoc rs r, h, append-nil (labels rs)) (by (opens_unnamed rs) (labels rs) none)
+    rw (opens-op rs r (ap is_some h) (ap is_some g), labels-snoc rs r, h, append-nil (labels rs))
+    (by (opens_unnamed rs) (labels rs) none)
   where
     by : (b : Bool) (ls : List (List ℕ)) → cond b 1 0 + length ls ≡ 0
         → cond (b || (length ls == 0)) (None ∷ []) [] ++ map (λ name. Some name) ls ≡ None ∷ []
@@ -91,24 +107,29 @@ names-first rs r op h g none =
     by false [] none = refl
     by false (l ∷ ls) none = absurd (omega arith)
 
-pub count-label : (rs : List Reading) (r : Reading) (name : List ℕ) → r.label ≡ Some name → block_count (rs ++ r ∷ []) ≡ block_count rs + 1
+pub count-label : (rs : List Reading) (r : Reading) (name : List ℕ) → r.label ≡ Some name
+    → block_count (rs ++ r ∷ []) ≡ block_count rs + 1
 count-label rs r name h = sym (length-names (rs ++ r ∷ [])) ∙ ap length (names-label rs r name h)
     ∙ length-append (block_names rs) (Some name ∷ []) ∙ ap (λ n. n + 1) (length-names rs)
 
-pub count-empty : (rs : List Reading) (r : Reading) → r.label ≡ None → r.op ≡ None → block_count (rs ++ r ∷ []) ≡ block_count rs
+pub count-empty : (rs : List Reading) (r : Reading) → r.label ≡ None → r.op ≡ None
+    → block_count (rs ++ r ∷ []) ≡ block_count rs
 count-empty rs r h g = sym (length-names (rs ++ r ∷ [])) ∙ ap length (names-empty rs r h g) ∙ length-names rs
 
-pub count-op : (rs : List Reading) (r : Reading) (op : Op) → r.label ≡ None → r.op ≡ Some op → 0 < block_count rs → block_count (rs ++ r ∷ []) ≡ block_count rs
+pub count-op : (rs : List Reading) (r : Reading) (op : Op) → r.label ≡ None → r.op ≡ Some op → 0 < block_count rs
+    → block_count (rs ++ r ∷ []) ≡ block_count rs
 count-op rs r op h g some = sym (length-names (rs ++ r ∷ [])) ∙ ap length (names-op rs r op h g some) ∙ length-names rs
 
-pub count-first : (rs : List Reading) (r : Reading) (op : Op) → r.label ≡ None → r.op ≡ Some op → block_count rs ≡ 0 → block_count (rs ++ r ∷ []) ≡ 1
+pub count-first : (rs : List Reading) (r : Reading) (op : Op) → r.label ≡ None → r.op ≡ Some op → block_count rs ≡ 0
+    → block_count (rs ++ r ∷ []) ≡ 1
 count-first rs r op h g none = sym (length-names (rs ++ r ∷ [])) ∙ ap length (names-first rs r op h g none)
 
 pub none_or_some : (n : ℕ) → (n ≡ 0) ⊎ (0 < n)
 none_or_some zero = inl refl
 none_or_some (suc n) = inr (omega arith)
 
-pub count-snoc : (rs : List Reading) (r : Reading) (label : Option (List ℕ)) (op : Option Op) → r.label ≡ label → r.op ≡ op
+pub count-snoc : (rs : List Reading) (r : Reading) (label : Option (List ℕ)) (op : Option Op) → r.label ≡ label
+    → r.op ≡ op
     → (block_count rs ≤ block_count (rs ++ r ∷ [])) × (is_some op ≡ true → 0 < block_count (rs ++ r ∷ []))
 count-snoc rs r (Some name) op h g = let e = count-label rs r name h in (omega arith, λ s. omega arith)
 count-snoc rs r None None h g = let e = count-empty rs r h g in (omega arith, λ s. cc)

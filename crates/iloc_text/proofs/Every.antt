@@ -31,24 +31,42 @@ above a b h = grind (arith, nat_tests)
 not_above : (a b : ℕ) → nat_lt a b ≡ false → b ≤ a
 not_above a b h = grind (arith, nat_tests)
 
-by_limits : (rs : List Reading) (line : List ℕ) (n : ℕ) (r : Reading) → Reads line r.label r.op → (blocks operations : Bool)
+by_limits : (rs : List Reading) (line : List ℕ) (n : ℕ) (r : Reading) → Reads line r.label r.op
+    → (blocks operations : Bool)
     → nat_lt 65535 (block_count (rs ++ r ∷ [])) ≡ blocks
     → nat_lt 10000 (length (ops_of (block_count (rs ++ r ∷ [])) (rs ++ r ∷ []))) ≡ operations
     → Judged rs line n
 by_limits rs line n r reads true operations b o =
     inl (TooManyBlocks n, (refl, record { reading = r; read = reads; blocks = above _ _ b }))
 by_limits rs line n r reads false true b o =
-    inl (TooManyOperations n, (refl, record { reading = r; read = reads; blocks = not_above _ _ b; operations = above _ _ o }))
+    inl (
+      TooManyOperations n,
+      (
+        refl,
+        record {
+          reading = r;
+          read = reads;
+          blocks = not_above _ _ b;
+          operations = above _ _ o;
+        },
+      ),
+    )
 by_limits rs line n r reads false false b o =
-    inr (record { reading = r; reads = reads; within = record { blocks = not_above _ _ b; operations = not_above _ _ o } })
+    inr (record {
+      reading = r;
+      reads = reads;
+      within = record { blocks = not_above _ _ b; operations = not_above _ _ o };
+    })
 
-by_numbers : (rs : List Reading) (line : List ℕ) (n : ℕ) (r : Reading) → line_at line ≡ Some (r.label, r.op) → (within : Bool) → is_within r.op ≡ within → Judged rs line n
+by_numbers : (rs : List Reading) (line : List ℕ) (n : ℕ) (r : Reading) → line_at line ≡ Some (r.label, r.op)
+    → (within : Bool) → is_within r.op ≡ within → Judged rs line n
 by_numbers rs line n r found true w = by_limits rs line n r (line_good line r.label r.op found w) _ _ refl refl
 by_numbers rs line n r found false w =
     let large = line_large line r.label r.op found w in
     inl (NumberTooLarge n, (refl, large.0, large.1))
 
-by_scan : (rs : List Reading) (line : List ℕ) (n : ℕ) (found : Option (Option (List ℕ) × Option Op)) → line_at line ≡ found → Judged rs line n
+by_scan : (rs : List Reading) (line : List ℕ) (n : ℕ) (found : Option (Option (List ℕ) × Option Op))
+    → line_at line ≡ found → Judged rs line n
 by_scan rs line n None e = inl (BadLine n, (refl, line_bad line e))
 by_scan rs line n (Some found) e = by_numbers rs line n (record { label = found.0; op = found.1 }) e _ refl
 
@@ -83,26 +101,27 @@ from_here input short before [] rs are read none_faulty = inl (
     file = refl;
   },
 )
-from_here input short before (line ∷ lines) rs are read none_faulty = elim (judged rs line (length before + 1)) as (λ _. Answered input) [
-  | inl bad ↦ inr (
-    bad.0,
-    first_refused input bad.0 (record {
-      short = short;
-      before = before;
-      line = line;
-      after = lines;
-      are_lines = are;
-      readings = rs;
-      read = read;
-      none_faulty = none_faulty;
-      faulty = bad.1;
-    }),
-  )
-  | inr good ↦ from_here input short (before ++ line ∷ []) lines (rs ++ good.reading ∷ [])
-      (subst (AreLines input) (sym (append_assoc before (line ∷ []) lines)) are)
-      (ReadAs-snoc before rs line good.reading read good.reads)
-      (NoneFaulty-snoc rs good.reading none_faulty good.within)
-]
+from_here input short before (line ∷ lines) rs are read none_faulty =
+    elim (judged rs line (length before + 1)) as (λ _. Answered input) [
+      | inl bad ↦ inr (
+        bad.0,
+        first_refused input bad.0 (record {
+          short = short;
+          before = before;
+          line = line;
+          after = lines;
+          are_lines = are;
+          readings = rs;
+          read = read;
+          none_faulty = none_faulty;
+          faulty = bad.1;
+        }),
+      )
+      | inr good ↦ from_here input short (before ++ line ∷ []) lines (rs ++ good.reading ∷ [])
+          (subst (AreLines input) (sym (append_assoc before (line ∷ []) lines)) are)
+          (ReadAs-snoc before rs line good.reading read good.reads)
+          (NoneFaulty-snoc rs good.reading none_faulty good.within)
+    ]
 
 by_length : (input : List ℕ) (long : Bool) → nat_lt 16777216 (length input) ≡ long → Answered input
 by_length input true e = inr (InputTooLong, above _ _ e)

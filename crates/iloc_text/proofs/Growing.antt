@@ -27,7 +27,8 @@ all_done done blocks o h none =
     let count = h.count in
     no_blocks done (omega arith) ∙ sym (no_blocks blocks (omega arith))
 
-pub opened_so_far : (name : Option (List ℕ)) (blocks : List Block) (o : OpenBlock) → o.count ≡ length blocks + 1 → o.block ≡ record { name = name; ops = [] }
+pub opened_so_far : (name : Option (List ℕ)) (blocks : List Block) (o : OpenBlock) → o.count ≡ length blocks + 1
+    → o.block ≡ record { name = name; ops = [] }
     → AreSoFar blocks o (opened name blocks)
 opened_so_far name blocks o count block = record {
   before = omega arith;
@@ -35,7 +36,8 @@ opened_so_far name blocks o count block = record {
   last = λ some. ap (λ b. blocks ++ b ∷ []) (sym block);
 }
 
-pub pushed_so_far : (op : Op) (done blocks : List Block) (o p : OpenBlock) → AreSoFar done o blocks → 0 < length blocks → p.count ≡ o.count
+pub pushed_so_far : (op : Op) (done blocks : List Block) (o p : OpenBlock) → AreSoFar done o blocks → 0 < length blocks
+    → p.count ≡ o.count
     → p.block ≡ record { name = o.block.name; ops = o.block.ops ++ op ∷ [] } → AreSoFar done p (with_op op blocks)
 pushed_so_far op done blocks o p h some count block =
     let n = h.count in
@@ -52,11 +54,13 @@ so_far_within done blocks o h = record {
   count = let count = h.count in let few = o.few in omega arith;
   last = let short = o.short in elim (none_or_some o.count) [
     | inl none ↦ (let e = ap (λ bs. length (last_ops bs)) (no_blocks blocks (h.count ∙ none)) in omega arith)
-    | inr some ↦ (let e = ap (λ bs. length (last_ops bs)) (h.last some) in let l = ap length (last-snoc done o.block) in omega arith)
+    | inr some ↦ (let e = ap (λ bs. length (last_ops bs)) (h.last some) in let l = ap length (last-snoc done o.block) in
+        omega arith)
   ];
 }
 
-pub pushed_above : (op : Op) (done blocks : List Block) (o : OpenBlock) → AreSoFar done o blocks → 0 < length blocks → length o.block.ops ≡ 10000
+pub pushed_above : (op : Op) (done blocks : List Block) (o : OpenBlock) → AreSoFar done o blocks → 0 < length blocks
+    → length o.block.ops ≡ 10000
     → (length (with_op op blocks) ≤ 65535) × (10000 < length (last_ops (with_op op blocks)))
 pushed_above op done blocks o h some full =
     let few = o.few in
@@ -68,7 +72,8 @@ pushed_above op done blocks o h some full =
 pub length-opened : (name : Option (List ℕ)) (blocks : List Block) → length (opened name blocks) ≡ length blocks + 1
 length-opened name blocks = length-append blocks (record { name = name; ops = [] } ∷ [])
 
-pub opened_above : (name : Option (List ℕ)) (blocks : List Block) → length blocks ≡ 65535 → 65535 < length (opened name blocks)
+pub opened_above : (name : Option (List ℕ)) (blocks : List Block) → length blocks ≡ 65535
+    → 65535 < length (opened name blocks)
 opened_above name blocks h = omega (arith, length-append blocks (record { name = name; ops = [] } ∷ []))
 
 -- Lines
@@ -77,7 +82,8 @@ pub with_optional-some : (op : Op) (bs : List Block) → 0 < length bs → with_
 with_optional-some op [] some = absurd (omega arith)
 with_optional-some op (b ∷ bs) some = refl
 
-pub with_optional-none : (op : Op) (bs : List Block) → length bs ≡ 0 → with_optional_op (Some op) bs ≡ with_op op (opened None bs)
+pub with_optional-none : (op : Op) (bs : List Block) → length bs ≡ 0 → with_optional_op (Some op) bs
+    ≡ with_op op (opened None bs)
 with_optional-none op [] none = refl
 with_optional-none op (b ∷ bs) none = absurd (omega arith)
 
@@ -97,36 +103,46 @@ Grows-fault Stand Other wanted line (TooManyOperations n) g = g
 Grows-fault Stand Other wanted line NoMemory g = tt
 
 -- where opening a block fails, the line as a whole has that fault
-pub first_fails : (Stand : List Block → Type 0) (name : Option (List ℕ)) (op : Option Op) (blocks : List Block) (line : ℕ) (fault : ReadFault)
-    → Grows Stand (opened name blocks) line (Err fault) → Grows Stand (with_optional_op op (opened name blocks)) line (Err fault)
+pub first_fails : (Stand : List Block → Type 0) (name : Option (List ℕ)) (op : Option Op) (blocks : List Block)
+    (line : ℕ) (fault : ReadFault)
+    → Grows Stand (opened name blocks) line (Err fault)
+    → Grows Stand (with_optional_op op (opened name blocks)) line (Err fault)
 first_fails Stand name op blocks line InputTooLong g = absurd g
 first_fails Stand name op blocks line (BadLine n) g = absurd g
 first_fails Stand name op blocks line (NumberTooLarge n) g = absurd g
-first_fails Stand name op blocks line (TooManyBlocks n) g = (g.0, let more = g.1 in omega (arith, length-with_optional op (opened name blocks)))
+first_fails Stand name op blocks line (TooManyBlocks n) g =
+    (g.0, let more = g.1 in omega (arith, length-with_optional op (opened name blocks)))
 first_fails Stand name op blocks line (TooManyOperations n) g =
     let none = ap length (last-snoc blocks (record { name = name; ops = [] })) in
     let many = g.2 in absurd (omega arith)
 first_fails Stand name op blocks line NoMemory g = tt
 
 -- an operation is added behind what was taken
-pub pushed_behind : {T : Type 0} (took : T → List Block → T → Type 0) (start taker : T) (o p : OpenBlock) (op : Op) (blocks : List Block) (line : ℕ) (result : Result (Unit {0}) ReadFault)
-    → HasTaken took start taker o blocks → ((done : List Block) → AreSoFar done o blocks → Grows (AreSoFar done p) (with_op op blocks) line result)
+pub pushed_behind : {T : Type 0} (took : T → List Block → T → Type 0) (start taker : T) (o p : OpenBlock) (op : Op)
+    (blocks : List Block) (line : ℕ) (result : Result (Unit {0}) ReadFault)
+    → HasTaken took start taker o blocks → ((done : List Block) → AreSoFar done o blocks
+    → Grows (AreSoFar done p) (with_op op blocks) line result)
     → Grows (HasTaken took start taker p) (with_op op blocks) line result
 pushed_behind took start taker o p op blocks line (Ok done) h pushed = (h.0, h.1, pushed h.0 h.2)
 pushed_behind took start taker o p op blocks line (Err fault) h pushed =
     Grows-fault (AreSoFar h.0 p) (HasTaken took start taker p) (with_op op blocks) line fault (pushed h.0 h.2)
 
 -- the fault of an opening is that of a line with this label
-pub label_fails : (Stand : List Block → Type 0) (label found : Option (List ℕ)) (op : Option Op) (blocks : List Block) (line : ℕ) (result : Result (Unit {0}) ReadFault) (fault : ReadFault)
-    → label ≡ found → is_some found ≡ true → result ≡ Err fault → Grows Stand (opened found blocks) line (Err fault) → Grows Stand (with_line label op blocks) line result
+pub label_fails : (Stand : List Block → Type 0) (label found : Option (List ℕ)) (op : Option Op) (blocks : List Block)
+    (line : ℕ) (result : Result (Unit {0}) ReadFault) (fault : ReadFault)
+    → label ≡ found → is_some found ≡ true → result ≡ Err fault → Grows Stand (opened found blocks) line (Err fault)
+    → Grows Stand (with_line label op blocks) line result
 label_fails Stand label None op blocks line result fault e some f g = cc
 label_fails Stand label (Some name) op blocks line result fault e some f g =
-    let P : Option (List ℕ) → Result (Unit {0}) ReadFault → Type 0 = λ l r. Grows Stand (with_line l op blocks) line r in
+    let P : Option (List ℕ) → Result (Unit {0}) ReadFault → Type 0 =
+    λ l r. Grows Stand (with_line l op blocks) line r in
     subst₂ P (sym e) (sym f) (first_fails Stand (Some name) op blocks line fault g)
 
 -- and of a line with an operation where no block is open
-pub unnamed_fails : (Stand : List Block → Type 0) (op : Op) (blocks : List Block) (line : ℕ) (result : Result (Unit {0}) ReadFault) (fault : ReadFault)
-    → length blocks ≡ 0 → result ≡ Err fault → Grows Stand (opened None blocks) line (Err fault) → Grows Stand (with_optional_op (Some op) blocks) line result
+pub unnamed_fails : (Stand : List Block → Type 0) (op : Op) (blocks : List Block) (line : ℕ)
+    (result : Result (Unit {0}) ReadFault) (fault : ReadFault)
+    → length blocks ≡ 0 → result ≡ Err fault → Grows Stand (opened None blocks) line (Err fault)
+    → Grows Stand (with_optional_op (Some op) blocks) line result
 unnamed_fails Stand op [] line result fault none f g =
     subst (Grows Stand (with_optional_op (Some op) []) line) (sym f) (first_fails Stand None (Some op) [] line fault g)
 unnamed_fails Stand op (b ∷ bs) line result fault none f g = absurd (omega arith)

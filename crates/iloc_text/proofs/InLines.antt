@@ -24,13 +24,15 @@ both_inside [] rest f r = r
 both_inside (c ∷ cs) rest f r = (f.0, both_inside cs rest f.1 r)
 
 pub join_inside : {P Q : List ℕ → Type 0} → IsInside P → IsInside Q → IsInside (P ⋅ Q)
-join_inside p q = λ bytes j. subst HasNoLineEnd (sym j.whole) (both_inside j.front j.rest (p j.front j.first) (q j.rest j.second))
+join_inside p q = λ bytes j. subst HasNoLineEnd (sym j.whole)
+    (both_inside j.front j.rest (p j.front j.first) (q j.rest j.second))
 
 test_inside : (bytes : List ℕ) → list_all (λ c. not (c == 10)) bytes ≡ true → HasNoLineEnd bytes
 test_inside [] h = tt
 test_inside (c ∷ cs) h = by (c == 10) refl (test_inside cs) h
   where
-    by : (b : Bool) → (c == 10) ≡ b → (list_all (λ c. not (c == 10)) cs ≡ true → HasNoLineEnd cs) → (not b && list_all (λ c. not (c == 10)) cs) ≡ true → HasNoLineEnd (c ∷ cs)
+    by : (b : Bool) → (c == 10) ≡ b → (list_all (λ c. not (c == 10)) cs ≡ true → HasNoLineEnd cs)
+        → (not b && list_all (λ c. not (c == 10)) cs) ≡ true → HasNoLineEnd (c ∷ cs)
     by true e rest h = cc
     by false e rest h = ((λ is. grind (arith, nat_tests)), rest h)
 
@@ -65,7 +67,8 @@ value_inside (number n) = number_inside
 
 operands_inside : (operands : List Operand) → IsInside (OperandsText operands)
 operands_inside [] = text_inside [] refl
-operands_inside (lead ▹ value ∷ more) = join_inside (lead_inside lead) (join_inside (value_inside value) (operands_inside more))
+operands_inside (lead ▹ value ∷ more) = join_inside (lead_inside lead)
+    (join_inside (value_inside value) (operands_inside more))
 
 opcode_inside : (op : Op) → IsInside (Text (opcode op))
 opcode_inside Nop = text_inside (codes "nop") refl
@@ -90,4 +93,5 @@ name_inside name = λ bytes h. subst HasNoLineEnd (sym h.1) (word_inside name (n
 
 pub optional_label_inside : (label : Option (List ℕ)) → IsInside (OptionalLabel label)
 optional_label_inside None = text_inside [] refl
-optional_label_inside (Some name) = join_inside (name_inside name) (join_inside blanks_inside (text_inside (codes ":") refl))
+optional_label_inside (Some name) = join_inside (name_inside name)
+    (join_inside blanks_inside (text_inside (codes ":") refl))

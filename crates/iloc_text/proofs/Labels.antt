@@ -36,7 +36,8 @@ pub word_is_name : (c : ℕ) (cs : List ℕ) → is_ascii_alphabetic c ≡ true 
 word_is_name c cs h = by (word_of (c ∷ cs)) (word_read (c ∷ cs)).0 (word_read (c ∷ cs)).1
   where
     by : (w : List ℕ) → IsWord w → c ∷ cs ≡ w ++ after_word (c ∷ cs) → IsName w
-    by [] word e = let here = ap (starts is_word_byte) e ∙ after_word_starts (c ∷ cs) in let there = letter_is_word_byte c h in cc
+    by [] word e = let here = ap (starts is_word_byte) e ∙ after_word_starts (c ∷ cs) in let there =
+        letter_is_word_byte c h in cc
     by (x ∷ xs) word e = let same : x ≡ c = cc in (ap is_ascii_alphabetic same ∙ h, word.1)
 
 pub no_label : (bytes : List ℕ) → Before (OptionalLabel None) bytes bytes
@@ -50,7 +51,8 @@ label_read (c ∷ cs) = by (is_ascii_alphabetic c) refl
     found : Option (List ℕ) → Option (List ℕ) × List ℕ
     found rest = label_or_none (c ∷ cs) rest
 
-    named : is_ascii_alphabetic c ≡ true → (rest : Option (List ℕ)) → IfSome rest (λ r. Before (Text (codes ":")) r (after_blanks (after_word (c ∷ cs))))
+    named : is_ascii_alphabetic c ≡ true → (rest : Option (List ℕ))
+        → IfSome rest (λ r. Before (Text (codes ":")) r (after_blanks (after_word (c ∷ cs))))
         → Before (OptionalLabel (label_or_none (c ∷ cs) rest).0) (label_or_none (c ∷ cs) rest).1 (c ∷ cs)
     named e None h = no_label (c ∷ cs)
     named e (Some rest) h = Before-join
@@ -58,12 +60,15 @@ label_read (c ∷ cs) = by (is_ascii_alphabetic c) refl
         (Before-join (blanks_read (after_word (c ∷ cs))) h)
 
     by : (b : Bool) → is_ascii_alphabetic c ≡ b
-        → Before (OptionalLabel (cond b (label_or_none (c ∷ cs) (after_colon (after_blanks (after_word (c ∷ cs))))) (None, c ∷ cs)).0)
+        → Before (OptionalLabel (cond b (label_or_none (c ∷ cs) (after_colon (after_blanks (after_word (c ∷ cs)))))
+        (None, c ∷ cs)).0)
         (cond b (label_or_none (c ∷ cs) (after_colon (after_blanks (after_word (c ∷ cs))))) (None, c ∷ cs)).1 (c ∷ cs)
-    by true e = named e (after_colon (after_blanks (after_word (c ∷ cs)))) (colon_read (after_blanks (after_word (c ∷ cs))))
+    by true e = named e (after_colon (after_blanks (after_word (c ∷ cs))))
+        (colon_read (after_blanks (after_word (c ∷ cs))))
     by false e = no_label (c ∷ cs)
 
-pub label_none : (bytes : List ℕ) → starts is_colon (after_blanks (after_word bytes)) ≡ false → optional_label_at bytes ≡ (None, bytes)
+pub label_none : (bytes : List ℕ) → starts is_colon (after_blanks (after_word bytes)) ≡ false
+    → optional_label_at bytes ≡ (None, bytes)
 unfolding optional_label_at
 label_none [] h = refl
 label_none (c ∷ cs) h = rw (colon_none (after_blanks (after_word (c ∷ cs))) h) (by (is_ascii_alphabetic c))
@@ -85,10 +90,13 @@ pub name_starts : (name rest : List ℕ) → IsName name → starts is_word_byte
 name_starts [] rest h = absurd h
 name_starts (c ∷ cs) rest h = letter_is_word_byte c h.0
 
-pub label_over : (name rest : List ℕ) → IsName name → optional_label_at (name ++ rest) ≡ label_or_none (name ++ rest) (after_colon (after_blanks (after_word (name ++ rest))))
+pub label_over : (name rest : List ℕ) → IsName name → optional_label_at (name ++ rest)
+    ≡ label_or_none (name ++ rest) (after_colon (after_blanks (after_word (name ++ rest))))
 unfolding optional_label_at
 label_over [] rest h = absurd h
-label_over (c ∷ cs) rest h = ap (λ b. cond b (label_or_none (c ∷ (cs ++ rest)) (after_colon (after_blanks (after_word (c ∷ (cs ++ rest)))))) (None, c ∷ (cs ++ rest))) h.0
+label_over (c ∷ cs) rest h =
+    ap (λ b. cond b (label_or_none (c ∷ (cs ++ rest)) (after_colon (after_blanks (after_word (c ∷ (cs ++ rest))))))
+    (None, c ∷ (cs ++ rest))) h.0
 
 pub label_again : (name rest bytes : List ℕ) → Before (OptionalLabel (Some name)) rest bytes
     → (optional_label_at bytes ≡ (Some name, rest)) × (starts is_word_byte bytes ≡ true)
@@ -97,9 +105,11 @@ label_again name rest bytes b =
     let second = Before-split first.2 in
     let whole : bytes ≡ name ++ first.0 = first.1.whole ∙ ap (λ f. f ++ first.0) first.1.first.1 in
     let colon : second.0 ≡ codes ":" ++ rest = second.2.whole ∙ ap (λ f. f ++ rest) second.2.first in
-    let stop : starts is_word_byte first.0 ≡ false = blanks_fail is_word_byte blank_is_no_word_byte second.1 (ap (starts is_word_byte) colon) in
+    let stop : starts is_word_byte first.0 ≡ false =
+    blanks_fail is_word_byte blank_is_no_word_byte second.1 (ap (starts is_word_byte) colon) in
     let word = word_again name first.0 (name_is_word name first.1.first.0) stop in
-    let skipped : after_blanks first.0 ≡ second.0 = blanks_again second.0 first.0 second.1 (ap (starts is_blank) colon) in
+    let skipped : after_blanks first.0 ≡ second.0 =
+    blanks_again second.0 first.0 second.1 (ap (starts is_blank) colon) in
     let behind : after_colon (after_blanks (after_word (name ++ first.0))) ≡ Some rest =
     ap (λ t. after_colon (after_blanks t)) word.1 ∙ ap after_colon (skipped ∙ colon) in (
       ap optional_label_at whole ∙ label_over name first.0 first.1.first.0

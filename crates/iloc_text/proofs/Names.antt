@@ -24,7 +24,8 @@ unfolding name
 name_found Nop = refl
 name_found _ = refl
 
-pub name_called : (op : Op) (bytes : List ℕ) → operands_at (operands_of (name op)) bytes ≡ operands_at (operands op) bytes
+pub name_called : (op : Op) (bytes : List ℕ) → operands_at (operands_of (name op)) bytes
+    ≡ operands_at (operands op) bytes
 unfolding name value_then
 name_called Nop bytes = refl
 name_called _ bytes = refl

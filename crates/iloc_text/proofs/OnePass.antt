@@ -21,11 +21,13 @@ use Rattle.iloc_text.proofs.InLines.{join_inside, blanks_inside, optional_label_
 abbrev Words : Option (List ℕ) → Option Op → List ℕ → Type 0
 Words label op = Blanks ⋅ OptionalLabel label ⋅ Blanks ⋅ OptionalOperation op ⋅ Blanks
 
-label_if_read : (looked : Bool) (bytes : List ℕ) → Before (OptionalLabel (label_if looked bytes).0) (label_if looked bytes).1 bytes
+label_if_read : (looked : Bool) (bytes : List ℕ)
+    → Before (OptionalLabel (label_if looked bytes).0) (label_if looked bytes).1 bytes
 label_if_read true bytes = label_read bytes
 label_if_read false bytes = no_label bytes
 
-operation_finds : (bytes : List ℕ) (op : Option Op) (rest : List ℕ) → OperationAt bytes op rest → FindsOptional bytes (op, rest)
+operation_finds : (bytes : List ℕ) (op : Option Op) (rest : List ℕ) → OperationAt bytes op rest
+    → FindsOptional bytes (op, rest)
 operation_finds bytes None rest e = subst (λ r. FindsOptional bytes (None, r)) (sym e) (nothing_first bytes)
 operation_finds bytes (Some op) rest f = let found = called_finds f.0 bytes f.1 op rest f.2 f.3 in
     (Some found.0, found.1, ap (λ o. Some o) found.2)
@@ -36,9 +38,11 @@ words_read text label op rest w =
     let start = after_blanks text in
     let behind = (label_if w.0 start).1 in
     let found = operation_finds (after_blanks behind) op rest w.2 in
-    let named : Before (OptionalLabel label) behind start = subst (λ l. Before (OptionalLabel l) behind start) (sym w.1) (label_if_read w.0 start) in (
+    let named : Before (OptionalLabel label) behind start =
+    subst (λ l. Before (OptionalLabel l) behind start) (sym w.1) (label_if_read w.0 start) in (
       found.0,
-      Before-join (blanks_read text) (Before-join named (Before-join (blanks_read behind) (Before-join found.1 (blanks_read rest)))),
+      Before-join (blanks_read text) (Before-join named
+          (Before-join (blanks_read behind) (Before-join found.1 (blanks_read rest)))),
       found.2,
     )
 
@@ -50,36 +54,45 @@ no_line_end : (c : ℕ) → (c ≡ 10 → ⊥) → is_line_end c ≡ false
 no_line_end c h = grind (arith, nat_tests)
 
 -- what has no line end lengthens the first line of what stands behind it
-lines_behind : (front rest first : List ℕ) (more : List (List ℕ)) → HasNoLineEnd front → lines_of rest ≡ first ∷ more → lines_of (front ++ rest) ≡ (front ++ first) ∷ more
+lines_behind : (front rest first : List ℕ) (more : List (List ℕ)) → HasNoLineEnd front → lines_of rest ≡ first ∷ more
+    → lines_of (front ++ rest) ≡ (front ++ first) ∷ more
 lines_behind [] rest first more h e = e
 lines_behind (c ∷ cs) rest first more h e = rw (no_line_end c h.0, lines_behind cs rest first more h.1 e) refl
 
-ended : (label : Option (List ℕ)) (op : Option Op) (front comment : List ℕ) → Words label op front → OptionalComment comment → ReadsWidely (front ++ comment) label op
+ended : (label : Option (List ℕ)) (op : Option Op) (front comment : List ℕ) → Words label op front
+    → OptionalComment comment → ReadsWidely (front ++ comment) label op
 ended label op front comment words end =
-    let whole : Before (Words label op) comment (front ++ comment) = record { front = front; first = words; whole = refl } in
+    let whole : Before (Words label op) comment (front ++ comment) =
+    record { front = front; first = words; whole = refl } in
     let first = Before-split whole in
     let second = Before-split first.2 in
     let third = Before-split second.2 in
     let fourth = Before-split third.2 in
-    Before-all (Before-join first.1 (Before-join second.1 (Before-join third.1 (Before-join fourth.1 (Before-join fourth.2 (all-Before end))))))
+    Before-all (Before-join first.1 (Before-join second.1
+    (Before-join third.1 (Before-join fourth.1 (Before-join fourth.2 (all-Before end))))))
 
-pub usual_reads : (text : List ℕ) (label : Option (List ℕ)) (op : Option Op) (rest comment : List ℕ) (more : List (List ℕ))
-    → WordsAt text label op rest → lines_of (after_blanks rest) ≡ comment ∷ more → is_end comment ≡ true → is_within op ≡ true
+pub usual_reads : (text : List ℕ) (label : Option (List ℕ)) (op : Option Op) (rest comment : List ℕ)
+    (more : List (List ℕ))
+    → WordsAt text label op rest → lines_of (after_blanks rest) ≡ comment ∷ more → is_end comment ≡ true
+    → is_within op ≡ true
     → (line : List ℕ) × (lines_of text ≡ line ∷ more) × Reads line label op
 usual_reads text label op rest comment more w e end within =
     let found = words_read text label op rest w in
     let before = found.1 in
     let line = before.front ++ comment in (
       line,
-      ap lines_of before.whole ∙ lines_behind before.front (after_blanks rest) comment more (words_inside label found.0 before.front before.first) e,
-      reads_found line label found.0 op (ended label found.0 before.front comment before.first (end_read comment end)) found.2 within,
+      ap lines_of before.whole ∙ lines_behind before.front (after_blanks rest) comment more
+          (words_inside label found.0 before.front before.first) e,
+      reads_found line label found.0 op (ended label found.0 before.front comment before.first (end_read comment end))
+          found.2 within,
     )
 
 is_no_line_end : (c : ℕ) → c ≡ 47 → is_line_end c ≡ false
 is_no_line_end c e = grind (arith, nat_tests)
 
 -- where nothing or a comment stands, so it does up to the line end
-pub first_ends : (text line : List ℕ) (more : List (List ℕ)) → is_end text ≡ true → lines_of text ≡ line ∷ more → is_end line ≡ true
+pub first_ends : (text line : List ℕ) (more : List (List ℕ)) → is_end text ≡ true → lines_of text ≡ line ∷ more
+    → is_end line ≡ true
 first_ends [] line more h e = let same : [] ≡ line = cc in subst (λ l. is_end l ≡ true) same refl
 first_ends (c ∷ []) line more h e = cc
 first_ends (c ∷ d ∷ cs) line more h e =

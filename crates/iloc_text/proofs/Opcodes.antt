@@ -12,7 +12,8 @@ use Rattle.iloc_text.proofs.Parts.{starts}
 use Rattle.iloc_text.proofs.Tokens.{some_map, IsWord}
 
 -- what holds of a found part and of all that follows it
-pub bind_each : {A B : Type 0} {P : A → Type 0} (Q : B → Type 0) (o : Option A) (f : A → Option B) → IfSome o P → ((x : A) → P x → IfSome (f x) Q) → IfSome (o >>= f) Q
+pub bind_each : {A B : Type 0} {P : A → Type 0} (Q : B → Type 0) (o : Option A) (f : A → Option B) → IfSome o P
+    → ((x : A) → P x → IfSome (f x) Q) → IfSome (o >>= f) Q
 bind_each Q None f h step = tt
 bind_each Q (Some x) f h step = step x h
 
@@ -20,18 +21,21 @@ pub found_passes : {A : Type 0} (p : A → Bool) (xs : List A) → IfSome (find 
 found_passes p [] = tt
 found_passes {A} p (x ∷ xs) = by (p x) refl (found_passes p xs)
   where
-    by : (b : Bool) → p x ≡ b → IfSome (find p xs) (λ y. p y ≡ true) → IfSome (cond b (Some x) (find p xs)) (λ y. p y ≡ true)
+    by : (b : Bool) → p x ≡ b → IfSome (find p xs) (λ y. p y ≡ true)
+        → IfSome (cond b (Some x) (find p xs)) (λ y. p y ≡ true)
     by true e r = e
     by false e r = r
 
 pub opcode_read : (word : List ℕ) → IfSome (opcode_of word) (λ o. word ≡ opcode_text o)
-opcode_read word = some_map (λ o e. sym ((bytes_eq-Decides (opcode_text o) word).0 e)) (opcode_of word) (found_passes (λ o. bytes_eq (opcode_text o) word) opcodes)
+opcode_read word = some_map (λ o e. sym ((bytes_eq-Decides (opcode_text o) word).0 e)) (opcode_of word)
+    (found_passes (λ o. bytes_eq (opcode_text o) word) opcodes)
 
 pub word_by_test : (bytes : List ℕ) → list_all is_word_byte bytes ≡ true → IsWord bytes
 word_by_test [] h = tt
 word_by_test (c ∷ cs) h = by (is_word_byte c) refl (word_by_test cs) h
   where
-    by : (b : Bool) → is_word_byte c ≡ b → (list_all is_word_byte cs ≡ true → IsWord cs) → (b && list_all is_word_byte cs) ≡ true → IsWord (c ∷ cs)
+    by : (b : Bool) → is_word_byte c ≡ b → (list_all is_word_byte cs ≡ true → IsWord cs)
+        → (b && list_all is_word_byte cs) ≡ true → IsWord (c ∷ cs)
     by true e rest h = (e, rest h)
     by false e rest h = cc
 

@@ -18,7 +18,8 @@ lead_read space bytes = some_blanks_read bytes
 lead_read comma bytes = comma_read bytes
 lead_read arrow bytes = arrow_read bytes
 
-lead_again : (lead : Lead) (rest bytes : List ℕ) → Before (LeadText lead) rest bytes → starts is_blank rest ≡ false → lead_at lead bytes ≡ Some rest
+lead_again : (lead : Lead) (rest bytes : List ℕ) → Before (LeadText lead) rest bytes → starts is_blank rest ≡ false
+    → lead_at lead bytes ≡ Some rest
 lead_again space rest bytes b s = some_blanks_again rest bytes b s
 lead_again comma rest bytes b s = comma_again rest bytes b s
 lead_again arrow rest bytes b s = arrow_again rest bytes b s
@@ -29,13 +30,17 @@ with_number (register r) n = register (record { 0 = n })
 with_number (number m) n = number n
 
 abbrev FindsValue : Lead → Value → List ℕ → ℕ × List ℕ → Type 0
-FindsValue lead value bytes found = (n : ℕ) × Before (ValueText (with_number value n)) found.1 bytes × (found.0 ≡ capped (number_of (lead ▹ with_number value n)))
+FindsValue lead value bytes found = (n : ℕ) × Before (ValueText (with_number value n)) found.1 bytes
+    × (found.0 ≡ capped (number_of (lead ▹ with_number value n)))
 
-value_read : (lead : Lead) (value : Value) (bytes : List ℕ) → IfSome (value_at value bytes) (FindsValue lead value bytes)
-value_read lead (register r) bytes = bind_each (FindsValue lead (register r) bytes) (register_at bytes) _ (register_read bytes) (λ found f. (f.0.0, f.1, ap (λ r. r.0) f.2))
+value_read : (lead : Lead) (value : Value) (bytes : List ℕ)
+    → IfSome (value_at value bytes) (FindsValue lead value bytes)
+value_read lead (register r) bytes = bind_each (FindsValue lead (register r) bytes) (register_at bytes) _
+    (register_read bytes) (λ found f. (f.0.0, f.1, ap (λ r. r.0) f.2))
 value_read lead (number n) bytes = number_read bytes
 
-value_again : (lead : Lead) (value : Value) (rest bytes : List ℕ) → Before (ValueText value) rest bytes → starts is_ascii_digit rest ≡ false
+value_again : (lead : Lead) (value : Value) (rest bytes : List ℕ) → Before (ValueText value) rest bytes
+    → starts is_ascii_digit rest ≡ false
     → value_at value bytes ≡ Some (capped (number_of (lead ▹ value)), rest)
 value_again lead (register r) rest bytes b s = rw (register_again r rest bytes b s) refl
 value_again lead (number n) rest bytes b s = number_again n rest bytes b s
@@ -46,18 +51,23 @@ filled [] ns = []
 filled (lead ▹ value ∷ more) ns = lead ▹ with_number value (first ns) ∷ filled more (drop 1 ns)
 
 abbrev pub FindsOperands : List Operand → List ℕ → List ℕ × List ℕ → Type 0
-FindsOperands operands bytes found = (ns : List ℕ) × Before (OperandsText (filled operands ns)) found.1 bytes × (found.0 ≡ map capped (map number_of (filled operands ns)))
+FindsOperands operands bytes found = (ns : List ℕ) × Before (OperandsText (filled operands ns)) found.1 bytes
+    × (found.0 ≡ map capped (map number_of (filled operands ns)))
 
-pub operands_read : (operands : List Operand) (bytes : List ℕ) → IfSome (operands_at operands bytes) (FindsOperands operands bytes)
+pub operands_read : (operands : List Operand) (bytes : List ℕ)
+    → IfSome (operands_at operands bytes) (FindsOperands operands bytes)
 unfolding value_then
 operands_read [] bytes = ([], record { front = []; first = refl; whole = refl }, refl)
 operands_read (lead ▹ value ∷ more) bytes =
     bind_each (FindsOperands (lead ▹ value ∷ more) bytes) (lead_at lead bytes) _ (lead_read lead bytes) (λ start l.
-    bind_each (FindsOperands (lead ▹ value ∷ more) bytes) (value_at value start) _ (value_read lead value start) (λ found v.
-    bind_each (FindsOperands (lead ▹ value ∷ more) bytes) (operands_at more found.1) _ (operands_read more found.1) (λ others o.
+    bind_each (FindsOperands (lead ▹ value ∷ more) bytes) (value_at value start) _ (value_read lead value start)
+    (λ found v.
+    bind_each (FindsOperands (lead ▹ value ∷ more) bytes) (operands_at more found.1) _ (operands_read more found.1)
+    (λ others o.
     (v.0 ∷ o.0, Before-join l (Before-join v.1 o.1), ap₂ (λ n ns. n ∷ ns) v.2 o.2))))
 
-pub operands_again : (operands : List Operand) (rest bytes : List ℕ) → Before (OperandsText operands) rest bytes → starts is_ascii_digit rest ≡ false
+pub operands_again : (operands : List Operand) (rest bytes : List ℕ) → Before (OperandsText operands) rest bytes
+    → starts is_ascii_digit rest ≡ false
     → operands_at operands bytes ≡ Some (map capped (map number_of operands), rest)
 unfolding value_then
 operands_again [] rest bytes b s = ap (λ t. Some ([], t)) (b.whole ∙ ap (λ f. f ++ rest) b.first)
@@ -65,7 +75,9 @@ operands_again (lead ▹ value ∷ more) rest bytes b s =
     let first = Before-split b in
     let second = Before-split first.2 in
     rw (
-      lead_again lead first.0 bytes first.1 (value_fails value is_blank (record { digit = digit_is_no_blank; letter = refl }) second.1),
-      value_again lead value second.0 first.0 second.1 (operands_fail more is_ascii_digit (record { blank = blank_is_no_digit; sign = (refl, refl) }) second.2 s),
+      lead_again lead first.0 bytes first.1
+          (value_fails value is_blank (record { digit = digit_is_no_blank; letter = refl }) second.1),
+      value_again lead value second.0 first.0 second.1
+          (operands_fail more is_ascii_digit (record { blank = blank_is_no_digit; sign = (refl, refl) }) second.2 s),
       operands_again more rest second.0 second.2 s,
     ) refl

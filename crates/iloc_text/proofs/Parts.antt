@@ -8,14 +8,16 @@ pub record Before (P : List ℕ → Type 0) (rest bytes : List ℕ) : Type 0 whe
   pub first : P front
   pub whole : bytes ≡ front ++ rest
 
-pub Before-join : {P Q : List ℕ → Type 0} {mid rest bytes : List ℕ} → Before P mid bytes → Before Q rest mid → Before (P ⋅ Q) rest bytes
+pub Before-join : {P Q : List ℕ → Type 0} {mid rest bytes : List ℕ} → Before P mid bytes → Before Q rest mid
+    → Before (P ⋅ Q) rest bytes
 Before-join {P} {Q} {mid} {rest} {bytes} a b = record {
   front = a.front ++ b.front;
   first = record { front = a.front; rest = b.front; first = a.first; second = b.first; whole = refl };
   whole = a.whole ∙ ap (λ r. a.front ++ r) b.whole ∙ sym (append_assoc a.front b.front rest);
 }
 
-pub Before-split : {P Q : List ℕ → Type 0} {rest bytes : List ℕ} → Before (P ⋅ Q) rest bytes → (mid : List ℕ) × Before P mid bytes × Before Q rest mid
+pub Before-split : {P Q : List ℕ → Type 0} {rest bytes : List ℕ} → Before (P ⋅ Q) rest bytes → (mid : List ℕ)
+    × Before P mid bytes × Before Q rest mid
 Before-split {P} {Q} {rest} {bytes} b = (
   b.first.rest ++ rest,
   record {

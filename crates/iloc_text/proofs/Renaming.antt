@@ -24,7 +24,8 @@ used-with_registers new own (RshiftI left value dest) = refl
 used-with_registers new own (LoadAI addr offset dest) = refl
 used-with_registers new own (StoreAI value addr offset) = refl
 
-pub defined-with_registers : (new : Reg → Reg) (own : Reg) (op : Op) → defined (with_registers new own op) ≡ option_map (λ _. own) (defined op)
+pub defined-with_registers : (new : Reg → Reg) (own : Reg) (op : Op) → defined (with_registers new own op)
+    ≡ option_map (λ _. own) (defined op)
 defined-with_registers new own (Store value addr) = refl
 defined-with_registers new own (StoreAI value addr offset) = refl
 defined-with_registers new own (Output addr) = refl
@@ -37,14 +38,17 @@ at_most_two (Add left right dest) = omega arith
 at_most_two _ = omega arith
 
 -- a list of at most two, by its first and its last
-pub by_places : (xs : List Reg) (other : Reg) (n : ℕ) → length xs ≡ n → n ≤ 2 → xs ≡ take n (get_or xs 0 other ∷ get_or xs (length xs - 1) other ∷ [])
+pub by_places : (xs : List Reg) (other : Reg) (n : ℕ) → length xs ≡ n → n ≤ 2
+    → xs ≡ take n (get_or xs 0 other ∷ get_or xs (length xs - 1) other ∷ [])
 by_places [] other n size few = rw (← size) refl
 by_places (x ∷ []) other n size few = rw (← size) refl
 by_places (x ∷ y ∷ []) other n size few = rw (← size) refl
 by_places (x ∷ y ∷ z ∷ xs) other n size few = absurd (omega arith)
 
 -- only the registers that stand in the place of its own count
-pub with_registers-same : (new new' : Reg → Reg) (own own' : Reg) (op : Op) → map new (used op) ≡ map new' (used op) → option_map (λ _. own) (defined op) ≡ option_map (λ _. own') (defined op) → with_registers new own op ≡ with_registers new' own' op
+pub with_registers-same : (new new' : Reg → Reg) (own own' : Reg) (op : Op) → map new (used op) ≡ map new' (used op)
+    → option_map (λ _. own) (defined op) ≡ option_map (λ _. own') (defined op)
+    → with_registers new own op ≡ with_registers new' own' op
 with_registers-same new new' own own' (Load addr dest) uses defs = cc
 with_registers-same new new' own own' (LoadI value dest) uses defs = cc
 with_registers-same new new' own own' (Store value addr) uses defs = cc

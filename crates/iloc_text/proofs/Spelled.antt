@@ -27,21 +27,28 @@ blank_first : (rest : List ℕ) → Before Blanks rest (codes " " ++ rest)
 blank_first rest = record { front = codes " "; first = (refl, tt); whole = refl }
 
 number_first : (n : ℕ) (rest : List ℕ) → IsSmall n → Before (Number n) rest (decimal n ++ rest)
-number_first n rest h = let d = decimal_is_IsNumeral n (omega arith) in record { front = decimal n; first = (d.0, sym d.1); whole = refl }
+number_first n rest h = let d = decimal_is_IsNumeral n (omega arith) in
+    record { front = decimal n; first = (d.0, sym d.1); whole = refl }
 
 lead_first : (lead : Lead) (rest : List ℕ) → Before (LeadText lead) rest (spelled_lead lead ++ rest)
 lead_first space rest = record { front = codes " "; first = (omega arith, (refl, tt)); whole = refl }
-lead_first comma rest = Before-join (blanks_first (codes ", " ++ rest)) (Before-join (text_first (codes ",") (codes " " ++ rest)) (blank_first rest))
-lead_first arrow rest = Before-join (blank_first (codes "=> " ++ rest)) (Before-join (text_first (codes "=>") (codes " " ++ rest)) (blank_first rest))
+lead_first comma rest = Before-join (blanks_first (codes ", " ++ rest))
+    (Before-join (text_first (codes ",") (codes " " ++ rest)) (blank_first rest))
+lead_first arrow rest = Before-join (blank_first (codes "=> " ++ rest))
+    (Before-join (text_first (codes "=>") (codes " " ++ rest)) (blank_first rest))
 
-value_first : (lead : Lead) (value : Value) (rest : List ℕ) → IsSmall (number_of (lead ▹ value)) → Before (ValueText value) rest (spelled_value value ++ rest)
-value_first lead (register r) rest h = Before-join (text_first (codes "r") (decimal r.0 ++ rest)) (number_first r.0 rest h)
+value_first : (lead : Lead) (value : Value) (rest : List ℕ) → IsSmall (number_of (lead ▹ value))
+    → Before (ValueText value) rest (spelled_value value ++ rest)
+value_first lead (register r) rest h = Before-join (text_first (codes "r") (decimal r.0 ++ rest))
+    (number_first r.0 rest h)
 value_first lead (number n) rest h = number_first n rest h
 
-operands_first : (operands : List Operand) → AllByRecursion IsSmall (map number_of operands) → Before (OperandsText operands) [] (spelled_operands operands)
+operands_first : (operands : List Operand) → AllByRecursion IsSmall (map number_of operands)
+    → Before (OperandsText operands) [] (spelled_operands operands)
 operands_first [] h = text_first [] []
 operands_first (lead ▹ value ∷ more) h =
-    Before-join (lead_first lead (spelled_value value ++ spelled_operands more)) (Before-join (value_first lead value (spelled_operands more) h.0) (operands_first more h.1))
+    Before-join (lead_first lead (spelled_value value ++ spelled_operands more))
+    (Before-join (value_first lead value (spelled_operands more) h.0) (operands_first more h.1))
 
 spelled : (op : Op) → IsWithinLimit op → Before (Operation op) [] (spelling op)
 spelled op h = Before-join (text_first (opcode op) (spelled_operands (operands op))) (operands_first (operands op) h)

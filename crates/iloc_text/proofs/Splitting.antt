@@ -14,7 +14,8 @@ fails : (b : Bool) → (b ≡ true → ⊥) → b ≡ false
 fails true h = absurd (h refl)
 fails false h = refl
 
-at_place : (text : List ℕ) (i : ℕ) (r : Option ℕ) → position_or_len is_line_end text ≡ i → cond (nat_lt i (length text)) (Some i) None ≡ r → r ≡ line_end text
+at_place : (text : List ℕ) (i : ℕ) (r : Option ℕ) → position_or_len is_line_end text ≡ i
+    → cond (nat_lt i (length text)) (Some i) None ≡ r → r ≡ line_end text
 at_place text i r e f = rw e (sym f)
 
 in_text : (i n : ℕ) → i < n → nat_lt i n ≡ true
@@ -26,18 +27,22 @@ past_text n = grind (arith, nat_tests)
 -- the first place at which a line end stands is the place of the first line end
 pub first_line_end : (text : List ℕ) (r : Option ℕ) → IsFirstByte (is_byte 10) text r → r ≡ line_end text
 first_line_end text None h =
-    let end = position_or_len_is is_line_end text (length text) 0 (omega arith) (λ k below. fails (is_line_end (slice_index text k)) (h k (omega arith) below)) (λ inside. absurd (omega arith)) in
+    let end = position_or_len_is is_line_end text (length text) 0 (omega arith)
+    (λ k below. fails (is_line_end (slice_index text k)) (h k (omega arith) below))
+    (λ inside. absurd (omega arith)) in
     at_place text (length text) None end (rw (past_text (length text)) refl)
 first_line_end text (Some i) h =
     let inside = h.0.high in
-    let here = position_or_len_is is_line_end text i 0 (omega arith) (λ k below. fails (is_line_end (slice_index text k)) (h.0.before k (omega arith) below)) (λ inside. h.1) in
+    let here = position_or_len_is is_line_end text i 0 (omega arith)
+    (λ k below. fails (is_line_end (slice_index text k)) (h.0.before k (omega arith) below)) (λ inside. h.1) in
     at_place text i (Some i) here (rw (in_text i (length text) inside) refl)
 
 whole_line : (text : List ℕ) → length text ≤ position_or_len is_line_end text → lines_of text ≡ text ∷ []
 whole_line [] h = refl
 whole_line (c ∷ cs) h = by (is_line_end c) (whole_line cs) h
   where
-    by : (b : Bool) → (length cs ≤ position_or_len is_line_end cs → lines_of cs ≡ cs ∷ []) → length (c ∷ cs) ≤ cond (not b) (1 + position_or_len is_line_end cs) 0
+    by : (b : Bool) → (length cs ≤ position_or_len is_line_end cs → lines_of cs ≡ cs ∷ [])
+        → length (c ∷ cs) ≤ cond (not b) (1 + position_or_len is_line_end cs) 0
         → cond b ([] ∷ lines_of cs) (onto_first c (lines_of cs)) ≡ (c ∷ cs) ∷ []
     by true rest h = absurd (omega arith)
     by false rest h = rw (rest (omega arith)) refl
@@ -45,14 +50,17 @@ whole_line (c ∷ cs) h = by (is_line_end c) (whole_line cs) h
 pub line_none : (text : List ℕ) → line_end text ≡ None → lines_of text ≡ text ∷ []
 line_none text e = by (nat_lt (position_or_len is_line_end text) (length text)) refl e
   where
-    by : (b : Bool) → nat_lt (position_or_len is_line_end text) (length text) ≡ b → cond b (Some (position_or_len is_line_end text)) None ≡ None → lines_of text ≡ text ∷ []
+    by : (b : Bool) → nat_lt (position_or_len is_line_end text) (length text) ≡ b
+        → cond b (Some (position_or_len is_line_end text)) None ≡ None → lines_of text ≡ text ∷ []
     by true t e = cc
     by false t e = whole_line text (grind (arith, nat_tests))
 
-pub line_some : (text : List ℕ) (end : ℕ) → line_end text ≡ Some end → lines_of text ≡ take end text ∷ lines_of (drop (end + 1) text)
+pub line_some : (text : List ℕ) (end : ℕ) → line_end text ≡ Some end
+    → lines_of text ≡ take end text ∷ lines_of (drop (end + 1) text)
 line_some text end e = by (nat_lt (position_or_len is_line_end text) (length text)) refl e
   where
-    by : (b : Bool) → nat_lt (position_or_len is_line_end text) (length text) ≡ b → cond b (Some (position_or_len is_line_end text)) None ≡ Some end
+    by : (b : Bool) → nat_lt (position_or_len is_line_end text) (length text) ≡ b
+        → cond b (Some (position_or_len is_line_end text)) None ≡ Some end
         → lines_of text ≡ take end text ∷ lines_of (drop (end + 1) text)
     by true t e = let same : position_or_len is_line_end text ≡ end = cc in
         rw (← same) (slice_split_first is_line_end text 0 (grind (arith, nat_tests)))
@@ -61,7 +69,8 @@ line_some text end e = by (nat_lt (position_or_len is_line_end text) (length tex
 is_line_end_tells : (c : ℕ) → is_line_end c ≡ false → c ≡ 10 → ⊥
 is_line_end_tells c h = grind (arith, nat_tests)
 
-front_line : (c : ℕ) (lines : List (List ℕ)) → is_line_end c ≡ false → AllByRecursion HasNoLineEnd lines → AllByRecursion HasNoLineEnd (onto_first c lines)
+front_line : (c : ℕ) (lines : List (List ℕ)) → is_line_end c ≡ false → AllByRecursion HasNoLineEnd lines
+    → AllByRecursion HasNoLineEnd (onto_first c lines)
 front_line c [] h each = ((is_line_end_tells c h, tt), tt)
 front_line c (line ∷ lines) h each = ((is_line_end_tells c h, each.0), each.1)
 
@@ -69,7 +78,8 @@ no_line_ends : (text : List ℕ) → AllByRecursion HasNoLineEnd (lines_of text)
 no_line_ends [] = (tt, tt)
 no_line_ends (c ∷ cs) = by (is_line_end c) refl (no_line_ends cs)
   where
-    by : (b : Bool) → is_line_end c ≡ b → AllByRecursion HasNoLineEnd (lines_of cs) → AllByRecursion HasNoLineEnd (cond b ([] ∷ lines_of cs) (onto_first c (lines_of cs)))
+    by : (b : Bool) → is_line_end c ≡ b → AllByRecursion HasNoLineEnd (lines_of cs)
+        → AllByRecursion HasNoLineEnd (cond b ([] ∷ lines_of cs) (onto_first c (lines_of cs)))
     by true e rest = (tt, rest)
     by false e rest = front_line c (lines_of cs) e rest
 

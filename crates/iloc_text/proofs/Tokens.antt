@@ -12,7 +12,8 @@ use Rattle.iloc_text.proofs.Parts.{Before, Before-join, Before-split, starts}
 
 -- Blanks
 
-blanks_read_by : (c : ℕ) (cs : List ℕ) (b : Bool) → is_blank c ≡ b → Before Blanks (after_blanks cs) cs → Before Blanks (cond b (after_blanks cs) (c ∷ cs)) (c ∷ cs)
+blanks_read_by : (c : ℕ) (cs : List ℕ) (b : Bool) → is_blank c ≡ b → Before Blanks (after_blanks cs) cs
+    → Before Blanks (cond b (after_blanks cs) (c ∷ cs)) (c ∷ cs)
 blanks_read_by c cs true e r = record { front = c ∷ r.front; first = (e, r.first); whole = ap (λ t. c ∷ t) r.whole }
 blanks_read_by c cs false e r = record { front = []; first = tt; whole = refl }
 
@@ -32,29 +33,38 @@ pub blanks_starts : (bytes : List ℕ) → starts is_blank (after_blanks bytes) 
 blanks_starts [] = refl
 blanks_starts (c ∷ cs) = by (is_blank c) refl (blanks_starts cs)
   where
-    by : (b : Bool) → is_blank c ≡ b → starts is_blank (after_blanks cs) ≡ false → starts is_blank (cond b (after_blanks cs) (c ∷ cs)) ≡ false
+    by : (b : Bool) → is_blank c ≡ b → starts is_blank (after_blanks cs) ≡ false
+        → starts is_blank (cond b (after_blanks cs) (c ∷ cs)) ≡ false
     by true e r = r
     by false e r = e
 
 pub blanks_over : (rest bytes : List ℕ) → Before Blanks rest bytes → after_blanks bytes ≡ after_blanks rest
 blanks_over rest bytes b = ap after_blanks b.whole ∙ blanks_skipped b.front rest b.first
 
-pub blanks_again : (rest bytes : List ℕ) → Before Blanks rest bytes → starts is_blank rest ≡ false → after_blanks bytes ≡ rest
+pub blanks_again : (rest bytes : List ℕ) → Before Blanks rest bytes → starts is_blank rest ≡ false
+    → after_blanks bytes ≡ rest
 blanks_again rest bytes b h = blanks_over rest bytes b ∙ blanks_none rest h
 
-some_read_by : (c : ℕ) (cs : List ℕ) (b : Bool) → is_blank c ≡ b → Before Blanks (after_blanks cs) cs → IfSome (cond b (Some (after_blanks cs)) None) (λ rest. Before SomeBlanks rest (c ∷ cs))
-some_read_by c cs true e r = record { front = c ∷ r.front; first = (omega arith, (e, r.first)); whole = ap (λ t. c ∷ t) r.whole }
+some_read_by : (c : ℕ) (cs : List ℕ) (b : Bool) → is_blank c ≡ b → Before Blanks (after_blanks cs) cs
+    → IfSome (cond b (Some (after_blanks cs)) None) (λ rest. Before SomeBlanks rest (c ∷ cs))
+some_read_by c cs true e r = record {
+  front = c ∷ r.front;
+  first = (omega arith, (e, r.first));
+  whole = ap (λ t. c ∷ t) r.whole;
+}
 some_read_by c cs false e r = tt
 
 pub some_blanks_read : (bytes : List ℕ) → IfSome (some_blanks_at bytes) (λ rest. Before SomeBlanks rest bytes)
 some_blanks_read [] = tt
 some_blanks_read (c ∷ cs) = some_read_by c cs (is_blank c) refl (blanks_read cs)
 
-some_again_from : (front rest : List ℕ) → SomeBlanks front → starts is_blank rest ≡ false → some_blanks_at (front ++ rest) ≡ Some rest
+some_again_from : (front rest : List ℕ) → SomeBlanks front → starts is_blank rest ≡ false
+    → some_blanks_at (front ++ rest) ≡ Some rest
 some_again_from [] rest h s = absurd (omega (arith, h.0))
 some_again_from (c ∷ cs) rest h s = rw (h.1.0, blanks_skipped cs rest h.1.1, blanks_none rest s) refl
 
-pub some_blanks_again : (rest bytes : List ℕ) → Before SomeBlanks rest bytes → starts is_blank rest ≡ false → some_blanks_at bytes ≡ Some rest
+pub some_blanks_again : (rest bytes : List ℕ) → Before SomeBlanks rest bytes → starts is_blank rest ≡ false
+    → some_blanks_at bytes ≡ Some rest
 some_blanks_again rest bytes b s = ap some_blanks_at b.whole ∙ some_again_from b.front rest b.first s
 
 -- Numbers
@@ -81,13 +91,22 @@ record Digits (n value : ℕ) (rest bytes : List ℕ) : Type 0 where
   whole : bytes ≡ front ++ rest
   value_is : value ≡ capped (digits_value_after 10 n front)
 
-digits_read : (n : ℕ) (bytes : List ℕ) → Digits n (digits_after (capped n) bytes).0 (digits_after (capped n) bytes).1 bytes
+digits_read : (n : ℕ) (bytes : List ℕ) → Digits n (digits_after (capped n) bytes).0 (digits_after (capped n) bytes).1
+    bytes
 digits_read n [] = record { front = []; all = tt; whole = refl; value_is = refl }
 digits_read n (c ∷ cs) = by (is_ascii_digit c) refl (digits_read (n * 10 + digit_value c) cs)
   where
-    by : (b : Bool) → is_ascii_digit c ≡ b → Digits (n * 10 + digit_value c) (digits_after (capped (n * 10 + digit_value c)) cs).0 (digits_after (capped (n * 10 + digit_value c)) cs).1 cs
-        → Digits n (cond b (digits_after (capped (capped n * 10 + (c - 48))) cs) (capped n, c ∷ cs)).0 (cond b (digits_after (capped (capped n * 10 + (c - 48))) cs) (capped n, c ∷ cs)).1 (c ∷ cs)
-    by true e r = rw (capped_digit n c e) (record { front = c ∷ r.front; all = (digit_value_small c e, r.all); whole = ap (λ t. c ∷ t) r.whole; value_is = r.value_is })
+    by : (b : Bool) → is_ascii_digit c ≡ b
+        → Digits (n * 10 + digit_value c) (digits_after (capped (n * 10 + digit_value c)) cs).0
+        (digits_after (capped (n * 10 + digit_value c)) cs).1 cs
+        → Digits n (cond b (digits_after (capped (capped n * 10 + (c - 48))) cs) (capped n, c ∷ cs)).0
+        (cond b (digits_after (capped (capped n * 10 + (c - 48))) cs) (capped n, c ∷ cs)).1 (c ∷ cs)
+    by true e r = rw (capped_digit n c e) (record {
+      front = c ∷ r.front;
+      all = (digit_value_small c e, r.all);
+      whole = ap (λ t. c ∷ t) r.whole;
+      value_is = r.value_is;
+    })
     by false e r = record { front = []; all = tt; whole = refl; value_is = refl }
 
 -- what a number gives
@@ -101,30 +120,39 @@ number_read (c ∷ cs) = by (is_ascii_digit c) refl (digits_read (0 * 10 + digit
     found : Bool → ℕ × List ℕ
     found b = cond b (digits_after (capped (0 * 10 + (c - 48))) cs) (0, c ∷ cs)
 
-    by : (b : Bool) → is_ascii_digit c ≡ b → Digits (0 * 10 + digit_value c) (digits_after (capped (0 * 10 + digit_value c)) cs).0 (digits_after (capped (0 * 10 + digit_value c)) cs).1 cs
+    by : (b : Bool) → is_ascii_digit c ≡ b
+        → Digits (0 * 10 + digit_value c) (digits_after (capped (0 * 10 + digit_value c)) cs).0
+        (digits_after (capped (0 * 10 + digit_value c)) cs).1 cs
         → IfSome (cond b (Some (found b)) None) (FindsNumber (c ∷ cs))
     by false e r = tt
     by true e r = rw (capped_digit 0 c e) (
       digits_value_after 10 0 (c ∷ r.front),
-      record { front = c ∷ r.front; first = ((omega arith, (digit_value_small c e, r.all)), refl); whole = ap (λ t. c ∷ t) r.whole },
+      record {
+        front = c ∷ r.front;
+        first = ((omega arith, (digit_value_small c e, r.all)), refl);
+        whole = ap (λ t. c ∷ t) r.whole;
+      },
       r.value_is,
     )
 
-digits_taken : (n : ℕ) (front rest : List ℕ) → AllDigits 10 front → starts is_ascii_digit rest ≡ false → digits_after (capped n) (front ++ rest) ≡ (capped (digits_value_after 10 n front), rest)
+digits_taken : (n : ℕ) (front rest : List ℕ) → AllDigits 10 front → starts is_ascii_digit rest ≡ false
+    → digits_after (capped n) (front ++ rest) ≡ (capped (digits_value_after 10 n front), rest)
 digits_taken n [] [] h s = refl
 digits_taken n [] (c ∷ cs) h s = rw s refl
 digits_taken n (c ∷ cs) rest h s =
     let e : is_ascii_digit c ≡ true = digit_from_value c h.0 in
     rw (e, capped_digit n c e) (digits_taken (n * 10 + digit_value c) cs rest h.1 s)
 
-number_taken : (n : ℕ) (front rest : List ℕ) → Number n front → starts is_ascii_digit rest ≡ false → number_at (front ++ rest) ≡ Some (capped n, rest)
+number_taken : (n : ℕ) (front rest : List ℕ) → Number n front → starts is_ascii_digit rest ≡ false
+    → number_at (front ++ rest) ≡ Some (capped n, rest)
 number_taken n [] rest h s = absurd (omega (arith, h.0.0))
 number_taken n (c ∷ cs) rest h s =
     let test : ◌≡◌ {A = Option (ℕ × List ℕ)} (number_at (c ∷ (cs ++ rest))) (Some (digits_after 0 (c ∷ (cs ++ rest)))) =
     ap (λ b. cond b (Some (digits_after 0 (c ∷ (cs ++ rest)))) None) (digit_from_value c h.0.1.0) in
     test ∙ ap (λ found. Some found) (digits_taken 0 (c ∷ cs) rest h.0.1 s) ∙ ap (λ m. Some (capped m, rest)) (sym h.1)
 
-pub number_again : (n : ℕ) (rest bytes : List ℕ) → Before (Number n) rest bytes → starts is_ascii_digit rest ≡ false → number_at bytes ≡ Some (capped n, rest)
+pub number_again : (n : ℕ) (rest bytes : List ℕ) → Before (Number n) rest bytes → starts is_ascii_digit rest ≡ false
+    → number_at bytes ≡ Some (capped n, rest)
 number_again n rest bytes b s = ap number_at b.whole ∙ number_taken n b.front rest b.first s
 
 -- what holds of what is found follows from what held of it before
@@ -154,7 +182,8 @@ register_read (c ∷ cs) = by (c == 114) refl (number_at cs) (number_read cs)
       ap (λ n. record { 0 = n }) h.2,
     )
 
-pub register_again : (r : Reg) (rest bytes : List ℕ) → Before (Register r) rest bytes → starts is_ascii_digit rest ≡ false → register_at bytes ≡ Some (record { 0 = capped r.0 }, rest)
+pub register_again : (r : Reg) (rest bytes : List ℕ) → Before (Register r) rest bytes
+    → starts is_ascii_digit rest ≡ false → register_at bytes ≡ Some (record { 0 = capped r.0 }, rest)
 register_again r rest bytes b s =
     let parts = Before-split b in
     ap register_at (parts.1.whole ∙ ap (λ t. t ++ parts.0) parts.1.first)
@@ -170,16 +199,20 @@ arrow_found [] = tt
 arrow_found (c ∷ []) = tt
 arrow_found (c ∷ d ∷ cs) = by ((c == 61) && (d == 62)) refl
   where
-    by : (b : Bool) → ((c == 61) && (d == 62)) ≡ b → IfSome (cond b (Some (after_blanks cs)) None) (λ rest. Before (Text (codes "=>") ⋅ Blanks) rest (c ∷ d ∷ cs))
+    by : (b : Bool) → ((c == 61) && (d == 62)) ≡ b
+        → IfSome (cond b (Some (after_blanks cs)) None) (λ rest. Before (Text (codes "=>") ⋅ Blanks) rest (c ∷ d ∷ cs))
     by false e = tt
     by true e =
         let both = double_arrow c d e in
-        Before-join (record { front = c ∷ d ∷ []; first = ap₂ (λ x y. x ∷ y ∷ []) both.0 both.1; whole = refl }) (blanks_read cs)
+        Before-join (record { front = c ∷ d ∷ []; first = ap₂ (λ x y. x ∷ y ∷ []) both.0 both.1; whole = refl })
+        (blanks_read cs)
 
 pub arrow_read : (bytes : List ℕ) → IfSome (arrow_at bytes) (λ rest. Before Arrow rest bytes)
-arrow_read bytes = some_map (λ rest. Before-join (blanks_read bytes)) (arrow_at bytes) (arrow_found (after_blanks bytes))
+arrow_read bytes = some_map (λ rest. Before-join (blanks_read bytes)) (arrow_at bytes)
+    (arrow_found (after_blanks bytes))
 
-pub arrow_again : (rest bytes : List ℕ) → Before Arrow rest bytes → starts is_blank rest ≡ false → arrow_at bytes ≡ Some rest
+pub arrow_again : (rest bytes : List ℕ) → Before Arrow rest bytes → starts is_blank rest ≡ false
+    → arrow_at bytes ≡ Some rest
 arrow_again rest bytes b s =
     let outer = Before-split b in
     let inner = Before-split outer.2 in
@@ -194,14 +227,18 @@ comma_found : (bytes : List ℕ) → IfSome (comma_from bytes) (λ rest. Before 
 comma_found [] = tt
 comma_found (c ∷ cs) = by (c == 44) refl
   where
-    by : (b : Bool) → (c == 44) ≡ b → IfSome (cond b (Some (after_blanks cs)) None) (λ rest. Before (Text (codes ",") ⋅ Blanks) rest (c ∷ cs))
+    by : (b : Bool) → (c == 44) ≡ b → IfSome (cond b (Some (after_blanks cs)) None)
+        (λ rest. Before (Text (codes ",") ⋅ Blanks) rest (c ∷ cs))
     by false e = tt
-    by true e = Before-join (record { front = c ∷ []; first = ap (λ d. d ∷ []) (letter_comma c e); whole = refl }) (blanks_read cs)
+    by true e = Before-join (record { front = c ∷ []; first = ap (λ d. d ∷ []) (letter_comma c e); whole = refl })
+        (blanks_read cs)
 
 pub comma_read : (bytes : List ℕ) → IfSome (comma_at bytes) (λ rest. Before Comma rest bytes)
-comma_read bytes = some_map (λ rest. Before-join (blanks_read bytes)) (comma_at bytes) (comma_found (after_blanks bytes))
+comma_read bytes = some_map (λ rest. Before-join (blanks_read bytes)) (comma_at bytes)
+    (comma_found (after_blanks bytes))
 
-pub comma_again : (rest bytes : List ℕ) → Before Comma rest bytes → starts is_blank rest ≡ false → comma_at bytes ≡ Some rest
+pub comma_again : (rest bytes : List ℕ) → Before Comma rest bytes → starts is_blank rest ≡ false
+    → comma_at bytes ≡ Some rest
 comma_again rest bytes b s =
     let outer = Before-split b in
     let inner = Before-split outer.2 in
@@ -226,12 +263,15 @@ pub word_again : (front rest : List ℕ) → IsWord front → starts is_word_byt
     → (word_of (front ++ rest) ≡ front) × (after_word (front ++ rest) ≡ rest)
 word_again front rest h s = let e = word_over front rest h s in (word_of_over front rest e, e)
 
-word_split : (bytes : List ℕ) → (front : List ℕ) × IsWord front × (bytes ≡ front ++ after_word bytes) × (starts is_word_byte (after_word bytes) ≡ false)
+word_split : (bytes : List ℕ) → (front : List ℕ) × IsWord front × (bytes ≡ front ++ after_word bytes)
+    × (starts is_word_byte (after_word bytes) ≡ false)
 word_split [] = ([], tt, refl, refl)
 word_split (c ∷ cs) = by (is_word_byte c) refl (word_split cs)
   where
-    by : (b : Bool) → is_word_byte c ≡ b → ((front : List ℕ) × IsWord front × (cs ≡ front ++ after_word cs) × (starts is_word_byte (after_word cs) ≡ false))
-        → (front : List ℕ) × IsWord front × ((c ∷ cs) ≡ front ++ cond b (after_word cs) (c ∷ cs)) × (starts is_word_byte (cond b (after_word cs) (c ∷ cs)) ≡ false)
+    by : (b : Bool) → is_word_byte c ≡ b → ((front : List ℕ) × IsWord front × (cs ≡ front ++ after_word cs)
+        × (starts is_word_byte (after_word cs) ≡ false))
+        → (front : List ℕ) × IsWord front × ((c ∷ cs) ≡ front ++ cond b (after_word cs) (c ∷ cs))
+        × (starts is_word_byte (cond b (after_word cs) (c ∷ cs)) ≡ false)
     by true e r = (c ∷ r.0, (e, r.1), ap (λ t. c ∷ t) r.2, r.3)
     by false e r = ([], tt, refl, e)
 

@@ -17,7 +17,8 @@ fit-snoc : (bs : List Block) (b : Block) → AllFit bs → length b.ops ≤ 1000
 fit-snoc [] b h l = (l, tt)
 fit-snoc (x ∷ xs) b h l = (h.0, fit-snoc xs b h.1 l)
 
-fit-with_op : (op : Op) (bs : List Block) → AllFit bs → length (last_ops (with_op op bs)) ≤ 10000 → AllFit (with_op op bs)
+fit-with_op : (op : Op) (bs : List Block) → AllFit bs → length (last_ops (with_op op bs)) ≤ 10000
+    → AllFit (with_op op bs)
 fit-with_op op [] h l = tt
 fit-with_op op (x ∷ []) h l = (l, tt)
 fit-with_op op (x ∷ y ∷ []) h l = (h.0, (l, tt))
@@ -27,15 +28,18 @@ fit-with_label : (label : Option (List ℕ)) (bs : List Block) → AllFit bs →
 fit-with_label None bs h = h
 fit-with_label (Some name) bs h = fit-snoc bs (record { name = Some name; ops = [] }) h (omega arith)
 
-fit-with_optional : (op : Option Op) (bs : List Block) → AllFit bs → length (last_ops (with_optional_op op bs)) ≤ 10000 → AllFit (with_optional_op op bs)
+fit-with_optional : (op : Option Op) (bs : List Block) → AllFit bs → length (last_ops (with_optional_op op bs)) ≤ 10000
+    → AllFit (with_optional_op op bs)
 fit-with_optional None bs h l = h
 fit-with_optional (Some op) [] h l = (l, tt)
 fit-with_optional (Some op) (b ∷ bs) h l = fit-with_op op (b ∷ bs) h l
 
-fit-with_line : (label : Option (List ℕ)) (op : Option Op) (bs : List Block) → AllFit bs → length (last_ops (with_line label op bs)) ≤ 10000 → AllFit (with_line label op bs)
+fit-with_line : (label : Option (List ℕ)) (op : Option Op) (bs : List Block) → AllFit bs
+    → length (last_ops (with_line label op bs)) ≤ 10000 → AllFit (with_line label op bs)
 fit-with_line label op bs h l = fit-with_optional op (with_optional_label label bs) (fit-with_label label bs h) l
 
-all-front : {A : Type 0} (P : A → Type 0) (xs : List A) (x : A) → AllByRecursion P (xs ++ x ∷ []) → AllByRecursion P xs × P x
+all-front : {A : Type 0} (P : A → Type 0) (xs : List A) (x : A) → AllByRecursion P (xs ++ x ∷ []) → AllByRecursion P xs
+    × P x
 all-front P [] x h = (tt, h.0)
 all-front P (y ∷ ys) x h = let rest = all-front P ys x h.1 in ((h.0, rest.0), rest.1)
 

@@ -8,5 +8,6 @@ returns-in_default c =
     let line = c.split_line.result.0.now in (
       line,
       ap lines_of (sym c.after_blanks-rest.ensures) ∙ c.split_line.ensures,
-      first_ends c.after_blanks-rest.result.now line (lines_left c.split_line.result.1) (sym c.is_end.ensures ∙ c.if-is_end.true) c.split_line.ensures,
+      first_ends c.after_blanks-rest.result.now line (lines_left c.split_line.result.1) (sym c.is_end.ensures
+          ∙ c.if-is_end.true) c.split_line.ensures,
     )

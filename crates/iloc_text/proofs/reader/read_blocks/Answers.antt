@@ -22,14 +22,17 @@ overflow_add-number g c = omega (arith, progress_number c.loop-rest.invariant.pr
 
 pub returns-in-Err-Bad-clause-err : goal.returns-in-Err-Bad-clause-err
 returns-in-Err-Bad-clause-err g c = λ memory.
-    let here : Progress c.args.input.now c.loop-rest.invariant.read c.loop-rest.number (Some c.in-Some.text) = rw c.in-Some.is at c.loop-rest.invariant.progress in
-    let bad : FirstLine c.in-Some.text.now (Err Bad) = rw (c.in-Err-Bad.is, c.in-Err-Bad.field-0-is) at c.first_line.ensures in
+    let here : Progress c.args.input.now c.loop-rest.invariant.read c.loop-rest.number (Some c.in-Some.text) =
+    rw c.in-Some.is at c.loop-rest.invariant.progress in
+    let bad : FirstLine c.in-Some.text.now (Err Bad) =
+    rw (c.in-Err-Bad.is, c.in-Err-Bad.field-0-is) at c.first_line.ensures in
     fault_here here bad.0 bad.1 (faults.BadLine (c.loop-rest.number + 1))
     c.if-input-gt-MAX_INPUT.false bad.2 memory (λ e. cc) (refl, bad.3)
 
 pub returns-in-Err-NumberTooLarge-clause-err : goal.returns-in-Err-NumberTooLarge-clause-err
 returns-in-Err-NumberTooLarge-clause-err g c = λ memory.
-    let here : Progress c.args.input.now c.loop-rest.invariant.read c.loop-rest.number (Some c.in-Some.text) = rw c.in-Some.is at c.loop-rest.invariant.progress in
+    let here : Progress c.args.input.now c.loop-rest.invariant.read c.loop-rest.number (Some c.in-Some.text) =
+    rw c.in-Some.is at c.loop-rest.invariant.progress in
     let large : FirstLine c.in-Some.text.now (Err NumberTooLarge) =
     rw (c.in-Err-NumberTooLarge.is, c.in-Err-NumberTooLarge.field-0-is) at c.first_line.ensures in
     fault_here here large.0 large.1 (faults.NumberTooLarge (c.loop-rest.number + 1))
@@ -42,23 +45,28 @@ add_line-requires g c =
 
 pub returns-in_err-add_line-clause-err : goal.returns-in_err-add_line-clause-err
 returns-in_err-add_line-clause-err g c =
-    let here : Progress c.args.input.now c.loop-rest.invariant.read c.loop-rest.number (Some c.in-Some.text) = rw c.in-Some.is at c.loop-rest.invariant.progress in
+    let here : Progress c.args.input.now c.loop-rest.invariant.read c.loop-rest.number (Some c.in-Some.text) =
+    rw c.in-Some.is at c.loop-rest.invariant.progress in
     let first : FirstLine c.in-Some.text.now (Ok c.in-Ok.found) = rw c.in-Ok.is at c.first_line.ensures in
     let exit = err_from_is_err_and c.from_residual.result c.from_residual.ensures.1 in
     err_is_refused c.args.input.now c.from_residual.result c.in_err-add_line.field-0.0 (exit.1 ∙ ap (λ e. Err e) exit.2)
-    (λ memory. grown_here here first.0 c.in-Ok.found.1 c.in_err-add_line.field-0.0 (label_of c.in-Ok.found.0) c.in-Ok.found.0.op
+    (λ memory. grown_here here first.0 c.in-Ok.found.1 c.in_err-add_line.field-0.0 (label_of c.in-Ok.found.0)
+    c.in-Ok.found.0.op
     (HasTaken g.T.TakeBlocks.took c.args.taker.now c.add_line.new.taker c.add_line.new.self)
-    c.if-input-gt-MAX_INPUT.false first.1 first.2 (c.in_err-add_line.ensures c.args.taker.now c.loop-rest.invariant.read c.loop-rest.invariant.taken) memory)
+    c.if-input-gt-MAX_INPUT.false first.1 first.2
+    (c.in_err-add_line.ensures c.args.taker.now c.loop-rest.invariant.read c.loop-rest.invariant.taken) memory)
 
 pub loop-rest-preserved : goal.loop-rest-preserved
 loop-rest-preserved g c =
-    let here : Progress c.args.input.now c.loop-rest.invariant.read c.loop-rest.number (Some c.in-Some.text) = rw c.in-Some.is at c.loop-rest.invariant.progress in
+    let here : Progress c.args.input.now c.loop-rest.invariant.read c.loop-rest.number (Some c.in-Some.text) =
+    rw c.in-Some.is at c.loop-rest.invariant.progress in
     let first : FirstLine c.in-Some.text.now (Ok c.in-Ok.found) = rw c.in-Ok.is at c.first_line.ensures in
     let taken = c.in_ok-add_line.ensures c.args.taker.now c.loop-rest.invariant.read c.loop-rest.invariant.taken in
     record {
       read = with_line (label_of c.in-Ok.found.0) c.in-Ok.found.0.op c.loop-rest.invariant.read;
       taken = taken;
-      progress = progress_step here first.0 c.in-Ok.found.1 (label_of c.in-Ok.found.0) c.in-Ok.found.0.op first.1 first.2 (so_far_within taken.0 _ c.add_line.new.self taken.2);
+      progress = progress_step here first.0 c.in-Ok.found.1 (label_of c.in-Ok.found.0) c.in-Ok.found.0.op first.1
+          first.2 (so_far_within taken.0 _ c.add_line.new.self taken.2);
     }
 
 pub loop-rest-smaller : goal.loop-rest-smaller
@@ -68,7 +76,8 @@ loop-rest-smaller g c =
 
 pub returns-clause-ok : goal.returns-clause-ok
 returns-clause-ok g c =
-    let here : Progress c.args.input.now c.loop-rest.invariant.read c.loop-rest.number None = rw c.in_default.is at c.loop-rest.invariant.progress in (
+    let here : Progress c.args.input.now c.loop-rest.invariant.read c.loop-rest.number None =
+    rw c.in_default.is at c.loop-rest.invariant.progress in (
       c.loop-rest.invariant.read,
       progress_ends here c.if-input-gt-MAX_INPUT.false,
       c.in_ok-hand_over.ensures c.args.taker.now c.loop-rest.invariant.read c.loop-rest.invariant.taken,

@@ -4,14 +4,17 @@ use Rattle.iloc_text.specs.Registers.{used}
 use Rattle.iloc_text.proofs.Renaming.{at_most_two, by_places}
 use Rattle.iloc_text.proofs.registers.with_registers.Goals as goal
 
-places : (c : goal.After-with_operands) → c.args.uses.now ≡ take (length (used c.args.op.now)) (c.unwrap_or-left.result ∷ c.unwrap_or-right.result ∷ [])
+places : (c : goal.After-with_operands) → c.args.uses.now ≡ take (length (used c.args.op.now))
+    (c.unwrap_or-left.result ∷ c.unwrap_or-right.result ∷ [])
 places c =
     let uses = c.args.uses.now in
     let dest = c.args.dest in
     let left : c.unwrap_or-left.result ≡ get_or uses 0 dest =
-    c.unwrap_or-left.ensures ∙ ap (λ o. unwrap_or o dest) (c.copied.ensures ∙ c.first.ensures.value) ∙ unwrap_or-slice_get uses 0 dest in
+    c.unwrap_or-left.ensures ∙ ap (λ o. unwrap_or o dest) (c.copied.ensures ∙ c.first.ensures.value)
+    ∙ unwrap_or-slice_get uses 0 dest in
     let right : c.unwrap_or-right.result ≡ get_or uses (length uses - 1) dest =
-    c.unwrap_or-right.ensures ∙ ap (λ o. unwrap_or o dest) (c.copied-2.ensures ∙ c.last.ensures.value) ∙ unwrap_or-slice_get uses (length uses - 1) dest in
+    c.unwrap_or-right.ensures ∙ ap (λ o. unwrap_or o dest) (c.copied-2.ensures ∙ c.last.ensures.value)
+    ∙ unwrap_or-slice_get uses (length uses - 1) dest in
     rw (left, right) (by_places uses dest _ c.requires (at_most_two c.args.op.now))
 
 pub returns-clause-renamed : goal.returns-clause-renamed

@@ -10,7 +10,8 @@ use Rattle.iloc_text.proofs.open_block.OpenBlock.add_op.Goals.{then-self-eq0+in_
 pub returns-in_err-open : goal.returns-in_err-open
 returns-in_err-open g c = λ start blocks h.
     let exit = err_from_is_err_and c.from_residual.result c.from_residual.ensures.1 in
-    rw c.in-Some.is (unnamed_fails (HasTaken g.T.TakeBlocks.took start c.open.new.taker c.open.new.self) c.in-Some.op blocks c.args.number c.from_residual.result c.in_err-open.field-0.0
+    rw c.in-Some.is (unnamed_fails (HasTaken g.T.TakeBlocks.took start c.open.new.taker c.open.new.self) c.in-Some.op
+    blocks c.args.number c.from_residual.result c.in_err-open.field-0.0
     (h.2.count ∙ c.if-self-eq0.true) (exit.1 ∙ ap (λ e. Err e) exit.2) (c.in_err-open.ensures start blocks h))
 
 pub returns : goal.returns
@@ -18,7 +19,8 @@ returns g c = λ start blocks h.
     let took = g.T.TakeBlocks.took in
     let op = c.in-Some.op in
     let count = h.2.count in
-    let now : (bs : List Block) × HasTaken took start c.if-self-eq0.taker c.if-self-eq0.self bs × (0 < length bs) × (with_op op bs ≡ with_optional_op (Some op) blocks) =
+    let now : (bs : List Block) × HasTaken took start c.if-self-eq0.taker c.if-self-eq0.self bs × (0 < length bs)
+    × (with_op op bs ≡ with_optional_op (Some op) blocks) =
     elim c.if-self-eq0.branch [
       | then-self-eq0+in_ok-open w ↦ (
         opened None blocks,
@@ -32,5 +34,6 @@ returns g c = λ start blocks h.
           (blocks, rw (w.self-is, w.taker-is) h, some, sym (with_optional-some op blocks some))
           )
     ] in
-    rw (c.in-Some.is, ← now.3) (pushed_behind took start c.if-self-eq0.taker c.if-self-eq0.self c.push.new.self op now.0 c.args.number c.push.result now.1
+    rw (c.in-Some.is, ← now.3) (pushed_behind took start c.if-self-eq0.taker c.if-self-eq0.self c.push.new.self op now.0
+    c.args.number c.push.result now.1
     (λ done so_far. c.push.ensures done now.0 so_far now.2))

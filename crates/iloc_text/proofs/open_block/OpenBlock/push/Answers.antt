@@ -4,8 +4,10 @@ use Rattle.iloc_text.proofs.open_block.OpenBlock.push.Goals as goal
 
 pub returns-then-len-eq-MAX_OPS : goal.returns-then-len-eq-MAX_OPS
 returns-then-len-eq-MAX_OPS c = λ done blocks h some.
-    let above = pushed_above c.args.op done blocks c.args.self.now h some (sym c.len.ensures ∙ c.if-len-eq-MAX_OPS.true) in
+    let above = pushed_above c.args.op done blocks c.args.self.now h some (sym c.len.ensures
+    ∙ c.if-len-eq-MAX_OPS.true) in
     (refl, above.0, above.1)
 
 pub returns : goal.returns
-returns c = λ done blocks h some. pushed_so_far c.args.op done blocks c.args.self.now _ h some refl (ap (λ ops. record { name = c.args.self.now.block.name; ops = ops }) c.in_ok-push.ensures.ok)
+returns c = λ done blocks h some. pushed_so_far c.args.op done blocks c.args.self.now _ h some refl
+    (ap (λ ops. record { name = c.args.self.now.block.name; ops = ops }) c.in_ok-push.ensures.ok)
