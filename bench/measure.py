@@ -8,6 +8,7 @@ from dataclasses import dataclass
 
 HERE = os.path.dirname(os.path.abspath(__file__))
 PR_SET_CHILD_SUBREAPER = 36
+TURNS = 100
 # Starts the words behind the two paths and leaves it to be waited for by this program.
 START = 'given=$1; output=$2; shift 2; "$@" <"$given" >"$output" 2>"$output.err" & echo $!'
 
@@ -36,9 +37,9 @@ def adopt_orphans():
         sys.exit(f"{sys.argv[0]}: this system can't hand over the children of a shell")
 
 
-def run(words, given, output):
+def adopted(words, given, output):
     """Runs a program on the file `given`. A shell starts it, since a child of Python counts Python's memory as its
-    own."""
+    own. Raises ChildProcessError where the shell was the last to end and waited for the program itself."""
     start = time.perf_counter()
     shell = ["sh", "-c", START, "sh", given, output, *words]
     started = subprocess.run(shell, stdout=subprocess.PIPE, check=True)
@@ -46,6 +47,16 @@ def run(words, given, output):
     wall = time.perf_counter() - start
     return Result(os.waitstatus_to_exitcode(status), output, 1000 * wall,
                   1000 * (usage.ru_utime + usage.ru_stime), usage.ru_maxrss / 1024)
+
+
+def run(words, given, output):
+    """What a program does with the file `given`. It is run again where its shell was slower than itself."""
+    for _ in range(TURNS):
+        try:
+            return adopted(words, given, output)
+        except ChildProcessError:
+            pass
+    sys.exit(f"{sys.argv[0]}: the shell waits for {words[0]} each time")
 
 
 def build_baseline(folder):
