@@ -10,6 +10,7 @@ pub data Lead : Type 0 where
   comma : Lead
   arrow : Lead
 
+-- what is written in its place: a register, or a constant, an offset or an address
 pub data Value : Type 0 where
   register : Reg → Value
   number : ℕ → Value
@@ -45,6 +46,7 @@ opcode op = (form op).0
 abbrev pub operands : Op → List Operand
 operands op = (form op).1
 
+-- the number that is written there, a register's or the constant itself
 abbrev pub number_of : Operand → ℕ
 number_of (lead ▹ register r) = r.0
 number_of (lead ▹ number n) = n

@@ -53,6 +53,7 @@ Arrow = Blanks ⋅ Text (codes "=>") ⋅ Blanks
 abbrev pub Comma : List ℕ → Type 0
 Comma = Blanks ⋅ Text (codes ",") ⋅ Blanks
 
+-- what stands before an operand: one blank or more, a comma, or an arrow
 abbrev pub LeadText : Lead → List ℕ → Type 0
 LeadText space = SomeBlanks
 LeadText comma = Comma
@@ -62,11 +63,12 @@ abbrev pub ValueText : Value → List ℕ → Type 0
 ValueText (register r) = Register r
 ValueText (number n) = Number n
 
+-- the operands in order, each behind what stands before it
 abbrev pub OperandsText : List Operand → List ℕ → Type 0
 OperandsText [] = Text []
 OperandsText (lead ▹ value ∷ more) = LeadText lead ⋅ ValueText value ⋅ OperandsText more
 
--- an operation, with numbers however large
+-- an operation, with numbers however large: its opcode and its operands
 abbrev pub Operation : Op → List ℕ → Type 0
 Operation op = Text (opcode op) ⋅ OperandsText (operands op)
 

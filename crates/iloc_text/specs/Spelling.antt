@@ -7,6 +7,7 @@ use Rattle.iloc_text.specs.Forms.Lead.{space, comma, arrow}
 use Rattle.iloc_text.specs.Forms.Value.{register, number}
 use Rattle.iloc_text.specs.Forms.Operand.{◌▹◌}
 
+-- one space, a comma and a space, or ` => `
 abbrev pub spelled_lead : Lead → List ℕ
 spelled_lead space = codes " "
 spelled_lead comma = codes ", "
@@ -21,5 +22,6 @@ abbrev pub spelled_operands : List Operand → List ℕ
 spelled_operands [] = []
 spelled_operands (lead ▹ value ∷ more) = spelled_lead lead ++ (spelled_value value ++ spelled_operands more)
 
+-- the opcode, one space after it, a comma and a space between two sources and before an offset, ` => ` before the target
 abbrev pub spelling : Op → List ℕ
 spelling op = opcode op ++ spelled_operands (operands op)
