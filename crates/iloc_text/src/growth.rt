@@ -28,7 +28,7 @@ fn text_of(bytes: &[u8]) -> &str
 }
 
 /// Writes the new name, if there is one, into the room of the old one.
-fn rename(alloc: Global, name: &mut Option<Name>, text: Option<&str>) -> Result<(), NoMemory>
+fn set_name(alloc: Global, name: &mut Option<Name>, text: Option<&str>) -> Result<(), NoMemory>
     ensures { OnOk result (name.new ≡ option_copied text.entry) }
 {
     let Some(text) = text else {
@@ -80,7 +80,7 @@ impl OpenBlock {
         self.hand_over(alloc, taker)?;
         self.count += 1;
         self.block.ops.clear();
-        rename(alloc, &mut self.block.name, name)?;
+        set_name(alloc, &mut self.block.name, name)?;
         Ok(())
     }
 
