@@ -4,44 +4,28 @@ ghost use Rattle.iloc_sched.specs.Renaming.{IsRenamed};
 use super::*;
 use crate::delay_pairs::pairs;
 use crate::renaming::rename;
-use iloc_text::{Block, MAX_OPS, Ops, Reg};
+use iloc_text::{Block, MAX_OPS, Ops, Reg, read_file};
 use std::test::Fail;
+
+/// The priorities of the one block of a text.
+fn priorities_of(alloc: Global, text: &[u8], latencies: &Latencies) -> Result<Vec<u64>, Fail> {
+    let file = read_file(alloc, text)?;
+    let block = file.blocks.as_slice().first().ok_or("no block")?;
+    if block.ops.len() > MAX_OPS {
+        return Err(Fail::from("too many operations"));
+    }
+    let ops = rename(alloc, block)?;
+    Ok(priorities(alloc, &ops, latencies)?)
+}
 
 #[test]
 fn takes_the_longest_way(rt: HostRuntime) -> Result<(), Fail> {
-    let ops = [
-        Op::LoadI {
-            value: 4,
-            dest: Reg(0),
-        },
-        Op::LoadI {
-            value: 8,
-            dest: Reg(1),
-        },
-        Op::Mult {
-            left: Reg(0),
-            right: Reg(1),
-            dest: Reg(2),
-        },
-        Op::Load {
-            addr: Reg(0),
-            dest: Reg(3),
-        },
-        Op::Add {
-            left: Reg(2),
-            right: Reg(3),
-            dest: Reg(4),
-        },
-        Op::Store {
-            value: Reg(4),
-            addr: Reg(1),
-        },
-        Op::Output { addr: 8 },
-    ];
-    let usual = priorities(rt.alloc(), &ops, &Latencies::usual())?;
+    let block =
+        b"loadI 4 => r0\nloadI 8 => r1\nmult r0, r1 => r2\nload r0 => r3\nadd r2, r3 => r4\nstore r4 => r1\noutput 8\n";
+    let usual = priorities_of(rt.alloc(), block, &Latencies::usual())?;
     assert_eq!(rt; usual.as_slice(), [13, 11, 10, 12, 7, 6, 1].as_slice());
     let short = Latencies::new(1, 1, 1).ok_or("latencies")?;
-    let few = priorities(rt.alloc(), &ops, &short)?;
+    let few = priorities_of(rt.alloc(), block, &short)?;
     assert_eq!(rt; few.as_slice(), [5, 5, 4, 4, 3, 2, 1].as_slice());
     Ok(())
 }
