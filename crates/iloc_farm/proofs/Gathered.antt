@@ -4,6 +4,7 @@ use Rattle.std.specs.List.{All, Contains, list_any, range_with_len}
 use Rattle.std.proofs.lemmas.List.{length-map}
 use Rattle.std.proofs.lemmas.List.Elements.{All-head, All-map, All-same, All-weaker}
 use Rattle.std.proofs.lemmas.List.FromFn.{get_or-range_with_len, length-range_with_len}
+use Rattle.std.proofs.lemmas.Simd.{map-map}
 use Rattle.iloc_board.specs.Core.{is_holding}
 use Rattle.iloc_board.specs.Journal.{JournalView, state_of, saw_none}
 use Rattle.iloc_board.specs.Working.{IsDone}
@@ -27,14 +28,10 @@ whole_in js made e h some_made = record {
       omega (arith, length-map js (λ (j : JournalView). j.worker), length-range_with_len 0 made));
 }
 
-map-map : {A B C : Type 0} (f : A → B) (g : B → C) (xs : List A) → map g (map f xs) ≡ map (λ x. g (f x)) xs
-map-map f g [] = refl
-map-map f g (x ∷ xs) = ap (λ t. g (f x) ∷ t) (map-map f g xs)
-
 -- what was gathered of passes that are all done
 pub whole : {W : Type 0} (f : W → JournalView) (ws : List W) (js : List JournalView) (made : ℕ) → js ≡ map f ws
     → map (λ w. (f w).worker) ws ≡ range_with_len 0 made → All (λ w. IsDone (f w)) ws → 0 < made → IsWhole made js
 whole f ws js made e n h some_made =
     whole_in js made (ap (λ t. map (λ (j : JournalView). j.worker) t) e
-    ∙ (map-map f (λ (j : JournalView). j.worker) ws ∙ n)) (All-same IsDone js (map f ws) e (All-map IsDone f ws h))
+    ∙ (map-map (λ (j : JournalView). j.worker) f ws ∙ n)) (All-same IsDone js (map f ws) e (All-map IsDone f ws h))
     some_made

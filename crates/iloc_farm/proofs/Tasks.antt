@@ -1,6 +1,6 @@
 -- Lists of tasks, of what they gave, and of journals.
 use Rattle.std.proofs.Common.{◌≡◌, ℕ, zero, suc, ◌+◌, ◌<◌, List, [], ◌∷◌, ◌++◌, map, length, refl, ap, sym, ◌∙◌, subst, arith}
-use Rattle.std.specs.Prelude.{slice_index_or, Result, Ok, Err, OnOk}
+use Rattle.std.specs.Prelude.{slice_index_or}
 use Rattle.std.proofs.lemmas.List.{append_assoc, map-append}
 use Rattle.std.specs.List.{All, AllZip, range_with_len}
 use Rattle.std.proofs.lemmas.List.Elements.{All-nil, All-cons, All-head, All-tail, All-same, All-push}
@@ -77,8 +77,3 @@ module _ {S : Type 0} where
   pub done_all : (P : S → Type 0) (rest whole : List S) → length rest ≡ 0 → (All P rest → All P whole) → All P whole
   done_all P [] whole e h = h (All-nil P)
   done_all P (x ∷ rest) whole e h = absurd (omega arith)
-
--- what follows from what an `Ok` tells
-pub on_ok : {T E : Type 0} (P Q : Type 0) → (P → Q) → (r : Result T E) → OnOk r P → OnOk r Q
-on_ok P Q f (Ok x) h = f h
-on_ok P Q f (Err e) h = tt

@@ -1,5 +1,6 @@
 use Rattle.std.proofs.Common.{◌≡◌, ap, ◌∙◌, sym, refl, OnOk, ◌++◌, map, length}
 use Rattle.std.proofs.lemmas.List.Elements.{All-rest, All-same}
+use Rattle.std.proofs.lemmas.Result.{on_ok_weaker}
 use Rattle.iloc_board.specs.Working.{IsDone}
 use Rattle.iloc_farm.specs.declared.shift.Worked.{Worked}
 use Rattle.iloc_farm.proofs.Tasks as rows
@@ -41,10 +42,10 @@ loop-shift-preserved g c =
       own = c.in_default.ensures.own;
       made = c.in_default.ensures.made ∙ c.loop-shift.invariant.made;
       each = All-rest ready _ _ _ c.in-Some.ensures.steps.0 c.loop-shift.invariant.each;
-      gathered = rows.on_ok _ _ (λ h. rows.gathered_more (λ w. w.pass.journal) _ _ _ _ _ _ h c.in_default.ensures.ok.0
-          c.in-Some.ensures.steps.0) c.loop-shift.all c.loop-shift.invariant.gathered;
-      done = rows.on_ok _ _ (λ h. rows.done_more done _ _ _ _ h c.in_default.ensures.ok.1 c.in-Some.ensures.steps.0)
-          c.loop-shift.all c.loop-shift.invariant.done;
+      gathered = on_ok_weaker c.loop-shift.all (λ h. rows.gathered_more (λ w. w.pass.journal) _ _ _ _ _ _ h
+          c.in_default.ensures.ok.0 c.in-Some.ensures.steps.0) c.loop-shift.invariant.gathered;
+      done = on_ok_weaker c.loop-shift.all (λ h. rows.done_more done _ _ _ _ h c.in_default.ensures.ok.1
+          c.in-Some.ensures.steps.0) c.loop-shift.invariant.done;
     }
 
 pub returns-clause-done : goal.returns-clause-done
@@ -52,4 +53,4 @@ returns-clause-done g c =
     let done = λ (w : Worked g.row.J.Denot g.row.J-Answer.Denot). IsDone w.pass.journal in
     let rest = c.loop-shift.shift-iterator.rest in
     let none : length rest.items ≡ 0 = sym rest.ok.0 ∙ c.in-None.ensures.steps.0 in
-    rows.on_ok _ _ (rows.done_all done rest.items _ none) c.loop-shift.all c.loop-shift.invariant.done
+    on_ok_weaker c.loop-shift.all (rows.done_all done rest.items _ none) c.loop-shift.invariant.done
