@@ -1,4 +1,4 @@
-// Jobs whose answers are small numbers.
+//! Jobs whose answers are small numbers.
 ghost use Rattle.std.specs.Prelude.{◌≡◌, ◌+◌, ◌≤◌};
 
 use crate::fault::NoMemory;
@@ -6,7 +6,7 @@ use crate::jobs::Jobs;
 use std::alloc::Global;
 use std::cell::Cell;
 
-// The answer to the job i is 10 + i, at that cost.
+/// The answer to the job i is 10 + i, at that cost.
 #[derive(Drop)]
 pub struct Tens {
     pub count: u32,
@@ -35,7 +35,7 @@ impl Jobs for Tens {
     }
 }
 
-// The same, and an answer to the job `refused` is refused once.
+/// The same, and an answer to the job `refused` is refused once.
 #[derive(Drop)]
 pub struct Refusing {
     pub tens: Tens,
