@@ -25,6 +25,3 @@ pub use pass::{Pass, Root};
 pub use state::State;
 pub use step::{Reply, Step};
 pub use worker::work;
-
-#[cfg(test)]
-mod tests;

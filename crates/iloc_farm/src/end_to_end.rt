@@ -113,6 +113,3 @@ pub fn run<H: Threads + Wait + Sync, R: Read, W: Write>(
     write_text(writer, &text)?;
     Ok(())
 }
-
-#[cfg(test)]
-mod tests;

@@ -44,6 +44,3 @@ pub fn schedule_all<R: Threads + Wait + Sync, G: Gate + Sync>(
     let collected = answer_all(rt, alloc, &jobs, workers, gate)?;
     Ok(collected.answers)
 }
-
-#[cfg(test)]
-mod tests;

@@ -6,16 +6,12 @@ mod block_jobs;
 mod crew;
 mod device;
 mod end_to_end;
-#[cfg(test)]
-mod fakes;
 mod farm;
 mod fault;
 mod initial;
 mod listing;
 mod outcomes;
 mod program;
-#[cfg(test)]
-mod refusals;
 mod runner;
 mod shift;
 mod task;

@@ -175,6 +175,3 @@ fn tell_named<F: Write, D: Display>(faults: &mut F, fault: &D) -> Result<(), Wri
         Err(_) => Err(WriteFailed),
     }
 }
-
-#[cfg(test)]
-mod tests;

@@ -5,8 +5,6 @@ mod command;
 mod fault;
 mod line;
 mod request;
-#[cfg(test)]
-mod tests;
 
 pub use fault::{LineFault, line_status};
 pub use line::parse_line;

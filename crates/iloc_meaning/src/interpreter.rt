@@ -74,6 +74,3 @@ impl Interpreter {
         }
     }
 }
-
-#[cfg(test)]
-mod tests;

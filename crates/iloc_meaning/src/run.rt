@@ -17,6 +17,3 @@ pub fn run_block(alloc: Global, block: &Block, memory: Memory) -> Result<Outcome
     interpreter.run(block)?;
     Ok(interpreter.into_outcome())
 }
-
-#[cfg(test)]
-mod tests;

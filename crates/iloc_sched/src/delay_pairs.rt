@@ -124,6 +124,3 @@ pub fn pairs(alloc: Global, ops: &[Op], latencies: &Latencies) -> Result<Vec<Pai
     }
     Ok(pairs)
 }
-
-#[cfg(test)]
-mod tests;

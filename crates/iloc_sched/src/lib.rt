@@ -15,8 +15,6 @@ mod plan;
 mod priority;
 mod queue;
 mod queues;
-#[cfg(test)]
-mod refusals;
 mod renaming;
 mod scheduler;
 mod waiting;

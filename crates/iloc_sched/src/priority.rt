@@ -52,6 +52,3 @@ pub fn priorities(alloc: Global, ops: &[Op], latencies: &Latencies) -> Result<Ve
     let edges = Edges::of(alloc, ops, latencies)?;
     priorities_by(alloc, &edges, ops, latencies)
 }
-
-#[cfg(test)]
-mod tests;

@@ -114,6 +114,3 @@ pub fn rename(alloc: Global, block: &Block) -> Result<Vec<Op>, NoMemory>
     }
     Ok(renamed)
 }
-
-#[cfg(test)]
-mod tests;

@@ -61,6 +61,3 @@ pub fn schedule(alloc: Global, block: &Block, latencies: &Latencies) -> Result<S
     let rows = greedy_rows(alloc, &plan)?;
     Ok(Schedule::of_table(plan.ops, rows))
 }
-
-#[cfg(test)]
-mod tests;

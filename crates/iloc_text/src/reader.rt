@@ -78,6 +78,3 @@ pub fn read_file(alloc: Global, input: &[u8]) -> Result<IlocFile, ReadFault>
         blocks: Blocks::new(copies.blocks),
     })
 }
-
-#[cfg(test)]
-mod tests;

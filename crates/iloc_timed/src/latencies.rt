@@ -50,6 +50,3 @@ impl Latencies {
         }
     }
 }
-
-#[cfg(test)]
-mod tests;

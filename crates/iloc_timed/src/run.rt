@@ -27,6 +27,3 @@ pub fn run_schedule(
     simulator.run(schedule, latencies)?;
     Ok(simulator.into_outcome())
 }
-
-#[cfg(test)]
-mod tests;

@@ -79,6 +79,3 @@ impl Schedule {
         self.rows.as_slice()
     }
 }
-
-#[cfg(test)]
-mod tests;

@@ -78,6 +78,3 @@ impl Simulator {
         }
     }
 }
-
-#[cfg(test)]
-mod tests;

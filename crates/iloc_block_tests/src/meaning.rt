@@ -1,0 +1,3 @@
+mod effect;
+mod interpreter;
+mod run;

@@ -1,0 +1,5 @@
+mod delay_pairs;
+mod priority;
+mod refusals;
+mod renaming;
+mod scheduler;

@@ -1,0 +1,4 @@
+mod file;
+mod reader;
+mod registers;
+mod spelling;

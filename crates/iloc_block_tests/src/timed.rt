@@ -1,0 +1,4 @@
+mod latencies;
+mod run;
+mod schedule;
+mod simulator;

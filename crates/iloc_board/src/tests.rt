@@ -1,6 +1,0 @@
-mod board;
-mod gate;
-mod machine;
-mod refusals;
-mod tens;
-mod threads;

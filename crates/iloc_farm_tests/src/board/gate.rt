@@ -1,0 +1,116 @@
+ghost use Rattle.std.specs.Prelude.{◌≡◌, false};
+ghost use Rattle.iloc_board.specs.declared.state.State.TheVariants as about;
+ghost use Rattle.iloc_board.specs.Core.{is_holding};
+ghost use Rattle.iloc_board.specs.Views.{state};
+
+use super::tens::Tens;
+use iloc_board::{Board, Gate, Pass, Seen, work};
+use std::alloc::Global;
+use std::cell::Cell;
+use std::test::*;
+
+#[derive(Clone, Copy, Debug, PartialEq, Eq)]
+enum Call {
+    Looked,
+    Took,
+}
+
+// A call of the gate, with the job that was next just then.
+#[derive(Clone, Copy, Debug, PartialEq, Eq)]
+struct Told {
+    call: Call,
+    worker: u32,
+    job: u32,
+    next: Seen,
+}
+
+// Writes down what a gate is told, and looks each time by a pass of its own.
+#[derive(Drop)]
+struct Witness<'b, 'a> {
+    board: &'b Board<'a, Tens>,
+    pass: Pass<'a, Tens>,
+    told: Vec<Told>,
+    ghost own: { pass.board ≡ board.now },
+    ghost idle: { is_holding (state pass) ≡ false },
+}
+
+impl Witness<'_, '_> {
+    /// For want of memory the note is missing.
+    fn note(&mut self, call: Call, worker: u32, job: u32) {
+        let next = self.board.look(&mut self.pass);
+        let _ = self.told.push(Told {
+            call,
+            worker,
+            job,
+            next,
+        });
+    }
+}
+
+struct Witnessed<'b, 'a>(Cell<Option<Witness<'b, 'a>>>);
+
+impl Witnessed<'_, '_> {
+    fn note(&self, call: Call, worker: u32, job: u32) {
+        if let Some(mut witness) = self.0.take() {
+            witness.note(call, worker, job);
+            self.0.set(Some(witness));
+        }
+    }
+}
+
+impl Gate for Witnessed<'_, '_> {
+    fn after_look(&self, worker: u32, k: u32) {
+        self.note(Call::Looked, worker, k);
+    }
+
+    fn after_take(&self, worker: u32, k: u32) {
+        self.note(Call::Took, worker, k);
+    }
+}
+
+/// What the gate is told while the pass works.
+fn calls<'b, 'a>(
+    alloc: Global,
+    board: &'b Board<'a, Tens>,
+    bystander: Pass<'a, Tens>,
+    pass: &mut Pass<'a, Tens>,
+) -> Result<Vec<Told>, Fail>
+    requires bystander { (bystander.board ≡ board.now) × (is_holding (state bystander) ≡ false) }
+    requires pass { (pass.old.board ≡ board.now) × (state pass.old ≡ about.Free) }
+{
+    let witness = Witness {
+        board,
+        pass: bystander,
+        told: Vec::new(alloc),
+    };
+    let gate = Witnessed(Cell::new(Some(witness)));
+    let done = work(board, pass, &gate);
+    let Witnessed(cell) = gate;
+    let Witness { told, .. } = cell.into_inner().ok_or("the witness is gone")?;
+    done?;
+    Ok(told)
+}
+
+#[test]
+fn the_gate_is_told_of_each_look_and_each_take(rt: HostRuntime) -> Result<(), Fail> {
+    let jobs = Tens { count: 2 };
+    let (board, mut root) = Board::new(rt.alloc(), &jobs, 3)?;
+    let bystander = board.pass(&mut root);
+    let _idle = board.pass(&mut root);
+    let mut pass = board.pass(&mut root);
+    let told = calls(rt.alloc(), &board, bystander, &mut pass)?;
+    let call = |call, job, next| Told {
+        call,
+        worker: 2,
+        job,
+        next,
+    };
+    let expected = [
+        call(Call::Looked, 0, Seen::Block(0)),
+        call(Call::Took, 0, Seen::Block(1)),
+        call(Call::Looked, 1, Seen::Block(1)),
+        call(Call::Took, 1, Seen::NoneLeft),
+    ];
+    assert_eq!(rt; told.as_slice(), &expected[..]);
+    Ok(())
+}

@@ -1,0 +1,5 @@
+mod end_to_end;
+mod fakes;
+mod program;
+mod refusals;
+mod threads;

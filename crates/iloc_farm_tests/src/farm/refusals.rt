@@ -1,0 +1,100 @@
+//! The run of each task, where a growth is refused: it answers want of memory or of a thread, nothing is written, and a
+//! second try ends well. To be run with each growth refused in turn.
+use super::fakes::{Sink, giving};
+use iloc_farm::{FarmFault, RunFault, run};
+use iloc_line::{Request, parse_line};
+use std::alloc::Global;
+use std::process::Abort;
+use std::sync::Wait;
+use std::test::Fail;
+use std::thread::Threads;
+
+const SMALL: &[u8] = b"loadI 4 => r1\nstore r1 => r1\nB: output 4\n";
+
+const BLOCK: &[u8] =
+    b"B:\nloadI 4 => r1\nload r1 => r2\nmult r1, r2 => r3\nstore r3 => r1\noutput 4\n";
+
+/// A writer with room for any listing here, so that it takes no memory itself.
+fn roomy(alloc: Global) -> Result<Sink, Fail> {
+    Ok(Sink {
+        taken: Vec::with_capacity(alloc, 1 << 16)?,
+        at_once: usize::MAX,
+        room: usize::MAX,
+        flushes: true,
+        flushed: None,
+    })
+}
+
+/// What a run lists, at its second try where a growth was refused at the first.
+fn listed<H: Abort + AllocGlobal + Threads + Wait + Sync>(
+    rt: &H,
+    request: &Request,
+    input: &[u8],
+) -> Result<Vec<u8>, Fail> {
+    let alloc = rt.alloc();
+    let mut writer = roomy(alloc)?;
+    if let Err(fault) = run(rt, alloc, &mut giving(input), &mut writer, request) {
+        assert!(rt;
+            matches!(
+                fault,
+                RunFault::Farm(FarmFault::NoMemory | FarmFault::NoThread)
+            )
+        );
+        assert!(rt; writer.taken.is_empty());
+        run(rt, alloc, &mut giving(input), &mut writer, request)?;
+    }
+    Ok(writer.taken)
+}
+
+/// Asserts what each task lists of the input.
+fn assert_listed<H: Abort + AllocGlobal + Threads + Wait + Sync>(
+    rt: &H,
+    cases: &[(&[&str], &[u8])],
+    input: &[u8],
+) -> Result<(), Fail> {
+    for (words, listing) in cases {
+        let request = parse_line(rt.alloc(), words)?;
+        assert_eq!(rt; listed(rt, &request, input)?.as_slice(), *listing);
+    }
+    Ok(())
+}
+
+#[test]
+fn lists_a_small_file(rt: HostRuntime) -> Result<(), Fail> {
+    let cases: [(&[&str], &[u8]); 4] = [
+        (&["run", "--at", "4", "9"], b"block 1 -\nblock 2 B\n9\n"),
+        (
+            &["simulate", "--at", "4", "9"],
+            b"block 1 -\nblock 2 B\n9\n",
+        ),
+        (
+            &["schedule", "--workers", "1"],
+            b"block 1 -\n[ loadI 4 => r0 ; nop ]\n[ store r0 => r0 ; nop ]\ncycles 6\nblock 2 B\n[ output 4 ; nop ]\ncycles 1\ntotal 7\n",
+        ),
+        (
+            &["counts", "--workers", "8"],
+            b"block 1 - cycles 6\nblock 2 B cycles 1\ntotal 7\n",
+        ),
+    ];
+    assert_listed(&rt, &cases, SMALL)
+}
+
+/// So many copies of the bytes, one behind the other.
+fn repeated(alloc: Global, part: &[u8], count: usize) -> Result<Vec<u8>, Fail> {
+    let mut whole = Vec::new(alloc);
+    for _ in 0..count {
+        whole.extend_from_slice(part)?;
+    }
+    Ok(whole)
+}
+
+#[test]
+fn schedules_a_middling_file(rt: HostRuntime) -> Result<(), Fail> {
+    let alloc = rt.alloc();
+    let input = repeated(alloc, BLOCK, 40)?;
+    let request = parse_line(alloc, &["counts", "--workers", "3"])?;
+    let text = String::from_utf8(listed(&rt, &request, &input)?)?;
+    assert_eq!(rt; text.as_str().lines().count(), 41);
+    assert!(rt; text.as_str().ends_with("block 40 B cycles 15\ntotal 600\n"));
+    Ok(())
+}

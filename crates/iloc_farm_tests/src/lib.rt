@@ -1,0 +1,10 @@
+//! The tests of the board, the command line and the farm, by their public calls. They stand apart so that each crate
+//! is proved once, and not a second time beside its tests.
+#![tactic(auto)]
+
+#[cfg(test)]
+mod board;
+#[cfg(test)]
+mod farm;
+#[cfg(test)]
+mod line;
