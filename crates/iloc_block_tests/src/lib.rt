@@ -5,6 +5,10 @@
 #[cfg(test)]
 mod meaning;
 #[cfg(test)]
+mod operations;
+#[cfg(test)]
+mod rows;
+#[cfg(test)]
 mod sched;
 #[cfg(test)]
 mod text;

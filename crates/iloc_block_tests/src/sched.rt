@@ -2,4 +2,5 @@ mod delay_pairs;
 mod priority;
 mod refusals;
 mod renaming;
+mod sample;
 mod scheduler;

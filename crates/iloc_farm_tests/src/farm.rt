@@ -2,4 +2,5 @@ mod end_to_end;
 mod fakes;
 mod program;
 mod refusals;
+mod sample;
 mod threads;

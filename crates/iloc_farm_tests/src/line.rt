@@ -219,7 +219,8 @@ fn help(alloc: Global, words: &[&str]) -> Result<String, Fail> {
     }
 }
 
-const HELP: &str = "List scheduler and simulator for ILOC blocks, which it reads from standard input
+pub(crate) const HELP: &str =
+    "List scheduler and simulator for ILOC blocks, which it reads from standard input
 
 Usage: ilocfarm <COMMAND>
 

@@ -1,3 +1,4 @@
+use crate::operations::{Run, counting, output, set, store};
 use iloc_meaning::{Interpreter, Memory, Outcome, Words};
 use iloc_text::{Block, NoMemory, Op, Ops, Reg};
 use std::alloc::Global;
@@ -21,28 +22,17 @@ fn block(alloc: Global, ops: &[Op]) -> Result<Block, NoMemory> {
     })
 }
 
-fn set(dest: Reg, value: u32) -> Op {
-    Op::LoadI { value, dest }
-}
-
-fn store(value: Reg, addr: Reg) -> Op {
-    Op::Store { value, addr }
-}
-
-fn output(addr: u32) -> Op {
-    Op::Output { addr }
-}
-
-/// Runs these operations, and asserts what they emit, or that they fault.
-fn assert_run(
+/// Runs these operations as one block after another, and asserts what each emits.
+fn assert_runs(
     rt: &impl Abort,
     alloc: Global,
     interpreter: &mut Interpreter,
-    ops: &[Op],
-    outputs: Option<&[i32]>,
+    runs: &[Run],
 ) -> Result<(), Fail> {
-    interpreter.run(&block(alloc, ops)?)?;
-    assert!(rt; interpreter.outputs() == outputs, "{ops:?}");
+    for (ops, outputs) in runs {
+        interpreter.run(&block(alloc, ops)?)?;
+        assert!(rt; interpreter.outputs() == *outputs, "{ops:?}");
+    }
     Ok(())
 }
 
@@ -67,8 +57,8 @@ fn a_block_sees_no_register_of_the_one_before(rt: HostRuntime) -> Result<(), Fai
             output(4),
         ];
         let read = [set(addr, 4), store(register, addr), output(4)];
-        assert_run(&rt, alloc, &mut interpreter, &write, Some(&[5]))?;
-        assert_run(&rt, alloc, &mut interpreter, &read, Some(&[0]))?;
+        let runs: [Run; 2] = [(&write, Some(&[5])), (&read, Some(&[0]))];
+        assert_runs(&rt, alloc, &mut interpreter, &runs)?;
     }
     Ok(())
 }
@@ -88,7 +78,8 @@ fn registers_at_the_bound_are_apart(rt: HostRuntime) -> Result<(), Fail> {
         store(Reg(0), Reg(8)),
         output(0),
     ];
-    assert_run(&rt, alloc, &mut interpreter, &ops, Some(&[1, 2, 3]))
+    let runs: [Run; 1] = [(&ops, Some(&[1, 2, 3]))];
+    assert_runs(&rt, alloc, &mut interpreter, &runs)
 }
 
 #[test]
@@ -104,25 +95,23 @@ fn a_block_sees_no_word_of_the_one_before(rt: HostRuntime) -> Result<(), Fail> {
         output(65_532),
     ];
     let read = [output(8), output(65_532), output(4)];
-    assert_run(&rt, alloc, &mut interpreter, &read, Some(&[7, -9, 0]))?;
-    assert_run(&rt, alloc, &mut interpreter, &write, Some(&[8, 8]))?;
-    assert_run(&rt, alloc, &mut interpreter, &read, Some(&[7, -9, 0]))?;
-    assert_run(&rt, alloc, &mut interpreter, &[], Some(&[]))
+    let runs: [Run; 4] = [
+        (&read, Some(&[7, -9, 0])),
+        (&write, Some(&[8, 8])),
+        (&read, Some(&[7, -9, 0])),
+        (&[], Some(&[])),
+    ];
+    assert_runs(&rt, alloc, &mut interpreter, &runs)
 }
 
 #[test]
 fn one_word_is_written_many_times(rt: HostRuntime) -> Result<(), Fail> {
     let alloc = rt.alloc();
     let mut interpreter = Interpreter::new(alloc, memory(alloc)?)?;
-    let mut ops = vec![in alloc; set(Reg(1), 8)]?;
-    for value in 0..1_000 {
-        ops.push(set(Reg(2), value))?;
-        ops.push(store(Reg(2), Reg(1)))?;
-    }
-    ops.push(output(8))?;
+    let (ops, read) = (counting(alloc, 1_000)?, [output(8)]);
     for _ in 0..3 {
-        assert_run(&rt, alloc, &mut interpreter, &ops, Some(&[999]))?;
-        assert_run(&rt, alloc, &mut interpreter, &[output(8)], Some(&[7]))?;
+        let runs: [Run; 2] = [(&ops, Some(&[999])), (&read, Some(&[7]))];
+        assert_runs(&rt, alloc, &mut interpreter, &runs)?;
     }
     Ok(())
 }
@@ -139,9 +128,8 @@ fn a_fault_leaves_nothing(rt: HostRuntime) -> Result<(), Fail> {
         output(8),
     ];
     let read = [output(8), store(Reg(1), Reg(0)), output(0)];
-    assert_run(&rt, alloc, &mut interpreter, &faults, None)?;
-    assert_run(&rt, alloc, &mut interpreter, &read, Some(&[7, 0]))?;
-    assert_run(&rt, alloc, &mut interpreter, &faults, None)?;
+    let runs: [Run; 3] = [(&faults, None), (&read, Some(&[7, 0])), (&faults, None)];
+    assert_runs(&rt, alloc, &mut interpreter, &runs)?;
     assert!(rt; interpreter.into_outcome() == Outcome::Fault);
     Ok(())
 }
@@ -159,8 +147,8 @@ fn the_outcome_has_the_last_memory(rt: HostRuntime) -> Result<(), Fail> {
         store(Reg(2), Reg(1)),
         output(4),
     ];
-    assert_run(&rt, alloc, &mut interpreter, &other, Some(&[]))?;
-    assert_run(&rt, alloc, &mut interpreter, &ops, Some(&[8]))?;
+    let runs: [Run; 2] = [(&other, Some(&[])), (&ops, Some(&[8]))];
+    assert_runs(&rt, alloc, &mut interpreter, &runs)?;
     let expected = Outcome::Finished {
         outputs: Words::new(vec![in alloc; 8]?),
         memory: last,
@@ -181,20 +169,8 @@ fn a_refused_run_can_be_repeated(rt: HostRuntime) -> Result<(), Fail> {
         store(Reg(5_000), Reg(1)),
         output(8),
     ];
-    let writes = block(alloc, &ops)?;
-    let reads = block(alloc, &[output(8)])?;
-    let refused = interpreter.run(&writes).is_err();
-    interpreter.run(&reads)?;
-    assert_eq!(rt;
-        interpreter.outputs(),
-        Some([7].as_slice()),
-        "refused: {refused}"
-    );
-    interpreter.run(&writes)?;
-    assert_eq!(rt;
-        interpreter.outputs(),
-        Some([7, 9].as_slice()),
-        "refused: {refused}"
-    );
-    Ok(())
+    let _ = interpreter.run(&block(alloc, &ops)?);
+    let read = [output(8)];
+    let runs: [Run; 2] = [(&read, Some(&[7])), (&ops, Some(&[7, 9]))];
+    assert_runs(&rt, alloc, &mut interpreter, &runs)
 }

@@ -1,3 +1,4 @@
+use crate::operations::{output, set, store};
 use iloc_meaning::{Memory, Outcome, run_block};
 use iloc_text::{Block, NoMemory, Op, Ops, Reg};
 use std::alloc::Global;
@@ -23,14 +24,6 @@ const RIGHT: Reg = Reg(2_147_483_647);
 
 const DEST: Reg = Reg(3);
 
-fn set(dest: Reg, value: u32) -> Op {
-    Op::LoadI { value, dest }
-}
-
-fn output(addr: u32) -> Op {
-    Op::Output { addr }
-}
-
 /// The pattern of a value.
 fn pattern(value: i32) -> u32 {
     value.cast_unsigned()
@@ -43,15 +36,11 @@ fn assert_results(
     cases: &[(Op, i32, i32, i32)],
 ) -> Result<(), Fail> {
     for (op, left, right, result) in cases {
-        let store = Op::Store {
-            value: DEST,
-            addr: Reg(0),
-        };
         let ops = [
             set(LEFT, pattern(*left)),
             set(RIGHT, pattern(*right)),
             *op,
-            store,
+            store(DEST, Reg(0)),
             output(0),
         ];
         let words = emitted(alloc, &ops)?.ok_or("a fault")?;
@@ -127,7 +116,7 @@ fn reads_and_writes_at_sums_that_wrap(rt: HostRuntime) -> Result<(), Fail> {
         set(addr, 65_532),
         Op::Load { addr, dest },
         set(addr, 8),
-        Op::Store { value: dest, addr },
+        store(dest, addr),
         output(8),
     ];
     let words = emitted(rt.alloc(), &ops)?.ok_or("a fault")?;
@@ -142,7 +131,7 @@ fn faults_at_bad_addresses(rt: HostRuntime) -> Result<(), Fail> {
         let accesses = [
             output(address),
             Op::Load { addr, dest },
-            Op::Store { value, addr },
+            store(value, addr),
             Op::LoadAI {
                 addr,
                 offset: 0,

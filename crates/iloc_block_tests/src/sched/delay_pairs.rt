@@ -1,5 +1,5 @@
+use super::sample::{SEVEN, block_of};
 use iloc_sched::{pairs, rename};
-use iloc_text::{MAX_OPS, read_file};
 use iloc_timed::Latencies;
 use std::alloc::Global;
 use std::process::Abort;
@@ -13,12 +13,7 @@ fn assert_pairs(
     latencies: &Latencies,
     expected: &[(usize, usize, u64)],
 ) -> Result<(), Fail> {
-    let file = read_file(alloc, text)?;
-    let block = file.blocks.as_slice().first().ok_or("no block")?;
-    if block.ops.len() > MAX_OPS {
-        return Err(Fail::from("too many operations"));
-    }
-    let ops = rename(alloc, block)?;
+    let ops = rename(alloc, &block_of(alloc, text)?)?;
     let mut found = Vec::new(alloc);
     for pair in pairs(alloc, ops.as_slice(), latencies)?.as_slice() {
         found.push((pair.first, pair.second, pair.delay))?;
@@ -29,8 +24,6 @@ fn assert_pairs(
 
 #[test]
 fn lists_what_waits_for_what(rt: HostRuntime) -> Result<(), Fail> {
-    let block =
-        b"loadI 4 => r0\nloadI 8 => r1\nmult r0, r1 => r2\nload r0 => r3\nadd r2, r3 => r4\nstore r4 => r1\noutput 8\n";
     let expected = [
         (0, 2, 1),
         (1, 2, 1),
@@ -45,7 +38,7 @@ fn lists_what_waits_for_what(rt: HostRuntime) -> Result<(), Fail> {
     assert_pairs(
         &rt,
         rt.alloc(),
-        block,
+        SEVEN,
         &Latencies::usual(),
         expected.as_slice(),
     )

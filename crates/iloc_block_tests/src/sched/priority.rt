@@ -1,31 +1,26 @@
 ghost use Rattle.std.specs.Prelude.{◌≤◌, length};
 ghost use Rattle.iloc_sched.specs.Renaming.{IsRenamed};
 
+use super::sample::{SEVEN, block_of};
 use iloc_sched::{pairs, priorities, rename};
-use iloc_text::{Block, MAX_OPS, Op, Ops, Reg, read_file};
+use iloc_text::{Block, MAX_OPS, Op, Ops, Reg};
 use iloc_timed::{Latencies, latency};
 use std::alloc::Global;
+use std::process::Abort;
 use std::test::Fail;
 
 /// The priorities of the one block of a text.
 fn priorities_of(alloc: Global, text: &[u8], latencies: &Latencies) -> Result<Vec<u64>, Fail> {
-    let file = read_file(alloc, text)?;
-    let block = file.blocks.as_slice().first().ok_or("no block")?;
-    if block.ops.len() > MAX_OPS {
-        return Err(Fail::from("too many operations"));
-    }
-    let ops = rename(alloc, block)?;
+    let ops = rename(alloc, &block_of(alloc, text)?)?;
     Ok(priorities(alloc, &ops, latencies)?)
 }
 
 #[test]
 fn takes_the_longest_way(rt: HostRuntime) -> Result<(), Fail> {
-    let block =
-        b"loadI 4 => r0\nloadI 8 => r1\nmult r0, r1 => r2\nload r0 => r3\nadd r2, r3 => r4\nstore r4 => r1\noutput 8\n";
-    let usual = priorities_of(rt.alloc(), block, &Latencies::usual())?;
+    let usual = priorities_of(rt.alloc(), SEVEN, &Latencies::usual())?;
     assert_eq!(rt; usual.as_slice(), [13, 11, 10, 12, 7, 6, 1].as_slice());
     let short = Latencies::new(1, 1, 1).ok_or("latencies")?;
-    let few = priorities_of(rt.alloc(), block, &short)?;
+    let few = priorities_of(rt.alloc(), SEVEN, &short)?;
     assert_eq!(rt; few.as_slice(), [5, 5, 4, 4, 3, 2, 1].as_slice());
     Ok(())
 }
@@ -100,6 +95,23 @@ fn by_pairs(alloc: Global, ops: &[Op], latencies: &Latencies) -> Result<Vec<u64>
     Ok(prios)
 }
 
+/// Asserts that the priorities of a block are those by its delay pairs.
+fn assert_follow(
+    rt: &impl Abort,
+    alloc: Global,
+    block: &Block,
+    latencies: &Latencies,
+) -> Result<(), Fail> {
+    if block.ops.len() > MAX_OPS {
+        return Err(Fail::from("too many operations"));
+    }
+    let ops = rename(alloc, block)?;
+    let found = priorities(alloc, &ops, latencies)?;
+    let plain = by_pairs(alloc, &ops, latencies)?;
+    assert_eq!(rt; found.as_slice(), plain.as_slice());
+    Ok(())
+}
+
 #[test]
 fn follow_from_the_delay_pairs(rt: HostRuntime) -> Result<(), Fail> {
     let alloc = rt.alloc();
@@ -109,13 +121,7 @@ fn follow_from_the_delay_pairs(rt: HostRuntime) -> Result<(), Fail> {
         let block = draw.block(alloc, count)?;
         let (short, long) = (draw.up_to(3), draw.up_to(16));
         let latencies = Latencies::new(short, long, 3).ok_or("latencies")?;
-        if block.ops.len() > MAX_OPS {
-            return Err(Fail::from("too many operations"));
-        }
-        let ops = rename(alloc, &block)?;
-        let found = priorities(alloc, &ops, &latencies)?;
-        let plain = by_pairs(alloc, &ops, &latencies)?;
-        assert_eq!(rt; found.as_slice(), plain.as_slice());
+        assert_follow(&rt, alloc, &block, &latencies)?;
     }
     Ok(())
 }

@@ -1,5 +1,6 @@
 //! Each call that takes memory, on a small block and on a middling one: where a growth is refused it answers want of
 //! memory, and a second try ends well. To be run with each growth refused in turn.
+use crate::rows::alone;
 use iloc_sched::{Pair, pairs, priorities, rename, schedule};
 use iloc_text::{Block, MAX_OPS, NoMemory, Op, Ops, Reg};
 use iloc_timed::{Latencies, Row};
@@ -8,18 +9,15 @@ use std::process::Abort;
 use std::test::Fail;
 
 /// So many sums in a chain, over one register.
-fn chain(alloc: Global, count: u64) -> Result<Block, Fail> {
-    let mut ops = Vec::new(alloc);
-    for _ in 0..count {
-        ops.push(Op::AddI {
-            left: Reg(7),
-            value: 1,
-            dest: Reg(7),
-        })?;
-    }
+fn chain(alloc: Global, count: usize) -> Result<Block, Fail> {
+    let sum = Op::AddI {
+        left: Reg(7),
+        value: 1,
+        dest: Reg(7),
+    };
     Ok(Block {
         name: None,
-        ops: Ops::new(ops),
+        ops: Ops::new(vec![in alloc; sum; count]?),
     })
 }
 
@@ -31,11 +29,7 @@ fn assert_each_waits(
     pairs: &[Pair],
 ) -> Result<(), Fail> {
     for (i, row) in rows.iter().enumerate() {
-        let alone = Row {
-            zero: Some(i),
-            one: None,
-        };
-        assert_eq!(rt; *row, alone);
+        assert_eq!(rt; *row, alone(i));
         assert_eq!(rt;
             prios.get(i).copied(),
             (rows.len() as u64).checked_sub(i as u64)
@@ -51,7 +45,7 @@ fn assert_each_waits(
 }
 
 /// Asserts what comes of a chain of so many sums: each waits for the one before.
-fn assert_chained(rt: &impl Abort, alloc: Global, count: u64) -> Result<(), Fail> {
+fn assert_chained(rt: &impl Abort, alloc: Global, count: usize) -> Result<(), Fail> {
     let usual = Latencies::usual();
     let block = chain(alloc, count)?;
     if block.ops.len() > MAX_OPS {
@@ -74,8 +68,8 @@ fn assert_chained(rt: &impl Abort, alloc: Global, count: u64) -> Result<(), Fail
         Err(NoMemory) => schedule(alloc, &block, &usual)?,
     };
     assert_eq!(rt; schedule.ops(), ops.as_slice());
-    assert_eq!(rt; schedule.rows().len() as u64, count);
-    assert_eq!(rt; pairs.len().wrapping_add(1) as u64, count);
+    assert_eq!(rt; schedule.rows().len(), count);
+    assert_eq!(rt; pairs.len().wrapping_add(1), count);
     assert_each_waits(rt, schedule.rows(), &prios, &pairs)
 }
 

@@ -1,17 +1,13 @@
+use super::sample::{SEVEN, block_of};
 use iloc_sched::rename;
-use iloc_text::{MAX_OPS, push_op, read_file};
+use iloc_text::push_op;
 use std::alloc::Global;
 use std::test::Fail;
 
 /// The operations of the one block of a text, renamed and spelled, a line each.
 fn renamed_text(alloc: Global, text: &[u8]) -> Result<String, Fail> {
-    let file = read_file(alloc, text)?;
-    let block = file.blocks.as_slice().first().ok_or("no block")?;
-    if block.ops.len() > MAX_OPS {
-        return Err(Fail::from("too many operations"));
-    }
     let mut spelled = Vec::new(alloc);
-    for op in rename(alloc, block)?.as_slice() {
+    for op in rename(alloc, &block_of(alloc, text)?)?.as_slice() {
         push_op(&mut spelled, op)?;
         spelled.push(b'\n')?;
     }
@@ -20,9 +16,7 @@ fn renamed_text(alloc: Global, text: &[u8]) -> Result<String, Fail> {
 
 #[test]
 fn names_registers_in_the_order_of_their_mentions(rt: HostRuntime) -> Result<(), Fail> {
-    let block =
-        b"loadI 4 => r1\nloadI 8 => r2\nmult r1, r2 => r3\nload r1 => r4\nadd r3, r4 => r5\nstore r5 => r2\noutput 8\n";
-    let renamed = renamed_text(rt.alloc(), block)?;
+    let renamed = renamed_text(rt.alloc(), SEVEN)?;
     assert_eq!(rt;
         renamed.as_str(),
         "loadI 4 => r0\nloadI 8 => r1\nmult r0, r1 => r2\nload r0 => r3\nadd r2, r3 => r4\nstore r4 => r1\noutput 8\n"

@@ -1,3 +1,4 @@
+use crate::operations::set;
 use iloc_text::{
     Block, MAX_BLOCKS, MAX_INPUT, MAX_OPS, NoMemory, Op, ReadFault, Reg, TakeBlocks, read_blocks,
     read_file,
@@ -26,6 +27,16 @@ fn assert_reads(rt: &impl Abort, alloc: Global, text: &[u8], wanted: &[Op]) -> R
     assert_eq!(rt; file.blocks.as_slice().len(), 1);
     assert_eq!(rt; file.blocks.as_slice()[0].ops.as_slice(), wanted);
     Ok(())
+}
+
+/// How many operations each block of the text has.
+fn lengths(alloc: Global, text: &[u8]) -> Result<Vec<usize>, Fail> {
+    let file = read_file(alloc, text)?;
+    let mut lengths = Vec::new(alloc);
+    for block in file.blocks.as_slice() {
+        lengths.push(block.ops.len())?;
+    }
+    Ok(lengths)
 }
 
 #[test]
@@ -77,20 +88,12 @@ lshiftI r0, 3 => r2\nrshiftI r0, 3 => r2\nloadAI r0, 3 => r2\nstoreAI r2 => r0, 
 fn reads_labels_blanks_and_comments(rt: HostRuntime) -> Result<(), Fail> {
     let text = b"// c\r\n\tloadI\t7=>r01//x\r\nL1: nop\nL2:";
     let file = read_file(rt.alloc(), text)?;
-    assert_eq!(rt; file.blocks.as_slice().len(), 3);
-    let [unnamed, first, second] = file.blocks.as_slice() else {
-        return Ok(());
-    };
-    assert!(rt; unnamed.name.is_none());
-    let wanted = [Op::LoadI {
-        value: 7,
-        dest: Reg(1),
-    }];
-    assert_eq!(rt; unnamed.ops.as_slice(), wanted.as_slice());
-    assert_eq!(rt; first.name.as_ref().map(|name| name.as_str()), Some("L1"));
-    assert_eq!(rt; first.ops.as_slice(), [Op::Nop].as_slice());
-    assert_eq!(rt; second.name.as_ref().map(|name| name.as_str()), Some("L2"));
-    assert!(rt; second.ops.is_empty());
+    let wanted: [(&str, &[Op]); 3] = [("-", &[set(Reg(1), 7)]), ("L1", &[Op::Nop]), ("L2", &[])];
+    assert_eq!(rt; file.blocks.as_slice().len(), wanted.len());
+    for (block, (name, ops)) in file.blocks.as_slice().iter().zip(wanted) {
+        assert_eq!(rt; block.name.as_ref().map_or("-", |name| name.as_str()), name);
+        assert_eq!(rt; block.ops.as_slice(), ops);
+    }
     Ok(())
 }
 
@@ -178,12 +181,7 @@ fn reads_numbers_of_any_length(rt: HostRuntime) -> Result<(), Fail> {
     let mut text = Vec::from_slice(rt.alloc(), b"output ")?;
     text.extend_from_slice(copies(&rt, b"0", 1_000_000)?.as_slice())?;
     text.push(b'8')?;
-    let file = read_file(rt.alloc(), text.as_slice())?;
-    assert_eq!(rt; file.blocks.as_slice().len(), 1);
-    assert_eq!(rt;
-        file.blocks.as_slice()[0].ops.as_slice(),
-        [Op::Output { addr: 8 }].as_slice()
-    );
+    assert_reads(&rt, rt.alloc(), text.as_slice(), &[Op::Output { addr: 8 }])?;
     text.extend_from_slice(copies(&rt, b"0", 1_000_000)?.as_slice())?;
     assert_eq!(rt;
         fault_of(&rt, text.as_slice()),
@@ -193,38 +191,44 @@ fn reads_numbers_of_any_length(rt: HostRuntime) -> Result<(), Fail> {
 }
 
 #[test]
+fn reads_as_many_operations_as_a_block_may_have(rt: HostRuntime) -> Result<(), Fail> {
+    let text = copies(&rt, b"nop\n", MAX_OPS)?;
+    let found = lengths(rt.alloc(), text.as_slice())?;
+    assert_eq!(rt; found.as_slice(), [MAX_OPS].as_slice());
+    Ok(())
+}
+
+#[test]
 fn refuses_an_operation_too_many(rt: HostRuntime) -> Result<(), Fail> {
-    let mut text = copies(&rt, b"nop\n", MAX_OPS)?;
-    let file = read_file(rt.alloc(), text.as_slice())?;
-    assert_eq!(rt; file.blocks.as_slice().len(), 1);
-    assert_eq!(rt; file.blocks.as_slice()[0].ops.len(), MAX_OPS);
-    text.extend_from_slice(b"A: nop\n")?;
-    assert_eq!(rt; fault_of(&rt, text.as_slice()), None);
-    text.truncate(4 * MAX_OPS);
-    text.extend_from_slice(b"nop\n")?;
-    assert_eq!(rt;
-        fault_of(&rt, text.as_slice()),
-        Some(ReadFault::TooManyOperations(10_001))
-    );
+    let cases: [(&[u8], Option<ReadFault>); 2] = [
+        (b"A: nop\n", None),
+        (b"nop\n", Some(ReadFault::TooManyOperations(10_001))),
+    ];
+    for (last, fault) in cases {
+        let mut text = copies(&rt, b"nop\n", MAX_OPS)?;
+        text.extend_from_slice(last)?;
+        assert_eq!(rt; fault_of(&rt, text.as_slice()), fault);
+    }
+    Ok(())
+}
+
+#[test]
+fn reads_as_many_blocks_as_a_file_may_have(rt: HostRuntime) -> Result<(), Fail> {
+    let text = copies(&rt, b"A:\n", MAX_BLOCKS)?;
+    let found = lengths(rt.alloc(), text.as_slice())?;
+    assert_eq!(rt; found.len(), MAX_BLOCKS);
     Ok(())
 }
 
 #[test]
 fn refuses_a_block_too_many(rt: HostRuntime) -> Result<(), Fail> {
-    let mut text = copies(&rt, b"A:\n", MAX_BLOCKS)?;
-    let file = read_file(rt.alloc(), text.as_slice())?;
-    assert_eq!(rt; file.blocks.as_slice().len(), MAX_BLOCKS);
-    text.extend_from_slice(b"A:")?;
-    assert_eq!(rt;
-        fault_of(&rt, text.as_slice()),
-        Some(ReadFault::TooManyBlocks(65_536))
-    );
-    let mut unnamed = Vec::from_slice(rt.alloc(), b"nop\n")?;
-    unnamed.extend_from_slice(copies(&rt, b"A:\n", MAX_BLOCKS)?.as_slice())?;
-    assert_eq!(rt;
-        fault_of(&rt, unnamed.as_slice()),
-        Some(ReadFault::TooManyBlocks(65_536))
-    );
+    for (first, last) in [(b"".as_slice(), b"A:".as_slice()), (b"nop\n", b"")] {
+        let mut text = Vec::from_slice(rt.alloc(), first)?;
+        text.extend_from_slice(copies(&rt, b"A:\n", MAX_BLOCKS)?.as_slice())?;
+        text.extend_from_slice(last)?;
+        let fault = fault_of(&rt, text.as_slice());
+        assert_eq!(rt; fault, Some(ReadFault::TooManyBlocks(65_536)));
+    }
     Ok(())
 }
 

@@ -1,49 +1,13 @@
-ghost use Rattle.std.specs.Prelude.{◌≤◌, length};
+ghost use Rattle.std.specs.Prelude.{◌≤◌};
 
+use crate::operations::{output, set, store};
+use crate::rows::{EMPTY, alone, both, build};
 use iloc_meaning::{Memory, Outcome};
-use iloc_text::{NoMemory, Op, Reg};
+use iloc_text::{NoMemory, Reg};
 use iloc_timed::{BuildFault, Latencies, Row, Schedule, cycles, run_schedule};
 use std::alloc::Global;
 use std::process::Abort;
 use std::test::Fail;
-
-const STORE: Op = Op::Store {
-    value: Reg(0),
-    addr: Reg(1),
-};
-
-fn set(dest: u32, value: u32) -> Op {
-    Op::LoadI {
-        value,
-        dest: Reg(dest),
-    }
-}
-
-fn output(addr: u32) -> Op {
-    Op::Output { addr }
-}
-
-fn alone(i: usize) -> Row {
-    Row {
-        zero: Some(i),
-        one: None,
-    }
-}
-
-const EMPTY: Row = Row {
-    zero: None,
-    one: None,
-};
-
-fn build(alloc: Global, ops: &[Op], rows: &[Row]) -> Result<Schedule, BuildFault>
-    requires { length rows.now ≤ 100 }
-{
-    Schedule::new(
-        alloc,
-        Vec::from_slice(alloc, ops)?,
-        Vec::from_slice(alloc, rows)?,
-    )
-}
 
 /// `loadI 8 => r0`, `store r0 => r1` and, after some empty rows, `output 0`, each on unit 0.
 fn store_and_output(alloc: Global, wait: usize) -> Result<Schedule, BuildFault>
@@ -53,7 +17,11 @@ fn store_and_output(alloc: Global, wait: usize) -> Result<Schedule, BuildFault>
     rows[0] = alone(0);
     rows[1] = alone(1);
     rows[wait + 2] = alone(2);
-    build(alloc, &[set(0, 8), STORE, output(0)], &rows[..wait + 3])
+    build(
+        alloc,
+        &[set(Reg(0), 8), store(Reg(0), Reg(1)), output(0)],
+        &rows[..wait + 3],
+    )
 }
 
 /// What a schedule emits on zero memory and the word that it leaves at address 0, or nothing where
@@ -130,11 +98,11 @@ fn emits_in_order_of_issue(rt: HostRuntime) -> Result<(), Fail> {
 #[test]
 fn writes_unit_1_last(rt: HostRuntime) -> Result<(), Fail> {
     let (alloc, usual) = (rt.alloc(), Latencies::usual());
-    let both = Row {
-        zero: Some(1),
-        one: Some(0),
-    };
-    let schedule = build(alloc, &[set(0, 1), set(0, 2), STORE], &[both, alone(2)])?;
+    let schedule = build(
+        alloc,
+        &[set(Reg(0), 1), set(Reg(0), 2), store(Reg(0), Reg(1))],
+        &[both(1, 0), alone(2)],
+    )?;
     let (_, word) = run(alloc, &schedule, &usual)?.ok_or("a fault")?;
     assert_eq!(rt; word, 1);
     Ok(())

@@ -1,7 +1,7 @@
-ghost use Rattle.std.specs.Prelude.{◌≤◌, length};
-
+use crate::operations::output;
+use crate::rows::build;
 use iloc_text::{Op, Reg};
-use iloc_timed::{BuildFault, Row, Schedule};
+use iloc_timed::{BuildFault, Row};
 use std::alloc::Global;
 use std::test::Fail;
 
@@ -26,28 +26,12 @@ const MULT: Op = Op::MultI {
     dest: Reg(1),
 };
 
-fn output(addr: u32) -> Op {
-    Op::Output { addr }
-}
-
 fn row(zero: Option<usize>, one: Option<usize>) -> Row {
     Row { zero, one }
 }
 
-fn build(alloc: Global, ops: &[Op], rows: &[Row]) -> Result<Schedule, BuildFault>
-    requires { length rows.now ≤ 100 }
-{
-    Schedule::new(
-        alloc,
-        Vec::from_slice(alloc, ops)?,
-        Vec::from_slice(alloc, rows)?,
-    )
-}
-
 /// The fault of a build, if there is one.
-fn fault(alloc: Global, ops: &[Op], rows: &[Row]) -> Option<BuildFault>
-    requires { length rows.now ≤ 100 }
-{
+fn fault(alloc: Global, ops: &[Op], rows: &[Row]) -> Option<BuildFault> {
     build(alloc, ops, rows).err()
 }
 
@@ -78,77 +62,57 @@ fn takes_nothing_in_no_row(rt: HostRuntime) -> Result<(), Fail> {
 
 #[test]
 fn names_the_first_row_that_breaks_a_rule(rt: HostRuntime) {
-    let alloc = rt.alloc();
-    let bad = |c| Some(BuildFault::BadRow(c));
-    assert_eq!(rt; fault(alloc, &[LOAD], &[row(None, Some(0))]), bad(0));
-    assert_eq!(rt;
-        fault(alloc, &[STORE], &[row(None, None), row(None, Some(0))]),
-        bad(1)
-    );
-    assert_eq!(rt; fault(alloc, &[MULT], &[row(Some(0), None)]), bad(0));
-    assert_eq!(rt;
-        fault(alloc, &[MULT, MULT], &[row(Some(0), Some(1))]),
-        bad(0)
-    );
-    assert_eq!(rt;
-        fault(alloc, &[output(0), output(4)], &[row(Some(0), Some(1))]),
-        bad(0)
-    );
-    assert_eq!(rt;
-        fault(alloc, &[output(0)], &[row(Some(0), Some(0))]),
-        bad(0)
-    );
-    assert_eq!(rt;
-        fault(alloc, &[LOAD_I], &[row(Some(0), None), row(Some(1), None)]),
-        bad(1)
-    );
-    assert_eq!(rt;
-        fault(
-            alloc,
+    let cases: [(&[Op], &[Row], usize); 8] = [
+        (&[LOAD], &[row(None, Some(0))], 0),
+        (&[STORE], &[row(None, None), row(None, Some(0))], 1),
+        (&[MULT], &[row(Some(0), None)], 0),
+        (&[MULT, MULT], &[row(Some(0), Some(1))], 0),
+        (&[output(0), output(4)], &[row(Some(0), Some(1))], 0),
+        (&[output(0)], &[row(Some(0), Some(0))], 0),
+        (&[LOAD_I], &[row(Some(0), None), row(Some(1), None)], 1),
+        (
             &[],
-            &[row(None, None), row(Some(0), None), row(Some(0), None)]
+            &[row(None, None), row(Some(0), None), row(Some(0), None)],
+            1,
         ),
-        bad(1)
-    );
+    ];
+    for (ops, rows, c) in cases {
+        assert_eq!(rt; fault(rt.alloc(), ops, rows), Some(BuildFault::BadRow(c)));
+    }
 }
 
 #[test]
 fn names_the_first_operation_that_does_not_stand_once(rt: HostRuntime) {
-    let alloc = rt.alloc();
-    let not_once = |i| Some(BuildFault::NotOnce(i));
-    assert_eq!(rt; fault(alloc, &[Op::Nop], &[]), not_once(0));
-    assert_eq!(rt;
-        fault(alloc, &[LOAD_I, LOAD_I], &[row(None, Some(1))]),
-        not_once(0)
-    );
-    assert_eq!(rt;
-        fault(alloc, &[LOAD_I], &[row(Some(0), Some(0))]),
-        not_once(0)
-    );
-    assert_eq!(rt;
-        fault(
-            alloc,
+    let cases: [(&[Op], &[Row], usize); 4] = [
+        (&[Op::Nop], &[], 0),
+        (&[LOAD_I, LOAD_I], &[row(None, Some(1))], 0),
+        (&[LOAD_I], &[row(Some(0), Some(0))], 0),
+        (
             &[LOAD_I, STORE],
-            &[row(Some(1), Some(0)), row(Some(1), None)]
+            &[row(Some(1), Some(0)), row(Some(1), None)],
+            1,
         ),
-        not_once(1)
-    );
+    ];
+    for (ops, rows, i) in cases {
+        assert_eq!(rt; fault(rt.alloc(), ops, rows), Some(BuildFault::NotOnce(i)));
+    }
 }
 
 #[test]
 fn says_what_is_wrong(rt: HostRuntime) -> Result<(), Fail> {
     let alloc = rt.alloc();
-    assert_eq!(rt;
-        format!(in alloc; "{}", BuildFault::BadRow(3))?.as_str(),
-        "row 3: an operation that isn't there, or that can't be issued there"
-    );
-    assert_eq!(rt;
-        format!(in alloc; "{}", BuildFault::NotOnce(7))?.as_str(),
-        "operation 7: not in exactly one slot"
-    );
-    assert_eq!(rt;
-        format!(in alloc; "{}", BuildFault::NoMemory)?.as_str(),
-        "out of memory"
-    );
+    for (fault, text) in [
+        (
+            BuildFault::BadRow(3),
+            "row 3: an operation that isn't there, or that can't be issued there",
+        ),
+        (
+            BuildFault::NotOnce(7),
+            "operation 7: not in exactly one slot",
+        ),
+        (BuildFault::NoMemory, "out of memory"),
+    ] {
+        assert_eq!(rt; fault.to_string(alloc)?.as_str(), text);
+    }
     Ok(())
 }

@@ -1,5 +1,6 @@
 ghost use Rattle.std.specs.Prelude.{◌≡◌, ◌≤◌};
 
+use super::steps::{assert_takes, collect_both, collect_with};
 use super::tens::{Refusing, Tens};
 use iloc_board::{Board, CollectFault, FreeGate, NoMemory, Seen, State, Tried, work};
 use std::cell::Cell;
@@ -22,16 +23,13 @@ fn two_passes_share_two_jobs(rt: HostRuntime) -> Result<(), Fail> {
     let mut zero = board.pass(&mut root);
     let mut one = board.pass(&mut root);
     assert_eq!(rt; board.look(&mut zero), Seen::Block(0));
-    assert_eq!(rt; board.look(&mut one), Seen::Block(0));
-    assert_eq!(rt; board.try_take(&mut one), Tried::Took(0));
+    assert_takes(&rt, &board, &mut one, 0);
     assert_eq!(rt; board.try_take(&mut zero), Tried::Stale(1));
     assert_eq!(rt; board.try_take(&mut zero), Tried::Took(1));
     assert!(rt; board.hand_back(&mut one, 10).is_ok());
     assert!(rt; board.hand_back(&mut zero, 11).is_ok());
     assert_eq!(rt; board.look(&mut one), Seen::NoneLeft);
-    assert!(rt; board.gather(&mut root, one).is_ok());
-    assert!(rt; board.gather(&mut root, zero).is_ok());
-    let collected = board.collect(root)?;
+    let collected = collect_both(board, root, one, zero)?;
     assert_eq!(rt; collected.answers.as_slice(), &[10, 11][..]);
     assert_eq!(rt; collected.costs.as_slice(), &[10, 11][..]);
     Ok(())
@@ -44,18 +42,15 @@ fn a_look_sees_what_others_took(rt: HostRuntime) -> Result<(), Fail> {
     let mut zero = board.pass(&mut root);
     let mut one = board.pass(&mut root);
     assert_eq!(rt; board.look(&mut zero), Seen::Block(0));
-    assert_eq!(rt; board.look(&mut one), Seen::Block(0));
-    assert_eq!(rt; board.try_take(&mut one), Tried::Took(0));
-    assert_eq!(rt; board.look(&mut zero), Seen::Block(1));
-    assert_eq!(rt; board.try_take(&mut zero), Tried::Took(1));
+    assert_takes(&rt, &board, &mut one, 0);
+    assert_takes(&rt, &board, &mut zero, 1);
     assert!(rt; board.hand_back(&mut one, 10).is_ok());
     assert_eq!(rt; board.look(&mut one), Seen::NoneLeft);
     assert_eq!(rt; (one.worker(), one.state()), (1, State::Free));
     assert_eq!(rt; (zero.worker(), zero.state()), (0, State::Holding(1)));
-    assert!(rt; board.gather(&mut root, one).is_ok());
-    assert!(rt; board.gather(&mut root, zero).is_ok());
     assert_eq!(rt; (root.workers(), root.made()), (2, 2));
-    assert_eq!(rt; board.collect(root).err(), Some(CollectFault::Missing(1)));
+    let fault = collect_both(board, root, one, zero).err();
+    assert_eq!(rt; fault, Some(CollectFault::Missing(1)));
     Ok(())
 }
 
@@ -64,10 +59,15 @@ fn a_job_that_is_held_is_missing(rt: HostRuntime) -> Result<(), Fail> {
     let jobs = Tens { count: 1 };
     let (board, mut root) = Board::new(rt.alloc(), &jobs, 1)?;
     let mut pass = board.pass(&mut root);
-    assert_eq!(rt; board.look(&mut pass), Seen::Block(0));
-    assert_eq!(rt; board.try_take(&mut pass), Tried::Took(0));
-    assert!(rt; board.gather(&mut root, pass).is_ok());
-    assert_eq!(rt; board.collect(root).err(), Some(CollectFault::Missing(0)));
+    assert_takes(&rt, &board, &mut pass, 0);
+    let fault = collect_with(board, root, pass).err();
+    assert_eq!(rt; fault, Some(CollectFault::Missing(0)));
+    Ok(())
+}
+
+#[test]
+fn a_job_that_was_not_taken_is_missing(rt: HostRuntime) -> Result<(), Fail> {
+    let jobs = Tens { count: 1 };
     let (board, root) = Board::new(rt.alloc(), &jobs, 1)?;
     assert_eq!(rt; board.collect(root).err(), Some(CollectFault::Missing(0)));
     Ok(())
@@ -89,8 +89,7 @@ fn a_later_pass_starts_where_the_gathered_got_to(rt: HostRuntime) -> Result<(), 
     let jobs = Tens { count: 1 };
     let (board, mut root) = Board::new(rt.alloc(), &jobs, 2)?;
     let mut first = board.pass(&mut root);
-    assert_eq!(rt; board.look(&mut first), Seen::Block(0));
-    assert_eq!(rt; board.try_take(&mut first), Tried::Took(0));
+    assert_takes(&rt, &board, &mut first, 0);
     assert!(rt; board.hand_back(&mut first, 10).is_ok());
     assert!(rt; board.gather(&mut root, first).is_ok());
     let mut second = board.pass(&mut root);
@@ -105,8 +104,8 @@ fn a_lost_answer_is_missing(rt: HostRuntime) -> Result<(), Fail> {
     let mut pass = board.pass(&mut root);
     assert_eq!(rt; work(&board, &mut pass, &FreeGate), Err(NoMemory));
     assert_eq!(rt; pass.state(), State::Holding(1));
-    assert!(rt; board.gather(&mut root, pass).is_ok());
-    assert_eq!(rt; board.collect(root).err(), Some(CollectFault::Missing(1)));
+    let fault = collect_with(board, root, pass).err();
+    assert_eq!(rt; fault, Some(CollectFault::Missing(1)));
     Ok(())
 }
 
@@ -118,9 +117,8 @@ fn others_do_not_make_a_lost_answer_anew(rt: HostRuntime) -> Result<(), Fail> {
     let mut second = board.pass(&mut root);
     assert_eq!(rt; work(&board, &mut first, &FreeGate), Err(NoMemory));
     assert_eq!(rt; work(&board, &mut second, &FreeGate), Ok(()));
-    assert!(rt; board.gather(&mut root, first).is_ok());
-    assert!(rt; board.gather(&mut root, second).is_ok());
-    assert_eq!(rt; board.collect(root).err(), Some(CollectFault::Missing(1)));
+    let fault = collect_both(board, root, first, second).err();
+    assert_eq!(rt; fault, Some(CollectFault::Missing(1)));
     Ok(())
 }
 
@@ -133,8 +131,7 @@ fn a_lost_answer_is_made_anew(rt: HostRuntime) -> Result<(), Fail> {
     assert_eq!(rt; pass.state(), State::Holding(1));
     assert!(rt; board.hand_back(&mut pass, 11).is_ok());
     assert_eq!(rt; work(&board, &mut pass, &FreeGate), Ok(()));
-    assert!(rt; board.gather(&mut root, pass).is_ok());
-    let collected = board.collect(root)?;
+    let collected = collect_with(board, root, pass)?;
     assert_eq!(rt; collected.answers.as_slice(), &[10, 11, 12][..]);
     assert_eq!(rt; collected.costs.as_slice(), &[10, 11, 12][..]);
     Ok(())
@@ -145,13 +142,12 @@ fn the_answers_of_a_dropped_pass_are_missing(rt: HostRuntime) -> Result<(), Fail
     let jobs = Tens { count: 3 };
     let (board, mut root) = Board::new(rt.alloc(), &jobs, 2)?;
     let mut lost = board.pass(&mut root);
-    assert_eq!(rt; board.look(&mut lost), Seen::Block(0));
-    assert_eq!(rt; board.try_take(&mut lost), Tried::Took(0));
+    assert_takes(&rt, &board, &mut lost, 0);
     assert!(rt; board.hand_back(&mut lost, 10).is_ok());
     drop(lost);
     let mut second = board.pass(&mut root);
     assert_eq!(rt; work(&board, &mut second, &FreeGate), Ok(()));
-    assert!(rt; board.gather(&mut root, second).is_ok());
-    assert_eq!(rt; board.collect(root).err(), Some(CollectFault::Missing(0)));
+    let fault = collect_with(board, root, second).err();
+    assert_eq!(rt; fault, Some(CollectFault::Missing(0)));
     Ok(())
 }

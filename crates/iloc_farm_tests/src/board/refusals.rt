@@ -1,32 +1,38 @@
 //! What stands where a growth is refused, and that a second try ends well: to be run with each growth
 //! refused in turn.
+use super::steps::{assert_takes, collect_with};
 use super::tens::Tens;
-use iloc_board::{
-    Board, CollectFault, FreeGate, NoMemory, NoMemoryWith, Reply, Seen, State, Step, Tried, play,
-    work,
-};
+use iloc_board::{Board, FreeGate, NoMemory, NoMemoryWith, Reply, State, Step, play, work};
 use std::test::*;
 
 #[test]
-fn gives_the_answer_and_the_pass_back(rt: HostRuntime) -> Result<(), Fail> {
+fn gives_the_answer_back(rt: HostRuntime) -> Result<(), Fail> {
     let jobs = Tens { count: 1 };
     let (board, mut root) = Board::new(rt.alloc(), &jobs, 1)?;
     let mut pass = board.pass(&mut root);
-    assert_eq!(rt; board.look(&mut pass), Seen::Block(0));
-    assert_eq!(rt; board.try_take(&mut pass), Tried::Took(0));
+    assert_takes(&rt, &board, &mut pass, 0);
     if let Err(NoMemoryWith(answer)) = board.hand_back(&mut pass, 10) {
         assert_eq!(rt; answer, 10);
         assert_eq!(rt; pass.state(), State::Holding(0));
         assert!(rt; board.hand_back(&mut pass, answer).is_ok());
     }
+    let collected = collect_with(board, root, pass)?;
+    assert_eq!(rt; collected.answers.as_slice(), &[10][..]);
+    Ok(())
+}
+
+#[test]
+fn gives_the_pass_back(rt: HostRuntime) -> Result<(), Fail> {
+    let jobs = Tens { count: 1 };
+    let (board, mut root) = Board::new(rt.alloc(), &jobs, 1)?;
+    let mut pass = board.pass(&mut root);
+    work(&board, &mut pass, &FreeGate)?;
     if let Err(NoMemoryWith(pass)) = board.gather(&mut root, pass) {
         assert_eq!(rt; (pass.worker(), pass.state()), (0, State::Free));
         assert!(rt; board.gather(&mut root, pass).is_ok());
     }
-    match board.collect(root) {
-        Ok(collected) => assert_eq!(rt; collected.answers.as_slice(), &[10][..]),
-        Err(fault) => assert_eq!(rt; fault, CollectFault::NoMemory),
-    }
+    let collected = board.collect(root)?;
+    assert_eq!(rt; collected.answers.as_slice(), &[10][..]);
     Ok(())
 }
 
@@ -42,18 +48,11 @@ fn works_on_after_an_answer_was_lost(rt: HostRuntime) -> Result<(), Fail> {
         }
     }
     assert_eq!(rt; pass.state(), State::Free);
-    if let Err(NoMemoryWith(pass)) = board.gather(&mut root, pass) {
-        assert!(rt; board.gather(&mut root, pass).is_ok());
-    }
-    match board.collect(root) {
-        Ok(collected) => {
-            let tens: [u32; 20] = [
-                10, 11, 12, 13, 14, 15, 16, 17, 18, 19, 20, 21, 22, 23, 24, 25, 26, 27, 28, 29,
-            ];
-            assert_eq!(rt; collected.answers.as_slice(), tens.as_slice());
-        }
-        Err(fault) => assert_eq!(rt; fault, CollectFault::NoMemory),
-    }
+    let collected = collect_with(board, root, pass)?;
+    let tens: [u32; 20] = [
+        10, 11, 12, 13, 14, 15, 16, 17, 18, 19, 20, 21, 22, 23, 24, 25, 26, 27, 28, 29,
+    ];
+    assert_eq!(rt; collected.answers.as_slice(), tens.as_slice());
     Ok(())
 }
 

@@ -1,26 +1,41 @@
 use super::fakes::{Sink, Source, giving, giving_lines, taking_all};
+use super::sample::{GIVES_7, STORES_7};
 use iloc_farm::{FarmFault, RunFault, initial_memory, outcomes_text, run, run_status};
-use iloc_line::{LineFault, Request, parse_line};
+use iloc_line::{LineFault, parse_line};
 use iloc_meaning::run_block;
 use iloc_text::{ReadFault, read_file};
-use std::alloc::Global;
-use std::io::ErrorKind;
+use std::io::{ErrorKind, Read, Write};
+use std::sync::Wait;
 use std::test::Fail;
+use std::thread::Threads;
 
-const FIRST: &[u8] = b"loadI 1024 => r0\nloadI 7 => r1\nstore r1 => r0\noutput 1024\n";
+/// What a plain run on zero memory answers.
+fn run_plain<H: AllocGlobal + Threads + Wait + Sync, R: Read, W: Write>(
+    rt: &H,
+    reader: &mut R,
+    writer: &mut W,
+) -> Result<Result<(), RunFault>, LineFault> {
+    let request = parse_line(rt.alloc(), &["run"])?;
+    Ok(run(rt, rt.alloc(), reader, writer, &request))
+}
 
-const LISTED: &[u8] = b"block 1 -\n7\n";
-
-/// A plain run on zero memory.
-fn plain(alloc: Global) -> Result<Request, LineFault> {
-    parse_line(alloc, &["run"])
+/// What the words have listed of an input.
+fn listed<H: AllocGlobal + Threads + Wait + Sync>(
+    rt: &H,
+    words: &[&str],
+    input: &[u8],
+) -> Result<Vec<u8>, Fail> {
+    let mut writer = taking_all(rt.alloc());
+    let request = parse_line(rt.alloc(), words)?;
+    run(rt, rt.alloc(), &mut giving(input), &mut writer, &request)?;
+    Ok(writer.taken)
 }
 
 #[test]
 fn lists_what_comes_of_each_input(rt: HostRuntime) -> Result<(), Fail> {
     let cases: [(&[u8], &[u8]); 7] = [
         (b"", b""),
-        (FIRST, b"block 1 -\n7\n"),
+        (STORES_7, GIVES_7.as_bytes()),
         (b"output 0\noutput 4", b"block 1 -\n0\n0\n"),
         (b"output 0\noutput 2\n", b"block 1 -\nfault\n"),
         (
@@ -37,15 +52,7 @@ fn lists_what_comes_of_each_input(rt: HostRuntime) -> Result<(), Fail> {
         ),
     ];
     for (input, listing) in cases {
-        let mut writer = taking_all(rt.alloc());
-        run(
-            &rt,
-            rt.alloc(),
-            &mut giving(input),
-            &mut writer,
-            &plain(rt.alloc())?,
-        )?;
-        assert_eq!(rt; writer.taken.as_slice(), listing);
+        assert_eq!(rt; listed(&rt, &["run"], input)?.as_slice(), listing);
     }
     Ok(())
 }
@@ -54,36 +61,24 @@ fn lists_what_comes_of_each_input(rt: HostRuntime) -> Result<(), Fail> {
 fn takes_one_byte_at_a_time(rt: HostRuntime) -> Result<(), Fail> {
     let mut reader = Source {
         at_once: 1,
-        ..giving(FIRST)
+        ..giving(STORES_7)
     };
     let mut writer = Sink {
         at_once: 1,
         ..taking_all(rt.alloc())
     };
-    run(
-        &rt,
-        rt.alloc(),
-        &mut reader,
-        &mut writer,
-        &plain(rt.alloc())?,
-    )?;
-    assert_eq!(rt; writer.taken.as_slice(), LISTED);
-    assert_eq!(rt; reader.turns, FIRST.len() + 1);
+    run_plain(&rt, &mut reader, &mut writer)??;
+    assert_eq!(rt; writer.taken.as_slice(), GIVES_7.as_bytes());
+    assert_eq!(rt; reader.turns, STORES_7.len() + 1);
     Ok(())
 }
 
 #[test]
 fn flushes_what_it_has_written(rt: HostRuntime) -> Result<(), Fail> {
-    for (input, listed) in [(FIRST, LISTED.len()), (b"".as_slice(), 0)] {
+    for (input, length) in [(STORES_7, GIVES_7.len()), (b"".as_slice(), 0)] {
         let mut writer = taking_all(rt.alloc());
-        run(
-            &rt,
-            rt.alloc(),
-            &mut giving(input),
-            &mut writer,
-            &plain(rt.alloc())?,
-        )?;
-        assert_eq!(rt; writer.flushed, Some(listed));
+        run_plain(&rt, &mut giving(input), &mut writer)??;
+        assert_eq!(rt; writer.flushed, Some(length));
     }
     Ok(())
 }
@@ -93,13 +88,7 @@ fn reads_no_further_than_the_end(rt: HostRuntime) -> Result<(), Fail> {
     let input = vec![in rt.alloc(); b'\n'; 20_000]?;
     let mut reader = giving(&input);
     let mut writer = taking_all(rt.alloc());
-    run(
-        &rt,
-        rt.alloc(),
-        &mut reader,
-        &mut writer,
-        &plain(rt.alloc())?,
-    )?;
+    run_plain(&rt, &mut reader, &mut writer)??;
     assert_eq!(rt; reader.turns, 4);
     Ok(())
 }
@@ -109,13 +98,7 @@ fn reads_one_byte_beyond_the_longest_text(rt: HostRuntime) -> Result<(), Fail> {
     for most in [usize::MAX, 16_777_217] {
         let mut reader = giving_lines(most);
         let mut writer = taking_all(rt.alloc());
-        let fault = run(
-            &rt,
-            rt.alloc(),
-            &mut reader,
-            &mut writer,
-            &plain(rt.alloc())?,
-        );
+        let fault = run_plain(&rt, &mut reader, &mut writer)?;
         assert_eq!(rt; fault, Err(RunFault::Text(ReadFault::InputTooLong)));
         assert_eq!(rt; reader.given, 16_777_217);
         assert_eq!(rt; reader.turns, 2_049);
@@ -129,16 +112,10 @@ fn tells_a_failed_read(rt: HostRuntime) -> Result<(), Fail> {
     for kind in [ErrorKind::BrokenPipe, ErrorKind::Interrupted] {
         let mut reader = Source {
             end: Some(kind),
-            ..giving(FIRST)
+            ..giving(STORES_7)
         };
         let mut writer = taking_all(rt.alloc());
-        let fault = run(
-            &rt,
-            rt.alloc(),
-            &mut reader,
-            &mut writer,
-            &plain(rt.alloc())?,
-        );
+        let fault = run_plain(&rt, &mut reader, &mut writer)?;
         assert_eq!(rt; fault, Err(RunFault::ReadFailed));
         assert_eq!(rt; reader.turns, 2);
         assert!(rt; writer.taken.is_empty());
@@ -152,7 +129,7 @@ fn tells_a_failed_write(rt: HostRuntime) -> Result<(), Fail> {
         (usize::MAX, 5, true, b"block"),
         (0, usize::MAX, true, b""),
         (usize::MAX, 0, true, b""),
-        (usize::MAX, usize::MAX, false, LISTED),
+        (usize::MAX, usize::MAX, false, GIVES_7.as_bytes()),
     ];
     for (at_once, room, flushes, written) in cases {
         let mut writer = Sink {
@@ -161,13 +138,7 @@ fn tells_a_failed_write(rt: HostRuntime) -> Result<(), Fail> {
             flushes,
             ..taking_all(rt.alloc())
         };
-        let fault = run(
-            &rt,
-            rt.alloc(),
-            &mut giving(FIRST),
-            &mut writer,
-            &plain(rt.alloc())?,
-        );
+        let fault = run_plain(&rt, &mut giving(STORES_7), &mut writer)?;
         assert_eq!(rt; fault, Err(RunFault::WriteFailed));
         assert_eq!(rt; writer.taken.as_slice(), written);
     }
@@ -182,13 +153,7 @@ fn flushes_an_empty_listing_without_a_write(rt: HostRuntime) -> Result<(), Fail>
             flushes,
             ..taking_all(rt.alloc())
         };
-        let fault = run(
-            &rt,
-            rt.alloc(),
-            &mut giving(b""),
-            &mut writer,
-            &plain(rt.alloc())?,
-        );
+        let fault = run_plain(&rt, &mut giving(b""), &mut writer)?;
         assert_eq!(rt; fault, done);
     }
     Ok(())
@@ -235,13 +200,11 @@ fn shows_faults_with_their_status(rt: HostRuntime) -> Result<(), Fail> {
 
 #[test]
 fn names_the_line_of_a_bad_text(rt: HostRuntime) -> Result<(), Fail> {
-    let fault = run(
+    let fault = run_plain(
         &rt,
-        rt.alloc(),
         &mut giving(b"output 0\nadd r1 r2 => r3"),
         &mut taking_all(rt.alloc()),
-        &plain(rt.alloc())?,
-    );
+    )?;
     assert_eq!(rt; fault, Err(RunFault::Text(ReadFault::BadLine(2))));
     Ok(())
 }
@@ -266,10 +229,7 @@ fn hands_its_words_to_the_block(rt: HostRuntime) -> Result<(), Fail> {
         ),
     ];
     for (words, input, listing) in cases {
-        let mut writer = taking_all(rt.alloc());
-        let request = parse_line(rt.alloc(), words)?;
-        run(&rt, rt.alloc(), &mut giving(input), &mut writer, &request)?;
-        assert_eq!(rt; writer.taken.as_slice(), listing);
+        assert_eq!(rt; listed(&rt, words, input)?.as_slice(), listing);
     }
     Ok(())
 }
@@ -297,10 +257,8 @@ C: loadI 12 => r2147483647\nstore r2147483647 => r2147483647\noutput 12\noutput 
 D: store r2147483647 => r0\noutput 0\noutput 12\n";
     let listing = b"block 1 A\n8\n9\nblock 2 B\n0\n0\n-1\n5\nblock 3 C\nfault\nblock 4 D\n0\n5\n";
     for command in ["run", "simulate"] {
-        let mut writer = taking_all(rt.alloc());
-        let request = parse_line(rt.alloc(), &[command, "--at", "8", "4294967295", "5"])?;
-        run(&rt, rt.alloc(), &mut giving(input), &mut writer, &request)?;
-        assert_eq!(rt; writer.taken.as_slice(), listing.as_slice(), "{command}");
+        let found = listed(&rt, &[command, "--at", "8", "4294967295", "5"], input)?;
+        assert_eq!(rt; found.as_slice(), listing.as_slice(), "{command}");
     }
     Ok(())
 }

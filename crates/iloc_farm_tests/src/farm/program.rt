@@ -1,16 +1,14 @@
 use super::fakes::{Sink, Source, giving, giving_lines, taking_all};
-use iloc_farm::{WriteFailed, run_program};
+use super::sample::{GIVES_7, STORES_7};
+use crate::line::HELP;
+use iloc_farm::{Ending, WriteFailed, run_program};
 use std::alloc::Global;
 use std::env::Args;
-use std::io::{self, ErrorKind};
+use std::io::{self, ErrorKind, Read, Write};
 use std::process::Abort;
 use std::sync::Wait;
 use std::test::Fail;
 use std::thread::Threads;
-
-const FIRST: &[u8] = b"loadI 1024 => r0\nloadI 7 => r1\nstore r1 => r0\noutput 1024\n";
-
-const LISTED: &str = "block 1 -\n7\n";
 
 const SCHEDULED: &str = "block 1 -
 [ loadI 1024 => r0 ; loadI 7 => r1 ]
@@ -30,6 +28,18 @@ fn given(alloc: Global, words: &[&str]) -> Result<io::Result<Args>, Fail> {
     Ok(Ok(args.into_iter()))
 }
 
+/// How the program ends on these words.
+fn ending<H: AllocGlobal + Threads + Wait + Sync, R: Read, W: Write, F: Write>(
+    rt: &H,
+    words: &[&str],
+    reader: &mut R,
+    writer: &mut W,
+    faults: &mut F,
+) -> Result<Ending, Fail> {
+    let words = given(rt.alloc(), words)?;
+    Ok(run_program(rt, rt.alloc(), words, reader, writer, faults))
+}
+
 /// Words, input, and what comes of them: the status, what is written and what is said of it.
 type Case<'a> = (&'a [&'a str], &'a [u8], u8, &'a str, &'a str);
 
@@ -42,8 +52,7 @@ fn end_so<H: Abort + AllocGlobal + Threads + Wait + Sync>(
     for (words, input, status, written, said) in cases {
         let mut reader = giving(input);
         let (mut writer, mut faults) = (taking_all(alloc), taking_all(alloc));
-        let words = given(alloc, words)?;
-        let ending = run_program(rt, alloc, words, &mut reader, &mut writer, &mut faults);
+        let ending = ending(rt, words, &mut reader, &mut writer, &mut faults)?;
         assert_eq!(rt; ending.status, *status);
         assert_eq!(rt; ending.told, Ok(()));
         assert_eq!(rt; writer.taken.as_slice(), written.as_bytes());
@@ -56,18 +65,18 @@ fn end_so<H: Abort + AllocGlobal + Threads + Wait + Sync>(
 #[test]
 fn lists_what_the_command_asks_for(rt: HostRuntime) -> Result<(), Fail> {
     let cases: [Case; 6] = [
-        (&["run"], FIRST, 0, LISTED, ""),
-        (&["simulate", "--store", "16"], FIRST, 0, LISTED, ""),
+        (&["run"], STORES_7, 0, GIVES_7, ""),
+        (&["simulate", "--store", "16"], STORES_7, 0, GIVES_7, ""),
         (
             &["schedule", "--store", "1", "--workers", "1"],
-            FIRST,
+            STORES_7,
             0,
             SCHEDULED,
             "",
         ),
         (
             &["counts", "--workers", "8"],
-            FIRST,
+            STORES_7,
             0,
             "block 1 - cycles 7\ntotal 7\n",
             "",
@@ -110,22 +119,22 @@ fn judges_the_words_before_it_reads(rt: HostRuntime) -> Result<(), Fail> {
     let cases: [Case; 4] = [
         (
             &["run", "--at", "2"],
-            FIRST,
+            STORES_7,
             2,
             "",
             "ilocfarm: --at is not a multiple of 4\n",
         ),
         (
             &["run", "--at", "65532", "1", "2"],
-            FIRST,
+            STORES_7,
             2,
             "",
             "ilocfarm: the words do not fit into memory\n",
         ),
-        (&["--help"], FIRST, 0, HELP, ""),
+        (&["--help"], STORES_7, 0, HELP, ""),
         (
             &["jump"],
-            FIRST,
+            STORES_7,
             2,
             "",
             "error: unrecognized subcommand 'jump'\n\nUsage: ilocfarm <COMMAND>\n\nFor more information, try '--help'.\n",
@@ -134,30 +143,15 @@ fn judges_the_words_before_it_reads(rt: HostRuntime) -> Result<(), Fail> {
     end_so(&rt, &cases)
 }
 
-const HELP: &str = "List scheduler and simulator for ILOC blocks, which it reads from standard input
-
-Usage: ilocfarm <COMMAND>
-
-Commands:
-  run       Run each block, one operation after the other
-  simulate  Schedule each block, and run the schedule
-  schedule  Schedule each block, and print the schedule
-  counts    Schedule each block, and print how many cycles the schedule takes
-
-Options:
-  -h, --help  Print help
-";
-
 #[test]
 fn tells_a_reader_that_fails(rt: HostRuntime) -> Result<(), Fail> {
     let alloc = rt.alloc();
     let mut reader = Source {
         end: Some(ErrorKind::Interrupted),
-        ..giving(FIRST)
+        ..giving(STORES_7)
     };
     let (mut writer, mut faults) = (taking_all(alloc), taking_all(alloc));
-    let words = given(alloc, &["run"])?;
-    let ending = run_program(&rt, alloc, words, &mut reader, &mut writer, &mut faults);
+    let ending = ending(&rt, &["run"], &mut reader, &mut writer, &mut faults)?;
     assert_eq!(rt; ending.status, 4);
     assert!(rt; writer.taken.is_empty());
     assert_eq!(rt;
@@ -176,9 +170,8 @@ fn tells_a_writer_that_fails(rt: HostRuntime) -> Result<(), Fail> {
             room: 3,
             ..taking_all(alloc)
         };
-        let words = given(alloc, &words)?;
-        let mut reader = giving(FIRST);
-        let ending = run_program(&rt, alloc, words, &mut reader, &mut writer, &mut faults);
+        let mut reader = giving(STORES_7);
+        let ending = ending(&rt, &words, &mut reader, &mut writer, &mut faults)?;
         assert_eq!(rt; ending.status, 4);
         assert_eq!(rt; writer.taken.len(), 3);
         assert_eq!(rt;
@@ -206,7 +199,7 @@ fn tells_why_there_are_no_words(rt: HostRuntime) -> Result<(), Fail> {
             &rt,
             alloc,
             words,
-            &mut giving(FIRST),
+            &mut giving(STORES_7),
             &mut taking_all(alloc),
             &mut faults,
         );
@@ -223,15 +216,13 @@ fn keeps_the_status_where_a_fault_cannot_be_told(rt: HostRuntime) -> Result<(), 
         room: 8,
         ..taking_all(alloc)
     };
-    let words = given(alloc, &["run"])?;
-    let ending = run_program(
+    let ending = ending(
         &rt,
-        alloc,
-        words,
+        &["run"],
         &mut giving_lines(usize::MAX),
         &mut taking_all(alloc),
         &mut faults,
-    );
+    )?;
     assert_eq!(rt; ending.status, 1);
     assert_eq!(rt; ending.told, Err(WriteFailed));
     assert_eq!(rt; faults.taken.as_slice(), b"ilocfarm".as_slice());

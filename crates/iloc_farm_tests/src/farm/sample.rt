@@ -1,0 +1,7 @@
+//! A text that stores a word and reads it back.
+
+pub(crate) const STORES_7: &[u8] =
+    b"loadI 1024 => r0\nloadI 7 => r1\nstore r1 => r0\noutput 1024\n";
+
+/// What comes of it, as `run` and `simulate` list it.
+pub(crate) const GIVES_7: &str = "block 1 -\n7\n";
