@@ -3,6 +3,7 @@
 use super::fakes::{Sink, giving};
 use iloc_farm::{FarmFault, RunFault, run};
 use iloc_line::{Request, parse_line};
+use iloc_text::push_number;
 use std::alloc::Global;
 use std::process::Abort;
 use std::sync::Wait;
@@ -88,13 +89,22 @@ fn repeated(alloc: Global, part: &[u8], count: usize) -> Result<Vec<u8>, Fail> {
     Ok(whole)
 }
 
+/// The cycles of 40 such blocks, and their sum.
+fn counted(alloc: Global) -> Result<Vec<u8>, Fail> {
+    let mut text = Vec::new(alloc);
+    for number in 1..41 {
+        text.extend_from_slice(b"block ")?;
+        push_number(&mut text, number)?;
+        text.extend_from_slice(b" B cycles 15\n")?;
+    }
+    text.extend_from_slice(b"total 600\n")?;
+    Ok(text)
+}
+
 #[test]
 fn schedules_a_middling_file(rt: HostRuntime) -> Result<(), Fail> {
-    let alloc = rt.alloc();
-    let input = repeated(alloc, BLOCK, 40)?;
-    let request = parse_line(alloc, &["counts", "--workers", "3"])?;
-    let text = String::from_utf8(listed(&rt, &request, &input)?)?;
-    assert_eq!(rt; text.as_str().lines().count(), 41);
-    assert!(rt; text.as_str().ends_with("block 40 B cycles 15\ntotal 600\n"));
-    Ok(())
+    let input = repeated(rt.alloc(), BLOCK, 40)?;
+    let listing = counted(rt.alloc())?;
+    let words: [&str; 3] = ["counts", "--workers", "3"];
+    assert_listed(&rt, &[(&words, &listing)], &input)
 }
