@@ -1,4 +1,4 @@
-use super::sample::{SEVEN, block_of};
+use super::sample::{SEVEN_OPERATIONS, block_of};
 use iloc_sched::{pairs, rename};
 use iloc_timed::Latencies;
 use std::alloc::Global;
@@ -38,7 +38,7 @@ fn lists_what_waits_for_what(rt: HostRuntime) -> Result<(), Fail> {
     assert_pairs(
         &rt,
         rt.alloc(),
-        SEVEN,
+        SEVEN_OPERATIONS,
         &Latencies::usual(),
         expected.as_slice(),
     )

@@ -1,7 +1,7 @@
 ghost use Rattle.std.specs.Prelude.{◌≤◌, length};
 ghost use Rattle.iloc_sched.specs.Renaming.{IsRenamed};
 
-use super::sample::{SEVEN, block_of};
+use super::sample::{SEVEN_OPERATIONS, block_of};
 use iloc_sched::{pairs, priorities, rename};
 use iloc_text::{Block, MAX_OPS, Op, Ops, Reg};
 use iloc_timed::{Latencies, latency};
@@ -17,10 +17,10 @@ fn priorities_of(alloc: Global, text: &[u8], latencies: &Latencies) -> Result<Ve
 
 #[test]
 fn takes_the_longest_way(rt: HostRuntime) -> Result<(), Fail> {
-    let usual = priorities_of(rt.alloc(), SEVEN, &Latencies::usual())?;
+    let usual = priorities_of(rt.alloc(), SEVEN_OPERATIONS, &Latencies::usual())?;
     assert_eq!(rt; usual.as_slice(), [13, 11, 10, 12, 7, 6, 1].as_slice());
     let short = Latencies::new(1, 1, 1).ok_or("latencies")?;
-    let few = priorities_of(rt.alloc(), SEVEN, &short)?;
+    let few = priorities_of(rt.alloc(), SEVEN_OPERATIONS, &short)?;
     assert_eq!(rt; few.as_slice(), [5, 5, 4, 4, 3, 2, 1].as_slice());
     Ok(())
 }
@@ -96,7 +96,7 @@ fn by_pairs(alloc: Global, ops: &[Op], latencies: &Latencies) -> Result<Vec<u64>
 }
 
 /// Asserts that the priorities of a block are those by its delay pairs.
-fn assert_follow(
+fn assert_follow_from_pairs(
     rt: &impl Abort,
     alloc: Global,
     block: &Block,
@@ -121,7 +121,7 @@ fn follow_from_the_delay_pairs(rt: HostRuntime) -> Result<(), Fail> {
         let block = draw.block(alloc, count)?;
         let (short, long) = (draw.up_to(3), draw.up_to(16));
         let latencies = Latencies::new(short, long, 3).ok_or("latencies")?;
-        assert_follow(&rt, alloc, &block, &latencies)?;
+        assert_follow_from_pairs(&rt, alloc, &block, &latencies)?;
     }
     Ok(())
 }

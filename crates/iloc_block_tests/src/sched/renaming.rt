@@ -1,4 +1,4 @@
-use super::sample::{SEVEN, block_of};
+use super::sample::{SEVEN_OPERATIONS, block_of};
 use iloc_sched::rename;
 use iloc_text::push_op;
 use std::alloc::Global;
@@ -16,7 +16,7 @@ fn renamed_text(alloc: Global, text: &[u8]) -> Result<Vec<u8>, Fail> {
 
 #[test]
 fn names_registers_in_the_order_of_their_mentions(rt: HostRuntime) -> Result<(), Fail> {
-    let renamed = renamed_text(rt.alloc(), SEVEN)?;
+    let renamed = renamed_text(rt.alloc(), SEVEN_OPERATIONS)?;
     assert_eq!(rt;
         renamed.as_slice(),
         b"loadI 4 => r0\nloadI 8 => r1\nmult r0, r1 => r2\nload r0 => r3\nadd r2, r3 => r4\nstore r4 => r1\noutput 8\n".as_slice()

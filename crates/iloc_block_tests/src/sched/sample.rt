@@ -6,7 +6,7 @@ use std::alloc::Global;
 use std::test::Fail;
 
 /// Seven operations, of which all but the first two wait for others.
-pub(crate) const SEVEN: &[u8] =
+pub(crate) const SEVEN_OPERATIONS: &[u8] =
     b"loadI 4 => r1\nloadI 8 => r2\nmult r1, r2 => r3\nload r1 => r4\nadd r3, r4 => r5\nstore r5 => r2\noutput 8\n";
 
 /// The one block of a text, where it isn't too long to be scheduled.

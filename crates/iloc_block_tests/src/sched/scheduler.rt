@@ -1,4 +1,4 @@
-use super::sample::{SEVEN, block_of};
+use super::sample::{SEVEN_OPERATIONS, block_of};
 use crate::operations::output;
 use crate::rows::{EMPTY, alone, both, build};
 use iloc_meaning::{Memory, Outcome};
@@ -24,7 +24,7 @@ fn emitted(alloc: Global, schedule: &Schedule) -> Result<Vec<i32>, Fail> {
 
 #[test]
 fn issues_what_is_ready_by_priority(rt: HostRuntime) -> Result<(), Fail> {
-    let schedule = schedule_text(rt.alloc(), SEVEN)?;
+    let schedule = schedule_text(rt.alloc(), SEVEN_OPERATIONS)?;
     let rows = [
         both(0, 1),
         both(3, 2),

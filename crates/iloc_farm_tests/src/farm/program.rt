@@ -19,13 +19,13 @@ total 3
 ";
 
 /// The words that the environment gives, behind the program's name.
-fn given(alloc: Global, words: &[&str]) -> Result<io::Result<Args>, Fail> {
+fn given(alloc: Global, words: &[&str]) -> Result<Args, Fail> {
     let mut args = Vec::new(alloc);
     args.push(String::from_str(alloc, "path/to/ilocfarm")?)?;
     for word in words {
         args.push(String::from_str(alloc, word)?)?;
     }
-    Ok(Ok(args.into_iter()))
+    Ok(args.into_iter())
 }
 
 /// How the program ends on these words.
@@ -37,7 +37,7 @@ fn ending<H: AllocGlobal + Threads + Wait + Sync, R: Read, W: Write, F: Write>(
     faults: &mut F,
 ) -> Result<Ending, Fail> {
     let words = given(rt.alloc(), words)?;
-    Ok(run_program(rt, rt.alloc(), words, reader, writer, faults))
+    Ok(run_program(rt, rt.alloc(), Ok(words), reader, writer, faults))
 }
 
 /// Words, input, and what comes of them: the status, what is written and what is said of it.
