@@ -14,11 +14,7 @@ fn fault_of(rt: &HostRuntime, text: &[u8]) -> Option<ReadFault> {
 
 /// So many copies of the line.
 fn copies(rt: &HostRuntime, line: &[u8], count: usize) -> Result<Vec<u8>, AllocError> {
-    let mut text = Vec::new(rt.alloc());
-    for _ in 0..count {
-        text.extend_from_slice(line)?;
-    }
-    Ok(text)
+    line.repeat(rt.alloc(), count)
 }
 
 /// Asserts that the text is a file of one block with these operations.

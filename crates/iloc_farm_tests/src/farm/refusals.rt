@@ -4,7 +4,7 @@ use super::fakes::{Sink, giving};
 use iloc_farm::{FarmFault, RunFault, run};
 use iloc_line::{Request, parse_line};
 use iloc_text::push_number;
-use std::alloc::Global;
+use std::alloc::{AllocError, Global};
 use std::process::Abort;
 use std::sync::Wait;
 use std::test::Fail;
@@ -80,13 +80,9 @@ fn lists_a_small_file(rt: HostRuntime) -> Result<(), Fail> {
     assert_listed(&rt, &cases, SMALL)
 }
 
-/// So many copies of the bytes, one behind the other.
-fn repeated(alloc: Global, part: &[u8], count: usize) -> Result<Vec<u8>, Fail> {
-    let mut whole = Vec::new(alloc);
-    for _ in 0..count {
-        whole.extend_from_slice(part)?;
-    }
-    Ok(whole)
+/// So many copies of the block.
+fn blocks(alloc: Global, count: usize) -> Result<Vec<u8>, AllocError> {
+    BLOCK.repeat(alloc, count)
 }
 
 /// The cycles of 40 such blocks, and their sum.
@@ -103,7 +99,7 @@ fn counted(alloc: Global) -> Result<Vec<u8>, Fail> {
 
 #[test]
 fn schedules_a_middling_file(rt: HostRuntime) -> Result<(), Fail> {
-    let input = repeated(rt.alloc(), BLOCK, 40)?;
+    let input = blocks(rt.alloc(), 40)?;
     let listing = counted(rt.alloc())?;
     let words: [&str; 3] = ["counts", "--workers", "3"];
     assert_listed(&rt, &[(&words, &listing)], &input)
