@@ -7,11 +7,11 @@ use Rattle.std.specs.Vec.Iter.{into_iter_items}
 use Rattle.std.specs.declared.alloc.Global.{Global}
 use Rattle.std.specs.declared.io.Error.{Error}
 use Rattle.std.specs.declared.string.String.{String}
-use Rattle.iloc_line.specs.Asked.{asked_in}
-use Rattle.iloc_line.specs.Due.{Asks, IsDue}
-use Rattle.iloc_line.specs.declared.fault.LineFault.{LineFault}
-use Rattle.iloc_line.specs.declared.fault.LineFault.TheVariants.{Help}
-use Rattle.iloc_line.specs.declared.request.Request.{Request}
+use Rattle.iloc_args.specs.Asked.{asked_in}
+use Rattle.iloc_args.specs.Due.{Asks, IsDue}
+use Rattle.iloc_args.specs.declared.fault.LineFault.{LineFault}
+use Rattle.iloc_args.specs.declared.fault.LineFault.TheVariants.{Help}
+use Rattle.iloc_args.specs.declared.request.Request.{Request}
 use Rattle.iloc_farm.specs.Program.{Args, AskFor, IsHelp, IsStopped, MakeNone}
 use Rattle.iloc_farm.specs.Run.{EndsRun}
 use Rattle.iloc_farm.specs.declared.fault.RunFault.{RunFault}

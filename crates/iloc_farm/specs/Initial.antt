@@ -1,7 +1,7 @@
 -- The memory that each block starts with.
 use Rattle.std.specs.Prelude.{ℕ, ◌+◌, ◌-◌, ◌/◌, List, ◌++◌, length, map, replicate, ℤ, pos}
 use Rattle.std.specs.Int.{w32, cast_signed}
-use Rattle.iloc_line.specs.declared.request.Request.{Request}
+use Rattle.iloc_args.specs.declared.request.Request.{Request}
 
 -- zeros up to the address `at`, then the words as signed 32-bit numbers, then zeros: 16384 in all
 abbrev pub words_from : ℕ → List ℕ → List ℤ

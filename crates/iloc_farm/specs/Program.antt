@@ -9,12 +9,12 @@ use Rattle.std.specs.declared.io.Error.{Error}
 use Rattle.std.specs.declared.io.ErrorKind.TheVariants.{OutOfMemory}
 use Rattle.std.specs.declared.string.String.{String}
 use Rattle.std.specs.declared.vec.IntoIter.{IntoIter}
-use Rattle.iloc_line.specs.Asked.{Asked, asked_in}
-use Rattle.iloc_line.specs.Due.{Asks, IsDue}
-use Rattle.iloc_line.specs.Fault.{line_text, status_of as line_status_of}
-use Rattle.iloc_line.specs.declared.fault.LineFault.{LineFault}
-use Rattle.iloc_line.specs.declared.fault.LineFault.TheVariants.{Help, Refused, BadStart, TooManyWords, NoMemory}
-use Rattle.iloc_line.specs.declared.request.Request.{Request}
+use Rattle.iloc_args.specs.Asked.{Asked, asked_in}
+use Rattle.iloc_args.specs.Due.{Asks, IsDue}
+use Rattle.iloc_args.specs.Fault.{line_text, status_of as line_status_of}
+use Rattle.iloc_args.specs.declared.fault.LineFault.{LineFault}
+use Rattle.iloc_args.specs.declared.fault.LineFault.TheVariants.{Help, Refused, BadStart, TooManyWords, NoMemory}
+use Rattle.iloc_args.specs.declared.request.Request.{Request}
 use Rattle.iloc_farm.specs.Device.{WritesFront}
 use Rattle.iloc_farm.specs.Fault.{run_status_of, run_text}
 use Rattle.iloc_farm.specs.Run.{EndsRun, Lists}

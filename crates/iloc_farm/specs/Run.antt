@@ -4,9 +4,9 @@ use Rattle.std.specs.Io.KnownBytes.{Keeps}
 use Rattle.iloc_text.specs.declared.file.Block.{Block}
 use Rattle.iloc_text.specs.declared.fault.ReadFault.{ReadFault}
 use Rattle.iloc_text.specs.Files.{Denotes, IsRefused}
-use Rattle.iloc_line.specs.declared.request.Request.{Request}
-use Rattle.iloc_line.specs.declared.request.Task.{Task}
-use Rattle.iloc_line.specs.declared.request.Task.TheVariants as task
+use Rattle.iloc_args.specs.declared.request.Request.{Request}
+use Rattle.iloc_args.specs.declared.request.Task.{Task}
+use Rattle.iloc_args.specs.declared.request.Task.TheVariants as task
 use Rattle.iloc_farm.specs.Device.{ReadsInput, WritesFront}
 use Rattle.iloc_farm.specs.declared.fault.RunFault.{RunFault}
 use Rattle.iloc_farm.specs.declared.fault.RunFault.TheVariants.{ReadFailed, Text, Farm, WriteFailed}

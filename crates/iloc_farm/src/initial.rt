@@ -2,7 +2,7 @@
 ghost use Rattle.std.specs.Prelude.{◌≡◌, IfOk};
 ghost use Rattle.iloc_farm.specs.Initial.{memory_of};
 
-use iloc_line::Request;
+use iloc_args::Request;
 use iloc_meaning::Memory;
 use iloc_text::NoMemory;
 use std::alloc::Global;

@@ -1,7 +1,7 @@
 //! The whole program but its real streams: from its words, a reader and two writers to its exit status.
 ghost use Rattle.std.specs.Prelude.{◌≡◌, IfErr, IfOk, IfSome, OnOk, drop};
 ghost use Rattle.std.specs.Vec.Iter.{into_iter_items};
-ghost use Rattle.iloc_line.specs.Asked.{asked_in};
+ghost use Rattle.iloc_args.specs.Asked.{asked_in};
 ghost use Rattle.iloc_farm.specs.Program.{AskFor, Ends, IsDone, IsStopped, MakeNone, Says};
 ghost use Rattle.iloc_farm.specs.Program.{named_line, words_line};
 
@@ -9,7 +9,7 @@ use crate::device::{WriteFailed, write_text};
 use crate::end_to_end::run;
 use crate::fault::{RunFault, run_status};
 use arrayvec::ArrayString;
-use iloc_line::{LineFault, Request, line_status, parse_line};
+use iloc_args::{LineFault, Request, line_status, parse_line};
 use std::alloc::{AllocError, Global};
 use std::env::Args;
 use std::fmt::{Display, Write as _};

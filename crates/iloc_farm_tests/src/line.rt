@@ -1,5 +1,5 @@
 //! Command lines with what they come to, worked out by hand.
-use iloc_line::{LineFault, Task, line_status, parse_line};
+use iloc_args::{LineFault, Task, line_status, parse_line};
 use iloc_timed::Latencies;
 use std::alloc::Global;
 use std::process::Abort;

@@ -2,7 +2,7 @@
 use Rattle.std.specs.Prelude.{ℕ, List}
 use Rattle.iloc_text.specs.declared.file.Block.{Block}
 use Rattle.iloc_text.specs.Files.{Denotes, IsRefused}
-use Rattle.iloc_line.specs.declared.request.Request.{Request}
+use Rattle.iloc_args.specs.declared.request.Request.{Request}
 use Rattle.iloc_farm.specs.declared.fault.RunFault.{RunFault}
 use Rattle.iloc_farm.specs.declared.fault.RunFault.TheVariants.{ReadFailed, Text, Farm, WriteFailed}
 use Rattle.iloc_farm.specs.Run.{IsListing}

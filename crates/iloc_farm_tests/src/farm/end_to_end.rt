@@ -1,7 +1,7 @@
 use super::fakes::{Sink, Source, giving, giving_lines, taking_all};
 use super::sample::{GIVES_7, STORES_7};
+use iloc_args::{LineFault, parse_line};
 use iloc_farm::{FarmFault, RunFault, initial_memory, outcomes_text, run, run_status};
-use iloc_line::{LineFault, parse_line};
 use iloc_meaning::run_block;
 use iloc_text::{ReadFault, read_file};
 use std::io::{ErrorKind, Read, Write};

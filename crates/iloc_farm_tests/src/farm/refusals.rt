@@ -1,8 +1,8 @@
 //! The run of each task, where a growth is refused: it answers want of memory or of a thread, nothing is written, and a
 //! second try ends well. To be run with each growth refused in turn.
 use super::fakes::{Sink, giving};
+use iloc_args::{Request, parse_line};
 use iloc_farm::{FarmFault, RunFault, run};
-use iloc_line::{Request, parse_line};
 use iloc_text::push_number;
 use std::alloc::{AllocError, Global};
 use std::process::Abort;

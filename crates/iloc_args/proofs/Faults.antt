@@ -1,0 +1,55 @@
+-- What the parser's two outcomes say of the faults in the words.
+use Rattle.std.proofs.Common.{◌≡◌, ◌∙◌, [], true, refl, sym, ap, subst, inl, inr}
+use Rattle.clap.proofs.OnLiterals.{clap_on_literals}
+use Rattle.clap.specs.Kinds.{HasKind, IsAmong}
+use Rattle.clap.specs.Words.{App, Text, fault_of, is_simple_and_free, kind_of}
+use Rattle.clap.specs.declared.error.Error.{Error}
+use Rattle.clap.specs.declared.error.kind.ErrorKind.TheVariants.{DisplayHelp, OutOfMemory}
+use Rattle.std.specs.Prelude.{List}
+use Rattle.iloc_args.specs.Asked.{Asked}
+use Rattle.iloc_args.specs.Command.{farm_app}
+use Rattle.iloc_args.specs.Due.{Asks, IsDue, faults_in}
+use Rattle.iloc_args.specs.Steps.Refusing.{IsFaultBy, IsOutOfRange}
+use Rattle.iloc_args.specs.declared.fault.LineFault.{LineFault}
+use Rattle.iloc_args.specs.declared.fault.LineFault.TheVariants.{Help, Refused, BadStart, TooManyWords, NoMemory}
+
+farm_is_free : is_simple_and_free farm_app ≡ true
+unfolding clap_on_literals
+farm_is_free = refl
+
+-- the parser takes only words in which it finds no fault
+pub taken_words : (a : App) (words : List Text) → a ≡ farm_app
+    → (is_simple_and_free a ≡ true → fault_of a words ≡ []) → faults_in words ≡ []
+unfolding faults_in
+taken_words a words is h = ap (λ (b : App). fault_of b words) (sym is) ∙ h (ap is_simple_and_free is ∙ farm_is_free)
+
+help_is_no_want : DisplayHelp ≡ OutOfMemory → ⊥
+help_is_no_want e = cc
+
+-- the fault for an error of the parser is due to the words
+pub refused_words : (a : App) (words : List Text) (e : Error) (f : LineFault) → a ≡ farm_app
+    → (is_simple_and_free a ≡ true → HasKind (fault_of a words) e) → IsFaultBy (kind_of e) f
+    → IsDue words f
+unfolding faults_in
+refused_words a words e f is h =
+    go f (subst (λ (b : App). HasKind (fault_of b words) e) is (h (ap is_simple_and_free is ∙ farm_is_free)))
+  where
+    among : (f : LineFault) → HasKind (fault_of farm_app words) e → (kind_of e ≡ OutOfMemory → ⊥)
+        → IsAmong (kind_of e) (fault_of farm_app words)
+    among f has other = elim has [ inl memory ↦ absurd (other memory) | inr found ↦ found ]
+
+    go : (f : LineFault) → HasKind (fault_of farm_app words) e → IsFaultBy (kind_of e) f → IsDue words f
+    go (Help text) has by = subst (λ k. IsAmong k (fault_of farm_app words)) by
+        (among (Help text) has (λ memory. help_is_no_want (sym by ∙ memory)))
+    go (Refused text) has by = (kind_of e, among (Refused text) has by.1, by.0)
+    go (BadStart at) has by = absurd by
+    go TooManyWords has by = absurd by
+    go NoMemory has by = tt
+
+-- a request out of range is a fault of the words that asked for it
+pub ranged_words : (words : List Text) (a : Asked) (f : LineFault) → Asks words a → IsOutOfRange a f → IsDue words f
+ranged_words words a (Help text) asks h = absurd h
+ranged_words words a (Refused text) asks h = absurd h
+ranged_words words a (BadStart at) asks h = (a, asks, h)
+ranged_words words a TooManyWords asks h = (a, asks, h)
+ranged_words words a NoMemory asks h = tt

@@ -1,0 +1,263 @@
+-- The matches of a command hold numbers in their ranges, where the parser finds no fault in the words.
+use Rattle.std.proofs.Common.{◌≡◌, ◌∙◌, ◌||◌, ℕ, Bool, true, false, cond, pos, List, [], ◌∷◌, Some, None}
+use Rattle.std.proofs.Common.{Option, map, refl, sym, ap, subst, codes}
+use Rattle.std.specs.Prelude.{Box, IfSome, find, option_and_then, option_map, slice_get, unwrap_or}
+use Rattle.std.specs.Box.{box_value}
+use Rattle.std.specs.List.{AllByRecursion}
+use Rattle.std.specs.Option.{option_map_or}
+use Rattle.std.specs.Str.{bytes_eq}
+use Rattle.std.proofs.lemmas.Slice.Eq.{bytes_eq-Decides}
+use Rattle.clap.specs.Facts.{parser_of_value}
+use Rattle.clap.specs.Faults.{entered_fault, level_fault, walk_fault}
+use Rattle.clap.specs.Kinds.{values_kinds}
+use Rattle.clap.specs.Simple.{Shape, built, built_leaf, entered, inherited, label_of, names_of, rows_at, subcommand_of, subcommand_rows}
+use Rattle.clap.specs.Values.{read_as, reading_of}
+use Rattle.clap.specs.Walk.{Row, Rule, Text, answers_to, arg_by_id, nothing_held, row_text, rows_after, stop_after, walk_from}
+use Rattle.clap.specs.declared.builder.value_parser.Reading.{Reading}
+use Rattle.clap.specs.declared.builder.value_parser.Reading.TheVariants.{WithoutMinus}
+use Rattle.clap.specs.declared.builder.value_parser.ValueParser.TheVariants.{Signed}
+use Rattle.clap.specs.declared.parser.matches.ArgMatches.TheViews.{out-SubCommand}
+use Rattle.clap.specs.declared.parser.matches.SubCommand.{SubCommand}
+use Rattle.iloc_args.specs.Asked.{asked, asked_as, asked_by, task_named}
+use Rattle.iloc_args.specs.Command.{Entry, entries, farm_app, run_entry, schedule_entry, shape, simulate_entry}
+use Rattle.iloc_args.specs.Due.{faults_in}
+use Rattle.iloc_args.specs.Steps.Taken.{AreNumbersIn, HoldNumbers, HoldsIn, IsNumberIn}
+use Rattle.iloc_args.specs.declared.request.Task.{Task}
+use Rattle.iloc_args.proofs.Leaves.{found_kept, leaf_kept, row_in}
+use Rattle.iloc_args.proofs.Numbers.{taken_numbers}
+use Rattle.iloc_args.proofs.Rows.{IsKept, both_empty}
+use Rattle.iloc_args.proofs.Uses.{AllOurs}
+
+-- ---- numbers in rows
+
+-- an argument of this id takes numbers within these bounds
+abbrev pub TakesIn : ℕ → ℕ → Text → List Rule → Type 0
+TakesIn low high id rules = IfSome (arg_by_id rules id) (λ a. a.parser ≡ Some (Signed (pos low) (pos high)))
+
+-- the values of a row are such numbers
+row_read : (low high : ℕ) (id : Text) (rules : List Rule) (r : Row) → TakesIn low high id rules → IsKept rules r
+    × (r.id ≡ id)
+    → (r.reading ≡ WithoutMinus) × AreNumbersIn low high (map (read_as WithoutMinus) r.values)
+row_read low high id rules r takes kept =
+    let found : arg_by_id rules id ≡ Some kept.0.rule = ap (arg_by_id rules) (sym kept.1) ∙ kept.0.first in
+    let is : kept.0.rule.parser ≡ Some (Signed (pos low) (pos high)) =
+    subst (λ o. IfSome o (λ (a : Rule). a.parser ≡ Some (Signed (pos low) (pos high)))) found takes in (
+      kept.0.holds.reading ∙ ap (λ p. reading_of (parser_of_value p)) is,
+      taken_numbers kept.0.rule.ignore_case low high r.values
+          (subst (λ p. values_kinds kept.0.rule.ignore_case (parser_of_value p) r.values ≡ []) is kept.0.holds.values),
+    )
+
+option_read : (low high : ℕ) (id : Text) (rules : List Rule) (o : Option Row) → TakesIn low high id rules
+    → IfSome o (λ r. IsKept rules r × (r.id ≡ id))
+    → IfSome (option_and_then row_text o) (IsNumberIn low high)
+option_read low high id rules None takes kept = tt
+option_read low high id rules (Some r) takes kept =
+    let read = row_read low high id rules r takes kept in
+    go r.reading r.values read.0 read.1
+  where
+    go : (how : Reading) (values : List Text) → how ≡ WithoutMinus
+        → AreNumbersIn low high (map (read_as WithoutMinus) values)
+        → IfSome (option_map (read_as how) (slice_get values 0)) (IsNumberIn low high)
+    go how [] reading numbers = tt
+    go how (v ∷ vs) reading numbers = subst (λ (h : Reading). IsNumberIn low high (read_as h v)) (sym reading) numbers.0
+
+values_read : (low high : ℕ) (id : Text) (rules : List Rule) (o : Option Row) → TakesIn low high id rules
+    → IfSome o (λ r. IsKept rules r × (r.id ≡ id))
+    → AreNumbersIn low high (unwrap_or (option_map (λ r. map (read_as r.reading) r.values) o) [])
+values_read low high id rules None takes kept = tt
+values_read low high id rules (Some r) takes kept =
+    let read = row_read low high id rules r takes kept in
+    subst (λ (h : Reading). AreNumbersIn low high (map (read_as h) r.values)) (sym read.0) read.1
+
+-- ---- a command, as the parser builds it
+
+abbrev built_of : Entry → Shape
+built_of e = built_leaf (inherited farm_app.top (shape e))
+
+-- its arguments are such as the walk keeps, and take the numbers that each request has
+pub record IsFit (rules : List Rule) : Type 0 where
+  pub ours : AllOurs rules
+  pub workers : TakesIn 1 8 (codes "workers") rules
+  pub at : TakesIn 0 65532 (codes "at") rules
+  pub words : TakesIn 0 4294967295 (codes "words") rules
+  pub load : TakesIn 1 16 (codes "load") rules
+  pub store : TakesIn 1 16 (codes "store") rules
+  pub mult : TakesIn 1 16 (codes "mult") rules
+
+leaf_holds : (s : Shape) (words : List Text) → IsFit s.rules → level_fault s [] nothing_held words false [] ≡ []
+    → HoldNumbers (rows_after s.rules [] words)
+leaf_holds s words fit e =
+    let rows = rows_after s.rules [] words in
+    let kept = leaf_kept s words fit.ours e in
+    let holds : (low high : ℕ) (id : Text) → TakesIn low high id s.rules → HoldsIn low high id rows =
+    λ low high id takes. option_read low high id s.rules (row_in id rows) takes (found_kept s.rules id rows kept) in
+    record {
+      workers = holds 1 8 (codes "workers") fit.workers;
+      at = holds 0 65532 (codes "at") fit.at;
+      words = values_read 0 4294967295 (codes "words") s.rules (row_in (codes "words") rows) fit.words
+          (found_kept s.rules (codes "words") rows kept);
+      load = holds 1 16 (codes "load") fit.load;
+      store = holds 1 16 (codes "store") fit.store;
+      mult = holds 1 16 (codes "mult") fit.mult;
+    }
+
+run_fit : IsFit (built_of run_entry).rules
+run_fit = record {
+  ours = (
+    record { first = refl; action = tt },
+    (record { first = refl; action = tt }, (record { first = refl; action = tt }, tt)),
+  );
+  workers = tt;
+  at = refl;
+  words = refl;
+  load = tt;
+  store = tt;
+  mult = tt;
+}
+
+simulate_fit : IsFit (built_of simulate_entry).rules
+simulate_fit = record {
+  ours = (
+    record { first = refl; action = tt },
+    (
+      record { first = refl; action = tt },
+      (
+        record { first = refl; action = tt },
+        (
+          record { first = refl; action = tt },
+          (record { first = refl; action = tt }, (record { first = refl; action = tt }, tt)),
+        ),
+      ),
+    ),
+  );
+  workers = tt;
+  at = refl;
+  words = refl;
+  load = refl;
+  store = refl;
+  mult = refl;
+}
+
+schedule_fit : IsFit (built_of schedule_entry).rules
+schedule_fit = record {
+  ours = (
+    record { first = refl; action = tt },
+    (
+      record { first = refl; action = tt },
+      (
+        record { first = refl; action = tt },
+        (record { first = refl; action = tt }, (record { first = refl; action = tt }, tt)),
+      ),
+    ),
+  );
+  workers = refl;
+  at = tt;
+  words = tt;
+  load = refl;
+  store = refl;
+  mult = refl;
+}
+
+all_fit : AllByRecursion (λ e. IsFit (built_of e).rules) entries
+all_fit = (run_fit, (simulate_fit, (schedule_fit, (schedule_fit, tt))))
+
+-- ---- the whole command line
+
+-- a command of the list has this name, and the matches hold numbers in their ranges
+pub record IsEntered (es : List Entry) (word : Text) (named : Text × List Row) : Type 0 where
+  pub same : named.0 ≡ word
+  pub entry : Entry
+  pub first : find (λ e. bytes_eq e.name word) es ≡ Some entry
+  pub hold : HoldNumbers named.1
+
+entered_one : (es : List Entry) (p : Text × List Text) (named : Text × List Row)
+    → AllByRecursion (λ e. IsFit (built_of e).rules) es
+    → option_map (λ s. rows_at s p.1) (find (λ s. answers_to p.0 (label_of s)) (map built_of es)) ≡ Some named
+    → option_map_or (λ s. level_fault s [] nothing_held p.1 false [])
+    (find (λ s. answers_to p.0 (label_of s)) (map built_of es)) [] ≡ []
+    → IsEntered es p.0 named
+entered_one [] p named fit is e = cc
+entered_one (x ∷ es) p named fit is e = go (bytes_eq x.name p.0) refl is e (entered_one es p named fit.1)
+  where
+    rest : Option Shape
+    rest = find (λ s. answers_to p.0 (label_of s)) (map built_of es)
+
+    go : (b : Bool) → bytes_eq x.name p.0 ≡ b
+        → option_map (λ s. rows_at s p.1) (cond (b || false) (Some (built_of x))
+        (find (λ s. answers_to p.0 (label_of s)) (map built_of es))) ≡ Some named
+        → option_map_or (λ s. level_fault s [] nothing_held p.1 false [])
+        (cond (b || false) (Some (built_of x)) (find (λ s. answers_to p.0 (label_of s)) (map built_of es))) [] ≡ []
+        → (option_map (λ s. rows_at s p.1) (find (λ s. answers_to p.0 (label_of s)) (map built_of es)) ≡ Some named
+        → option_map_or (λ s. level_fault s [] nothing_held p.1 false [])
+        (find (λ s. answers_to p.0 (label_of s)) (map built_of es)) [] ≡ []
+        → IsEntered es p.0 named)
+        → IsEntered (x ∷ es) p.0 named
+    go true same is e later =
+        let taken : rows_at (built_of x) p.1 ≡ named = ap (λ o. unwrap_or o (rows_at (built_of x) p.1)) is in
+        record {
+          same = sym (ap (λ (n : Text × List Row). n.0) taken) ∙ (bytes_eq-Decides x.name p.0).0 same;
+          entry = x;
+          first = rw same refl;
+          hold = subst (λ (n : Text × List Row). HoldNumbers n.1) taken (leaf_holds (built_of x) p.1 fit.0 e);
+        }
+    go false other is e later =
+        let found = later is e in
+        record { same = found.same; entry = found.entry; first = rw other found.first; hold = found.hold }
+
+entered_some : (stop : Option (Text × List Text)) (named : Text × List Row) → entered (built farm_app) stop ≡ Some named
+    → entered_fault (built farm_app) stop ≡ [] → IsEntered entries named.0 named
+entered_some None named is e = cc
+entered_some (Some p) named is e =
+    let found = entered_one entries p named all_fit is e in
+    record {
+      same = refl;
+      entry = found.entry;
+      first = subst (λ (w : Text). find (λ e. bytes_eq e.name w) entries ≡ Some found.entry) (sym found.same)
+          found.first;
+      hold = found.hold;
+    }
+
+-- the words name a command, and its matches hold numbers in their ranges
+pub taken_matches : (words : List Text) (named : Text × List Row) → subcommand_of farm_app words ≡ Some named
+    → faults_in words ≡ []
+    → IsEntered entries named.0 named
+unfolding faults_in
+taken_matches words named is e =
+    let top = (built farm_app).top in
+    let names = names_of (built farm_app) in
+    let stop = stop_after top.rules names words in
+    let walked = both_empty (walk_fault top names (walk_from nothing_held) words) _ e in
+    let below = both_empty (entered_fault (built farm_app) stop) _ walked.1 in
+    entered_some stop named is below.0
+
+-- what a parse has entered, by the words: a command of this task, of which the words ask this
+pub record IsCommand (words : List Text) (name : Text) (rows : List Row) : Type 0 where
+  pub task : Task
+  pub named : task_named name ≡ Some task
+  pub hold : HoldNumbers rows
+  pub asks : asked words ≡ Some (asked_as task rows)
+
+pub entered_command : (words : List Text) (name : Text) (rows : List Row) (o : Option (Text × List Row))
+    → o ≡ subcommand_of farm_app words
+    → Some rows ≡ option_map (λ p. p.1) o → Some name ≡ option_map (λ p. p.0) o → faults_in words ≡ []
+    → IsCommand words name rows
+entered_command words name rows None is has named e = cc
+entered_command words name rows (Some p) is has named e =
+    let found = taken_matches words p (sym is) e in
+    let same_rows : p.1 ≡ rows = sym (ap (λ o. unwrap_or o rows) has) in
+    let same_name : p.0 ≡ name = sym (ap (λ o. unwrap_or o name) named) in
+    let task : task_named p.0 ≡ Some found.entry.task = ap (option_map (λ (e : Entry). e.task)) found.first in
+    record {
+      task = found.entry.task;
+      named = ap task_named (sym same_name) ∙ task;
+      hold = subst HoldNumbers same_rows found.hold;
+      asks = ap (option_and_then asked_by) (sym is)
+          ∙ (ap (option_map (λ t. asked_as t p.1)) task ∙ ap (λ rs. Some (asked_as found.entry.task rs)) same_rows);
+    }
+
+module _ {Z : Type 0} where
+  -- the name of a subcommand, by its rows
+  pub name-rows : (o : Option (Box SubCommand Z)) → option_map (λ p. p.0) (subcommand_rows o)
+      ≡ option_map (λ b. (out-SubCommand (box_value b)).name.now) o
+  name-rows None = refl
+  name-rows (Some b) = refl

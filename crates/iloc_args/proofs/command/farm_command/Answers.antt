@@ -1,0 +1,12 @@
+use Rattle.iloc_args.proofs.Commands.{if_more_command, more_command}
+use Rattle.iloc_args.proofs.command.farm_command.Goals as goal
+
+pub returns : goal.returns
+returns c =
+    let one = more_command _ _ _ _ c.in_ok-subcommand.field-0 c.in_ok-top_command.ensures c.in_ok-run_command.ensures
+    c.in_ok-subcommand.ensures in
+    let two = more_command _ _ _ _ c.in_ok-subcommand-2.field-0 one c.in_ok-simulate_command.ensures
+    c.in_ok-subcommand-2.ensures in
+    let three = more_command _ _ _ _ c.in_ok-subcommand-3.field-0 two c.in_ok-schedule_command.ensures
+    c.in_ok-subcommand-3.ensures in
+    if_more_command _ _ _ _ c.subcommand-4.result three c.in_ok-counts_command.ensures c.subcommand-4.ensures

@@ -1,0 +1,14 @@
+use Rattle.std.proofs.Common.{◌∙◌, lit<}
+use Rattle.clap.specs.Words.{found_of}
+use Rattle.iloc_args.proofs.Getters.{one_read}
+use Rattle.iloc_args.proofs.line.latency_in.Goals as goal
+
+pub returns : goal.returns
+returns c =
+    let got = one_read c.args.option.now (found_of c.args.given.now) 1 16 c.args.usual c.get_one.result
+    (lit< tt) c.requires.known.0 c.requires.known.1 c.requires.held c.get_one.ensures.none
+    c.get_one.ensures.value in
+    record {
+      value = c.unwrap_or.ensures ∙ got.value;
+      within = (rw c.unwrap_or.ensures got.at_least, rw c.unwrap_or.ensures got.at_most);
+    }

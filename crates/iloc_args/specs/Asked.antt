@@ -1,0 +1,67 @@
+-- What the words of a command line ask for, as a function of these words.
+use Rattle.std.specs.Prelude.{ℕ, List, [], map, Option, find, codes}
+use Rattle.std.specs.Prelude.{option_and_then, option_map, unwrap_or}
+use Rattle.std.specs.Str.{bytes_eq}
+use Rattle.std.specs.Str.Parse.{digits_value, without_leading_plus}
+use Rattle.clap.specs.Words.{Row, Text, many_of, one_of, subcommand_of}
+use Rattle.iloc_args.specs.Command.{entries, farm_app}
+use Rattle.iloc_args.specs.declared.request.Request.{Request}
+use Rattle.iloc_args.specs.declared.request.Task.{Task}
+
+-- a command with its options, where nothing is said yet of their ranges
+pub record Asked : Type 0 where
+  pub task : Task
+  pub workers : ℕ
+  pub at : ℕ
+  pub words : List ℕ
+  pub load : ℕ
+  pub store : ℕ
+  pub mult : ℕ
+
+-- what a request asks for
+abbrev pub asked_in : Request → Asked
+asked_in r = record {
+  task = r.task;
+  workers = r.workers;
+  at = r.at;
+  words = r.words.items;
+  load = r.latencies.load;
+  store = r.latencies.store;
+  mult = r.latencies.mult;
+}
+
+-- the number that a text of digits writes, where a plus may stand first
+abbrev pub number_of : Text → ℕ
+number_of text = digits_value 10 (without_leading_plus text)
+
+-- the number that the matches have for an option, or this one where the command does not take it
+abbrev pub number_or : ℕ → Text → List Row → ℕ
+number_or otherwise id rows = unwrap_or (option_map number_of (one_of id rows)) otherwise
+
+-- the numbers that the matches have for an argument, none where it was not given
+abbrev pub numbers_in : Text → List Row → List ℕ
+numbers_in id rows = map number_of (unwrap_or (many_of id rows) [])
+
+-- a task with its options, by the matches of the command's arguments
+abbrev pub asked_as : Task → List Row → Asked
+asked_as task rows = record {
+  task = task;
+  workers = number_or 2 (codes "workers") rows;
+  at = number_or 1024 (codes "at") rows;
+  words = numbers_in (codes "words") rows;
+  load = number_or 5 (codes "load") rows;
+  store = number_or 5 (codes "store") rows;
+  mult = number_or 3 (codes "mult") rows;
+}
+
+-- the task of the command of this name
+abbrev pub task_named : Text → Option Task
+task_named name = option_map (λ e. e.task) (find (λ e. bytes_eq e.name name) entries)
+
+-- what the command of this name asks for, by the matches of its arguments
+abbrev pub asked_by : Text × List Row → Option Asked
+asked_by named = option_map (λ task. asked_as task named.1) (task_named named.0)
+
+-- what the words ask for, by the matches that the parser gives for them
+abbrev pub asked : List Text → Option Asked
+asked words = option_and_then asked_by (subcommand_of farm_app words)

@@ -1,0 +1,88 @@
+-- The program's command line, as the parser reads it.
+use Rattle.std.specs.Prelude.{ℕ, List, [], ◌∷◌, Some, map, pos, codes, true, false}
+use Rattle.clap.specs.declared.builder.action.ArgAction.TheVariants.{Append}
+use Rattle.clap.specs.declared.builder.value_parser.ValueParser.TheVariants.{Signed}
+use Rattle.clap.specs.Lexer.{usize_max}
+use Rattle.clap.specs.Words.{App, Rule, Shape, Text, new_rule}
+use Rattle.clap.specs.Simple.{new_shape}
+use Rattle.iloc_args.specs.declared.request.Task.{Task}
+use Rattle.iloc_args.specs.declared.request.Task.TheVariants.{Run, Simulate, Schedule, Counts}
+
+-- `--NAME N`, a number within these bounds, and this one where it is not given
+abbrev pub number_rule : Text → Text → ℕ → ℕ → Rule
+number_rule name default low high = record (new_rule name) {
+  long = Some name;
+  value_names = 1;
+  defaults = default ∷ [];
+  parser = Some (Signed (pos low) (pos high));
+}
+
+abbrev pub at_rule : Rule
+at_rule = number_rule (codes "at") (codes "1024") 0 65532
+
+abbrev pub workers_rule : Rule
+workers_rule = number_rule (codes "workers") (codes "2") 1 8
+
+-- the latency of an operation, in cycles
+abbrev pub latency_rule : Text → Text → Rule
+latency_rule name usual = number_rule name usual 1 16
+
+-- `[--load N] [--store N] [--mult N]`
+abbrev pub latency_rules : List Rule
+latency_rules =
+    latency_rule (codes "load") (codes "5")
+    ∷ latency_rule (codes "store") (codes "5")
+    ∷ latency_rule (codes "mult") (codes "3")
+    ∷ []
+
+-- any number of WORD, each from 0 to 4294967295
+abbrev pub words_rule : Rule
+words_rule = record (new_rule (codes "words")) {
+  value_names = 1;
+  range = Some (record { start_inclusive = 0; end_inclusive = usize_max });
+  action = Some Append;
+  parser = Some (Signed (pos 0) (pos 4294967295));
+}
+
+-- a command: its name, the task that it asks for, and its arguments
+pub record Entry : Type 0 where
+  pub name : Text
+  pub task : Task
+  pub rules : List Rule
+
+-- `run [--at N] [WORD]..`
+abbrev pub run_entry : Entry
+run_entry = record { name = codes "run"; task = Run; rules = at_rule ∷ words_rule ∷ [] }
+
+-- `simulate [--at N] [WORD].. [--load N] [--store N] [--mult N]`
+abbrev pub simulate_entry : Entry
+simulate_entry = record { name = codes "simulate"; task = Simulate; rules = at_rule ∷ words_rule ∷ latency_rules }
+
+-- `schedule [--workers N] [--load N] [--store N] [--mult N]`
+abbrev pub schedule_entry : Entry
+schedule_entry = record { name = codes "schedule"; task = Schedule; rules = workers_rule ∷ latency_rules }
+
+-- `counts [--workers N] [--load N] [--store N] [--mult N]`
+abbrev pub counts_entry : Entry
+counts_entry = record { name = codes "counts"; task = Counts; rules = workers_rule ∷ latency_rules }
+
+-- the commands that there are
+abbrev pub entries : List Entry
+entries = run_entry ∷ simulate_entry ∷ schedule_entry ∷ counts_entry ∷ []
+
+-- a command as the parser has it
+abbrev pub shape : Entry → Shape
+shape e = record (new_shape e.name) { rules = e.rules }
+
+-- the program without its commands: its words stand after its name, the first of them is a command,
+-- one has to be there, and there is no command `help`
+abbrev pub top_shape : Shape
+top_shape = record (new_shape (codes "ilocfarm")) {
+  no_binary_name = true;
+  subcommand_required = true;
+  disable_help_subcommand = true;
+}
+
+-- the whole command line
+abbrev pub farm_app : App
+farm_app = record { top = record top_shape { is_leaf = false }; subs = map shape entries }

@@ -1,0 +1,41 @@
+-- What a command line comes to: a request, or one of the faults.
+use Rattle.std.specs.Prelude.{◌≡◌, ◌≢◌, ◌<◌, ◌+◌, ◌*◌, ◌%◌, ℕ, List, [], Some}
+use Rattle.std.specs.Prelude.{length}
+use Rattle.clap.specs.Kinds.{IsAmong, Kinds}
+use Rattle.clap.specs.Words.{Text, fault_of}
+use Rattle.clap.specs.declared.error.kind.ErrorKind.{ErrorKind}
+use Rattle.clap.specs.declared.error.kind.ErrorKind.TheVariants.{DisplayHelp}
+use Rattle.iloc_args.specs.Asked.{Asked, asked}
+use Rattle.iloc_args.specs.Command.{farm_app}
+use Rattle.iloc_args.specs.declared.fault.LineFault.{LineFault}
+use Rattle.iloc_args.specs.declared.fault.LineFault.TheVariants.{Help, Refused, BadStart}
+use Rattle.iloc_args.specs.declared.fault.LineFault.TheVariants.{TooManyWords, NoMemory}
+
+-- what the parser finds wrong with the words: the kinds of the first step that fails, and none
+-- where it takes them
+unfoldable pub faults_in : List Text → Kinds
+faults_in words = fault_of farm_app words
+
+-- the parser takes the words, and they ask for this
+pub record Asks (words : List Text) (a : Asked) : Type 0 where
+  pub taken : faults_in words ≡ []
+  pub asked : asked words ≡ Some a
+
+-- the start is this one, and no multiple of 4
+pub record StartsAmiss (at : ℕ) (a : Asked) : Type 0 where
+  pub start : a.at ≡ at
+  pub amiss : a.at % 4 ≢ 0
+
+-- the start is a multiple of 4, and the words reach beyond the 65536 bytes of memory
+pub record Overflows (a : Asked) : Type 0 where
+  pub aligned : a.at % 4 ≡ 0
+  pub beyond : 65536 < a.at + 4 * length a.words
+
+-- the words bring this fault about; memory may be wanting at any words
+abbrev pub IsDue : List Text → LineFault → Type 0
+IsDue words (Help text) = IsAmong DisplayHelp (faults_in words)
+IsDue words (Refused text) =
+    (kind : ErrorKind) × IsAmong kind (faults_in words) × (kind ≢ DisplayHelp)
+IsDue words (BadStart at) = (a : Asked) × Asks words a × StartsAmiss at a
+IsDue words TooManyWords = (a : Asked) × Asks words a × Overflows a
+IsDue words NoMemory = Unit {0}

@@ -1,0 +1,29 @@
+-- The parser in the making: its arguments and its commands, one by one.
+use Rattle.std.specs.Prelude.{◌≡◌, [], ◌∷◌, false}
+use Rattle.clap.specs.declared.builder.arg.Arg.{Arg}
+use Rattle.clap.specs.declared.builder.command.Command.{Command}
+use Rattle.clap.specs.declared.builder.command.Command.TheViews.{out-Command}
+use Rattle.clap.specs.Words.{App, Rule, Shape, Text, app_of, rule_of}
+use Rattle.clap.specs.Simple.{new_shape}
+use Rattle.iloc_args.specs.Command.{Entry, at_rule, shape, words_rule}
+
+-- it has no commands below it
+abbrev pub alone : Shape → App
+alone s = record { top = s; subs = [] }
+
+abbrev pub app : Entry → App
+app e = alone (shape e)
+
+-- a command of this name that takes words and their start
+abbrev pub memory_shape : Text → Shape
+memory_shape name = record (new_shape name) { rules = at_rule ∷ words_rule ∷ [] }
+
+-- the argument has this rule, and is for its own command alone
+pub record HasRule (wanted : Rule) (a : Arg) : Type 0 where
+  pub rule : rule_of a ≡ wanted
+  pub global : a.global ≡ false
+
+-- the command is this one, and its arguments are for it alone
+pub record HasApp (wanted : App) (c : Command) : Type 0 where
+  pub app : app_of c ≡ wanted
+  pub globals : (out-Command c).has_globals ≡ false

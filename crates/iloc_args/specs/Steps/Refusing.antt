@@ -1,0 +1,25 @@
+-- The faults of the two halves: what the parser finds, and what it has taken and is out of range.
+use Rattle.std.specs.Prelude.{◌≡◌, ◌≢◌}
+use Rattle.clap.specs.declared.error.kind.ErrorKind.{ErrorKind}
+use Rattle.clap.specs.declared.error.kind.ErrorKind.TheVariants.{DisplayHelp, OutOfMemory}
+use Rattle.iloc_args.specs.Asked.{Asked}
+use Rattle.iloc_args.specs.Due.{Overflows, StartsAmiss}
+use Rattle.iloc_args.specs.declared.fault.LineFault.{LineFault}
+use Rattle.iloc_args.specs.declared.fault.LineFault.TheVariants.{Help, Refused, BadStart}
+use Rattle.iloc_args.specs.declared.fault.LineFault.TheVariants.{TooManyWords, NoMemory}
+
+-- the fault is the one for an error of the parser of this kind
+abbrev pub IsFaultBy : ErrorKind → LineFault → Type 0
+IsFaultBy kind (Help text) = kind ≡ DisplayHelp
+IsFaultBy kind (Refused text) = (kind ≢ DisplayHelp) × (kind ≢ OutOfMemory)
+IsFaultBy kind (BadStart at) = ⊥
+IsFaultBy kind TooManyWords = ⊥
+IsFaultBy kind NoMemory = kind ≡ OutOfMemory
+
+-- what was asked for is out of range in this way, or memory was wanting
+abbrev pub IsOutOfRange : Asked → LineFault → Type 0
+IsOutOfRange a (Help text) = ⊥
+IsOutOfRange a (Refused text) = ⊥
+IsOutOfRange a (BadStart at) = StartsAmiss at a
+IsOutOfRange a TooManyWords = Overflows a
+IsOutOfRange a NoMemory = Unit {0}

@@ -1,0 +1,85 @@
+//! Why a command line gives no request.
+ghost use Rattle.std.specs.Prelude.{◌≡◌, IfOk};
+ghost use Rattle.clap.specs.Words.{kind_of};
+ghost use Rattle.iloc_args.specs.Fault.{status_of};
+ghost use Rattle.iloc_args.specs.Steps.Refusing.{IsFaultBy};
+ghost use Rattle.iloc_args.specs.declared.fault.LineFault.TheVariants.{NoMemory};
+
+use clap::error::{Error as ClapError, ErrorKind};
+use std::alloc::{AllocError, AllocFailed, Global};
+use std::error::Error;
+use std::fmt::{self, Display, Formatter};
+
+/// Why a command line gives no request. Its `Display` is the text for the user.
+#[derive(Debug, Drop, PartialEq, Eq)]
+pub enum LineFault {
+    /// Help was asked for: its text.
+    Help(String),
+    /// The words are no command line: what is wrong, and the usage.
+    Refused(String),
+    /// This start of the words is not a multiple of 4.
+    BadStart(u32),
+    /// The words reach beyond the end of memory.
+    TooManyWords,
+    /// The growth of a list or a text was refused.
+    NoMemory,
+}
+
+impl Display for LineFault {
+    ghost use Rattle.std.specs.Prelude.{Some};
+    ghost use Rattle.iloc_args.specs.Fault.{line_text};
+
+    ghost output = { λ fault. Some (line_text fault) };
+
+    fn fmt<W: fmt::Write>(&self, f: &mut Formatter<W>) -> fmt::Result {
+        match self {
+            LineFault::Help(text) | LineFault::Refused(text) => f.write_str(text.as_str()),
+            LineFault::BadStart(_) => f.write_str("--at is not a multiple of 4"),
+            LineFault::TooManyWords => f.write_str("the words do not fit into memory"),
+            LineFault::NoMemory => f.write_str("out of memory"),
+        }
+    }
+}
+
+impl Error for LineFault {}
+
+impl LineFault {
+    /// The fault for an error of the parser, with its text.
+    pub(crate) fn of_parser(alloc: Global, error: &ClapError) -> Result<LineFault, AllocError>
+        ensures { IfOk result (IsFaultBy (kind_of error.now)) }
+    {
+        Ok(match error.kind() {
+            ErrorKind::OutOfMemory => LineFault::NoMemory,
+            ErrorKind::DisplayHelp => LineFault::Help(error.to_string(alloc)?),
+            _ => LineFault::Refused(error.to_string(alloc)?),
+        })
+    }
+}
+
+impl From<AllocError> for LineFault {
+    ghost from_gives = { λ _ fault. fault ≡ NoMemory };
+
+    fn from(_: AllocError) -> LineFault {
+        LineFault::NoMemory
+    }
+}
+
+impl<T: Drop> From<AllocFailed<T>> for LineFault {
+    ghost from_gives = { λ _ fault. fault ≡ NoMemory };
+
+    fn from(_: AllocFailed<T>) -> LineFault {
+        LineFault::NoMemory
+    }
+}
+
+/// The exit status of the program: 0 where help was asked for, 2 for a mistake in the words, 3 for
+/// want of memory.
+pub fn line_status(fault: &LineFault) -> u8
+    ensures { result ≡ status_of fault.now }
+{
+    match fault {
+        LineFault::Help(_) => 0,
+        LineFault::Refused(_) | LineFault::BadStart(_) | LineFault::TooManyWords => 2,
+        LineFault::NoMemory => 3,
+    }
+}

@@ -1,0 +1,155 @@
+//! Reading a command line.
+ghost use Rattle.std.specs.Prelude.{◌≡◌, ◌≤◌, Some, IfErr, IfOk, IsSome, OnOk, [], codes, map, true};
+ghost use Rattle.clap.specs.Words.{found_of, has_subcommand, rows_of, subcommand_of};
+ghost use Rattle.clap.specs.Words.{subcommand_rows_of};
+ghost use Rattle.iloc_args.specs.Asked.{asked_as, asked_in, number_or, numbers_in, task_named};
+ghost use Rattle.iloc_args.specs.Command.{farm_app};
+ghost use Rattle.iloc_args.specs.Due.{Asks, IsDue, faults_in};
+ghost use Rattle.iloc_args.specs.Steps.Refusing.{IsOutOfRange};
+ghost use Rattle.iloc_args.specs.Steps.Taken.{HoldNumbers, HoldsIn};
+ghost use Rattle.iloc_timed.specs.Latency.{IsLatency};
+
+use crate::command::farm_command;
+use crate::fault::LineFault;
+use crate::request::{Request, Task};
+use clap::ArgMatches;
+use iloc_timed::Latencies;
+use std::alloc::{AllocFailed, Global};
+use std::convert::AsStr;
+
+/// The bytes of memory, which has the addresses from 0 on.
+const MEMORY_SIZE: u64 = 65536;
+
+/// The address of the first word where the command does not take the option.
+const DEFAULT_START: u32 = 1024;
+
+/// How many workers share the blocks where the command does not take the option.
+const DEFAULT_WORKERS: u32 = 2;
+
+/// The request that the words after the program's name ask for.
+///
+/// # Errors
+///
+/// `Help` or `Refused` with the parser's text where it gives no matches, `BadStart` where the words
+/// would not start at a multiple of 4, else `TooManyWords` where they would end beyond the memory,
+/// and `NoMemory` where a growth was refused.
+pub fn parse_line<S: AsStr>(alloc: Global, words: &[S]) -> Result<Request, LineFault>
+    ensures ok { IfOk result (λ request. Asks (map S.text words.now) (asked_in request)) }
+    ensures err { IfErr result (IsDue (map S.text words.now)) }
+{
+    let matches = matches_of(alloc, words)?;
+    let Some((name, given)) = matches.subcommand() else {
+        unreachable!()
+    };
+    request_in(alloc, task_of(name), given)
+}
+
+/// The task of the command of this name.
+fn task_of(name: &str) -> Task
+    requires { IsSome (task_named name.now) }
+    ensures { task_named name.now ≡ Some result }
+{
+    match name {
+        "run" => Task::Run,
+        "simulate" => Task::Simulate,
+        "schedule" => Task::Schedule,
+        "counts" => Task::Counts,
+        _ => unreachable!(),
+    }
+}
+
+/// What the parser makes of the words.
+fn matches_of<'a, S: AsStr>(alloc: Global, words: &'a [S]) -> Result<ArgMatches<'a>, LineFault>
+    ensures met { IfOk result (λ matches. has_subcommand matches ≡ true) }
+    ensures rows { IfOk result (λ matches.
+        subcommand_rows_of matches ≡ subcommand_of farm_app (map S.text words.now)) }
+    ensures taken { OnOk result (faults_in (map S.text words.now) ≡ []) }
+    ensures err { IfErr result (IsDue (map S.text words.now)) }
+{
+    match farm_command(alloc)?.try_get_matches_from(words) {
+        Ok(matches) => Ok(matches),
+        Err(error) => Err(LineFault::of_parser(alloc, &error)?),
+    }
+}
+
+/// The request for a task, by the matches of the command's arguments.
+fn request_in(alloc: Global, task: Task, given: &ArgMatches<'_>) -> Result<Request, LineFault>
+    requires { HoldNumbers (rows_of (found_of given.now)) }
+    ensures ok { IfOk result (λ request.
+        asked_in request ≡ asked_as task (rows_of (found_of given.now))) }
+    ensures err { IfErr result (IsOutOfRange (asked_as task (rows_of (found_of given.now)))) }
+{
+    let at = start_in(given);
+    let words = words_in(alloc, given)?;
+    if at % 4 != 0 {
+        return Err(LineFault::BadStart(at));
+    }
+    if u64::from(at) + 4 * (words.len() as u64) > MEMORY_SIZE {
+        return Err(LineFault::TooManyWords);
+    }
+    Ok(Request {
+        task,
+        workers: workers_in(given),
+        at,
+        words,
+        latencies: latencies_in(given),
+    })
+}
+
+/// How many workers share the blocks.
+fn workers_in(given: &ArgMatches<'_>) -> u32
+    requires { HoldNumbers (rows_of (found_of given.now)) }
+    ensures value { result ≡ number_or 2 (codes "workers") (rows_of (found_of given.now)) }
+    ensures some { 1 ≤ result }
+    ensures few { result ≤ 8 }
+{
+    given.get_one("workers").unwrap_or(DEFAULT_WORKERS)
+}
+
+/// The latencies of loads, stores and products.
+fn latencies_in(given: &ArgMatches<'_>) -> Latencies
+    requires { HoldNumbers (rows_of (found_of given.now)) }
+    ensures load { result.load ≡ number_or 5 (codes "load") (rows_of (found_of given.now)) }
+    ensures store { result.store ≡ number_or 5 (codes "store") (rows_of (found_of given.now)) }
+    ensures mult { result.mult ≡ number_or 3 (codes "mult") (rows_of (found_of given.now)) }
+{
+    let usual = Latencies::usual();
+    let load = latency_in(given, "load", usual.load);
+    let store = latency_in(given, "store", usual.store);
+    let mult = latency_in(given, "mult", usual.mult);
+    Latencies::new(load, store, mult).unwrap()
+}
+
+/// The latency that an option sets, the usual one where the command does not take it.
+fn latency_in(given: &ArgMatches<'_>, option: &str, usual: u32) -> u32
+    requires held { HoldsIn 1 16 option.now (rows_of (found_of given.now)) }
+    requires known { IsLatency usual }
+    ensures value { result ≡ number_or usual option.now (rows_of (found_of given.now)) }
+    ensures within { IsLatency result }
+{
+    given.get_one(option).unwrap_or(usual)
+}
+
+/// The address of the first word.
+fn start_in(given: &ArgMatches<'_>) -> u32
+    requires { HoldNumbers (rows_of (found_of given.now)) }
+    ensures value { result ≡ number_or 1024 (codes "at") (rows_of (found_of given.now)) }
+    ensures in_memory { result ≤ 65532 }
+{
+    given.get_one("at").unwrap_or(DEFAULT_START)
+}
+
+/// The words themselves.
+fn words_in(alloc: Global, given: &ArgMatches<'_>) -> Result<Vec<u32>, AllocFailed<u32>>
+    requires { HoldNumbers (rows_of (found_of given.now)) }
+    ensures { IfOk result (λ words.
+        words.items ≡ numbers_in (codes "words") (rows_of (found_of given.now))) }
+{
+    let mut words = Vec::new(alloc);
+    if let Some(values) = given.get_many::<u32>("words") {
+        for value in values {
+            words.push(value.unwrap())?;
+        }
+    }
+    Ok(words)
+}
