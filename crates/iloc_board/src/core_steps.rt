@@ -6,7 +6,7 @@ ghost use Rattle.std.specs.Ordering.{nat_cmp};
 ghost use Rattle.iloc_board.specs.Core.{Core, IsWithin, worker_of, look_reply, try_reply, hand_reply, reply_at, reply_to, state_after, after, opening};
 ghost use Rattle.iloc_board.specs.History.{IsExact};
 ghost use Rattle.iloc_board.specs.Play.{replies, final, IsLegal, TakesEachOnce, EndsAlike};
-ghost use Rattle.iloc_board.specs.Steps.Machine.{Shows, state_in};
+ghost use Rattle.iloc_board.specs.Steps.RunningCore.{Shows, state_in};
 
 use crate::fault::NoMemory;
 use crate::state::State;
@@ -27,7 +27,7 @@ pub struct Played {
 
 // The core with the workers' states in a map: a worker that stands not in it is free.
 #[derive(Drop)]
-struct Machine {
+struct RunningCore {
     count: u32,
     next: u32,
     costs: Vec<u64>,
@@ -94,7 +94,7 @@ fn next_state(state: State, reply: Reply) -> State
     }
 }
 
-impl Machine {
+impl RunningCore {
     fn state(&self, worker: u32) -> State
         ensures { result ≡ state_in self.now.states worker }
     {
@@ -150,7 +150,7 @@ pub fn play(alloc: Global, count: u32, steps: &[Step]) -> Result<Played, NoMemor
     ensures once { TakesEachOnce count steps.now }
     ensures ends { EndsAlike count steps.now }
 {
-    let mut machine = Machine {
+    let mut core = RunningCore {
         count,
         next: 0,
         costs: vec![in alloc; 0u64; count as usize]?,
@@ -158,10 +158,10 @@ pub fn play(alloc: Global, count: u32, steps: &[Step]) -> Result<Played, NoMemor
     };
     let mut replies = Vec::new(alloc);
     for step in steps {
-        let reply = machine.step(*step)?;
+        let reply = core.step(*step)?;
         replies.push(reply)?;
     }
-    let Machine { next, costs, .. } = machine;
+    let RunningCore { next, costs, .. } = core;
     Ok(Played {
         replies,
         next,
