@@ -75,12 +75,12 @@ abbrev pub shape : Entry → Shape
 shape e = record (new_shape e.name) { rules = e.rules }
 
 -- the program without its commands: its words stand after its name, the first of them is a command,
--- one has to be there, and there is no command `help`
+-- one has to be there, and `--version` and the command `help` are the parser's own
 abbrev pub top_shape : Shape
 top_shape = record (new_shape (codes "ilocfarm")) {
   no_binary_name = true;
   subcommand_required = true;
-  disable_help_subcommand = true;
+  has_version = true;
 }
 
 -- the whole command line

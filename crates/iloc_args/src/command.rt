@@ -9,6 +9,28 @@ ghost use Rattle.iloc_args.specs.Steps.Building.{HasApp, HasRule, alone, app, me
 use clap::{Arg, ArgAction, Command, value_parser};
 use std::alloc::{AllocError, Global};
 
+/// The version of the program.
+const VERSION: &str = "1.0.0";
+
+/// What stands below the list of commands: limits, exit statuses, and where the manual is.
+const MANUAL: &str = "\
+Limits:
+  16777216 bytes, 65535 blocks, 10000 operations in a block, numbers up to 2147483647
+
+Exit status:
+  0  done; a block that faults is listed as fault
+  1  the text is refused
+  2  a mistake in the command line
+  3  no memory, or a worker could not be started
+  4  reading or writing failed
+
+Manual:
+  man ilocfarm; in the repository man/ilocfarm.1 and docs/LANGUAGE.md";
+
+/// How a word is given that stands for a negative number.
+const NEGATIVE_WORDS: &str = "\
+A negative WORD is given by its pattern of 32 bits, a number above 2147483647: 4294967295 is -1";
+
 /// `--at N`
 fn at_arg<'a>(alloc: Global) -> Arg<'a>
     ensures { HasRule at_rule result }
@@ -103,6 +125,7 @@ fn memory_command<'a>(
 {
     Command::new(alloc, name)
         .about(about)
+        .after_help(NEGATIVE_WORDS)
         .arg(at_arg(alloc))?
         .arg(words_arg(alloc))
 }
@@ -168,7 +191,8 @@ fn top_command<'a>(alloc: Global) -> Result<Command<'a>, AllocError>
             .bin_name("ilocfarm")?
             .no_binary_name(true)
             .subcommand_required(true)
-            .disable_help_subcommand(true),
+            .version(VERSION)
+            .after_help(MANUAL),
     )
 }
 

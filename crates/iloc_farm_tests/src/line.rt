@@ -159,15 +159,15 @@ fn what_is_no_command_is_refused(rt: HostRuntime) -> Result<(), Fail> {
     let cases: [(&[&str], &str); 4] = [
         (
             NOTHING.as_slice(),
-            "'ilocfarm' requires a subcommand but one was not provided\n  [subcommands: run, simulate, schedule, counts]\n\nUsage: ilocfarm <COMMAND>",
+            "'ilocfarm' requires a subcommand but one was not provided\n  [subcommands: run, simulate, schedule, counts, help]\n\nUsage: ilocfarm <COMMAND>",
         ),
         (
             &["jump"],
             "unrecognized subcommand 'jump'\n\nUsage: ilocfarm <COMMAND>",
         ),
         (
-            &["help"],
-            "unrecognized subcommand 'help'\n\nUsage: ilocfarm <COMMAND>",
+            &["help", "jump"],
+            "unrecognized subcommand 'jump'\n\nUsage: ilocfarm <COMMAND>",
         ),
         (
             &["1"],
@@ -229,9 +229,24 @@ Commands:
   simulate  Schedule each block, and run the schedule
   schedule  Schedule each block, and print the schedule
   counts    Schedule each block, and print how many cycles the schedule takes
+  help      Print this message or the help of the given subcommand(s)
 
 Options:
-  -h, --help  Print help
+  -h, --help     Print help
+  -V, --version  Print version
+
+Limits:
+  16777216 bytes, 65535 blocks, 10000 operations in a block, numbers up to 2147483647
+
+Exit status:
+  0  done; a block that faults is listed as fault
+  1  the text is refused
+  2  a mistake in the command line
+  3  no memory, or a worker could not be started
+  4  reading or writing failed
+
+Manual:
+  man ilocfarm; in the repository man/ilocfarm.1 and docs/LANGUAGE.md
 ";
 
 const HELP_OF_RUN: &str = "Run each block, one operation after the other
@@ -244,6 +259,8 @@ Arguments:
 Options:
       --at <N>  Address of the first WORD, a multiple of 4 up to 65532 [default: 1024]
   -h, --help    Print help
+
+A negative WORD is given by its pattern of 32 bits, a number above 2147483647: 4294967295 is -1
 ";
 
 const HELP_OF_SIMULATE: &str = "Schedule each block, and run the schedule
@@ -259,6 +276,8 @@ Options:
       --store <N>  Cycles that store and storeAI take, 1 to 16 [default: 5]
       --mult <N>   Cycles that mult and multI take, 1 to 16 [default: 3]
   -h, --help       Print help
+
+A negative WORD is given by its pattern of 32 bits, a number above 2147483647: 4294967295 is -1
 ";
 
 const HELP_OF_SCHEDULE: &str = "Schedule each block, and print the schedule
@@ -288,9 +307,12 @@ Options:
 #[test]
 fn help_is_shown_whole(rt: HostRuntime) -> Result<(), Fail> {
     let alloc = rt.alloc();
-    let cases: [(&[&str], &str); 7] = [
+    let cases: [(&[&str], &str); 10] = [
         (&["--help"], HELP),
         (&["-h"], HELP),
+        (&["help"], HELP),
+        (&["help", "run"], HELP_OF_RUN),
+        (&["--version"], "ilocfarm 1.0.0\n"),
         (&["run", "--help"], HELP_OF_RUN),
         (&["run", "--at", "2", "-h"], HELP_OF_RUN),
         (&["simulate", "--help"], HELP_OF_SIMULATE),
