@@ -37,9 +37,11 @@ length-SayAll (l ∷ ls) (s ∷ ss) h = ap suc (length-SayAll ls ss h.1)
 AllFit-snoc : (blocks : List Block) (lines ss : List Said) (s : Said) → AllFit blocks lines ss
     → Fits blocks (lines ++ ss) s → AllFit blocks lines (ss ++ s ∷ [])
 AllFit-snoc blocks lines [] s h f = (subst (λ l. Fits blocks l s) (append-nil lines) f, tt)
-AllFit-snoc blocks lines (x ∷ xs) s h f =
-    (h.0, AllFit-snoc blocks (lines ++ x ∷ []) xs s h.1 (subst (λ l. Fits blocks l s)
-    (sym (append_assoc lines (x ∷ []) xs)) f))
+AllFit-snoc blocks lines (x ∷ xs) s h f = (
+  h.0,
+  AllFit-snoc blocks (lines ++ x ∷ []) xs s h.1 (subst (λ l. Fits blocks l s)
+      (sym (append_assoc lines (x ∷ []) xs)) f),
+)
 
 -- this was proposed on the first of all these lines, and the rest is still to be read
 pub record Progress (blocks : List Block) (lines : ℕ) (all : List (List ℕ)) (state : Proposing) (number : ℕ)

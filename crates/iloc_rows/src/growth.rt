@@ -172,7 +172,12 @@ impl Proposing {
     }
 
     /// Adds what the line with this number says of these blocks.
-    pub fn add(&mut self, blocks: &[Block], line: ScheduleLine<'_>, number: u32) -> Result<(), RowsFault>
+    pub fn add(
+        &mut self,
+        blocks: &[Block],
+        line: ScheduleLine<'_>,
+        number: u32,
+    ) -> Result<(), RowsFault>
         requires { (lines : List Said) × HasProposed blocks.now lines self.old × (length lines < 4000000000) }
         ensures { (lines : List Said) → HasProposed blocks.now lines self.old →
             Adds blocks.now lines (said_of line.entry) number self.new result }
