@@ -3,6 +3,7 @@ pub mod LineReads
 pub mod Lines
 pub mod Opcodes
 pub mod Scan
+pub mod ScheduleScan
 pub mod OnePass
 pub mod Growth
 pub mod Open

@@ -17,14 +17,17 @@ mod operation;
 mod reader;
 mod registers;
 mod scan;
+mod schedule_line;
 mod spelling;
 mod taker;
 
 pub use fault::{NoMemory, ReadFault};
 pub use file::{Block, Blocks, IlocFile, Name, Ops};
 pub use limits::{MAX_BLOCKS, MAX_INPUT, MAX_OPS};
+pub use line::LineFault;
 pub use op::{Op, Reg};
 pub use reader::{read_blocks, read_file};
 pub use registers::{defines, uses, with_registers};
+pub use schedule_line::{ScheduleLine, read_schedule_line};
 pub use spelling::{push_number, push_op};
 pub use taker::TakeBlocks;

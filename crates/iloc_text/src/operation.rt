@@ -85,7 +85,7 @@ pub fn called_at(opcode: Opcode, bytes: &[u8]) -> Option<(Op, &[u8])>
 
 /// An opcode and what belongs behind it.
 #[tactic(auto, unfolding(crate::specs::Steps::Scan::operation_at))]
-fn operation_at(bytes: &[u8]) -> Option<(Op, &[u8])>
+pub fn operation_at(bytes: &[u8]) -> Option<(Op, &[u8])>
     ensures { option_map (λ found. (found.0, found.1.now)) result ≡ operation_at bytes.now }
 {
     let (word, rest) = word_at(bytes);

@@ -1,0 +1,14 @@
+-- Where the blocks of a text end and its schedule lines begin.
+use Rattle.std.specs.Prelude.{◌≡◌, ℕ, List, ◌++◌, length}
+use Rattle.std.specs.List.{join_with_byte}
+use Rattle.iloc_text.specs.Steps.Lines.{lines_of, lines_left}
+use Rattle.iloc_rows.specs.declared.blocks_end.Parts.{Parts}
+use Rattle.iloc_rows.specs.Submissions.{BlocksEnd}
+
+-- these are the two parts of the text, with the number of the lines of the first
+pub record ArePartsOf (input : List ℕ) (parts : Parts) : Type 0 where
+  pub before : List (List ℕ)
+  pub lines : lines_of input ≡ before ++ lines_left parts.rows
+  pub ends : BlocksEnd before (lines_left parts.rows)
+  pub blocks : parts.blocks.now ≡ join_with_byte 10 before
+  pub count : parts.lines ≡ length before
