@@ -4,6 +4,7 @@
 mod copies;
 mod fault;
 mod file;
+mod forms;
 mod growth;
 pub mod laws;
 mod limits;
@@ -11,7 +12,6 @@ mod line;
 mod line_ends;
 mod one_pass;
 mod op;
-mod opcode;
 mod open_block;
 mod operation;
 mod reader;
