@@ -12,6 +12,7 @@ pub mod Classes
 pub mod Queued
 pub mod SoFar
 pub mod Opening
+pub mod ByRegister
 pub mod Lasts
 pub mod PartialGraph
 pub mod Naming

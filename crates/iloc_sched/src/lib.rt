@@ -1,10 +1,10 @@
 //! The list scheduler: renaming, delay pairs, priorities, and the greedy choice.
 #![tactic(auto)]
 
+mod by_register;
 mod candidate;
 mod class;
 mod cycle;
-mod definers;
 mod delay_pairs;
 mod edges;
 mod lasts;

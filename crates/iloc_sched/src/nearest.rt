@@ -3,7 +3,7 @@
 //! Every result that is used gives an edge from its definition. By memory and outputs only the nearest pairs are
 //! kept, since every other goes by way of an operation between: from the last store, from the last output, and to a
 //! store from each load since the last one.
-ghost use Rattle.std.specs.Prelude.{ℕ, ◌≡◌, ◌+◌, ◌*◌, ◌≤◌, ◌<◌, length, List, Some, IfOk, OnOk, Contains};
+ghost use Rattle.std.specs.Prelude.{ℕ, ◌≡◌, ◌+◌, ◌*◌, ◌≤◌, ◌<◌, length, List, Some, OnOk, Contains};
 ghost use Rattle.iloc_text.specs.declared.op.Op.{Op};
 ghost use Rattle.iloc_text.specs.Registers.{used};
 ghost use Rattle.iloc_timed.specs.declared.latencies.Latencies.{Latencies};
@@ -13,7 +13,7 @@ ghost use Rattle.iloc_sched.specs.Renaming.{IsRenamed};
 
 use crate::edges::{Edge, Edges};
 use crate::lasts::Lasts;
-use iloc_text::{NoMemory, Op, Reg, uses};
+use iloc_text::{MAX_OPS, NoMemory, Op, Reg, uses};
 use iloc_timed::{Kind, Latencies, latency};
 use std::alloc::Global;
 
@@ -24,21 +24,30 @@ impl Edges {
     ghost use Rattle.iloc_sched.specs.Steps.PartialGraph.{IsPartialGraph, Grows, AddsFrom, CoversUse, CoversUses, CoversMemory};
     ghost use Rattle.iloc_sched.specs.Steps.Views.{graph_of};
 
+    /// No operation and no edge.
+    pub fn new(alloc: Global) -> Edges {
+        Edges {
+            edges: Vec::new(alloc),
+            starts: Vec::new(alloc),
+            heads: Vec::new(alloc),
+        }
+    }
+
     /// No edge between so many operations.
-    fn new(alloc: Global, count: usize) -> Result<Edges, NoMemory>
-        requires { count ≤ 10000 }
-        ensures partial { IfOk result (λ edges. (lat : Latencies) (ops : List Op) → length ops ≡ count
-            → IsPartialGraph lat ops (graph_of edges) 0) }
-        ensures starts { IfOk result (λ edges. length edges.starts.items ≡ 1) }
-        ensures edges { IfOk result (λ edges. length edges.edges.items ≡ 0) }
+    fn clear(&mut self, count: usize) -> Result<(), NoMemory>
+        requires { count ≤ MAX_OPS }
+        ensures partial { OnOk result ((lat : Latencies) (ops : List Op) → length ops ≡ count
+            → IsPartialGraph lat ops (graph_of self.new) 0) }
+        ensures starts { OnOk result (length self.new.starts.items ≡ 1) }
+        ensures edges { OnOk result (length self.new.edges.items ≡ 0) }
     {
-        let mut starts = Vec::with_capacity(alloc, count + 1)?;
-        starts.push(0)?;
-        Ok(Edges {
-            edges: Vec::with_capacity(alloc, 2 * count)?,
-            starts,
-            heads: vec![in alloc; None; count]?,
-        })
+        self.edges.clear();
+        self.starts.clear();
+        self.starts.reserve(count + 1)?;
+        self.starts.push(0)?;
+        self.heads.clear();
+        self.heads.resize(count, None)?;
+        Ok(())
     }
 
     /// Adds an edge.
@@ -101,7 +110,7 @@ impl Edges {
         register: Reg,
         j: usize,
     ) -> Result<(), NoMemory>
-        requires few { length ops.now ≤ 10000 }
+        requires few { length ops.now ≤ MAX_OPS }
         requires there { j < length ops.now }
         requires renamed { IsRenamed ops.now }
         requires used { Contains (used (op_at ops.now j)) register }
@@ -128,7 +137,7 @@ impl Edges {
         lasts: &Lasts,
         j: usize,
     ) -> Result<(), NoMemory>
-        requires few { length ops.now ≤ 10000 }
+        requires few { length ops.now ≤ MAX_OPS }
         requires there { j < length ops.now }
         requires renamed { IsRenamed ops.now }
         requires lasts { IsLasts ops.now lasts.now j }
@@ -155,7 +164,7 @@ impl Edges {
         lasts: &Lasts,
         j: usize,
     ) -> Result<(), NoMemory>
-        requires few { length ops.now ≤ 10000 }
+        requires few { length ops.now ≤ MAX_OPS }
         requires there { j < length ops.now }
         requires lasts { IsLasts ops.now lasts.now j }
         requires room { length self.old.edges.items + 2 + length lasts.now.loads.items ≤ 5 * length self.old.heads.items }
@@ -191,7 +200,7 @@ impl Edges {
         lasts: &Lasts,
         j: usize,
     ) -> Result<(), NoMemory>
-        requires few { length ops.now ≤ 10000 }
+        requires few { length ops.now ≤ MAX_OPS }
         requires there { j < length ops.now }
         requires renamed { IsRenamed ops.now }
         requires lasts { IsLasts ops.now lasts.now j }
@@ -210,18 +219,23 @@ impl Edges {
     }
 
     /// The kept edges of renamed operations.
-    pub fn of(alloc: Global, ops: &[Op], latencies: &Latencies) -> Result<Edges, NoMemory>
-        requires few { length ops.now ≤ 10000 }
+    pub fn fill(
+        &mut self,
+        lasts: &mut Lasts,
+        ops: &[Op],
+        latencies: &Latencies,
+    ) -> Result<(), NoMemory>
+        requires few { length ops.now ≤ MAX_OPS }
         requires renamed { IsRenamed ops.now }
-        ensures graph { IfOk result (λ edges. IsGraphOf latencies.now ops.now (graph_of edges)) }
-        ensures starts { IfOk result (λ edges. length edges.starts.items ≡ length edges.heads.items + 1) }
+        ensures graph { OnOk result (IsGraphOf latencies.now ops.now (graph_of self.new)) }
+        ensures starts { OnOk result (length self.new.starts.items ≡ length self.new.heads.items + 1) }
     {
-        let mut edges = Edges::new(alloc, ops.len())?;
-        let mut lasts = Lasts::new(alloc, ops.len())?;
+        self.clear(ops.len())?;
+        lasts.clear(ops.len())?;
         for j in 0..ops.len() {
-            edges.add_all(ops, latencies, &lasts, j)?;
+            self.add_all(ops, latencies, lasts, j)?;
             lasts.note(ops, j)?;
         }
-        Ok(edges)
+        Ok(())
     }
 }

@@ -3,8 +3,9 @@ ghost use Rattle.std.specs.Prelude.{◌≡◌, ◌≤◌, length, IfOk};
 ghost use Rattle.iloc_sched.specs.Renaming.{IsRenamed};
 
 use crate::edges::Edges;
+use crate::lasts::Lasts;
 use crate::priority::priorities_by;
-use iloc_text::{NoMemory, Op};
+use iloc_text::{MAX_OPS, NoMemory, Op};
 use iloc_timed::Latencies;
 use std::alloc::Global;
 
@@ -23,12 +24,13 @@ impl Plan {
     /// The plan of renamed operations.
     pub fn of(alloc: Global, ops: Vec<Op>, latencies: &Latencies) -> Result<Plan, NoMemory>
         requires renamed { IsRenamed ops.items }
-        requires few { length ops.items ≤ 10000 }
+        requires few { length ops.items ≤ MAX_OPS }
         ensures plan { IfOk result (λ plan. IsPlan plan) }
         ensures ops { IfOk result (λ plan. plan.ops ≡ ops) }
         ensures latencies { IfOk result (λ plan. plan.latencies ≡ latencies.now) }
     {
-        let edges = Edges::of(alloc, &ops, latencies)?;
+        let mut edges = Edges::new(alloc);
+        edges.fill(&mut Lasts::new(alloc), &ops, latencies)?;
         let priorities = priorities_by(alloc, &edges, &ops, latencies)?;
         Ok(Plan {
             ops,

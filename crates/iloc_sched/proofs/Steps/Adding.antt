@@ -16,7 +16,8 @@ use Rattle.iloc_sched.specs.declared.edges.Edge.{Edge}
 use Rattle.iloc_sched.specs.declared.lasts.Lasts.{Lasts}
 use Rattle.iloc_sched.specs.Steps.Members.{In}
 use Rattle.iloc_sched.specs.Steps.Graph.{Graph}
-use Rattle.iloc_sched.specs.Steps.Lasts.{definer, IsLasts}
+use Rattle.iloc_sched.specs.Steps.Lasts.{IsLasts}
+use Rattle.iloc_sched.specs.Steps.ByRegister.{number_at}
 use Rattle.iloc_sched.specs.Steps.PartialGraph.{IsPartialGraph, HasEdge, HasOneMore, Grows, AddsFrom, CoversUse, CoversUses, CoversMemory}
 use Rattle.iloc_sched.specs.Steps.Views.{no_edge}
 use Rattle.iloc_sched.proofs.Members.{in_from}
@@ -120,7 +121,7 @@ adds_more front x a b c j d first second = λ lat ops is pairs.
 module _ (lat : Latencies) (ops : List Op) (lasts : Lasts) (j : ℕ) (is : IsLasts ops lasts j) (within : j < length ops)
   where
     pub adds_use : (a b : Graph) (r : Reg) (i d : ℕ) → IsRenamed ops → Contains (used (op_at ops j)) r
-        → IsPartialGraph lat ops a j → definer lasts.definers r.0 ≡ Some i → d ≡ latency lat (op_at ops i)
+        → IsPartialGraph lat ops a j → number_at lasts.definers r.0 ≡ Some i → d ≡ latency lat (op_at ops i)
         → AddsFrom (λ k. k ≡ i) a b j d → Grows lat ops a b j × CoversUse lat ops b j r
     adds_use a b r i d renamed uses partial at long adds =
         let pair : IsDelayPair lat ops i j d =
@@ -129,13 +130,13 @@ module _ (lat : Latencies) (ops : List Op) (lasts : Lasts) (j : ℕ) (is : IsLas
           h.0,
           covers_use lat ops j lasts is b renamed r
               (λ k at_k.
-              let same : k ≡ i = same_some (definer lasts.definers r.0) k i at_k at in
+              let same : k ≡ i = same_some (number_at lasts.definers r.0) k i at_k at in
               subst (λ e. HasEdge b j k e) (long ∙ ap (λ m. latency lat (op_at ops m)) (sym same)) (h.1 k same)),
         )
 
-    pub no_use : (a : Graph) (r : Reg) → IsRenamed ops → definer lasts.definers r.0 ≡ None → CoversUse lat ops a j r
+    pub no_use : (a : Graph) (r : Reg) → IsRenamed ops → number_at lasts.definers r.0 ≡ None → CoversUse lat ops a j r
     no_use a r renamed none = covers_use lat ops j lasts is a renamed r
-        (λ k at. not_both (definer lasts.definers r.0) k none at)
+        (λ k at. not_both (number_at lasts.definers r.0) k none at)
 
     pub memory_load : (a b : Graph) → IsPartialGraph lat ops a j → kind (op_at ops j) ≡ K.Load
         → AddsFrom (λ i. lasts.store ≡ Some i) a b j lat.store → Grows lat ops a b j × CoversMemory lat ops b j
