@@ -31,8 +31,8 @@ pub(crate) fn priorities_by(
     ensures { IfOk result (λ prios. prios.items ≡ priorities latencies.now ops.now) }
 {
     let mut prios = own_latencies(alloc, ops, latencies)?;
-    for x in (0..edges.edges.len()).rev() {
-        let edge = edges.edges[x];
+    for x in (0..edges.edge_count()).rev() {
+        let edge = edges.get(x);
         let through = u64::from(edge.delay) + prios[edge.to as usize];
         let source = edge.from as usize;
         prios[source] = prios[source].max(through);

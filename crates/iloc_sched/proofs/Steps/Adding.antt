@@ -46,48 +46,48 @@ tables_graph edges starts heads = record {
   delay = λ x. (get_or edges x no_edge).delay;
   start = λ j. get_or starts j 0;
   head = λ i. get_or heads i None;
-  next = λ x. (get_or edges x no_edge).next;
+  previous = λ x. (get_or edges x no_edge).previous;
 }
 
 pub one_more : (edges : List Edge) (starts : List ℕ) (heads : List (Option ℕ)) (i j d : ℕ) (edge : Edge)
     → i < length heads
-    → edge.from ≡ i → edge.to ≡ j → edge.delay ≡ d → edge.next ≡ get_or heads i None
+    → edge.from ≡ i → edge.to ≡ j → edge.delay ≡ d → edge.previous ≡ get_or heads i None
     → HasOneMore (tables_graph edges starts heads)
     (tables_graph (edges ++ edge ∷ []) starts (set heads i (Some (length edges)))) i j d
-one_more edges starts heads i j d edge there from_is to_is delay_is next_is = record {
+one_more edges starts heads i j d edge there from_is to_is delay_is previous_is = record {
   ops = length-set heads i (Some (length edges));
   count = length_push edges edge;
   start = λ k. refl;
   from = λ x before. ap (λ (e : Edge). e.from) (front_at edges (edge ∷ []) x no_edge before);
   to = λ x before. ap (λ (e : Edge). e.to) (front_at edges (edge ∷ []) x no_edge before);
   delay = λ x before. ap (λ (e : Edge). e.delay) (front_at edges (edge ∷ []) x no_edge before);
-  next = λ x before. ap (λ (e : Edge). e.next) (front_at edges (edge ∷ []) x no_edge before);
+  previous = λ x before. ap (λ (e : Edge). e.previous) (front_at edges (edge ∷ []) x no_edge before);
   last_from = ap (λ (e : Edge). e.from) (get_or_push edges edge no_edge (length edges) refl) ∙ from_is;
   last_to = ap (λ (e : Edge). e.to) (get_or_push edges edge no_edge (length edges) refl) ∙ to_is;
   last_delay = ap (λ (e : Edge). e.delay) (get_or_push edges edge no_edge (length edges) refl) ∙ delay_is;
-  last_next = ap (λ (e : Edge). e.next) (get_or_push edges edge no_edge (length edges) refl) ∙ next_is;
+  last_previous = ap (λ (e : Edge). e.previous) (get_or_push edges edge no_edge (length edges) refl) ∙ previous_is;
   head = get_or-set_same heads i (Some (length edges)) None there;
   heads = λ k apart. get_or-set_other heads i k (Some (length edges)) None apart;
 }
 
 -- one edge is pushed, and it is the last from i
 pub adds_one : (edges edges' : List Edge) (starts : List ℕ) (heads : List (Option ℕ)) (i j d place : ℕ)
-    (next : Option ℕ) → i < length heads
-    → place ≡ length edges → next ≡ get_or heads i None
-    → edges' ≡ edges ++ record { from = i; to = j; delay = d; next = next } ∷ []
+    (previous : Option ℕ) → i < length heads
+    → place ≡ length edges → previous ≡ get_or heads i None
+    → edges' ≡ edges ++ record { from = i; to = j; delay = d; previous = previous } ∷ []
     → AddsFrom (λ k. k ≡ i) (tables_graph edges starts heads) (tables_graph edges' starts (set heads i (Some place))) j
     d
-adds_one edges edges' starts heads i j d place next there place_is next_is pushed =
+adds_one edges edges' starts heads i j d place previous there place_is previous_is pushed =
     subst (λ es. AddsFrom (λ k. k ≡ i) (tables_graph edges starts heads)
     (tables_graph es starts (set heads i (Some place))) j d) (sym pushed)
     (subst (λ p. AddsFrom (λ k. k ≡ i) (tables_graph edges starts heads)
-    (tables_graph (edges ++ record { from = i; to = j; delay = d; next = next } ∷ []) starts (set heads i (Some p)))
+    (tables_graph (edges ++ record { from = i; to = j; delay = d; previous = previous } ∷ []) starts (set heads i (Some p)))
     j d) (sym place_is)
     (λ lat ops is pairs.
-    let edge : Edge = record { from = i; to = j; delay = d; next = next } in
+    let edge : Edge = record { from = i; to = j; delay = d; previous = previous } in
     let more : HasOneMore (tables_graph edges starts heads)
     (tables_graph (edges ++ edge ∷ []) starts (set heads i (Some (length edges)))) i j d =
-    one_more edges starts heads i j d edge there refl refl refl next_is in
+    one_more edges starts heads i j d edge there refl refl refl previous_is in
     let pair : IsDelayPair lat ops i j d = pairs i refl in (
       grows_by_one lat ops (tables_graph edges starts heads)
           (tables_graph (edges ++ edge ∷ []) starts (set heads i (Some (length edges)))) i j d is pair more,
