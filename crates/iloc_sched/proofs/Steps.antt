@@ -8,6 +8,7 @@ pub mod Noting
 pub mod Adding
 pub mod Raising
 pub mod Nearest
+pub mod Linked
 pub mod Walk
 pub mod Wheel
 pub mod Issuing

@@ -108,7 +108,8 @@ fn push_pairs_to(
 }
 
 /// The delay pairs of renamed operations, each once, in order of the later operation, then of the earlier one,
-/// then of the delay.
+/// then of the delay. The operations are at most `MAX_OPS`; of n operations each is set against each, which takes time
+/// in n * n.
 pub fn pairs(alloc: Global, ops: &[Op], latencies: &Latencies) -> Result<Vec<Pair>, NoMemory>
     requires renamed { IsRenamed ops.now }
     requires size { length ops.now ≤ MAX_OPS }

@@ -7,7 +7,8 @@ ghost use Rattle.iloc_sched.specs.Steps.Graph.{IsGraphOf};
 ghost use Rattle.iloc_sched.specs.Steps.Views.{graph_of};
 
 use crate::edges::Edges;
-use iloc_text::{NoMemory, Op};
+use crate::lasts::Lasts;
+use iloc_text::{MAX_OPS, NoMemory, Op};
 use iloc_timed::{Latencies, latency};
 use std::alloc::Global;
 
@@ -30,8 +31,8 @@ pub(crate) fn priorities_by(
     ensures { IfOk result (λ prios. prios.items ≡ priorities latencies.now ops.now) }
 {
     let mut prios = own_latencies(alloc, ops, latencies)?;
-    for x in (0..edges.edges.len()).rev() {
-        let edge = edges.edges[x];
+    for x in (0..edges.edge_count()).rev() {
+        let edge = edges.get(x);
         let through = u64::from(edge.delay) + prios[edge.to as usize];
         let source = edge.from as usize;
         prios[source] = prios[source].max(through);
@@ -42,13 +43,14 @@ pub(crate) fn priorities_by(
 /// By operation its priority: how many cycles are left at least from its issue to the end of the block. That is the
 /// greatest of its latency and, over the operations that have to wait for it, of the delay and their priority together.
 ///
-/// The operations are renamed, as by `rename`. It takes time linear in their number where their registers have numbers
-/// below three times that.
+/// The operations are renamed, as by `rename`, and at most `MAX_OPS`. It takes time linear in their number where
+/// their registers have numbers below three times that.
 pub fn priorities(alloc: Global, ops: &[Op], latencies: &Latencies) -> Result<Vec<u64>, NoMemory>
     requires renamed { IsRenamed ops.now }
-    requires few { length ops.now ≤ 10000 }
+    requires few { length ops.now ≤ MAX_OPS }
     ensures { IfOk result (λ prios. prios.items ≡ priorities latencies.now ops.now) }
 {
-    let edges = Edges::of(alloc, ops, latencies)?;
+    let mut edges = Edges::new(alloc);
+    edges.fill(&mut Lasts::new(alloc), ops, latencies)?;
     priorities_by(alloc, &edges, ops, latencies)
 }

@@ -1,5 +1,5 @@
 //! The list scheduler.
-ghost use Rattle.std.specs.Prelude.{ℕ, ◌≡◌, ◌≤◌, ◌<◌, ◌+◌, List, length, sum_by, IfOk, OnOk, ℤ};
+ghost use Rattle.std.specs.Prelude.{ℕ, ◌≡◌, ◌≤◌, ◌<◌, ◌+◌, ◌*◌, List, length, sum_by, IfOk, OnOk, ℤ};
 ghost use Rattle.iloc_text.specs.declared.op.Op.{Op};
 ghost use Rattle.iloc_meaning.specs.Outcome.{outcome};
 ghost use Rattle.iloc_timed.specs.declared.row.Row.{Row};
@@ -26,9 +26,10 @@ fn greedy_rows(alloc: Global, plan: &Plan) -> Result<Vec<Row>, NoMemory>
     requires { IsPlan plan.now }
     ensures greedy { IfOk result (λ rows. (block : List Op) → plan.now.ops.items ≡ renamed block
         → IsGreedy plan.now.latencies block plan.now.ops.items rows.items) }
-    ensures few { IfOk result (λ rows. length rows.items ≤ 160001) }
+    ensures few { IfOk result (λ rows. length rows.items ≤ 16 * MAX_OPS + 1) }
 {
-    let mut waiting = Waiting::new(alloc, &plan.edges)?;
+    let mut waiting = Waiting::new(alloc);
+    waiting.open(&plan.edges)?;
     let mut queues = Queues::new(alloc);
     let mut rows = Vec::new(alloc);
     let mut left = plan.ops.len();

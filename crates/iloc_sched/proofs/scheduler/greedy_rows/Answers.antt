@@ -11,11 +11,11 @@ loop-left-init c =
     let none : c.new-rows.result.items ≡ [] = c.new-rows.ensures.items in
     let empty : length c.new-rows.result.items ≡ 0 = ap length none in
     let size : length p.edges.heads.items ≡ length p.ops.items = c.requires.graph.size in
-    let count : waiting_count c.in_ok-waiting.waiting ≡ length p.edges.heads.items = c.in_ok-waiting.ensures.count in
+    let count : waiting_count c.open.new.self ≡ length p.edges.heads.items = c.in_ok-open.ensures.count in
     record {
-      so_far = subst (λ rows. IsSoFar p c.in_ok-waiting.waiting c.new-queues.result rows) (sym none)
-          (so_far_opened p c.in_ok-waiting.waiting c.new-queues.result c.in_ok-waiting.ensures.waits
-          c.in_ok-waiting.ensures.sized c.in_ok-waiting.ensures.none c.new-queues.ensures);
+      so_far = subst (λ rows. IsSoFar p c.open.new.self c.new-queues.result rows) (sym none)
+          (so_far_opened p c.open.new.self c.new-queues.result c.in_ok-open.ensures.waits
+          c.in_ok-open.ensures.sized c.in_ok-open.ensures.none c.new-queues.ensures);
       left = omega (arith, c.len-left.ensures, p.ops.ok.0);
       last = λ zero n one. absurd (omega arith);
       few = omega arith;

@@ -1,15 +1,15 @@
 use Rattle.std.proofs.Common.{arith, sym, ◌∙◌}
 use Rattle.iloc_sched.proofs.WalkSteps.{nop_passed, op_taken, next_pushed, all_renamed, renamed_fits}
 use Rattle.iloc_sched.proofs.RenamedBlocks.{renamed_is_renamed, renaming_keeps_the_outcome}
-use Rattle.iloc_sched.proofs.renaming.rename.Goals as goal
-use Rattle.iloc_sched.proofs.renaming.rename.Goals.{then-not-is_nop+in_ok-rename+in_ok-push, else-not-is_nop}
+use Rattle.iloc_sched.proofs.renaming.Names.rename_block.Goals as goal
+use Rattle.iloc_sched.proofs.renaming.Names.rename_block.Goals.{then-not-is_nop+in_ok-rename+in_ok-push, else-not-is_nop}
 
 pub loop-op-preserved : goal.loop-op-preserved
 loop-op-preserved c = elim c.if-not-is_nop.branch [
   | then-not-is_nop+in_ok-rename+in_ok-push w ↦
       let next = w.in_ok-rename.ensures.next _ c.loop-op.invariant.1 in
       rw (
-        w.names-is,
+        w.self-is,
         w.renamed-is,
         op_taken _ c.loop-op.op-index _ c.loop-op-test.true (sym c.is_nop.ensures
             ∙ w.if-not-is_nop.true),
@@ -20,7 +20,7 @@ loop-op-preserved c = elim c.if-not-is_nop.branch [
       )
   | else-not-is_nop w ↦
       rw (
-        w.names-is,
+        w.self-is,
         w.renamed-is,
         nop_passed _ c.loop-op.op-index _ c.loop-op-test.true (sym c.is_nop.ensures
             ∙ w.if-not-is_nop.false),
