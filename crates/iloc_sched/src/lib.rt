@@ -19,7 +19,7 @@ mod renaming;
 mod scheduler;
 mod waiting;
 
-pub use delay_pairs::{Pair, pairs};
+pub use delay_pairs::{Pair, delays, pairs};
 pub use priority::priorities;
 pub use renaming::rename;
 pub use scheduler::schedule;

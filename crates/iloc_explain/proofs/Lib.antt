@@ -1,0 +1,3 @@
+pub mod IssueCycles
+pub mod LatestOnes
+pub mod ReadyCycles

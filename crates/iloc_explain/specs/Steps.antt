@@ -1,0 +1,3 @@
+-- What the code keeps from step to step: no contract of a public function names them.
+pub mod Issued
+pub mod Latest
