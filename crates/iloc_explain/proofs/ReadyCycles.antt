@@ -207,10 +207,13 @@ module _ (lat : Latencies) (ops : List Op) (rows : List Row) (j : ℕ) (l : Late
     over = λ i d pair. over (op_at ops j) i d pair.order (reason lat (op_at ops i) (op_at ops j) d pair.delay);
     earliest = elim (reached (op_at ops j)) [
       | inl zero ↦ inl zero
-      | inr (i, before, d, why, at) ↦ inr (i, record {
-        delay = d;
-        pair = record { order = before; within = within; delay = delay_of lat (op_at ops i) (op_at ops j) d why };
-        ends = at;
-      })
+      | inr (i, before, d, why, at) ↦ inr (
+        i,
+        record {
+          delay = d;
+          pair = record { order = before; within = within; delay = delay_of lat (op_at ops i) (op_at ops j) d why };
+          ends = at;
+        },
+      )
     ];
   }

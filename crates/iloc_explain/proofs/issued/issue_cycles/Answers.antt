@@ -22,8 +22,8 @@ loop-cycle-preserved c =
     let within : c.loop-cycle.cycle < length c.args.schedule.now.rows =
     rw c.rows-row-items.ensures.rows at c.loop-cycle-test.true in
     let both : c.note-in-loop-cycle.new.cycles.items
-        ≡ with_slot (with_slot c.loop-cycle.cycles.items (row_at c.args.schedule.now.rows c.loop-cycle.cycle).zero c.loop-cycle.cycle)
-        (row_at c.args.schedule.now.rows c.loop-cycle.cycle).one c.loop-cycle.cycle =
+    ≡ with_slot (with_slot c.loop-cycle.cycles.items (row_at c.args.schedule.now.rows c.loop-cycle.cycle).zero c.loop-cycle.cycle)
+    (row_at c.args.schedule.now.rows c.loop-cycle.cycle).one c.loop-cycle.cycle =
     rw (c.note.ensures, c.rows-row-items.ensures.rows) at c.note-in-loop-cycle.ensures in
     rw both (row_issued _ _ c.ops-ops.ensures.table _ within _ c.loop-cycle.invariant)
 
