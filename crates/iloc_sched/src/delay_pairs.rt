@@ -53,8 +53,8 @@ fn keeps_order(first: Kind, second: Kind) -> bool
     )
 }
 
-/// The delays that the first operation puts on the second, rising, each once.
-fn delays(first: &Op, second: &Op, latencies: &Latencies) -> ArrayVec<u64, 2>
+/// The delays in cycles that the first operation puts on the second, which stands behind it: rising, each once.
+pub fn delays(first: &Op, second: &Op, latencies: &Latencies) -> ArrayVec<u64, 2>
     ensures { result.items ≡ rising (delays latencies.now first.now second.now) }
 {
     let latency = latency(first, latencies);

@@ -18,7 +18,7 @@ mod scheduler;
 mod waiting;
 mod wheel;
 
-pub use delay_pairs::{Pair, pairs};
+pub use delay_pairs::{Pair, delays, pairs};
 pub use priority::priorities;
 pub use renaming::rename;
 pub use scheduler::schedule;

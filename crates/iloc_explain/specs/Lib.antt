@@ -1,0 +1,4 @@
+pub mod Waiting
+pub mod Chain
+pub mod Explained
+pub mod Steps
