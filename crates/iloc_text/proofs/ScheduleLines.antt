@@ -5,8 +5,8 @@ use Rattle.std.specs.Char.{is_ascii_digit, is_ascii_alphabetic}
 use Rattle.std.proofs.lemmas.Bool.Decides.{nat_tests}
 use Rattle.std.proofs.lemmas.Slice.Eq.{bytes_eq-Decides}
 use Rattle.iloc_text.specs.declared.op.Op.{Op}
-use Rattle.iloc_text.specs.Forms.{numbers}
-use Rattle.iloc_text.specs.Forms.Value.{number}
+use Rattle.iloc_text.specs.Forms.{numbers, operands}
+use Rattle.iloc_text.specs.declared.forms.Value.TheVariants.{Constant}
 use Rattle.iloc_text.specs.Grammar.{◌⋅◌, Text, is_blank, is_word_byte, Blanks, SomeBlanks, Number, IsName, IsWithinLimit, OptionalComment}
 use Rattle.iloc_text.specs.ScheduleLines.{Said, SlotText, BlockName, SaidText, SaysWidely, said_numbers, Says, SaysSomething, SaysSomethingWidely}
 use Rattle.iloc_text.specs.ScheduleLines.Said.{nothing, row, head, cycles, total}
@@ -20,7 +20,7 @@ use Rattle.iloc_text.proofs.Names.{capped_op, numbers-capped}
 use Rattle.iloc_text.proofs.Operations.{operation_read, operation_again, operation_starts}
 use Rattle.iloc_text.proofs.Bodies.{end_read, end_again, end_starts, no_blank_start}
 use Rattle.iloc_text.proofs.Labels.{word_is_name, name_is_word, letter_is_word_byte}
-use Rattle.iloc_text.proofs.Caps.{capped_within, capped-within, small_all, within_limit}
+use Rattle.iloc_text.proofs.Caps.{all_numbers, capped_within, capped-within, small_all, within_limit}
 
 -- what is said, with each number capped
 abbrev pub capped_said : Said → Said
@@ -234,7 +234,7 @@ number_behind_again : (n : ℕ) (mid rest bytes : List ℕ) → Before SomeBlank
     → starts is_ascii_digit rest ≡ false → number_behind bytes ≡ Some (capped n, rest)
 unfolding number_behind
 number_behind_again n mid rest bytes b d s =
-    let value = value_fails (number n) is_blank (record { digit = digit_is_no_blank; letter = refl }) d in
+    let value = value_fails (Constant n) is_blank (record { digit = digit_is_no_blank; letter = refl }) d in
     rw (some_blanks_again mid bytes b value, number_again n rest mid d s) refl
 
 letter_is_no_dash : (c : ℕ) → is_ascii_alphabetic c ≡ true → (c == 45) ≡ false
@@ -427,7 +427,8 @@ all-split [] ys h = (tt, h)
 all-split (x ∷ xs) ys h = let rest = all-split xs ys h.1 in ((h.0, rest.0), rest.1)
 
 op_small : (op : Op) → IsWithinLimit op → is_within (Some (capped_op op)) ≡ true
-op_small op h = ap (λ ns. is_all_small ns) (numbers-capped op) ∙ small_all (numbers op) h
+op_small op h =
+    all_numbers (operands (capped_op op)) ∙ (ap (λ ns. is_all_small ns) (numbers-capped op) ∙ small_all (numbers op) h)
   where
     is_all_small : List ℕ → Bool
     is_all_small ns = list_all (λ n. nat_lt n 2147483648) ns
