@@ -4,10 +4,11 @@ ghost use Rattle.std.specs.List.{flat_map};
 ghost use Rattle.std.specs.Fmt.{decimal};
 ghost use Rattle.iloc_sched.specs.Renaming.{renamed, without_nops};
 ghost use Rattle.iloc_explain.specs.Listing as listed;
+ghost use Rattle.iloc_explain.specs.Listing.{IsExplanation};
 
 use crate::chain::longest_chain;
 use crate::explanation::{Explained, Unit, explain};
-use iloc_sched::{least, priorities};
+use iloc_sched::priorities;
 use iloc_text::{MAX_OPS, NoMemory, Op, push_op};
 use iloc_timed::{Latencies, Schedule, cycles};
 use itoa::Buffer;
@@ -101,4 +102,52 @@ fn push_chain(text: &mut Vec<u8>, chain: &[usize]) -> Result<(), NoMemory>
     text.extend_from_slice(b"chain")?;
     push_marked(text, b" ", chain)?;
     Ok(text.extend_from_slice(b"\n")?)
+}
+
+/// Appends the lines of all operations of a block that are no `nop`, as they stand and as they are renamed.
+fn push_lines(
+    text: &mut Vec<u8>,
+    block: &[Op],
+    explained: &[Explained],
+    renamed: &[Op],
+) -> Result<(), NoMemory>
+    requires all { length explained.now ≡ length renamed.now }
+    requires same { length (without_nops block.now) ≡ length renamed.now }
+    ensures { OnOk result (text.new.items ≡ text.old.items
+        ++ listed.explained_lines 0 explained.now (without_nops block.now) renamed.now) }
+{
+    let mut j = 0;
+    for op in block {
+        if !matches!(op, Op::Nop) {
+            push_explained(text, j, &explained[j], op, &renamed[j])?;
+            j += 1;
+        }
+    }
+    Ok(())
+}
+
+/// Appends what explains a schedule of a block, whose operations are the block's renamed ones: a line for each
+/// operation, the cycles, and a longest chain of delays.
+pub fn push_explanation(
+    alloc: Global,
+    text: &mut Vec<u8>,
+    block: &[Op],
+    schedule: &Schedule,
+    latencies: &Latencies,
+) -> Result<(), NoMemory>
+    requires few { length block.now ≤ MAX_OPS }
+    requires names { schedule.now.ops ≡ renamed block.now }
+    ensures { OnOk result ((entry : List ℕ)
+        × IsExplanation latencies.now block.now schedule.now.ops schedule.now.rows entry
+        × (text.new.items ≡ text.old.items ++ entry)) }
+{
+    let ops = schedule.ops();
+    let priorities = priorities(alloc, ops, latencies)?;
+    let explained = explain(alloc, schedule, latencies, &priorities)?;
+    let chain = longest_chain(alloc, ops, latencies, &priorities)?;
+    push_lines(text, block, &explained, ops)?;
+    text.extend_from_slice(b"cycles ")?;
+    push_decimal(text, cycles(schedule, latencies))?;
+    text.extend_from_slice(b"\n")?;
+    push_chain(text, &chain)
 }
