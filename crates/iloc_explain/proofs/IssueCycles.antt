@@ -1,12 +1,11 @@
 -- The cycles of issue, noted row by row.
-use Rattle.std.proofs.Common.{rules, ◌≡◌, ◌<◌, ◌≤◌, ◌≢◌, ℕ, ◌+◌, ◌==◌, ◌||◌, true, false, List, ◌++◌, length, Option, Some, None, option_to_list, arith, refl, sym, ap, ◌∙◌, ◌⊎◌, inl, inr, get_or-set_same, get_or-set_other}
+use Rattle.std.proofs.Common.{rules, ◌≡◌, ◌<◌, ◌≢◌, ℕ, ◌+◌, ◌==◌, ◌||◌, true, false, List, ◌++◌, length, Option, Some, None, option_to_list, arith, refl, sym, ap, ◌∙◌, ◌⊎◌, inl, inr, get_or-set_same, get_or-set_other}
 use Rattle.std.specs.Prelude.{slice_index, IfSome}
 use Rattle.std.specs.List.{list_any}
 use Rattle.std.proofs.lemmas.Bool.{cases_eq, cases_lt, eqb-true, or_cases}
-use Rattle.iloc_meaning.proofs.Cases.{by_bool}
 use Rattle.iloc_text.specs.declared.op.Op.{Op}
 use Rattle.iloc_timed.specs.declared.row.Row.{Row}
-use Rattle.iloc_timed.specs.Rows.{row_at, slots, holds, issue_cycle, times_issued, IsTable}
+use Rattle.iloc_timed.specs.Rows.{row_at, holds, issue_cycle, times_issued, IsTable}
 use Rattle.iloc_timed.proofs.Issues.{issued_there, stands_there, holds_zero, holds_one}
 use Rattle.iloc_explain.specs.Steps.Issued.{AreIssued, with_slot}
 

@@ -1,18 +1,13 @@
 -- A longest chain, link by link.
-use Rattle.std.proofs.Common.{◌≡◌, ◌<◌, ◌≤◌, ℕ, ◌+◌, ◌-◌, ◌==◌, ◌&&◌, Bool, true, false, List, [], ◌∷◌, ◌++◌, length, max, arith, refl, sym, ap, ◌∙◌, ◌⊎◌, inl, inr}
-use Rattle.std.specs.Prelude.{Contains, fold}
-use Rattle.std.specs.List.{list_any}
-use Rattle.std.proofs.lemmas.Bool.{and_from, and_parts, cases_lt, eq-eqb, eqb-true, false≢true, le-leb, leb-true}
+use Rattle.std.proofs.Common.{◌≡◌, ◌<◌, ◌≤◌, ℕ, ◌+◌, List, [], ◌∷◌, ◌++◌, length, max, arith, refl, ◌∙◌, inl, inr}
+use Rattle.std.specs.Prelude.{fold}
+use Rattle.std.proofs.lemmas.Bool.{cases_lt}
 use Rattle.iloc_text.specs.declared.op.Op.{Op}
 use Rattle.iloc_meaning.specs.Trace.{op_at}
 use Rattle.iloc_timed.specs.declared.latencies.Latencies.{Latencies}
 use Rattle.iloc_timed.specs.Latency.{latency}
-use Rattle.iloc_sched.specs.Delays.{delays, IsDelayPair}
-use Rattle.iloc_sched.specs.Pairs.{rising}
+use Rattle.iloc_sched.specs.Delays.{IsDelayPair}
 use Rattle.iloc_sched.specs.Priority.{priorities, priority}
-use Rattle.iloc_sched.proofs.Members.{In, contains_from, in_from}
-use Rattle.iloc_sched.proofs.ListFacts.{any_at, from_any}
-use Rattle.iloc_sched.proofs.RisingDelays.{from_rising, in_rising}
 use Rattle.iloc_sched.proofs.PriorityFacts.{is_priority}
 use Rattle.iloc_explain.specs.Chain.{Spans, IsLongestChain}
 use Rattle.iloc_explain.specs.Steps.Links.{Continues, IsChainTo}

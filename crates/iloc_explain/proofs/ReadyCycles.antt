@@ -1,6 +1,6 @@
 -- The latest of what earlier operations leave to wait for is when an operation is ready.
-use Rattle.std.proofs.Common.{◌≡◌, ◌<◌, ◌≤◌, ℕ, ◌+◌, ◌&&◌, ◌||◌, max, Bool, true, false, List, [], ◌∷◌, map, length, Option, Some, None, arith, refl, sym, ap, ◌∙◌, ◌⊎◌, inl, inr}
-use Rattle.std.specs.Prelude.{Contains, fold}
+use Rattle.std.proofs.Common.{◌≡◌, ◌<◌, ◌≤◌, ℕ, ◌+◌, ◌&&◌, ◌||◌, max, Bool, true, List, map, length, arith, refl, sym, ◌∙◌, ◌⊎◌, inl, inr}
+use Rattle.std.specs.Prelude.{Contains}
 use Rattle.std.proofs.lemmas.Bool.{and_from, and_parts, cases_lt, false≢true, or_cases, or_left, or_right}
 use Rattle.iloc_meaning.proofs.Cases.{by_bool}
 use Rattle.iloc_text.specs.declared.op.Op.{Op}
@@ -14,13 +14,13 @@ use Rattle.iloc_timed.specs.declared.row.Row.{Row}
 use Rattle.iloc_timed.specs.Kinds.{kind, is_load, is_memory, is_store, is_output}
 use Rattle.iloc_timed.specs.Latency.{latency}
 use Rattle.iloc_timed.specs.Rows.{issue_cycle}
-use Rattle.iloc_sched.specs.Delays.{uses_result, reads_stored, keeps_order, when, memory_delays, delays, IsDelayPair}
+use Rattle.iloc_sched.specs.Delays.{uses_result, reads_stored, keeps_order, when, memory_delays, delays}
 use Rattle.iloc_sched.proofs.Members.{In, contains_from, in_from}
 use Rattle.iloc_sched.proofs.ListFacts.{in_left, in_right, from_append, in_map, from_map, any_at, from_any}
 use Rattle.iloc_sched.proofs.Maxima.{fold_max_start, fold_max_each, fold_max_reached}
 use Rattle.iloc_explain.specs.declared.latest.Latest.{Latest}
-use Rattle.iloc_explain.specs.Waiting.{WaitsUntil, IsReadyAt}
-use Rattle.iloc_explain.specs.Steps.Latest.{IsLatest, AreLatest, result_of, by_kind, ready_after, arrival, next_cycle}
+use Rattle.iloc_explain.specs.Waiting.{IsReadyAt}
+use Rattle.iloc_explain.specs.Steps.Latest.{AreLatest, result_of, by_kind, ready_after, arrival, next_cycle}
 
 in_when : (b : Bool) (d : ℕ) → b ≡ true → In (when b d) d
 in_when b d holds = rw holds (inl refl)

@@ -1,8 +1,8 @@
 -- What an operation waited for stands in the rows of the 16 cycles before.
-use Rattle.std.proofs.Common.{◌≡◌, ◌<◌, ◌≤◌, ℕ, zero, suc, ◌+◌, ◌-◌, ◌==◌, ◌&&◌, Bool, true, false, nat_lt, List, [], ◌∷◌, ◌++◌, length, take, drop, filter, min, append_assoc, append-nil, Option, Some, None, option_to_list, arith, refl, sym, ap, ◌∙◌, ◌⊎◌, inl, inr}
+use Rattle.std.proofs.Common.{◌≡◌, ◌<◌, ◌≤◌, ℕ, suc, ◌+◌, ◌-◌, ◌==◌, ◌&&◌, Bool, true, nat_lt, List, [], ◌∷◌, ◌++◌, length, take, drop, filter, min, append_assoc, append-nil, Option, Some, None, option_to_list, arith, refl, sym, ap, ◌∙◌, inl, inr}
 use Rattle.std.specs.Prelude.{Contains}
-use Rattle.std.specs.List.{flat_map, list_any}
-use Rattle.std.proofs.lemmas.Bool.{and_from, and_parts, cases_lt, eq-eqb, eqb-false, eqb-true, ne_eqb}
+use Rattle.std.specs.List.{list_any}
+use Rattle.std.proofs.lemmas.Bool.{and_parts, eq-eqb, eqb-false, eqb-true, ne_eqb}
 use Rattle.std.proofs.lemmas.Grind.{flat_map-append}
 use Rattle.std.proofs.lemmas.List.{take_more, take-append-drop, get_or-take, get_or-drop, length-drop, length-take}
 use Rattle.std.proofs.lemmas.List.Elements.{filter-append}
@@ -16,10 +16,8 @@ use Rattle.iloc_timed.specs.Rows.{empty_row, row_at, slots, holds, issue_cycle, 
 use Rattle.iloc_timed.proofs.Issues.{issued_there, holds_zero, holds_one}
 use Rattle.iloc_timed.proofs.Counts.{any_contains}
 use Rattle.iloc_sched.specs.Delays.{delays}
-use Rattle.iloc_sched.specs.Pairs.{rising}
-use Rattle.iloc_sched.proofs.Members.{In, contains_from, in_from}
-use Rattle.iloc_sched.proofs.ListFacts.{any_at, any_same, empty_from, from_any, from_append, from_filter}
-use Rattle.iloc_sched.proofs.RisingDelays.{from_rising, in_rising}
+use Rattle.iloc_sched.proofs.Members.{In, contains_from}
+use Rattle.iloc_sched.proofs.ListFacts.{empty_from, from_any, from_append, from_filter}
 use Rattle.iloc_sched.proofs.DelayFacts.{delay_at_least, delay_at_most}
 use Rattle.iloc_sched.proofs.Steps.PartialGraphs.{short_latency}
 use Rattle.iloc_explain.specs.Waiting.{ends_at, issue_order, waited_until}

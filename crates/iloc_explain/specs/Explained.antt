@@ -1,5 +1,5 @@
 -- What is said of each operation of a schedule.
-use Rattle.std.specs.Prelude.{ℕ, ◌≡◌, ◌<◌, ◌==◌, if◌then◌else◌, List, length, slice_get, Some, option_to_list}
+use Rattle.std.specs.Prelude.{ℕ, ◌≡◌, ◌==◌, if◌then◌else◌, List, length, slice_get, Some, option_to_list}
 use Rattle.std.specs.List.{list_any}
 use Rattle.iloc_text.specs.declared.op.Op.{Op}
 use Rattle.iloc_timed.specs.declared.latencies.Latencies.{Latencies}

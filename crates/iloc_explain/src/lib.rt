@@ -5,7 +5,9 @@ mod chain;
 mod explanation;
 mod issued;
 mod latest;
+mod listing;
 mod waited;
 
 pub use chain::longest_chain;
 pub use explanation::{Explained, Unit, explain};
+pub use listing::push_explanation;

@@ -1,4 +1,4 @@
-use Rattle.std.proofs.Common.{◌<◌, ◌≡◌, length, arith, ap, ◌∙◌}
+use Rattle.std.proofs.Common.{◌<◌, length, arith, ap}
 use Rattle.iloc_sched.proofs.PriorityFacts.{length-priorities}
 use Rattle.iloc_explain.proofs.chain.continues.Goals as goal
 

@@ -1,10 +1,9 @@
-use Rattle.std.proofs.Common.{◌≡◌, ◌<◌, ◌≤◌, length, ap, sym, ◌∙◌, arith, fold, max, slice_index}
+use Rattle.std.proofs.Common.{◌≡◌, length, ap, sym, ◌∙◌, fold, max, slice_index}
 use Rattle.std.proofs.lemmas.Bool.{iff_false}
 use Rattle.iloc_sched.specs.Priority.{priorities}
 use Rattle.iloc_sched.proofs.PriorityFacts.{length-priorities}
 use Rattle.iloc_explain.specs.Steps.Links.{IsChainTo}
-use Rattle.iloc_explain.specs.Chain.{IsLongestChain}
-use Rattle.iloc_explain.proofs.Links.{chain_start, chain_more, chain_kept, chain_ends, no_chain}
+use Rattle.iloc_explain.proofs.Links.{chain_start, chain_more, chain_kept, chain_ends}
 use Rattle.iloc_explain.proofs.chain.longest_chain.Goals as goal
 use Rattle.iloc_explain.proofs.chain.longest_chain.Goals.{then-continues+in_ok-push-2, else-continues}
 

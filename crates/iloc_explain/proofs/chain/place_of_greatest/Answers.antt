@@ -1,4 +1,4 @@
-use Rattle.std.proofs.Common.{◌≤◌, ◌<◌, length, arith}
+use Rattle.std.proofs.Common.{◌≤◌, length, arith}
 use Rattle.iloc_explain.proofs.Greatest.{greatest_is}
 use Rattle.iloc_explain.proofs.chain.place_of_greatest.Goals as goal
 

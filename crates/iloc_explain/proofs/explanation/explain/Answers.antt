@@ -1,4 +1,4 @@
-use Rattle.std.proofs.Common.{◌≡◌, ◌<◌, ◌≤◌, length, get_or, slice_index, ap, arith}
+use Rattle.std.proofs.Common.{◌≡◌, ◌<◌, ◌≤◌, length, slice_index, ap, arith}
 use Rattle.iloc_sched.proofs.PriorityFacts.{length-priorities}
 use Rattle.iloc_timed.proofs.Arrivals.{issued_within}
 use Rattle.iloc_timed.specs.Rows.{issue_cycle, row_at}
