@@ -11,6 +11,8 @@ mod rows;
 #[cfg(test)]
 mod sched;
 #[cfg(test)]
+mod submissions;
+#[cfg(test)]
 mod text;
 #[cfg(test)]
 mod timed;

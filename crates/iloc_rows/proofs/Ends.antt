@@ -1,16 +1,15 @@
 -- Where the blocks of a text end.
-use Rattle.std.proofs.Common.{◌≡◌, ◌≢◌, ◌∙◌, ℕ, ◌+◌, ◌-◌, ◌<◌, ◌≤◌, List, [], ◌∷◌, ◌++◌, length, take, refl, sym, ap, subst, Some, None, Option, append_assoc, append-nil, length-append, Bor, Bool, not, MatchBool, arith}
+use Rattle.std.proofs.Common.{◌≡◌, ◌≢◌, ◌∙◌, ℕ, ◌+◌, ◌-◌, ◌≤◌, List, [], ◌∷◌, ◌++◌, length, take, refl, sym, ap, subst, Some, None, Option, append_assoc, append-nil, length-append, Bor, Bool, not, MatchBool, arith}
 use Rattle.std.proofs.Math.Seq.{take-append_seam}
 use Rattle.std.specs.List.{AllByRecursion, join_with_byte}
 use Rattle.std.proofs.lemmas.List.Splits.{join_with_byte-slice_split}
 use Rattle.iloc_text.specs.ScheduleLines.{Said, SaysWidely, Says, SaysSomething, SaysSomethingWidely, IsScheduleLine}
 use Rattle.iloc_text.specs.ScheduleLines.Said.{nothing, row, head, cycles, total}
 use Rattle.iloc_text.specs.Steps.Lines.{lines_of, lines_left}
-use Rattle.iloc_text.specs.Files.{AreLines}
 use Rattle.iloc_text.proofs.ScheduleLines.{nothing_alone}
-use Rattle.iloc_text.proofs.Splitting.{lines_are, lines_few}
-use Rattle.iloc_rows.specs.Submissions.{BlocksEnd, StartWithSchedule}
-use Rattle.iloc_rows.specs.Steps.Ends.{is_nothing, ArePartsOf}
+use Rattle.iloc_text.proofs.Splitting.{lines_few}
+use Rattle.iloc_rows.specs.Submissions.{StartWithSchedule}
+use Rattle.iloc_rows.specs.Steps.Ends.{is_nothing}
 
 -- Schedule lines
 
