@@ -92,7 +92,9 @@ def clock():
     """The time by the clock of the file system; no time where it takes no file."""
     try:
         with open(NEW, "wb") as file:
-            return os.fstat(file.fileno()).st_ctime
+            now = os.fstat(file.fileno()).st_ctime
+        os.remove(NEW)
+        return now
     except OSError:
         return 0
 
@@ -110,8 +112,6 @@ def remember(look, began):
             with open(NEW, "wb") as file:
                 file.write(look)
             os.replace(NEW, KNOWN)
-        else:
-            os.remove(NEW)
 
 
 def build(kit):
