@@ -1,19 +1,19 @@
 -- A text has one answer.
-use Rattle.std.proofs.Common.{◌≡◌, ◌≢◌, ◌∙◌, ℕ, suc, ◌+◌, ◌<◌, ◌≤◌, true, false, List, [], ◌∷◌, ◌++◌, length, refl, sym, ap, ap₂, subst, subst₂, ◌⊎◌, inl, inr, append_assoc, append-nil, arith}
+use Rattle.std.proofs.Common.{◌≡◌, ◌∙◌, ℕ, ◌+◌, ◌<◌, ◌≤◌, List, [], ◌∷◌, ◌++◌, length, refl, sym, ap, ap₂, subst, subst₂, ◌⊎◌, inl, inr, append_assoc, append-nil, arith}
 use Rattle.std.specs.List.{join_with_byte}
 use Rattle.iloc_text.specs.declared.file.Block.{Block}
 use Rattle.iloc_text.specs.declared.fault.ReadFault.{ReadFault}
 use Rattle.iloc_text.specs.declared.fault.ReadFault.TheVariants.{InputTooLong, BadLine, NumberTooLarge, TooManyBlocks, TooManyOperations, NoMemory}
 use Rattle.iloc_text.specs.Files as files
 use Rattle.iloc_text.specs.Files.{AreLines}
-use Rattle.iloc_text.specs.ScheduleLines.{Said, Says, SaysSomething, SaysSomethingWidely, IsScheduleLine}
+use Rattle.iloc_text.specs.ScheduleLines.{Said, Says, SaysSomethingWidely}
 use Rattle.iloc_text.proofs.Answer.{lines_are_of, one_answer}
 use Rattle.iloc_text.proofs.ScheduleLines.{one_said}
 use Rattle.iloc_rows.specs.declared.fault.RowsFault.{RowsFault}
 use Rattle.iloc_rows.specs.declared.fault.RowsFault.TheVariants.{Read, NoSuchBlock}
 use Rattle.iloc_rows.specs.declared.proposal.Proposal.{Proposal}
 use Rattle.iloc_rows.specs.Proposing.{is_of_block, op_count, proposals_of, Fits, AllFit}
-use Rattle.iloc_rows.specs.Submissions.{SayAll, BlocksEnd, StartWithSchedule, Propose, Denotes, SpeaksOfNoBlock, HoldsTooManyOperations, IsFaulty, HaveFirstFault, BlocksAreRefused, RowsAreRefused, IsRefused}
+use Rattle.iloc_rows.specs.Submissions.{SayAll, BlocksEnd, StartWithSchedule, Denotes, IsFaulty, HaveFirstFault, BlocksAreRefused, RowsAreRefused, IsRefused}
 use Rattle.iloc_rows.specs.Laws as laws
 
 -- Where the blocks end

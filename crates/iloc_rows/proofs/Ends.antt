@@ -1,21 +1,29 @@
 -- Where the blocks of a text end.
-use Rattle.std.proofs.Common.{◌≡◌, ◌≢◌, ◌∙◌, ℕ, ◌+◌, ◌-◌, ◌<◌, ◌≤◌, List, [], ◌∷◌, ◌++◌, length, take, refl, sym, ap, subst, Some, None, Option, append_assoc, append-nil, length-append, Bor, arith}
+use Rattle.std.proofs.Common.{◌≡◌, ◌≢◌, ◌∙◌, ℕ, ◌+◌, ◌-◌, ◌≤◌, List, [], ◌∷◌, ◌++◌, length, take, refl, sym, ap, subst, Some, None, Option, append_assoc, append-nil, length-append, Bor, Bool, not, MatchBool, arith}
 use Rattle.std.proofs.Math.Seq.{take-append_seam}
 use Rattle.std.specs.List.{AllByRecursion, join_with_byte}
 use Rattle.std.proofs.lemmas.List.Splits.{join_with_byte-slice_split}
 use Rattle.iloc_text.specs.ScheduleLines.{Said, SaysWidely, Says, SaysSomething, SaysSomethingWidely, IsScheduleLine}
-use Rattle.iloc_text.specs.ScheduleLines.Said.{nothing}
+use Rattle.iloc_text.specs.ScheduleLines.Said.{nothing, row, head, cycles, total}
 use Rattle.iloc_text.specs.Steps.Lines.{lines_of, lines_left}
-use Rattle.iloc_text.specs.Files.{AreLines}
 use Rattle.iloc_text.proofs.ScheduleLines.{nothing_alone}
-use Rattle.iloc_text.proofs.Splitting.{lines_are, lines_few}
-use Rattle.iloc_rows.specs.Submissions.{BlocksEnd, StartWithSchedule}
-use Rattle.iloc_rows.specs.Steps.Ends.{ArePartsOf}
+use Rattle.iloc_text.proofs.Splitting.{lines_few}
+use Rattle.iloc_rows.specs.Submissions.{StartWithSchedule}
+use Rattle.iloc_rows.specs.Steps.Ends.{is_nothing}
 
 -- Schedule lines
 
 pub nothing_is_none : (line : List ℕ) → SaysWidely line nothing → IsScheduleLine line → ⊥
 nothing_is_none line h s = s.1 (nothing_alone line s.0 h s.2)
+
+-- more than nothing is said, or nothing
+pub something_is_one : (line : List ℕ) (said : Said) (b : Bool) → Says line said → b ≡ is_nothing said
+    → MatchBool (not b) (IsScheduleLine line) (IsScheduleLine line → ⊥)
+something_is_one line nothing b h e = rw e (nothing_is_none line h.0)
+something_is_one line (row zero one) b h e = rw e (row zero one, λ k. cc, h.0)
+something_is_one line (head k name) b h e = rw e (head k name, λ k. cc, h.0)
+something_is_one line (cycles c) b h e = rw e (cycles c, λ k. cc, h.0)
+something_is_one line (total t) b h e = rw e (total t, λ k. cc, h.0)
 
 pub bad_is_none : (line : List ℕ) → (SaysSomethingWidely line → ⊥) → IsScheduleLine line → ⊥
 bad_is_none line h s = h (s.0, s.2)

@@ -1,6 +1,5 @@
 -- What the steps of the reader do to what is proposed.
-use Rattle.std.proofs.Common.{◌≡◌, ◌≢◌, ◌∙◌, ℕ, ◌+◌, ◌-◌, ◌<◌, ◌≤◌, nat_lt, max, Bool, true, false, cond, ◌&&◌, ◌||◌, ◌==◌, List, [], ◌∷◌, ◌++◌, length, map, refl, sym, ap, ap₂, subst, subst₂, Option, Some, None, Result, Ok, Err, set, get_or, inl, inr, ◌⊎◌, arith}
-use Rattle.std.specs.List.{range_with_len}
+use Rattle.std.proofs.Common.{◌≡◌, ◌∙◌, ℕ, ◌+◌, ◌-◌, ◌<◌, ◌≤◌, nat_lt, max, Bool, true, false, cond, ◌&&◌, ◌||◌, ◌==◌, List, [], ◌∷◌, ◌++◌, length, refl, sym, ap, ap₂, subst, Option, Some, None, Result, Ok, Err, set, inl, inr, ◌⊎◌, arith}
 use Rattle.std.proofs.lemmas.List.{get_or_past}
 use Rattle.std.proofs.lemmas.List.FromFn.{length-map-range_with_len, get_or-map-range_with_len}
 use Rattle.std.proofs.lemmas.Bool.Decides.{nat_tests}
@@ -13,7 +12,7 @@ use Rattle.iloc_rows.specs.declared.fault.RowsFault.{RowsFault}
 use Rattle.iloc_rows.specs.declared.fault.RowsFault.TheVariants.{Read, NoSuchBlock}
 use Rattle.iloc_rows.specs.declared.proposal.Proposal.{Proposal}
 use Rattle.iloc_rows.specs.declared.proposing.Proposing.{Proposing}
-use Rattle.iloc_rows.specs.Proposing.{last_head, block_of, head_number, row_in, cycles_in, rows_of, ops_in, proposal_of, proposals_of, is_of_block, is_named, op_count, Fits}
+use Rattle.iloc_rows.specs.Proposing.{last_head, block_of, head_number, row_in, cycles_in, rows_of, proposal_of, proposals_of, is_named, op_count}
 use Rattle.iloc_rows.specs.Steps.Growth.{none_proposed, with_row, with_cycles, place, at_place, HasProposed, Adds, RowAdds, CyclesAdd, Turns}
 use Rattle.iloc_rows.proofs.Picking.{last_head-none, last_head-head}
 use Rattle.iloc_rows.proofs.Numbering.{ops_in-snoc, proposal-same, proposal-row, proposal-row_else, proposal-cycles, proposal-cycles_else, proposal-short, map-same, map-set}

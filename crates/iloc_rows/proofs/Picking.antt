@@ -1,5 +1,5 @@
 -- What one more line does to what is picked of the lines of a block.
-use Rattle.std.proofs.Common.{◌≡◌, ◌≢◌, ◌∙◌, ℕ, suc, ◌≤◌, Bool, true, false, cond, ◌==◌, List, [], ◌∷◌, ◌++◌, length, map, filter_map, refl, sym, ap, Option, Some, None, unwrap_or, option_to_list, append-nil, max, eq-eqb, ne_eqb, arith}
+use Rattle.std.proofs.Common.{◌≡◌, ◌≢◌, ◌∙◌, ℕ, suc, ◌≤◌, Bool, true, false, cond, ◌==◌, List, [], ◌∷◌, ◌++◌, length, map, filter_map, refl, ap, Option, Some, None, unwrap_or, option_to_list, append-nil, eq-eqb, ne_eqb, arith}
 use Rattle.std.proofs.lemmas.List.{map-append, length-map}
 use Rattle.std.proofs.lemmas.List.Elements.{filter_map-append}
 use Rattle.iloc_text.specs.ScheduleLines.{Said}

@@ -19,7 +19,7 @@ use Rattle.iloc_rows.specs.Submissions.{SayAll, Propose, Denotes, IsFaulty, Have
 use Rattle.iloc_rows.specs.Steps.Growth.{HasProposed, Adds}
 use Rattle.iloc_rows.specs.Steps.Ends.{ArePartsOf}
 use Rattle.iloc_rows.proofs.Picking.{last_head-nothing}
-use Rattle.iloc_rows.proofs.Ends.{join-append, joined}
+use Rattle.iloc_rows.proofs.Ends.{join-append}
 
 SayAll-snoc : (lines : List (List ℕ)) (ss : List Said) (line : List ℕ) (s : Said) → SayAll lines ss → Says line s
     → SayAll (lines ++ line ∷ []) (ss ++ s ∷ [])

@@ -1,7 +1,7 @@
 //! Where the blocks of a text end.
 ghost use Rattle.std.specs.Prelude.{◌≡◌, ◌≤◌, MatchBool, length};
-ghost use Rattle.iloc_text.specs.ScheduleLines.{IsScheduleLine};
-ghost use Rattle.iloc_rows.specs.Steps.Ends.{ArePartsOf};
+ghost use Rattle.iloc_text.specs.ScheduleLines.{IsScheduleLine, said_of};
+ghost use Rattle.iloc_rows.specs.Steps.Ends.{is_nothing, ArePartsOf};
 
 use crate::line_ends::split_line;
 use iloc_text::{LineFault, ScheduleLine, read_schedule_line};
@@ -17,13 +17,21 @@ pub struct Parts<'a> {
     pub rows: Option<&'a [u8]>,
 }
 
+/// Whether nothing is said.
+fn is_nothing(line: &ScheduleLine<'_>) -> bool
+    ensures { result ≡ is_nothing (said_of line.now) }
+{
+    matches!(line, ScheduleLine::Empty)
+}
+
 /// Whether the line says more than nothing, or would if numbers had no limit.
 fn is_schedule_line(line: &[u8]) -> bool
     ensures { MatchBool result (IsScheduleLine line.now) (IsScheduleLine line.now → ⊥) }
 {
     match read_schedule_line(line) {
-        Ok(ScheduleLine::Empty) | Err(LineFault::Bad) => false,
-        Ok(_) | Err(LineFault::NumberTooLarge) => true,
+        Ok(found) => !is_nothing(&found),
+        Err(LineFault::Bad) => false,
+        Err(LineFault::NumberTooLarge) => true,
     }
 }
 

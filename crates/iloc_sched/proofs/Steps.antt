@@ -15,6 +15,7 @@ pub mod Issuing
 pub mod ReadyNow
 pub mod Reads
 pub mod Passing
+pub mod Ranks
 pub mod Queues
 pub mod Admitting
 pub mod Chosen

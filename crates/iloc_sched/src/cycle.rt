@@ -16,8 +16,8 @@ use iloc_timed::Row;
 fn row_of(a: &Choice, b: &Option<Choice>) -> Row
     ensures { result ≡ row_with a.now b.now }
 {
-    let first = Some(a.candidate.number.0 as usize);
-    let second = b.as_ref().map(|b| b.candidate.number.0 as usize);
+    let first = Some(a.candidate.number as usize);
+    let second = b.as_ref().map(|b| b.candidate.number as usize);
     if a.class == Class::Product || b.as_ref().is_some_and(|b| b.class == Class::Memory) {
         Row {
             zero: second,
@@ -72,7 +72,7 @@ impl Waiting {
         ensures issues { IssuesAny plan.now self.old self.new queues.old queues.new cycle result }
     {
         let choice = queues.take(beside)?;
-        self.issue(&plan.edges, choice.candidate.number.0 as usize, cycle);
+        self.issue(&plan.edges, choice.candidate.number as usize, cycle);
         Some(choice)
     }
 

@@ -21,4 +21,4 @@ mod wheel;
 pub use delay_pairs::{Pair, delays, pairs};
 pub use priority::priorities;
 pub use renaming::rename;
-pub use scheduler::schedule;
+pub use scheduler::{Scheduler, schedule};

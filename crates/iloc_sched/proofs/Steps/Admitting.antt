@@ -37,12 +37,12 @@ admits_more ops prios q q1 q2 js j k c admits class candidate adds = record {
   was = λ l d held. elim (adds.was l d held) [
     | inl old ↦ elim (admits.was l d old) [
       | inl first ↦ inl first
-      | inr come ↦ inr (in_front js (j ∷ []) d.number.0 come.0, come.1, come.2)
+      | inr come ↦ inr (in_front js (j ∷ []) d.number come.0, come.1, come.2)
     ]
     | inr new ↦
-        let number : d.number.0 ≡ j = ap (λ (e : Candidate). e.number.0) (new.1 ∙ candidate) in
+        let number : d.number ≡ j = ap (λ (e : Candidate). e.number) (new.1 ∙ candidate) in
         inr (
-          in_back js (j ∷ []) d.number.0 (inl (sym number)),
+          in_back js (j ∷ []) d.number (inl (sym number)),
           ap (λ n. class_at ops n) number ∙ sym class ∙ sym new.0,
           new.1 ∙ candidate ∙ ap (candidate_at prios) (sym number),
         )
@@ -55,9 +55,9 @@ module _ (ops : List Op) (prios : List ℕ) (graph : Graph) (w : Progress) (c : 
   pub due_is_new : (j : ℕ) (k : Class) → In (w.bucket (c % 32)) j → HasNone (candidates q k) j
   due_is_new j k due d held same =
       let now : w.earliest j ≡ c = (due_now graph w c is waits j due).1 in
-      let can : CanIssue graph w c d.number.0 = (queued.only k d held).0 in
-      let soon : w.earliest d.number.0 < c = can.soon in
-      let e : w.earliest d.number.0 ≡ w.earliest j = ap w.earliest same in
+      let can : CanIssue graph w c d.number = (queued.only k d held).0 in
+      let soon : w.earliest d.number < c = can.soon in
+      let e : w.earliest d.number ≡ w.earliest j = ap w.earliest same in
       absurd (omega arith)
 
   pub queued_with_due : (q' : Queues) (bucket' : ℕ → List ℕ) → Admits ops prios q q' (w.bucket (c % 32))
@@ -71,10 +71,10 @@ module _ (ops : List Op) (prios : List ℕ) (graph : Graph) (w : Progress) (c : 
     only = λ k d held. elim (admits.was k d held) [
       | inl old ↦
           let h = queued.only k d old in
-          let can : CanIssue graph w (c + 1) d.number.0 = later_still graph w c d.number.0 h.0 in
+          let can : CanIssue graph w (c + 1) d.number = later_still graph w c d.number h.0 in
           (record { there = can.there; waiting = can.waiting; past_all = can.past_all; soon = can.soon }, h.1, h.2)
       | inr due ↦
-          let can : CanIssue graph w (c + 1) d.number.0 = (due_now graph w c is waits d.number.0 due.0).0 in
+          let can : CanIssue graph w (c + 1) d.number = (due_now graph w c is waits d.number due.0).0 in
           (record { there = can.there; waiting = can.waiting; past_all = can.past_all; soon = can.soon }, due.1, due.2)
     ];
   }
@@ -82,21 +82,21 @@ module _ (ops : List Op) (prios : List ℕ) (graph : Graph) (w : Progress) (c : 
 -- the queues once a choice was taken and issued
 pub queued_after : (ops : List Op) (prios : List ℕ) (graph : Graph) (w w' : Progress) (c : ℕ) (q q' : Queues)
     (choice : Choice) → IsGraph graph
-    → Waits graph w (c + 1) 0 None → Waits graph w' (c + 1) 0 None → w'.issued choice.candidate.number.0 ≡ Some c
-    → ((k : ℕ) → k ≢ choice.candidate.number.0 → w'.issued k ≡ w.issued k) → KeepsPlaces graph w w'
+    → Waits graph w (c + 1) 0 None → Waits graph w' (c + 1) 0 None → w'.issued choice.candidate.number ≡ Some c
+    → ((k : ℕ) → k ≢ choice.candidate.number → w'.issued k ≡ w.issued k) → KeepsPlaces graph w w'
     → In (candidates q choice.class) choice.candidate → Takes q q' choice → IsQueued ops prios graph w (c + 1) q
     → IsQueued ops prios graph w' (c + 1) q'
 queued_after ops prios graph w w' c q q' choice is waits waits' at others keeps held takes queued =
-    let n : ℕ = choice.candidate.number.0 in
+    let n : ℕ = choice.candidate.number in
     record {
       has = λ j can.
           let before : (j ≢ n) × CanIssue graph w (c + 1) j =
           can_issue_back graph w w' c n is waits waits' at others keeps j can in
           takes.stays (class_at ops j) (candidate_at prios j) (queued.has j before.1) (λ _ same. before.0 same);
       only = λ k d there.
-          let old : In (candidates q k) d × (k ≡ choice.class → d.number.0 ≡ n → ⊥) = takes.was k d there in
+          let old : In (candidates q k) d × (k ≡ choice.class → d.number ≡ n → ⊥) = takes.was k d there in
           let h = queued.only k d old.0 in
-          let apart : d.number.0 ≢ n = (λ same. old.1 (sym h.1 ∙ ap (λ m. class_at ops m) same
+          let apart : d.number ≢ n = (λ same. old.1 (sym h.1 ∙ ap (λ m. class_at ops m) same
           ∙ (queued.only choice.class choice.candidate held).1) same) in
-          (can_issue_still graph w w' c n is waits waits' at others keeps d.number.0 apart h.0, h.1, h.2);
+          (can_issue_still graph w w' c n is waits waits' at others keeps d.number apart h.0, h.1, h.2);
     }

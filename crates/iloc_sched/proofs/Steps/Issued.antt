@@ -33,23 +33,23 @@ issued_other xs ys n c k is apart = ap (λ zs. get_or zs k None) is ∙ get_or-s
 pub issues_choice : (p : Plan) (w w' : Waiting) (q q' : Queues) (c : ℕ) (choice : Choice) → IsGraph (graph_of p.edges)
     → IsUnderWay p w q (c + 1) → In (candidates q choice.class) choice.candidate → Takes q q' choice
     → Waits (graph_of p.edges) (progress_of w') (c + 1) 0 None
-    → (issued_list w') ≡ set (issued_list w) choice.candidate.number.0 (Some c)
+    → (issued_list w') ≡ set (issued_list w) choice.candidate.number (Some c)
     → KeepsPlaces (graph_of p.edges) (progress_of w) (progress_of w') → IsSized p.edges w'
     → Issues p w w' q q' c choice
 issues_choice p w w' q q' c choice is under held takes waits' issued keeps sized' =
-    let can : CanIssue (graph_of p.edges) (progress_of w) (c + 1) choice.candidate.number.0 =
+    let can : CanIssue (graph_of p.edges) (progress_of w) (c + 1) choice.candidate.number =
     (under.queued.only choice.class choice.candidate held).0 in
     let size : length (issued_list w) ≡ length p.edges.heads.items = issued_size p.edges w under.sized in
-    let among : choice.candidate.number.0 < length p.edges.heads.items = can.there in
-    let below : choice.candidate.number.0 < length (issued_list w) = omega arith in
+    let among : choice.candidate.number < length p.edges.heads.items = can.there in
+    let below : choice.candidate.number < length (issued_list w) = omega arith in
     record {
       under_way = record {
         sized = sized';
         waits = waits';
         queued = queued_after p.ops.items p.priorities.items (graph_of p.edges) (progress_of w) (progress_of w') c q q'
             choice is under.waits waits'
-            (issued_at (issued_list w) (issued_list w') choice.candidate.number.0 c issued below)
-            (λ k apart. issued_other (issued_list w) (issued_list w') choice.candidate.number.0 c k issued apart)
+            (issued_at (issued_list w) (issued_list w') choice.candidate.number c issued below)
+            (λ k apart. issued_other (issued_list w) (issued_list w') choice.candidate.number c k issued apart)
             keeps held takes under.queued;
       };
       takes = takes;

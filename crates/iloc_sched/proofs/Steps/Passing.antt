@@ -164,8 +164,7 @@ started e w v i cycle is sized waits can issued watch earliest wheel =
     begins (graph_of e) (progress_of w) (cycle + 1) i cycle (λ j. get_or (issued_list v) j None) is waits can
     (omega arith)
     (ap (λ xs. get_or xs i None) issued ∙ get_or-set_same (issued_list w) i (Some cycle) None (omega arith))
-    (λ k apart. ap (λ xs. get_or xs k None) issued ∙ get_or-set_other (issued_list w) i k (Some cycle) None apart) in
-    (
+    (λ k apart. ap (λ xs. get_or xs k None) issued ∙ get_or-set_other (issued_list w) i k (Some cycle) None apart) in (
       subst (λ xs. Waits (graph_of e) (progress_by (issued_list v) xs (earliest_list v) v.wheel) (cycle + 1) i
           ((graph_of e).head i)) (sym watch)
           (subst (λ xs. Waits (graph_of e) (progress_by (issued_list v) (watch_list w) xs v.wheel) (cycle + 1) i

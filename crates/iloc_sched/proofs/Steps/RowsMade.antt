@@ -73,29 +73,29 @@ two_of (Some x) a j (inr (inl is)) = inr (sym is)
 two_of (Some x) a j (inr (inr none)) = absurd none
 
 -- who stands in the row of a choice
-from_row : (a : Choice) (b : Option Choice) (j : ℕ) → In (slots (row_with a b)) j → (j ≡ a.candidate.number.0)
+from_row : (a : Choice) (b : Option Choice) (j : ℕ) → In (slots (row_with a b)) j → (j ≡ a.candidate.number)
     ⊎ (number_of b ≡ Some j)
 from_row a b j = by_bool (is_product_class a.class || is_memory_choice b)
     (λ t. rw t (λ held. elim held [ inl is ↦ inl (sym is) | inr rest ↦ inr (one_of (number_of b) j rest) ]))
-    (λ f. rw f (λ held. elim (two_of (number_of b) a.candidate.number.0 j held) [ inl is ↦ inr is | inr is ↦ inl is ]))
+    (λ f. rw f (λ held. elim (two_of (number_of b) a.candidate.number j held) [ inl is ↦ inr is | inr is ↦ inl is ]))
 
 in_last : (o : Option ℕ) (a : ℕ) → In (option_to_list o ++ a ∷ []) a
 in_last None a = inl refl
 in_last (Some x) a = inr (inl refl)
 
-in_first : (a : Choice) (b : Option Choice) → In (slots (row_with a b)) a.candidate.number.0
+in_first : (a : Choice) (b : Option Choice) → In (slots (row_with a b)) a.candidate.number
 in_first a b = by_bool (is_product_class a.class || is_memory_choice b)
     (λ t. rw t (inl refl))
-    (λ f. rw f (in_last (number_of b) a.candidate.number.0))
+    (λ f. rw f (in_last (number_of b) a.candidate.number))
 
-in_second : (a b : Choice) → In (slots (row_with a (Some b))) b.candidate.number.0
+in_second : (a b : Choice) → In (slots (row_with a (Some b))) b.candidate.number
 in_second a b = by_bool (is_product_class a.class || is_memory_choice (Some b))
     (λ t. rw t (inr (inl refl)))
     (λ f. rw f (inl refl))
 
 -- the row is a choice's, so it isn't empty
 pub row_filled : (a : Choice) (b : Option Choice) → slots (row_with a b) ≡ [] → ⊥
-row_filled a b empty = subst (λ xs. In xs a.candidate.number.0) empty (in_first a b)
+row_filled a b empty = subst (λ xs. In xs a.candidate.number) empty (in_first a b)
 
 -- nothing is ready
 pub so_far_none : (p : Plan) (w w1 w2 : Waiting) (q q1 q2 : Queues) (rows rows' : List Row) (row : Row) → IsPlan p
@@ -121,13 +121,13 @@ so_far_none p w w1 w2 q q1 q2 rows rows' row plan so_far same under best issues 
 -- the choices of a cycle in the tables
 module _ (p : Plan) (w1 w2 w3 : Waiting) (q1 q2 q3 : Queues) (c : ℕ) (a : Choice) (first : Issues p w1 w2 q1 q2 c a)
   where
-    at_first : (progress_of w2).issued a.candidate.number.0 ≡ Some c
-    at_first = issued_at (issued_list w1) (issued_list w2) a.candidate.number.0 c first.issued first.there
+    at_first : (progress_of w2).issued a.candidate.number ≡ Some c
+    at_first = issued_at (issued_list w1) (issued_list w2) a.candidate.number c first.issued first.there
 
-    beside_first : (j : ℕ) → j ≢ a.candidate.number.0 → (progress_of w2).issued j ≡ (progress_of w1).issued j
-    beside_first j apart = issued_other (issued_list w1) (issued_list w2) a.candidate.number.0 c j first.issued apart
+    beside_first : (j : ℕ) → j ≢ a.candidate.number → (progress_of w2).issued j ≡ (progress_of w1).issued j
+    beside_first j apart = issued_other (issued_list w1) (issued_list w2) a.candidate.number c j first.issued apart
 
-    now_issued : (b : Option Choice) → IssuesAny p w2 w3 q2 q3 c b → (j : ℕ) → (j ≡ a.candidate.number.0)
+    now_issued : (b : Option Choice) → IssuesAny p w2 w3 q2 q3 c b → (j : ℕ) → (j ≡ a.candidate.number)
         ⊎ (number_of b ≡ Some j) → ((progress_of w1).issued j ≡ None) × ((progress_of w3).issued j ≡ Some c)
     now_issued None second j (inl is) = (
       ap (progress_of w1).issued is ∙ first.waiting,
@@ -135,28 +135,28 @@ module _ (p : Plan) (w1 w2 w3 : Waiting) (q1 q2 q3 : Queues) (c : ℕ) (a : Choi
     )
     now_issued None second j (inr is) = cc
     now_issued (Some b) second j (inl is) =
-        let apart : j ≢ b.candidate.number.0 =
-        (λ same. not_both ((progress_of w2).issued b.candidate.number.0) c second.waiting
+        let apart : j ≢ b.candidate.number =
+        (λ same. not_both ((progress_of w2).issued b.candidate.number) c second.waiting
         (ap (progress_of w2).issued (sym same ∙ is) ∙ at_first)) in (
           ap (progress_of w1).issued is ∙ first.waiting,
-          issued_other (issued_list w2) (issued_list w3) b.candidate.number.0
+          issued_other (issued_list w2) (issued_list w3) b.candidate.number
               c j second.issued apart ∙ ap (progress_of w2).issued is ∙ at_first,
         )
     now_issued (Some b) second j (inr is) =
-        let same : b.candidate.number.0 ≡ j = same_some (Some j) b.candidate.number.0 j (sym is) refl in
-        let apart : j ≢ a.candidate.number.0 =
-        (λ e. not_both ((progress_of w2).issued b.candidate.number.0) c second.waiting
+        let same : b.candidate.number ≡ j = same_some (Some j) b.candidate.number j (sym is) refl in
+        let apart : j ≢ a.candidate.number =
+        (λ e. not_both ((progress_of w2).issued b.candidate.number) c second.waiting
         (ap (progress_of w2).issued (same ∙ e) ∙ at_first)) in (
           sym (beside_first j apart) ∙ ap (progress_of w2).issued (sym same) ∙ second.waiting,
-          ap (progress_of w3).issued (sym same) ∙ issued_at (issued_list w2) (issued_list w3) b.candidate.number.0 c
+          ap (progress_of w3).issued (sym same) ∙ issued_at (issued_list w2) (issued_list w3) b.candidate.number c
               second.issued second.there,
         )
 
-    others_kept : (b : Option Choice) → IssuesAny p w2 w3 q2 q3 c b → (j : ℕ) → j ≢ a.candidate.number.0
-        → ((x : Choice) → b ≡ Some x → j ≢ x.candidate.number.0) → (progress_of w3).issued j ≡ (progress_of w1).issued j
+    others_kept : (b : Option Choice) → IssuesAny p w2 w3 q2 q3 c b → (j : ℕ) → j ≢ a.candidate.number
+        → ((x : Choice) → b ≡ Some x → j ≢ x.candidate.number) → (progress_of w3).issued j ≡ (progress_of w1).issued j
     others_kept None second j apart other = ap (λ xs. get_or xs j None) second.1 ∙ beside_first j apart
     others_kept (Some b) second j apart other =
-        issued_other (issued_list w2) (issued_list w3) b.candidate.number.0 c j second.issued (other b refl)
+        issued_other (issued_list w2) (issued_list w3) b.candidate.number c j second.issued (other b refl)
         ∙ beside_first j apart
 
     under_way_after : (b : Option Choice) → IssuesAny p w2 w3 q2 q3 c b → IsUnderWay p w3 q3 (c + 1)
@@ -181,16 +181,16 @@ pub count_after : (p : Plan) (w w1 w2 w3 : Waiting) (q1 q2 q3 : Queues) (c : ℕ
     → waiting_count w3 + slot_count b ≡ waiting_count w
 count_after p w w1 w2 w3 q1 q2 q3 c a None same first second =
     let one : waiting_count w2 + 1 ≡ waiting_count w1 =
-    count_issued (issued_list w1) (issued_list w2) a.candidate.number.0 c first.issued first.there first.waiting in
+    count_issued (issued_list w1) (issued_list w2) a.candidate.number c first.issued first.there first.waiting in
     let start : waiting_count w1 ≡ waiting_count w = ap (count_by is_none) same in
     let end : waiting_count w3 ≡ waiting_count w2 = ap (count_by is_none) second.1 in
     omega arith
 count_after p w w1 w2 w3 q1 q2 q3 c a (Some b) same first second =
     let one : waiting_count w2 + 1 ≡ waiting_count w1 =
-    count_issued (issued_list w1) (issued_list w2) a.candidate.number.0 c first.issued first.there first.waiting in
+    count_issued (issued_list w1) (issued_list w2) a.candidate.number c first.issued first.there first.waiting in
     let start : waiting_count w1 ≡ waiting_count w = ap (count_by is_none) same in
     let two : waiting_count w3 + 1 ≡ waiting_count w2 =
-    count_issued (issued_list w2) (issued_list w3) b.candidate.number.0 c second.issued second.there second.waiting in
+    count_issued (issued_list w2) (issued_list w3) b.candidate.number c second.issued second.there second.waiting in
     omega arith
 
 pub count_none : (p : Plan) (w w1 w2 : Waiting) (q1 q2 : Queues) (c : ℕ) → issued_list w1 ≡ issued_list w
@@ -201,9 +201,9 @@ count_none p w w1 w2 q1 q2 c same none =
     omega arith
 
 number_is : (b : Option Choice) (j : ℕ) → number_of b ≡ Some j → (x : Choice) × (b ≡ Some x)
-    × (j ≡ x.candidate.number.0)
+    × (j ≡ x.candidate.number)
 number_is None j is = cc
-number_is (Some x) j is = (x, refl, sym (same_some (Some j) x.candidate.number.0 j (sym is) refl))
+number_is (Some x) j is = (x, refl, sym (same_some (Some j) x.candidate.number j (sym is) refl))
 
 -- a first choice, and perhaps a second
 pub so_far_row : (p : Plan) (w w1 w2 w3 : Waiting) (q q1 q2 q3 : Queues) (rows rows' : List Row) (row : Row)
@@ -229,7 +229,7 @@ so_far_row p w w1 w2 w3 q q1 q2 q3 rows rows' row a b plan so_far same under bes
           (λ j misses. others_kept p w1 w2 w3 q1 q2 q3 (length rows) a issues_a b issues_b j
           (λ e. misses (subst (λ k. In (slots (row_with a b)) k) (sym e) (in_first a b)))
           (λ x some e. misses (subst (λ k. In (slots (row_with a b)) k) (sym e)
-          (subst (λ o. In (slots (row_with a o)) x.candidate.number.0) (sym some) (in_second a x)))));
+          (subst (λ o. In (slots (row_with a o)) x.candidate.number) (sym some) (in_second a x)))));
       each = chosen_more p.latencies p.ops.items rows (row_with a b) so_far.each
           (chosen_row p w1 q1 rows plan under matches so_far.each q2 a best_a.0.1 issues_a.takes b best_a best_b);
     })

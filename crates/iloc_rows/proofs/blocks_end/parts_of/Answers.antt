@@ -1,7 +1,5 @@
-use Rattle.std.proofs.Common.{◌∙◌, ◌+◌, ◌++◌, Some, None, ap, subst, length, take, append-nil, arith}
-use Rattle.iloc_text.specs.Steps.Lines.{lines_left}
-use Rattle.iloc_rows.specs.Submissions.{StartWithSchedule}
-use Rattle.iloc_rows.proofs.Ends.{AreBlocks, end_here, blocks_begin, blocks_step, blocks_number, starts, all_blocks}
+use Rattle.std.proofs.Common.{◌∙◌, Some, None, ap, take, arith}
+use Rattle.iloc_rows.proofs.Ends.{AreBlocks, end_here, blocks_step, blocks_number, starts, all_blocks}
 use Rattle.iloc_rows.proofs.blocks_end.parts_of.Goals as goal
 
 pub overflow_sub-input : goal.overflow_sub-input

@@ -1,6 +1,4 @@
 use Rattle.std.proofs.Common.{◌∙◌, sym, ap, length, inl, inr}
-use Rattle.iloc_text.specs.ScheduleLines.{said_of}
-use Rattle.iloc_rows.specs.Steps.Growth.{Adds}
 use Rattle.iloc_rows.proofs.Growing.{length-proposals, row_adds, cycles_add, head_turns, nothing_adds, total_adds, rows_few}
 use Rattle.iloc_rows.proofs.proposing.Proposing.add.Goals as goal
 

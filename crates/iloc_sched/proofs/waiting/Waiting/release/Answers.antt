@@ -30,7 +30,7 @@ candidate-candidate-requires c =
 
 pub insert-requires : goal.insert-requires
 insert-requires c =
-    subst (λ (d : Candidate). HasNone (candidates c.loop-j.queues c.class_of-class.result) d.number.0)
+    subst (λ (d : Candidate). HasNone (candidates c.loop-j.queues c.class_of-class.result) d.number)
     (sym c.candidate-candidate.ensures)
     (taken_new c.args.plan.now c.args.self.now c.loop-j.self c.args.queues.now c.loop-j.queues c.args.cycle
     c.requires.plan c.requires.under_way c.loop-j.invariant c.take.new.self c.in-Some.j c.in-Some.ensures.taken

@@ -4,15 +4,15 @@ use Rattle.iloc_sched.specs.declared.edges.Edge.{Edge}
 use Rattle.iloc_sched.specs.Steps.Graph.{Graph, IsRaised}
 use Rattle.iloc_sched.specs.Steps.Views.{graph_of, edge_at}
 use Rattle.iloc_sched.proofs.Steps.Raising.{raised_none, raised_more, raised_all, raised_small}
-use Rattle.iloc_sched.proofs.priority.priorities_by.Goals as goal
+use Rattle.iloc_sched.proofs.priority.fill_priorities.Goals as goal
 
 pub loop-x-init : goal.loop-x-init
 loop-x-init c =
     let graph : Graph = graph_of c.args.edges.now in
     let all : c.edge_count-x.result ≡ graph.count = omega arith in
-    subst (λ x. IsRaised c.args.latencies.now c.args.ops.now graph c.in_ok-prios.prios.items x) (sym all)
-    (raised_none c.args.latencies.now c.args.ops.now graph c.requires.graph c.in_ok-prios.prios.items
-    c.in_ok-prios.ensures)
+    subst (λ x. IsRaised c.args.latencies.now c.args.ops.now graph c.fill_latencies.new.own.items x) (sym all)
+    (raised_none c.args.latencies.now c.args.ops.now graph c.requires.graph c.fill_latencies.new.own.items
+    c.in_ok-fill_latencies.ensures)
 
 pub overflow_add-through : goal.overflow_add-through
 overflow_add-through c =
@@ -59,11 +59,9 @@ loop-x-preserved c =
     let read_from : c.index-in-loop-x.result.now ≡ get_or prios c.get-edge.result.from 0 =
     get_or_read prios c.get-edge.result.from c.index-in-loop-x.result.now
     (omega arith) c.index-in-loop-x.ensures 0 in
-    let delay_read : c.from.result ≡ c.get-edge.result.delay = omega arith in
     let greatest : c.max.result ≡ max (get_or prios c.get-edge.result.from 0)
     (c.get-edge.result.delay + get_or prios c.get-edge.result.to 0) =
-    c.max.ensures ∙ ap (λ v. max v (c.from.result + c.index.result.now)) read_from
-    ∙ ap (λ v. max (get_or prios c.get-edge.result.from 0) (v + c.index.result.now)) delay_read
+    c.max.ensures ∙ ap (λ v. max v (c.get-edge.result.delay + c.index.result.now)) read_from
     ∙ ap (λ v. max (get_or prios c.get-edge.result.from 0) (c.get-edge.result.delay + v)) read_to in
     let before : c.loop-x.x ≡ x + 1 = omega arith in
     raised_more c.args.latencies.now c.args.ops.now graph c.requires.graph prios
