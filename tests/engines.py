@@ -150,6 +150,4 @@ def documented(place):
     run_shown(place, "docs/CLUSTER.md")
 
 
-def engine_cases():
-    cases = (parallel_pieces, parallel_fault, slurm_array, slurm_killed_task, documented)
-    return [(case.__name__, case) for case in cases]
+ENGINE_CASES = (parallel_pieces, parallel_fault, slurm_array, slurm_killed_task, documented)

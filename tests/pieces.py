@@ -189,7 +189,5 @@ def mistakes(place):
     expect("nothing was made", stored(place), ["1.iloc", "index"])
 
 
-def piece_cases():
-    cases = (random_files, cuts_before_labels_alone, comments_first, nothing, more_than_one_run_takes, bytes_of_pieces,
-             missing_pieces, failed_piece, killed_piece, other_words, short_listing, first_fault, mistakes)
-    return [(case.__name__, case) for case in cases]
+PIECE_CASES = (random_files, cuts_before_labels_alone, comments_first, nothing, more_than_one_run_takes, bytes_of_pieces,
+               missing_pieces, failed_piece, killed_piece, other_words, short_listing, first_fault, mistakes)
