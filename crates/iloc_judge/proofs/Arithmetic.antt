@@ -23,3 +23,21 @@ key_of_other base c a z fits small is same =
     let back : base +ℤ (z -ℤ base) ≡ z = omega (arith, ints) in
     sym (int_wrap_fits w32 z small) ∙ ap (λ x. wrapped x) (sym back)
     ∙ sym (int_wrap-add_right w32 base (z -ℤ base)) ∙ ap (λ x. wrapped (base +ℤ x)) above ∙ sym is
+
+-- the sum of two sums, part by part
+pub sum_parts : (left right base other c d : ℤ) → left ≡ wrapped (base +ℤ c) → right ≡ wrapped (other +ℤ d)
+    → wrapped (wrapped (base +ℤ other) +ℤ wrapped (c +ℤ d)) ≡ wrapped (left +ℤ right)
+sum_parts left right base other c d is there =
+    let order : (base +ℤ other) +ℤ (c +ℤ d) ≡ (base +ℤ c) +ℤ (other +ℤ d) = omega (arith, ints) in
+    int_wrap-add_left w32 (base +ℤ other) (wrapped (c +ℤ d)) ∙ int_wrap-add_right w32 (base +ℤ other) (c +ℤ d)
+    ∙ ap (λ x. wrapped x) order ∙ sym (int_wrap-add_left w32 (base +ℤ c) (other +ℤ d))
+    ∙ sym (int_wrap-add_right w32 (wrapped (base +ℤ c)) (other +ℤ d))
+    ∙ ap (λ x. wrapped (x +ℤ wrapped (other +ℤ d))) (sym is) ∙ ap (λ x. wrapped (left +ℤ x)) (sym there)
+
+-- one more constant
+pub raised_parts : (word base c by : ℤ) → word ≡ wrapped (base +ℤ c)
+    → wrapped (base +ℤ wrapped (c +ℤ by)) ≡ wrapped (word +ℤ by)
+raised_parts word base c by is =
+    let order : base +ℤ (c +ℤ by) ≡ (base +ℤ c) +ℤ by = omega (arith, ints) in
+    int_wrap-add_right w32 base (c +ℤ by) ∙ ap (λ x. wrapped x) order ∙ sym (int_wrap-add_left w32 (base +ℤ c) by)
+    ∙ ap (λ x. wrapped (x +ℤ by)) (sym is)

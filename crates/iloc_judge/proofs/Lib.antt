@@ -7,3 +7,4 @@ pub mod Rows
 pub mod Marks
 pub mod Meanings
 pub mod Ending
+pub mod Places

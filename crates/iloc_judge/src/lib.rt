@@ -6,11 +6,15 @@ mod agreement;
 mod judgement;
 mod memories;
 mod node;
+mod place;
 mod registers;
 mod symbols;
 mod table;
 mod tries;
+mod verdict;
 mod wheel;
 mod words;
 
 pub use judgement::same;
+pub use place::Place;
+pub use verdict::{Verdict, judge};
