@@ -1,11 +1,34 @@
--- The greatest of some numbers by its place.
-use Rattle.std.proofs.Common.{◌≡◌, ◌<◌, ◌≤◌, ℕ, List, length, max, arith}
-use Rattle.std.specs.Prelude.{fold, slice_index}
-use Rattle.iloc_timed.proofs.Greatest.{item_le_fold_max, fold_max_le}
+-- The place of the greatest number, number by number.
+use Rattle.std.proofs.Common.{◌≡◌, ◌<◌, ◌≤◌, ℕ, ◌+◌, List, length, arith, inl, inr}
+use Rattle.std.specs.Prelude.{slice_index}
+use Rattle.std.proofs.lemmas.Bool.{cases_lt}
+use Rattle.iloc_explain.specs.Steps.Greatest.{IsGreatestTo}
 
-pub greatest_is : (xs : List ℕ) (g : ℕ) → g < length xs → ((k : ℕ) → k < length xs → slice_index xs k ≤ slice_index xs g)
-    → slice_index xs g ≡ fold max 0 xs
-greatest_is xs g within most =
-    let low : slice_index xs g ≤ fold max 0 xs = item_le_fold_max 0 xs g within in
-    let high : fold max 0 xs ≤ slice_index xs g = fold_max_le 0 xs (slice_index xs g) (omega arith) most in
-    omega arith
+pub greatest_start : (numbers : List ℕ) → 0 < length numbers → IsGreatestTo numbers 1 0
+greatest_start numbers some = record {
+  known = some;
+  most = λ k below. let here : k ≡ 0 = omega arith in rw here (omega arith);
+  first = λ k below. absurd (omega arith);
+}
+
+pub greatest_more : (numbers : List ℕ) (n i : ℕ) → IsGreatestTo numbers n i → i < n → n < length numbers
+    → slice_index numbers i < slice_index numbers n → IsGreatestTo numbers (n + 1) n
+greatest_more numbers n i is before within less = record {
+  known = within;
+  most = λ k below. elim (cases_lt k n) [
+    | inl earlier ↦ let most : slice_index numbers k ≤ slice_index numbers i = is.most k earlier in omega arith
+    | inr here ↦ let at : k ≡ n = omega arith in rw at (omega arith)
+  ];
+  first = λ k below. let most : slice_index numbers k ≤ slice_index numbers i = is.most k below in omega arith;
+}
+
+pub greatest_kept : (numbers : List ℕ) (n i : ℕ) → IsGreatestTo numbers n i
+    → slice_index numbers n ≤ slice_index numbers i → IsGreatestTo numbers (n + 1) i
+greatest_kept numbers n i is less = record {
+  known = is.known;
+  most = λ k below. elim (cases_lt k n) [
+    | inl earlier ↦ is.most k earlier
+    | inr here ↦ let at : k ≡ n = omega arith in rw at less
+  ];
+  first = is.first;
+}

@@ -6,3 +6,4 @@ pub mod Links
 pub mod ReadyCycles
 pub mod Waits
 pub mod Explaining
+pub mod Lines

@@ -4,3 +4,4 @@ pub mod Latest
 pub mod Waits
 pub mod Links
 pub mod SoFar
+pub mod Greatest

@@ -1,8 +1,8 @@
 //! A longest chain of delays.
-ghost use Rattle.std.specs.Prelude.{◌≡◌, ◌<◌, ◌≤◌, ◌↔◌, [], fold, length, max, IfOk, IsTrue, MatchOption, slice_index};
+ghost use Rattle.std.specs.Prelude.{◌≡◌, ◌<◌, ◌↔◌, [], length, IfOk, IsTrue, MatchOption};
 ghost use Rattle.iloc_sched.specs.Priority.{priorities as all_priorities};
-ghost use Rattle.iloc_explain.specs.Chain.{IsLongestChain};
-ghost use Rattle.iloc_explain.specs.Steps.Links.{Continues};
+ghost use Rattle.iloc_explain.specs.Chain.{Continues, IsLongestChain, SpansTheGreatest};
+ghost use Rattle.iloc_explain.specs.Steps.Greatest.{IsPlaceOfGreatest};
 
 use crate::waited::has_delay;
 use iloc_text::{NoMemory, Op};
@@ -11,8 +11,7 @@ use std::alloc::Global;
 
 /// The first place of the greatest number.
 fn place_of_greatest(numbers: &[u64]) -> Option<usize>
-    ensures { MatchOption result (numbers.now ≡ [])
-        (λ i. (i < length numbers.now) × (slice_index numbers.now i ≡ fold max 0 numbers.now)) }
+    ensures { MatchOption result (numbers.now ≡ []) (IsPlaceOfGreatest numbers.now) }
 {
     if numbers.is_empty() {
         return None;
@@ -38,9 +37,10 @@ fn continues(ops: &[Op], latencies: &Latencies, priorities: &[u64], i: usize, j:
     next <= own && has_delay(ops, latencies, i, j, own - next)
 }
 
-/// A longest chain of delays of renamed operations, by their priorities: each operation of it waits for the one before,
-/// and the delays and the latency of the last operation together are the greatest priority. It takes time linear in the
-/// number of operations.
+/// A longest chain of delays of renamed operations, by their priorities: it starts with the first operation of the
+/// greatest priority, and goes on with the first operation whose delay and priority together are that of the one
+/// before. So the delays and the latency of the last operation together are the greatest priority. It takes time linear
+/// in the number of operations.
 pub fn longest_chain(
     alloc: Global,
     ops: &[Op],
@@ -48,14 +48,16 @@ pub fn longest_chain(
     priorities: &[u64],
 ) -> Result<Vec<usize>, NoMemory>
     requires { priorities.now ≡ all_priorities latencies.now ops.now }
-    ensures { IfOk result (λ chain. IsLongestChain latencies.now ops.now chain.items) }
+    ensures chosen { IfOk result (λ chain. IsLongestChain latencies.now ops.now chain.items) }
+    ensures longest { IfOk result (λ chain. SpansTheGreatest latencies.now ops.now chain.items) }
 {
     let mut chain = Vec::new(alloc);
-    let Some(mut last) = place_of_greatest(priorities) else {
+    let Some(first) = place_of_greatest(priorities) else {
         return Ok(chain);
     };
-    chain.push(last)?;
-    for j in last + 1..ops.len() {
+    chain.push(first)?;
+    let mut last = first;
+    for j in first + 1..ops.len() {
         if continues(ops, latencies, priorities, last, j) {
             chain.push(j)?;
             last = j;

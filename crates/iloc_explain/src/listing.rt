@@ -118,9 +118,12 @@ fn push_lines(
 {
     let mut j = 0;
     for op in block {
-        if !matches!(op, Op::Nop) {
-            push_explained(text, j, &explained[j], op, &renamed[j])?;
-            j += 1;
+        match op {
+            Op::Nop => {}
+            _ => {
+                push_explained(text, j, &explained[j], op, &renamed[j])?;
+                j += 1;
+            }
         }
     }
     Ok(())

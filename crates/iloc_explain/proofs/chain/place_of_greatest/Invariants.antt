@@ -1,6 +1,6 @@
-use Rattle.std.specs.Prelude.{ℕ, ◌<◌, ◌≤◌, length, slice_index}
+use Rattle.std.specs.Prelude.{◌<◌}
+use Rattle.iloc_explain.specs.Steps.Greatest.{IsGreatestTo}
 use Rattle.iloc_explain.proofs.chain.place_of_greatest.Given as goal
 
 abbrev pub invariant-loop-i : goal.invariant-loop-i
-invariant-loop-i l = (l.greatest < length l.numbers)
-    × ((k : ℕ) → k < l.i → slice_index l.numbers k ≤ slice_index l.numbers l.greatest)
+invariant-loop-i l = IsGreatestTo l.numbers l.i l.greatest × (l.greatest < l.i)
