@@ -45,7 +45,8 @@ told_fits fits k (x ∷ xs) fit known = go (k == x.0) refl (λ known. told_fits 
     go true e rest = let P : ℕ → Type 0 = λ j. fits j x.1 in subst P (sym (eqb-true k x.0 e)) fit.0
     go false e rest = rest (later e)
 
-at_place : {A : Type 0} (xs : List A) (k : ℕ) → k < length xs → (a : A) × (slice_get xs k ≡ Some a)
+-- what stands at a place of a list
+pub at_place : {A : Type 0} (xs : List A) (k : ℕ) → k < length xs → (a : A) × (slice_get xs k ≡ Some a)
 at_place [] k lt = absurd (omega arith)
 at_place (x ∷ xs) zero lt = (x, refl)
 at_place (x ∷ xs) (suc k) lt = at_place xs k (omega arith)

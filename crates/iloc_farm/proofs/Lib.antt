@@ -10,3 +10,4 @@ pub mod Listed
 pub mod Idle
 pub mod Headline
 pub mod Listings
+pub mod Entries

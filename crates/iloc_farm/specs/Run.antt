@@ -48,7 +48,8 @@ IsListingFor task.Counts request blocks text =
 abbrev pub IsListing : Request → List Block → List ℕ → Type 0
 IsListing request blocks text = IsListingFor request.task request blocks text
 
--- The text is this listing of schedules that the request's workers made of the blocks.
+-- The text is this listing of schedules that the request's workers made of the blocks. What a worker hands back may be
+-- what is listed of a schedule, which stands for the one that it lists.
 pub record ListsFarmed (request : Request) (blocks : List Block) (listing : List Table → List ℕ) (text : List ℕ)
     : Type 0 where
   pub schedules : List Table

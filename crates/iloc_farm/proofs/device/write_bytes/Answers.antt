@@ -1,7 +1,7 @@
 use Rattle.std.proofs.Common.{◌++◌, take, refl}
 use Rattle.std.proofs.KnownBytes.{Appends-trans}
 use Rattle.iloc_farm.proofs.Written.{moves_on}
-use Rattle.iloc_farm.proofs.device.write_text.Goals as goal
+use Rattle.iloc_farm.proofs.device.write_bytes.Goals as goal
 
 pub loop-rest-preserved : goal.loop-rest-preserved
 loop-rest-preserved g c = (
