@@ -34,6 +34,7 @@ pub struct Edges {
     starts: Vec<u32>,
     // By operation the last edge out of it.
     heads: Vec<Option<u32>>,
+    // At most `MAX_OPS`, which a ghost field cannot name.
     ghost short: { length heads.items ≤ 10000 },
     ghost few: { length edges.items ≤ 5 * length heads.items },
 }
@@ -41,8 +42,8 @@ pub struct Edges {
 impl Edges {
     ghost use Rattle.iloc_sched.specs.Steps.Members.{In};
     ghost use Rattle.iloc_sched.specs.Steps.Graph.{IsGraphOf};
-    ghost use Rattle.iloc_sched.specs.Steps.Lasts.{IsLasts, loads_before};
-    ghost use Rattle.iloc_sched.specs.Steps.PartialGraph.{IsPartialGraph, Grows, AddsFrom, CoversUse, CoversUses, CoversMemory};
+    ghost use Rattle.iloc_sched.specs.Steps.Lasts.{IsNext, loads_before};
+    ghost use Rattle.iloc_sched.specs.Steps.PartialGraph.{IsPartialGraph, KeepsFrame, Grows, AddsFrom, CoversUse, CoversUses, CoversMemory};
     ghost use Rattle.iloc_sched.specs.Steps.Views.{edge_at, graph_of};
 
     /// No operation and no edge.
@@ -115,8 +116,7 @@ impl Edges {
         requires there { from < length self.old.heads.items }
         ensures adds { OnOk result (AddsFrom (λ i. i ≡ from) (graph_of self.old) (graph_of self.new) to delay) }
         ensures count { OnOk result (length self.new.edges.items ≡ length self.old.edges.items + 1) }
-        ensures heads { length self.new.heads.items ≡ length self.old.heads.items }
-        ensures starts { self.new.starts ≡ self.old.starts }
+        ensures frame { KeepsFrame self.old self.new }
     {
         let place = self.edges.len() as u32;
         let previous = self.heads[from as usize];
@@ -136,8 +136,7 @@ impl Edges {
         requires there { (i : ℕ) → from ≡ Some i → i < length self.old.heads.items }
         ensures adds { OnOk result (AddsFrom (λ i. from ≡ Some i) (graph_of self.old) (graph_of self.new) to delay) }
         ensures count { OnOk result (length self.new.edges.items ≤ length self.old.edges.items + 1) }
-        ensures heads { length self.new.heads.items ≡ length self.old.heads.items }
-        ensures starts { self.new.starts ≡ self.old.starts }
+        ensures frame { KeepsFrame self.old self.new }
     {
         match from {
             Some(i) => self.add(i, to, delay),
@@ -151,8 +150,7 @@ impl Edges {
         requires there { (i : ℕ) → In from.now i → i < length self.old.heads.items }
         ensures adds { OnOk result (AddsFrom (In from.now) (graph_of self.old) (graph_of self.new) to delay) }
         ensures count { OnOk result (length self.new.edges.items ≡ length self.old.edges.items + length from.now) }
-        ensures heads { length self.new.heads.items ≡ length self.old.heads.items }
-        ensures starts { self.new.starts ≡ self.old.starts }
+        ensures frame { KeepsFrame self.old self.new }
     {
         for i in from {
             self.add(*i, to, delay)?;
@@ -169,18 +167,14 @@ impl Edges {
         register: Reg,
         j: usize,
     ) -> Result<(), NoMemory>
-        requires few { length ops.now ≤ MAX_OPS }
-        requires there { j < length ops.now }
-        requires renamed { IsRenamed ops.now }
+        requires next { IsNext ops.now lasts.now j }
         requires used { Contains (used (op_at ops.now j)) register }
-        requires lasts { IsLasts ops.now lasts.now j }
         requires room { length self.old.edges.items < 5 * length self.old.heads.items }
         requires partial { IsPartialGraph latencies.now ops.now (graph_of self.old) j }
         ensures grows { OnOk result (Grows latencies.now ops.now (graph_of self.old) (graph_of self.new) j) }
         ensures covers { OnOk result (CoversUse latencies.now ops.now (graph_of self.new) j register) }
         ensures count { OnOk result (length self.new.edges.items ≤ length self.old.edges.items + 1) }
-        ensures heads { length self.new.heads.items ≡ length self.old.heads.items }
-        ensures starts { self.new.starts ≡ self.old.starts }
+        ensures frame { KeepsFrame self.old self.new }
     {
         match lasts.definers.get(register) {
             Some(i) => self.add(i, j as u32, latency(&ops[i as usize], latencies) as u32),
@@ -196,17 +190,13 @@ impl Edges {
         lasts: &Lasts,
         j: usize,
     ) -> Result<(), NoMemory>
-        requires few { length ops.now ≤ MAX_OPS }
-        requires there { j < length ops.now }
-        requires renamed { IsRenamed ops.now }
-        requires lasts { IsLasts ops.now lasts.now j }
+        requires next { IsNext ops.now lasts.now j }
         requires room { length self.old.edges.items + 2 ≤ 5 * length self.old.heads.items }
         requires partial { IsPartialGraph latencies.now ops.now (graph_of self.old) j }
         ensures grows { OnOk result (Grows latencies.now ops.now (graph_of self.old) (graph_of self.new) j) }
         ensures covers { OnOk result (CoversUses latencies.now ops.now (graph_of self.new) j) }
         ensures count { OnOk result (length self.new.edges.items ≤ length self.old.edges.items + 2) }
-        ensures heads { length self.new.heads.items ≡ length self.old.heads.items }
-        ensures starts { self.new.starts ≡ self.old.starts }
+        ensures frame { KeepsFrame self.old self.new }
     {
         let registers = uses(&ops[j]);
         for register in registers.as_slice() {
@@ -223,17 +213,14 @@ impl Edges {
         lasts: &Lasts,
         j: usize,
     ) -> Result<(), NoMemory>
-        requires few { length ops.now ≤ MAX_OPS }
-        requires there { j < length ops.now }
-        requires lasts { IsLasts ops.now lasts.now j }
+        requires next { IsNext ops.now lasts.now j }
         requires room { length self.old.edges.items + 2 + length lasts.now.loads.items ≤ 5 * length self.old.heads.items }
         requires partial { IsPartialGraph latencies.now ops.now (graph_of self.old) j }
         ensures grows { OnOk result (Grows latencies.now ops.now (graph_of self.old) (graph_of self.new) j) }
         ensures covers { OnOk result (CoversMemory latencies.now ops.now (graph_of self.new) j) }
         ensures count { OnOk result (length self.new.edges.items ≤ length self.old.edges.items + 2
             + loads_before (kind (op_at ops.now j)) lasts.now) }
-        ensures heads { length self.new.heads.items ≡ length self.old.heads.items }
-        ensures starts { self.new.starts ≡ self.old.starts }
+        ensures frame { KeepsFrame self.old self.new }
     {
         let to = j as u32;
         match Kind::of(&ops[j]) {
@@ -259,10 +246,7 @@ impl Edges {
         lasts: &Lasts,
         j: usize,
     ) -> Result<(), NoMemory>
-        requires few { length ops.now ≤ MAX_OPS }
-        requires there { j < length ops.now }
-        requires renamed { IsRenamed ops.now }
-        requires lasts { IsLasts ops.now lasts.now j }
+        requires next { IsNext ops.now lasts.now j }
         requires room { length self.old.edges.items + 4 + length lasts.now.loads.items ≤ 5 * length self.old.heads.items }
         requires starts { length self.old.starts.items ≡ j + 1 }
         requires partial { IsPartialGraph latencies.now ops.now (graph_of self.old) j }

@@ -1,5 +1,5 @@
 -- What stands last before an operation.
-use Rattle.std.specs.Prelude.{ℕ, ◌≡◌, ◌<◌, true, false, if◌then◌else◌, List, [], ◌∷◌, ◌++◌, length, Some}
+use Rattle.std.specs.Prelude.{ℕ, ◌≡◌, ◌<◌, ◌≤◌, true, false, if◌then◌else◌, List, [], ◌∷◌, ◌++◌, length, Some}
 use Rattle.iloc_text.specs.declared.op.Reg.{Reg}
 use Rattle.iloc_text.specs.declared.op.Op.{Op}
 use Rattle.iloc_text.specs.Registers.{defined}
@@ -7,6 +7,7 @@ use Rattle.iloc_meaning.specs.Trace.{op_at}
 use Rattle.iloc_timed.specs.declared.kind.Kind.{Kind}
 use Rattle.iloc_timed.specs.declared.kind.Kind.TheVariants as K
 use Rattle.iloc_timed.specs.Kinds.{kind, is_load, is_store, is_output}
+use Rattle.iloc_sched.specs.Renaming.{IsRenamed}
 use Rattle.iloc_sched.specs.declared.by_register.ByRegister.{ByRegister}
 use Rattle.iloc_sched.specs.declared.lasts.Lasts.{Lasts}
 use Rattle.iloc_sched.specs.Steps.ByRegister.{number_at}
@@ -25,6 +26,13 @@ pub record IsLasts (ops : List Op) (lasts : Lasts) (j : ℕ) : Type 0 where
   pub output : IsLast (λ i. is_output (kind (op_at ops i)) ≡ true) j lasts.output
   pub loads : (i : ℕ) → In lasts.loads.items i → (i < j) × (is_load (kind (op_at ops i)) ≡ true)
   pub all_loads : (i : ℕ) → i < j → is_load (kind (op_at ops i)) ≡ true → ((k : ℕ) → i < k → k < j → is_store (kind (op_at ops k)) ≡ false) → In lasts.loads.items i
+
+-- operation j of these is the next, and what stands last before it is known
+pub record IsNext (ops : List Op) (lasts : Lasts) (j : ℕ) : Type 0 where
+  pub renamed : IsRenamed ops
+  pub few : length ops ≤ 10000
+  pub there : j < length ops
+  pub known : IsLasts ops lasts j
 
 -- operation j of a kind is one of the earlier ones from now on
 abbrev pub NotesKind : Kind → Lasts → Lasts → ℕ → Type 0

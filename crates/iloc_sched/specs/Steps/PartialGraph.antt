@@ -6,6 +6,7 @@ use Rattle.iloc_text.specs.Registers.{used, defined}
 use Rattle.iloc_meaning.specs.Trace.{op_at}
 use Rattle.iloc_timed.specs.declared.latencies.Latencies.{Latencies}
 use Rattle.iloc_timed.specs.Latency.{latency}
+use Rattle.iloc_sched.specs.declared.edges.Edges.{Edges}
 use Rattle.iloc_sched.specs.Delays.{memory_delays, IsDelayPair}
 use Rattle.iloc_sched.specs.Steps.Near.{IsNear, NoneBetween}
 use Rattle.iloc_sched.specs.Steps.Graph.{Graph, IsLast}
@@ -46,6 +47,11 @@ pub record HasOneMore (graph graph' : Graph) (i j d : ℕ) : Type 0 where
   pub last_previous : graph'.previous graph.count ≡ graph.head i
   pub head : graph'.head i ≡ Some graph.count
   pub heads : (k : ℕ) → k ≢ i → graph'.head k ≡ graph.head k
+
+-- the operations and what leads into those before stay
+pub record KeepsFrame (old new : Edges) : Type 0 where
+  pub heads : length new.heads.items ≡ length old.heads.items
+  pub starts : new.starts ≡ old.starts
 
 -- more edges into j, the others as they were
 pub record Grows (lat : Latencies) (ops : List Op) (graph graph' : Graph) (j : ℕ) : Type 0 where

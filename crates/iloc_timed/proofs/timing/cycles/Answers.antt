@@ -1,6 +1,6 @@
-use Rattle.std.proofs.Common.{◌≡◌, ◌+◌, ◌-◌, ◌<◌, ◌≤◌, ℕ, List, length, max, refl, sym, ap, ◌∙◌, subst, arith}
+use Rattle.std.proofs.Common.{◌≡◌, ◌+◌, ◌-◌, ◌<◌, ◌≤◌, ℕ, length, max, sym, ap, ◌∙◌, subst, arith}
 use Rattle.iloc_timed.specs.declared.row.Row.{Row}
-use Rattle.iloc_timed.specs.Rows.{row_at, IsTable}
+use Rattle.iloc_timed.specs.Rows.{row_at}
 use Rattle.iloc_timed.proofs.Arrivals.{IsLastFrom, arrival_in, zero_known, one_known, none_from_end, one_row_more, last_is_cycles}
 use Rattle.iloc_timed.proofs.timing.cycles.Goals as goal
 
