@@ -10,7 +10,8 @@ use std::test::Fail;
 
 const TWO_BLOCKS: &[u8] = b"a: loadI 4 => r1\nload r1 => r2\noutput 4\nb:\nc: nop\n";
 
-const LISTING: &[u8] = b"block 1 a\n[ loadI 4 => r0 ; nop ]\n[ load r0 => r1 ; output 8 ]\n[ nop ; nop ]
+const LISTING: &[u8] =
+    b"block 1 a\n[ loadI 4 => r0 ; nop ]\n[ load r0 => r1 ; output 8 ]\n[ nop ; nop ]
 [ nop ; output 4 ]\ncycles 6\nblock 2 b\ncycles 0\nblock 3 c\n[ nop ; nop ]\ncycles 0\ntotal 6\n";
 
 /// One text behind the other.
@@ -229,9 +230,15 @@ fn names_the_earliest_fault(rt: HostRuntime) {
     let bad = |line| Some(RowsFault::Read(ReadFault::BadLine(line)));
     assert_eq!(rt; fault_of(rt.alloc(), first), bad(1));
     assert_eq!(rt; fault_of(rt.alloc(), b"a:\nfoo\nblock 2 a\n"), bad(2));
-    assert_eq!(rt; fault_of(rt.alloc(), b"a:\ncycles 1\nfoo\ncycles 99999999999"), bad(3));
+    assert_eq!(rt;
+        fault_of(rt.alloc(), b"a:\ncycles 1\nfoo\ncycles 99999999999"),
+        bad(3)
+    );
     let large = Some(RowsFault::Read(ReadFault::NumberTooLarge(2)));
-    assert_eq!(rt; fault_of(rt.alloc(), b"a:\noutput 2147483648\nfoo\n[ nop ; nop ]"), large);
+    assert_eq!(rt;
+        fault_of(rt.alloc(), b"a:\noutput 2147483648\nfoo\n[ nop ; nop ]"),
+        large
+    );
 }
 
 #[test]
