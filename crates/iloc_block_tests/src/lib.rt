@@ -3,6 +3,8 @@
 #![tactic(auto)]
 
 #[cfg(test)]
+mod judge;
+#[cfg(test)]
 mod meaning;
 #[cfg(test)]
 mod operations;

@@ -2,5 +2,5 @@ mod delay_pairs;
 mod priority;
 mod refusals;
 mod renaming;
-mod sample;
+pub(crate) mod sample;
 mod scheduler;
