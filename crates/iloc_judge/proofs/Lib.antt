@@ -1,6 +1,7 @@
 pub mod Lists
 pub mod Nodes
 pub mod Arithmetic
+pub mod Products
 pub mod Epochs
 pub mod Tracking
 pub mod Rows

@@ -129,3 +129,7 @@ IsSeen d memory address (In other) = d.words memory (d.word address) ≡ d.words
 abbrev pub IsLocationOf : Meaning → ℕ → Option ℕ → ℕ → Type 0
 IsLocationOf d address base key =
     (z : ℤ) → FitsSigned w32 z → (key_of (base_word d base) z == key) ≡ int_eq z (d.word address)
+
+-- the word is a multiple of another
+abbrev pub IsMultipleOf : Meaning → ℕ → ℕ → ℤ → Type 0
+IsMultipleOf d number factor by = d.word number ≡ wrapped (d.word factor *ℤ by)

@@ -1,10 +1,12 @@
-//! The words of a table.
-ghost use Rattle.std.specs.Prelude.{◌≡◌, List, ℤ, ◌+ℤ◌, ◌-ℤ◌, ◌*ℤ◌, IfOk};
+//! The words of a table, in a normal form: a constant, a base, or a base and a constant together; of a base
+//! and its multiples one is named; sums and products name the lower number first.
+ghost use Rattle.std.specs.Prelude.{◌≡◌, List, ℤ, ◌+ℤ◌, ◌-ℤ◌, ◌*ℤ◌, IfOk, IfSome};
 ghost use Rattle.iloc_meaning.specs.Arithmetic.{wrapped, shifted_left, shifted_right};
-ghost use Rattle.iloc_judge.specs.Terms.{computed, Adds, Meaning, IsMeaning, ArePartsOf};
+ghost use Rattle.iloc_judge.specs.Terms.{computed, Adds, Meaning, IsMeaning, ArePartsOf, IsMultipleOf};
 
 use crate::node::{Binary, Node};
 use crate::table::Table;
+use iloc_meaning::arithmetic;
 use iloc_text::NoMemory;
 
 /// A word as the sum of a base and a constant, wrapped to 32 bits; with no base, as the constant.
@@ -14,10 +16,18 @@ pub(crate) struct Parts {
     pub(crate) constant: i32,
 }
 
+/// A word as the product of another and a constant, wrapped to 32 bits.
+#[derive(Clone, Copy, Debug)]
+struct Multiple {
+    factor: u32,
+    by: i32,
+}
+
 impl Table {
     /// The parts of a word.
     pub(crate) fn parts(&self, number: u32) -> Parts
-        ensures { (memory : List ℤ) (d : Meaning) → IsMeaning memory self.now d → ArePartsOf d number result.base result.constant }
+        ensures { (memory : List ℤ) (d : Meaning) → IsMeaning memory self.now d
+            → ArePartsOf d number result.base result.constant }
     {
         match self.node(number) {
             Some(Node::Known(constant)) => Parts {
@@ -35,9 +45,34 @@ impl Table {
         }
     }
 
+    /// A base as a multiple of another word, at least of itself.
+    fn multiple(&self, base: u32) -> Multiple
+        ensures { (memory : List ℤ) (d : Meaning) → IsMeaning memory self.now d
+            → IsMultipleOf d base result.factor result.by }
+    {
+        match self.node(base) {
+            Some(Node::Scaled { factor, by }) => Multiple { factor, by },
+            _ => Multiple {
+                factor: base,
+                by: 1,
+            },
+        }
+    }
+
+    /// The constant that a word is, if it is known to be one.
+    fn constant(&self, number: u32) -> Option<i32>
+        ensures { IfSome result (λ word. (memory : List ℤ) (d : Meaning) → IsMeaning memory self.now d
+            → d.word number ≡ word) }
+    {
+        match self.node(number) {
+            Some(Node::Known(word)) => Some(word),
+            _ => None,
+        }
+    }
+
     /// This word.
     pub(crate) fn known(&mut self, word: i32) -> Result<u32, NoMemory>
-        ensures { IfOk result (λ n. Adds self.old self.new (λ memory d. d.word n ≡ word)) }
+        ensures { IfOk result (λ n. Adds self.old self.new (λ _ d. d.word n ≡ word)) }
     {
         self.intern(Node::Known(word))
     }
@@ -50,14 +85,23 @@ impl Table {
         self.intern(Node::Combined { by, left, right })
     }
 
+    /// The word with these parts.
+    fn of_parts(&mut self, base: Option<u32>, constant: i32) -> Result<u32, NoMemory>
+        ensures { IfOk result (λ n. Adds self.old self.new (λ _ d. ArePartsOf d n base constant)) }
+    {
+        match base {
+            None => self.known(constant),
+            Some(base) if constant == 0 => Ok(base),
+            Some(base) => self.intern(Node::Offset { base, constant }),
+        }
+    }
+
     /// The sum of a word and a constant.
     pub(crate) fn raised(&mut self, number: u32, by: i32) -> Result<u32, NoMemory>
         ensures { IfOk result (λ n. Adds self.old self.new (λ _ d. d.word n ≡ wrapped (d.word number +ℤ by))) }
     {
-        self.intern(Node::Offset {
-            base: number,
-            constant: by,
-        })
+        let parts = self.parts(number);
+        self.of_parts(parts.base, arithmetic::sum(parts.constant, by))
     }
 
     /// A word less a constant.
@@ -68,40 +112,101 @@ impl Table {
         self.difference(number, by)
     }
 
+    /// So many times a word that is no multiple.
+    fn times(&mut self, factor: u32, by: i32) -> Result<u32, NoMemory>
+        ensures { IfOk result (λ n. Adds self.old self.new (λ _ d. IsMultipleOf d n factor by)) }
+    {
+        match by {
+            0 => self.known(0),
+            1 => Ok(factor),
+            _ => self.intern(Node::Scaled { factor, by }),
+        }
+    }
+
+    /// The product of a base and a constant.
+    fn scaled_base(&mut self, base: u32, by: i32) -> Result<u32, NoMemory>
+        ensures { IfOk result (λ n. Adds self.old self.new (λ _ d. IsMultipleOf d n base by)) }
+    {
+        let multiple = self.multiple(base);
+        self.times(multiple.factor, arithmetic::product(multiple.by, by))
+    }
+
     /// The product of a word and a constant.
     pub(crate) fn scaled(&mut self, number: u32, by: i32) -> Result<u32, NoMemory>
         ensures { IfOk result (λ n. Adds self.old self.new (λ _ d. d.word n ≡ wrapped (d.word number *ℤ by))) }
     {
-        self.intern(Node::Scaled { factor: number, by })
+        let parts = self.parts(number);
+        let constant = arithmetic::product(parts.constant, by);
+        match parts.base {
+            None => self.known(constant),
+            Some(base) => {
+                let base = self.scaled_base(base, by)?;
+                self.raised(base, constant)
+            }
+        }
+    }
+
+    /// The sum of two bases: of two multiples of one word it is another multiple.
+    fn sum_of_bases(&mut self, left: u32, right: u32) -> Result<u32, NoMemory>
+        ensures { IfOk result (λ n. Adds self.old self.new (λ _ d. d.word n ≡ wrapped (d.word left +ℤ d.word right))) }
+    {
+        let one = self.multiple(left);
+        let other = self.multiple(right);
+        if one.factor == other.factor {
+            self.times(one.factor, arithmetic::sum(one.by, other.by))
+        } else if left <= right {
+            self.combined(Binary::Sum, left, right)
+        } else {
+            self.combined(Binary::Sum, right, left)
+        }
     }
 
     /// The sum of two words.
     pub(crate) fn sum(&mut self, left: u32, right: u32) -> Result<u32, NoMemory>
         ensures { IfOk result (λ n. Adds self.old self.new (λ _ d. d.word n ≡ wrapped (d.word left +ℤ d.word right))) }
     {
-        self.combined(Binary::Sum, left, right)
+        let one = self.parts(left);
+        let other = self.parts(right);
+        match (one.base, other.base) {
+            (None, _) => self.raised(right, one.constant),
+            (_, None) => self.raised(left, other.constant),
+            (Some(base), Some(other_base)) => {
+                let base = self.sum_of_bases(base, other_base)?;
+                self.raised(base, arithmetic::sum(one.constant, other.constant))
+            }
+        }
     }
 
     /// A word less another.
     pub(crate) fn difference(&mut self, left: u32, right: u32) -> Result<u32, NoMemory>
         ensures { IfOk result (λ n. Adds self.old self.new (λ _ d. d.word n ≡ wrapped (d.word left -ℤ d.word right))) }
     {
-        self.combined(Binary::Difference, left, right)
+        let less = self.scaled(right, -1)?;
+        self.sum(left, less)
     }
 
     /// The product of two words.
     pub(crate) fn product(&mut self, left: u32, right: u32) -> Result<u32, NoMemory>
         ensures { IfOk result (λ n. Adds self.old self.new (λ _ d. d.word n ≡ wrapped (d.word left *ℤ d.word right))) }
     {
-        self.combined(Binary::Product, left, right)
+        if let Some(by) = self.constant(right) {
+            return self.scaled(left, by);
+        }
+        if let Some(by) = self.constant(left) {
+            return self.scaled(right, by);
+        }
+        if left <= right {
+            self.combined(Binary::Product, left, right)
+        } else {
+            self.combined(Binary::Product, right, left)
+        }
     }
 
     /// A word shifted left by a constant modulo 32.
     pub(crate) fn shifted_left_by(&mut self, value: u32, amount: i32) -> Result<u32, NoMemory>
         ensures { IfOk result (λ n. Adds self.old self.new (λ _ d. d.word n ≡ shifted_left (d.word value) amount)) }
     {
-        let amount = self.known(amount)?;
-        self.shifted_left(value, amount)
+        self.scaled(value, arithmetic::shifted_left(1, amount))
     }
 
     /// A word shifted left by another modulo 32.
@@ -109,15 +214,25 @@ impl Table {
         ensures { IfOk result (λ n. Adds self.old self.new (λ _ d.
             d.word n ≡ shifted_left (d.word value) (d.word amount))) }
     {
-        self.combined(Binary::ShiftLeft, value, amount)
+        match self.constant(amount) {
+            Some(amount) => self.shifted_left_by(value, amount),
+            None => self.combined(Binary::ShiftLeft, value, amount),
+        }
     }
 
     /// A word shifted right by a constant modulo 32, the sign kept.
     pub(crate) fn shifted_right_by(&mut self, value: u32, amount: i32) -> Result<u32, NoMemory>
         ensures { IfOk result (λ n. Adds self.old self.new (λ _ d. d.word n ≡ shifted_right (d.word value) amount)) }
     {
-        let amount = self.known(amount)?;
-        self.shifted_right(value, amount)
+        if let Some(word) = self.constant(value) {
+            return self.known(arithmetic::shifted_right(word, amount));
+        }
+        let amount = amount.cast_unsigned() % 32;
+        if amount == 0 {
+            return Ok(value);
+        }
+        let amount = self.known(amount.cast_signed())?;
+        self.combined(Binary::ShiftRight, value, amount)
     }
 
     /// A word shifted right by another modulo 32, the sign kept.
@@ -125,6 +240,9 @@ impl Table {
         ensures { IfOk result (λ n. Adds self.old self.new (λ _ d.
             d.word n ≡ shifted_right (d.word value) (d.word amount))) }
     {
-        self.combined(Binary::ShiftRight, value, amount)
+        match self.constant(amount) {
+            Some(amount) => self.shifted_right_by(value, amount),
+            None => self.combined(Binary::ShiftRight, value, amount),
+        }
     }
 }
