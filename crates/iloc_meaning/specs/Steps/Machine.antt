@@ -4,6 +4,7 @@ use Rattle.iloc_text.specs.declared.op.Reg.{Reg}
 use Rattle.iloc_meaning.specs.declared.machine.Machine.{Machine}
 use Rattle.iloc_meaning.specs.declared.outcome.Outcome.{Outcome}
 use Rattle.iloc_meaning.specs.declared.outcome.Outcome.TheVariants.{Finished, Fault}
+use Rattle.iloc_meaning.specs.declared.memory.TheConstants.{WORDS}
 use Rattle.iloc_meaning.specs.Memory.{with_words}
 use Rattle.iloc_meaning.specs.Registers.{value_of}
 use Rattle.iloc_meaning.specs.Trace.{Executed, register_after, word_after}
@@ -11,7 +12,7 @@ use Rattle.iloc_meaning.specs.Outcome.{has_fault, emitted}
 
 -- the machine stands where the trace leads from the memory handed in, and nothing faulted
 pub record Follows (memory : List ℤ) (trace : List Executed) (machine : Machine) : Type 0 where
-  pub size : length memory ≡ 16384
+  pub size : length memory ≡ WORDS
   pub first : machine.memory.first ≡ memory
   pub registers : (r : Reg) → value_of machine.registers r ≡ register_after trace r
   pub words : machine.memory.words ≡ with_words memory (word_after memory trace)
