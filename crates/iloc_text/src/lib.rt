@@ -5,7 +5,6 @@ mod copies;
 mod fault;
 mod file;
 mod forms;
-mod growth;
 pub mod laws;
 mod limits;
 mod line;

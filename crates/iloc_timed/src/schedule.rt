@@ -26,12 +26,13 @@ impl Model for Schedule {
     ghost use Rattle.std.specs.Prelude.{◌≤◌, vec_len};
     ghost use Rattle.iloc_timed.specs.Rows.{IsTable};
     ghost use Rattle.iloc_timed.specs.Schedule.{Table};
+    ghost use Rattle.iloc_timed.specs.declared.schedule.TheConstants.{MAX_ROWS};
 
     ghost Value = { Table };
 
     ghost view = { λ schedule. record { ops = schedule.ops.items; rows = schedule.rows.items } };
 
-    ghost invariant = { λ schedule. IsTable schedule.ops.items schedule.rows.items × (vec_len schedule.rows ≤ 4_000_000_000) };
+    ghost invariant = { λ schedule. IsTable schedule.ops.items schedule.rows.items × (vec_len schedule.rows ≤ MAX_ROWS) };
 }
 
 impl Schedule {

@@ -1,7 +1,7 @@
 use Rattle.std.proofs.Common.{FitsSigned, w32, rules}
 use Rattle.std.proofs.lemmas.Int.{to_z-of_z}
 use Rattle.iloc_meaning.proofs.Steps.{after_result, after_write, after_output}
-use Rattle.iloc_meaning.proofs.machine.Machine.step.Goals as goal
+use Rattle.iloc_meaning.proofs.state.State.step.Goals as goal
 
 pub returns-in_ok-set-in-Gives-clause-after : goal.returns-in_ok-set-in-Gives-clause-after
 returns-in_ok-set-in-Gives-clause-after c =
