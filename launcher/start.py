@@ -14,6 +14,7 @@ import shutil
 import signal
 import subprocess
 import sys
+import traceback
 
 sys.dont_write_bytecode = True
 
@@ -169,4 +170,9 @@ def main():
 
 
 if __name__ == "__main__":
-    sys.exit(main())
+    try:
+        status = main()
+    except Exception:       # a mistake in here; the status is to be none of the program's
+        traceback.print_exc()
+        status = NO_PROGRAM
+    sys.exit(status)
