@@ -2,20 +2,32 @@
 
 A refusal ends the program with status 3, one line that says of what, and nothing written. A thread that is refused,
 or a growth that the C library asks for while it starts one, is a worker that could not be started; a growth that the
-program asks for is want of memory, or, before the last worker is started, may belong to a start. Some growths aren't
-needed, for a list may ask for its whole room at once and do without: after one such refusal the program ends as
-always. With several workers the growths come in another order each time, and each run is judged by what was refused
-in it.
+program asks for is want of memory, or, before the last worker is started, may belong to a start. With several workers
+the growths come in another order each time, and each run is judged by what was refused in it.
+
+Where a growth was refused and the program ends as always, who asked for it has to be listed below (DOES_WITHOUT), and
+at one place of that function alone. So a body that tries again where it has to answer a refusal is found.
 """
+import bisect
+import re
 import struct
+import subprocess
 from dataclasses import dataclass, field
+from functools import cached_property
 
 import inputs
-from check import Check, told
+from check import Check, needs, told
 
 NO_MEMORY = (3, b"", b"ilocfarm: out of memory\n")
 NO_WORKER = (3, b"", b"ilocfarm: a worker could not be started\n")
 NOTHING, GROWTH, GROWTH_OF_A_START, THREAD = range(4)
+# Lists that are collected from an iterator: the library asks for the whole room at once, and where that is refused it
+# takes room as the items come. So nothing is lost, and the next refusal is told.
+DOES_WITHOUT = {
+    "iloc_farm::program::serve": "the words behind the program's name",
+    "iloc_sched::scheduler::schedule": "the latencies of a block's operations",
+}
+GROWS = re.compile(r"rattle_alloc|std_alloc::vec::Vec::grow_amortized")
 # As soon as so many runs in a row asked for no growth of the number, none asks for one any more.
 UNTOUCHED = 20
 SAMPLED = 40
@@ -38,13 +50,38 @@ class Run:
 @dataclass
 class Report:
     """What refuse.c wrote."""
-    FORM = "=6q"
+    FORM = "=9q"
     growths: int
     threads: int
     started: int
     refused: int
     by_worker: int
     started_before: int
+    calls: list     # that led to the growth, innermost first, 0 for none
+
+    @classmethod
+    def of(cls, data):
+        *numbers, inner, middle, outer = struct.unpack(cls.FORM, data)
+        return cls(*numbers, [inner, middle, outer])
+
+
+class Symbols:
+    """The functions of a program, by address."""
+
+    def __init__(self, program):
+        lines = subprocess.run(["nm", program], capture_output=True, text=True, check=True).stdout.splitlines()
+        found = (line.split(None, 2) for line in lines if re.match(r"[0-9a-f]+ [tT] ", line))
+        self.functions = sorted((int(address, 16), name) for address, _, name in found)
+
+    def place(self, address):
+        """The function that an address lies in, without the numbers of its instance, and how far behind its start."""
+        start, name = self.functions[bisect.bisect(self.functions, (address, "\x7f")) - 1]
+        return re.sub(r"(::<#[0-9a-f]+>)?(\+.*)?$", "", name), address - start
+
+    def asker(self, report):
+        """Who asked for the growth that was refused: the innermost call that isn't a list's own."""
+        places = [self.place(address) for address in report.calls if address]
+        return next((it for it in places if not GROWS.match(it[0])), ("nobody known", 0))
 
 
 @dataclass
@@ -52,9 +89,10 @@ class Tally:
     """How runs with refusals ended."""
     run: Run
     whole: tuple
+    symbols: Symbols
     memory: int = 0
     workers: int = 0
-    unneeded: int = 0
+    unneeded: dict = field(default_factory=dict)    # how many, by who asked
     wrong: list = field(default_factory=list)
 
     def add(self, ending, report, what, goes_on=False):
@@ -62,7 +100,9 @@ class Tally:
             self.wrong.append(f"{self.run}, {what}: {told(ending)}")
         self.memory += ending == NO_MEMORY
         self.workers += ending == NO_WORKER
-        self.unneeded += ending == self.whole and report.refused != NOTHING
+        if ending == self.whole and report.refused == GROWTH:
+            asker = self.symbols.asker(report)
+            self.unneeded[asker] = self.unneeded.get(asker, 0) + 1
 
     def may_end(self, report, goes_on):
         """The endings that are right."""
@@ -74,9 +114,20 @@ class Tally:
         return [NO_MEMORY, *[NO_WORKER] * is_starting, *[self.whole] * (not goes_on)]
 
     def faults(self):
-        print(f"{self.run}: {self.memory} without memory, {self.workers} without a worker, {self.unneeded} unneeded")
-        few = [] if self.memory + self.workers > self.unneeded else [f"{self.run}: hardly anything was refused"]
-        return self.wrong + few
+        unneeded = sum(self.unneeded.values())
+        print(f"{self.run}: {self.memory} without memory, {self.workers} without a worker, {unneeded} unneeded")
+        few = [] if self.memory + self.workers > unneeded else [f"{self.run}: hardly anything was refused"]
+        return self.wrong + few + [f"{self.run}: {it}" for it in tried_again(self.unneeded)]
+
+
+def tried_again(unneeded):
+    """What is wrong with who asked for growths that were refused, after which all ended as always."""
+    for name in sorted({name for name, _ in unneeded}):
+        places = [place for other, place in unneeded if other == name]
+        if name not in DOES_WITHOUT:
+            yield f"{name} does without a growth that was refused"
+        elif len(places) > 1:
+            yield f"{name} does without growths at {len(places)} places"
 
 
 def middling():
@@ -114,6 +165,11 @@ class Refuser:
     def __init__(self, place):
         self.place = place
 
+    @cached_property
+    def symbols(self):
+        needs("nm")
+        return Symbols(self.place.program)
+
     def refusing(self, run, **what):
         """How the run ends where REFUSE_.. are as given, and the report."""
         path = self.place.stored("report", bytes(struct.calcsize(Report.FORM)))
@@ -121,12 +177,12 @@ class Refuser:
         around.update(LD_PRELOAD=self.place.refuser, REFUSE_REPORT=path)
         ending = self.place.ending(run.words, run.given, env=around)
         with open(path, "rb") as file:
-            return ending, Report(*struct.unpack(Report.FORM, file.read()))
+            return ending, Report.of(file.read())
 
     def tally(self, run):
         """A tally, and how many growths the run asks for where none is refused."""
         whole = self.place.ending(run.words, run.given, env={})
-        tally = Tally(run, whole)
+        tally = Tally(run, whole, self.symbols)
         ending, report = self.refusing(run)
         tally.add(ending, report, "nothing refused")
         return tally, report.growths

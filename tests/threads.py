@@ -1,11 +1,12 @@
-"""Eight workers where there is one processor, or no thread to be had, and the same bytes each time."""
+"""As many workers as asked for, eight where there is one processor, or no thread to be had, and the same bytes each
+time."""
 import os
 import resource
 import shutil
 
 import inputs
 from check import COMMANDS, Check, told
-from refusals import NO_WORKER
+from refusals import NO_WORKER, Refuser, Run
 
 RUNS = 200
 STACK = 128 * 1024
@@ -17,6 +18,7 @@ NOBODY = 54_321
 def thread_checks(place):
     for command in ("schedule", "counts"):
         yield Check(f"threads/same_bytes/{command}", lambda command=command: same_bytes(place, command))
+        yield Check(f"threads/as_many_as_asked/{command}", lambda command=command: as_many_as_asked(place, command))
         yield Check(f"threads/one_processor/{command}", lambda command=command: one_processor(place, command))
         yield Check(f"threads/none_to_be_had/{command}", lambda command=command: none_to_be_had(place, command))
     for command in ("run", "simulate"):
@@ -38,6 +40,14 @@ def same_bytes(place, command):
         got = place.ending([command, *by(8)], TINY)
         if got != due:
             yield f"run {number}: {told(got)} in place of {told(due)}"
+
+
+def as_many_as_asked(place, command):
+    """Two workers where nothing is asked, else the number that is asked for, though there be fewer blocks."""
+    for due, words in [(2, []), *((workers, by(workers)) for workers in range(1, 9))]:
+        _, report = Refuser(place).refusing(Run([command, *words], "no block", b""))
+        if report.threads != due:
+            yield f"{' '.join(words) or 'nothing asked'}: {report.threads} threads"
 
 
 def one_processor(place, command):

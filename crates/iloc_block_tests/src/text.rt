@@ -1,4 +1,3 @@
 mod file;
 mod reader;
-mod registers;
 mod spelling;

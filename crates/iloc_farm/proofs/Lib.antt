@@ -7,3 +7,6 @@ pub mod Gathered
 pub mod Schedules
 pub mod Simulated
 pub mod Listed
+pub mod Idle
+pub mod Headline
+pub mod Listings

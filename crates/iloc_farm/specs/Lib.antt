@@ -1,6 +1,8 @@
 pub mod Device
 pub mod Fault
+pub mod Headline
 pub mod Initial
+pub mod Laws
 pub mod Listing
 pub mod Program
 pub mod Schedules

@@ -5,12 +5,14 @@ ghost use Rattle.iloc_text.specs.Files.{Denotes, IsRefused};
 ghost use Rattle.iloc_farm.specs.Steps.OfInput.{EndsText, ListsInput};
 ghost use Rattle.iloc_farm.specs.Listing.{total_cycles};
 ghost use Rattle.iloc_farm.specs.Run.{EndsRun, Lists};
+ghost use Rattle.iloc_farm.specs.Headline.{Headline};
 ghost use Rattle.iloc_farm.specs.Schedules.{AreGreedy, AreTheOnlyGreedy, IsWithinLimits};
 
 use crate::device::{read_input, write_text};
 use crate::farm::schedule_all;
 use crate::fault::{FarmFault, RunFault};
 use crate::initial::initial_memory;
+use crate::laws::greedy_schedules_can_be_listed;
 use crate::listing::{counts_text, schedules_text};
 use crate::outcomes::outcomes_listed;
 use crate::runner::Runner;
@@ -41,6 +43,8 @@ fn schedules_of<R: Threads + Wait + Sync>(
     request: &Request,
 ) -> Result<Vec<Schedule>, FarmFault>
     requires { IsWithinLimits file.now.blocks }
+    ensures headline { IfOk result (λ schedules.
+        Headline request.now.latencies file.now.blocks request.now.workers schedules.items) }
     ensures greedy { IfOk result (λ schedules.
         AreGreedy request.now.latencies file.now.blocks schedules.items) }
     ensures only { IfOk result (λ schedules.
@@ -49,6 +53,7 @@ fn schedules_of<R: Threads + Wait + Sync>(
     ensures total { IfOk result (λ schedules.
         total_cycles request.now.latencies schedules.items < 2 ^ 63) }
 {
+    greedy_schedules_can_be_listed();
     let latencies = &request.latencies;
     let schedules = schedule_all(rt, alloc, file, latencies, request.workers, &FreeGate)?;
     Ok(schedules)

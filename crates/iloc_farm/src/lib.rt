@@ -9,6 +9,7 @@ mod end_to_end;
 mod farm;
 mod fault;
 mod initial;
+pub mod laws;
 mod listing;
 mod outcomes;
 mod program;

@@ -1,7 +1,7 @@
 //! What a basic block does: its memory, the effect of an operation, the outcome of a plain run.
 #![tactic(auto)]
 
-mod arithmetic;
+pub mod arithmetic;
 mod effect;
 mod interpreter;
 pub mod laws;

@@ -8,12 +8,17 @@ use Rattle.iloc_text.specs.declared.fault.ReadFault.{ReadFault}
 use Rattle.iloc_text.specs.Grammar.{Reads, IsWithinLimit}
 use Rattle.iloc_text.specs.Spelling.{spelling}
 use Rattle.iloc_text.specs.Files.{Denotes, IsRefused}
+use Rattle.iloc_text.specs.ScheduleLines.{Said, Says}
 use Rattle.iloc_text.specs.Registers.{used, defined, with_registers}
 
 -- a line has at most one reading
 abbrev pub LinesHaveOneReading : Type 0
 LinesHaveOneReading = (line : List ℕ) (label label' : Option (List ℕ)) (op op' : Option Op)
     → Reads line label op → Reads line label' op' → (label ≡ label') × (op ≡ op')
+
+-- a line of a schedule says one thing at most
+abbrev pub ScheduleLinesSayOneThing : Type 0
+ScheduleLinesSayOneThing = (line : List ℕ) (said said' : Said) → Says line said → Says line said' → said ≡ said'
 
 -- the spelling of an operation reads as that operation
 abbrev pub SpellingsReadBack : Type 0

@@ -1,4 +1,3 @@
-use crate::operations::store;
 use iloc_meaning::{Effect, Memory, Registers};
 use iloc_text::{Op, Reg};
 use std::test::Fail;
@@ -10,13 +9,14 @@ fn reads_registers_and_memory(rt: HostRuntime) -> Result<(), Fail> {
     let mut memory = Memory::zero(rt.alloc())?;
     memory.set(8, -5);
     let load = Op::Load { addr, dest: other };
+    let store = Op::Store { value: other, addr };
     let written = Effect::Writes {
         address: 8,
         word: 0,
     };
     let cases = [
         (load, 8, Effect::Gives(-5)),
-        (store(other, addr), 8, written),
+        (store, 8, written),
         (load, -4, Effect::Faults),
     ];
     for (op, address, effect) in cases {

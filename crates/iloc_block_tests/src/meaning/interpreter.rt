@@ -1,176 +1,80 @@
-use crate::operations::{Run, counting, output, set, store};
+use crate::written::block_of;
 use iloc_meaning::{Interpreter, Memory, Outcome, Words};
-use iloc_text::{Block, NoMemory, Op, Ops, Reg};
+use iloc_text::NoMemory;
 use std::alloc::Global;
 use std::process::Abort;
 use std::test::Fail;
 
-/// Registers below, at and above the bound of the table.
-const REGISTERS: [Reg; 6] = [
-    Reg(0),
-    Reg(1),
-    Reg(4_095),
-    Reg(4_096),
-    Reg(4_097),
-    Reg(2_147_483_647),
-];
+/// A text, and what it emits, or nothing where it faults.
+type Run<'a> = (&'a [u8], Option<&'a [i32]>);
 
-fn block(alloc: Global, ops: &[Op]) -> Result<Block, NoMemory> {
-    Ok(Block {
-        name: None,
-        ops: Ops::new(Vec::from_slice(alloc, ops)?),
-    })
-}
-
-/// Runs these operations as one block after another, and asserts what each emits.
+/// Runs each text as one block after another, and asserts what it emits, or that it faults.
 fn assert_runs(
     rt: &impl Abort,
     alloc: Global,
     interpreter: &mut Interpreter,
     runs: &[Run],
 ) -> Result<(), Fail> {
-    for (ops, outputs) in runs {
-        interpreter.run(&block(alloc, ops)?)?;
-        assert!(rt; interpreter.outputs() == *outputs, "{ops:?}");
+    for (text, outputs) in runs {
+        interpreter.run(&block_of(alloc, text)?)?;
+        assert!(rt; interpreter.outputs() == *outputs, "{text:?}");
     }
     Ok(())
 }
 
-/// A memory with 7 at 8 and -9 at 65532.
+/// A memory with 7 at 8.
 fn memory(alloc: Global) -> Result<Memory, NoMemory> {
     let mut memory = Memory::zero(alloc)?;
     memory.set(8, 7);
-    memory.set(65_532, -9);
     Ok(memory)
 }
 
-#[test]
-fn a_block_sees_no_register_of_the_one_before(rt: HostRuntime) -> Result<(), Fail> {
-    let alloc = rt.alloc();
-    let addr = Reg(2);
+const READ: &[u8] = b"output 8\noutput 12\n";
+
+const WRITE: &[u8] = b"loadI 12 => r1\nstore r1 => r1\noutput 12\n";
+
+const FAULT: &[u8] = b"loadI 8 => r1\nstore r1 => r1\noutput 8\noutput 3\n";
+
+const FAR_REGISTER: &[u8] =
+    b"output 8\nloadI 8 => r1\nloadI 9 => r5000\nstore r5000 => r1\noutput 8\n";
+
+const WRITES_LAST: &[Run] = &[(READ, Some(&[7, 0])), (FAULT, None), (WRITE, Some(&[12]))];
+
+const FAULTS_LAST: &[Run] = &[(WRITE, Some(&[12])), (FAULT, None)];
+
+/// What `WRITE` leaves.
+fn written(alloc: Global) -> Result<Outcome, NoMemory> {
+    let mut memory = memory(alloc)?;
+    memory.set(12, 12);
+    Ok(Outcome::Finished {
+        outputs: Words::new(vec![in alloc; 12]?),
+        memory,
+    })
+}
+
+/// What is left of these runs.
+fn outcome_of(rt: &impl Abort, alloc: Global, runs: &[Run]) -> Result<Outcome, Fail> {
     let mut interpreter = Interpreter::new(alloc, memory(alloc)?)?;
-    for register in REGISTERS {
-        let write = [
-            set(register, 5),
-            set(addr, 4),
-            store(register, addr),
-            output(4),
-        ];
-        let read = [set(addr, 4), store(register, addr), output(4)];
-        let runs: [Run; 2] = [(&write, Some(&[5])), (&read, Some(&[0]))];
-        assert_runs(&rt, alloc, &mut interpreter, &runs)?;
-    }
+    assert_runs(rt, alloc, &mut interpreter, runs)?;
+    Ok(interpreter.into_outcome())
+}
+
+#[test]
+fn the_outcome_is_that_of_the_last_block(rt: HostRuntime) -> Result<(), Fail> {
+    let alloc = rt.alloc();
+    assert!(rt; outcome_of(&rt, alloc, WRITES_LAST)? == written(alloc)?);
+    assert!(rt; outcome_of(&rt, alloc, FAULTS_LAST)? == Outcome::Fault);
     Ok(())
 }
 
-#[test]
-fn registers_at_the_bound_are_apart(rt: HostRuntime) -> Result<(), Fail> {
-    let alloc = rt.alloc();
-    let mut interpreter = Interpreter::new(alloc, memory(alloc)?)?;
-    let ops = [
-        set(Reg(4_095), 1),
-        set(Reg(4_096), 2),
-        set(Reg(0), 3),
-        store(Reg(4_095), Reg(8)),
-        output(0),
-        store(Reg(4_096), Reg(8)),
-        output(0),
-        store(Reg(0), Reg(8)),
-        output(0),
-    ];
-    let runs: [Run; 1] = [(&ops, Some(&[1, 2, 3]))];
-    assert_runs(&rt, alloc, &mut interpreter, &runs)
-}
+const AGAIN: &[Run] = &[(READ, Some(&[7, 0])), (FAR_REGISTER, Some(&[7, 9]))];
 
-#[test]
-fn a_block_sees_no_word_of_the_one_before(rt: HostRuntime) -> Result<(), Fail> {
-    let alloc = rt.alloc();
-    let mut interpreter = Interpreter::new(alloc, memory(alloc)?)?;
-    let write = [
-        set(Reg(1), 8),
-        store(Reg(1), Reg(1)),
-        set(Reg(2), 65_532),
-        store(Reg(1), Reg(2)),
-        output(8),
-        output(65_532),
-    ];
-    let read = [output(8), output(65_532), output(4)];
-    let runs: [Run; 4] = [
-        (&read, Some(&[7, -9, 0])),
-        (&write, Some(&[8, 8])),
-        (&read, Some(&[7, -9, 0])),
-        (&[], Some(&[])),
-    ];
-    assert_runs(&rt, alloc, &mut interpreter, &runs)
-}
-
-#[test]
-fn one_word_is_written_many_times(rt: HostRuntime) -> Result<(), Fail> {
-    let alloc = rt.alloc();
-    let mut interpreter = Interpreter::new(alloc, memory(alloc)?)?;
-    let (ops, read) = (counting(alloc, 1_000)?, [output(8)]);
-    for _ in 0..3 {
-        let runs: [Run; 2] = [(&ops, Some(&[999])), (&read, Some(&[7]))];
-        assert_runs(&rt, alloc, &mut interpreter, &runs)?;
-    }
-    Ok(())
-}
-
-#[test]
-fn a_fault_leaves_nothing(rt: HostRuntime) -> Result<(), Fail> {
-    let alloc = rt.alloc();
-    let mut interpreter = Interpreter::new(alloc, memory(alloc)?)?;
-    let faults = [
-        set(Reg(1), 8),
-        store(Reg(1), Reg(1)),
-        output(8),
-        output(3),
-        output(8),
-    ];
-    let read = [output(8), store(Reg(1), Reg(0)), output(0)];
-    let runs: [Run; 3] = [(&faults, None), (&read, Some(&[7, 0])), (&faults, None)];
-    assert_runs(&rt, alloc, &mut interpreter, &runs)?;
-    assert!(rt; interpreter.into_outcome() == Outcome::Fault);
-    Ok(())
-}
-
-#[test]
-fn the_outcome_has_the_last_memory(rt: HostRuntime) -> Result<(), Fail> {
-    let alloc = rt.alloc();
-    let mut last = memory(alloc)?;
-    last.set(4, 8);
-    let mut interpreter = Interpreter::new(alloc, memory(alloc)?)?;
-    let other = [set(Reg(1), 12), store(Reg(1), Reg(1))];
-    let ops = [
-        set(Reg(1), 4),
-        set(Reg(2), 8),
-        store(Reg(2), Reg(1)),
-        output(4),
-    ];
-    let runs: [Run; 2] = [(&other, Some(&[])), (&ops, Some(&[8]))];
-    assert_runs(&rt, alloc, &mut interpreter, &runs)?;
-    let expected = Outcome::Finished {
-        outputs: Words::new(vec![in alloc; 8]?),
-        memory: last,
-    };
-    assert!(rt; interpreter.into_outcome() == expected);
-    Ok(())
-}
-
-/// Run with each allocation failing in turn, this has a refusal in mid-run.
+/// To be run with each growth refused in turn, those in mid-run among them. It ends with the refusal.
 #[test]
 fn a_refused_run_can_be_repeated(rt: HostRuntime) -> Result<(), Fail> {
-    let alloc = rt.alloc();
-    let mut interpreter = Interpreter::new(alloc, memory(alloc)?)?;
-    let ops = [
-        output(8),
-        set(Reg(1), 8),
-        set(Reg(5_000), 9),
-        store(Reg(5_000), Reg(1)),
-        output(8),
-    ];
-    let _ = interpreter.run(&block(alloc, &ops)?);
-    let read = [output(8)];
-    let runs: [Run; 2] = [(&read, Some(&[7])), (&ops, Some(&[7, 9]))];
-    assert_runs(&rt, alloc, &mut interpreter, &runs)
+    let block = block_of(rt.alloc(), FAR_REGISTER)?;
+    let mut interpreter = Interpreter::new(rt.alloc(), memory(rt.alloc())?)?;
+    let first = interpreter.run(&block);
+    assert_runs(&rt, rt.alloc(), &mut interpreter, AGAIN)?;
+    Ok(first?)
 }

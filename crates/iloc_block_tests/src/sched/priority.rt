@@ -1,7 +1,7 @@
 ghost use Rattle.std.specs.Prelude.{◌≤◌, length};
 ghost use Rattle.iloc_sched.specs.Renaming.{IsRenamed};
 
-use super::sample::{SEVEN_OPERATIONS, block_of};
+use crate::written::{SEVEN_OPERATIONS, Times, USUAL, block_of, latencies};
 use iloc_sched::{pairs, priorities, rename};
 use iloc_text::{Block, MAX_OPS, Op, Ops, Reg};
 use iloc_timed::{Latencies, latency};
@@ -9,19 +9,30 @@ use std::alloc::Global;
 use std::process::Abort;
 use std::test::Fail;
 
-/// The priorities of the one block of a text.
-fn priorities_of(alloc: Global, text: &[u8], latencies: &Latencies) -> Result<Vec<u64>, Fail> {
-    let ops = rename(alloc, &block_of(alloc, text)?)?;
-    Ok(priorities(alloc, &ops, latencies)?)
-}
+const STORES_7: &[u8] = b"loadI 1024 => r0\nloadI 7 => r1\nstore r1 => r0\noutput 1024\n";
+
+const PRODUCTS_BESIDE_A_LOAD: &[u8] =
+    b"add r1, r1 => r2\nmult r2, r2 => r3\nmult r3, r3 => r4\nload r1 => r5\n";
+
+const IMMEDIATE_FORMS: &[u8] =
+    b"loadI 1024 => r0\nloadI 7 => r1\nstoreAI r1 => r0, 8\nloadAI r0, 8 => r2\nmultI r2, 6 => r3
+subI r3, 2 => r4\nstoreAI r4 => r0, 12\noutput 1032\noutput 1036\n";
+
+const CASES: &[(&[u8], Times, &[u64])] = &[
+    (STORES_7, USUAL, &[7, 7, 6, 1]),
+    (SEVEN_OPERATIONS, USUAL, &[13, 11, 10, 12, 7, 6, 1]),
+    (SEVEN_OPERATIONS, (1, 1, 1), &[5, 5, 4, 4, 3, 2, 1]),
+    (PRODUCTS_BESIDE_A_LOAD, USUAL, &[7, 6, 3, 5]),
+    (IMMEDIATE_FORMS, USUAL, &[22, 22, 21, 16, 11, 8, 7, 2, 1]),
+];
 
 #[test]
 fn takes_the_longest_way(rt: HostRuntime) -> Result<(), Fail> {
-    let usual = priorities_of(rt.alloc(), SEVEN_OPERATIONS, &Latencies::usual())?;
-    assert_eq!(rt; usual.as_slice(), [13, 11, 10, 12, 7, 6, 1].as_slice());
-    let short = Latencies::new(1, 1, 1).ok_or("latencies")?;
-    let few = priorities_of(rt.alloc(), SEVEN_OPERATIONS, &short)?;
-    assert_eq!(rt; few.as_slice(), [5, 5, 4, 4, 3, 2, 1].as_slice());
+    for (text, times, expected) in CASES {
+        let ops = rename(rt.alloc(), &block_of(rt.alloc(), text)?)?;
+        let found = priorities(rt.alloc(), &ops, &latencies(*times)?)?;
+        assert_eq!(rt; found.as_slice(), *expected);
+    }
     Ok(())
 }
 
@@ -51,19 +62,49 @@ impl Draw {
         Reg(self.below(5))
     }
 
-    /// An operation of each kind as often as of another.
+    /// An operation: as often one over registers as one with a number.
     fn op(&mut self) -> Op {
+        if self.below(2) == 0 {
+            self.over_registers()
+        } else {
+            self.with_number()
+        }
+    }
+
+    /// An operation of each kind over registers alone as often as of another.
+    fn over_registers(&mut self) -> Op {
         let (left, right, dest) = (self.register(), self.register(), self.register());
-        match self.below(6) {
+        match self.below(5) {
             0 => Op::Load { addr: left, dest },
             1 => Op::Store {
                 value: left,
                 addr: right,
             },
             2 => Op::Mult { left, right, dest },
-            3 => Op::Output { addr: 0 },
-            4 => Op::Nop,
-            _ => Op::Add { left, right, dest },
+            3 => Op::Rshift { left, right, dest },
+            _ => Op::Nop,
+        }
+    }
+
+    /// An operation of each kind with a number as often as of another.
+    fn with_number(&mut self) -> Op {
+        let (left, right, dest) = (self.register(), self.register(), self.register());
+        let value = self.below(9);
+        match self.below(6) {
+            0 => Op::LoadAI {
+                addr: left,
+                offset: value,
+                dest,
+            },
+            1 => Op::StoreAI {
+                value: left,
+                addr: right,
+                offset: value,
+            },
+            2 => Op::MultI { left, value, dest },
+            3 => Op::AddI { left, value, dest },
+            4 => Op::LoadI { value, dest },
+            _ => Op::Output { addr: value },
         }
     }
 
@@ -86,7 +127,10 @@ fn by_pairs(alloc: Global, ops: &[Op], latencies: &Latencies) -> Result<Vec<u64>
     requires renamed { IsRenamed ops.now }
     requires few { length ops.now ≤ 10000 }
 {
-    let mut prios: Vec<u64> = ops.iter().map(|op| latency(op, latencies)).collect(alloc)?;
+    let mut prios = Vec::new(alloc);
+    for op in ops {
+        prios.push(latency(op, latencies))?;
+    }
     for pair in pairs(alloc, ops, latencies)?.as_slice().iter().rev() {
         let later = prios.get(pair.second).copied().ok_or("no such operation")?;
         let prio = prios.get_mut(pair.first).ok_or("no such operation")?;
@@ -119,8 +163,8 @@ fn follow_from_the_delay_pairs(rt: HostRuntime) -> Result<(), Fail> {
     for _ in 0..1_000 {
         let count = draw.up_to(16);
         let block = draw.block(alloc, count)?;
-        let (short, long) = (draw.up_to(3), draw.up_to(16));
-        let latencies = Latencies::new(short, long, 3).ok_or("latencies")?;
+        let (load, store, mult) = (draw.up_to(3), draw.up_to(16), draw.up_to(16));
+        let latencies = latencies((load, store, mult))?;
         assert_follow_from_pairs(&rt, alloc, &block, &latencies)?;
     }
     Ok(())

@@ -1,117 +1,159 @@
-ghost use Rattle.std.specs.Prelude.{◌≤◌};
-
-use crate::operations::{output, set, store};
-use crate::rows::{EMPTY, alone, both, build};
+use crate::written::{Issue, Times, USUAL, block_of, build, latencies};
 use iloc_meaning::{Memory, Outcome};
-use iloc_text::{NoMemory, Reg};
-use iloc_timed::{BuildFault, Latencies, Row, Schedule, cycles, run_schedule};
+use iloc_text::NoMemory;
+use iloc_timed::{Latencies, Schedule, cycles, run_schedule};
 use std::alloc::Global;
-use std::process::Abort;
 use std::test::Fail;
 
-/// `loadI 8 => r0`, `store r0 => r1` and, after some empty rows, `output 0`, each on unit 0.
-fn store_and_output(alloc: Global, wait: usize) -> Result<Schedule, BuildFault>
-    requires { wait ≤ 15 }
-{
-    let mut rows = [EMPTY; 18];
-    rows[0] = alone(0);
-    rows[1] = alone(1);
-    rows[wait + 2] = alone(2);
-    build(
-        alloc,
-        &[set(Reg(0), 8), store(Reg(0), Reg(1)), output(0)],
-        &rows[..wait + 3],
-    )
+/// A memory with 3 at 0 and 9 at 4.
+fn start(alloc: Global) -> Result<Memory, NoMemory> {
+    let mut memory = Memory::zero(alloc)?;
+    memory.set(0, 3);
+    memory.set(4, 9);
+    Ok(memory)
 }
 
-/// What a schedule emits on zero memory and the word that it leaves at address 0, or nothing where
-/// it faults.
+/// What a schedule emits, and the word that it leaves at 0, or nothing where it faults.
 fn run(
     alloc: Global,
     schedule: &Schedule,
     latencies: &Latencies,
 ) -> Result<Option<(Vec<i32>, i32)>, NoMemory> {
-    match run_schedule(alloc, schedule, latencies, Memory::zero(alloc)?)? {
-        Outcome::Finished { outputs, memory } => {
-            let words = Vec::from_slice(alloc, outputs.as_slice())?;
-            Ok(Some((words, memory.get(0))))
-        }
+    match run_schedule(alloc, schedule, latencies, start(alloc)?)? {
+        Outcome::Finished { outputs, memory } => Ok(Some((outputs.into_vec(), memory.get(0)))),
         Outcome::Fault => Ok(None),
     }
 }
 
-/// Asserts which word the output emits after so many empty rows, that the store's word is left, and
-/// how many cycles that takes.
-fn assert_seen(
-    rt: &impl Abort,
-    alloc: Global,
-    latencies: &Latencies,
-    wait: usize,
-    seen: i32,
-    taken: u64,
-) -> Result<(), Fail>
-    requires { wait ≤ 15 }
-{
-    let schedule = store_and_output(alloc, wait)?;
-    let (words, word) = run(alloc, &schedule, latencies)?.ok_or("a fault")?;
-    assert_eq!(rt;
-        words.as_slice(),
-        [seen].as_slice(),
-        "after {wait} empty rows"
-    );
-    assert_eq!(rt; word, 8);
-    assert_eq!(rt; cycles(&schedule, latencies), taken);
-    Ok(())
-}
+/// A block, its rows, the latencies, and what comes of it: the cycles that it takes, and the words that it emits with
+/// the word that it leaves at 0, or none where it faults.
+type Case<'a> = (&'a [u8], &'a [Issue], Times, u64, Option<(&'a [i32], i32)>);
+
+const STORE: &[u8] = b"loadI 8 => r0\nstore r0 => r1\noutput 0\n";
+
+const OUTPUTS: &[u8] = b"output 0\noutput 4\n";
+
+const CONSTANTS: &[u8] = b"loadI 1 => r0\nloadI 2 => r0\nstore r0 => r1\n";
+
+const BESIDE_A_PRODUCT: &[u8] = b"loadI 1 => r0\nmult r1, r1 => r2\n";
+
+const AFTER_A_PRODUCT: &[u8] = b"mult r1, r1 => r2\nloadI 1 => r2\nstore r2 => r9\n";
+
+const AFTER_A_LOAD: &[u8] =
+    b"load r9 => r1\nloadI 7 => r1\nstore r1 => r9\nstore r1 => r9\noutput 0\n";
+
+const FAULT: &[u8] = b"output 0\noutput 2\n";
+
+const CASES: &[Case] = &[
+    (b"A:", &[], USUAL, 0, Some((&[], 3))),
+    // The store arrives in cycle 6, after the last row too.
+    (
+        STORE,
+        &[(0, Some(0), None), (1, Some(1), None), (2, Some(2), None)],
+        USUAL,
+        6,
+        Some((&[3], 8)),
+    ),
+    (
+        STORE,
+        &[(0, Some(0), None), (1, Some(1), None), (5, Some(2), None)],
+        USUAL,
+        6,
+        Some((&[3], 8)),
+    ),
+    (
+        STORE,
+        &[(0, Some(0), None), (1, Some(1), None), (6, Some(2), None)],
+        USUAL,
+        7,
+        Some((&[8], 8)),
+    ),
+    // The shortest and the longest latency of stores.
+    (
+        STORE,
+        &[(0, Some(0), None), (1, Some(1), None), (2, Some(2), None)],
+        (5, 1, 3),
+        3,
+        Some((&[8], 8)),
+    ),
+    (
+        STORE,
+        &[(0, Some(0), None), (1, Some(1), None), (16, Some(2), None)],
+        (5, 16, 3),
+        17,
+        Some((&[3], 8)),
+    ),
+    (
+        STORE,
+        &[(0, Some(0), None), (1, Some(1), None), (17, Some(2), None)],
+        (5, 16, 3),
+        18,
+        Some((&[8], 8)),
+    ),
+    (
+        OUTPUTS,
+        &[(0, None, Some(1)), (1, Some(0), None)],
+        USUAL,
+        2,
+        Some((&[9, 3], 3)),
+    ),
+    // Of two results that are due at once unit 1's is written last, and so is that of a later row.
+    (
+        CONSTANTS,
+        &[(0, Some(1), Some(0)), (1, Some(2), None)],
+        USUAL,
+        6,
+        Some((&[], 1)),
+    ),
+    (
+        AFTER_A_PRODUCT,
+        &[(0, None, Some(0)), (2, Some(1), None), (3, Some(2), None)],
+        USUAL,
+        8,
+        Some((&[], 1)),
+    ),
+    (
+        BESIDE_A_PRODUCT,
+        &[(0, Some(0), Some(1))],
+        USUAL,
+        3,
+        Some((&[], 3)),
+    ),
+    // What is issued first arrives last.
+    (
+        AFTER_A_LOAD,
+        &[
+            (0, Some(0), None),
+            (1, Some(1), None),
+            (2, Some(2), None),
+            (6, Some(3), None),
+            (7, Some(4), None),
+        ],
+        USUAL,
+        11,
+        Some((&[7], 3)),
+    ),
+    (
+        FAULT,
+        &[(0, Some(0), None), (1, Some(1), None)],
+        USUAL,
+        2,
+        None,
+    ),
+];
 
 #[test]
-fn reads_the_old_word_until_the_new_one_arrives(rt: HostRuntime) -> Result<(), Fail> {
-    let (alloc, usual) = (rt.alloc(), Latencies::usual());
-    assert_seen(&rt, alloc, &usual, 0, 0, 6)?;
-    assert_seen(&rt, alloc, &usual, 3, 0, 6)?;
-    assert_seen(&rt, alloc, &usual, 4, 8, 7)
-}
-
-#[test]
-fn writes_after_the_shortest_and_the_longest_latency(rt: HostRuntime) -> Result<(), Fail> {
-    let alloc = rt.alloc();
-    let short = Latencies::new(5, 1, 3).ok_or("no latencies")?;
-    assert_seen(&rt, alloc, &short, 0, 8, 3)?;
-    let long = Latencies::new(5, 16, 3).ok_or("no latencies")?;
-    assert_seen(&rt, alloc, &long, 14, 0, 17)?;
-    assert_seen(&rt, alloc, &long, 15, 8, 18)
-}
-
-#[test]
-fn emits_in_order_of_issue(rt: HostRuntime) -> Result<(), Fail> {
-    let (alloc, usual) = (rt.alloc(), Latencies::usual());
-    let other = Row {
-        zero: None,
-        one: Some(1),
-    };
-    let schedule = build(alloc, &[output(0), output(0)], &[alone(0), other])?;
-    let (words, _) = run(alloc, &schedule, &usual)?.ok_or("a fault")?;
-    assert_eq!(rt; words.as_slice(), [0, 0].as_slice());
-    Ok(())
-}
-
-#[test]
-fn writes_unit_1_last(rt: HostRuntime) -> Result<(), Fail> {
-    let (alloc, usual) = (rt.alloc(), Latencies::usual());
-    let schedule = build(
-        alloc,
-        &[set(Reg(0), 1), set(Reg(0), 2), store(Reg(0), Reg(1))],
-        &[both(1, 0), alone(2)],
-    )?;
-    let (_, word) = run(alloc, &schedule, &usual)?.ok_or("a fault")?;
-    assert_eq!(rt; word, 1);
-    Ok(())
-}
-
-#[test]
-fn faults_at_issue(rt: HostRuntime) -> Result<(), Fail> {
-    let (alloc, usual) = (rt.alloc(), Latencies::usual());
-    let schedule = build(alloc, &[output(0), output(2)], &[alone(0), alone(1)])?;
-    assert!(rt; run(alloc, &schedule, &usual)?.is_none());
+fn emits_what_has_arrived_in_order_of_issue(rt: HostRuntime) -> Result<(), Fail> {
+    for (text, issues, times, taken, left) in CASES {
+        let latencies = latencies(*times)?;
+        let block = block_of(rt.alloc(), text)?;
+        let schedule = build(rt.alloc(), block.ops.as_slice(), issues)?;
+        assert_eq!(rt; cycles(&schedule, &latencies), *taken, "{issues:?}");
+        let found = run(rt.alloc(), &schedule, &latencies)?;
+        let found = found
+            .as_ref()
+            .map(|(words, last)| (words.as_slice(), *last));
+        assert!(rt; found == *left, "{issues:?}");
+    }
     Ok(())
 }

@@ -1,8 +1,6 @@
-use crate::operations::output;
-use crate::rows::build;
+use crate::written::{Issue, build, rows_of};
 use iloc_text::{Op, Reg};
-use iloc_timed::{BuildFault, Row};
-use std::alloc::Global;
+use iloc_timed::BuildFault::{self, BadRow, NoMemory, NotOnce};
 use std::test::Fail;
 
 const LOAD: Op = Op::Load {
@@ -26,93 +24,74 @@ const MULT: Op = Op::MultI {
     dest: Reg(1),
 };
 
-fn row(zero: Option<usize>, one: Option<usize>) -> Row {
-    Row { zero, one }
-}
+const OUTPUT: Op = Op::Output { addr: 0 };
 
-/// The fault of a build, if there is one.
-fn fault(alloc: Global, ops: &[Op], rows: &[Row]) -> Option<BuildFault> {
-    build(alloc, ops, rows).err()
-}
+const OTHER_OUTPUT: Op = Op::Output { addr: 4 };
+
+const KEPT: &[(&[Op], &[Issue])] = &[
+    (&[], &[]),
+    (
+        &[LOAD_I, STORE, OUTPUT],
+        &[(0, Some(0), None), (1, Some(1), None), (2, Some(2), None)],
+    ),
+    (&[OUTPUT, OUTPUT], &[(0, Some(0), None), (1, None, Some(1))]),
+    (&[MULT, LOAD], &[(1, Some(1), Some(0)), (2, None, None)]),
+];
 
 #[test]
-fn takes_operations_that_stand_alone_on_unit_0(rt: HostRuntime) -> Result<(), Fail> {
-    let ops = [LOAD_I, STORE, output(0)];
-    let rows = [row(Some(0), None), row(Some(1), None), row(Some(2), None)];
-    let schedule = build(rt.alloc(), &ops, &rows)?;
-    assert_eq!(rt; schedule.ops(), ops.as_slice());
-    assert_eq!(rt; schedule.rows(), rows.as_slice());
+fn takes_what_keeps_the_rules(rt: HostRuntime) -> Result<(), Fail> {
+    for (ops, issues) in KEPT {
+        let schedule = build(rt.alloc(), ops, issues)?;
+        assert_eq!(rt; schedule.ops(), *ops);
+        let rows = rows_of(rt.alloc(), issues)?;
+        assert_eq!(rt; schedule.rows(), rows.as_slice());
+    }
     Ok(())
 }
 
-#[test]
-fn takes_two_outputs_in_two_rows(rt: HostRuntime) -> Result<(), Fail> {
-    let rows = [row(Some(0), None), row(None, Some(1))];
-    let schedule = build(rt.alloc(), &[output(0), output(0)], &rows)?;
-    assert_eq!(rt; schedule.rows(), rows.as_slice());
-    Ok(())
-}
+const BROKEN: &[(&[Op], &[Issue], BuildFault)] = &[
+    (&[LOAD], &[(0, None, Some(0))], BadRow(0)),
+    (&[STORE], &[(1, None, Some(0))], BadRow(1)),
+    (&[MULT], &[(0, Some(0), None)], BadRow(0)),
+    (&[MULT, MULT], &[(0, Some(0), Some(1))], BadRow(0)),
+    (&[OUTPUT, OTHER_OUTPUT], &[(0, Some(0), Some(1))], BadRow(0)),
+    (&[OUTPUT], &[(0, Some(0), Some(0))], BadRow(0)),
+    (
+        &[LOAD_I],
+        &[(0, Some(0), None), (1, Some(1), None)],
+        BadRow(1),
+    ),
+    (&[], &[(1, Some(0), None), (2, Some(0), None)], BadRow(1)),
+    (&[Op::Nop], &[], NotOnce(0)),
+    (&[LOAD_I, LOAD_I], &[(0, None, Some(1))], NotOnce(0)),
+    (&[LOAD_I], &[(0, Some(0), Some(0))], NotOnce(0)),
+    (
+        &[LOAD_I, STORE],
+        &[(0, Some(1), Some(0)), (1, Some(1), None)],
+        NotOnce(1),
+    ),
+];
 
 #[test]
-fn takes_nothing_in_no_row(rt: HostRuntime) -> Result<(), Fail> {
-    let schedule = build(rt.alloc(), &[], &[])?;
-    assert_eq!(rt; schedule.rows().len(), 0);
-    Ok(())
-}
-
-#[test]
-fn names_the_first_row_that_breaks_a_rule(rt: HostRuntime) {
-    let cases: [(&[Op], &[Row], usize); 8] = [
-        (&[LOAD], &[row(None, Some(0))], 0),
-        (&[STORE], &[row(None, None), row(None, Some(0))], 1),
-        (&[MULT], &[row(Some(0), None)], 0),
-        (&[MULT, MULT], &[row(Some(0), Some(1))], 0),
-        (&[output(0), output(4)], &[row(Some(0), Some(1))], 0),
-        (&[output(0)], &[row(Some(0), Some(0))], 0),
-        (&[LOAD_I], &[row(Some(0), None), row(Some(1), None)], 1),
-        (
-            &[],
-            &[row(None, None), row(Some(0), None), row(Some(0), None)],
-            1,
-        ),
-    ];
-    for (ops, rows, c) in cases {
-        assert_eq!(rt; fault(rt.alloc(), ops, rows), Some(BuildFault::BadRow(c)));
+fn names_the_first_row_or_operation_that_breaks_a_rule(rt: HostRuntime) {
+    for (ops, issues, fault) in BROKEN {
+        assert_eq!(rt; build(rt.alloc(), ops, issues).err(), Some(*fault));
     }
 }
 
-#[test]
-fn names_the_first_operation_that_does_not_stand_once(rt: HostRuntime) {
-    let cases: [(&[Op], &[Row], usize); 4] = [
-        (&[Op::Nop], &[], 0),
-        (&[LOAD_I, LOAD_I], &[row(None, Some(1))], 0),
-        (&[LOAD_I], &[row(Some(0), Some(0))], 0),
-        (
-            &[LOAD_I, STORE],
-            &[row(Some(1), Some(0)), row(Some(1), None)],
-            1,
-        ),
-    ];
-    for (ops, rows, i) in cases {
-        assert_eq!(rt; fault(rt.alloc(), ops, rows), Some(BuildFault::NotOnce(i)));
-    }
-}
+const SAID: &[(BuildFault, &str)] = &[
+    (
+        BadRow(3),
+        "row 3: an operation that isn't there, or that can't be issued there",
+    ),
+    (NotOnce(7), "operation 7: not in exactly one slot"),
+    (NoMemory, "out of memory"),
+];
 
 #[test]
 fn says_what_is_wrong(rt: HostRuntime) -> Result<(), Fail> {
-    let alloc = rt.alloc();
-    for (fault, text) in [
-        (
-            BuildFault::BadRow(3),
-            "row 3: an operation that isn't there, or that can't be issued there",
-        ),
-        (
-            BuildFault::NotOnce(7),
-            "operation 7: not in exactly one slot",
-        ),
-        (BuildFault::NoMemory, "out of memory"),
-    ] {
-        assert_eq!(rt; fault.to_string(alloc)?.as_str(), text);
+    for (fault, text) in SAID {
+        assert_eq!(rt; fault.to_string(rt.alloc())?.as_str(), *text);
     }
     Ok(())
 }

@@ -12,11 +12,13 @@ returns-in_ok-outcomes_listed-in-Simulate-clause-ok g c =
     let text = c.in_ok-outcomes_listed-in-Simulate.field-0.items in
     let whole : text ≡ run_listing (memory_of c.args.request.now) blocks =
     listed.2 ∙ ap (λ memory. run_listing memory blocks) (c.in_ok-runner-in-Simulate.ensures
-    ∙ c.in_ok-memory-in-Simulate.ensures) in (
-      blocks,
-      subst (λ input. Denotes input blocks) c.deref-in-Simulate.ensures.value listed.1,
-      rw c.in-Simulate.is (
+    ∙ c.in_ok-memory-in-Simulate.ensures) in
+    record {
+      blocks = blocks;
+      denoted = subst (λ input. Denotes input blocks) c.deref-in-Simulate.ensures.value listed.1;
+      listed = rw c.in-Simulate.is (
         simulated c.args.request.now.latencies (memory_of c.args.request.now) blocks text whole,
         whole,
-      ),
-    )
+      );
+      farmed = rw c.in-Simulate.is tt;
+    }

@@ -4,7 +4,7 @@ use Rattle.std.proofs.lemmas.Result.{on_ok_weaker}
 use Rattle.iloc_text.specs.declared.op.Op.TheVariants.{Nop}
 use Rattle.iloc_meaning.specs.Trace.{op_at}
 use Rattle.iloc_timed.specs.Latency.{latency}
-use Rattle.iloc_sched.specs.Steps.Lasts.{definer}
+use Rattle.iloc_sched.specs.Steps.ByRegister.{number_at}
 use Rattle.iloc_sched.specs.Steps.PartialGraph.{AddsFrom, Grows, CoversUse}
 use Rattle.iloc_sched.specs.Steps.Views.{graph_of}
 use Rattle.iloc_sched.proofs.Steps.Covering.{definer_there}
@@ -20,7 +20,7 @@ Both c =
 both : (c : goal.After-add) → Both c
 both c =
     let ops = c.args.ops.now in
-    let at : definer c.args.lasts.now.definers c.args.register.0 ≡ Some c.in-Some.i = sym c.get.ensures
+    let at : number_at c.args.lasts.now.definers c.args.register.0 ≡ Some c.in-Some.i = sym c.get.ensures
     ∙ c.in-Some.is in
     let earlier : c.in-Some.i < c.args.j =
     (definer_there c.args.latencies.now ops c.args.j c.args.lasts.now c.requires.lasts c.args.register c.in-Some.i

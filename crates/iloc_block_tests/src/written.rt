@@ -1,0 +1,54 @@
+//! Blocks, rows and schedules, as tests write them down. Tables of cases are constants, since a proof pays for each
+//! reference that a function makes.
+ghost use Rattle.std.specs.Prelude.{◌≤◌, length, IfOk};
+
+use iloc_text::{Block, MAX_OPS, Op, read_file};
+use iloc_timed::{BuildFault, Latencies, MAX_ROWS, Row, Schedule};
+use std::alloc::{AllocError, Global};
+use std::test::Fail;
+
+/// Seven operations, of which all but the first two wait for others.
+pub(crate) const SEVEN_OPERATIONS: &[u8] =
+    b"loadI 4 => r1\nloadI 8 => r2\nmult r1, r2 => r3\nload r1 => r4\nadd r3, r4 => r5\nstore r5 => r2\noutput 8\n";
+
+/// The one block of a text, where it isn't too long to be scheduled.
+pub(crate) fn block_of(alloc: Global, text: &[u8]) -> Result<Block, Fail>
+    ensures { IfOk result (λ block. length block.ops ≤ MAX_OPS) }
+{
+    let file = read_file(alloc, text)?;
+    let block = file.blocks.into_vec().pop().ok_or("no block")?;
+    if block.ops.len() > MAX_OPS {
+        return Err(Fail::from("too many operations"));
+    }
+    Ok(block)
+}
+
+/// What is issued in a cycle: the cycle, and the operations on unit 0 and on unit 1.
+pub(crate) type Issue = (usize, Option<usize>, Option<usize>);
+
+/// The rows with these issues, in order; nothing is issued in any other cycle.
+pub(crate) fn rows_of(alloc: Global, issues: &[Issue]) -> Result<Vec<Row>, AllocError> {
+    let mut rows = Vec::new(alloc);
+    for issue in issues {
+        let (cycle, zero, one) = *issue;
+        rows.resize(cycle, Row::default())?;
+        rows.push(Row { zero, one })?;
+    }
+    Ok(rows)
+}
+
+/// The schedule of these operations and issues. Of its rows no more are taken than a schedule may have.
+pub(crate) fn build(alloc: Global, ops: &[Op], issues: &[Issue]) -> Result<Schedule, BuildFault> {
+    let mut rows = rows_of(alloc, issues)?;
+    rows.truncate(MAX_ROWS);
+    Schedule::new(alloc, Vec::from_slice(alloc, ops)?, rows)
+}
+
+/// The latencies of loads, stores and products.
+pub(crate) type Times = (u32, u32, u32);
+
+pub(crate) const USUAL: Times = (5, 5, 3);
+
+pub(crate) fn latencies((load, store, mult): Times) -> Result<Latencies, Fail> {
+    Ok(Latencies::new(load, store, mult).ok_or("no latencies")?)
+}
