@@ -21,7 +21,7 @@ ISSUED = ["loadI 4 => r0: unit 0, issued at 0, arrives at 1", "loadI 8 => r1: un
 EXPLAINED = b"""block 1 -
 0 cycle 0 unit 0 ready 0 after - priority 13 loadI 4 => r1 ; loadI 4 => r0
 1 cycle 0 unit 1 ready 0 after - priority 11 loadI 8 => r2 ; loadI 8 => r1
-2 cycle 1 unit 1 ready 1 after 0 1 priority 10 mult r1, r2 => r3 ; mult r0, r1 => r2
+2 cycle 1 unit 1 ready 1 after 0,1 priority 10 mult r1, r2 => r3 ; mult r0, r1 => r2
 3 cycle 1 unit 0 ready 1 after 0 priority 12 load r1 => r4 ; load r0 => r3
 4 cycle 6 unit 0 ready 6 after 3 priority 7 add r3, r4 => r5 ; add r2, r3 => r4
 5 cycle 7 unit 0 ready 7 after 4 priority 6 store r5 => r2 ; store r4 => r1
@@ -67,7 +67,7 @@ def timeline(place):
 def timeline_explained(place):
     root = picture(place, "charts/timeline", given=EXPLAINED)
     expect("tooltip", tooltips(root)[2], "mult r0, r1 => r2\nunit 1, issued at 1, arrives at 4\nnumber 2: "
-                                         "mult r1, r2 => r3\nready at 1, waited last for 0 1\npriority 10")
+                                         "mult r1, r2 => r3\nready at 1, waited last for 0 and 1\npriority 10")
     marked = [group.find(f"{SVG}text").text[0] for group in root.iter(f"{SVG}g")
               if any(it.get("stroke") == CHAIN_OUTLINE for it in group)]
     expect("the chain", marked, list("03456"))
