@@ -61,7 +61,8 @@ def timeline(place):
     bars = {name: round((height(parts[0]) + 3) / 18) for name, parts in groups.items() if len(parts) == 2}
     expect("cycles of the bars", bars, {"load r0 => r3": 5, "mult r0, r1 => r2": 3, "store r4 => r1": 5})
     tops = {name: (float(parts[-1].get("y")) - 69) / 18 for name, parts in groups.items()}
-    expect("cycles of the boxes", tops, {it.split(":")[0]: int(re.search("issued at ([0-9]+)", it)[1]) for it in ISSUED})
+    issued = {it.split(":")[0]: int(re.search("issued at ([0-9]+)", it)[1]) for it in ISSUED}
+    expect("cycles of the boxes", tops, issued)
 
 
 def timeline_explained(place):
