@@ -19,7 +19,8 @@ COMPLETIONS = (
     (["run", "--at", "4", "1"], ""),
 )
 COMPLETE = ('source "$0"; COMP_WORDS=(ilocfarm "$@"); COMP_CWORD=$#; _ilocfarm; echo "${COMPREPLY[*]}"')
-INSTALLED = ("bin/ilocfarm", "share/bash-completion/completions/ilocfarm", "share/ilocfarm/cluster/job",
+INSTALLED = ("bin/ilocfarm", "share/bash-completion/completions/ilocfarm", "share/ilocfarm/charts/compare",
+             "share/ilocfarm/charts/svg.py", "share/ilocfarm/charts/timeline", "share/ilocfarm/cluster/job",
              "share/ilocfarm/cluster/join", "share/ilocfarm/cluster/split", "share/ilocfarm/examples/class/ada.iloc",
              "share/ilocfarm/examples/first.iloc", "share/man/man1/ilocfarm.1")
 
@@ -88,6 +89,11 @@ def installs(place):
     for made, source in (("bin/ilocfarm", place.program), ("share/man/man1/ilocfarm.1", PAGE),
                          ("share/ilocfarm/cluster/join", f"{TOP}/cluster/join")):
         expect(f"{made} as it stands", place.read(f"a prefix/{made}") == read(source), True)
+    listing = place.run("ilocfarm", "schedule", given=place.read("examples/dot.iloc"))[1]
+    expect("timeline", place.run("a prefix/share/ilocfarm/charts/timeline", given=listing),
+           place.run("charts/timeline", given=listing))
+    expect("files of the charts", sorted(os.listdir(place.path("a prefix/share/ilocfarm/charts"))),
+           ["compare", "svg.py", "timeline"])
     given = place.read("examples/first.iloc")
     expect("run", place.run("a prefix/bin/ilocfarm", "run", given=given), (0, b"block 1 -\n7\n", b""))
     expect("DESTDIR", place.run("./install", "/usr", "bin/ilocfarm", DESTDIR=place.path("root")), version)

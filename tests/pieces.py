@@ -97,6 +97,11 @@ def nothing(place):
     joined_is_one_run(place, ["run"], 1)
 
 
+def from_a_pipe(place):
+    expect("pieces", place.shell("cluster/split <(printf 'a: nop\\nb:') pieces --blocks 1"), (0, b"2\n"))
+    expect("pieces", [place.read(f"pieces/{it}.iloc") for it in (1, 2)], [b"a: nop\n", b"b:"])
+
+
 def more_than_one_run_takes(place):
     place.write("blocks", b"a: loadI 1 => r1\n" * 70_000)
     count = split(place)
@@ -178,8 +183,9 @@ def first_fault(place):
 
 def mistakes(place):
     place.write("blocks", b"a: nop\n")
-    for words in (["split"], ["split", "blocks", "more", "--bytes", "0"], ["split", "blocks", "more", "--blocks", "65536"],
-                  ["join"], ["join", "--all", "pieces"], ["job", "pieces", "ilocfarm", "counts"], ["job", "pieces"]):
+    for words in (["split"], ["split", "blocks", "more", "--bytes", "0"],
+                  ["split", "blocks", "more", "--blocks", "65536"], ["join"],
+                  ["join", "--all", "pieces"], ["job", "pieces", "ilocfarm", "counts"], ["job", "pieces"]):
         status, out, err = place.run(f"cluster/{words[0]}", *words[1:])
         expect(f"{words}", (status, out, bool(err)), (2, b"", True))
     split(place)
@@ -189,5 +195,6 @@ def mistakes(place):
     expect("nothing was made", stored(place), ["1.iloc", "index"])
 
 
-PIECE_CASES = (random_files, cuts_before_labels_alone, comments_first, nothing, more_than_one_run_takes, bytes_of_pieces,
-               missing_pieces, failed_piece, killed_piece, other_words, short_listing, first_fault, mistakes)
+PIECE_CASES = (random_files, cuts_before_labels_alone, comments_first, nothing, from_a_pipe, more_than_one_run_takes,
+               bytes_of_pieces, missing_pieces, failed_piece, killed_piece, other_words, short_listing, first_fault,
+               mistakes)

@@ -219,8 +219,7 @@ fn help(alloc: Global, words: &[&str]) -> Result<String, Fail> {
     }
 }
 
-pub(crate) const HELP: &str =
-    "List scheduler and simulator for ILOC blocks, which it reads from standard input
+const HELP: &str = "List scheduler and simulator for ILOC blocks, which it reads from standard input
 
 Usage: ilocfarm <COMMAND>
 
