@@ -12,6 +12,7 @@ HELP_BEGINS = b"List"
 TOO_MANY = b"ilocfarm: line 16010001: more than 10000 operations in a block\n"
 NO_TEXT = b"error: invalid UTF-8 was detected in one or more arguments\n"
 WRITES = 1000
+WORDS_ALONE = [(0, ["--help"]), (2, ["jump"]), (2, ["run", "--at", "2"]), (2, ["run", "--at", "65532", "1", "2"])]
 
 
 def stream_checks(place):
@@ -20,7 +21,7 @@ def stream_checks(place):
         yield Check(f"streams/input_fails/{command}", lambda command=command: input_fails(place, command))
     yield Check("streams/room/help", lambda: room(place, ["--help"], HELP_BEGINS))
     yield Check("streams/no_room_to_tell", lambda: no_room_to_tell(place))
-    yield Check("streams/help_reads_nothing", lambda: help_reads_nothing(place))
+    yield Check("streams/words_alone_decide", lambda: words_alone_decide(place))
     yield Check("streams/reads_one_byte_too_many", lambda: reads_one_byte_too_many(place))
     yield Check("streams/longest_fault", lambda: longest_fault(place))
     yield Check("streams/words_are_no_text", lambda: words_are_no_text(place))
@@ -77,15 +78,18 @@ def input_fails(place, command):
     yield from differs((done.returncode, done.stdout, done.stderr), UNREAD)
 
 
-def help_reads_nothing(place):
-    """Standard input is a folder, which can't be read."""
-    folder = os.open("/", os.O_RDONLY)
-    try:
-        done = subprocess.run([place.program, "--help"], stdin=folder, capture_output=True, timeout=SECONDS)
-    finally:
-        os.close(folder)
-    if (done.returncode, done.stdout[:len(HELP_BEGINS)], done.stderr) != (0, HELP_BEGINS, b""):
-        yield told((done.returncode, done.stdout, done.stderr))
+def words_alone_decide(place):
+    """Where nothing has to be read, nothing is: standard input is a folder, which can't be read."""
+    for status, words in WORDS_ALONE:
+        folder = os.open("/", os.O_RDONLY)
+        try:
+            done = subprocess.run([place.program, *words], stdin=folder, capture_output=True, timeout=SECONDS)
+        finally:
+            os.close(folder)
+        got, due = (done.returncode, done.stdout, done.stderr), place.ending(words, b"")
+        yield from differs(got, due)
+        if due[0] != status:
+            yield told(due)
 
 
 def reads_one_byte_too_many(place):
