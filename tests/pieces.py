@@ -4,7 +4,8 @@ import random
 
 from place import Failed, expect
 
-COMMANDS = (["run", "--at", "0", "1", "2"], ["simulate", "--load", "2"], ["schedule", "--mult", "1"], ["counts"])
+COMMANDS = (["run", "--at", "0", "1", "2"], ["simulate", "--load", "2"], ["schedule", "--mult", "1"], ["counts"],
+            ["explain", "--load", "3"])
 FILES = 48
 OPERATIONS = (b"nop", b"add r1, r2 => r3", b"loadI 4 => r1", b"output 4", b"store r1=>r2", b"loadAI r1,4 => r2",
               b"mult r3, r3 =>\tr1", b"output 3 // odd: a fault")

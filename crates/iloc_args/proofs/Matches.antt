@@ -20,7 +20,7 @@ use Rattle.clap.specs.declared.builder.value_parser.ValueParser.TheVariants.{Sig
 use Rattle.clap.specs.declared.parser.matches.ArgMatches.TheViews.{out-SubCommand}
 use Rattle.clap.specs.declared.parser.matches.SubCommand.{SubCommand}
 use Rattle.iloc_args.specs.Asked.{asked, asked_as, asked_by, task_named}
-use Rattle.iloc_args.specs.Command.{Entry, entries, farm_app, run_entry, schedule_entry, shape, simulate_entry}
+use Rattle.iloc_args.specs.Command.{Entry, entries, explain_entry, farm_app, run_entry, schedule_entry, shape, simulate_entry}
 use Rattle.iloc_args.specs.Due.{faults_in}
 use Rattle.iloc_args.specs.Steps.Taken.{AreNumbersIn, HoldNumbers, HoldsIn, IsNumberIn}
 use Rattle.iloc_args.specs.declared.request.Task.{Task}
@@ -160,8 +160,25 @@ schedule_fit = record {
   mult = refl;
 }
 
+explain_fit : IsFit (built_of explain_entry).rules
+explain_fit = record {
+  ours = (
+    record { first = refl; action = tt },
+    (
+      record { first = refl; action = tt },
+      (record { first = refl; action = tt }, (record { first = refl; action = tt }, tt)),
+    ),
+  );
+  workers = tt;
+  at = tt;
+  words = tt;
+  load = refl;
+  store = refl;
+  mult = refl;
+}
+
 all_fit : AllByRecursion (λ e. IsFit (built_of e).rules) entries
-all_fit = (run_fit, (simulate_fit, (schedule_fit, (schedule_fit, tt))))
+all_fit = (run_fit, (simulate_fit, (schedule_fit, (schedule_fit, (explain_fit, tt)))))
 
 -- ---- the whole command line
 

@@ -1,7 +1,7 @@
 //! The program's command line, as the parser reads it.
 ghost use Rattle.std.specs.Prelude.{IfOk, codes};
 ghost use Rattle.iloc_args.specs.Command.{at_rule, counts_entry};
-ghost use Rattle.iloc_args.specs.Command.{farm_app, latency_rule, run_entry};
+ghost use Rattle.iloc_args.specs.Command.{explain_entry, farm_app, latency_rule, run_entry};
 ghost use Rattle.iloc_args.specs.Command.{schedule_entry, simulate_entry, top_shape, words_rule};
 ghost use Rattle.iloc_args.specs.Command.{workers_rule};
 ghost use Rattle.iloc_args.specs.Steps.Building.{HasApp, HasRule, alone, app, memory_shape};
@@ -179,6 +179,17 @@ fn counts_command<'a>(alloc: Global) -> Result<Command<'a>, AllocError>
         .arg(mult_arg(alloc))
 }
 
+/// `explain [--load N] [--store N] [--mult N]`
+fn explain_command<'a>(alloc: Global) -> Result<Command<'a>, AllocError>
+    ensures { IfOk result (HasApp (app explain_entry)) }
+{
+    Command::new(alloc, "explain")
+        .about("Schedule each block, and print why the schedule takes its cycles")
+        .arg(load_arg(alloc))?
+        .arg(store_arg(alloc))?
+        .arg(mult_arg(alloc))
+}
+
 /// The program without its commands.
 fn top_command<'a>(alloc: Global) -> Result<Command<'a>, AllocError>
     ensures { IfOk result (HasApp (alone top_shape)) }
@@ -204,5 +215,6 @@ pub(crate) fn farm_command<'a>(alloc: Global) -> Result<Command<'a>, AllocError>
         .subcommand(run_command(alloc)?)?
         .subcommand(simulate_command(alloc)?)?
         .subcommand(schedule_command(alloc)?)?
-        .subcommand(counts_command(alloc)?)
+        .subcommand(counts_command(alloc)?)?
+        .subcommand(explain_command(alloc)?)
 }

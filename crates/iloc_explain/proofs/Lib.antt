@@ -7,3 +7,4 @@ pub mod ReadyCycles
 pub mod Waits
 pub mod Explaining
 pub mod Lines
+pub mod OneText

@@ -5,6 +5,7 @@ mod chain;
 mod explanation;
 mod issued;
 mod latest;
+pub mod laws;
 mod listing;
 mod waited;
 

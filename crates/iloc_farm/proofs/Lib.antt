@@ -3,6 +3,7 @@ pub mod Said
 pub mod Words
 pub mod Written
 pub mod Tasks
+pub mod Explanations
 pub mod Gathered
 pub mod Schedules
 pub mod Simulated

@@ -9,8 +9,10 @@ use Rattle.iloc_args.specs.declared.request.Task.{Task}
 use Rattle.iloc_args.specs.declared.request.Task.TheVariants as task
 use Rattle.iloc_farm.specs.Initial.{memory_of, words_from}
 use Rattle.iloc_farm.specs.Laws.{AskAlike, GreedySchedulesCanBeListed, ListingsIgnoreWorkers}
+use Rattle.iloc_farm.specs.Explaining.{ListsExplained}
 use Rattle.iloc_farm.specs.Listing.{counts_listing, schedules_listing}
 use Rattle.iloc_farm.specs.Run.{IsListing, IsListingFor, ListsGreedy, run_listing}
+use Rattle.iloc_farm.proofs.Explanations.{explained_same}
 use Rattle.iloc_farm.proofs.Schedules.{greedy_all_same, greedy_long, total_small}
 
 -- of the greedy schedules of some blocks there is one listing of a kind
@@ -42,6 +44,9 @@ of_one_task task.Schedule r q alike blocks text text' lists lists' =
     one_listing r.latencies q.latencies blocks (λ lat. schedules_listing lat blocks) text text' alike.latencies lists lists'
 of_one_task task.Counts r q alike blocks text text' lists lists' =
     one_listing r.latencies q.latencies blocks (λ lat. counts_listing lat blocks) text text' alike.latencies lists lists'
+of_one_task task.Explain r q alike blocks text text' lists lists' =
+    let P : Latencies → Type 0 = λ lat. ListsExplained lat blocks text' in
+    explained_same r.latencies blocks text text' lists (subst P (sym alike.latencies) lists')
 
 pub ignore_workers : ListingsIgnoreWorkers
 ignore_workers r q alike input blocks blocks' denotes denotes' text text' lists lists' =

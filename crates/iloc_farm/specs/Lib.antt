@@ -1,4 +1,5 @@
 pub mod Device
+pub mod Explaining
 pub mod Fault
 pub mod Headline
 pub mod Initial

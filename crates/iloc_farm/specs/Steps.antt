@@ -4,3 +4,4 @@ pub mod Detailed
 pub mod Entries
 pub mod Runner
 pub mod OfInput
+pub mod Explaining

@@ -7,6 +7,7 @@ ghost use Rattle.iloc_farm.specs.Run.{EndsRun, Lists};
 ghost use Rattle.iloc_farm.specs.Schedules.{IsWithinLimits};
 
 use crate::device::read_input;
+use crate::explained::explained_text;
 use crate::farmed::farmed_text;
 use crate::fault::RunFault;
 use crate::initial::initial_memory;
@@ -61,6 +62,11 @@ fn request_text<R: Threads + Wait + Sync>(
         Task::Counts => {
             let file = file_of(alloc, input)?;
             Ok(farmed_text(rt, alloc, &file, request, Detail::Cycles)?)
+        }
+        Task::Explain => {
+            let file = file_of(alloc, input)?;
+            let text = explained_text(alloc, &file, &request.latencies)?;
+            Ok(Pieces::new(alloc, text))
         }
     }
 }

@@ -8,6 +8,7 @@ mod device;
 mod end_to_end;
 mod entry;
 mod entry_jobs;
+mod explained;
 mod farm;
 mod farmed;
 mod fault;
@@ -23,6 +24,7 @@ mod task;
 
 pub use device::{InputFault, MOST_READ, WriteFailed, read_input, write_text};
 pub use end_to_end::run;
+pub use explained::explained_text;
 pub use farm::schedule_all;
 pub use fault::{FarmFault, RunFault, run_status};
 pub use initial::initial_memory;
