@@ -9,6 +9,7 @@ mod delay_pairs;
 mod edges;
 mod lasts;
 pub mod laws;
+mod lower_bound;
 mod nearest;
 mod opening;
 mod plan;
@@ -20,6 +21,7 @@ mod scheduler;
 mod waiting;
 
 pub use delay_pairs::{Pair, pairs};
+pub use lower_bound::least;
 pub use priority::priorities;
 pub use renaming::rename;
 pub use scheduler::schedule;
