@@ -5,36 +5,46 @@ use Rattle.iloc_text.specs.declared.op.Op.{Op}
 use Rattle.iloc_text.specs.declared.op.Op.TheVariants.{Load, LoadI, Store, Add, Sub, Mult, Lshift, Rshift, Output, Nop, AddI, SubI, MultI, LshiftI, RshiftI, LoadAI, StoreAI}
 use Rattle.iloc_text.specs.declared.forms.Opcode.{Opcode}
 use Rattle.iloc_text.specs.declared.forms.Opcode.TheVariants as O
-use Rattle.iloc_text.specs.declared.forms.Lead.{Lead}
-use Rattle.iloc_text.specs.declared.forms.Lead.TheVariants.{Space, Comma, Arrow}
-use Rattle.iloc_text.specs.declared.forms.Value.{Value}
-use Rattle.iloc_text.specs.declared.forms.Value.TheVariants.{Use, Definition, Constant}
-use Rattle.iloc_text.specs.declared.forms.Operand.{Operand}
 
--- an operand: what it stands behind, and a register that is used, the one that is defined, or a constant
+-- what an operand stands behind
+pub data Lead : Type 0 where
+  space : Lead
+  comma : Lead
+  arrow : Lead
+
+-- what is written in its place, by its role: a register that is used, the one that is defined, or a constant
+pub data Value : Type 0 where
+  Use : Reg → Value
+  Definition : Reg → Value
+  Constant : ℕ → Value
+
+pub record Operand : Type 0 where
+  pub lead : Lead
+  pub value : Value
+
 infixr 70 ◌▹◌
 abbrev pub ◌▹◌ : Lead → Value → Operand
 lead ▹ value = record { lead = lead; value = value }
 
 -- the opcode and the operands
 abbrev pub form : Op → Opcode × List Operand
-form (Load addr dest) = (O.Load, Space ▹ Use addr ∷ Arrow ▹ Definition dest ∷ [])
-form (LoadI value dest) = (O.LoadI, Space ▹ Constant value ∷ Arrow ▹ Definition dest ∷ [])
-form (Store value addr) = (O.Store, Space ▹ Use value ∷ Arrow ▹ Use addr ∷ [])
-form (Add left right dest) = (O.Add, Space ▹ Use left ∷ Comma ▹ Use right ∷ Arrow ▹ Definition dest ∷ [])
-form (Sub left right dest) = (O.Sub, Space ▹ Use left ∷ Comma ▹ Use right ∷ Arrow ▹ Definition dest ∷ [])
-form (Mult left right dest) = (O.Mult, Space ▹ Use left ∷ Comma ▹ Use right ∷ Arrow ▹ Definition dest ∷ [])
-form (Lshift left right dest) = (O.Lshift, Space ▹ Use left ∷ Comma ▹ Use right ∷ Arrow ▹ Definition dest ∷ [])
-form (Rshift left right dest) = (O.Rshift, Space ▹ Use left ∷ Comma ▹ Use right ∷ Arrow ▹ Definition dest ∷ [])
-form (Output addr) = (O.Output, Space ▹ Constant addr ∷ [])
+form (Load addr dest) = (O.Load, space ▹ Use addr ∷ arrow ▹ Definition dest ∷ [])
+form (LoadI value dest) = (O.LoadI, space ▹ Constant value ∷ arrow ▹ Definition dest ∷ [])
+form (Store value addr) = (O.Store, space ▹ Use value ∷ arrow ▹ Use addr ∷ [])
+form (Add left right dest) = (O.Add, space ▹ Use left ∷ comma ▹ Use right ∷ arrow ▹ Definition dest ∷ [])
+form (Sub left right dest) = (O.Sub, space ▹ Use left ∷ comma ▹ Use right ∷ arrow ▹ Definition dest ∷ [])
+form (Mult left right dest) = (O.Mult, space ▹ Use left ∷ comma ▹ Use right ∷ arrow ▹ Definition dest ∷ [])
+form (Lshift left right dest) = (O.Lshift, space ▹ Use left ∷ comma ▹ Use right ∷ arrow ▹ Definition dest ∷ [])
+form (Rshift left right dest) = (O.Rshift, space ▹ Use left ∷ comma ▹ Use right ∷ arrow ▹ Definition dest ∷ [])
+form (Output addr) = (O.Output, space ▹ Constant addr ∷ [])
 form Nop = (O.Nop, [])
-form (AddI left value dest) = (O.AddI, Space ▹ Use left ∷ Comma ▹ Constant value ∷ Arrow ▹ Definition dest ∷ [])
-form (SubI left value dest) = (O.SubI, Space ▹ Use left ∷ Comma ▹ Constant value ∷ Arrow ▹ Definition dest ∷ [])
-form (MultI left value dest) = (O.MultI, Space ▹ Use left ∷ Comma ▹ Constant value ∷ Arrow ▹ Definition dest ∷ [])
-form (LshiftI left value dest) = (O.LshiftI, Space ▹ Use left ∷ Comma ▹ Constant value ∷ Arrow ▹ Definition dest ∷ [])
-form (RshiftI left value dest) = (O.RshiftI, Space ▹ Use left ∷ Comma ▹ Constant value ∷ Arrow ▹ Definition dest ∷ [])
-form (LoadAI addr offset dest) = (O.LoadAI, Space ▹ Use addr ∷ Comma ▹ Constant offset ∷ Arrow ▹ Definition dest ∷ [])
-form (StoreAI value addr offset) = (O.StoreAI, Space ▹ Use value ∷ Arrow ▹ Use addr ∷ Comma ▹ Constant offset ∷ [])
+form (AddI left value dest) = (O.AddI, space ▹ Use left ∷ comma ▹ Constant value ∷ arrow ▹ Definition dest ∷ [])
+form (SubI left value dest) = (O.SubI, space ▹ Use left ∷ comma ▹ Constant value ∷ arrow ▹ Definition dest ∷ [])
+form (MultI left value dest) = (O.MultI, space ▹ Use left ∷ comma ▹ Constant value ∷ arrow ▹ Definition dest ∷ [])
+form (LshiftI left value dest) = (O.LshiftI, space ▹ Use left ∷ comma ▹ Constant value ∷ arrow ▹ Definition dest ∷ [])
+form (RshiftI left value dest) = (O.RshiftI, space ▹ Use left ∷ comma ▹ Constant value ∷ arrow ▹ Definition dest ∷ [])
+form (LoadAI addr offset dest) = (O.LoadAI, space ▹ Use addr ∷ comma ▹ Constant offset ∷ arrow ▹ Definition dest ∷ [])
+form (StoreAI value addr offset) = (O.StoreAI, space ▹ Use value ∷ arrow ▹ Use addr ∷ comma ▹ Constant offset ∷ [])
 
 abbrev pub opcode : Op → Opcode
 opcode op = (form op).0
