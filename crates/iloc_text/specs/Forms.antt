@@ -72,6 +72,11 @@ opcode_text O.RshiftI = codes "rshiftI"
 opcode_text O.LoadAI = codes "loadAI"
 opcode_text O.StoreAI = codes "storeAI"
 
+-- all of them, in the order in which a word is looked up
+abbrev pub opcodes : List Opcode
+opcodes = O.LoadI ∷ O.Load ∷ O.Store ∷ O.Add ∷ O.Sub ∷ O.Mult ∷ O.Lshift ∷ O.Rshift ∷ O.Output ∷ O.Nop
+    ∷ O.AddI ∷ O.SubI ∷ O.MultI ∷ O.LshiftI ∷ O.RshiftI ∷ O.LoadAI ∷ O.StoreAI ∷ []
+
 -- the number that is written there, a register's or the constant itself
 abbrev pub number_in : Value → ℕ
 number_in (Use r) = r.0
@@ -85,15 +90,12 @@ number_of operand = number_in operand.value
 abbrev pub numbers : Op → List ℕ
 numbers op = map number_of (operands op)
 
-abbrev reg : ℕ → Reg
-reg n = record { 0 = n }
-
--- number k, or 0 where there is none
+-- number k, or 0 where there is none, and the register with it
 abbrev number_at : List ℕ → ℕ → ℕ
 number_at ns k = get_or ns k 0
 
 abbrev register_at : List ℕ → ℕ → Reg
-register_at ns k = reg (number_at ns k)
+register_at ns k = record { 0 = number_at ns k }
 
 -- the operation with this opcode and these numbers, left to right
 abbrev pub op_of : Opcode → List ℕ → Op

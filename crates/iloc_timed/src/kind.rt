@@ -31,16 +31,7 @@ impl Kind {
             Op::Store { .. } | Op::StoreAI { .. } => Kind::Store,
             Op::Mult { .. } | Op::MultI { .. } => Kind::Mult,
             Op::Output { .. } => Kind::Output,
-            Op::LoadI { .. }
-            | Op::Add { .. }
-            | Op::Sub { .. }
-            | Op::Lshift { .. }
-            | Op::Rshift { .. }
-            | Op::Nop
-            | Op::AddI { .. }
-            | Op::SubI { .. }
-            | Op::LshiftI { .. }
-            | Op::RshiftI { .. } => Kind::Other,
+            _ => Kind::Other,
         }
     }
 
