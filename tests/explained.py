@@ -117,13 +117,21 @@ class Explained:
     def cycles(self):
         return max([0, *(self.places[j][0] + op.latency(self.latencies) for j, op in enumerate(self.ops))])
 
+    def least(self):
+        """The greatest over the shares of a row: of operations by falling priority, row and priority together."""
+        bounds = [0]
+        for share, width in (({"load", "store"}, 1), ({"mult"}, 1), ({"output"}, 1), (None, 2)):
+            shared = sorted((p for op, p in zip(self.ops, self.priorities) if not share or op.kind in share), reverse=True)
+            bounds += [j // width + p for j, p in enumerate(shared)]
+        return max(bounds)
+
     def lines(self):
         for j, op in enumerate(self.ops):
             cycle, unit = self.places[j]
             ready = self.ready(j)
             yield (f"{j} cycle {cycle} unit {unit} ready {ready} after {self.after(j, ready)}"
                    f" priority {self.priorities[j]} {self.originals[j]} ; {op}")
-        yield f"cycles {self.cycles()}"
+        yield f"cycles {self.cycles()} least {self.least()}"
         yield f"chain {self.chain()}"
 
 

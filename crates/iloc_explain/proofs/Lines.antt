@@ -49,6 +49,7 @@ line_more text new all j explained left rest renamed e op other known there is t
     ∙ (ap (λ xs. text ++ xs) (sym whole) ∙ so_far))
 
 -- the parts of an explanation, pushed one after another
-pub parts_joined : (text lines head number tail chain : List ℕ)
-    → ((((text ++ lines) ++ head) ++ number) ++ tail) ++ chain ≡ text ++ ((lines ++ ((head ++ number) ++ tail)) ++ chain)
-parts_joined text lines head number tail chain = simp append_assoc
+pub parts_joined : (text lines head cycles middle least tail chain : List ℕ)
+    → ((((((text ++ lines) ++ head) ++ cycles) ++ middle) ++ least) ++ tail) ++ chain
+    ≡ text ++ ((lines ++ ((((head ++ cycles) ++ middle) ++ least) ++ tail)) ++ chain)
+parts_joined text lines head cycles middle least tail chain = simp append_assoc

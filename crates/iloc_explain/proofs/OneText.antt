@@ -72,4 +72,4 @@ one_explanation lat block ops rows text text' is also =
     (λ j e at. let here : j ≡ 0 + j = omega arith in
     let R : ℕ → Type 0 = λ n. IsExplained lat ops rows n e in subst R here (also.are_explained.each j e at)) in
     let chain : is.chain ≡ also.chain = longest_same lat ops is.chain also.chain is.is_longest also.is_longest in
-    is.listed ∙ (ap₂ (λ ls ch. ls ++ cycles_line lat ops rows ++ chain_line ch) lines chain ∙ sym also.listed)
+    is.listed ∙ (ap₂ (λ ls ch. ls ++ cycles_line lat block ops rows ++ chain_line ch) lines chain ∙ sym also.listed)

@@ -8,6 +8,7 @@ use Rattle.iloc_timed.specs.declared.latencies.Latencies.{Latencies}
 use Rattle.iloc_timed.specs.declared.row.Row.{Row}
 use Rattle.iloc_timed.specs.Cycles.{cycles}
 use Rattle.iloc_sched.specs.Renaming.{without_nops}
+use Rattle.iloc_sched.specs.Least.{least}
 use Rattle.iloc_explain.specs.declared.explanation.Explained.{Explained}
 use Rattle.iloc_explain.specs.declared.explanation.Unit.{Unit as unit_type}
 use Rattle.iloc_explain.specs.declared.explanation.Unit.TheVariants as unit
@@ -47,15 +48,16 @@ abbrev pub chain_line : List ℕ → List ℕ
 chain_line [] = codes "chain -\n"
 chain_line (i ∷ chain) = codes "chain" ++ flat_map (λ j. codes " " ++ decimal j) (i ∷ chain) ++ codes "\n"
 
--- `cycles C`
-abbrev pub cycles_line : Latencies → List Op → List Row → List ℕ
-cycles_line lat ops rows = codes "cycles " ++ decimal (cycles lat ops rows) ++ codes "\n"
+-- `cycles C least L`: the cycles of a schedule of the block, and their lower bound
+abbrev pub cycles_line : Latencies → List Op → List Op → List Row → List ℕ
+cycles_line lat block ops rows =
+    codes "cycles " ++ decimal (cycles lat ops rows) ++ codes " least " ++ decimal (least lat block) ++ codes "\n"
 
--- The text explains these operations in these rows, a schedule of the block: a line for each operation, the cycles,
--- and a longest chain of delays.
+-- The text explains these operations in these rows, a schedule of the block: a line for each operation, the cycles
+-- with their lower bound, and a longest chain of delays.
 pub record IsExplanation (lat : Latencies) (block ops : List Op) (rows : List Row) (text : List ℕ) : Type 0 where
   pub explained : List Explained
   pub are_explained : AreExplained lat ops rows explained
   pub chain : List ℕ
   pub is_longest : IsLongestChain lat ops chain
-  pub listed : text ≡ explained_lines 0 explained (without_nops block) ops ++ cycles_line lat ops rows ++ chain_line chain
+  pub listed : text ≡ explained_lines 0 explained (without_nops block) ops ++ cycles_line lat block ops rows ++ chain_line chain

@@ -8,8 +8,8 @@ ghost use Rattle.iloc_explain.specs.Listing.{IsExplanation};
 
 use crate::chain::longest_chain;
 use crate::explanation::{Explained, Unit, explain};
-use iloc_sched::priorities;
-use iloc_text::{MAX_OPS, NoMemory, Op, push_op};
+use iloc_sched::{least, priorities};
+use iloc_text::{Block, MAX_OPS, NoMemory, Op, push_op};
 use iloc_timed::{Latencies, Schedule, cycles};
 use itoa::Buffer;
 use std::alloc::Global;
@@ -130,27 +130,30 @@ fn push_lines(
 }
 
 /// Appends what explains a schedule of a block, whose operations are the block's renamed ones: a line for each
-/// operation, the cycles, and a longest chain of delays.
+/// operation, the cycles with their lower bound, and a longest chain of delays.
 pub fn push_explanation(
     alloc: Global,
     text: &mut Vec<u8>,
-    block: &[Op],
+    block: &Block,
     schedule: &Schedule,
     latencies: &Latencies,
 ) -> Result<(), NoMemory>
-    requires few { length block.now ≤ MAX_OPS }
-    requires names { schedule.now.ops ≡ renamed block.now }
+    requires few { length block.now.ops ≤ MAX_OPS }
+    requires names { schedule.now.ops ≡ renamed block.now.ops }
     ensures { OnOk result ((entry : List ℕ)
-        × IsExplanation latencies.now block.now schedule.now.ops schedule.now.rows entry
+        × IsExplanation latencies.now block.now.ops schedule.now.ops schedule.now.rows entry
         × (text.new.items ≡ text.old.items ++ entry)) }
 {
     let ops = schedule.ops();
     let priorities = priorities(alloc, ops, latencies)?;
     let explained = explain(alloc, schedule, latencies, &priorities)?;
     let chain = longest_chain(alloc, ops, latencies, &priorities)?;
-    push_lines(text, block, &explained, ops)?;
+    push_lines(text, block.ops.as_slice(), &explained, ops)?;
+    let least = least(alloc, block, latencies)?;
     text.extend_from_slice(b"cycles ")?;
     push_decimal(text, cycles(schedule, latencies))?;
+    text.extend_from_slice(b" least ")?;
+    push_decimal(text, least)?;
     text.extend_from_slice(b"\n")?;
     push_chain(text, &chain)
 }

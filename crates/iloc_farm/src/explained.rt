@@ -26,7 +26,7 @@ pub fn explained_text(
         let schedule = schedule(alloc, block, latencies)?;
         push_block_head(&mut text, index + 1, block.name.as_ref())?;
         text.push(b'\n')?;
-        push_explanation(alloc, &mut text, block.ops.as_slice(), &schedule, latencies)?;
+        push_explanation(alloc, &mut text, block, &schedule, latencies)?;
         total += cycles(&schedule, latencies);
     }
     text.extend_from_slice(b"total ")?;

@@ -1,8 +1,8 @@
 -- What an effect depends on.
-use Rattle.std.proofs.Common.{◌≡◌, ℕ, ◌+ℤ◌, ℤ, pos, negsuc, Bool, true, false, List, [], ◌∷◌, Contains, None, arith, refl, ap}
+use Rattle.std.proofs.Common.{◌≡◌, ℕ, suc, ◌+ℤ◌, ℤ, pos, negsuc, Bool, true, false, List, [], ◌∷◌, Contains, None, map, arith, refl, ap, ap₂}
 use Rattle.iloc_text.specs.declared.op.Reg.{Reg}
 use Rattle.iloc_text.specs.declared.op.Op.{Op}
-use Rattle.iloc_text.specs.declared.op.Op.TheVariants.{Load, LoadI, Store, Add, Sub, Mult, Lshift, Rshift, Output, Nop, AddI, SubI, MultI, LshiftI, RshiftI, LoadAI, StoreAI}
+use Rattle.iloc_text.specs.declared.op.Op.TheVariants.{Load, Store, Output, Nop, LoadAI, StoreAI}
 use Rattle.iloc_text.specs.Registers.{used, defined, with_registers}
 use Rattle.iloc_meaning.specs.declared.effect.Effect.{Effect}
 use Rattle.iloc_meaning.specs.declared.effect.Effect.TheVariants.{Faults, Gives, Writes, Emits, Nothing}
@@ -24,68 +24,39 @@ pub at_address_cases : (P : Effect → Type 0) (z : ℤ) (act : ℕ → Effect) 
 at_address_cases P (pos a) act fault done = by_bool (is_good (pos a)) (λ t. rw t (done a t)) (λ t. rw t fault)
 at_address_cases P (negsuc n) act fault done = fault
 
--- the first used register, and the second, have the same value
-first_same : (rs : List Reg) (r : Reg) (reg reg' : Reg → ℤ) → ((s : Reg) → Contains (r ∷ rs) s → reg s ≡ reg' s)
-    → reg r ≡ reg' r
-first_same rs r reg reg' same = same r (0, omega arith, refl)
+-- the used registers have the same values
+values_same : (rs : List Reg) (reg reg' : Reg → ℤ) → ((r : Reg) → Contains rs r → reg r ≡ reg' r)
+    → map reg rs ≡ map reg' rs
+values_same [] reg reg' same = refl
+values_same (r ∷ rs) reg reg' same = ap₂ (λ v vs. v ∷ vs) (same r (0, omega arith, refl))
+    (values_same rs reg reg' (λ s there. same s (suc there.0, omega (arith, there.1), there.2)))
 
-second_same : (rs : List Reg) (r s : Reg) (reg reg' : Reg → ℤ) → ((t : Reg) → Contains (r ∷ s ∷ rs) t → reg t ≡ reg' t)
-    → reg s ≡ reg' s
-second_same rs r s reg reg' same = same s (1, omega arith, refl)
+effect_by_values : (op : Op) (reg reg' : Reg → ℤ) (word word' : ℕ → ℤ) → map reg (used op) ≡ map reg' (used op)
+    → ((a : ℕ) → is_good (pos a) ≡ true → word a ≡ word' a) → effect op reg word ≡ effect op reg' word'
+effect_by_values (Load addr dest) reg reg' word word' regs words = let same : reg addr ≡ reg' addr = cc in
+    rw same (at_address_same (reg' addr) _ _ (λ a good. ap Gives (words a good)))
+effect_by_values (LoadAI addr offset dest) reg reg' word word' regs words = let same : reg addr ≡ reg' addr = cc in
+    rw same (at_address_same (wrapped (reg' addr +ℤ constant offset)) _ _ (λ a good. ap Gives (words a good)))
+effect_by_values (Store value addr) reg reg' word word' regs words = let same : reg addr ≡ reg' addr = cc in
+    let stored : reg value ≡ reg' value = cc in rw (same, stored) refl
+effect_by_values (StoreAI value addr offset) reg reg' word word' regs words = let same : reg addr ≡ reg' addr = cc in
+    let stored : reg value ≡ reg' value = cc in rw (same, stored) refl
+effect_by_values (Output addr) reg reg' word word' regs words =
+    at_address_same (constant addr) _ _ (λ a good. ap Emits (words a good))
+effect_by_values _ reg reg' word word' regs words = cc
 
 -- an effect depends on the values of the used registers and on the words at good addresses alone
 pub effect_same : (op : Op) (reg reg' : Reg → ℤ) (word word' : ℕ → ℤ)
     → ((r : Reg) → Contains (used op) r → reg r ≡ reg' r) → ((a : ℕ) → is_good (pos a) ≡ true → word a ≡ word' a)
     → effect op reg word ≡ effect op reg' word'
-effect_same (Load addr dest) reg reg' word word' regs words =
-    rw (first_same [] addr reg reg' regs) (at_address_same (reg' addr) _ _ (λ a good. ap Gives (words a good)))
-effect_same (LoadI value dest) reg reg' word word' regs words = refl
-effect_same (Store value addr) reg reg' word word' regs words =
-    rw (first_same (addr ∷ []) value reg reg' regs, second_same [] value addr reg reg' regs) refl
-effect_same (Add left right dest) reg reg' word word' regs words =
-    rw (first_same (right ∷ []) left reg reg' regs, second_same [] left right reg reg' regs) refl
-effect_same (Sub left right dest) reg reg' word word' regs words =
-    rw (first_same (right ∷ []) left reg reg' regs, second_same [] left right reg reg' regs) refl
-effect_same (Mult left right dest) reg reg' word word' regs words =
-    rw (first_same (right ∷ []) left reg reg' regs, second_same [] left right reg reg' regs) refl
-effect_same (Lshift left right dest) reg reg' word word' regs words =
-    rw (first_same (right ∷ []) left reg reg' regs, second_same [] left right reg reg' regs) refl
-effect_same (Rshift left right dest) reg reg' word word' regs words =
-    rw (first_same (right ∷ []) left reg reg' regs, second_same [] left right reg reg' regs) refl
-effect_same (Output addr) reg reg' word word' regs words =
-    at_address_same (constant addr) _ _ (λ a good. ap Emits (words a good))
-effect_same Nop reg reg' word word' regs words = refl
-effect_same (AddI left value dest) reg reg' word word' regs words = rw (first_same [] left reg reg' regs) refl
-effect_same (SubI left value dest) reg reg' word word' regs words = rw (first_same [] left reg reg' regs) refl
-effect_same (MultI left value dest) reg reg' word word' regs words = rw (first_same [] left reg reg' regs) refl
-effect_same (LshiftI left value dest) reg reg' word word' regs words = rw (first_same [] left reg reg' regs) refl
-effect_same (RshiftI left value dest) reg reg' word word' regs words = rw (first_same [] left reg reg' regs) refl
-effect_same (LoadAI addr offset dest) reg reg' word word' regs words =
-    rw (first_same [] addr reg reg' regs) (at_address_same (wrapped (reg' addr +ℤ constant offset)) _ _
-    (λ a good. ap Gives (words a good)))
-effect_same (StoreAI value addr offset) reg reg' word word' regs words =
-    rw (first_same (addr ∷ []) value reg reg' regs, second_same [] value addr reg reg' regs) refl
+effect_same op reg reg' word word' regs words =
+    effect_by_values op reg reg' word word' (values_same (used op) reg reg' regs) words
 
 -- an operation with other registers does what its own would do with the values of the new ones
 pub effect-with_registers : (new : Reg → Reg) (own : Reg) (op : Op) (reg : Reg → ℤ) (word : ℕ → ℤ)
     → effect (with_registers new own op) reg word ≡ effect op (λ r. reg (new r)) word
-effect-with_registers new own (Load addr dest) reg word = refl
-effect-with_registers new own (LoadI value dest) reg word = refl
-effect-with_registers new own (Store value addr) reg word = refl
-effect-with_registers new own (Add left right dest) reg word = refl
-effect-with_registers new own (Sub left right dest) reg word = refl
-effect-with_registers new own (Mult left right dest) reg word = refl
-effect-with_registers new own (Lshift left right dest) reg word = refl
-effect-with_registers new own (Rshift left right dest) reg word = refl
-effect-with_registers new own (Output addr) reg word = refl
 effect-with_registers new own Nop reg word = refl
-effect-with_registers new own (AddI left value dest) reg word = refl
-effect-with_registers new own (SubI left value dest) reg word = refl
-effect-with_registers new own (MultI left value dest) reg word = refl
-effect-with_registers new own (LshiftI left value dest) reg word = refl
-effect-with_registers new own (RshiftI left value dest) reg word = refl
-effect-with_registers new own (LoadAI addr offset dest) reg word = refl
-effect-with_registers new own (StoreAI value addr offset) reg word = refl
+effect-with_registers new own _ reg word = refl
 
 -- a result goes to the defined register
 pub results_go : (op : Op) (reg : Reg → ℤ) (word : ℕ → ℤ) → GoesTo (defined op) (effect op reg word)
@@ -104,9 +75,7 @@ results_go _ reg word = tt
 abbrev pub has_no_result : Effect → Bool
 has_no_result Faults = false
 has_no_result (Gives result) = false
-has_no_result (Writes address word) = true
-has_no_result (Emits word) = true
-has_no_result Nothing = true
+has_no_result _ = true
 
 load_has_result : (z : ℤ) (word : ℕ → ℤ) → has_no_result (at_address (good_address z) (λ a. Gives (word a))) ≡ false
 load_has_result z word = at_address_cases (λ e. has_no_result e ≡ false) z (λ a. Gives (word a)) refl (λ a good. refl)
@@ -127,11 +96,8 @@ defined-no_result _ reg word is = absurd cc
 
 -- whether a write, if the effect is one, is to a good address
 abbrev pub writes_well : Effect → Bool
-writes_well Faults = true
-writes_well (Gives result) = true
 writes_well (Writes address word) = is_good (pos address)
-writes_well (Emits word) = true
-writes_well Nothing = true
+writes_well _ = true
 
 read_writes_well : (z : ℤ) (word : ℕ → ℤ) → writes_well (at_address (good_address z) (λ a. Gives (word a))) ≡ true
 read_writes_well z word = at_address_cases (λ e. writes_well e ≡ true) z (λ a. Gives (word a)) refl (λ a good. refl)

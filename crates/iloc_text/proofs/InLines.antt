@@ -7,12 +7,9 @@ use Rattle.std.proofs.lemmas.Bool.Decides.{nat_tests}
 use Rattle.iloc_text.specs.declared.op.Op.{Op}
 use Rattle.iloc_text.specs.declared.forms.Opcode.{Opcode}
 use Rattle.iloc_text.specs.declared.forms.Opcode.TheVariants.{Nop}
-use Rattle.iloc_text.specs.declared.forms.Lead.{Lead}
-use Rattle.iloc_text.specs.declared.forms.Value.{Value}
-use Rattle.iloc_text.specs.declared.forms.Operand.{Operand}
-use Rattle.iloc_text.specs.Forms.{opcode, operands, opcode_text}
-use Rattle.iloc_text.specs.declared.forms.Lead.TheVariants.{Space, Comma, Arrow}
-use Rattle.iloc_text.specs.declared.forms.Value.TheVariants.{Use, Definition, Constant}
+use Rattle.iloc_text.specs.Forms.{Lead, Value, Operand, opcode, operands, opcode_text}
+use Rattle.iloc_text.specs.Forms.Lead.{space, comma, arrow}
+use Rattle.iloc_text.specs.Forms.Value.{Use, Definition, Constant}
 use Rattle.iloc_text.specs.Grammar.{◌⋅◌, Text, is_blank, is_word_byte, Blanks, Number, LeadText, ValueText, OperandsText, Operation, OptionalOperation, Name, OptionalLabel}
 use Rattle.iloc_text.specs.Files.{HasNoLineEnd}
 use Rattle.iloc_text.proofs.Tokens.{IsWord}
@@ -60,9 +57,9 @@ number_inside : {n : ℕ} → IsInside (Number n)
 number_inside = λ bytes h. digits_inside bytes h.0.1
 
 lead_inside : (lead : Lead) → IsInside (LeadText lead)
-lead_inside Space = λ bytes h. blanks_inside bytes h.1
-lead_inside Comma = join_inside blanks_inside (join_inside (text_inside (codes ",") refl) blanks_inside)
-lead_inside Arrow = join_inside blanks_inside (join_inside (text_inside (codes "=>") refl) blanks_inside)
+lead_inside space = λ bytes h. blanks_inside bytes h.1
+lead_inside comma = join_inside blanks_inside (join_inside (text_inside (codes ",") refl) blanks_inside)
+lead_inside arrow = join_inside blanks_inside (join_inside (text_inside (codes "=>") refl) blanks_inside)
 
 value_inside : (value : Value) → IsInside (ValueText value)
 value_inside (Constant n) = number_inside

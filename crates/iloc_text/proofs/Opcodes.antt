@@ -4,9 +4,9 @@ use Rattle.std.specs.List.{list_all}
 use Rattle.std.proofs.lemmas.Slice.Eq.{bytes_eq-Decides}
 use Rattle.iloc_text.specs.declared.forms.Opcode.{Opcode}
 use Rattle.iloc_text.specs.declared.forms.Opcode.TheVariants.{Nop}
-use Rattle.iloc_text.specs.Forms.{opcode_text}
+use Rattle.iloc_text.specs.Forms.{opcodes, opcode_text}
 use Rattle.iloc_text.specs.Grammar.{is_word_byte}
-use Rattle.iloc_text.specs.Steps.Opcodes.{opcodes, opcode_of}
+use Rattle.iloc_text.specs.Steps.Opcodes.{opcode_of}
 use Rattle.iloc_text.specs.Steps.Scan.{◌>>=◌}
 use Rattle.iloc_text.proofs.Parts.{starts}
 use Rattle.iloc_text.proofs.Tokens.{some_map, IsWord}

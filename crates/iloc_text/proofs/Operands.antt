@@ -1,12 +1,9 @@
 -- The scanner finds operands, and finds them again.
 use Rattle.std.proofs.Common.{◌≡◌, ◌∙◌, ℕ, false, List, [], ◌∷◌, ◌++◌, map, drop, get_or, refl, ap, ap₂, Some, IfSome}
 use Rattle.std.specs.Char.{is_ascii_digit}
-use Rattle.iloc_text.specs.declared.forms.Lead.{Lead}
-use Rattle.iloc_text.specs.declared.forms.Value.{Value}
-use Rattle.iloc_text.specs.declared.forms.Operand.{Operand}
-use Rattle.iloc_text.specs.Forms.{◌▹◌, number_in, number_of}
-use Rattle.iloc_text.specs.declared.forms.Lead.TheVariants.{Space, Comma, Arrow}
-use Rattle.iloc_text.specs.declared.forms.Value.TheVariants.{Use, Definition, Constant}
+use Rattle.iloc_text.specs.Forms.{Lead, Value, Operand, ◌▹◌, number_in, number_of}
+use Rattle.iloc_text.specs.Forms.Lead.{space, comma, arrow}
+use Rattle.iloc_text.specs.Forms.Value.{Use, Definition, Constant}
 use Rattle.iloc_text.specs.Grammar.{is_blank, LeadText, ValueText, OperandsText}
 use Rattle.iloc_text.specs.Steps.Scan.{capped, register_at, lead_at, value_at, value_then, operands_at}
 use Rattle.iloc_text.proofs.Parts.{Before, Before-join, Before-split, starts}
@@ -15,15 +12,15 @@ use Rattle.iloc_text.proofs.Opcodes.{bind_each}
 use Rattle.iloc_text.proofs.Starts.{blank_is_no_digit, digit_is_no_blank, value_fails, operands_fail}
 
 lead_read : (lead : Lead) (bytes : List ℕ) → IfSome (lead_at lead bytes) (λ rest. Before (LeadText lead) rest bytes)
-lead_read Space bytes = some_blanks_read bytes
-lead_read Comma bytes = comma_read bytes
-lead_read Arrow bytes = arrow_read bytes
+lead_read space bytes = some_blanks_read bytes
+lead_read comma bytes = comma_read bytes
+lead_read arrow bytes = arrow_read bytes
 
 lead_again : (lead : Lead) (rest bytes : List ℕ) → Before (LeadText lead) rest bytes → starts is_blank rest ≡ false
     → lead_at lead bytes ≡ Some rest
-lead_again Space rest bytes b s = some_blanks_again rest bytes b s
-lead_again Comma rest bytes b s = comma_again rest bytes b s
-lead_again Arrow rest bytes b s = arrow_again rest bytes b s
+lead_again space rest bytes b s = some_blanks_again rest bytes b s
+lead_again comma rest bytes b s = comma_again rest bytes b s
+lead_again arrow rest bytes b s = arrow_again rest bytes b s
 
 -- the value of this kind with this number
 abbrev pub with_number : Value → ℕ → Value

@@ -4,10 +4,8 @@ use Rattle.std.specs.Char.{digit_value}
 use Rattle.std.proofs.lemmas.Bool.Decides.{nat_tests}
 use Rattle.iloc_text.specs.declared.op.Op.{Op}
 use Rattle.iloc_text.specs.declared.forms.Opcode.{Opcode}
-use Rattle.iloc_text.specs.declared.forms.Lead.{Lead}
-use Rattle.iloc_text.specs.declared.forms.Operand.{Operand}
-use Rattle.iloc_text.specs.Forms.{opcode, operands, opcode_text, op_of}
-use Rattle.iloc_text.specs.declared.forms.Lead.TheVariants.{Space, Comma, Arrow}
+use Rattle.iloc_text.specs.Forms.{Lead, Operand, opcode, operands, opcode_text, op_of}
+use Rattle.iloc_text.specs.Forms.Lead.{space, comma, arrow}
 use Rattle.iloc_text.specs.Grammar.{◌⋅◌, Text, is_word_byte, is_blank, Blanks, LeadText, OperandsText, Operation}
 use Rattle.iloc_text.specs.Steps.Opcodes.{opcode_of, operands_of}
 use Rattle.iloc_text.specs.Steps.Scan.{after_blanks, after_word, word_of, operands_at, called_at, operation_at}
@@ -106,11 +104,11 @@ sign_colon {sign} {rest} {bytes} fails b =
 lead_colon : (lead : Lead) (rest bytes : List ℕ) → Before (LeadText lead) rest bytes → starts is_blank rest ≡ false
     → starts is_colon rest ≡ false
     → starts is_colon (after_blanks bytes) ≡ false
-lead_colon Space rest bytes b blank colon =
+lead_colon space rest bytes b blank colon =
     let some : Before Blanks rest bytes = record { front = b.front; first = b.first.1; whole = b.whole } in
     ap (starts is_colon) (blanks_again rest bytes some blank) ∙ colon
-lead_colon Comma rest bytes b blank colon = sign_colon (λ r. (refl, refl)) b
-lead_colon Arrow rest bytes b blank colon = sign_colon (λ r. (refl, refl)) b
+lead_colon comma rest bytes b blank colon = sign_colon (λ r. (refl, refl)) b
+lead_colon arrow rest bytes b blank colon = sign_colon (λ r. (refl, refl)) b
 
 operands_colon : (operands : List Operand) (rest bytes : List ℕ) → Before (OperandsText operands) rest bytes
     → starts is_colon (after_blanks rest) ≡ false

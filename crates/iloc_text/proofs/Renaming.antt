@@ -1,14 +1,10 @@
 -- Operations with other registers.
-use Rattle.std.proofs.Common.{◌≡◌, ◌∙◌, ℕ, suc, ◌<◌, ◌≤◌, ◌-◌, List, [], ◌∷◌, ◌++◌, length, map, take, drop, get_or, refl, ap, arith, option_map, length-append}
-use Rattle.std.specs.List.{filter_map, cons_option}
-use Rattle.std.proofs.Math.Seq.{drop-cons}
+use Rattle.std.proofs.Common.{◌≡◌, ℕ, ◌≤◌, ◌-◌, List, [], ◌∷◌, length, map, take, get_or, refl, arith, option_map}
 use Rattle.iloc_text.specs.declared.op.Reg.{Reg}
 use Rattle.iloc_text.specs.declared.op.Op.{Op}
 use Rattle.iloc_text.specs.declared.op.Op.TheVariants.{Nop, Add}
-use Rattle.iloc_text.specs.declared.forms.Operand.{Operand}
-use Rattle.iloc_text.specs.declared.forms.Value.TheVariants.{Use}
 use Rattle.iloc_text.specs.Forms.{opcode, operands, op_of}
-use Rattle.iloc_text.specs.Registers.{used_in, used, defined, with_registers}
+use Rattle.iloc_text.specs.Registers.{used, defined, with_registers}
 use Rattle.iloc_text.specs.Steps.Placed.{placed}
 
 pub used-with_registers : (new : Reg → Reg) (own : Reg) (op : Op) → used (with_registers new own op) ≡ map new (used op)
@@ -52,21 +48,3 @@ pub placed_as_renamed : (new : Reg → Reg) (dest : Reg) (op : Op) (left right :
     → op_of (opcode op) (placed dest left right (operands op)) ≡ with_registers new dest op
 placed_as_renamed new dest Nop left right same = refl
 placed_as_renamed new dest _ left right same = cc
-
--- where operand k is a use, at most one was before it
-pub room_for_use : (op : Op) (xs : List Operand) (before : List Reg) (k : ℕ) (other : Operand) (r : Reg)
-    → xs ≡ operands op → k < length xs
-    → filter_map (λ o. used_in o.value) xs ≡ before ++ filter_map (λ o. used_in o.value) (drop k xs)
-    → (get_or xs k other).value ≡ Use r → length before < 2
-room_for_use op xs before k other r same below so_far is =
-    let behind = filter_map (λ o. used_in o.value) (drop (suc k) xs) in
-    let all : filter_map (λ o. used_in o.value) xs ≡ before ++ r ∷ behind =
-    so_far ∙ ap (λ ys. before ++ filter_map (λ o. used_in o.value) ys) (drop-cons xs k other below)
-    ∙ ap (λ v. before ++ cons_option (used_in v) behind) is in
-    omega (
-      arith,
-      at_most_two op,
-      ap length all,
-      ap (λ ys. length (filter_map (λ o. used_in o.value) ys)) same,
-      length-append before (r ∷ behind),
-    )

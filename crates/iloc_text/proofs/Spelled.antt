@@ -4,12 +4,9 @@ use Rattle.std.specs.List.{AllByRecursion}
 use Rattle.std.proofs.lemmas.List.{drop_all}
 use Rattle.std.proofs.lemmas.Fmt.{decimal_is_IsNumeral, length-decimal-le}
 use Rattle.iloc_text.specs.declared.op.Op.{Op}
-use Rattle.iloc_text.specs.declared.forms.Lead.{Lead}
-use Rattle.iloc_text.specs.declared.forms.Value.{Value}
-use Rattle.iloc_text.specs.declared.forms.Operand.{Operand}
-use Rattle.iloc_text.specs.Forms.{number_in, number_of, opcode, operands, opcode_text}
-use Rattle.iloc_text.specs.declared.forms.Lead.TheVariants.{Space, Comma, Arrow}
-use Rattle.iloc_text.specs.declared.forms.Value.TheVariants.{Use, Definition, Constant}
+use Rattle.iloc_text.specs.Forms.{Lead, Value, Operand, number_in, number_of, opcode, operands, opcode_text}
+use Rattle.iloc_text.specs.Forms.Lead.{space, comma, arrow}
+use Rattle.iloc_text.specs.Forms.Value.{Use, Definition, Constant}
 use Rattle.iloc_text.specs.Grammar.{Text, Blanks, Number, LeadText, ValueText, OperandsText, Operation, IsWithinLimit, Reads}
 use Rattle.iloc_text.specs.Spelling.{spelled_lead, spelled_value, spelled_operands, spelling}
 use Rattle.iloc_text.proofs.Parts.{Before, Before-join, Before-all}
@@ -33,10 +30,10 @@ number_first n rest h = let d = decimal_is_IsNumeral n (omega arith) in
     record { front = decimal n; first = (d.0, sym d.1); whole = refl }
 
 lead_first : (lead : Lead) (rest : List ℕ) → Before (LeadText lead) rest (spelled_lead lead ++ rest)
-lead_first Space rest = record { front = codes " "; first = (omega arith, (refl, tt)); whole = refl }
-lead_first Comma rest = Before-join (blanks_first (codes ", " ++ rest))
+lead_first space rest = record { front = codes " "; first = (omega arith, (refl, tt)); whole = refl }
+lead_first comma rest = Before-join (blanks_first (codes ", " ++ rest))
     (Before-join (text_first (codes ",") (codes " " ++ rest)) (blank_first rest))
-lead_first Arrow rest = Before-join (blank_first (codes "=> " ++ rest))
+lead_first arrow rest = Before-join (blank_first (codes "=> " ++ rest))
     (Before-join (text_first (codes "=>") (codes " " ++ rest)) (blank_first rest))
 
 value_first : (value : Value) (rest : List ℕ) → IsSmall (number_in value)
@@ -71,7 +68,3 @@ decimal_is_short n h = length-decimal-le 10 n (omega arith) (omega arith) (omega
 
 pub nothing_behind : (line : List ℕ) → length line ≡ 64 → drop 64 line ≡ []
 nothing_behind line h = drop_all 64 line (omega arith)
-
-pub spelled_none : (operands : List Operand) → length operands < 1 → [] ≡ spelled_operands operands
-spelled_none [] h = refl
-spelled_none (o ∷ more) h = absurd (omega arith)

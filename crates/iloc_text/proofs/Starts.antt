@@ -2,11 +2,9 @@
 use Rattle.std.proofs.Common.{◌≡◌, ◌∙◌, ℕ, ◌<◌, Bool, true, false, List, [], ◌∷◌, ◌++◌, refl, ap, arith}
 use Rattle.std.specs.Char.{is_ascii_digit, digit_value}
 use Rattle.std.proofs.lemmas.Bool.Decides.{nat_tests}
-use Rattle.iloc_text.specs.declared.forms.Lead.{Lead}
-use Rattle.iloc_text.specs.declared.forms.Value.{Value}
-use Rattle.iloc_text.specs.declared.forms.Operand.{Operand}
-use Rattle.iloc_text.specs.declared.forms.Lead.TheVariants.{Space, Comma, Arrow}
-use Rattle.iloc_text.specs.declared.forms.Value.TheVariants.{Use, Definition, Constant}
+use Rattle.iloc_text.specs.Forms.{Lead, Value, Operand}
+use Rattle.iloc_text.specs.Forms.Lead.{space, comma, arrow}
+use Rattle.iloc_text.specs.Forms.Value.{Use, Definition, Constant}
 use Rattle.iloc_text.specs.Grammar.{◌⋅◌, is_word_byte, Text, is_blank, Blanks, SomeBlanks, Number, LeadText, ValueText, OperandsText}
 use Rattle.iloc_text.proofs.Parts.{Before, Before-split, starts}
 
@@ -63,9 +61,9 @@ sign_fails test blank sign b =
 
 pub lead_fails : (lead : Lead) {rest bytes : List ℕ} (test : ℕ → Bool) → FailsLeads test
     → Before (LeadText lead) rest bytes → starts test bytes ≡ false
-lead_fails Space test fails b = some_fail test fails.blank b
-lead_fails Comma test fails b = sign_fails test fails.blank (λ _. fails.sign.0) b
-lead_fails Arrow test fails b = sign_fails test fails.blank (λ _. fails.sign.1) b
+lead_fails space test fails b = some_fail test fails.blank b
+lead_fails comma test fails b = sign_fails test fails.blank (λ _. fails.sign.0) b
+lead_fails arrow test fails b = sign_fails test fails.blank (λ _. fails.sign.1) b
 
 -- operands, and a rest that does not pass either
 pub operands_fail : (operands : List Operand) {rest bytes : List ℕ} (test : ℕ → Bool) → FailsLeads test

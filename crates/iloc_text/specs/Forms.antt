@@ -5,36 +5,46 @@ use Rattle.iloc_text.specs.declared.op.Op.{Op}
 use Rattle.iloc_text.specs.declared.op.Op.TheVariants.{Load, LoadI, Store, Add, Sub, Mult, Lshift, Rshift, Output, Nop, AddI, SubI, MultI, LshiftI, RshiftI, LoadAI, StoreAI}
 use Rattle.iloc_text.specs.declared.forms.Opcode.{Opcode}
 use Rattle.iloc_text.specs.declared.forms.Opcode.TheVariants as O
-use Rattle.iloc_text.specs.declared.forms.Lead.{Lead}
-use Rattle.iloc_text.specs.declared.forms.Lead.TheVariants.{Space, Comma, Arrow}
-use Rattle.iloc_text.specs.declared.forms.Value.{Value}
-use Rattle.iloc_text.specs.declared.forms.Value.TheVariants.{Use, Definition, Constant}
-use Rattle.iloc_text.specs.declared.forms.Operand.{Operand}
 
--- an operand: what it stands behind, and a register that is used, the one that is defined, or a constant
+-- what an operand stands behind
+pub data Lead : Type 0 where
+  space : Lead
+  comma : Lead
+  arrow : Lead
+
+-- what is written in its place, by its role: a register that is used, the one that is defined, or a constant
+pub data Value : Type 0 where
+  Use : Reg → Value
+  Definition : Reg → Value
+  Constant : ℕ → Value
+
+pub record Operand : Type 0 where
+  pub lead : Lead
+  pub value : Value
+
 infixr 70 ◌▹◌
 abbrev pub ◌▹◌ : Lead → Value → Operand
 lead ▹ value = record { lead = lead; value = value }
 
 -- the opcode and the operands
 abbrev pub form : Op → Opcode × List Operand
-form (Load addr dest) = (O.Load, Space ▹ Use addr ∷ Arrow ▹ Definition dest ∷ [])
-form (LoadI value dest) = (O.LoadI, Space ▹ Constant value ∷ Arrow ▹ Definition dest ∷ [])
-form (Store value addr) = (O.Store, Space ▹ Use value ∷ Arrow ▹ Use addr ∷ [])
-form (Add left right dest) = (O.Add, Space ▹ Use left ∷ Comma ▹ Use right ∷ Arrow ▹ Definition dest ∷ [])
-form (Sub left right dest) = (O.Sub, Space ▹ Use left ∷ Comma ▹ Use right ∷ Arrow ▹ Definition dest ∷ [])
-form (Mult left right dest) = (O.Mult, Space ▹ Use left ∷ Comma ▹ Use right ∷ Arrow ▹ Definition dest ∷ [])
-form (Lshift left right dest) = (O.Lshift, Space ▹ Use left ∷ Comma ▹ Use right ∷ Arrow ▹ Definition dest ∷ [])
-form (Rshift left right dest) = (O.Rshift, Space ▹ Use left ∷ Comma ▹ Use right ∷ Arrow ▹ Definition dest ∷ [])
-form (Output addr) = (O.Output, Space ▹ Constant addr ∷ [])
+form (Load addr dest) = (O.Load, space ▹ Use addr ∷ arrow ▹ Definition dest ∷ [])
+form (LoadI value dest) = (O.LoadI, space ▹ Constant value ∷ arrow ▹ Definition dest ∷ [])
+form (Store value addr) = (O.Store, space ▹ Use value ∷ arrow ▹ Use addr ∷ [])
+form (Add left right dest) = (O.Add, space ▹ Use left ∷ comma ▹ Use right ∷ arrow ▹ Definition dest ∷ [])
+form (Sub left right dest) = (O.Sub, space ▹ Use left ∷ comma ▹ Use right ∷ arrow ▹ Definition dest ∷ [])
+form (Mult left right dest) = (O.Mult, space ▹ Use left ∷ comma ▹ Use right ∷ arrow ▹ Definition dest ∷ [])
+form (Lshift left right dest) = (O.Lshift, space ▹ Use left ∷ comma ▹ Use right ∷ arrow ▹ Definition dest ∷ [])
+form (Rshift left right dest) = (O.Rshift, space ▹ Use left ∷ comma ▹ Use right ∷ arrow ▹ Definition dest ∷ [])
+form (Output addr) = (O.Output, space ▹ Constant addr ∷ [])
 form Nop = (O.Nop, [])
-form (AddI left value dest) = (O.AddI, Space ▹ Use left ∷ Comma ▹ Constant value ∷ Arrow ▹ Definition dest ∷ [])
-form (SubI left value dest) = (O.SubI, Space ▹ Use left ∷ Comma ▹ Constant value ∷ Arrow ▹ Definition dest ∷ [])
-form (MultI left value dest) = (O.MultI, Space ▹ Use left ∷ Comma ▹ Constant value ∷ Arrow ▹ Definition dest ∷ [])
-form (LshiftI left value dest) = (O.LshiftI, Space ▹ Use left ∷ Comma ▹ Constant value ∷ Arrow ▹ Definition dest ∷ [])
-form (RshiftI left value dest) = (O.RshiftI, Space ▹ Use left ∷ Comma ▹ Constant value ∷ Arrow ▹ Definition dest ∷ [])
-form (LoadAI addr offset dest) = (O.LoadAI, Space ▹ Use addr ∷ Comma ▹ Constant offset ∷ Arrow ▹ Definition dest ∷ [])
-form (StoreAI value addr offset) = (O.StoreAI, Space ▹ Use value ∷ Arrow ▹ Use addr ∷ Comma ▹ Constant offset ∷ [])
+form (AddI left value dest) = (O.AddI, space ▹ Use left ∷ comma ▹ Constant value ∷ arrow ▹ Definition dest ∷ [])
+form (SubI left value dest) = (O.SubI, space ▹ Use left ∷ comma ▹ Constant value ∷ arrow ▹ Definition dest ∷ [])
+form (MultI left value dest) = (O.MultI, space ▹ Use left ∷ comma ▹ Constant value ∷ arrow ▹ Definition dest ∷ [])
+form (LshiftI left value dest) = (O.LshiftI, space ▹ Use left ∷ comma ▹ Constant value ∷ arrow ▹ Definition dest ∷ [])
+form (RshiftI left value dest) = (O.RshiftI, space ▹ Use left ∷ comma ▹ Constant value ∷ arrow ▹ Definition dest ∷ [])
+form (LoadAI addr offset dest) = (O.LoadAI, space ▹ Use addr ∷ comma ▹ Constant offset ∷ arrow ▹ Definition dest ∷ [])
+form (StoreAI value addr offset) = (O.StoreAI, space ▹ Use value ∷ arrow ▹ Use addr ∷ comma ▹ Constant offset ∷ [])
 
 abbrev pub opcode : Op → Opcode
 opcode op = (form op).0
@@ -62,6 +72,11 @@ opcode_text O.RshiftI = codes "rshiftI"
 opcode_text O.LoadAI = codes "loadAI"
 opcode_text O.StoreAI = codes "storeAI"
 
+-- all of them, in the order in which a word is looked up
+abbrev pub opcodes : List Opcode
+opcodes = O.LoadI ∷ O.Load ∷ O.Store ∷ O.Add ∷ O.Sub ∷ O.Mult ∷ O.Lshift ∷ O.Rshift ∷ O.Output ∷ O.Nop
+    ∷ O.AddI ∷ O.SubI ∷ O.MultI ∷ O.LshiftI ∷ O.RshiftI ∷ O.LoadAI ∷ O.StoreAI ∷ []
+
 -- the number that is written there, a register's or the constant itself
 abbrev pub number_in : Value → ℕ
 number_in (Use r) = r.0
@@ -75,15 +90,12 @@ number_of operand = number_in operand.value
 abbrev pub numbers : Op → List ℕ
 numbers op = map number_of (operands op)
 
-abbrev reg : ℕ → Reg
-reg n = record { 0 = n }
-
--- number k, or 0 where there is none
+-- number k, or 0 where there is none, and the register with it
 abbrev number_at : List ℕ → ℕ → ℕ
 number_at ns k = get_or ns k 0
 
 abbrev register_at : List ℕ → ℕ → Reg
-register_at ns k = reg (number_at ns k)
+register_at ns k = record { 0 = number_at ns k }
 
 -- the operation with this opcode and these numbers, left to right
 abbrev pub op_of : Opcode → List ℕ → Op

@@ -5,12 +5,9 @@ use Rattle.std.specs.Char.{is_ascii_digit, is_ascii_alphabetic}
 use Rattle.std.specs.Str.Parse.{IsNumeral, digits_value}
 use Rattle.iloc_text.specs.declared.op.Reg.{Reg}
 use Rattle.iloc_text.specs.declared.op.Op.{Op}
-use Rattle.iloc_text.specs.declared.forms.Lead.{Lead}
-use Rattle.iloc_text.specs.declared.forms.Value.{Value}
-use Rattle.iloc_text.specs.declared.forms.Operand.{Operand}
-use Rattle.iloc_text.specs.Forms.{opcode, operands, opcode_text, numbers}
-use Rattle.iloc_text.specs.declared.forms.Lead.TheVariants as lead
-use Rattle.iloc_text.specs.declared.forms.Value.TheVariants.{Use, Definition, Constant}
+use Rattle.iloc_text.specs.Forms.{Lead, Value, Operand, opcode, operands, opcode_text, numbers}
+use Rattle.iloc_text.specs.Forms.Lead.{space, comma, arrow}
+use Rattle.iloc_text.specs.Forms.Value.{Use, Definition, Constant}
 
 -- a text of the first language, and then one of the second
 pub record Joins (P Q : List ℕ → Type 0) (bytes : List ℕ) : Type 0 where
@@ -57,9 +54,9 @@ Comma = Blanks ⋅ Text (codes ",") ⋅ Blanks
 
 -- what stands before an operand: one blank or more, a comma, or an arrow
 abbrev pub LeadText : Lead → List ℕ → Type 0
-LeadText lead.Space = SomeBlanks
-LeadText lead.Comma = Comma
-LeadText lead.Arrow = Arrow
+LeadText space = SomeBlanks
+LeadText comma = Comma
+LeadText arrow = Arrow
 
 abbrev pub ValueText : Value → List ℕ → Type 0
 ValueText (Use r) = Register r

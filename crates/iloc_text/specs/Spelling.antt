@@ -2,18 +2,15 @@
 use Rattle.std.specs.Prelude.{ℕ, List, [], ◌∷◌, ◌++◌, codes}
 use Rattle.std.specs.Fmt.{decimal}
 use Rattle.iloc_text.specs.declared.op.Op.{Op}
-use Rattle.iloc_text.specs.declared.forms.Lead.{Lead}
-use Rattle.iloc_text.specs.declared.forms.Value.{Value}
-use Rattle.iloc_text.specs.declared.forms.Operand.{Operand}
-use Rattle.iloc_text.specs.Forms.{opcode, operands, opcode_text}
-use Rattle.iloc_text.specs.declared.forms.Lead.TheVariants.{Space, Comma, Arrow}
-use Rattle.iloc_text.specs.declared.forms.Value.TheVariants.{Use, Definition, Constant}
+use Rattle.iloc_text.specs.Forms.{Lead, Value, Operand, opcode, operands, opcode_text}
+use Rattle.iloc_text.specs.Forms.Lead.{space, comma, arrow}
+use Rattle.iloc_text.specs.Forms.Value.{Use, Definition, Constant}
 
 -- one space, a comma and a space, or ` => `
 abbrev pub spelled_lead : Lead → List ℕ
-spelled_lead Space = codes " "
-spelled_lead Comma = codes ", "
-spelled_lead Arrow = codes " => "
+spelled_lead space = codes " "
+spelled_lead comma = codes ", "
+spelled_lead arrow = codes " => "
 
 -- numbers in decimal with no leading zero
 abbrev pub spelled_value : Value → List ℕ

@@ -2,6 +2,7 @@
 pub mod LineReads
 pub mod Lines
 pub mod Opcodes
+pub mod Operands
 pub mod Placed
 pub mod Scan
 pub mod ScheduleScan

@@ -1,12 +1,10 @@
 //! The table of forms: the opcode and the operands of each operation, and the operation of an opcode and numbers.
-ghost use Rattle.std.specs.Prelude.{◌≡◌, ◌≤◌, [], ◌∷◌, ◌++◌, length, get_or, IfSome};
-ghost use Rattle.iloc_text.specs.declared.forms.Lead.TheVariants.{Space, Comma, Arrow};
-ghost use Rattle.iloc_text.specs.declared.forms.Value.TheVariants.{Use, Definition};
-ghost use Rattle.iloc_text.specs.Forms.{◌▹◌, opcode, operands, opcode_text, op_of};
+ghost use Rattle.std.specs.Prelude.{◌≡◌, ◌≤◌, ◌++◌, length, get_or, IfSome};
+ghost use Rattle.iloc_text.specs.Forms.{opcode, operands, opcode_text, op_of};
+ghost use Rattle.iloc_text.specs.Steps.Operands.{operands_in};
 ghost use Rattle.iloc_text.specs.Steps.Opcodes.{opcode_of};
 
 use crate::op::{Op, Reg};
-use arrayvec::ArrayVec;
 
 /// What an operation is called.
 #[derive(Clone, Copy, Debug, PartialEq, Eq)]
@@ -30,68 +28,25 @@ pub enum Opcode {
     StoreAI,
 }
 
-/// What an operand stands behind.
-#[derive(Clone, Copy, Debug, Default, PartialEq, Eq)]
-pub enum Lead {
-    /// Blanks.
-    #[default]
-    Space,
-    /// A comma.
-    Comma,
-    /// An arrow.
-    Arrow,
-}
-
-/// What is written in the place of an operand, by its role.
+/// The operands of an operation: what stands behind its opcode.
 #[derive(Clone, Copy, Debug, PartialEq, Eq)]
-pub enum Value {
-    /// A register that the operation uses.
-    Use(Reg),
-    /// The register that it defines.
-    Definition(Reg),
-    /// A constant, an offset or an address.
+pub enum Operands {
+    /// None.
+    Nothing,
+    /// `constant`.
     Constant(u32),
-}
-
-/// One operand.
-#[derive(Clone, Copy, Debug, PartialEq, Eq)]
-pub struct Operand {
-    /// What it stands behind.
-    pub lead: Lead,
-    /// What is written there.
-    pub value: Value,
-}
-
-impl Operand {
-    ghost use Rattle.iloc_text.specs.Forms.{number_of};
-
-    /// The number that is written there, a register's or the constant itself.
-    pub fn number(&self) -> u32
-        ensures { result ≡ number_of self.now }
-    {
-        match self.value {
-            Value::Use(register) | Value::Definition(register) => register.0,
-            Value::Constant(number) => number,
-        }
-    }
-}
-
-impl Default for Operand {
-    fn default() -> Operand {
-        Operand {
-            lead: Lead::Space,
-            value: Value::Constant(0),
-        }
-    }
-}
-
-/// An operation as its opcode and its operands.
-#[derive(Drop)]
-pub struct Form {
-    /// What it is called.
-    pub opcode: Opcode,
-    /// What stands behind the opcode, left to right.
-    pub operands: ArrayVec<Operand, 3>,
+    /// `constant => defined`.
+    Immediate { value: u32, dest: Reg },
+    /// `used => defined`.
+    Copied { source: Reg, dest: Reg },
+    /// `used => used`.
+    Stored { value: Reg, addr: Reg },
+    /// `used, used => defined`.
+    Sources { left: Reg, right: Reg, dest: Reg },
+    /// `used, constant => defined`.
+    WithConstant { left: Reg, value: u32, dest: Reg },
+    /// `used => used, constant`.
+    StoredAt { value: Reg, addr: Reg, offset: u32 },
 }
 
 impl Opcode {
@@ -142,93 +97,30 @@ impl Opcode {
     }
 }
 
-/// A form without operands.
-fn none(opcode: Opcode) -> Form
-    ensures opcode { result.opcode ≡ opcode }
-    ensures operands { result.operands.items ≡ [] }
+/// The opcode and the operands of an operation.
+#[inline(always)]
+pub fn form_of(op: &Op) -> (Opcode, Operands)
+    ensures opcode { result.0 ≡ opcode op.now }
+    ensures operands { operands_in result.1 ≡ operands op.now }
 {
-    Form {
-        opcode,
-        operands: ArrayVec::new(),
-    }
-}
-
-/// A form with an operand behind the opcode.
-fn one(opcode: Opcode, first: Value) -> Form
-    ensures opcode { result.opcode ≡ opcode }
-    ensures operands { result.operands.items ≡ (Space ▹ first) ∷ [] }
-{
-    let mut form = none(opcode);
-    form.operands.push(Operand {
-        lead: Lead::Space,
-        value: first,
-    });
-    form
-}
-
-/// A form with an operand behind the opcode, and another one.
-fn two(opcode: Opcode, first: Value, lead: Lead, second: Value) -> Form
-    ensures opcode { result.opcode ≡ opcode }
-    ensures operands { result.operands.items ≡ (Space ▹ first) ∷ (lead ▹ second) ∷ [] }
-{
-    let mut form = one(opcode, first);
-    form.operands.push(Operand {
-        lead,
-        value: second,
-    });
-    form
-}
-
-/// The form `first, second => dest`.
-fn three(opcode: Opcode, first: Reg, second: Value, dest: Reg) -> Form
-    ensures opcode { result.opcode ≡ opcode }
-    ensures operands { result.operands.items ≡
-        (Space ▹ Use first) ∷ (Comma ▹ second) ∷ (Arrow ▹ Definition dest) ∷ [] }
-{
-    let mut form = two(opcode, Value::Use(first), Lead::Comma, second);
-    form.operands.push(Operand {
-        lead: Lead::Arrow,
-        value: Value::Definition(dest),
-    });
-    form
-}
-
-/// The form of an operation.
-pub fn form_of(op: &Op) -> Form
-    ensures opcode { result.opcode ≡ opcode op.now }
-    ensures operands { result.operands.items ≡ operands op.now }
-{
-    use Lead::{Arrow, Comma};
-    use Value::{Constant, Definition, Use};
     match *op {
-        Op::Load { addr, dest } => two(Opcode::Load, Use(addr), Arrow, Definition(dest)),
-        Op::LoadI { value, dest } => two(Opcode::LoadI, Constant(value), Arrow, Definition(dest)),
-        Op::Store { value, addr } => two(Opcode::Store, Use(value), Arrow, Use(addr)),
-        Op::Add { left, right, dest } => three(Opcode::Add, left, Use(right), dest),
-        Op::Sub { left, right, dest } => three(Opcode::Sub, left, Use(right), dest),
-        Op::Mult { left, right, dest } => three(Opcode::Mult, left, Use(right), dest),
-        Op::Lshift { left, right, dest } => three(Opcode::Lshift, left, Use(right), dest),
-        Op::Rshift { left, right, dest } => three(Opcode::Rshift, left, Use(right), dest),
-        Op::Output { addr } => one(Opcode::Output, Constant(addr)),
-        Op::Nop => none(Opcode::Nop),
-        Op::AddI { left, value, dest } => three(Opcode::AddI, left, Constant(value), dest),
-        Op::SubI { left, value, dest } => three(Opcode::SubI, left, Constant(value), dest),
-        Op::MultI { left, value, dest } => three(Opcode::MultI, left, Constant(value), dest),
-        Op::LshiftI { left, value, dest } => three(Opcode::LshiftI, left, Constant(value), dest),
-        Op::RshiftI { left, value, dest } => three(Opcode::RshiftI, left, Constant(value), dest),
-        Op::LoadAI { addr, offset, dest } => three(Opcode::LoadAI, addr, Constant(offset), dest),
-        Op::StoreAI {
-            value,
-            addr,
-            offset,
-        } => {
-            let mut form = two(Opcode::StoreAI, Use(value), Arrow, Use(addr));
-            form.operands.push(Operand {
-                lead: Comma,
-                value: Constant(offset),
-            });
-            form
-        }
+        Op::Load { addr: source, dest } => (Opcode::Load, Operands::Copied { source, dest }),
+        Op::LoadI { value, dest } => (Opcode::LoadI, Operands::Immediate { value, dest }),
+        Op::Store { value, addr } => (Opcode::Store, Operands::Stored { value, addr }),
+        Op::Add { left, right, dest } => (Opcode::Add, Operands::Sources { left, right, dest }),
+        Op::Sub { left, right, dest } => (Opcode::Sub, Operands::Sources { left, right, dest }),
+        Op::Mult { left, right, dest } => (Opcode::Mult, Operands::Sources { left, right, dest }),
+        Op::Lshift { left, right, dest } => (Opcode::Lshift, Operands::Sources { left, right, dest }),
+        Op::Rshift { left, right, dest } => (Opcode::Rshift, Operands::Sources { left, right, dest }),
+        Op::Output { addr } => (Opcode::Output, Operands::Constant(addr)),
+        Op::Nop => (Opcode::Nop, Operands::Nothing),
+        Op::AddI { left, value, dest } => (Opcode::AddI, Operands::WithConstant { left, value, dest }),
+        Op::SubI { left, value, dest } => (Opcode::SubI, Operands::WithConstant { left, value, dest }),
+        Op::MultI { left, value, dest } => (Opcode::MultI, Operands::WithConstant { left, value, dest }),
+        Op::LshiftI { left, value, dest } => (Opcode::LshiftI, Operands::WithConstant { left, value, dest }),
+        Op::RshiftI { left, value, dest } => (Opcode::RshiftI, Operands::WithConstant { left, value, dest }),
+        Op::LoadAI { addr: left, offset: value, dest } => (Opcode::LoadAI, Operands::WithConstant { left, value, dest }),
+        Op::StoreAI { value, addr, offset } => (Opcode::StoreAI, Operands::StoredAt { value, addr, offset }),
     }
 }
 

@@ -1,9 +1,10 @@
 //! What a line says.
-ghost use Rattle.std.specs.Prelude.{◌≡◌, option_map};
+ghost use Rattle.std.specs.Prelude.{◌≡◌, option_map, nat_lt};
+ghost use Rattle.std.specs.List.{list_all};
 ghost use Rattle.iloc_text.specs.Steps.LineReads.{LineReads, label_of};
 ghost use Rattle.iloc_text.specs.Steps.Scan.{is_end, body_at, line_at, optional_label_at, is_within_limit, is_within};
 
-use crate::forms::form_of;
+use crate::forms::{Operands, form_of};
 use crate::op::Op;
 use crate::operation::optional_operation_at;
 use crate::scan::{ABOVE_LIMIT, after_blanks, word_at};
@@ -74,14 +75,31 @@ fn line_at(bytes: &[u8]) -> Option<Line<'_>>
     Some(Line { label, op })
 }
 
+/// No number was capped.
+fn are_within_limit(numbers: &[u32]) -> bool
+    ensures { result ≡ list_all (λ n. nat_lt n 2147483648) numbers.now }
+{
+    numbers.iter().all(|number| *number < ABOVE_LIMIT)
+}
+
 /// No number of the operation was capped.
 fn is_within_limit(op: &Op) -> bool
     ensures { result ≡ is_within_limit op.now }
 {
-    form_of(op)
-        .operands
-        .iter()
-        .all(|operand| operand.number() < ABOVE_LIMIT)
+    match form_of(op).1 {
+        Operands::Nothing => true,
+        Operands::Constant(value) => are_within_limit(&[value]),
+        Operands::Immediate { value, dest } => are_within_limit(&[value, dest.0]),
+        Operands::Copied { source, dest } => are_within_limit(&[source.0, dest.0]),
+        Operands::Stored { value, addr } => are_within_limit(&[value.0, addr.0]),
+        Operands::Sources { left, right, dest } => are_within_limit(&[left.0, right.0, dest.0]),
+        Operands::WithConstant { left, value, dest } => are_within_limit(&[left.0, value, dest.0]),
+        Operands::StoredAt {
+            value,
+            addr,
+            offset,
+        } => are_within_limit(&[value.0, addr.0, offset]),
+    }
 }
 
 /// The line has no operation, or one of which no number was capped.

@@ -5,7 +5,7 @@ ghost use Rattle.iloc_text.specs.Forms.{opcode, operands, op_of};
 ghost use Rattle.iloc_text.specs.Registers.{used, defined, with_registers};
 ghost use Rattle.iloc_text.specs.Steps.Placed.{placed};
 
-use crate::forms::{Value, form_of, op_of};
+use crate::forms::{Operands, form_of, op_of};
 use crate::op::{Op, Reg};
 use arrayvec::ArrayVec;
 
@@ -13,11 +13,18 @@ use arrayvec::ArrayVec;
 pub fn uses(op: &Op) -> ArrayVec<Reg, 2>
     ensures { result.items ≡ used op.now }
 {
-    let form = form_of(op);
     let mut registers = ArrayVec::new();
-    for operand in form.operands.as_slice() {
-        if let Value::Use(register) = operand.value {
-            registers.push(register);
+    match form_of(op).1 {
+        Operands::Nothing | Operands::Constant(_) | Operands::Immediate { .. } => {}
+        Operands::Copied { source, .. } => registers.push(source),
+        Operands::WithConstant { left, .. } => registers.push(left),
+        Operands::Stored { value, addr } | Operands::StoredAt { value, addr, .. } => {
+            registers.push(value);
+            registers.push(addr);
+        }
+        Operands::Sources { left, right, .. } => {
+            registers.push(left);
+            registers.push(right);
         }
     }
     registers
@@ -27,13 +34,16 @@ pub fn uses(op: &Op) -> ArrayVec<Reg, 2>
 pub fn defines(op: &Op) -> Option<Reg>
     ensures { result ≡ defined op.now }
 {
-    let form = form_of(op);
-    for operand in form.operands.as_slice() {
-        if let Value::Definition(register) = operand.value {
-            return Some(register);
-        }
+    match form_of(op).1 {
+        Operands::Immediate { dest, .. }
+        | Operands::Copied { dest, .. }
+        | Operands::Sources { dest, .. }
+        | Operands::WithConstant { dest, .. } => Some(dest),
+        Operands::Nothing
+        | Operands::Constant(_)
+        | Operands::Stored { .. }
+        | Operands::StoredAt { .. } => None,
     }
-    None
 }
 
 /// The operation with these registers in place of its own. A register that it has no place for is left
@@ -41,20 +51,17 @@ pub fn defines(op: &Op) -> Option<Reg>
 fn with_operands(op: &Op, left: Reg, right: Reg, dest: Reg) -> Op
     ensures { result ≡ op_of (opcode op.now) (placed dest left right (operands op.now)) }
 {
-    let form = form_of(op);
-    let mut numbers = ArrayVec::<u32, 3>::new();
-    let mut used = left;
-    for operand in form.operands.as_slice() {
-        match operand.value {
-            Value::Use(_) => {
-                numbers.push(used.0);
-                used = right;
-            }
-            Value::Definition(_) => numbers.push(dest.0),
-            Value::Constant(number) => numbers.push(number),
-        }
+    let (opcode, operands) = form_of(op);
+    match operands {
+        Operands::Nothing => op_of(opcode, &[]),
+        Operands::Constant(value) => op_of(opcode, &[value]),
+        Operands::Immediate { value, .. } => op_of(opcode, &[value, dest.0]),
+        Operands::Copied { .. } => op_of(opcode, &[left.0, dest.0]),
+        Operands::Stored { .. } => op_of(opcode, &[left.0, right.0]),
+        Operands::Sources { .. } => op_of(opcode, &[left.0, right.0, dest.0]),
+        Operands::WithConstant { value, .. } => op_of(opcode, &[left.0, value, dest.0]),
+        Operands::StoredAt { offset, .. } => op_of(opcode, &[left.0, right.0, offset]),
     }
-    op_of(form.opcode, numbers.as_slice())
 }
 
 /// The operation with these registers in place of the ones that it uses, as many and left to right,

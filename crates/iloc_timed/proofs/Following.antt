@@ -26,7 +26,7 @@ use Rattle.iloc_timed.proofs.Landing.{register_more, word_more, landed-later}
 -- what the machine says gives an operation the effect that the log gives it
 pub effect_now : (memory : List ℤ) (c : ℕ) (log : List Issued) (machine : Machine) (op : Op)
     → Follows memory c log machine → effect op (register_in (landed c log)) (word_in memory (landed c log))
-    ≡ effect op (value_of machine.registers) (word_at machine.memory.words)
+    ≡ effect op (value_of machine.state.registers) (word_at machine.state.memory.words)
 effect_now memory c log machine op follows =
     effect_same op _ _ _ _ (λ r used. sym (follows.registers r)) (λ a good. sym (follows.words a good))
 
@@ -38,11 +38,11 @@ all_land_later c d (e ∷ earlier) later all = (omega (arith, all.0), all.1, all
 pub after_landing : (memory : List ℤ) (c : ℕ) (log : List Issued) (machine : Machine) (due : List Pending)
     (registers : Values) (memory_then : ScratchView) (wheel : List (List Pending)) → Follows memory c log machine
     → due ≡ list_at machine.wheel c → ((r : Reg)
-    → value_of registers r ≡ fold (landed_in_register r) (value_of machine.registers r) due)
+    → value_of registers r ≡ fold (landed_in_register r) (value_of machine.state.registers r) due)
     → ((a : ℕ) → IsTrue (is_good (pos a)) → word_at memory_then.words a
-    ≡ fold (landed_in_word a) (word_at machine.memory.words a) due)
-    → length memory_then.words ≡ length machine.memory.words → wheel ≡ set machine.wheel (c % 16) []
-    → Follows memory (c + 1) log (record machine { registers = registers; memory = memory_then; wheel = wheel })
+    ≡ fold (landed_in_word a) (word_at machine.state.memory.words a) due)
+    → length memory_then.words ≡ length machine.state.memory.words → wheel ≡ set machine.wheel (c % 16) []
+    → Follows memory (c + 1) log (record machine { state = record machine.state { registers = registers; memory = memory_then }; wheel = wheel })
 after_landing memory c log machine due registers memory_then wheel follows is register word size turned =
     let all : due ≡ due_at c log = is ∙ follows.under_way.due c (omega arith) (omega arith) in
     record {
@@ -50,12 +50,12 @@ after_landing memory c log machine due registers memory_then wheel follows is re
       same_size = size ∙ follows.same_size;
       registers = λ r.
           register r
-          ∙ ap (λ l. fold (landed_in_register r) (value_of machine.registers r) l) all
+          ∙ ap (λ l. fold (landed_in_register r) (value_of machine.state.registers r) l) all
           ∙ ap (λ v. fold (landed_in_register r) v (due_at c log)) (follows.registers r)
           ∙ sym (register_more r (c + 16) c log follows.all_land);
       words = λ a good.
           word a good
-          ∙ ap (λ l. fold (landed_in_word a) (word_at machine.memory.words a) l) all
+          ∙ ap (λ l. fold (landed_in_word a) (word_at machine.state.memory.words a) l) all
           ∙ ap (λ v. fold (landed_in_word a) v (due_at c log)) (follows.words a good)
           ∙ sym (word_more memory a (c + 16) c log follows.all_land);
       under_way = rw turned (cleared c log machine.wheel follows.all_land follows.under_way);
@@ -66,10 +66,10 @@ after_landing memory c log machine due registers memory_then wheel follows is re
 -- an operation was issued and didn't fault
 after_issue : (memory : List ℤ) (c due : ℕ) (op : Op) (log : List Issued) (machine : Machine) (done : Effect)
     (outputs : Vec ℤ Global) (wheel : List (List Pending)) → c ≤ due → due < c + 16 → Follows memory c log machine
-    → done ≡ effect op (value_of machine.registers) (word_at machine.memory.words) → is_fault done ≡ false
-    → outputs.items ≡ machine.outputs.items ++ emitted_by done
+    → done ≡ effect op (value_of machine.state.registers) (word_at machine.state.memory.words) → is_fault done ≡ false
+    → outputs.items ≡ machine.state.outputs.items ++ emitted_by done
     → AreUnderWay c (record { due = due; executed = record { op = op; effect = done } } ∷ log) wheel
-    → Follows memory c (then_issued memory c due op log) (record machine { outputs = outputs; wheel = wheel })
+    → Follows memory c (then_issued memory c due op log) (record machine { state = record machine.state { outputs = outputs }; wheel = wheel })
 after_issue memory c due op log machine done outputs wheel from upto follows is fine says way =
     let same : effect op (register_in (landed c log)) (word_in memory (landed c log)) ≡ done =
     effect_now memory c log machine op follows ∙ sym is in
@@ -86,40 +86,40 @@ after_issue memory c due op log machine done outputs wheel from upto follows is 
     }
 
 pub after_fault : (memory : List ℤ) (c due : ℕ) (op : Op) (log : List Issued) (machine : Machine)
-    → Follows memory c log machine → Faults ≡ effect op (value_of machine.registers) (word_at machine.memory.words)
+    → Follows memory c log machine → Faults ≡ effect op (value_of machine.state.registers) (word_at machine.state.memory.words)
     → has_fault (executed_in (then_issued memory c due op log)) ≡ true
 after_fault memory c due op log machine follows is = rw (effect_now memory c log machine op follows, ← is) refl
 
 -- its result is under way to a register
 pub after_result : (memory : List ℤ) (c due : ℕ) (op : Op) (log : List Issued) (machine : Machine) (value : ℤ) (r : Reg)
     (wheel : List (List Pending)) → c ≤ due → due < c + 16 → Follows memory c log machine
-    → Gives value ≡ effect op (value_of machine.registers) (word_at machine.memory.words) → Some r ≡ defined op
+    → Gives value ≡ effect op (value_of machine.state.registers) (word_at machine.state.memory.words) → Some r ≡ defined op
     → wheel ≡ set machine.wheel (due % 16) (list_at machine.wheel due ++ Register r value ∷ [])
     → Follows memory c (then_issued memory c due op log) (record machine { wheel = wheel })
 after_result memory c due op log machine value r wheel from upto follows is register turned =
     let e : Issued = record { due = due; executed = record { op = op; effect = Gives value } } in
-    after_issue memory c due op log machine (Gives value) machine.outputs wheel from upto follows is refl
-    (sym (append-nil machine.outputs.items))
+    after_issue memory c due op log machine (Gives value) machine.state.outputs wheel from upto follows is refl
+    (sym (append-nil machine.state.outputs.items))
     (rw turned (pushed c e log machine.wheel (Register r value) from upto (rw (← register) refl) follows.under_way))
 
 -- its word is under way to memory
 pub after_write : (memory : List ℤ) (c due : ℕ) (op : Op) (log : List Issued) (machine : Machine) (address : ℕ)
     (word : ℤ) (wheel : List (List Pending)) → c ≤ due → due < c + 16 → Follows memory c log machine
-    → Writes address word ≡ effect op (value_of machine.registers) (word_at machine.memory.words)
+    → Writes address word ≡ effect op (value_of machine.state.registers) (word_at machine.state.memory.words)
     → wheel ≡ set machine.wheel (due % 16) (list_at machine.wheel due ++ Word address word ∷ [])
     → Follows memory c (then_issued memory c due op log) (record machine { wheel = wheel })
 after_write memory c due op log machine address word wheel from upto follows is turned =
     let e : Issued = record { due = due; executed = record { op = op; effect = Writes address word } } in
-    after_issue memory c due op log machine (Writes address word) machine.outputs wheel from upto follows is refl
-    (sym (append-nil machine.outputs.items))
+    after_issue memory c due op log machine (Writes address word) machine.state.outputs wheel from upto follows is refl
+    (sym (append-nil machine.state.outputs.items))
     (rw turned (pushed c e log machine.wheel (Word address word) from upto refl follows.under_way))
 
 -- it emitted a word
 pub after_output : (memory : List ℤ) (c due : ℕ) (op : Op) (log : List Issued) (machine : Machine) (word : ℤ)
     (outputs : Vec ℤ Global) → c ≤ due → due < c + 16 → Follows memory c log machine
-    → Emits word ≡ effect op (value_of machine.registers) (word_at machine.memory.words)
-    → outputs.items ≡ machine.outputs.items ++ word ∷ []
-    → Follows memory c (then_issued memory c due op log) (record machine { outputs = outputs })
+    → Emits word ≡ effect op (value_of machine.state.registers) (word_at machine.state.memory.words)
+    → outputs.items ≡ machine.state.outputs.items ++ word ∷ []
+    → Follows memory c (then_issued memory c due op log) (record machine { state = record machine.state { outputs = outputs } })
 after_output memory c due op log machine word outputs from upto follows is says =
     let e : Issued = record { due = due; executed = record { op = op; effect = Emits word } } in
     after_issue memory c due op log machine (Emits word) outputs machine.wheel from upto follows is refl says
@@ -128,10 +128,10 @@ after_output memory c due op log machine word outputs from upto follows is says 
 -- it did nothing
 pub after_nothing : (memory : List ℤ) (c due : ℕ) (op : Op) (log : List Issued) (machine : Machine) → c ≤ due
     → due < c + 16 → Follows memory c log machine
-    → Nothing ≡ effect op (value_of machine.registers) (word_at machine.memory.words)
+    → Nothing ≡ effect op (value_of machine.state.registers) (word_at machine.state.memory.words)
     → Follows memory c (then_issued memory c due op log) machine
 after_nothing memory c due op log machine from upto follows is =
     let e : Issued = record { due = due; executed = record { op = op; effect = Nothing } } in
-    after_issue memory c due op log machine Nothing machine.outputs machine.wheel from upto follows is refl
-    (sym (append-nil machine.outputs.items))
+    after_issue memory c due op log machine Nothing machine.state.outputs machine.wheel from upto follows is refl
+    (sym (append-nil machine.state.outputs.items))
     (not_pushed c e log machine.wheel refl follows.under_way)

@@ -41,8 +41,8 @@ some_latency lat K.Other = omega arith
 
 -- a schedule begins with all registers 0, the memory handed in, no output and nothing under way
 pub begins : (machine : Machine) (memory : List ℤ) → length memory ≡ 16384
-    → ((r : Reg) → value_of machine.registers r ≡ pos 0) → machine.memory ≡ record { first = memory; words = memory }
-    → machine.outputs.items ≡ [] → length machine.wheel ≡ 16 → ((c : ℕ) → list_at machine.wheel c ≡ [])
+    → ((r : Reg) → value_of machine.state.registers r ≡ pos 0) → machine.state.memory ≡ record { first = memory; words = memory }
+    → machine.state.outputs.items ≡ [] → length machine.wheel ≡ 16 → ((c : ℕ) → list_at machine.wheel c ≡ [])
     → Follows memory 0 [] machine
 begins machine memory size registers words outputs count empty = record {
   size = size;
@@ -144,15 +144,15 @@ good_word k within = grind (arith, nat_tests)
 
 -- a run whose results have all landed
 pub finishes : (memory : List ℤ) (n : ℕ) (log : List Issued) (machine : Machine) → AllLand n log
-    → Follows memory n log machine → Finished machine.outputs.items machine.memory.words ≡ timed_outcome_of memory log
+    → Follows memory n log machine → Finished machine.state.outputs.items machine.state.memory.words ≡ timed_outcome_of memory log
 finishes memory n log machine all follows =
     let everything : landed n log ≡ log = landed_all n log all in
-    let words : machine.memory.words ≡ with_words memory (word_in memory log) =
-    fill_by_all (λ k. word_in memory log (4 * k)) machine.memory.words (length memory) (pos 0) (follows.same_size
+    let words : machine.state.memory.words ≡ with_words memory (word_in memory log) =
+    fill_by_all (λ k. word_in memory log (4 * k)) machine.state.memory.words (length memory) (pos 0) (follows.same_size
     ∙ sym follows.size) (λ k below.
     let small : k < 16384 = rw follows.size at below in
     let number : 4 * k / 4 ≡ k = omega arith in
-    ap (λ j. get_or machine.memory.words j (pos 0)) (sym number) ∙ follows.words (4 * k) (good_word k small)
+    ap (λ j. get_or machine.state.memory.words j (pos 0)) (sym number) ∙ follows.words (4 * k) (good_word k small)
     ∙ ap (λ l. word_in memory l (4 * k)) everything) in
     let fine : has_fault (executed_in log) ≡ false = no_fault n log all in
     rw (fine, follows.outputs, words) refl
@@ -199,7 +199,7 @@ after_row lat ops c row old mid new goes_on first second memory log follows =
 pub ends : (lat : Latencies) (memory : List ℤ) (ops : List Op) (rows : List Row) (c from : ℕ) (before after : Machine)
     → c ≡ length rows → from ≡ length rows → Follows memory c (issued_before lat memory ops rows c) before
     → ((words : List ℤ) (log : List Issued) → Follows words from log before → Follows words (from + 16) log after)
-    → Finished after.outputs.items after.memory.words ≡ timed_outcome lat ops rows memory
+    → Finished after.state.outputs.items after.state.memory.words ≡ timed_outcome lat ops rows memory
 ends lat memory ops rows c from before after last count follows lands =
     let log : List Issued = issued_before lat memory ops rows (length rows) in
     let begun : Follows memory (length rows) log before =

@@ -1,5 +1,6 @@
 pub mod Kinds
 pub mod Latency
+pub mod Units
 pub mod Rows
 pub mod Schedule
 pub mod Cycles

@@ -5,7 +5,8 @@ use Rattle.iloc_text.specs.declared.op.Op.{Op}
 use Rattle.iloc_meaning.specs.Trace.{op_at}
 use Rattle.iloc_timed.specs.declared.kind.Kind.{Kind}
 use Rattle.iloc_timed.specs.declared.row.Row.{Row}
-use Rattle.iloc_timed.specs.Kinds.{kind, is_mult, is_memory, is_output}
+use Rattle.iloc_timed.specs.Kinds.{kind}
+use Rattle.iloc_timed.specs.Units.{needs_zero, needs_one, stands_alone}
 
 -- a row in which nothing is issued
 abbrev pub empty_row : Row
@@ -41,12 +42,12 @@ abbrev pub is_some_kind : (Kind → Bool) → Option Kind → Bool
 is_some_kind test None = false
 is_some_kind test (Some k) = test k
 
--- loads and stores stand on unit 0, products on unit 1, and at most one output stands in a row
+-- neither unit has what needs the other one, and what stands alone stands there once
 abbrev pub keeps_units : List Op → Row → Bool
 keeps_units ops row =
-    not (is_some_kind is_mult (kind_in ops row.zero))
-    && not (is_some_kind is_memory (kind_in ops row.one))
-    && not (is_some_kind is_output (kind_in ops row.zero) && is_some_kind is_output (kind_in ops row.one))
+    not (is_some_kind needs_one (kind_in ops row.zero))
+    && not (is_some_kind needs_zero (kind_in ops row.one))
+    && not (is_some_kind stands_alone (kind_in ops row.zero) && is_some_kind stands_alone (kind_in ops row.one))
 
 -- What any schedule keeps: each number in a row is an operation's, each operation stands in exactly one slot, and
 -- each row keeps the rules of the units.

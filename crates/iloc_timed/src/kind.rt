@@ -20,6 +20,8 @@ pub enum Kind {
 }
 
 impl Kind {
+    ghost use Rattle.iloc_timed.specs.Units.{needs_zero, needs_one, stands_alone};
+
     /// The kind of an operation.
     pub fn of(op: &Op) -> Kind
         ensures { result ≡ kind op.now }
@@ -29,16 +31,28 @@ impl Kind {
             Op::Store { .. } | Op::StoreAI { .. } => Kind::Store,
             Op::Mult { .. } | Op::MultI { .. } => Kind::Mult,
             Op::Output { .. } => Kind::Output,
-            Op::LoadI { .. }
-            | Op::Add { .. }
-            | Op::Sub { .. }
-            | Op::Lshift { .. }
-            | Op::Rshift { .. }
-            | Op::Nop
-            | Op::AddI { .. }
-            | Op::SubI { .. }
-            | Op::LshiftI { .. }
-            | Op::RshiftI { .. } => Kind::Other,
+            _ => Kind::Other,
         }
+    }
+
+    /// Whether operations of this kind stand on unit 0 alone.
+    pub fn needs_zero(self) -> bool
+        ensures { result ≡ needs_zero self }
+    {
+        matches!(self, Kind::Load | Kind::Store)
+    }
+
+    /// Whether operations of this kind stand on unit 1 alone.
+    pub fn needs_one(self) -> bool
+        ensures { result ≡ needs_one self }
+    {
+        self == Kind::Mult
+    }
+
+    /// Whether at most one operation of this kind stands in a row, on whichever unit.
+    pub fn stands_alone(self) -> bool
+        ensures { result ≡ stands_alone self }
+    {
+        self == Kind::Output
     }
 }

@@ -1,5 +1,5 @@
 //! A schedule in mid-run.
-ghost use Rattle.std.specs.Prelude.{ℕ, ◌≡◌, ◌+◌, ◌<◌, ◌≤◌, pos, [], List, ℤ, length, fold, option_to_list, All, IfOk, OnOk, IfSome, IsTrue};
+ghost use Rattle.std.specs.Prelude.{ℕ, ◌≡◌, ◌+◌, ◌<◌, ◌≤◌, pos, [], List, ℤ, length, fold, option_to_list, All, IfOk, OnOk, IfSome, IsTrue, true};
 ghost use Rattle.iloc_text.specs.declared.op.Reg.{Reg as Register};
 ghost use Rattle.iloc_meaning.specs.Address.{is_good};
 ghost use Rattle.iloc_meaning.specs.Memory.{word_at};
@@ -11,7 +11,7 @@ use crate::row::Row;
 use crate::schedule::{MAX_ROWS, Schedule};
 use crate::timing::latency;
 use crate::wheel::{LONGEST, Pending, Wheel};
-use iloc_meaning::{Effect, Memory, Registers, Scratch, WORDS};
+use iloc_meaning::{Effect, Memory, Registers, Scratch, State};
 use iloc_text::{NoMemory, Op, defines};
 use std::alloc::Global;
 
@@ -59,50 +59,45 @@ fn land_all(
 /// A schedule in mid-run: what was due is written, and the rest is under way.
 #[derive(Drop)]
 pub(crate) struct Machine {
-    pub(crate) registers: Registers,
-    pub(crate) memory: Scratch,
-    pub(crate) outputs: Vec<i32>,
-    pub(crate) wheel: Wheel,
+    pub(crate) state: State,
+    wheel: Wheel,
 }
 
 impl Machine {
     ghost use Rattle.std.specs.Prelude.{List, ℤ};
     ghost use Rattle.iloc_timed.specs.Timed.{Issued, issue_all, timed_outcome};
     ghost use Rattle.iloc_timed.specs.Rows.{slots};
-    ghost use Rattle.iloc_timed.specs.Steps.Machine.{then_issued, Follows, After, leaves};
+    ghost use Rattle.iloc_timed.specs.Steps.Machine.{then_issued, Follows, After};
+    ghost use Rattle.iloc_meaning.specs.State.{leaves};
 
     /// All registers 0, this memory, nothing under way.
     pub(crate) fn new(alloc: Global, memory: Memory) -> Result<Machine, NoMemory>
-        ensures memory { IfOk result (λ machine. machine.memory ≡ record { first = memory; words = memory }) }
-        ensures outputs { IfOk result (λ machine. machine.outputs.items ≡ []) }
+        ensures memory { IfOk result (λ machine. machine.state.memory ≡ record { first = memory; words = memory }) }
+        ensures outputs { IfOk result (λ machine. machine.state.outputs.items ≡ []) }
+        ensures finished { IfOk result (λ machine. machine.state.finished ≡ true) }
     {
         Ok(Machine {
-            registers: Registers::new(alloc)?,
-            memory: Scratch::new(alloc, memory),
-            outputs: Vec::new(alloc),
+            state: State::new(alloc, memory)?,
             wheel: Wheel::new(alloc)?,
         })
     }
 
     /// All registers 0, the memory first handed in, no output, nothing under way.
     fn restart(&mut self)
-        ensures first { self.new.memory.first ≡ self.old.memory.first }
-        ensures follows { Follows self.old.memory.first 0 [] self.new }
+        ensures first { self.new.state.memory.first ≡ self.old.state.memory.first }
+        ensures follows { Follows self.old.state.memory.first 0 [] self.new }
     {
-        self.registers.clear();
-        self.memory.put_back();
-        self.outputs.clear();
+        self.state.restart();
         self.wheel.clear_all();
-        prove_eq!(self.memory.memory().word_count(), WORDS);
     }
 
     /// Writes what is due at a cycle.
     fn land(&mut self, cycle: usize) -> Result<(), NoMemory>
-        ensures first { self.new.memory.first ≡ self.old.memory.first }
+        ensures first { self.new.state.memory.first ≡ self.old.state.memory.first }
         ensures follows { OnOk result ((memory : List ℤ) (log : List Issued) →
             Follows memory cycle log self.old → Follows memory (cycle + 1) log self.new) }
     {
-        land_all(&mut self.registers, &mut self.memory, self.wheel.due(cycle))?;
+        land_all(&mut self.state.registers, &mut self.state.memory, self.wheel.due(cycle))?;
         self.wheel.clear(cycle);
         Ok(())
     }
@@ -110,22 +105,23 @@ impl Machine {
     /// Issues an operation whose result is due at a cycle. Answers whether the run goes on: it ends
     /// at a fault.
     fn issue(&mut self, op: &Op, due: usize) -> Result<bool, NoMemory>
-        ensures first { self.new.memory.first ≡ self.old.memory.first }
+        ensures first { self.new.state.memory.first ≡ self.old.state.memory.first }
         ensures after { IfOk result (λ goes_on. (memory : List ℤ) (c : ℕ) (log : List Issued) →
             c ≤ due → due < c + 16 → Follows memory c log self.old →
             After goes_on memory c (then_issued memory c due op.now log) self.new) }
     {
-        match Effect::of(op, &self.registers, self.memory.memory()) {
+        match Effect::of(op, &self.state.registers, self.state.memory.memory()) {
             Effect::Faults => return Ok(false),
             Effect::Gives(value) => {
-                if let Some(register) = defines(op) {
-                    self.wheel.push(due, Pending::Register { register, value })?;
-                }
+                let Some(register) = defines(op) else {
+                    unreachable!()
+                };
+                self.wheel.push(due, Pending::Register { register, value })?;
             }
             Effect::Writes { address, word } => {
                 self.wheel.push(due, Pending::Word { address, word })?;
             }
-            Effect::Emits(word) => self.outputs.push(word)?,
+            Effect::Emits(word) => self.state.outputs.push(word)?,
             Effect::Nothing => {}
         }
         Ok(true)
@@ -141,7 +137,7 @@ impl Machine {
     ) -> Result<bool, NoMemory>
         requires known { IfSome slot (λ i. i < length ops.now) }
         requires early { cycle ≤ MAX_ROWS }
-        ensures first { self.new.memory.first ≡ self.old.memory.first }
+        ensures first { self.new.state.memory.first ≡ self.old.state.memory.first }
         ensures after { IfOk result (λ goes_on. (memory : List ℤ) (log : List Issued) →
             Follows memory (cycle + 1) log self.old →
             After goes_on memory (cycle + 1)
@@ -168,7 +164,7 @@ impl Machine {
         requires zero { IfSome row.zero (λ i. i < length ops.now) }
         requires one { IfSome row.one (λ i. i < length ops.now) }
         requires early { cycle ≤ MAX_ROWS }
-        ensures first { self.new.memory.first ≡ self.old.memory.first }
+        ensures first { self.new.state.memory.first ≡ self.old.state.memory.first }
         ensures after { IfOk result (λ goes_on. (memory : List ℤ) (log : List Issued) →
             Follows memory cycle log self.old →
             After goes_on memory (cycle + 1) (issue_all latencies.now memory ops.now cycle (slots row) log) self.new) }
@@ -183,7 +179,7 @@ impl Machine {
     /// Writes whatever is under way, from a cycle on.
     fn land_rest(&mut self, from: usize) -> Result<(), NoMemory>
         requires { from ≤ MAX_ROWS }
-        ensures first { self.new.memory.first ≡ self.old.memory.first }
+        ensures first { self.new.state.memory.first ≡ self.old.state.memory.first }
         ensures follows { OnOk result ((memory : List ℤ) (log : List Issued) →
             Follows memory from log self.old → Follows memory (from + 16) log self.new) }
     {
@@ -200,9 +196,9 @@ impl Machine {
         schedule: &Schedule,
         latencies: &Latencies,
     ) -> Result<bool, NoMemory>
-        ensures first { self.new.memory.first ≡ self.old.memory.first }
-        ensures outcome { IfOk result (λ finished. leaves finished self.new
-            ≡ timed_outcome latencies.now schedule.now.ops schedule.now.rows self.old.memory.first) }
+        ensures first { self.new.state.memory.first ≡ self.old.state.memory.first }
+        ensures outcome { IfOk result (λ finished. leaves finished self.new.state
+            ≡ timed_outcome latencies.now schedule.now.ops schedule.now.rows self.old.state.memory.first) }
     {
         self.restart();
         let ops = schedule.ops();

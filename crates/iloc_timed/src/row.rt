@@ -40,8 +40,9 @@ impl Row {
     {
         let zero = kind_in(ops, self.zero);
         let one = kind_in(ops, self.one);
-        zero != Some(Kind::Mult)
-            && !matches!(one, Some(Kind::Load | Kind::Store))
-            && (zero != Some(Kind::Output) || one != Some(Kind::Output))
+        let stands_alone = |kind: Option<Kind>| kind.is_some_and(Kind::stands_alone);
+        !zero.is_some_and(Kind::needs_one)
+            && !one.is_some_and(Kind::needs_zero)
+            && !(stands_alone(zero) && stands_alone(one))
     }
 }

@@ -7,7 +7,7 @@ ghost use Rattle.iloc_timed.specs.Timed.{timed_outcome};
 use crate::latencies::Latencies;
 use crate::machine::Machine;
 use crate::schedule::Schedule;
-use iloc_meaning::{Memory, Outcome, Words};
+use iloc_meaning::{Memory, Outcome};
 use iloc_text::NoMemory;
 use std::alloc::Global;
 use std::marker::Model;
@@ -18,17 +18,15 @@ use std::marker::Model;
 #[derive(Drop)]
 pub struct Simulator {
     machine: Machine,
-    // Whether the last schedule came to its end.
-    finished: bool,
 }
 
 impl Model for Simulator {
     ghost use Rattle.iloc_meaning.specs.Outcome.{Runs};
-    ghost use Rattle.iloc_timed.specs.Steps.Machine.{leaves};
+    ghost use Rattle.iloc_meaning.specs.State.{leaves};
 
     ghost Value = { Runs };
 
-    ghost view = { λ s. record { memory = s.machine.memory.first; last = leaves s.finished s.machine } };
+    ghost view = { λ s. record { memory = s.machine.state.memory.first; last = leaves s.machine.state.finished s.machine.state } };
 }
 
 impl Simulator {
@@ -39,7 +37,6 @@ impl Simulator {
     {
         Ok(Simulator {
             machine: Machine::new(alloc, memory)?,
-            finished: true,
         })
     }
 
@@ -50,7 +47,7 @@ impl Simulator {
         ensures outcome { OnOk result (self.new.last
             ≡ timed_outcome latencies.now schedule.now.ops schedule.now.rows self.old.memory) }
     {
-        self.finished = self.machine.run(schedule, latencies)?;
+        self.machine.state.finished = self.machine.run(schedule, latencies)?;
         Ok(())
     }
 
@@ -58,23 +55,13 @@ impl Simulator {
     pub fn outputs(&self) -> Option<&[i32]>
         ensures { option_copied result ≡ shown self.now.last }
     {
-        if self.finished {
-            Some(self.machine.outputs.as_slice())
-        } else {
-            None
-        }
+        self.machine.state.outputs()
     }
 
     /// The outcome of the last schedule.
     pub fn into_outcome(self) -> Outcome
         ensures { result ≡ self.last }
     {
-        if !self.finished {
-            return Outcome::Fault;
-        }
-        Outcome::Finished {
-            outputs: Words::new(self.machine.outputs),
-            memory: self.machine.memory.into_memory(),
-        }
+        self.machine.state.into_outcome()
     }
 }

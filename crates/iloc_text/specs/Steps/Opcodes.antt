@@ -1,16 +1,9 @@
 -- The opcodes that are read.
-use Rattle.std.specs.Prelude.{ℕ, List, [], ◌∷◌, Option, find}
+use Rattle.std.specs.Prelude.{ℕ, List, [], Option, find}
 use Rattle.std.specs.Str.{bytes_eq}
 use Rattle.iloc_text.specs.declared.forms.Opcode.{Opcode}
-use Rattle.iloc_text.specs.declared.forms.Opcode.TheVariants.{Load, LoadI, Store, Add, Sub, Mult, Lshift, Rshift, Output, Nop, AddI, SubI, MultI, LshiftI, RshiftI, LoadAI, StoreAI}
-use Rattle.iloc_text.specs.declared.forms.Value.{Value}
-use Rattle.iloc_text.specs.declared.forms.Value.TheVariants.{Use, Constant}
-use Rattle.iloc_text.specs.declared.forms.Operand.{Operand}
-use Rattle.iloc_text.specs.Forms.{opcode_text, operands, op_of}
-
-abbrev pub opcodes : List Opcode
-opcodes = LoadI ∷ Load ∷ Store ∷ Add ∷ Sub ∷ Mult ∷ Lshift ∷ Rshift ∷ Output ∷ Nop
-    ∷ AddI ∷ SubI ∷ MultI ∷ LshiftI ∷ RshiftI ∷ LoadAI ∷ StoreAI ∷ []
+use Rattle.iloc_text.specs.Forms.{Value, Operand, opcodes, opcode_text, operands, op_of}
+use Rattle.iloc_text.specs.Forms.Value.{Use, Constant}
 
 -- the opcode that is written so
 abbrev pub opcode_of : List ℕ → Option Opcode

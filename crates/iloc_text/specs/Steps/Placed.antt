@@ -1,9 +1,8 @@
 -- Registers in the places of an operation's own.
 use Rattle.std.specs.Prelude.{ℕ, List, [], ◌∷◌}
 use Rattle.iloc_text.specs.declared.op.Reg.{Reg}
-use Rattle.iloc_text.specs.declared.forms.Value.{Value}
-use Rattle.iloc_text.specs.declared.forms.Value.TheVariants.{Use, Definition, Constant}
-use Rattle.iloc_text.specs.declared.forms.Operand.{Operand}
+use Rattle.iloc_text.specs.Forms.{Value, Operand}
+use Rattle.iloc_text.specs.Forms.Value.{Use, Definition, Constant}
 
 -- the number with `dest` in place of the register that is defined, and `next` of the one that is used
 abbrev pub number_placed : Reg → Reg → Value → ℕ

@@ -5,12 +5,9 @@ use Rattle.std.specs.Char.{is_ascii_digit, is_ascii_alphabetic}
 use Rattle.iloc_text.specs.declared.op.Reg.{Reg}
 use Rattle.iloc_text.specs.declared.op.Op.{Op}
 use Rattle.iloc_text.specs.declared.forms.Opcode.{Opcode}
-use Rattle.iloc_text.specs.declared.forms.Lead.{Lead}
-use Rattle.iloc_text.specs.declared.forms.Value.{Value}
-use Rattle.iloc_text.specs.declared.forms.Operand.{Operand}
-use Rattle.iloc_text.specs.Forms.{operands, number_of, op_of}
-use Rattle.iloc_text.specs.declared.forms.Lead.TheVariants.{Space, Comma, Arrow}
-use Rattle.iloc_text.specs.declared.forms.Value.TheVariants.{Use, Definition, Constant}
+use Rattle.iloc_text.specs.Forms.{Lead, Value, Operand, operands, number_of, op_of}
+use Rattle.iloc_text.specs.Forms.Lead.{space, comma, arrow}
+use Rattle.iloc_text.specs.Forms.Value.{Use, Definition, Constant}
 use Rattle.iloc_text.specs.Grammar.{is_blank, is_word_byte}
 use Rattle.iloc_text.specs.Steps.Opcodes.{opcode_of, operands_of}
 
@@ -68,9 +65,9 @@ abbrev pub word_of : List ℕ → List ℕ
 word_of bytes = take (length bytes - length (after_word bytes)) bytes
 
 abbrev pub lead_at : Lead → List ℕ → Option (List ℕ)
-lead_at Space bytes = some_blanks_at bytes
-lead_at Comma bytes = comma_at bytes
-lead_at Arrow bytes = arrow_at bytes
+lead_at space bytes = some_blanks_at bytes
+lead_at comma bytes = comma_at bytes
+lead_at arrow bytes = arrow_at bytes
 
 -- the number of a value of this kind
 abbrev pub value_at : Value → List ℕ → Option (ℕ × List ℕ)

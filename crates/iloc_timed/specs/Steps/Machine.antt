@@ -1,10 +1,8 @@
 -- A schedule in mid-run against the log of what it has issued.
-use Rattle.std.specs.Prelude.{ℕ, ◌+◌, ◌≡◌, ◌<◌, nat_lt, Bool, true, false, if◌then◌else◌, List, [], ◌∷◌, length, filter, IsTrue, IsFalse, ℤ, pos}
+use Rattle.std.specs.Prelude.{ℕ, ◌+◌, ◌≡◌, ◌<◌, nat_lt, Bool, true, false, List, [], ◌∷◌, length, filter, IsTrue, IsFalse, ℤ, pos}
 use Rattle.iloc_text.specs.declared.op.Reg.{Reg}
 use Rattle.iloc_text.specs.declared.op.Op.{Op}
 use Rattle.iloc_text.specs.Registers.{defined}
-use Rattle.iloc_meaning.specs.declared.outcome.Outcome.{Outcome}
-use Rattle.iloc_meaning.specs.declared.outcome.Outcome.TheVariants.{Finished, Fault}
 use Rattle.iloc_meaning.specs.Address.{is_good}
 use Rattle.iloc_meaning.specs.declared.memory.TheConstants.{WORDS}
 use Rattle.iloc_meaning.specs.Memory.{word_at}
@@ -34,12 +32,12 @@ AllLand c (e ∷ earlier) = (e.due < c) × Lands e.executed × AllLand c earlier
 -- what is due before cycle c is written, and the rest is under way
 pub record Follows (memory : List ℤ) (c : ℕ) (log : List Issued) (machine : Machine) : Type 0 where
   pub size : length memory ≡ WORDS
-  pub same_size : length machine.memory.words ≡ WORDS
-  pub registers : (r : Reg) → value_of machine.registers r ≡ register_in (landed c log) r
-  pub words : (a : ℕ) → IsTrue (is_good (pos a)) → word_at machine.memory.words a ≡ word_in memory (landed c log) a
+  pub same_size : length machine.state.memory.words ≡ WORDS
+  pub registers : (r : Reg) → value_of machine.state.registers r ≡ register_in (landed c log) r
+  pub words : (a : ℕ) → IsTrue (is_good (pos a)) → word_at machine.state.memory.words a ≡ word_in memory (landed c log) a
   pub under_way : AreUnderWay c log machine.wheel
   pub all_land : AllLand (c + 16) log
-  pub outputs : machine.outputs.items ≡ emitted (executed_in log)
+  pub outputs : machine.state.outputs.items ≡ emitted (executed_in log)
 
 -- the operation, due at this cycle: it reads what has landed before cycle c
 abbrev pub then_issued : List ℤ → ℕ → ℕ → Op → List Issued → List Issued
@@ -52,7 +50,3 @@ then_issued memory c due op log = record {
 abbrev pub After : Bool → List ℤ → ℕ → List Issued → Machine → Type 0
 After true memory c log machine = Follows memory c log machine
 After false memory c log machine = has_fault (executed_in log) ≡ true
-
--- the outcome that a machine leaves, whether it has come to the end of its schedule or not
-abbrev pub leaves : Bool → Machine → Outcome
-leaves finished machine = if finished then Finished machine.outputs.items machine.memory.words else Fault

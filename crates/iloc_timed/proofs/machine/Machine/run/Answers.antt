@@ -15,10 +15,10 @@ pub returns-then-not-branch-clause-outcome : goal.returns-then-not-branch-clause
 returns-then-not-branch-clause-outcome c =
     let within : c.loop-cycle.cycle < length c.args.schedule.now.rows =
     rw c.rows-rows.ensures.rows at c.loop-cycle-test.true in
-    stops c.args.latencies.now c.args.self.now.memory.first c.args.schedule.now.ops c.args.schedule.now.rows
+    stops c.args.latencies.now c.args.self.now.state.memory.first c.args.schedule.now.ops c.args.schedule.now.rows
     c.loop-cycle.cycle within
     (rw (c.ops-ops.ensures.ops, c.rows-rows.ensures.rows, c.if-not-branch.true) at
-    (c.in_ok-run_row.ensures.after c.args.self.now.memory.first _ c.loop-cycle.invariant.1))
+    (c.in_ok-run_row.ensures.after c.args.self.now.state.memory.first _ c.loop-cycle.invariant.1))
 
 pub returns-clause-outcome : goal.returns-clause-outcome
 returns-clause-outcome c =
@@ -28,6 +28,6 @@ returns-clause-outcome c =
     rw c.rows-rows.ensures.rows at c.loop-cycle.auto.cycle-end in
     let count : length c.rows-rows.result.now ≡ length c.args.schedule.now.rows = ap length c.rows-rows.ensures.rows in
     let last : c.loop-cycle.cycle ≡ length c.args.schedule.now.rows = omega arith in
-    ends c.args.latencies.now c.args.self.now.memory.first c.args.schedule.now.ops c.args.schedule.now.rows
+    ends c.args.latencies.now c.args.self.now.state.memory.first c.args.schedule.now.ops c.args.schedule.now.rows
     c.loop-cycle.cycle (length c.rows-rows.result.now) c.loop-cycle.self c.land_rest.new.self last count
     c.loop-cycle.invariant.1 c.in_ok-land_rest.ensures.follows

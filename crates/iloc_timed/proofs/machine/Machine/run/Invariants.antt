@@ -5,6 +5,6 @@ use Rattle.iloc_timed.proofs.machine.Machine.run.Given as goal
 
 abbrev pub invariant-loop-cycle : goal.invariant-loop-cycle
 invariant-loop-cycle l =
-    (l.self.memory.first ≡ l.fn.self.memory.first)
-    × Follows l.fn.self.memory.first l.cycle
-    (issued_before l.latencies l.fn.self.memory.first l.schedule.ops l.schedule.rows l.cycle) l.self
+    (l.self.state.memory.first ≡ l.fn.self.state.memory.first)
+    × Follows l.fn.self.state.memory.first l.cycle
+    (issued_before l.latencies l.fn.self.state.memory.first l.schedule.ops l.schedule.rows l.cycle) l.self
