@@ -17,7 +17,7 @@ from case import Case
 
 HERE = os.path.dirname(os.path.abspath(__file__))
 CASES = os.path.join(HERE, "cases")
-COMMANDS = ("run", "simulate", "schedule", "counts")
+COMMANDS = ("run", "simulate", "schedule", "counts", "explain")
 
 
 def read(path, otherwise):

@@ -4,11 +4,12 @@ use Rattle.clap.proofs.OnLiterals.{clap_on_literals}
 use Rattle.clap.specs.Kinds.{HasKind, IsAmong}
 use Rattle.clap.specs.Words.{App, Text, fault_of, is_simple_and_free, kind_of}
 use Rattle.clap.specs.declared.error.Error.{Error}
-use Rattle.clap.specs.declared.error.kind.ErrorKind.TheVariants.{DisplayHelp, OutOfMemory}
+use Rattle.clap.specs.declared.error.kind.ErrorKind.{ErrorKind}
+use Rattle.clap.specs.declared.error.kind.ErrorKind.TheVariants.{OutOfMemory}
 use Rattle.std.specs.Prelude.{List}
 use Rattle.iloc_args.specs.Asked.{Asked}
 use Rattle.iloc_args.specs.Command.{farm_app}
-use Rattle.iloc_args.specs.Due.{Asks, IsDue, faults_in}
+use Rattle.iloc_args.specs.Due.{Asks, IsAskedFor, IsDue, faults_in}
 use Rattle.iloc_args.specs.Steps.Refusing.{IsFaultBy, IsOutOfRange}
 use Rattle.iloc_args.specs.declared.fault.LineFault.{LineFault}
 use Rattle.iloc_args.specs.declared.fault.LineFault.TheVariants.{Help, Refused, BadStart, TooManyWords, NoMemory}
@@ -23,8 +24,9 @@ pub taken_words : (a : App) (words : List Text) → a ≡ farm_app
 unfolding faults_in
 taken_words a words is h = ap (λ (b : App). fault_of b words) (sym is) ∙ h (ap is_simple_and_free is ∙ farm_is_free)
 
-help_is_no_want : DisplayHelp ≡ OutOfMemory → ⊥
-help_is_no_want e = cc
+-- a text that was asked for is no want of memory
+asked_is_no_want : (kind : ErrorKind) → IsAskedFor kind → kind ≡ OutOfMemory → ⊥
+asked_is_no_want kind asked memory = elim asked [ inl help ↦ cc | inr version ↦ cc ]
 
 -- the fault for an error of the parser is due to the words
 pub refused_words : (a : App) (words : List Text) (e : Error) (f : LineFault) → a ≡ farm_app
@@ -39,8 +41,7 @@ refused_words a words e f is h =
     among f has other = elim has [ inl memory ↦ absurd (other memory) | inr found ↦ found ]
 
     go : (f : LineFault) → HasKind (fault_of farm_app words) e → IsFaultBy (kind_of e) f → IsDue words f
-    go (Help text) has by = subst (λ k. IsAmong k (fault_of farm_app words)) by
-        (among (Help text) has (λ memory. help_is_no_want (sym by ∙ memory)))
+    go (Help text) has by = (kind_of e, among (Help text) has (asked_is_no_want (kind_of e) by), by)
     go (Refused text) has by = (kind_of e, among (Refused text) has by.1, by.0)
     go (BadStart at) has by = absurd by
     go TooManyWords has by = absurd by

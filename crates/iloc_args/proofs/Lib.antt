@@ -6,5 +6,6 @@ pub mod Leaves
 pub mod Matches
 pub mod Numbers
 pub mod Rows
+pub mod Stops
 pub mod Uses
 pub mod Walks

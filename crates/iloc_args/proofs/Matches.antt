@@ -1,5 +1,5 @@
 -- The matches of a command hold numbers in their ranges, where the parser finds no fault in the words.
-use Rattle.std.proofs.Common.{◌≡◌, ◌∙◌, ◌||◌, ℕ, Bool, true, false, cond, pos, List, [], ◌∷◌, Some, None}
+use Rattle.std.proofs.Common.{◌≡◌, ◌∙◌, ◌||◌, ◌++◌, ℕ, Bool, true, false, cond, pos, List, [], ◌∷◌, Some, None}
 use Rattle.std.proofs.Common.{Option, map, refl, sym, ap, subst, codes}
 use Rattle.std.specs.Prelude.{Box, IfSome, find, option_and_then, option_map, slice_get, unwrap_or}
 use Rattle.std.specs.Box.{box_value}
@@ -10,7 +10,8 @@ use Rattle.std.proofs.lemmas.Slice.Eq.{bytes_eq-Decides}
 use Rattle.clap.specs.Facts.{parser_of_value}
 use Rattle.clap.specs.Faults.{entered_fault, level_fault, walk_fault}
 use Rattle.clap.specs.Kinds.{values_kinds}
-use Rattle.clap.specs.Simple.{Shape, built, built_leaf, entered, inherited, label_of, names_of, rows_at, subcommand_of, subcommand_rows}
+use Rattle.clap.specs.Simple.{Shape, built, built_leaf, entered, help_shape, inherited, label_of, names_of, rows_at}
+use Rattle.clap.specs.Simple.{subcommand_of, subcommand_rows}
 use Rattle.clap.specs.Values.{read_as, reading_of}
 use Rattle.clap.specs.Walk.{Row, Rule, Text, answers_to, arg_by_id, nothing_held, row_text, rows_after, stop_after, walk_from}
 use Rattle.clap.specs.declared.builder.value_parser.Reading.{Reading}
@@ -19,13 +20,14 @@ use Rattle.clap.specs.declared.builder.value_parser.ValueParser.TheVariants.{Sig
 use Rattle.clap.specs.declared.parser.matches.ArgMatches.TheViews.{out-SubCommand}
 use Rattle.clap.specs.declared.parser.matches.SubCommand.{SubCommand}
 use Rattle.iloc_args.specs.Asked.{asked, asked_as, asked_by, task_named}
-use Rattle.iloc_args.specs.Command.{Entry, entries, farm_app, run_entry, schedule_entry, shape, simulate_entry}
+use Rattle.iloc_args.specs.Command.{Entry, entries, explain_entry, farm_app, run_entry, schedule_entry, shape, simulate_entry}
 use Rattle.iloc_args.specs.Due.{faults_in}
 use Rattle.iloc_args.specs.Steps.Taken.{AreNumbersIn, HoldNumbers, HoldsIn, IsNumberIn}
 use Rattle.iloc_args.specs.declared.request.Task.{Task}
 use Rattle.iloc_args.proofs.Leaves.{found_kept, leaf_kept, row_in}
 use Rattle.iloc_args.proofs.Numbers.{taken_numbers}
 use Rattle.iloc_args.proofs.Rows.{IsKept, both_empty}
+use Rattle.iloc_args.proofs.Stops.{IsElsewhere, walk_elsewhere}
 use Rattle.iloc_args.proofs.Uses.{AllOurs}
 
 -- ---- numbers in rows
@@ -158,8 +160,25 @@ schedule_fit = record {
   mult = refl;
 }
 
+explain_fit : IsFit (built_of explain_entry).rules
+explain_fit = record {
+  ours = (
+    record { first = refl; action = tt },
+    (
+      record { first = refl; action = tt },
+      (record { first = refl; action = tt }, (record { first = refl; action = tt }, tt)),
+    ),
+  );
+  workers = tt;
+  at = tt;
+  words = tt;
+  load = refl;
+  store = refl;
+  mult = refl;
+}
+
 all_fit : AllByRecursion (λ e. IsFit (built_of e).rules) entries
-all_fit = (run_fit, (simulate_fit, (schedule_fit, (schedule_fit, tt))))
+all_fit = (run_fit, (simulate_fit, (schedule_fit, (schedule_fit, (explain_fit, tt)))))
 
 -- ---- the whole command line
 
@@ -170,26 +189,40 @@ pub record IsEntered (es : List Entry) (word : Text) (named : Text × List Row) 
   pub first : find (λ e. bytes_eq e.name word) es ≡ Some entry
   pub hold : HoldNumbers named.1
 
+-- these commands as the parser builds them, and its own command `help` behind them
+abbrev with_help : List Entry → List Shape
+with_help es = map built_of es ++ built_leaf help_shape ∷ []
+
 entered_one : (es : List Entry) (p : Text × List Text) (named : Text × List Row)
-    → AllByRecursion (λ e. IsFit (built_of e).rules) es
-    → option_map (λ s. rows_at s p.1) (find (λ s. answers_to p.0 (label_of s)) (map built_of es)) ≡ Some named
+    → AllByRecursion (λ e. IsFit (built_of e).rules) es → bytes_eq p.0 (codes "help") ≡ false
+    → option_map (λ s. rows_at s p.1) (find (λ s. answers_to p.0 (label_of s)) (with_help es)) ≡ Some named
     → option_map_or (λ s. level_fault s [] nothing_held p.1 false [])
-    (find (λ s. answers_to p.0 (label_of s)) (map built_of es)) [] ≡ []
+    (find (λ s. answers_to p.0 (label_of s)) (with_help es)) [] ≡ []
     → IsEntered es p.0 named
-entered_one [] p named fit is e = cc
-entered_one (x ∷ es) p named fit is e = go (bytes_eq x.name p.0) refl is e (entered_one es p named fit.1)
+entered_one [] p named fit other is e = go (bytes_eq (codes "help") p.0) refl is
+  where
+    go : (b : Bool) → bytes_eq (codes "help") p.0 ≡ b
+        → option_map (λ s. rows_at s p.1) (cond (b || false) (Some (built_leaf help_shape)) None) ≡ Some named
+        → IsEntered [] p.0 named
+    go true same is =
+        let help : codes "help" ≡ p.0 = (bytes_eq-Decides (codes "help") p.0).0 same in
+        let equal : bytes_eq p.0 (codes "help") ≡ true = (bytes_eq-Decides p.0 (codes "help")).1 (sym help) in
+        cc
+    go false same is = cc
+entered_one (x ∷ es) p named fit other is e =
+    go (bytes_eq x.name p.0) refl is e (entered_one es p named fit.1 other)
   where
     rest : Option Shape
-    rest = find (λ s. answers_to p.0 (label_of s)) (map built_of es)
+    rest = find (λ s. answers_to p.0 (label_of s)) (with_help es)
 
     go : (b : Bool) → bytes_eq x.name p.0 ≡ b
         → option_map (λ s. rows_at s p.1) (cond (b || false) (Some (built_of x))
-        (find (λ s. answers_to p.0 (label_of s)) (map built_of es))) ≡ Some named
+        (find (λ s. answers_to p.0 (label_of s)) (with_help es))) ≡ Some named
         → option_map_or (λ s. level_fault s [] nothing_held p.1 false [])
-        (cond (b || false) (Some (built_of x)) (find (λ s. answers_to p.0 (label_of s)) (map built_of es))) [] ≡ []
-        → (option_map (λ s. rows_at s p.1) (find (λ s. answers_to p.0 (label_of s)) (map built_of es)) ≡ Some named
+        (cond (b || false) (Some (built_of x)) (find (λ s. answers_to p.0 (label_of s)) (with_help es))) [] ≡ []
+        → (option_map (λ s. rows_at s p.1) (find (λ s. answers_to p.0 (label_of s)) (with_help es)) ≡ Some named
         → option_map_or (λ s. level_fault s [] nothing_held p.1 false [])
-        (find (λ s. answers_to p.0 (label_of s)) (map built_of es)) [] ≡ []
+        (find (λ s. answers_to p.0 (label_of s)) (with_help es)) [] ≡ []
         → IsEntered es p.0 named)
         → IsEntered (x ∷ es) p.0 named
     go true same is e later =
@@ -204,11 +237,12 @@ entered_one (x ∷ es) p named fit is e = go (bytes_eq x.name p.0) refl is e (en
         let found = later is e in
         record { same = found.same; entry = found.entry; first = rw other found.first; hold = found.hold }
 
-entered_some : (stop : Option (Text × List Text)) (named : Text × List Row) → entered (built farm_app) stop ≡ Some named
+entered_some : (stop : Option (Text × List Text)) (named : Text × List Row) → IsElsewhere stop
+    → entered (built farm_app) stop ≡ Some named
     → entered_fault (built farm_app) stop ≡ [] → IsEntered entries named.0 named
-entered_some None named is e = cc
-entered_some (Some p) named is e =
-    let found = entered_one entries p named all_fit is e in
+entered_some None named other is e = cc
+entered_some (Some p) named other is e =
+    let found = entered_one entries p named all_fit other is e in
     record {
       same = refl;
       entry = found.entry;
@@ -228,7 +262,8 @@ taken_matches words named is e =
     let stop = stop_after top.rules names words in
     let walked = both_empty (walk_fault top names (walk_from nothing_held) words) _ e in
     let below = both_empty (entered_fault (built farm_app) stop) _ walked.1 in
-    entered_some stop named is below.0
+    let elsewhere = walk_elsewhere top names refl words (walk_from nothing_held) tt walked.0 in
+    entered_some stop named elsewhere is below.0
 
 -- what a parse has entered, by the words: a command of this task, of which the words ask this
 pub record IsCommand (words : List Text) (name : Text) (rows : List Row) : Type 0 where

@@ -6,7 +6,7 @@ use Rattle.clap.specs.Lexer.{usize_max}
 use Rattle.clap.specs.Words.{App, Rule, Shape, Text, new_rule}
 use Rattle.clap.specs.Simple.{new_shape}
 use Rattle.iloc_args.specs.declared.request.Task.{Task}
-use Rattle.iloc_args.specs.declared.request.Task.TheVariants.{Run, Simulate, Schedule, Counts}
+use Rattle.iloc_args.specs.declared.request.Task.TheVariants.{Run, Simulate, Schedule, Counts, Explain}
 
 -- `--NAME N`, a number within these bounds, and this one where it is not given
 abbrev pub number_rule : Text → Text → ℕ → ℕ → Rule
@@ -66,21 +66,25 @@ schedule_entry = record { name = codes "schedule"; task = Schedule; rules = work
 abbrev pub counts_entry : Entry
 counts_entry = record { name = codes "counts"; task = Counts; rules = workers_rule ∷ latency_rules }
 
+-- `explain [--load N] [--store N] [--mult N]`
+abbrev pub explain_entry : Entry
+explain_entry = record { name = codes "explain"; task = Explain; rules = latency_rules }
+
 -- the commands that there are
 abbrev pub entries : List Entry
-entries = run_entry ∷ simulate_entry ∷ schedule_entry ∷ counts_entry ∷ []
+entries = run_entry ∷ simulate_entry ∷ schedule_entry ∷ counts_entry ∷ explain_entry ∷ []
 
 -- a command as the parser has it
 abbrev pub shape : Entry → Shape
 shape e = record (new_shape e.name) { rules = e.rules }
 
 -- the program without its commands: its words stand after its name, the first of them is a command,
--- one has to be there, and there is no command `help`
+-- one has to be there, and `--version` and the command `help` are the parser's own
 abbrev pub top_shape : Shape
 top_shape = record (new_shape (codes "ilocfarm")) {
   no_binary_name = true;
   subcommand_required = true;
-  disable_help_subcommand = true;
+  has_version = true;
 }
 
 -- the whole command line

@@ -1,10 +1,10 @@
 -- What a command line comes to: a request, or one of the faults.
-use Rattle.std.specs.Prelude.{◌≡◌, ◌≢◌, ◌<◌, ◌+◌, ◌*◌, ◌%◌, ℕ, List, [], Some}
+use Rattle.std.specs.Prelude.{◌≡◌, ◌≢◌, ◌⊎◌, ◌<◌, ◌+◌, ◌*◌, ◌%◌, ℕ, List, [], Some}
 use Rattle.std.specs.Prelude.{length}
 use Rattle.clap.specs.Kinds.{IsAmong, Kinds}
 use Rattle.clap.specs.Words.{Text, fault_of}
 use Rattle.clap.specs.declared.error.kind.ErrorKind.{ErrorKind}
-use Rattle.clap.specs.declared.error.kind.ErrorKind.TheVariants.{DisplayHelp}
+use Rattle.clap.specs.declared.error.kind.ErrorKind.TheVariants.{DisplayHelp, DisplayVersion}
 use Rattle.iloc_args.specs.Asked.{Asked, asked}
 use Rattle.iloc_args.specs.Command.{farm_app}
 use Rattle.iloc_args.specs.declared.fault.LineFault.{LineFault}
@@ -31,11 +31,15 @@ pub record Overflows (a : Asked) : Type 0 where
   pub aligned : a.at % 4 ≡ 0
   pub beyond : 65536 < a.at + 4 * length a.words
 
+-- an error of this kind is a text that was asked for
+abbrev pub IsAskedFor : ErrorKind → Type 0
+IsAskedFor kind = (kind ≡ DisplayHelp) ⊎ (kind ≡ DisplayVersion)
+
 -- the words bring this fault about; memory may be wanting at any words
 abbrev pub IsDue : List Text → LineFault → Type 0
-IsDue words (Help text) = IsAmong DisplayHelp (faults_in words)
+IsDue words (Help text) = (kind : ErrorKind) × IsAmong kind (faults_in words) × IsAskedFor kind
 IsDue words (Refused text) =
-    (kind : ErrorKind) × IsAmong kind (faults_in words) × (kind ≢ DisplayHelp)
+    (kind : ErrorKind) × IsAmong kind (faults_in words) × (IsAskedFor kind → ⊥)
 IsDue words (BadStart at) = (a : Asked) × Asks words a × StartsAmiss at a
 IsDue words TooManyWords = (a : Asked) × Asks words a × Overflows a
 IsDue words NoMemory = Unit {0}

@@ -1,13 +1,35 @@
 //! The program's command line, as the parser reads it.
 ghost use Rattle.std.specs.Prelude.{IfOk, codes};
 ghost use Rattle.iloc_args.specs.Command.{at_rule, counts_entry};
-ghost use Rattle.iloc_args.specs.Command.{farm_app, latency_rule, run_entry};
+ghost use Rattle.iloc_args.specs.Command.{explain_entry, farm_app, latency_rule, run_entry};
 ghost use Rattle.iloc_args.specs.Command.{schedule_entry, simulate_entry, top_shape, words_rule};
 ghost use Rattle.iloc_args.specs.Command.{workers_rule};
 ghost use Rattle.iloc_args.specs.Steps.Building.{HasApp, HasRule, alone, app, memory_shape};
 
 use clap::{Arg, ArgAction, Command, value_parser};
 use std::alloc::{AllocError, Global};
+
+/// The version of the program.
+const VERSION: &str = "1.0.0";
+
+/// What stands below the list of commands: limits, exit statuses, and where the manual is.
+const MANUAL: &str = "\
+Limits:
+  16777216 bytes, 65535 blocks, 10000 operations in a block, numbers up to 2147483647
+
+Exit status:
+  0  done; a block that faults is listed as fault
+  1  the text is refused
+  2  a mistake in the command line
+  3  no memory, or a worker could not be started
+  4  reading or writing failed
+
+Manual:
+  man ilocfarm; in the repository man/ilocfarm.1 and docs/LANGUAGE.md";
+
+/// How a word is given that stands for a negative number.
+const NEGATIVE_WORDS: &str = "\
+A negative WORD is given by its pattern of 32 bits, a number above 2147483647: 4294967295 is -1";
 
 /// `--at N`
 fn at_arg<'a>(alloc: Global) -> Arg<'a>
@@ -103,6 +125,7 @@ fn memory_command<'a>(
 {
     Command::new(alloc, name)
         .about(about)
+        .after_help(NEGATIVE_WORDS)
         .arg(at_arg(alloc))?
         .arg(words_arg(alloc))
 }
@@ -156,6 +179,17 @@ fn counts_command<'a>(alloc: Global) -> Result<Command<'a>, AllocError>
         .arg(mult_arg(alloc))
 }
 
+/// `explain [--load N] [--store N] [--mult N]`
+fn explain_command<'a>(alloc: Global) -> Result<Command<'a>, AllocError>
+    ensures { IfOk result (HasApp (app explain_entry)) }
+{
+    Command::new(alloc, "explain")
+        .about("Schedule each block, and print why the schedule takes its cycles")
+        .arg(load_arg(alloc))?
+        .arg(store_arg(alloc))?
+        .arg(mult_arg(alloc))
+}
+
 /// The program without its commands.
 fn top_command<'a>(alloc: Global) -> Result<Command<'a>, AllocError>
     ensures { IfOk result (HasApp (alone top_shape)) }
@@ -168,7 +202,8 @@ fn top_command<'a>(alloc: Global) -> Result<Command<'a>, AllocError>
             .bin_name("ilocfarm")?
             .no_binary_name(true)
             .subcommand_required(true)
-            .disable_help_subcommand(true),
+            .version(VERSION)
+            .after_help(MANUAL),
     )
 }
 
@@ -180,5 +215,6 @@ pub(crate) fn farm_command<'a>(alloc: Global) -> Result<Command<'a>, AllocError>
         .subcommand(run_command(alloc)?)?
         .subcommand(simulate_command(alloc)?)?
         .subcommand(schedule_command(alloc)?)?
-        .subcommand(counts_command(alloc)?)
+        .subcommand(counts_command(alloc)?)?
+        .subcommand(explain_command(alloc)?)
 }

@@ -13,7 +13,7 @@ use std::fmt::{self, Display, Formatter};
 /// Why a command line gives no request. Its `Display` is the text for the user.
 #[derive(Debug, Drop, PartialEq, Eq)]
 pub enum LineFault {
-    /// Help was asked for: its text.
+    /// Help or the version was asked for: its text.
     Help(String),
     /// The words are no command line: what is wrong, and the usage.
     Refused(String),
@@ -50,7 +50,9 @@ impl LineFault {
     {
         Ok(match error.kind() {
             ErrorKind::OutOfMemory => LineFault::NoMemory,
-            ErrorKind::DisplayHelp => LineFault::Help(error.to_string(alloc)?),
+            ErrorKind::DisplayHelp | ErrorKind::DisplayVersion => {
+                LineFault::Help(error.to_string(alloc)?)
+            }
             _ => LineFault::Refused(error.to_string(alloc)?),
         })
     }
@@ -72,7 +74,7 @@ impl<T: Drop> From<AllocFailed<T>> for LineFault {
     }
 }
 
-/// The exit status of the program: 0 where help was asked for, 2 for a mistake in the words, 3 for
+/// The exit status of the program: 0 where help or the version was asked for, 2 for a mistake in the words, 3 for
 /// want of memory.
 pub fn line_status(fault: &LineFault) -> u8
     ensures { result ≡ status_of fault.now }

@@ -54,6 +54,7 @@ fn task_of(name: &str) -> Task
         "simulate" => Task::Simulate,
         "schedule" => Task::Schedule,
         "counts" => Task::Counts,
+        "explain" => Task::Explain,
         _ => unreachable!(),
     }
 }

@@ -14,6 +14,8 @@ pub enum Task {
     Schedule,
     /// Schedule it, and list how many cycles the schedule takes.
     Counts,
+    /// Schedule it, and list why the schedule takes its cycles.
+    Explain,
 }
 
 /// A command with its options; an option that the command does not take has its default.

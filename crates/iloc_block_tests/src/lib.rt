@@ -4,9 +4,13 @@
 #![tactic(auto)]
 
 #[cfg(test)]
+mod judge;
+#[cfg(test)]
 mod meaning;
 #[cfg(test)]
 mod sched;
+#[cfg(test)]
+mod submissions;
 #[cfg(test)]
 mod text;
 #[cfg(test)]

@@ -8,7 +8,7 @@ use Rattle.iloc_board.specs.declared.state.State.{State}
 use Rattle.iloc_board.specs.Core.{Core, opening, reply_to, after, ends, entry, played}
 use Rattle.std.specs.BTreeMap.{BTreeMap}
 use Rattle.iloc_board.specs.Play.{replies, final}
-use Rattle.iloc_board.specs.Steps.Machine.{Shows}
+use Rattle.iloc_board.specs.Steps.RunningCore.{Shows}
 use Rattle.iloc_board.proofs.Effects.{finds, misses, none, wins, returns, waits, effect}
 
 pub ends-snoc : (count : ℕ) (c : Core) (xs : List Step) (x : Step)

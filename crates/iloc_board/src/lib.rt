@@ -3,11 +3,11 @@
 
 mod board;
 mod collect;
+mod core_steps;
 mod fault;
 mod gate;
 mod jobs;
 mod journal;
-mod machine;
 mod pass;
 mod rule;
 mod seat_view;
@@ -17,10 +17,10 @@ mod worker;
 
 pub use board::{Board, Seen, Tried};
 pub use collect::{CollectFault, Collected};
+pub use core_steps::{Played, play};
 pub use fault::{NoMemory, NoMemoryWith};
 pub use gate::{FreeGate, Gate};
 pub use jobs::Jobs;
-pub use machine::{Played, play};
 pub use pass::{Pass, Root};
 pub use state::State;
 pub use step::{Reply, Step};

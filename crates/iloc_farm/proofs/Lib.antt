@@ -3,7 +3,12 @@ pub mod Said
 pub mod Words
 pub mod Written
 pub mod Tasks
+pub mod Explanations
 pub mod Gathered
 pub mod Schedules
 pub mod Simulated
 pub mod Listed
+pub mod Idle
+pub mod Headline
+pub mod Listings
+pub mod Entries

@@ -30,7 +30,8 @@ use Rattle.iloc_farm.specs.Schedules.{AreGreedy, IsScheduleOf, IsWithinLimits, K
 
 -- One list
 
-table_same : (s t : Table) → s.ops ≡ t.ops → s.rows ≡ t.rows → s ≡ t
+-- a schedule is its operations and its rows
+pub table_same : (s t : Table) → s.ops ≡ t.ops → s.rows ≡ t.rows → s ≡ t
 table_same s t ops rows = λ i. record { ops = ops i; rows = rows i }
 
 cons_same : {X : Type 0} (x y : X) (xs ys : List X) → x ≡ y → xs ≡ ys → x ∷ xs ≡ y ∷ ys

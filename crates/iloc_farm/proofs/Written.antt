@@ -1,10 +1,13 @@
 -- What is left of a text after a write.
-use Rattle.std.proofs.Common.{◌≡◌, ℕ, ◌-◌, List, ◌++◌, Err, Ok, OnErr, OnOk, Option, Result, length, subst, take, drop, arith, append_assoc, take-append-drop, length-drop}
+use Rattle.std.proofs.Common.{◌≡◌, ◌∙◌, ℕ, ◌+◌, ◌-◌, ◌<◌, List, [], ◌∷◌, ◌++◌, Err, Ok, OnErr, OnOk, Option, Result, ap, get_or, length, subst, sym, take, drop, arith, append_assoc, take-append-drop, length-drop}
+use Rattle.std.proofs.KnownBytes.{Appends-trans}
+use Rattle.std.specs.List.{flat_map}
 use Rattle.std.specs.Io.KnownBytes.{Appends}
 use Rattle.iloc_farm.specs.Device.{WritesFront}
 use Rattle.iloc_farm.specs.Program.{Says}
 use Rattle.iloc_farm.specs.declared.device.WriteFailed.{WriteFailed}
-use Rattle.std.proofs.lemmas.List.{take_all}
+use Rattle.std.proofs.lemmas.Grind.{flat_map-append}
+use Rattle.std.proofs.lemmas.List.{flat_map_more, take_all, take_more}
 
 -- the bytes taken join the front, and the others are left
 pub moves_on : (text front rest : List ℕ) (count n : ℕ) → text ≡ front ++ rest → n ≡ length rest - count
@@ -20,3 +23,38 @@ pub says_text : {T : Type 0} (old new : Option (List ℕ)) (result : Result T Wr
     → Says old new result text
 says_text old new (Ok x) given text ok err same = subst (Appends old new) same ok
 says_text old new (Err e) given text ok err same = subst (WritesFront old new) same err
+
+-- a front of what stands behind a first part, which was written, is a front of the whole
+pub front_behind : (start old new : Option (List ℕ)) (first part after whole : List ℕ) → Appends start old first
+    → WritesFront old new part → first ++ (part ++ after) ≡ whole → WritesFront start new whole
+front_behind start old new first part after whole before behind all = record {
+  front = first ++ behind.front;
+  rest = behind.rest ++ after;
+  whole = sym all ∙ (ap (λ t. first ++ (t ++ after)) behind.whole
+      ∙ (ap (λ t. first ++ t) (append_assoc behind.front behind.rest after)
+      ∙ sym (append_assoc first behind.front (behind.rest ++ after))));
+  written = Appends-trans start old new first behind.front before behind.written;
+}
+
+-- the pieces of a text before the one at i, that one, and those behind it
+module _ {P : Type 0} (text_of : P → List ℕ) (pieces : List P) (i : ℕ) (piece : P) where
+  pub pieces_more : piece ≡ get_or pieces i piece → i < length pieces
+      → flat_map text_of (take i pieces) ++ text_of piece ≡ flat_map text_of (take (i + 1) pieces)
+  pieces_more here within =
+      flat_map_more text_of [] (take i pieces) piece
+      ∙ ap (flat_map text_of) (ap (λ p. take i pieces ++ p ∷ []) here ∙ sym (take_more pieces i piece within))
+
+  pub pieces_split : piece ≡ get_or pieces i piece → i < length pieces → (last : List ℕ)
+      → flat_map text_of (take i pieces) ++ (text_of piece ++ (flat_map text_of (drop (i + 1) pieces) ++ last))
+      ≡ flat_map text_of pieces ++ last
+  pieces_split here within last =
+      sym (append_assoc (flat_map text_of (take i pieces)) (text_of piece)
+      (flat_map text_of (drop (i + 1) pieces) ++ last))
+      ∙ (ap (λ t. t ++ (flat_map text_of (drop (i + 1) pieces) ++ last)) (pieces_more here within)
+      ∙ (sym (append_assoc (flat_map text_of (take (i + 1) pieces)) (flat_map text_of (drop (i + 1) pieces)) last)
+      ∙ ap (λ t. t ++ last) (sym (flat_map-append text_of (take (i + 1) pieces) (drop (i + 1) pieces))
+      ∙ ap (flat_map text_of) (take-append-drop (i + 1) pieces))))
+
+pub on_err : {T E : Type 0} {P : Type 0} (result : Result T E) → P → OnErr result P
+on_err (Ok x) p = tt
+on_err (Err e) p = p

@@ -1,6 +1,9 @@
 pub mod Device
+pub mod Explaining
 pub mod Fault
+pub mod Headline
 pub mod Initial
+pub mod Laws
 pub mod Listing
 pub mod Program
 pub mod Schedules

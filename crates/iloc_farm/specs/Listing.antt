@@ -80,8 +80,12 @@ count_entry lat k name s = block_head k name ++ codes " cycles " ++ decimal (cyc
 abbrev pub total_cycles : Latencies → List Table → ℕ
 total_cycles lat schedules = sum_by (cycles_of lat) schedules
 
+-- `total C`
+abbrev pub total_of : ℕ → List ℕ
+total_of cycles = codes "total " ++ decimal cycles ++ codes "\n"
+
 abbrev pub total_line : Latencies → List Table → List ℕ
-total_line lat schedules = codes "total " ++ decimal (total_cycles lat schedules) ++ codes "\n"
+total_line lat schedules = total_of (total_cycles lat schedules)
 
 -- the listing of a file's blocks with their schedules
 abbrev pub schedules_listing : Latencies → List Block → List Table → List ℕ

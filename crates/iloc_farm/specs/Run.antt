@@ -10,9 +10,11 @@ use Rattle.iloc_args.specs.declared.request.Task.TheVariants as task
 use Rattle.iloc_farm.specs.Device.{ReadsInput, WritesFront}
 use Rattle.iloc_farm.specs.declared.fault.RunFault.{RunFault}
 use Rattle.iloc_farm.specs.declared.fault.RunFault.TheVariants.{ReadFailed, Text, Farm, WriteFailed}
+use Rattle.iloc_farm.specs.Headline.{Headline}
 use Rattle.iloc_farm.specs.Initial.{memory_of}
 use Rattle.iloc_timed.specs.declared.latencies.Latencies.{Latencies}
 use Rattle.iloc_timed.specs.Schedule.{Table}
+use Rattle.iloc_farm.specs.Explaining.{ListsExplained}
 use Rattle.iloc_farm.specs.Listing.{outcomes_listing, schedules_listing, counts_listing}
 use Rattle.iloc_farm.specs.Schedules.{AreGreedy, AreTheOnlyGreedy, plain_outcomes, timed_outcomes}
 
@@ -32,7 +34,7 @@ abbrev pub simulate_listing : Latencies → List ℤ → List Block → List Tab
 simulate_listing lat memory blocks schedules = outcomes_listing blocks (timed_outcomes lat memory schedules)
 
 -- The text is what a request with this task lists of the blocks: what comes of each, run plainly or by its greedy
--- schedule, which is the same; or the greedy schedules, or their cycles.
+-- schedule, which is the same; or the greedy schedules, or their cycles, or why they take these.
 abbrev pub IsListingFor : Task → Request → List Block → List ℕ → Type 0
 IsListingFor task.Run request blocks text = text ≡ run_listing (memory_of request) blocks
 IsListingFor task.Simulate request blocks text =
@@ -42,10 +44,33 @@ IsListingFor task.Schedule request blocks text =
     ListsGreedy request.latencies blocks (schedules_listing request.latencies blocks) text
 IsListingFor task.Counts request blocks text =
     ListsGreedy request.latencies blocks (counts_listing request.latencies blocks) text
+IsListingFor task.Explain request blocks text = ListsExplained request.latencies blocks text
 
--- the text is what the request lists of the blocks
+-- the text is what the request lists of the blocks, and that does not depend on its workers
 abbrev pub IsListing : Request → List Block → List ℕ → Type 0
 IsListing request blocks text = IsListingFor request.task request blocks text
+
+-- The text is this listing of schedules that the request's workers made of the blocks. What a worker hands back may be
+-- what is listed of a schedule, which stands for the one that it lists.
+pub record ListsFarmed (request : Request) (blocks : List Block) (listing : List Table → List ℕ) (text : List ℕ)
+    : Type 0 where
+  pub schedules : List Table
+  pub headline : Headline request.latencies blocks request.workers schedules
+  pub listed : text ≡ listing schedules
+
+-- Schedules that are listed, or whose cycles are, were made by the request's workers. Runs and explanations take no other worker.
+abbrev pub IsFarmedFor : Task → Request → List Block → List ℕ → Type 0
+IsFarmedFor task.Run request blocks text = Unit {0}
+IsFarmedFor task.Simulate request blocks text = Unit {0}
+IsFarmedFor task.Schedule request blocks text =
+    ListsFarmed request blocks (schedules_listing request.latencies blocks) text
+IsFarmedFor task.Counts request blocks text =
+    ListsFarmed request blocks (counts_listing request.latencies blocks) text
+IsFarmedFor task.Explain request blocks text = Unit {0}
+
+-- the text, as far as it lists schedules, lists those that the request's workers made
+abbrev pub IsFarmed : Request → List Block → List ℕ → Type 0
+IsFarmed request blocks text = IsFarmedFor request.task request blocks text
 
 -- the bytes that were read denote the blocks
 pub record ReadsFile (old new : Option (List ℕ)) (blocks : List Block) : Type 0 where
@@ -58,6 +83,7 @@ pub record Lists (request : Request) (old new : Option (List ℕ)) (text : List 
   pub blocks : List Block
   pub file : ReadsFile old new blocks
   pub listed : IsListing request blocks text
+  pub farmed : IsFarmed request blocks text
 
 -- the bytes that were read are refused for this fault
 pub record Refuses (old new : Option (List ℕ)) (fault : ReadFault) : Type 0 where

@@ -1,4 +1,7 @@
 -- What the code does piece by piece, as steps of proof: no contract of a public function names them.
+pub mod Answered
 pub mod Detailed
+pub mod Entries
 pub mod Runner
 pub mod OfInput
+pub mod Explaining

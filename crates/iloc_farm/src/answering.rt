@@ -1,10 +1,11 @@
 //! All jobs answered by several threads.
-ghost use Rattle.std.specs.Prelude.{◌≡◌, ◌≤◌, ◌<◌, ℕ, List, [], ◌∷◌, ◌++◌, IfOk, OnOk, map};
+ghost use Rattle.std.specs.Prelude.{◌≡◌, ◌≤◌, ◌<◌, [], ◌∷◌, ◌++◌, IfOk, OnOk, map};
 ghost use Rattle.std.specs.List.{All, range_with_len};
 ghost use Rattle.iloc_board.specs.declared.state.State.TheVariants as about;
 ghost use Rattle.iloc_board.specs.Views.{state};
 ghost use Rattle.iloc_board.specs.Working.{IsDone};
-ghost use Rattle.iloc_board.specs.Collecting.{AreTheAnswers, IsWhole};
+ghost use Rattle.iloc_board.specs.Collecting.{IsWhole};
+ghost use Rattle.iloc_farm.specs.Steps.Answered.{AreAnswered};
 
 use crate::crew::crew;
 use crate::fault::FarmFault;
@@ -25,8 +26,8 @@ pub fn answer_all<J: Jobs + Sync, G: Gate + Sync, R: Threads + Wait + Sync>(
 where
     J::Answer: Send,
     requires { 0 < workers }
-    ensures { let jobs = jobs.now in IfOk result (λ c. (handed : List (ℕ × J.Answer))
-        × AreTheAnswers (J.number jobs) (J.fits jobs) (J.price jobs) handed c.answers.items c.costs.items) }
+    ensures { let jobs = jobs.now in IfOk result (λ c.
+        AreAnswered (J.number jobs) (J.fits jobs) (J.price jobs) workers c.answers.items c.costs.items) }
 {
     let (board, mut root) = Board::new(alloc, jobs, workers)?;
     let shifts = shifts(alloc, &board, &mut root, gate)?;
@@ -43,14 +44,15 @@ fn shifts<'s, 'a, J: Jobs, G: Gate>(
     gate: &'s G,
 ) -> Result<Vec<Shift<'s, 'a, J, G>>, NoMemory>
     requires own { root.old.board ≡ board.now }
-    requires fresh { (root.old.made ≡ 0) × (root.old.gathered ≡ []) }
+    requires none_made { root.old.made ≡ 0 }
+    requires none_gathered { root.old.gathered ≡ [] }
     ensures own { root.new.board ≡ board.now }
     ensures gathered { root.new.gathered ≡ [] }
     ensures ready { IfOk result (λ made.
         All (λ s. (s.pass.board ≡ s.board.now) × (s.board.now ≡ board.now) × (state s.pass ≡ about.Free)) made.items) }
     ensures numbered { IfOk result (λ made.
         map (λ s. s.pass.journal.worker) made.items ≡ range_with_len 0 root.new.made) }
-    ensures all { OnOk result (root.old.workers ≤ root.new.made) }
+    ensures all { OnOk result (root.new.made ≡ root.old.workers) }
 {
     let mut made = Vec::new(alloc);
     while root.made() < root.workers() {
@@ -110,7 +112,7 @@ fn finish<'a, J: Jobs>(
     requires own { root.board ≡ board }
     requires whole { IsWhole root.made root.gathered }
     ensures { let jobs = board.entry.jobs in IfOk result (λ c.
-        AreTheAnswers (J.number jobs) (J.fits jobs) (J.price jobs) root.entry.answers c.answers.items c.costs.items) }
+        AreAnswered (J.number jobs) (J.fits jobs) (J.price jobs) root.entry.made c.answers.items c.costs.items) }
 {
     match board.collect(root) {
         Ok(collected) => Ok(collected),

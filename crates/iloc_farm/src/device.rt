@@ -63,6 +63,16 @@ pub fn write_text<W: Write>(writer: &mut W, text: &[u8]) -> Result<(), WriteFail
     ensures err { OnErr result
         (WritesFront (W.contents writer.old) (W.contents writer.new) text.now) }
 {
+    write_bytes(writer, text)?;
+    writer.flush().map_err(|_| WriteFailed)
+}
+
+/// Writes the whole text. After a failure a front of it was written.
+pub(crate) fn write_bytes<W: Write>(writer: &mut W, text: &[u8]) -> Result<(), WriteFailed>
+    ensures ok { OnOk result (Appends (W.contents writer.old) (W.contents writer.new) text.now) }
+    ensures err { OnErr result
+        (WritesFront (W.contents writer.old) (W.contents writer.new) text.now) }
+{
     let mut rest = text;
     while !rest.is_empty() {
         match writer.write(rest) {
@@ -70,5 +80,5 @@ pub fn write_text<W: Write>(writer: &mut W, text: &[u8]) -> Result<(), WriteFail
             _ => return Err(WriteFailed),
         }
     }
-    writer.flush().map_err(|_| WriteFailed)
+    Ok(())
 }

@@ -1,24 +1,23 @@
 //! The whole run: from the bytes that a reader gives to those that a writer takes.
-ghost use Rattle.std.specs.Prelude.{◌≡◌, ◌≢◌, ◌<◌, ◌^◌, length, IfOk, IfErr, OnOk, List, ℕ};
+ghost use Rattle.std.specs.Prelude.{◌≢◌, IfOk, IfErr, OnOk, List, ℕ};
 ghost use Rattle.std.specs.Io.KnownBytes.{Appends};
 ghost use Rattle.iloc_text.specs.Files.{Denotes, IsRefused};
 ghost use Rattle.iloc_farm.specs.Steps.OfInput.{EndsText, ListsInput};
-ghost use Rattle.iloc_farm.specs.Listing.{total_cycles};
 ghost use Rattle.iloc_farm.specs.Run.{EndsRun, Lists};
-ghost use Rattle.iloc_farm.specs.Schedules.{AreGreedy, AreTheOnlyGreedy, IsWithinLimits};
+ghost use Rattle.iloc_farm.specs.Schedules.{IsWithinLimits};
 
-use crate::device::{read_input, write_text};
-use crate::farm::schedule_all;
-use crate::fault::{FarmFault, RunFault};
+use crate::device::read_input;
+use crate::explained::explained_text;
+use crate::farmed::farmed_text;
+use crate::fault::RunFault;
 use crate::initial::initial_memory;
-use crate::listing::{counts_text, schedules_text};
+use crate::listing::Detail;
 use crate::outcomes::outcomes_listed;
+use crate::pieces::Pieces;
 use crate::runner::Runner;
 use iloc_args::{Request, Task};
-use iloc_board::FreeGate;
 use iloc_text::laws::files_are_within_limits;
 use iloc_text::{IlocFile, ReadFault, read_file};
-use iloc_timed::Schedule;
 use std::alloc::Global;
 use std::io::{Read, Write};
 use std::sync::Wait;
@@ -33,57 +32,41 @@ fn file_of(alloc: Global, input: Vec<u8>) -> Result<IlocFile, ReadFault>
     read_file(alloc, &input)
 }
 
-/// The greedy schedules of the file's blocks, for the request's latencies and by its workers.
-fn schedules_of<R: Threads + Wait + Sync>(
-    rt: &R,
-    alloc: Global,
-    file: &IlocFile,
-    request: &Request,
-) -> Result<Vec<Schedule>, FarmFault>
-    requires { IsWithinLimits file.now.blocks }
-    ensures greedy { IfOk result (λ schedules.
-        AreGreedy request.now.latencies file.now.blocks schedules.items) }
-    ensures only { IfOk result (λ schedules.
-        AreTheOnlyGreedy request.now.latencies file.now.blocks schedules.items) }
-    ensures each { IfOk result (λ schedules. length schedules.items ≡ length file.now.blocks) }
-    ensures total { IfOk result (λ schedules.
-        total_cycles request.now.latencies schedules.items < 2 ^ 63) }
-{
-    let latencies = &request.latencies;
-    let schedules = schedule_all(rt, alloc, file, latencies, request.workers, &FreeGate)?;
-    Ok(schedules)
-}
-
 /// What the request lists of the blocks that the input denotes.
 fn request_text<R: Threads + Wait + Sync>(
     rt: &R,
     alloc: Global,
     input: Vec<u8>,
     request: &Request,
-) -> Result<Vec<u8>, RunFault>
-    ensures ok { IfOk result (λ text. ListsInput request.now input.items text.items) }
+) -> Result<Pieces, RunFault>
+    ensures ok { IfOk result (λ text. ListsInput request.now input.items text) }
     ensures err { IfErr result (EndsText input.items) }
 {
-    let latencies = &request.latencies;
     match request.task {
         Task::Run => {
             let memory = initial_memory(alloc, request)?;
-            Ok(outcomes_listed(alloc, &input, Runner::plain(alloc, memory)?)?)
+            let runner = Runner::plain(alloc, memory)?;
+            let text = outcomes_listed(alloc, &input, runner)?;
+            Ok(Pieces::new(alloc, text))
         }
         Task::Simulate => {
             let memory = initial_memory(alloc, request)?;
-            let runner = Runner::timed(alloc, memory, *latencies)?;
-            Ok(outcomes_listed(alloc, &input, runner)?)
+            let runner = Runner::timed(alloc, memory, request.latencies)?;
+            let text = outcomes_listed(alloc, &input, runner)?;
+            Ok(Pieces::new(alloc, text))
         }
         Task::Schedule => {
             let file = file_of(alloc, input)?;
-            let schedules = schedules_of(rt, alloc, &file, request)?;
-            Ok(schedules_text(alloc, &file, latencies, &schedules)?)
+            Ok(farmed_text(rt, alloc, &file, request, Detail::Rows)?)
         }
         Task::Counts => {
             let file = file_of(alloc, input)?;
-            let schedules = schedules_of(rt, alloc, &file, request)?;
-            Ok(counts_text(alloc, &file, latencies, &schedules)?)
+            Ok(farmed_text(rt, alloc, &file, request, Detail::Cycles)?)
+        }
+        Task::Explain => {
+            let file = file_of(alloc, input)?;
+            let text = explained_text(alloc, &file, &request.latencies)?;
+            Ok(Pieces::new(alloc, text))
         }
     }
 }
@@ -110,6 +93,6 @@ pub fn run<H: Threads + Wait + Sync, R: Read, W: Write>(
 {
     let input = read_input(alloc, reader)?;
     let text = request_text(rt, alloc, input, request)?;
-    write_text(writer, &text)?;
+    text.write_to(writer)?;
     Ok(())
 }

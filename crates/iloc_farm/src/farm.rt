@@ -1,5 +1,6 @@
 //! The farm: the blocks of a file, scheduled by several workers.
 ghost use Rattle.std.specs.Prelude.{◌≤◌, IfOk};
+ghost use Rattle.iloc_farm.specs.Headline.{Headline};
 ghost use Rattle.iloc_farm.specs.Schedules.{AreGreedy, AreTheOnlyGreedy, IsWithinLimits, KeepOutcomes};
 
 use crate::answering::answer_all;
@@ -30,6 +31,8 @@ pub fn schedule_all<R: Threads + Wait + Sync, G: Gate + Sync>(
     requires some_worker { 1 ≤ workers }
     requires few_workers { workers ≤ 8 }
     requires limits { IsWithinLimits file.now.blocks }
+    ensures headline { IfOk result (λ schedules.
+        Headline latencies.now file.now.blocks workers schedules.items) }
     ensures greedy { IfOk result (λ schedules.
         AreGreedy latencies.now file.now.blocks schedules.items) }
     ensures only { IfOk result (λ schedules.

@@ -14,7 +14,7 @@ use iloc_timed::{Latencies, Row, Schedule, cycles};
 use std::alloc::Global;
 
 /// Appends `block K NAME`, with `-` for a block without a name.
-fn push_block_head(text: &mut Vec<u8>, number: usize, name: Option<&Name>) -> Result<(), NoMemory>
+pub(crate) fn push_block_head(text: &mut Vec<u8>, number: usize, name: Option<&Name>) -> Result<(), NoMemory>
     requires { number < 2 ^ 63 }
     ensures { OnOk result
         (text.new.items ≡ text.old.items ++ listed.block_head number (option_copied name.entry)) }
@@ -113,7 +113,7 @@ fn push_rows(text: &mut Vec<u8>, ops: &[Op], rows: &[Row]) -> Result<(), NoMemor
 
 /// What is listed of a schedule.
 #[derive(Clone, Copy, Debug, PartialEq, Eq)]
-enum Detail {
+pub enum Detail {
     /// Its rows and its cycles.
     Rows,
     /// Its cycles alone.
@@ -122,7 +122,7 @@ enum Detail {
 
 /// Appends what is listed of the block with this number, counted from 1, and this schedule, which
 /// takes so many cycles.
-fn push_schedule(
+pub(crate) fn push_schedule(
     text: &mut Vec<u8>,
     number: usize,
     name: Option<&Name>,
@@ -145,6 +145,17 @@ fn push_schedule(
         text.extend_from_slice(b" cycles ")?;
     }
     push_number(text, cycles as i64)?;
+    text.push(b'\n')?;
+    Ok(())
+}
+
+/// Appends the line of the cycles of all.
+pub(crate) fn push_total(text: &mut Vec<u8>, total: u64) -> Result<(), NoMemory>
+    requires { total < 2 ^ 63 }
+    ensures { OnOk result (text.new.items ≡ text.old.items ++ listed.total_of total) }
+{
+    text.extend_from_slice(b"total ")?;
+    push_number(text, total as i64)?;
     text.push(b'\n')?;
     Ok(())
 }
@@ -177,9 +188,7 @@ fn farm_text(
         )?;
         total += cycles;
     }
-    text.extend_from_slice(b"total ")?;
-    push_number(&mut text, total as i64)?;
-    text.push(b'\n')?;
+    push_total(&mut text, total)?;
     Ok(text)
 }
 

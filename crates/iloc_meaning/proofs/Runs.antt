@@ -5,13 +5,13 @@ use Rattle.std.proofs.lemmas.List.{get_or_default}
 use Rattle.iloc_text.specs.declared.op.Reg.{Reg}
 use Rattle.iloc_text.specs.declared.op.Op.{Op}
 use Rattle.iloc_text.specs.declared.op.Op.TheVariants.{Nop}
-use Rattle.iloc_meaning.specs.declared.machine.Machine.{Machine}
+use Rattle.iloc_meaning.specs.declared.state.State.{State}
 use Rattle.iloc_meaning.specs.declared.outcome.Outcome.TheVariants.{Fault}
 use Rattle.iloc_meaning.specs.Memory.{word_at, with_words}
 use Rattle.iloc_meaning.specs.Trace.{then_executed, before}
 use Rattle.iloc_meaning.specs.Outcome.{has_fault, outcome}
 use Rattle.iloc_meaning.specs.Registers.{value_of}
-use Rattle.iloc_meaning.specs.Steps.Machine.{Follows}
+use Rattle.iloc_meaning.specs.Steps.State.{Follows}
 
 pub with_words_same : (memory : List ℤ) → memory ≡ with_words memory (word_at memory)
 with_words_same memory =
@@ -19,10 +19,10 @@ with_words_same memory =
     (λ k below. let same : 4 * k / 4 ≡ k = omega arith in ap (λ j. get_or memory j (pos 0)) (sym same))
 
 -- a block begins with all registers 0, the memory handed in and no output
-pub begins : (machine : Machine) (memory : List ℤ) → length memory ≡ 16384
-    → ((r : Reg) → value_of machine.registers r ≡ pos 0) → machine.memory ≡ record { first = memory; words = memory }
-    → machine.outputs.items ≡ [] → Follows memory [] machine
-begins machine memory size registers words outputs = record {
+pub begins : (state : State) (memory : List ℤ) → length memory ≡ 16384
+    → ((r : Reg) → value_of state.registers r ≡ pos 0) → state.memory ≡ record { first = memory; words = memory }
+    → state.outputs.items ≡ [] → Follows memory [] state
+begins state memory size registers words outputs = record {
   size = size;
   first = ap (λ m. m.first) words;
   registers = registers;
@@ -39,10 +39,10 @@ next memory ops items i other same within =
     rw add-one (ap (λ op. then_executed memory op (before memory ops i)) here)
 
 -- a run that takes the next operation goes on
-pub goes_on : (memory : List ℤ) (ops items : List Op) (i : ℕ) (other : Op) (machine : Machine) → items ≡ ops
-    → i < length items → Follows memory (then_executed memory (get_or items i other) (before memory ops i)) machine
-    → Follows memory (before memory ops (i + 1)) machine
-goes_on memory ops items i other machine same within follows = rw (next memory ops items i other same within) follows
+pub goes_on : (memory : List ℤ) (ops items : List Op) (i : ℕ) (other : Op) (state : State) → items ≡ ops
+    → i < length items → Follows memory (then_executed memory (get_or items i other) (before memory ops i)) state
+    → Follows memory (before memory ops (i + 1)) state
+goes_on memory ops items i other state same within follows = rw (next memory ops items i other same within) follows
 
 or_right : (a b : Bool) → b ≡ true → (a || b) ≡ true
 or_right true b holds = refl

@@ -4,7 +4,7 @@ use Rattle.std.proofs.lemmas.Bool.Decides.{nat_tests}
 use Rattle.iloc_text.specs.declared.op.Reg.{Reg}
 use Rattle.iloc_text.specs.declared.op.Op.{Op}
 use Rattle.iloc_text.specs.Registers.{defined}
-use Rattle.iloc_meaning.specs.declared.machine.Machine.{Machine}
+use Rattle.iloc_meaning.specs.declared.state.State.{State}
 use Rattle.iloc_meaning.specs.declared.effect.Effect.TheVariants.{Faults, Gives, Writes, Emits, Nothing}
 use Rattle.iloc_meaning.specs.Memory.{word_at}
 use Rattle.iloc_meaning.specs.Effect.{effect}
@@ -12,34 +12,34 @@ use Rattle.iloc_meaning.specs.Trace.{Executed, register_after, word_after, then_
 use Rattle.iloc_meaning.specs.Outcome.{has_fault, emitted}
 use Rattle.iloc_meaning.specs.Scratch.{ScratchView}
 use Rattle.iloc_meaning.specs.Registers.{Values, value_of, ChangesOnly}
-use Rattle.iloc_meaning.specs.Steps.Machine.{Follows}
+use Rattle.iloc_meaning.specs.Steps.State.{Follows}
 use Rattle.iloc_meaning.proofs.Cases.{by_bool}
 use Rattle.iloc_meaning.proofs.MemoryWords.{word_at-with_words, set-with_words}
 use Rattle.iloc_meaning.proofs.Effects.{effect_same, has_no_result, defined-no_result, writes_well, writes_well-effect}
 
--- the trace's registers and words give an operation the effect that the machine's give it
-pub effect_after : (memory : List ℤ) (trace : List Executed) (machine : Machine) (op : Op)
-    → Follows memory trace machine → effect op (register_after trace) (word_after memory trace)
-    ≡ effect op (value_of machine.registers) (word_at machine.memory.words)
-effect_after memory trace machine op follows =
+-- the trace's registers and words give an operation the effect that the state's give it
+pub effect_after : (memory : List ℤ) (trace : List Executed) (state : State) (op : Op)
+    → Follows memory trace state → effect op (register_after trace) (word_after memory trace)
+    ≡ effect op (value_of state.registers) (word_at state.memory.words)
+effect_after memory trace state op follows =
     effect_same op _ _ _ _ (λ r used. sym (follows.registers r))
     (λ a good. sym (ap (λ words. word_at words a) follows.words
     ∙ word_at-with_words memory (word_after memory trace) a follows.size good))
 
 -- an operation that faults
-pub after_fault : (memory : List ℤ) (trace : List Executed) (machine : Machine) (op : Op) → Follows memory trace machine
-    → Faults ≡ effect op (value_of machine.registers) (word_at machine.memory.words)
+pub after_fault : (memory : List ℤ) (trace : List Executed) (state : State) (op : Op) → Follows memory trace state
+    → Faults ≡ effect op (value_of state.registers) (word_at state.memory.words)
     → has_fault (then_executed memory op trace) ≡ true
-after_fault memory trace machine op follows is = rw (effect_after memory trace machine op follows, ← is) refl
+after_fault memory trace state op follows is = rw (effect_after memory trace state op follows, ← is) refl
 
 -- an operation that gives a result
-pub after_result : (memory : List ℤ) (trace : List Executed) (machine : Machine) (op : Op) (result : ℤ) (r : Reg)
-    (new : Values) → Follows memory trace machine
-    → Gives result ≡ effect op (value_of machine.registers) (word_at machine.memory.words) → Some r ≡ defined op
-    → ChangesOnly machine.registers new r result
-    → Follows memory (then_executed memory op trace) (record machine { registers = new })
-after_result memory trace machine op result r new follows is register changes =
-    rw (effect_after memory trace machine op follows, ← is) record {
+pub after_result : (memory : List ℤ) (trace : List Executed) (state : State) (op : Op) (result : ℤ) (r : Reg)
+    (new : Values) → Follows memory trace state
+    → Gives result ≡ effect op (value_of state.registers) (word_at state.memory.words) → Some r ≡ defined op
+    → ChangesOnly state.registers new r result
+    → Follows memory (then_executed memory op trace) (record state { registers = new })
+after_result memory trace state op result r new follows is register changes =
+    rw (effect_after memory trace state op follows, ← is) record {
       size = follows.size;
       first = follows.first;
       registers = λ s. rw (← register) (by_bool (s.0 == r.0)
@@ -53,13 +53,13 @@ after_result memory trace machine op result r new follows is register changes =
     }
 
 -- an operation that writes
-pub after_write : (memory : List ℤ) (trace : List Executed) (machine : Machine) (op : Op) (a : ℕ) (w : ℤ)
-    (new : ScratchView) → Follows memory trace machine
-    → Writes a w ≡ effect op (value_of machine.registers) (word_at machine.memory.words)
-    → new.first ≡ machine.memory.first → new.words ≡ set machine.memory.words (a / 4) w
-    → Follows memory (then_executed memory op trace) (record machine { memory = new })
-after_write memory trace machine op a w new follows is kept written =
-    rw (effect_after memory trace machine op follows, ← is) record {
+pub after_write : (memory : List ℤ) (trace : List Executed) (state : State) (op : Op) (a : ℕ) (w : ℤ)
+    (new : ScratchView) → Follows memory trace state
+    → Writes a w ≡ effect op (value_of state.registers) (word_at state.memory.words)
+    → new.first ≡ state.memory.first → new.words ≡ set state.memory.words (a / 4) w
+    → Follows memory (then_executed memory op trace) (record state { memory = new })
+after_write memory trace state op a w new follows is kept written =
+    rw (effect_after memory trace state op follows, ← is) record {
       size = follows.size;
       first = kept ∙ follows.first;
       registers = λ s. rw (defined-no_result op _ _ (ap has_no_result (sym is))) (follows.registers s);
@@ -76,12 +76,12 @@ after_write memory trace machine op a w new follows is kept written =
     }
 
 -- an operation that emits
-pub after_output : (memory : List ℤ) (trace : List Executed) (machine : Machine) (op : Op) (w : ℤ) (new : Vec ℤ Global)
-    → Follows memory trace machine → Emits w ≡ effect op (value_of machine.registers) (word_at machine.memory.words)
-    → new.items ≡ machine.outputs.items ++ w ∷ []
-    → Follows memory (then_executed memory op trace) (record machine { outputs = new })
-after_output memory trace machine op w new follows is pushed =
-    rw (effect_after memory trace machine op follows, ← is) record {
+pub after_output : (memory : List ℤ) (trace : List Executed) (state : State) (op : Op) (w : ℤ) (new : Vec ℤ Global)
+    → Follows memory trace state → Emits w ≡ effect op (value_of state.registers) (word_at state.memory.words)
+    → new.items ≡ state.outputs.items ++ w ∷ []
+    → Follows memory (then_executed memory op trace) (record state { outputs = new })
+after_output memory trace state op w new follows is pushed =
+    rw (effect_after memory trace state op follows, ← is) record {
       size = follows.size;
       first = follows.first;
       registers = λ s. rw (defined-no_result op _ _ (ap has_no_result (sym is))) (follows.registers s);
@@ -91,11 +91,11 @@ after_output memory trace machine op w new follows is pushed =
     }
 
 -- an operation that does nothing
-pub after_nothing : (memory : List ℤ) (trace : List Executed) (machine : Machine) (op : Op)
-    → Follows memory trace machine → Nothing ≡ effect op (value_of machine.registers) (word_at machine.memory.words)
-    → Follows memory (then_executed memory op trace) machine
-after_nothing memory trace machine op follows is =
-    rw (effect_after memory trace machine op follows, ← is) record {
+pub after_nothing : (memory : List ℤ) (trace : List Executed) (state : State) (op : Op)
+    → Follows memory trace state → Nothing ≡ effect op (value_of state.registers) (word_at state.memory.words)
+    → Follows memory (then_executed memory op trace) state
+after_nothing memory trace state op follows is =
+    rw (effect_after memory trace state op follows, ← is) record {
       size = follows.size;
       first = follows.first;
       registers = λ s. rw (defined-no_result op _ _ (ap has_no_result (sym is))) (follows.registers s);

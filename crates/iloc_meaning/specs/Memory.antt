@@ -1,10 +1,11 @@
 -- A memory as the list of its words: the word at the address 4 * k is the kth.
 use Rattle.std.specs.Prelude.{ℕ, ◌*◌, ◌/◌, List, length, map, replicate, slice_index_or, ℤ, pos}
 use Rattle.std.specs.List.{range_with_len}
+use Rattle.iloc_meaning.specs.declared.memory.TheConstants.{WORDS}
 
 -- the memory of zeros
 unfoldable pub zeros : List ℤ
-zeros = replicate 16384 (pos 0)
+zeros = replicate WORDS (pos 0)
 
 -- the word at a good address
 abbrev pub word_at : List ℤ → ℕ → ℤ

@@ -3,7 +3,7 @@ use Rattle.std.specs.Prelude.{Bool, true, false, if◌then◌else◌, List, [], 
 use Rattle.std.specs.List.{list_any}
 use Rattle.iloc_text.specs.declared.op.Op.{Op}
 use Rattle.iloc_meaning.specs.declared.effect.Effect.{Effect}
-use Rattle.iloc_meaning.specs.declared.effect.Effect.TheVariants.{Faults, Gives, Writes, Emits, Nothing}
+use Rattle.iloc_meaning.specs.declared.effect.Effect.TheVariants.{Faults, Emits}
 use Rattle.iloc_meaning.specs.declared.outcome.Outcome.{Outcome}
 use Rattle.iloc_meaning.specs.declared.outcome.Outcome.TheVariants.{Finished, Fault}
 use Rattle.iloc_meaning.specs.Memory.{with_words}
@@ -12,18 +12,12 @@ use Rattle.iloc_meaning.specs.Trace.{Executed, before, word_after}
 -- whether the effect is a fault
 abbrev pub is_fault : Effect → Bool
 is_fault Faults = true
-is_fault (Gives result) = false
-is_fault (Writes address word) = false
-is_fault (Emits word) = false
-is_fault Nothing = false
+is_fault _ = false
 
 -- the word that an effect emits, if any
 abbrev pub emitted_by : Effect → List ℤ
-emitted_by Faults = []
-emitted_by (Gives result) = []
-emitted_by (Writes address word) = []
 emitted_by (Emits word) = word ∷ []
-emitted_by Nothing = []
+emitted_by _ = []
 
 -- whether an operation of the trace faulted
 abbrev pub has_fault : List Executed → Bool

@@ -2,23 +2,18 @@
 use Rattle.std.specs.Prelude.{Option, Some, None}
 use Rattle.iloc_text.specs.declared.op.Reg.{Reg}
 use Rattle.iloc_meaning.specs.declared.effect.Effect.{Effect}
-use Rattle.iloc_meaning.specs.declared.effect.Effect.TheVariants.{Faults, Gives, Writes, Emits, Nothing}
+use Rattle.iloc_meaning.specs.declared.effect.Effect.TheVariants.{Faults, Gives}
 
 -- the effect is a result, or a fault
 abbrev pub GivesOrFaults : Effect → Type 0
 GivesOrFaults Faults = Unit {0}
 GivesOrFaults (Gives result) = Unit {0}
-GivesOrFaults (Writes address word) = ⊥
-GivesOrFaults (Emits word) = ⊥
-GivesOrFaults Nothing = ⊥
+GivesOrFaults _ = ⊥
 
 -- the effect is no result
 abbrev pub GivesNothing : Effect → Type 0
-GivesNothing Faults = Unit {0}
 GivesNothing (Gives result) = ⊥
-GivesNothing (Writes address word) = Unit {0}
-GivesNothing (Emits word) = Unit {0}
-GivesNothing Nothing = Unit {0}
+GivesNothing _ = Unit {0}
 
 -- a result goes to the defined register: where one is defined there is a result or a fault, and
 -- where none is there is no result

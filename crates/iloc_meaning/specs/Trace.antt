@@ -5,7 +5,7 @@ use Rattle.iloc_text.specs.declared.op.Op.{Op}
 use Rattle.iloc_text.specs.declared.op.Op.TheVariants.{Nop}
 use Rattle.iloc_text.specs.Registers.{defined}
 use Rattle.iloc_meaning.specs.declared.effect.Effect.{Effect}
-use Rattle.iloc_meaning.specs.declared.effect.Effect.TheVariants.{Faults, Gives, Writes, Emits, Nothing}
+use Rattle.iloc_meaning.specs.declared.effect.Effect.TheVariants.{Gives, Writes}
 use Rattle.iloc_meaning.specs.Memory.{word_at}
 use Rattle.iloc_meaning.specs.Effect.{effect}
 
@@ -16,19 +16,13 @@ pub record Executed : Type 0 where
 
 -- the result of an effect, 0 where it gives none
 abbrev pub result_of : Effect → ℤ
-result_of Faults = pos 0
 result_of (Gives result) = result
-result_of (Writes address word) = pos 0
-result_of (Emits word) = pos 0
-result_of Nothing = pos 0
+result_of _ = pos 0
 
 -- the word that an effect writes, 0 where it writes none
 abbrev pub written_by : Effect → ℤ
-written_by Faults = pos 0
-written_by (Gives result) = pos 0
 written_by (Writes address word) = word
-written_by (Emits word) = pos 0
-written_by Nothing = pos 0
+written_by _ = pos 0
 
 -- whether it is register r
 abbrev pub is_register : Reg → Option Reg → Bool
@@ -41,11 +35,8 @@ defines r e = is_register r (defined e.op)
 
 -- whether the effect is a write to the address a
 abbrev pub is_write_to : ℕ → Effect → Bool
-is_write_to a Faults = false
-is_write_to a (Gives result) = false
 is_write_to a (Writes address word) = a == address
-is_write_to a (Emits word) = false
-is_write_to a Nothing = false
+is_write_to a _ = false
 
 -- whether the operation wrote to the address a
 abbrev pub writes_to : ℕ → Executed → Bool

@@ -3,10 +3,9 @@ ghost use Rattle.std.specs.Prelude.{◌≡◌, [], IfOk, OnOk};
 ghost use Rattle.std.specs.Option.{option_copied};
 ghost use Rattle.iloc_meaning.specs.Outcome.{outcome, shown};
 
-use crate::machine::Machine;
 use crate::memory::Memory;
 use crate::outcome::Outcome;
-use crate::words::Words;
+use crate::state::State;
 use iloc_text::{Block, NoMemory};
 use std::alloc::Global;
 use std::marker::Model;
@@ -15,18 +14,16 @@ use std::marker::Model;
 /// It holds that memory and no copy: what a block wrote is undone before the next one runs.
 #[derive(Drop)]
 pub struct Interpreter {
-    machine: Machine,
-    // Whether the last block came to its end.
-    finished: bool,
+    state: State,
 }
 
 impl Model for Interpreter {
     ghost use Rattle.iloc_meaning.specs.Outcome.{Runs};
-    ghost use Rattle.iloc_meaning.specs.Steps.Machine.{leaves};
+    ghost use Rattle.iloc_meaning.specs.State.{leaves};
 
     ghost Value = { Runs };
 
-    ghost view = { λ i. record { memory = i.machine.memory.first; last = leaves i.finished i.machine } };
+    ghost view = { λ i. record { memory = i.state.memory.first; last = leaves i.state.finished i.state } };
 }
 
 impl Interpreter {
@@ -36,8 +33,7 @@ impl Interpreter {
         ensures { IfOk result (λ it. it ≡ record { memory = memory; last = Outcome.Finished [] memory }) }
     {
         Ok(Interpreter {
-            machine: Machine::new(alloc, memory)?,
-            finished: true,
+            state: State::new(alloc, memory)?,
         })
     }
 
@@ -46,7 +42,7 @@ impl Interpreter {
         ensures memory { self.new.memory ≡ self.old.memory }
         ensures outcome { OnOk result (self.new.last ≡ outcome block.now.ops self.old.memory) }
     {
-        self.finished = self.machine.run(block.ops.as_slice())?;
+        self.state.finished = self.state.run(block.ops.as_slice())?;
         Ok(())
     }
 
@@ -54,23 +50,13 @@ impl Interpreter {
     pub fn outputs(&self) -> Option<&[i32]>
         ensures { option_copied result ≡ shown self.now.last }
     {
-        if self.finished {
-            Some(self.machine.outputs.as_slice())
-        } else {
-            None
-        }
+        self.state.outputs()
     }
 
     /// The outcome of the last block.
     pub fn into_outcome(self) -> Outcome
         ensures { result ≡ self.last }
     {
-        if !self.finished {
-            return Outcome::Fault;
-        }
-        Outcome::Finished {
-            outputs: Words::new(self.machine.outputs),
-            memory: self.machine.memory.into_memory(),
-        }
+        self.state.into_outcome()
     }
 }

@@ -1,16 +1,16 @@
 //! What a basic block does: its memory, the effect of an operation, the outcome of a plain run.
 #![tactic(auto)]
 
-mod arithmetic;
+pub mod arithmetic;
 mod effect;
 mod interpreter;
 pub mod laws;
-mod machine;
 mod memory;
 mod outcome;
 mod registers;
 mod run;
 mod scratch;
+mod state;
 mod words;
 
 pub use effect::Effect;
@@ -20,4 +20,5 @@ pub use outcome::Outcome;
 pub use registers::Registers;
 pub use run::run_block;
 pub use scratch::Scratch;
+pub use state::State;
 pub use words::Words;

@@ -21,12 +21,13 @@ pub struct Memory {
 
 impl Model for Memory {
     ghost use Rattle.std.specs.Prelude.{◌≡◌, List, ℤ, vec_len};
+    ghost use Rattle.iloc_meaning.specs.declared.memory.TheConstants.{WORDS};
 
     ghost Value = { List ℤ };
 
     ghost view = { λ memory. memory.words.items };
 
-    ghost invariant = { λ memory. vec_len memory.words ≡ 16384 };
+    ghost invariant = { λ memory. vec_len memory.words ≡ WORDS };
 }
 
 impl Memory {

@@ -8,12 +8,14 @@ pub mod Noting
 pub mod Adding
 pub mod Raising
 pub mod Nearest
+pub mod Linked
 pub mod Walk
 pub mod Wheel
 pub mod Issuing
 pub mod ReadyNow
 pub mod Reads
 pub mod Passing
+pub mod Ranks
 pub mod Queues
 pub mod Admitting
 pub mod Chosen

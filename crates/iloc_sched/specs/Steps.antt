@@ -5,6 +5,7 @@ pub mod Members
 pub mod Near
 pub mod Graph
 pub mod Progress
+pub mod Wheel
 pub mod Views
 pub mod Order
 pub mod Changes
@@ -12,6 +13,7 @@ pub mod Classes
 pub mod Queued
 pub mod SoFar
 pub mod Opening
+pub mod ByRegister
 pub mod Lasts
 pub mod PartialGraph
 pub mod Naming

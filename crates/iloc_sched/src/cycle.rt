@@ -1,45 +1,23 @@
 //! One cycle of a schedule after another.
-ghost use Rattle.std.specs.Prelude.{ℕ, ◌≡◌, ◌+◌, ◌<◌, ◌≤◌, [], length, IfOk, OnOk};
+ghost use Rattle.std.specs.Prelude.{◌≡◌, ◌+◌, ◌^◌, ◌<◌, [], length, IfOk, OnOk};
 ghost use Rattle.iloc_timed.specs.Rows.{row_at, slots};
-ghost use Rattle.iloc_sched.specs.Steps.Members.{In, AreApart};
-ghost use Rattle.iloc_sched.specs.Steps.Changes.{HasNone};
-ghost use Rattle.iloc_sched.specs.Steps.Queued.{candidates, IsBest};
-ghost use Rattle.iloc_sched.specs.Steps.SoFar.{IsPlan, Admits, IsUnderWay, IsSoFar, IssuesAny, row_with, slot_count, waiting_count};
+ghost use Rattle.iloc_sched.specs.Steps.Queued.{IsBest};
+ghost use Rattle.iloc_sched.specs.Steps.SoFar.{IsPlan, IsUnderWay, IsSoFar, IssuesAny, row_with, slot_count, waiting_count};
+ghost use Rattle.iloc_sched.specs.Steps.Views.{issued_list};
 
-use crate::candidate::Candidate;
 use crate::class::Class;
 use crate::plan::Plan;
 use crate::queues::{Choice, Queues};
 use crate::waiting::Waiting;
 use iloc_text::NoMemory;
-use iloc_timed::{Kind, Row};
-use std::cmp::Reverse;
-
-/// Adds operations that have become ready to the queues, which have none of them.
-fn admit(plan: &Plan, queues: &mut Queues, due: &[u32]) -> Result<(), NoMemory>
-    requires sized { length plan.now.priorities.items ≡ length plan.now.ops.items }
-    requires within { (j : ℕ) → In due.now j → j < length plan.now.ops.items }
-    requires apart { AreApart due.now }
-    requires new { (j : ℕ) (k : Class) → In due.now j → HasNone (candidates queues.old k) j }
-    ensures { OnOk result (Admits plan.now.ops.items plan.now.priorities.items queues.old queues.new due.now) }
-{
-    for i in due {
-        let place = *i as usize;
-        let candidate = Candidate {
-            priority: plan.priorities[place],
-            number: Reverse(*i),
-        };
-        queues.insert(Class::of(Kind::of(&plan.ops[place])), candidate)?;
-    }
-    Ok(())
-}
+use iloc_timed::Row;
 
 /// The row of a choice with what stands beside it. A product stands on unit 1, a load or a store on unit 0.
 fn row_of(a: &Choice, b: &Option<Choice>) -> Row
     ensures { result ≡ row_with a.now b.now }
 {
-    let first = Some(a.candidate.number.0 as usize);
-    let second = b.as_ref().map(|b| b.candidate.number.0 as usize);
+    let first = Some(a.candidate.number as usize);
+    let second = b.as_ref().map(|b| b.candidate.number as usize);
     if a.class == Class::Product || b.as_ref().is_some_and(|b| b.class == Class::Memory) {
         Row {
             zero: second,
@@ -64,18 +42,18 @@ fn slot_count(beside: &Option<Choice>) -> usize
 }
 
 impl Waiting {
-    ghost use Rattle.iloc_sched.specs.Steps.Graph.{IsGraph};
-
     /// At the start of a cycle what becomes ready then goes into the queues.
     fn release(&mut self, plan: &Plan, queues: &mut Queues, cycle: u32) -> Result<(), NoMemory>
         requires plan { IsPlan plan.now }
         requires under_way { IsUnderWay plan.now self.old queues.old cycle }
         ensures under_way { OnOk result (IsUnderWay plan.now self.new queues.new (cycle + 1)) }
-        ensures issued { OnOk result (self.new.issued ≡ self.old.issued) }
+        ensures issued { OnOk result (issued_list self.new ≡ issued_list self.old) }
     {
-        let bucket = (cycle % 32) as usize;
-        admit(plan, queues, &self.wheel[bucket])?;
-        self.wheel[bucket].clear();
+        while let Some(j) = self.take(cycle) {
+            let class = plan.class_of(j);
+            let candidate = plan.candidate(j);
+            queues.insert(class, candidate)?;
+        }
         Ok(())
     }
 
@@ -86,18 +64,16 @@ impl Waiting {
         queues: &mut Queues,
         beside: Option<Class>,
         cycle: u32,
-    ) -> Result<Option<Choice>, NoMemory>
-        requires small { cycle < 999999 }
+    ) -> Option<Choice>
+        requires small { cycle + 17 < 2 ^ 32 }
         requires plan { IsPlan plan.now }
         requires under_way { IsUnderWay plan.now self.old queues.old (cycle + 1) }
-        ensures best { IfOk result (λ choice. IsBest queues.old beside choice) }
-        ensures issues { IfOk result (λ choice. IssuesAny plan.now self.old self.new queues.old queues.new cycle choice) }
+        ensures best { IsBest queues.old beside result }
+        ensures issues { IssuesAny plan.now self.old self.new queues.old queues.new cycle result }
     {
-        let Some(choice) = queues.take(beside) else {
-            return Ok(None);
-        };
-        self.issue(&plan.edges, choice.candidate.number.0 as usize, cycle)?;
-        Ok(Some(choice))
+        let choice = queues.take(beside)?;
+        self.issue(&plan.edges, choice.candidate.number as usize, cycle);
+        Some(choice)
     }
 
     /// Makes the row of one more cycle. Answers how many operations it issues.
@@ -107,7 +83,7 @@ impl Waiting {
         queues: &mut Queues,
         rows: &mut Vec<Row>,
     ) -> Result<usize, NoMemory>
-        requires small { length rows.old.items < 999999 }
+        requires small { length rows.old.items + 17 < 2 ^ 32 }
         requires plan { IsPlan plan.now }
         requires so_far { IsSoFar plan.now self.old queues.old rows.old.items }
         ensures so_far { OnOk result (IsSoFar plan.now self.new queues.new rows.new.items) }
@@ -117,7 +93,7 @@ impl Waiting {
     {
         let cycle = rows.len() as u32;
         self.release(plan, queues, cycle)?;
-        let first = self.issue_first(plan, queues, None, cycle)?;
+        let first = self.issue_first(plan, queues, None, cycle);
         match first {
             None => {
                 rows.push(Row {
@@ -127,7 +103,7 @@ impl Waiting {
                 Ok(0)
             }
             Some(a) => {
-                let b = self.issue_first(plan, queues, Some(a.class), cycle)?;
+                let b = self.issue_first(plan, queues, Some(a.class), cycle);
                 rows.push(row_of(&a, &b))?;
                 Ok(slot_count(&b))
             }

@@ -53,8 +53,8 @@ fn keeps_order(first: Kind, second: Kind) -> bool
     )
 }
 
-/// The delays that the first operation puts on the second, rising, each once.
-fn delays(first: &Op, second: &Op, latencies: &Latencies) -> ArrayVec<u64, 2>
+/// The delays in cycles that the first operation puts on the second, which stands behind it: rising, each once.
+pub fn delays(first: &Op, second: &Op, latencies: &Latencies) -> ArrayVec<u64, 2>
     ensures { result.items ≡ rising (delays latencies.now first.now second.now) }
 {
     let latency = latency(first, latencies);
@@ -108,7 +108,8 @@ fn push_pairs_to(
 }
 
 /// The delay pairs of renamed operations, each once, in order of the later operation, then of the earlier one,
-/// then of the delay.
+/// then of the delay. The operations are at most `MAX_OPS`; of n operations each is set against each, which takes time
+/// in n * n.
 pub fn pairs(alloc: Global, ops: &[Op], latencies: &Latencies) -> Result<Vec<Pair>, NoMemory>
     requires renamed { IsRenamed ops.now }
     requires size { length ops.now ≤ MAX_OPS }

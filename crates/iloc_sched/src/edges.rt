@@ -1,5 +1,20 @@
-//! The kept edges between operations.
-ghost use Rattle.std.specs.Prelude.{◌≤◌, ◌*◌, length};
+//! The delay pairs that are kept as edges.
+//!
+//! Every result that is used gives an edge from its definition. By memory and outputs only the nearest pairs are
+//! kept, since every other goes by way of an operation between: from the last store, from the last output, and to a
+//! store from each load since the last one.
+ghost use Rattle.std.specs.Prelude.{ℕ, ◌≡◌, ◌+◌, ◌*◌, ◌≤◌, ◌<◌, length, List, Some, OnOk, Contains};
+ghost use Rattle.iloc_text.specs.declared.op.Op.{Op};
+ghost use Rattle.iloc_text.specs.Registers.{used};
+ghost use Rattle.iloc_timed.specs.declared.latencies.Latencies.{Latencies};
+ghost use Rattle.iloc_timed.specs.Kinds.{kind};
+ghost use Rattle.iloc_meaning.specs.Trace.{op_at};
+ghost use Rattle.iloc_sched.specs.Renaming.{IsRenamed};
+
+use crate::lasts::Lasts;
+use iloc_text::{MAX_OPS, NoMemory, Op, Reg, uses};
+use iloc_timed::{Kind, Latencies, latency};
+use std::alloc::Global;
 
 /// A delay pair that is kept: the operation `to` may be issued `delay` cycles after `from`.
 #[derive(Clone, Copy, Debug, Drop)]
@@ -8,17 +23,262 @@ pub struct Edge {
     pub to: u32,
     pub delay: u32,
     /// The edge before this one out of the same operation.
-    pub next: Option<u32>,
+    pub previous: Option<u32>,
 }
 
 /// The kept edges of a block, those into an operation side by side.
 #[derive(Debug, Drop)]
 pub struct Edges {
-    pub edges: Vec<Edge>,
-    /// By operation the first edge into it, and at the end the number of edges.
-    pub starts: Vec<u32>,
-    /// By operation the last edge out of it.
-    pub heads: Vec<Option<u32>>,
-    pub ghost short: { length heads.items ≤ 10000 },
-    pub ghost few: { length edges.items ≤ 5 * length heads.items },
+    edges: Vec<Edge>,
+    // By operation the first edge into it, and at the end the number of edges.
+    starts: Vec<u32>,
+    // By operation the last edge out of it.
+    heads: Vec<Option<u32>>,
+    // At most `MAX_OPS`, which a ghost field cannot name.
+    ghost short: { length heads.items ≤ 10000 },
+    ghost few: { length edges.items ≤ 5 * length heads.items },
+}
+
+impl Edges {
+    ghost use Rattle.iloc_sched.specs.Steps.Members.{In};
+    ghost use Rattle.iloc_sched.specs.Steps.Graph.{IsGraphOf};
+    ghost use Rattle.iloc_sched.specs.Steps.Lasts.{IsNext, loads_before};
+    ghost use Rattle.iloc_sched.specs.Steps.PartialGraph.{IsPartialGraph, KeepsFrame, Grows, AddsFrom, CoversUse, CoversUses, CoversMemory};
+    ghost use Rattle.iloc_sched.specs.Steps.Views.{edge_at, graph_of};
+
+    /// No operation and no edge.
+    pub fn new(alloc: Global) -> Edges {
+        Edges {
+            edges: Vec::new(alloc),
+            starts: Vec::new(alloc),
+            heads: Vec::new(alloc),
+        }
+    }
+
+    /// How many operations there are.
+    pub fn op_count(&self) -> usize
+        ensures { result ≡ length self.now.heads.items }
+    {
+        self.heads.len()
+    }
+
+    /// How many edges there are.
+    pub fn edge_count(&self) -> usize
+        ensures { result ≡ length self.now.edges.items }
+    {
+        self.edges.len()
+    }
+
+    /// Edge x.
+    pub fn get(&self, x: usize) -> Edge
+        requires { x < length self.now.edges.items }
+        ensures { result ≡ edge_at self.now x }
+    {
+        self.edges[x]
+    }
+
+    /// The first edge into operation j, or the place where it would be; at their number the number of all edges.
+    pub fn start(&self, j: usize) -> u32
+        requires { j < length self.now.starts.items }
+        ensures { result ≡ (graph_of self.now).start j }
+    {
+        self.starts[j]
+    }
+
+    /// The last edge out of operation i.
+    pub fn last_from(&self, i: usize) -> Option<u32>
+        requires { i < length self.now.heads.items }
+        ensures { result ≡ (graph_of self.now).head i }
+    {
+        self.heads[i]
+    }
+
+    /// No edge between so many operations.
+    fn clear(&mut self, count: usize) -> Result<(), NoMemory>
+        requires { count ≤ MAX_OPS }
+        ensures partial { OnOk result ((lat : Latencies) (ops : List Op) → length ops ≡ count
+            → IsPartialGraph lat ops (graph_of self.new) 0) }
+        ensures starts { OnOk result (length self.new.starts.items ≡ 1) }
+        ensures edges { OnOk result (length self.new.edges.items ≡ 0) }
+    {
+        self.edges.clear();
+        self.starts.clear();
+        self.starts.reserve(count + 1)?;
+        self.starts.push(0)?;
+        self.heads.clear();
+        self.heads.resize(count, None)?;
+        Ok(())
+    }
+
+    /// Adds an edge.
+    fn add(&mut self, from: u32, to: u32, delay: u32) -> Result<(), NoMemory>
+        requires room { length self.old.edges.items < 5 * length self.old.heads.items }
+        requires there { from < length self.old.heads.items }
+        ensures adds { OnOk result (AddsFrom (λ i. i ≡ from) (graph_of self.old) (graph_of self.new) to delay) }
+        ensures count { OnOk result (length self.new.edges.items ≡ length self.old.edges.items + 1) }
+        ensures frame { KeepsFrame self.old self.new }
+    {
+        let place = self.edges.len() as u32;
+        let previous = self.heads[from as usize];
+        self.edges.push(Edge {
+            from,
+            to,
+            delay,
+            previous,
+        })?;
+        self.heads[from as usize] = Some(place);
+        Ok(())
+    }
+
+    /// Adds an edge from an operation that there may be.
+    fn add_from(&mut self, from: Option<u32>, to: u32, delay: u32) -> Result<(), NoMemory>
+        requires room { length self.old.edges.items < 5 * length self.old.heads.items }
+        requires there { (i : ℕ) → from ≡ Some i → i < length self.old.heads.items }
+        ensures adds { OnOk result (AddsFrom (λ i. from ≡ Some i) (graph_of self.old) (graph_of self.new) to delay) }
+        ensures count { OnOk result (length self.new.edges.items ≤ length self.old.edges.items + 1) }
+        ensures frame { KeepsFrame self.old self.new }
+    {
+        match from {
+            Some(i) => self.add(i, to, delay),
+            None => Ok(()),
+        }
+    }
+
+    /// Adds an edge from each of some operations.
+    fn add_each(&mut self, from: &[u32], to: u32, delay: u32) -> Result<(), NoMemory>
+        requires room { length self.old.edges.items + length from.now ≤ 5 * length self.old.heads.items }
+        requires there { (i : ℕ) → In from.now i → i < length self.old.heads.items }
+        ensures adds { OnOk result (AddsFrom (In from.now) (graph_of self.old) (graph_of self.new) to delay) }
+        ensures count { OnOk result (length self.new.edges.items ≡ length self.old.edges.items + length from.now) }
+        ensures frame { KeepsFrame self.old self.new }
+    {
+        for i in from {
+            self.add(*i, to, delay)?;
+        }
+        Ok(())
+    }
+
+    /// Adds the edge into operation j for a register that it uses.
+    fn add_use(
+        &mut self,
+        ops: &[Op],
+        latencies: &Latencies,
+        lasts: &Lasts,
+        register: Reg,
+        j: usize,
+    ) -> Result<(), NoMemory>
+        requires next { IsNext ops.now lasts.now j }
+        requires used { Contains (used (op_at ops.now j)) register }
+        requires room { length self.old.edges.items < 5 * length self.old.heads.items }
+        requires partial { IsPartialGraph latencies.now ops.now (graph_of self.old) j }
+        ensures grows { OnOk result (Grows latencies.now ops.now (graph_of self.old) (graph_of self.new) j) }
+        ensures covers { OnOk result (CoversUse latencies.now ops.now (graph_of self.new) j register) }
+        ensures count { OnOk result (length self.new.edges.items ≤ length self.old.edges.items + 1) }
+        ensures frame { KeepsFrame self.old self.new }
+    {
+        match lasts.definers.get(register) {
+            Some(i) => self.add(i, j as u32, latency(&ops[i as usize], latencies) as u32),
+            None => Ok(()),
+        }
+    }
+
+    /// Adds the edges into operation j for the registers that it uses.
+    fn add_uses(
+        &mut self,
+        ops: &[Op],
+        latencies: &Latencies,
+        lasts: &Lasts,
+        j: usize,
+    ) -> Result<(), NoMemory>
+        requires next { IsNext ops.now lasts.now j }
+        requires room { length self.old.edges.items + 2 ≤ 5 * length self.old.heads.items }
+        requires partial { IsPartialGraph latencies.now ops.now (graph_of self.old) j }
+        ensures grows { OnOk result (Grows latencies.now ops.now (graph_of self.old) (graph_of self.new) j) }
+        ensures covers { OnOk result (CoversUses latencies.now ops.now (graph_of self.new) j) }
+        ensures count { OnOk result (length self.new.edges.items ≤ length self.old.edges.items + 2) }
+        ensures frame { KeepsFrame self.old self.new }
+    {
+        let registers = uses(&ops[j]);
+        for register in registers.as_slice() {
+            self.add_use(ops, latencies, lasts, *register, j)?;
+        }
+        Ok(())
+    }
+
+    /// Adds the edges into operation j by memory and outputs.
+    fn add_memory(
+        &mut self,
+        ops: &[Op],
+        latencies: &Latencies,
+        lasts: &Lasts,
+        j: usize,
+    ) -> Result<(), NoMemory>
+        requires next { IsNext ops.now lasts.now j }
+        requires room { length self.old.edges.items + 2 + length lasts.now.loads.items ≤ 5 * length self.old.heads.items }
+        requires partial { IsPartialGraph latencies.now ops.now (graph_of self.old) j }
+        ensures grows { OnOk result (Grows latencies.now ops.now (graph_of self.old) (graph_of self.new) j) }
+        ensures covers { OnOk result (CoversMemory latencies.now ops.now (graph_of self.new) j) }
+        ensures count { OnOk result (length self.new.edges.items ≤ length self.old.edges.items + 2
+            + loads_before (kind (op_at ops.now j)) lasts.now) }
+        ensures frame { KeepsFrame self.old self.new }
+    {
+        let to = j as u32;
+        match Kind::of(&ops[j]) {
+            Kind::Load => self.add_from(lasts.store, to, latencies.store),
+            Kind::Output => {
+                self.add_from(lasts.store, to, latencies.store)?;
+                self.add_from(lasts.output, to, 1)
+            }
+            Kind::Store => {
+                self.add_from(lasts.store, to, 1)?;
+                self.add_from(lasts.output, to, 1)?;
+                self.add_each(&lasts.loads, to, 1)
+            }
+            Kind::Mult | Kind::Other => Ok(()),
+        }
+    }
+
+    /// Adds all edges into operation j.
+    fn add_all(
+        &mut self,
+        ops: &[Op],
+        latencies: &Latencies,
+        lasts: &Lasts,
+        j: usize,
+    ) -> Result<(), NoMemory>
+        requires next { IsNext ops.now lasts.now j }
+        requires room { length self.old.edges.items + 4 + length lasts.now.loads.items ≤ 5 * length self.old.heads.items }
+        requires starts { length self.old.starts.items ≡ j + 1 }
+        requires partial { IsPartialGraph latencies.now ops.now (graph_of self.old) j }
+        ensures partial { OnOk result (IsPartialGraph latencies.now ops.now (graph_of self.new) (j + 1)) }
+        ensures count { OnOk result (length self.new.edges.items ≤ length self.old.edges.items + 4
+            + loads_before (kind (op_at ops.now j)) lasts.now) }
+        ensures starts { OnOk result (length self.new.starts.items ≡ j + 2) }
+    {
+        self.add_uses(ops, latencies, lasts, j)?;
+        self.add_memory(ops, latencies, lasts, j)?;
+        self.starts.push(self.edges.len() as u32)?;
+        Ok(())
+    }
+
+    /// The kept edges of renamed operations.
+    pub fn fill(
+        &mut self,
+        lasts: &mut Lasts,
+        ops: &[Op],
+        latencies: &Latencies,
+    ) -> Result<(), NoMemory>
+        requires few { length ops.now ≤ MAX_OPS }
+        requires renamed { IsRenamed ops.now }
+        ensures graph { OnOk result (IsGraphOf latencies.now ops.now (graph_of self.new)) }
+        ensures starts { OnOk result (length self.new.starts.items ≡ length self.new.heads.items + 1) }
+    {
+        self.clear(ops.len())?;
+        lasts.clear(ops.len())?;
+        for j in 0..ops.len() {
+            self.add_all(ops, latencies, lasts, j)?;
+            lasts.note(ops, j)?;
+        }
+        Ok(())
+    }
 }

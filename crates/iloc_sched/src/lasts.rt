@@ -1,19 +1,19 @@
 //! The earlier operations that a later one may have to wait for.
-ghost use Rattle.std.specs.Prelude.{◌≡◌, ◌≤◌, ◌<◌, ◌+◌, length, List, IfOk, OnOk};
+ghost use Rattle.std.specs.Prelude.{◌≡◌, ◌≤◌, ◌<◌, ◌+◌, length, List, OnOk};
 ghost use Rattle.iloc_text.specs.declared.op.Op.{Op};
 ghost use Rattle.iloc_meaning.specs.Trace.{op_at};
 ghost use Rattle.iloc_timed.specs.Kinds.{kind};
 
-use crate::definers::Definers;
-use iloc_text::{NoMemory, Op};
+use crate::by_register::ByRegister;
+use iloc_text::{MAX_OPS, NoMemory, Op, defines};
 use iloc_timed::Kind;
 use std::alloc::Global;
 
 /// What stands last before an operation.
 #[derive(Debug, Drop)]
 pub struct Lasts {
-    /// By register the operation that defines it.
-    pub definers: Definers,
+    /// By register the last operation that defines it.
+    pub definers: ByRegister,
     /// The last store.
     pub store: Option<u32>,
     /// The last output.
@@ -23,20 +23,39 @@ pub struct Lasts {
 }
 
 impl Lasts {
-    ghost use Rattle.iloc_sched.specs.Steps.Lasts.{IsLasts, NotesKind, loads_before};
+    ghost use Rattle.iloc_sched.specs.Steps.Lasts.{IsLasts, NotesDefiner, NotesKind, loads_before};
 
-    /// Before the first of so many operations.
-    pub fn new(alloc: Global, count: usize) -> Result<Lasts, NoMemory>
-        requires { count ≤ 10000 }
-        ensures lasts { IfOk result (λ lasts. (ops : List Op) → IsLasts ops lasts 0) }
-        ensures loads { IfOk result (λ lasts. length lasts.loads.items ≡ 0) }
-    {
-        Ok(Lasts {
-            definers: Definers::new(alloc, count)?,
+    /// Before the first operation of a list.
+    pub fn new(alloc: Global) -> Lasts {
+        Lasts {
+            definers: ByRegister::new(alloc),
             store: None,
             output: None,
             loads: Vec::new(alloc),
-        })
+        }
+    }
+
+    /// Before the first of so many operations.
+    pub fn clear(&mut self, count: usize) -> Result<(), NoMemory>
+        requires { count ≤ MAX_OPS }
+        ensures lasts { OnOk result ((ops : List Op) → IsLasts ops self.new 0) }
+        ensures loads { length self.new.loads.items ≡ 0 }
+    {
+        self.store = None;
+        self.output = None;
+        self.loads.clear();
+        self.definers.clear(3 * count)
+    }
+
+    /// Notes what operation j defines.
+    fn note_definition(&mut self, op: &Op, j: u32) -> Result<(), NoMemory>
+        ensures definers { OnOk result (NotesDefiner op.now self.old.definers self.new.definers j) }
+        ensures others { self.new ≡ record self.old { definers = self.new.definers } }
+    {
+        match defines(op) {
+            Some(register) => self.definers.set(register, j),
+            None => Ok(()),
+        }
     }
 
     /// Operation j, of this kind, is one of the earlier ones from now on.
@@ -58,14 +77,14 @@ impl Lasts {
 
     /// Operation j is one of the earlier ones from now on.
     pub fn note(&mut self, ops: &[Op], j: usize) -> Result<(), NoMemory>
-        requires few { length ops.now ≤ 10000 }
+        requires few { length ops.now ≤ MAX_OPS }
         requires there { j < length ops.now }
         requires lasts { IsLasts ops.now self.old j }
         ensures lasts { OnOk result (IsLasts ops.now self.new (j + 1)) }
         ensures loads { OnOk result (length self.new.loads.items + loads_before (kind (op_at ops.now j)) self.old
             ≤ length self.old.loads.items + 1) }
     {
-        self.definers.note(&ops[j], j as u32)?;
+        self.note_definition(&ops[j], j as u32)?;
         self.note_kind(Kind::of(&ops[j]), j as u32)
     }
 }

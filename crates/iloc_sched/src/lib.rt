@@ -1,16 +1,14 @@
 //! The list scheduler: renaming, delay pairs, priorities, and the greedy choice.
 #![tactic(auto)]
 
+mod by_register;
 mod candidate;
 mod class;
 mod cycle;
-mod definers;
 mod delay_pairs;
 mod edges;
 mod lasts;
 pub mod laws;
-mod nearest;
-mod opening;
 mod plan;
 mod priority;
 mod queue;
@@ -18,8 +16,9 @@ mod queues;
 mod renaming;
 mod scheduler;
 mod waiting;
+mod wheel;
 
-pub use delay_pairs::{Pair, pairs};
+pub use delay_pairs::{Pair, delays, pairs};
 pub use priority::priorities;
 pub use renaming::rename;
-pub use scheduler::schedule;
+pub use scheduler::{Scheduler, schedule};

@@ -1,12 +1,16 @@
 //! What is fixed while a block is scheduled.
-ghost use Rattle.std.specs.Prelude.{◌≡◌, ◌≤◌, length, IfOk};
+ghost use Rattle.std.specs.Prelude.{◌≡◌, ◌<◌, ◌≤◌, length, OnOk};
 ghost use Rattle.iloc_sched.specs.Renaming.{IsRenamed};
 
+use crate::candidate::Candidate;
+use crate::class::Class;
 use crate::edges::Edges;
-use crate::priority::priorities_by;
-use iloc_text::{NoMemory, Op};
-use iloc_timed::Latencies;
+use crate::lasts::Lasts;
+use crate::priority::fill_priorities;
+use iloc_text::{MAX_OPS, NoMemory, Op};
+use iloc_timed::{Kind, Latencies};
 use std::alloc::Global;
+use std::mem;
 
 /// A block's renamed operations with what their choice goes by.
 #[derive(Debug, Drop)]
@@ -14,27 +18,65 @@ pub struct Plan {
     pub ops: Vec<Op>,
     pub latencies: Latencies,
     pub edges: Edges,
-    pub priorities: Vec<u64>,
+    pub priorities: Vec<u32>,
 }
 
 impl Plan {
-    ghost use Rattle.iloc_sched.specs.Steps.SoFar.{IsPlan};
+    ghost use Rattle.iloc_sched.specs.Steps.Order.{candidate_at};
+    ghost use Rattle.iloc_sched.specs.Steps.SoFar.{IsPlan, class_at};
 
-    /// The plan of renamed operations.
-    pub fn of(alloc: Global, ops: Vec<Op>, latencies: &Latencies) -> Result<Plan, NoMemory>
+    /// The plan of no operation.
+    pub fn new(alloc: Global) -> Plan {
+        Plan {
+            ops: Vec::new(alloc),
+            latencies: Latencies::usual(),
+            edges: Edges::new(alloc),
+            priorities: Vec::new(alloc),
+        }
+    }
+
+    /// Becomes the plan of these renamed operations.
+    pub fn fill(
+        &mut self,
+        lasts: &mut Lasts,
+        ops: Vec<Op>,
+        latencies: &Latencies,
+    ) -> Result<(), NoMemory>
         requires renamed { IsRenamed ops.items }
-        requires few { length ops.items ≤ 10000 }
-        ensures plan { IfOk result (λ plan. IsPlan plan) }
-        ensures ops { IfOk result (λ plan. plan.ops ≡ ops) }
-        ensures latencies { IfOk result (λ plan. plan.latencies ≡ latencies.now) }
+        requires few { length ops.items ≤ MAX_OPS }
+        ensures plan { OnOk result (IsPlan self.new) }
+        ensures ops { OnOk result (self.new.ops ≡ ops) }
+        ensures latencies { OnOk result (self.new.latencies ≡ latencies.now) }
     {
-        let edges = Edges::of(alloc, &ops, latencies)?;
-        let priorities = priorities_by(alloc, &edges, &ops, latencies)?;
-        Ok(Plan {
-            ops,
-            latencies: *latencies,
-            edges,
-            priorities,
-        })
+        self.ops = ops;
+        self.latencies = *latencies;
+        self.edges.fill(lasts, &self.ops, latencies)?;
+        fill_priorities(&mut self.priorities, &self.edges, &self.ops, latencies)
+    }
+
+    /// Gives back the operations.
+    pub fn take_ops(&mut self, alloc: Global) -> Vec<Op>
+        ensures { result ≡ self.old.ops }
+    {
+        mem::replace(&mut self.ops, Vec::new(alloc))
+    }
+
+    /// The class of an operation.
+    pub fn class_of(&self, i: u32) -> Class
+        requires { i < length self.now.ops.items }
+        ensures { result ≡ class_at self.now.ops.items i }
+    {
+        Class::of(Kind::of(&self.ops[i as usize]))
+    }
+
+    /// An operation as a candidate.
+    pub fn candidate(&self, i: u32) -> Candidate
+        requires { i < length self.now.priorities.items }
+        ensures { result ≡ candidate_at self.now.priorities.items i }
+    {
+        Candidate {
+            priority: self.priorities[i as usize],
+            number: i,
+        }
     }
 }

@@ -1,5 +1,5 @@
 //! The priorities of operations.
-ghost use Rattle.std.specs.Prelude.{◌≡◌, ◌≤◌, length, map, IfOk};
+ghost use Rattle.std.specs.Prelude.{◌≡◌, ◌≤◌, length, map, IfOk, OnOk};
 ghost use Rattle.iloc_timed.specs.Latency.{latency};
 ghost use Rattle.iloc_sched.specs.Priority.{priorities};
 ghost use Rattle.iloc_sched.specs.Renaming.{IsRenamed};
@@ -7,48 +7,57 @@ ghost use Rattle.iloc_sched.specs.Steps.Graph.{IsGraphOf};
 ghost use Rattle.iloc_sched.specs.Steps.Views.{graph_of};
 
 use crate::edges::Edges;
-use iloc_text::{NoMemory, Op};
+use crate::lasts::Lasts;
+use iloc_text::{MAX_OPS, NoMemory, Op};
 use iloc_timed::{Latencies, latency};
 use std::alloc::Global;
 
-/// The latency of each operation.
-fn own_latencies(alloc: Global, ops: &[Op], latencies: &Latencies) -> Result<Vec<u64>, NoMemory>
-    ensures { IfOk result (λ own. own.items ≡ map (latency latencies.now) ops.now) }
+/// Fills a list with the latency of each operation.
+fn fill_latencies(own: &mut Vec<u32>, ops: &[Op], latencies: &Latencies) -> Result<(), NoMemory>
+    ensures { OnOk result (own.new.items ≡ map (latency latencies.now) ops.now) }
 {
-    Ok(ops.iter().map(|op| latency(op, latencies)).collect(alloc)?)
+    own.clear();
+    own.reserve(ops.len())?;
+    for op in ops {
+        own.push(latency(op, latencies) as u32)?;
+    }
+    Ok(())
 }
 
-/// The priorities by the kept edges: an operation's is final once the edges out of it are gone through, which all lie
-/// after those into it.
-pub(crate) fn priorities_by(
-    alloc: Global,
+/// Fills a list with the priorities by the kept edges: an operation's is final once the edges out of it are gone
+/// through, which all lie after those into it.
+pub(crate) fn fill_priorities(
+    prios: &mut Vec<u32>,
     edges: &Edges,
     ops: &[Op],
     latencies: &Latencies,
-) -> Result<Vec<u64>, NoMemory>
+) -> Result<(), NoMemory>
     requires graph { IsGraphOf latencies.now ops.now (graph_of edges.now) }
-    ensures { IfOk result (λ prios. prios.items ≡ priorities latencies.now ops.now) }
+    ensures { OnOk result (prios.new.items ≡ priorities latencies.now ops.now) }
 {
-    let mut prios = own_latencies(alloc, ops, latencies)?;
-    for x in (0..edges.edges.len()).rev() {
-        let edge = edges.edges[x];
-        let through = u64::from(edge.delay) + prios[edge.to as usize];
+    fill_latencies(prios, ops, latencies)?;
+    for x in (0..edges.edge_count()).rev() {
+        let edge = edges.get(x);
+        let through = edge.delay + prios[edge.to as usize];
         let source = edge.from as usize;
         prios[source] = prios[source].max(through);
     }
-    Ok(prios)
+    Ok(())
 }
 
 /// By operation its priority: how many cycles are left at least from its issue to the end of the block. That is the
 /// greatest of its latency and, over the operations that have to wait for it, of the delay and their priority together.
 ///
-/// The operations are renamed, as by `rename`. It takes time linear in their number where their registers have numbers
-/// below three times that.
+/// The operations are renamed, as by `rename`, and at most `MAX_OPS`. It takes time linear in their number where
+/// their registers have numbers below three times that.
 pub fn priorities(alloc: Global, ops: &[Op], latencies: &Latencies) -> Result<Vec<u64>, NoMemory>
     requires renamed { IsRenamed ops.now }
-    requires few { length ops.now ≤ 10000 }
+    requires few { length ops.now ≤ MAX_OPS }
     ensures { IfOk result (λ prios. prios.items ≡ priorities latencies.now ops.now) }
 {
-    let edges = Edges::of(alloc, ops, latencies)?;
-    priorities_by(alloc, &edges, ops, latencies)
+    let mut edges = Edges::new(alloc);
+    edges.fill(&mut Lasts::new(alloc), ops, latencies)?;
+    let mut prios = Vec::new(alloc);
+    fill_priorities(&mut prios, &edges, ops, latencies)?;
+    Ok(prios.iter().map(|prio| u64::from(*prio)).collect(alloc)?)
 }

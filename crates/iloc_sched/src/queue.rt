@@ -30,6 +30,13 @@ impl Queue {
         }
     }
 
+    /// Takes out all operations.
+    pub fn clear(&mut self)
+        ensures { heap_items self.new.heap ≡ [] }
+    {
+        self.heap.clear();
+    }
+
     /// The first, which stays.
     pub fn first(&self) -> Option<Candidate>
         ensures { IsFirstOf (heap_items self.now.heap) result }
@@ -39,7 +46,7 @@ impl Queue {
 
     /// Adds an operation.
     pub fn insert(&mut self, candidate: Candidate) -> Result<(), NoMemory>
-        requires { HasNone (heap_items self.old.heap) candidate.number.0 }
+        requires { HasNone (heap_items self.old.heap) candidate.number }
         ensures { OnOk result (Adds (heap_items self.old.heap) (heap_items self.new.heap) candidate) }
     {
         self.heap.push(candidate)?;

@@ -57,6 +57,16 @@ impl Queues {
         }
     }
 
+    /// Takes out all operations.
+    pub fn clear(&mut self)
+        ensures { (k : Class) → candidates self.new k ≡ [] }
+    {
+        self.memory.clear();
+        self.product.clear();
+        self.output.clear();
+        self.rest.clear();
+    }
+
     /// The first of a class.
     fn first_of(&self, class: Class) -> Option<Candidate>
         ensures { IsFirstOf (candidates self.now class) result }
@@ -85,7 +95,7 @@ impl Queues {
 
     /// Adds an operation to its class.
     fn push(&mut self, class: Class, candidate: Candidate) -> Result<(), NoMemory>
-        requires { HasNone (candidates self.old class) candidate.number.0 }
+        requires { HasNone (candidates self.old class) candidate.number }
         ensures added { OnOk result (Adds (candidates self.old class) (candidates self.new class) candidate) }
         ensures others { OnOk result (KeepsOthers self.old self.new class) }
     {
@@ -135,7 +145,7 @@ impl Queues {
 
     /// Adds an operation to its class, which doesn't have it.
     pub fn insert(&mut self, class: Class, candidate: Candidate) -> Result<(), NoMemory>
-        requires { HasNone (candidates self.old class) candidate.number.0 }
+        requires { HasNone (candidates self.old class) candidate.number }
         ensures { OnOk result (AddsTo self.old self.new class candidate) }
     {
         self.push(class, candidate)

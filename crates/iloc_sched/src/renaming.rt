@@ -4,16 +4,20 @@ ghost use Rattle.iloc_text.specs.declared.op.Op.{Op};
 ghost use Rattle.iloc_meaning.specs.Outcome.{outcome};
 ghost use Rattle.iloc_sched.specs.Renaming.{is_nop, renamed, IsRenamed};
 
+use crate::by_register::ByRegister;
 use arrayvec::ArrayVec;
 use iloc_text::{Block, MAX_OPS, NoMemory, Op, Reg, defines, uses, with_registers};
 use std::alloc::Global;
-use std::collections::BTreeMap;
+
+// Registers below this number are looked up fastest in any block; in a longer one those below three times its
+// operations.
+const LOW: usize = 64;
 
 /// The new names of registers in a walk through a block.
 #[derive(Drop)]
-struct Names {
-    // By the number of a register that of its name at this point, where it has one.
-    current: BTreeMap<u32, u32>,
+pub(crate) struct Names {
+    // By register the number of its name at this point, where it has one.
+    current: ByRegister,
     // How many names were given: the number of the next one.
     given: u32,
 }
@@ -25,15 +29,22 @@ impl Names {
     ghost use Rattle.iloc_sched.specs.Steps.Naming.{also, Follows, NamesNext, Named, next_renamed};
     ghost use Rattle.iloc_sched.specs.Steps.Names.{current_of};
 
-    /// No register has a name.
-    fn new(alloc: Global) -> Names
-        ensures none { (r : Reg) → current_of result r ≡ None }
-        ensures count { result.given ≡ 0 }
-    {
+    /// Names for blocks, one after another.
+    pub(crate) fn new(alloc: Global) -> Names {
         Names {
-            current: BTreeMap::new(alloc),
+            current: ByRegister::new(alloc),
             given: 0,
         }
+    }
+
+    /// No register has a name, as a block of so many operations begins.
+    fn clear(&mut self, ops: usize) -> Result<(), NoMemory>
+        requires { ops ≤ MAX_OPS }
+        ensures none { OnOk result ((r : Reg) → current_of self.new r ≡ None) }
+        ensures count { self.new.given ≡ 0 }
+    {
+        self.given = 0;
+        self.current.clear(3 * ops + LOW)
     }
 
     /// Gives a register the next name.
@@ -42,7 +53,7 @@ impl Names {
         ensures { OnOk result
             (NamesNext register self.old.given (current_of self.old) self.new.given (current_of self.new)) }
     {
-        self.current.insert(register.0, self.given)?;
+        self.current.set(register, self.given)?;
         self.given += 1;
         Ok(())
     }
@@ -56,7 +67,7 @@ impl Names {
             × (name ≡ name_of (also sources (now register)) (now register))) }
         ensures count { OnOk result (self.new.given ≤ self.old.given + 1) }
     {
-        match self.current.get(&register.0).copied() {
+        match self.current.get(register) {
             Some(name) => Ok(Reg(name)),
             None => {
                 let name = Reg(self.given);
@@ -86,6 +97,24 @@ impl Names {
         }
         Ok(with_registers(op, names.as_slice(), own))
     }
+    /// The operations of a block, as `rename` has them.
+    pub(crate) fn rename_block(&mut self, alloc: Global, block: &Block) -> Result<Vec<Op>, NoMemory>
+        requires { length block.now.ops ≤ MAX_OPS }
+        ensures renamed { IfOk result (λ ops. ops.items ≡ renamed block.now.ops) }
+        ensures size { IfOk result (λ ops. length ops.items ≤ length block.now.ops) }
+        ensures once { IfOk result (λ ops. IsRenamed ops.items) }
+        ensures outcome { IfOk result (λ ops. (memory : List ℤ) →
+            outcome ops.items memory ≡ outcome block.now.ops memory) }
+    {
+        self.clear(block.ops.len())?;
+        let mut renamed = Vec::with_capacity(alloc, block.ops.len())?;
+        for op in block.ops.as_slice() {
+            if !is_nop(op) {
+                renamed.push(self.rename(op)?)?;
+            }
+        }
+        Ok(renamed)
+    }
 }
 
 /// Whether the operation is a `nop`.
@@ -96,7 +125,7 @@ fn is_nop(op: &Op) -> bool
 }
 
 /// The operations of the block without its `nop`s, with each definition in a register of its own: registers
-/// are numbered from 0 in the order in which they are named first.
+/// are numbered from 0 in the order in which they are named first. The block has at most `MAX_OPS` operations.
 pub fn rename(alloc: Global, block: &Block) -> Result<Vec<Op>, NoMemory>
     requires { length block.now.ops ≤ MAX_OPS }
     ensures renamed { IfOk result (λ ops. ops.items ≡ renamed block.now.ops) }
@@ -105,12 +134,5 @@ pub fn rename(alloc: Global, block: &Block) -> Result<Vec<Op>, NoMemory>
     ensures outcome { IfOk result (λ ops. (memory : List ℤ) →
         outcome ops.items memory ≡ outcome block.now.ops memory) }
 {
-    let mut names = Names::new(alloc);
-    let mut renamed = Vec::new(alloc);
-    for op in block.ops.as_slice() {
-        if !is_nop(op) {
-            renamed.push(names.rename(op)?)?;
-        }
-    }
-    Ok(renamed)
+    Names::new(alloc).rename_block(alloc, block)
 }

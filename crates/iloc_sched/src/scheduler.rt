@@ -1,5 +1,5 @@
 //! The list scheduler.
-ghost use Rattle.std.specs.Prelude.{ℕ, ◌≡◌, ◌≤◌, ◌<◌, ◌+◌, List, length, sum_by, IfOk, OnOk, ℤ};
+ghost use Rattle.std.specs.Prelude.{ℕ, ◌≡◌, ◌≤◌, ◌<◌, ◌+◌, ◌*◌, List, length, sum_by, IfOk, OnOk, ℤ};
 ghost use Rattle.iloc_text.specs.declared.op.Op.{Op};
 ghost use Rattle.iloc_meaning.specs.Outcome.{outcome};
 ghost use Rattle.iloc_timed.specs.declared.row.Row.{Row};
@@ -13,37 +13,89 @@ ghost use Rattle.iloc_sched.specs.Lawful.{IsLawful};
 ghost use Rattle.iloc_sched.specs.Greedy.{IsGreedy};
 ghost use Rattle.iloc_sched.specs.Steps.SoFar.{IsPlan};
 
+use crate::lasts::Lasts;
 use crate::plan::Plan;
 use crate::queues::Queues;
-use crate::renaming::rename;
+use crate::renaming::Names;
 use crate::waiting::Waiting;
 use iloc_text::{Block, MAX_OPS, NoMemory};
 use iloc_timed::{Latencies, Row, Schedule};
 use std::alloc::Global;
 
-/// The rows of the greedy schedule.
-fn greedy_rows(alloc: Global, plan: &Plan) -> Result<Vec<Row>, NoMemory>
-    requires { IsPlan plan.now }
-    ensures greedy { IfOk result (λ rows. (block : List Op) → plan.now.ops.items ≡ renamed block
-        → IsGreedy plan.now.latencies block plan.now.ops.items rows.items) }
-    ensures few { IfOk result (λ rows. length rows.items ≤ 160001) }
-{
-    let mut waiting = Waiting::new(alloc, &plan.edges)?;
-    let mut queues = Queues::new(alloc);
-    let mut rows = Vec::new(alloc);
-    let mut left = plan.ops.len();
-    while left > 0 {
-        left -= waiting.step(plan, &mut queues, &mut rows)?;
-    }
-    Ok(rows)
+/// Schedules blocks, one after another. The room that one block took is kept for those after it.
+#[derive(Drop)]
+pub struct Scheduler {
+    alloc: Global,
+    names: Names,
+    lasts: Lasts,
+    plan: Plan,
+    waiting: Waiting,
+    queues: Queues,
+    rows: Vec<Row>,
 }
 
-/// The greedy schedule of a block, of at most 10,000 operations: in each cycle the first of the ready operations is
+impl Scheduler {
+    /// A scheduler that has no room yet.
+    pub fn new(alloc: Global) -> Scheduler {
+        Scheduler {
+            alloc,
+            names: Names::new(alloc),
+            lasts: Lasts::new(alloc),
+            plan: Plan::new(alloc),
+            waiting: Waiting::new(alloc),
+            queues: Queues::new(alloc),
+            rows: Vec::new(alloc),
+        }
+    }
+
+    /// The greedy schedule of a block, as `schedule` has it. After a refusal the next block is scheduled as after any
+    /// other.
+    pub fn schedule(&mut self, block: &Block, latencies: &Latencies) -> Result<Schedule, NoMemory>
+        requires { length block.now.ops ≤ MAX_OPS }
+        ensures greedy { IfOk result (λ s. IsGreedy latencies.now block.now.ops s.ops s.rows) }
+        ensures only { IfOk result (λ s. (ops : List Op) (rows : List Row) →
+            IsGreedy latencies.now block.now.ops ops rows → (ops ≡ s.ops) × (rows ≡ s.rows)) }
+        ensures outcome { OnOk result ((ops : List Op) (rows : List Row) (memory : List ℤ) →
+            IsLawful latencies.now block.now.ops ops rows
+            → timed_outcome latencies.now ops rows memory ≡ outcome block.now.ops memory) }
+        ensures least { IfOk result (λ s. (i : ℕ) → i < length s.ops →
+            issue_cycle s.rows i + priority latencies.now s.ops i ≤ cycles latencies.now s.ops s.rows) }
+        ensures most { IfOk result (λ s. cycles latencies.now s.ops s.rows ≤ sum_by (latency latencies.now) s.ops) }
+    {
+        let ops = self.names.rename_block(self.alloc, block)?;
+        self.plan.fill(&mut self.lasts, ops, latencies)?;
+        self.fill_rows()?;
+        let rows = Vec::from_slice(self.alloc, &self.rows)?;
+        Ok(Schedule::of_table(self.plan.take_ops(self.alloc), rows))
+    }
+
+    /// Makes the rows of the greedy schedule of the plan.
+    fn fill_rows(&mut self) -> Result<(), NoMemory>
+        requires { IsPlan self.old.plan }
+        ensures greedy { OnOk result ((block : List Op) → self.old.plan.ops.items ≡ renamed block
+            → IsGreedy self.old.plan.latencies block self.old.plan.ops.items self.new.rows.items) }
+        ensures few { OnOk result (length self.new.rows.items ≤ 16 * MAX_OPS + 1) }
+        ensures plan { self.new.plan ≡ self.old.plan }
+    {
+        self.waiting.open(&self.plan.edges)?;
+        self.queues.clear();
+        self.rows.clear();
+        let mut left = self.plan.ops.len();
+        while left > 0 {
+            left -= self
+                .waiting
+                .step(&self.plan, &mut self.queues, &mut self.rows)?;
+        }
+        Ok(())
+    }
+}
+
+/// The greedy schedule of a block, of at most `MAX_OPS` operations: in each cycle the first of the ready operations is
 /// issued, with the first of the others that can go beside it, in order of priority, then of number.
 ///
 /// It is the only greedy one, and like every lawful schedule of the block it has the block's outcome. It takes at
 /// least as many cycles as lie from an operation's issue to the end by its priority, and at most as many as the
-/// latencies of all operations together.
+/// latencies of all operations together. For many blocks make one `Scheduler`.
 pub fn schedule(alloc: Global, block: &Block, latencies: &Latencies) -> Result<Schedule, NoMemory>
     requires { length block.now.ops ≤ MAX_OPS }
     ensures greedy { IfOk result (λ s. IsGreedy latencies.now block.now.ops s.ops s.rows) }
@@ -56,8 +108,5 @@ pub fn schedule(alloc: Global, block: &Block, latencies: &Latencies) -> Result<S
         issue_cycle s.rows i + priority latencies.now s.ops i ≤ cycles latencies.now s.ops s.rows) }
     ensures most { IfOk result (λ s. cycles latencies.now s.ops s.rows ≤ sum_by (latency latencies.now) s.ops) }
 {
-    let ops = rename(alloc, block)?;
-    let plan = Plan::of(alloc, ops, latencies)?;
-    let rows = greedy_rows(alloc, &plan)?;
-    Ok(Schedule::of_table(plan.ops, rows))
+    Scheduler::new(alloc).schedule(block, latencies)
 }

@@ -3,35 +3,80 @@
 //! Each operation watches one edge into it: the sources of those before it are issued, the source of this one is not.
 //! When an operation is issued, who watches an edge out of it goes on to the next that isn't over. Who comes to its
 //! last edge goes into the bucket of the cycle at which the last of its sources' results has arrived.
-ghost use Rattle.std.specs.Prelude.{ℕ, ◌≡◌, ◌≢◌, ◌+◌, ◌%◌, ◌<◌, ◌≤◌, ◌++◌, ◌∷◌, [], length, slice_set, OnOk, IfOk};
+ghost use Rattle.std.specs.Prelude.{ℕ, ◌≡◌, ◌≢◌, ◌+◌, ◌^◌, ◌%◌, ◌<◌, ◌≤◌, ◌∷◌, [], length, slice_set, IfNone, IfSome, OnOk};
 
 use crate::edges::Edges;
+use crate::wheel::Wheel;
 use iloc_text::NoMemory;
+use std::alloc::Global;
 
-/// The state of each operation while a schedule is made.
-#[derive(Debug, Drop)]
-pub struct Waiting {
-    /// The cycle at which it was issued.
-    pub issued: Vec<Option<u32>>,
-    /// The edge that it watches; one behind its last once all are over.
-    pub watch: Vec<u32>,
-    /// The earliest cycle by the edges before that one.
-    pub earliest: Vec<u32>,
-    /// By cycle modulo 32 the operations that become ready then.
-    pub wheel: Vec<Vec<u32>>,
-}
-
-/// How far the edges into an operation are over, and the cycle from which on they are.
-#[derive(Clone, Copy, Debug, Drop)]
+/// How far the edges into an operation are over.
+#[derive(Clone, Copy, Debug)]
 struct Reach {
+    /// The first edge whose source isn't issued, which the operation watches; one behind its last once all are over.
     place: u32,
+    /// The earliest cycle by the edges before that one.
     earliest: u32,
 }
 
+/// The state of an operation while a schedule is made.
+#[derive(Clone, Copy, Debug)]
+struct State {
+    /// The cycle at which it was issued.
+    issued: Option<u32>,
+    reach: Reach,
+}
+
+/// The states of all operations.
+#[derive(Debug, Drop)]
+pub struct Waiting {
+    states: Vec<State>,
+    /// The operations that wait for no edge any more, by the cycle at which they become ready.
+    wheel: Wheel,
+}
+
 impl Waiting {
+    ghost use Rattle.std.specs.Prelude.{None, Some};
+    ghost use Rattle.iloc_sched.specs.Steps.Members.{In};
     ghost use Rattle.iloc_sched.specs.Steps.Graph.{IsGraph};
     ghost use Rattle.iloc_sched.specs.Steps.Progress.{Reaches, Waits, CanIssue, KeepsPlaces};
-    ghost use Rattle.iloc_sched.specs.Steps.Views.{graph_of, progress_of, IsSized};
+    ghost use Rattle.iloc_sched.specs.Steps.Views.{graph_of, issued_list, watch_list, earliest_list, progress_of, IsSized};
+    ghost use Rattle.iloc_sched.specs.Steps.SoFar.{waiting_count};
+
+    /// No operation.
+    pub fn new(alloc: Global) -> Waiting {
+        Waiting {
+            states: Vec::new(alloc),
+            wheel: Wheel::new(alloc),
+        }
+    }
+
+    /// Nothing is issued: each operation watches the first edge into it, and who has none becomes ready at once.
+    pub fn open(&mut self, edges: &Edges) -> Result<(), NoMemory>
+        requires graph { IsGraph (graph_of edges.now) }
+        requires starts { length edges.now.starts.items ≡ length edges.now.heads.items + 1 }
+        ensures waits { OnOk result (Waits (graph_of edges.now) (progress_of self.new) 0 0 None) }
+        ensures sized { OnOk result (IsSized edges.now self.new) }
+        ensures none { OnOk result ((j : ℕ) → (progress_of self.new).issued j ≡ None) }
+        ensures count { OnOk result (waiting_count self.new ≡ length edges.now.heads.items) }
+    {
+        let count = edges.op_count();
+        self.wheel.clear(count)?;
+        self.states.clear();
+        self.states.reserve(count)?;
+        for j in 0..count {
+            let place = edges.start(j);
+            let end = edges.start(j + 1);
+            self.states.push(State {
+                issued: None,
+                reach: Reach { place, earliest: 0 },
+            })?;
+            if place == end {
+                self.wheel.put(j as u32, 0);
+            }
+        }
+        Ok(())
+    }
 
     /// How far the edges into operation j are over by now.
     fn reach(&self, edges: &Edges, j: usize) -> Reach
@@ -39,7 +84,7 @@ impl Waiting {
         requires graph { IsGraph (graph_of edges.now) }
         requires sized { IsSized edges.now self.now }
         requires early { (k t : ℕ) → k < length edges.now.heads.items
-            → (progress_of self.now).issued k ≡ Some t → t < 1000000 }
+            → (progress_of self.now).issued k ≡ Some t → t + 16 < 2 ^ 32 }
         requires start { Reaches (graph_of edges.now) (progress_of self.now).issued j
             ((progress_of self.now).watch j) ((progress_of self.now).earliest j) }
         ensures reaches { Reaches (graph_of edges.now) (progress_of self.now).issued j result.place result.earliest }
@@ -47,12 +92,14 @@ impl Waiting {
         ensures stuck { result.place < (graph_of edges.now).start (j + 1)
             → (progress_of self.now).issued ((graph_of edges.now).from result.place) ≡ None }
     {
-        let end = edges.starts[j + 1];
-        let mut place = self.watch[j];
-        let mut earliest = self.earliest[j];
+        let end = edges.start(j + 1);
+        let state = self.states[j];
+        let mut place = state.reach.place;
+        let mut earliest = state.reach.earliest;
         while place < end {
-            let edge = edges.edges[place as usize];
-            match self.issued[edge.from as usize] {
+            let edge = edges.get(place as usize);
+            let source = self.states[edge.from as usize];
+            match source.issued {
                 Some(cycle) => earliest = earliest.max(cycle + edge.delay),
                 None => return Reach { place, earliest },
             }
@@ -61,71 +108,101 @@ impl Waiting {
         Reach { place, earliest }
     }
 
-    /// Puts operation j into the bucket of a cycle.
-    fn enter(&mut self, j: u32, cycle: u32) -> Result<(), NoMemory>
-        requires { length self.old.wheel.items ≡ 32 }
-        ensures bucket { OnOk result ((progress_of self.new).bucket (cycle % 32)
-            ≡ (progress_of self.old).bucket (cycle % 32) ++ j ∷ []) }
-        ensures others { OnOk result ((b : ℕ) → b ≢ cycle % 32
-            → (progress_of self.new).bucket b ≡ (progress_of self.old).bucket b) }
-        ensures size { length self.new.wheel.items ≡ 32 }
-        ensures issued { self.new.issued ≡ self.old.issued }
-        ensures watch { self.new.watch ≡ self.old.watch }
-        ensures earliest { self.new.earliest ≡ self.old.earliest }
+    /// Operation j watches another edge.
+    fn watch(&mut self, j: usize, reach: Reach)
+        requires { j < length self.old.states.items }
+        ensures issued { issued_list self.new ≡ issued_list self.old }
+        ensures watch { watch_list self.new ≡ slice_set (watch_list self.old) j reach.place }
+        ensures earliest { earliest_list self.new ≡ slice_set (earliest_list self.old) j reach.earliest }
+        ensures wheel { self.new.wheel ≡ self.old.wheel }
+        ensures size { length self.new.states.items ≡ length self.old.states.items }
     {
-        self.wheel[(cycle % 32) as usize].push(j)?;
-        Ok(())
+        let state = self.states[j];
+        self.states[j] = State {
+            issued: state.issued,
+            reach,
+        };
+    }
+
+    /// Operation i is issued at this cycle.
+    fn mark(&mut self, i: usize, cycle: u32)
+        requires { i < length self.old.states.items }
+        ensures issued { issued_list self.new ≡ slice_set (issued_list self.old) i (Some cycle) }
+        ensures watch { watch_list self.new ≡ watch_list self.old }
+        ensures earliest { earliest_list self.new ≡ earliest_list self.old }
+        ensures wheel { self.new.wheel ≡ self.old.wheel }
+        ensures size { length self.new.states.items ≡ length self.old.states.items }
+    {
+        let state = self.states[i];
+        self.states[i] = State {
+            issued: Some(cycle),
+            reach: state.reach,
+        };
     }
 
     /// Edge x is over, since its source was issued at this cycle: who watches it goes on to the next that isn't.
     /// Answers the edge before x out of the same source.
-    fn pass(&mut self, edges: &Edges, x: u32, cycle: u32) -> Result<Option<u32>, NoMemory>
-        requires small { cycle < 999999 }
+    fn pass(&mut self, edges: &Edges, x: u32, cycle: u32) -> Option<u32>
+        requires small { cycle + 17 < 2 ^ 32 }
         requires there { x < length edges.now.edges.items }
         requires graph { IsGraph (graph_of edges.now) }
         requires sized { IsSized edges.now self.old }
         requires issued { (progress_of self.old).issued ((graph_of edges.now).from x) ≡ Some cycle }
         requires waits { Waits (graph_of edges.now) (progress_of self.old) (cycle + 1)
             ((graph_of edges.now).from x) (Some x) }
-        ensures next { IfOk result (λ next. next ≡ (graph_of edges.now).next x) }
-        ensures waits { IfOk result (λ next. Waits (graph_of edges.now) (progress_of self.new) (cycle + 1)
-            ((graph_of edges.now).from x) next) }
-        ensures keeps { OnOk result (KeepsPlaces (graph_of edges.now) (progress_of self.old) (progress_of self.new)) }
-        ensures issued { self.new.issued ≡ self.old.issued }
-        ensures sized { OnOk result (IsSized edges.now self.new) }
+        ensures previous { result ≡ (graph_of edges.now).previous x }
+        ensures waits { Waits (graph_of edges.now) (progress_of self.new) (cycle + 1)
+            ((graph_of edges.now).from x) result }
+        ensures keeps { KeepsPlaces (graph_of edges.now) (progress_of self.old) (progress_of self.new) }
+        ensures issued { issued_list self.new ≡ issued_list self.old }
+        ensures sized { IsSized edges.now self.new }
     {
-        let edge = edges.edges[x as usize];
+        let edge = edges.get(x as usize);
         let target = edge.to as usize;
-        if self.watch[target] != x {
-            return Ok(edge.next);
+        let state = self.states[target];
+        if state.reach.place != x {
+            return edge.previous;
         }
         let reach = self.reach(edges, target);
-        self.watch[target] = reach.place;
-        self.earliest[target] = reach.earliest;
-        if reach.place < edges.starts[target + 1] {
-            return Ok(edge.next);
+        self.watch(target, reach);
+        if reach.place < edges.start(target + 1) {
+            return edge.previous;
         }
-        self.enter(edge.to, reach.earliest)?;
-        Ok(edge.next)
+        self.wheel.put(edge.to, reach.earliest);
+        edge.previous
     }
 
     /// Issues operation i at this cycle.
-    pub fn issue(&mut self, edges: &Edges, i: usize, cycle: u32) -> Result<(), NoMemory>
-        requires small { cycle < 999999 }
+    pub fn issue(&mut self, edges: &Edges, i: usize, cycle: u32)
+        requires small { cycle + 17 < 2 ^ 32 }
         requires graph { IsGraph (graph_of edges.now) }
         requires sized { IsSized edges.now self.old }
         requires can { CanIssue (graph_of edges.now) (progress_of self.old) (cycle + 1) i }
         requires waits { Waits (graph_of edges.now) (progress_of self.old) (cycle + 1) 0 None }
-        ensures waits { OnOk result (Waits (graph_of edges.now) (progress_of self.new) (cycle + 1) 0 None) }
-        ensures issued { OnOk result (self.new.issued.items ≡ slice_set self.old.issued.items i (Some cycle)) }
-        ensures keeps { OnOk result (KeepsPlaces (graph_of edges.now) (progress_of self.old) (progress_of self.new)) }
-        ensures sized { OnOk result (IsSized edges.now self.new) }
+        ensures waits { Waits (graph_of edges.now) (progress_of self.new) (cycle + 1) 0 None }
+        ensures issued { issued_list self.new ≡ slice_set (issued_list self.old) i (Some cycle) }
+        ensures keeps { KeepsPlaces (graph_of edges.now) (progress_of self.old) (progress_of self.new) }
+        ensures sized { IsSized edges.now self.new }
     {
-        self.issued[i] = Some(cycle);
-        let mut at = edges.heads[i];
+        self.mark(i, cycle);
+        let mut at = edges.last_from(i);
         while let Some(x) = at {
-            at = self.pass(edges, x, cycle)?;
+            at = self.pass(edges, x, cycle);
         }
-        Ok(())
+    }
+
+    /// Takes out an operation that becomes ready at a cycle, if there is one.
+    pub fn take(&mut self, cycle: u32) -> Option<u32>
+        requires { (j : ℕ) → In ((progress_of self.old).bucket (cycle % 32)) j → j < length self.old.wheel.behind.items }
+        ensures none { IfNone result ((progress_of self.new).bucket (cycle % 32) ≡ []) }
+        ensures taken { IfSome result (λ j. (progress_of self.old).bucket (cycle % 32)
+            ≡ j ∷ (progress_of self.new).bucket (cycle % 32)) }
+        ensures unchanged { IfNone result (self.new ≡ self.old) }
+        ensures others { (b : ℕ) → b < 32 → b ≢ cycle % 32
+            → (progress_of self.new).bucket b ≡ (progress_of self.old).bucket b }
+        ensures states { self.new.states ≡ self.old.states }
+        ensures room { length self.new.wheel.behind.items ≡ length self.old.wheel.behind.items }
+    {
+        self.wheel.take(cycle)
     }
 }

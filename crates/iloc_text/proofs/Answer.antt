@@ -33,7 +33,7 @@ lines_joined (l ∷ m ∷ ls) some each =
     slice_split_at is_line_end l 10 (join_with_byte 10 (m ∷ ls)) (no_end l each.0) refl
     ∙ ap (λ x. l ∷ x) (lines_joined (m ∷ ls) (omega arith) each.1)
 
-lines_are_of : (input : List ℕ) (lines : List (List ℕ)) → AreLines input lines → lines_of input ≡ lines
+pub lines_are_of : (input : List ℕ) (lines : List (List ℕ)) → AreLines input lines → lines_of input ≡ lines
 lines_are_of input lines a = ap lines_of a.whole ∙ lines_joined lines a.some a.each
 
 -- The answer of one line, and of the lines

@@ -3,11 +3,17 @@ use Rattle.std.proofs.Common.{◌≡◌, ◌∙◌, ℕ, ◌≤◌, nat_lt, Bool
 use Rattle.std.specs.List.{AllByRecursion, list_all}
 use Rattle.std.proofs.lemmas.Bool.Decides.{nat_tests}
 use Rattle.iloc_text.specs.declared.op.Op.{Op}
-use Rattle.iloc_text.specs.Forms.{numbers}
+use Rattle.std.proofs.lemmas.List.Folds.{list_all-map}
+use Rattle.iloc_text.specs.declared.forms.Operand.{Operand}
+use Rattle.iloc_text.specs.Forms.{operands, number_of, numbers, opcode, op_of}
 use Rattle.iloc_text.specs.Grammar.{IsWithinLimit}
-use Rattle.iloc_text.specs.Steps.Opcodes.{op_of}
 use Rattle.iloc_text.specs.Steps.Scan.{capped, is_within}
-use Rattle.iloc_text.proofs.Names.{name, capped_op, name_same, numbers-capped}
+use Rattle.iloc_text.proofs.Names.{capped_op, op_same, numbers-capped}
+
+-- the test of each operand's number is that of the numbers
+pub all_numbers : (os : List Operand) → list_all (λ o. nat_lt (number_of o) 2147483648) os
+    ≡ list_all (λ n. nat_lt n 2147483648) (map number_of os)
+all_numbers os = sym (list_all-map (λ n. nat_lt n 2147483648) number_of os)
 
 pub capped_within : (n : ℕ) → n ≤ 2147483647 → capped n ≡ n
 capped_within n h = omega arith
@@ -18,7 +24,7 @@ all_within (n ∷ ns) h = ap₂ (λ m ms. m ∷ ms) (capped_within n h.0) (all_w
 
 pub capped-within : (op : Op) → IsWithinLimit op → capped_op op ≡ op
 unfolding capped_op
-capped-within op h = ap (op_of (name op)) (all_within (numbers op) h) ∙ name_same op
+capped-within op h = ap (op_of (opcode op)) (all_within (numbers op) h) ∙ op_same op
 
 pub all_small : (ns : List ℕ) → list_all (λ n. nat_lt n 2147483648) (map capped ns) ≡ true
     → AllByRecursion (λ n. n ≤ 2147483647) ns
@@ -39,4 +45,5 @@ small_all (n ∷ ns) h = let small : nat_lt (capped n) 2147483648 ≡ true = let
     grind (arith, nat_tests) in rw (small, small_all ns h.1) refl
 
 pub within_limit : (op : Op) → is_within (Some (capped_op op)) ≡ true → IsWithinLimit op
-within_limit op h = all_small (numbers op) (ap (list_all (λ n. nat_lt n 2147483648)) (sym (numbers-capped op)) ∙ h)
+within_limit op h = all_small (numbers op) (ap (list_all (λ n. nat_lt n 2147483648)) (sym (numbers-capped op))
+    ∙ sym (all_numbers (operands (capped_op op))) ∙ h)

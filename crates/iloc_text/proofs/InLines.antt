@@ -5,11 +5,14 @@ use Rattle.std.specs.Char.{digit_value}
 use Rattle.std.specs.Str.Parse.{AllDigits}
 use Rattle.std.proofs.lemmas.Bool.Decides.{nat_tests}
 use Rattle.iloc_text.specs.declared.op.Op.{Op}
-use Rattle.iloc_text.specs.declared.op.Op.TheVariants.{Nop}
-use Rattle.iloc_text.specs.Forms.{Lead, Value, Operand, opcode, operands}
-use Rattle.iloc_text.specs.Forms.Lead.{space, comma, arrow}
-use Rattle.iloc_text.specs.Forms.Value.{register, number}
-use Rattle.iloc_text.specs.Forms.Operand.{◌▹◌}
+use Rattle.iloc_text.specs.declared.forms.Opcode.{Opcode}
+use Rattle.iloc_text.specs.declared.forms.Opcode.TheVariants.{Nop}
+use Rattle.iloc_text.specs.declared.forms.Lead.{Lead}
+use Rattle.iloc_text.specs.declared.forms.Value.{Value}
+use Rattle.iloc_text.specs.declared.forms.Operand.{Operand}
+use Rattle.iloc_text.specs.Forms.{opcode, operands, opcode_text}
+use Rattle.iloc_text.specs.declared.forms.Lead.TheVariants.{Space, Comma, Arrow}
+use Rattle.iloc_text.specs.declared.forms.Value.TheVariants.{Use, Definition, Constant}
 use Rattle.iloc_text.specs.Grammar.{◌⋅◌, Text, is_blank, is_word_byte, Blanks, Number, LeadText, ValueText, OperandsText, Operation, OptionalOperation, Name, OptionalLabel}
 use Rattle.iloc_text.specs.Files.{HasNoLineEnd}
 use Rattle.iloc_text.proofs.Tokens.{IsWord}
@@ -57,25 +60,24 @@ number_inside : {n : ℕ} → IsInside (Number n)
 number_inside = λ bytes h. digits_inside bytes h.0.1
 
 lead_inside : (lead : Lead) → IsInside (LeadText lead)
-lead_inside space = λ bytes h. blanks_inside bytes h.1
-lead_inside comma = join_inside blanks_inside (join_inside (text_inside (codes ",") refl) blanks_inside)
-lead_inside arrow = join_inside blanks_inside (join_inside (text_inside (codes "=>") refl) blanks_inside)
+lead_inside Space = λ bytes h. blanks_inside bytes h.1
+lead_inside Comma = join_inside blanks_inside (join_inside (text_inside (codes ",") refl) blanks_inside)
+lead_inside Arrow = join_inside blanks_inside (join_inside (text_inside (codes "=>") refl) blanks_inside)
 
 value_inside : (value : Value) → IsInside (ValueText value)
-value_inside (register r) = join_inside (text_inside (codes "r") refl) number_inside
-value_inside (number n) = number_inside
+value_inside (Constant n) = number_inside
+value_inside _ = join_inside (text_inside (codes "r") refl) number_inside
 
 operands_inside : (operands : List Operand) → IsInside (OperandsText operands)
 operands_inside [] = text_inside [] refl
-operands_inside (lead ▹ value ∷ more) = join_inside (lead_inside lead)
-    (join_inside (value_inside value) (operands_inside more))
+operands_inside (o ∷ more) = join_inside (lead_inside o.lead) (join_inside (value_inside o.value) (operands_inside more))
 
-opcode_inside : (op : Op) → IsInside (Text (opcode op))
+opcode_inside : (o : Opcode) → IsInside (Text (opcode_text o))
 opcode_inside Nop = text_inside (codes "nop") refl
-opcode_inside op = text_inside (opcode op) refl
+opcode_inside o = text_inside (opcode_text o) refl
 
 operation_inside : (op : Op) → IsInside (Operation op)
-operation_inside op = join_inside (opcode_inside op) (operands_inside (operands op))
+operation_inside op = join_inside (opcode_inside (opcode op)) (operands_inside (operands op))
 
 pub optional_operation_inside : (op : Option Op) → IsInside (OptionalOperation op)
 optional_operation_inside None = text_inside [] refl

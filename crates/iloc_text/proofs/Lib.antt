@@ -20,5 +20,6 @@ pub mod Splitting
 pub mod Reading
 pub mod Spelled
 pub mod Answer
+pub mod ScheduleLines
 pub mod Every
 pub mod Within

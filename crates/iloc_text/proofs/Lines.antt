@@ -2,7 +2,7 @@
 use Rattle.std.proofs.Common.{◌≡◌, ◌∙◌, ℕ, nat_lt, true, false, List, ◌++◌, refl, sym, ap, subst, Option, Some, None, IfSome, option_map, unwrap_or}
 use Rattle.std.specs.List.{list_all}
 use Rattle.iloc_text.specs.declared.op.Op.{Op}
-use Rattle.iloc_text.specs.Forms.{numbers}
+use Rattle.iloc_text.specs.Forms.{operands, numbers}
 use Rattle.iloc_text.specs.Grammar.{is_blank, is_word_byte, ReadsWidely, Reads, HasReading, HasWideReading}
 use Rattle.iloc_text.specs.Steps.Scan.{after_blanks, optional_label_at, body_at, line_at, is_within}
 use Rattle.iloc_text.proofs.Parts.{Before-join, Before-split, Before-all, all-Before, starts}
@@ -13,7 +13,7 @@ use Rattle.iloc_text.proofs.Names.{capped_op, numbers-capped}
 use Rattle.iloc_text.proofs.Operations.{operation_starts, operation_colon}
 use Rattle.iloc_text.proofs.Bodies.{end_starts, Body, body_read, no_blank_start, body_again, body_skips}
 use Rattle.iloc_text.proofs.Labels.{is_colon, label_read, label_none, label_not_here, label_again}
-use Rattle.iloc_text.proofs.Caps.{capped-within, small_all, within_limit}
+use Rattle.iloc_text.proofs.Caps.{all_numbers, capped-within, small_all, within_limit}
 
 abbrev pub FindsLine : List ℕ → Option (List ℕ) × Option Op → Type 0
 FindsLine bytes found = (op : Option Op) × ReadsWidely bytes found.0 op × (found.1 ≡ option_map capped_op op)
@@ -95,7 +95,8 @@ pub found_reads : (bytes : List ℕ) (label : Option (List ℕ)) (op : Option Op
 found_reads bytes label None r = (line_again bytes label None r.0, refl)
 found_reads bytes label (Some op) r = (
   line_again bytes label (Some op) r.0 ∙ ap (λ o. Some (label, Some o)) (capped-within op r.1),
-  ap (list_all (λ n. nat_lt n 2147483648)) (ap numbers (sym (capped-within op r.1)) ∙ numbers-capped op)
+  all_numbers (operands op)
+      ∙ ap (list_all (λ n. nat_lt n 2147483648)) (ap numbers (sym (capped-within op r.1)) ∙ numbers-capped op)
       ∙ small_all (numbers op) r.1,
 )
 

@@ -2,11 +2,11 @@
 use Rattle.std.proofs.Common.{◌≡◌, ℕ, Bool, true, false, cond, ◌&&◌, List, [], ◌∷◌, ◌++◌, refl, sym, Option, Some, None, IfSome, find, bytes_eq}
 use Rattle.std.specs.List.{list_all}
 use Rattle.std.proofs.lemmas.Slice.Eq.{bytes_eq-Decides}
-use Rattle.iloc_text.specs.declared.op.Op.{Op}
-use Rattle.iloc_text.specs.declared.op.Op.TheVariants.{Nop}
-use Rattle.iloc_text.specs.Forms.{opcode}
+use Rattle.iloc_text.specs.declared.forms.Opcode.{Opcode}
+use Rattle.iloc_text.specs.declared.forms.Opcode.TheVariants.{Nop}
+use Rattle.iloc_text.specs.Forms.{opcode_text}
 use Rattle.iloc_text.specs.Grammar.{is_word_byte}
-use Rattle.iloc_text.specs.Steps.Opcodes.{opcodes, opcode_text, opcode_of}
+use Rattle.iloc_text.specs.Steps.Opcodes.{opcodes, opcode_of}
 use Rattle.iloc_text.specs.Steps.Scan.{◌>>=◌}
 use Rattle.iloc_text.proofs.Parts.{starts}
 use Rattle.iloc_text.proofs.Tokens.{some_map, IsWord}
@@ -39,13 +39,13 @@ word_by_test (c ∷ cs) h = by (is_word_byte c) refl (word_by_test cs) h
     by true e rest h = (e, rest h)
     by false e rest h = cc
 
-opcode_passes : (op : Op) → list_all is_word_byte (opcode op) ≡ true
+opcode_passes : (o : Opcode) → list_all is_word_byte (opcode_text o) ≡ true
 opcode_passes Nop = refl
 opcode_passes _ = refl
 
-pub opcode_is_word : (op : Op) → IsWord (opcode op)
-opcode_is_word op = word_by_test (opcode op) (opcode_passes op)
+pub opcode_is_word : (o : Opcode) → IsWord (opcode_text o)
+opcode_is_word o = word_by_test (opcode_text o) (opcode_passes o)
 
-pub opcode_starts : (op : Op) (rest : List ℕ) → starts is_word_byte (opcode op ++ rest) ≡ true
+pub opcode_starts : (o : Opcode) (rest : List ℕ) → starts is_word_byte (opcode_text o ++ rest) ≡ true
 opcode_starts Nop rest = refl
 opcode_starts _ rest = refl

@@ -3,25 +3,26 @@ use Rattle.std.proofs.Common.{subst, ◌==◌, ◌≡◌, ◌∙◌, ℕ, ◌<�
 use Rattle.std.specs.Char.{digit_value}
 use Rattle.std.proofs.lemmas.Bool.Decides.{nat_tests}
 use Rattle.iloc_text.specs.declared.op.Op.{Op}
-use Rattle.iloc_text.specs.declared.opcode.Opcode.{Opcode}
-use Rattle.iloc_text.specs.Forms.{Lead, Operand, opcode, operands}
-use Rattle.iloc_text.specs.Forms.Lead.{space, comma, arrow}
-use Rattle.iloc_text.specs.Forms.Operand.{◌▹◌}
+use Rattle.iloc_text.specs.declared.forms.Opcode.{Opcode}
+use Rattle.iloc_text.specs.declared.forms.Lead.{Lead}
+use Rattle.iloc_text.specs.declared.forms.Operand.{Operand}
+use Rattle.iloc_text.specs.Forms.{opcode, operands, opcode_text, op_of}
+use Rattle.iloc_text.specs.declared.forms.Lead.TheVariants.{Space, Comma, Arrow}
 use Rattle.iloc_text.specs.Grammar.{◌⋅◌, Text, is_word_byte, is_blank, Blanks, LeadText, OperandsText, Operation}
-use Rattle.iloc_text.specs.Steps.Opcodes.{opcode_text, opcode_of, op_of, operands_of}
+use Rattle.iloc_text.specs.Steps.Opcodes.{opcode_of, operands_of}
 use Rattle.iloc_text.specs.Steps.Scan.{after_blanks, after_word, word_of, operands_at, called_at, operation_at}
 use Rattle.iloc_text.proofs.Parts.{Before, Before-join, Before-split, starts}
 use Rattle.iloc_text.proofs.Tokens.{some_map, word_again, word_read, blanks_again}
 use Rattle.iloc_text.proofs.Opcodes.{bind_each, opcode_read, opcode_is_word, opcode_starts}
 use Rattle.iloc_text.proofs.Starts.{text_starts, blank_is_no_word_byte, digit_is_no_blank, digit_start_by_word, value_fails, operands_fail}
 use Rattle.iloc_text.proofs.Operands.{operands_read, operands_again}
-use Rattle.iloc_text.proofs.Names.{capped_op, name_found, name_called, opcode-op_of, operands-op_of, name-op_of}
+use Rattle.iloc_text.proofs.Names.{capped_op, opcode_found, opcode_called, opcode-op_of, operands-op_of}
 
 abbrev pub FindsOperation : List ℕ → Op × List ℕ → Type 0
 FindsOperation bytes found = (op : Op) × Before (Operation op) found.1 bytes × (found.0 ≡ capped_op op)
 
 abbrev FindsBehind : Opcode → List ℕ → Op × List ℕ → Type 0
-FindsBehind o bytes found = (op : Op) × (opcode op ≡ opcode_text o) × Before (OperandsText (operands op)) found.1 bytes
+FindsBehind o bytes found = (op : Op) × (opcode op ≡ o) × Before (OperandsText (operands op)) found.1 bytes
     × (found.0 ≡ capped_op op)
 
 called_read : (o : Opcode) (bytes : List ℕ) → IfSome (called_at o bytes) (FindsBehind o bytes)
@@ -31,7 +32,7 @@ called_read o bytes = bind_each (FindsBehind o bytes) (operands_at (operands_of 
       op_of o f.0,
       opcode-op_of o f.0,
       rw (operands-op_of o f.0) f.1,
-      rw (operands-op_of o f.0, name-op_of o f.0) (ap (op_of o) f.2),
+      rw (operands-op_of o f.0, opcode-op_of o f.0) (ap (op_of o) f.2),
     ))
 
 pub operation_read : (bytes : List ℕ) → IfSome (operation_at bytes) (FindsOperation bytes)
@@ -40,7 +41,7 @@ operation_read bytes =
     bind_each (FindsOperation bytes) (opcode_of (word_of bytes)) _ (opcode_read (word_of bytes)) (λ o w.
     some_map (λ found f. (
       f.0,
-      Before-join (record { front = word_of bytes; first = w ∙ sym f.1; whole = (word_read bytes).1 }) f.2,
+      Before-join (record { front = word_of bytes; first = w ∙ ap opcode_text (sym f.1); whole = (word_read bytes).1 }) f.2,
       f.3,
     ))
     (called_at o (after_word bytes)) (called_read o (after_word bytes)))
@@ -52,17 +53,17 @@ pub called_finds : (o : Opcode) (bytes behind : List ℕ) (op : Op) (rest : List
 called_finds o bytes behind op rest e called =
     let f : FindsBehind o behind (op, rest) =
     subst (λ found. IfSome found (FindsBehind o behind)) called (called_read o behind) in
-    (f.0, Before-join (record { front = opcode_text o; first = sym f.1; whole = e }) f.2, f.3)
+    (f.0, Before-join (record { front = opcode_text o; first = ap opcode_text (sym f.1); whole = e }) f.2, f.3)
 
 -- the word at the front is the opcode
 operation_word : (op : Op) (rest bytes : List ℕ) → Before (Operation op) rest bytes → starts is_word_byte rest ≡ false
-    → (word_of bytes ≡ opcode op) × Before (OperandsText (operands op)) rest (after_word bytes)
+    → (word_of bytes ≡ opcode_text (opcode op)) × Before (OperandsText (operands op)) rest (after_word bytes)
 operation_word op rest bytes b s =
     let first = Before-split b in
-    let whole : bytes ≡ opcode op ++ first.0 = first.1.whole ∙ ap (λ f. f ++ first.0) first.1.first in
+    let whole : bytes ≡ opcode_text (opcode op) ++ first.0 = first.1.whole ∙ ap (λ f. f ++ first.0) first.1.first in
     let stop = operands_fail (operands op) is_word_byte (record { blank = blank_is_no_word_byte; sign = (refl, refl) })
     first.2 s in
-    let word = word_again (opcode op) first.0 (opcode_is_word op) stop in (
+    let word = word_again (opcode_text (opcode op)) first.0 (opcode_is_word (opcode op)) stop in (
       ap word_of whole ∙ word.0,
       subst (Before (OperandsText (operands op)) rest) (sym (ap after_word whole ∙ word.1))
           first.2,
@@ -75,15 +76,15 @@ operation_again op rest bytes b s =
     let word = operation_word op rest bytes b s in
     rw (
       word.0,
-      name_found op,
-      name_called op (after_word bytes),
+      opcode_found op,
+      opcode_called op (after_word bytes),
       operands_again (operands op) rest (after_word bytes) word.1 (digit_start_by_word rest s),
     ) refl
 
 pub operation_starts : (op : Op) (rest bytes : List ℕ) → Before (Operation op) rest bytes
     → starts is_word_byte bytes ≡ true
 operation_starts op rest bytes b = let first = Before-split b in text_starts is_word_byte first.1
-    ∙ opcode_starts op first.0
+    ∙ opcode_starts (opcode op) first.0
 
 -- Behind the word of an operation stands no colon
 
@@ -105,23 +106,23 @@ sign_colon {sign} {rest} {bytes} fails b =
 lead_colon : (lead : Lead) (rest bytes : List ℕ) → Before (LeadText lead) rest bytes → starts is_blank rest ≡ false
     → starts is_colon rest ≡ false
     → starts is_colon (after_blanks bytes) ≡ false
-lead_colon space rest bytes b blank colon =
+lead_colon Space rest bytes b blank colon =
     let some : Before Blanks rest bytes = record { front = b.front; first = b.first.1; whole = b.whole } in
     ap (starts is_colon) (blanks_again rest bytes some blank) ∙ colon
-lead_colon comma rest bytes b blank colon = sign_colon (λ r. (refl, refl)) b
-lead_colon arrow rest bytes b blank colon = sign_colon (λ r. (refl, refl)) b
+lead_colon Comma rest bytes b blank colon = sign_colon (λ r. (refl, refl)) b
+lead_colon Arrow rest bytes b blank colon = sign_colon (λ r. (refl, refl)) b
 
 operands_colon : (operands : List Operand) (rest bytes : List ℕ) → Before (OperandsText operands) rest bytes
     → starts is_colon (after_blanks rest) ≡ false
     → starts is_colon (after_blanks bytes) ≡ false
 operands_colon [] rest bytes b s = ap (λ t. starts is_colon (after_blanks t)) (b.whole ∙ ap (λ f. f ++ rest) b.first)
     ∙ s
-operands_colon (lead ▹ value ∷ more) rest bytes b s =
+operands_colon (o ∷ more) rest bytes b s =
     let first = Before-split b in
     let second = Before-split first.2 in
-    lead_colon lead first.0 bytes first.1
-    (value_fails value is_blank (record { digit = digit_is_no_blank; letter = refl }) second.1)
-    (value_fails value is_colon (record { digit = digit_is_no_colon; letter = refl }) second.1)
+    lead_colon o.lead first.0 bytes first.1
+    (value_fails o.value is_blank (record { digit = digit_is_no_blank; letter = refl }) second.1)
+    (value_fails o.value is_colon (record { digit = digit_is_no_colon; letter = refl }) second.1)
 
 pub operation_colon : (op : Op) (rest bytes : List ℕ) → Before (Operation op) rest bytes
     → starts is_word_byte rest ≡ false

@@ -4,10 +4,12 @@ use Rattle.std.specs.List.{AllByRecursion}
 use Rattle.std.proofs.lemmas.List.{drop_all}
 use Rattle.std.proofs.lemmas.Fmt.{decimal_is_IsNumeral, length-decimal-le}
 use Rattle.iloc_text.specs.declared.op.Op.{Op}
-use Rattle.iloc_text.specs.Forms.{Lead, Value, Operand, number_of, opcode, operands}
-use Rattle.iloc_text.specs.Forms.Lead.{space, comma, arrow}
-use Rattle.iloc_text.specs.Forms.Value.{register, number}
-use Rattle.iloc_text.specs.Forms.Operand.{◌▹◌}
+use Rattle.iloc_text.specs.declared.forms.Lead.{Lead}
+use Rattle.iloc_text.specs.declared.forms.Value.{Value}
+use Rattle.iloc_text.specs.declared.forms.Operand.{Operand}
+use Rattle.iloc_text.specs.Forms.{number_in, number_of, opcode, operands, opcode_text}
+use Rattle.iloc_text.specs.declared.forms.Lead.TheVariants.{Space, Comma, Arrow}
+use Rattle.iloc_text.specs.declared.forms.Value.TheVariants.{Use, Definition, Constant}
 use Rattle.iloc_text.specs.Grammar.{Text, Blanks, Number, LeadText, ValueText, OperandsText, Operation, IsWithinLimit, Reads}
 use Rattle.iloc_text.specs.Spelling.{spelled_lead, spelled_value, spelled_operands, spelling}
 use Rattle.iloc_text.proofs.Parts.{Before, Before-join, Before-all}
@@ -31,27 +33,27 @@ number_first n rest h = let d = decimal_is_IsNumeral n (omega arith) in
     record { front = decimal n; first = (d.0, sym d.1); whole = refl }
 
 lead_first : (lead : Lead) (rest : List ℕ) → Before (LeadText lead) rest (spelled_lead lead ++ rest)
-lead_first space rest = record { front = codes " "; first = (omega arith, (refl, tt)); whole = refl }
-lead_first comma rest = Before-join (blanks_first (codes ", " ++ rest))
+lead_first Space rest = record { front = codes " "; first = (omega arith, (refl, tt)); whole = refl }
+lead_first Comma rest = Before-join (blanks_first (codes ", " ++ rest))
     (Before-join (text_first (codes ",") (codes " " ++ rest)) (blank_first rest))
-lead_first arrow rest = Before-join (blank_first (codes "=> " ++ rest))
+lead_first Arrow rest = Before-join (blank_first (codes "=> " ++ rest))
     (Before-join (text_first (codes "=>") (codes " " ++ rest)) (blank_first rest))
 
-value_first : (lead : Lead) (value : Value) (rest : List ℕ) → IsSmall (number_of (lead ▹ value))
+value_first : (value : Value) (rest : List ℕ) → IsSmall (number_in value)
     → Before (ValueText value) rest (spelled_value value ++ rest)
-value_first lead (register r) rest h = Before-join (text_first (codes "r") (decimal r.0 ++ rest))
-    (number_first r.0 rest h)
-value_first lead (number n) rest h = number_first n rest h
+value_first (Use r) rest h = Before-join (text_first (codes "r") (decimal r.0 ++ rest)) (number_first r.0 rest h)
+value_first (Definition r) rest h = Before-join (text_first (codes "r") (decimal r.0 ++ rest)) (number_first r.0 rest h)
+value_first (Constant n) rest h = number_first n rest h
 
 operands_first : (operands : List Operand) → AllByRecursion IsSmall (map number_of operands)
     → Before (OperandsText operands) [] (spelled_operands operands)
 operands_first [] h = text_first [] []
-operands_first (lead ▹ value ∷ more) h =
-    Before-join (lead_first lead (spelled_value value ++ spelled_operands more))
-    (Before-join (value_first lead value (spelled_operands more) h.0) (operands_first more h.1))
+operands_first (o ∷ more) h =
+    Before-join (lead_first o.lead (spelled_value o.value ++ spelled_operands more))
+    (Before-join (value_first o.value (spelled_operands more) h.0) (operands_first more h.1))
 
 spelled : (op : Op) → IsWithinLimit op → Before (Operation op) [] (spelling op)
-spelled op h = Before-join (text_first (opcode op) (spelled_operands (operands op))) (operands_first (operands op) h)
+spelled op h = Before-join (text_first (opcode_text (opcode op)) (spelled_operands (operands op))) (operands_first (operands op) h)
 
 pub spelling_reads : (op : Op) → IsWithinLimit op → Reads (spelling op) None (Some op)
 spelling_reads op h =
@@ -69,3 +71,7 @@ decimal_is_short n h = length-decimal-le 10 n (omega arith) (omega arith) (omega
 
 pub nothing_behind : (line : List ℕ) → length line ≡ 64 → drop 64 line ≡ []
 nothing_behind line h = drop_all 64 line (omega arith)
+
+pub spelled_none : (operands : List Operand) → length operands < 1 → [] ≡ spelled_operands operands
+spelled_none [] h = refl
+spelled_none (o ∷ more) h = absurd (omega arith)

@@ -2,10 +2,11 @@
 use Rattle.std.proofs.Common.{◌≡◌, ◌∙◌, ℕ, ◌<◌, Bool, true, false, List, [], ◌∷◌, ◌++◌, refl, ap, arith}
 use Rattle.std.specs.Char.{is_ascii_digit, digit_value}
 use Rattle.std.proofs.lemmas.Bool.Decides.{nat_tests}
-use Rattle.iloc_text.specs.Forms.{Lead, Value, Operand}
-use Rattle.iloc_text.specs.Forms.Lead.{space, comma, arrow}
-use Rattle.iloc_text.specs.Forms.Value.{register, number}
-use Rattle.iloc_text.specs.Forms.Operand.{◌▹◌}
+use Rattle.iloc_text.specs.declared.forms.Lead.{Lead}
+use Rattle.iloc_text.specs.declared.forms.Value.{Value}
+use Rattle.iloc_text.specs.declared.forms.Operand.{Operand}
+use Rattle.iloc_text.specs.declared.forms.Lead.TheVariants.{Space, Comma, Arrow}
+use Rattle.iloc_text.specs.declared.forms.Value.TheVariants.{Use, Definition, Constant}
 use Rattle.iloc_text.specs.Grammar.{◌⋅◌, is_word_byte, Text, is_blank, Blanks, SomeBlanks, Number, LeadText, ValueText, OperandsText}
 use Rattle.iloc_text.proofs.Parts.{Before, Before-split, starts}
 
@@ -62,16 +63,16 @@ sign_fails test blank sign b =
 
 pub lead_fails : (lead : Lead) {rest bytes : List ℕ} (test : ℕ → Bool) → FailsLeads test
     → Before (LeadText lead) rest bytes → starts test bytes ≡ false
-lead_fails space test fails b = some_fail test fails.blank b
-lead_fails comma test fails b = sign_fails test fails.blank (λ _. fails.sign.0) b
-lead_fails arrow test fails b = sign_fails test fails.blank (λ _. fails.sign.1) b
+lead_fails Space test fails b = some_fail test fails.blank b
+lead_fails Comma test fails b = sign_fails test fails.blank (λ _. fails.sign.0) b
+lead_fails Arrow test fails b = sign_fails test fails.blank (λ _. fails.sign.1) b
 
 -- operands, and a rest that does not pass either
 pub operands_fail : (operands : List Operand) {rest bytes : List ℕ} (test : ℕ → Bool) → FailsLeads test
     → Before (OperandsText operands) rest bytes
     → starts test rest ≡ false → starts test bytes ≡ false
 operands_fail [] test fails b s = text_starts test b ∙ s
-operands_fail (lead ▹ value ∷ more) test fails b s = lead_fails lead test fails (Before-split b).1
+operands_fail (o ∷ more) test fails b s = lead_fails o.lead test fails (Before-split b).1
 
 -- a test that fails where a value begins
 pub record FailsValues (test : ℕ → Bool) : Type 0 where
@@ -80,8 +81,9 @@ pub record FailsValues (test : ℕ → Bool) : Type 0 where
 
 pub value_fails : (value : Value) {rest bytes : List ℕ} (test : ℕ → Bool) → FailsValues test
     → Before (ValueText value) rest bytes → starts test bytes ≡ false
-value_fails (register r) test fails b = text_starts test (Before-split b).1 ∙ fails.letter
-value_fails (number n) {rest} {bytes} test fails b = ap (starts test) b.whole ∙ by b.front b.first
+value_fails (Use r) test fails b = text_starts test (Before-split b).1 ∙ fails.letter
+value_fails (Definition r) test fails b = text_starts test (Before-split b).1 ∙ fails.letter
+value_fails (Constant n) {rest} {bytes} test fails b = ap (starts test) b.whole ∙ by b.front b.first
   where
     by : (front : List ℕ) → Number n front → starts test (front ++ rest) ≡ false
     by [] h = absurd (omega (arith, h.0.0))

@@ -6,6 +6,7 @@ use Rattle.iloc_text.specs.declared.file.Block.{Block}
 use Rattle.iloc_text.specs.declared.fault.ReadFault.{ReadFault}
 use Rattle.iloc_text.specs.declared.fault.ReadFault.TheVariants.{InputTooLong, BadLine, NumberTooLarge, TooManyBlocks, TooManyOperations, NoMemory}
 use Rattle.iloc_text.specs.Grammar.{Reads, HasReading, HasWideReading}
+use Rattle.iloc_text.specs.declared.limits.TheConstants.{MAX_INPUT, MAX_BLOCKS, MAX_OPS}
 
 -- Lines
 
@@ -77,8 +78,8 @@ file_of rs = blocks_from 1 (block_names rs) rs
 
 -- the last line makes neither too many blocks nor too many operations of its block
 pub record IsWithin (rs : List Reading) : Type 0 where
-  pub blocks : block_count rs ≤ 65535
-  pub operations : length (ops_of (block_count rs) rs) ≤ 10000
+  pub blocks : block_count rs ≤ MAX_BLOCKS
+  pub operations : length (ops_of (block_count rs) rs) ≤ MAX_OPS
 
 -- so it is at each line
 abbrev pub NoneFaulty : List Reading → Type 0
@@ -88,7 +89,7 @@ NoneFaulty rs = AllByRecursion IsWithin (fronts rs)
 
 -- the bytes denote the blocks
 pub record Denotes (input : List ℕ) (blocks : List Block) : Type 0 where
-  pub short : length input ≤ 16777216
+  pub short : length input ≤ MAX_INPUT
   pub lines : List (List ℕ)
   pub are_lines : AreLines input lines
   pub readings : List Reading
@@ -100,13 +101,13 @@ pub record Denotes (input : List ℕ) (blocks : List Block) : Type 0 where
 pub record StartsTooManyBlocks (rs : List Reading) (line : List ℕ) : Type 0 where
   pub reading : Reading
   pub read : Reads line reading.label reading.op
-  pub blocks : 65535 < block_count (rs ++ reading ∷ [])
+  pub blocks : MAX_BLOCKS < block_count (rs ++ reading ∷ [])
 
 pub record HoldsTooManyOperations (rs : List Reading) (line : List ℕ) : Type 0 where
   pub reading : Reading
   pub read : Reads line reading.label reading.op
-  pub blocks : block_count (rs ++ reading ∷ []) ≤ 65535
-  pub operations : 10000 < length (ops_of (block_count (rs ++ reading ∷ [])) (rs ++ reading ∷ []))
+  pub blocks : block_count (rs ++ reading ∷ []) ≤ MAX_BLOCKS
+  pub operations : MAX_OPS < length (ops_of (block_count (rs ++ reading ∷ [])) (rs ++ reading ∷ []))
 
 -- line n, behind lines with these readings, has this fault
 abbrev pub IsFaulty : List Reading → List ℕ → ℕ → ReadFault → Type 0
@@ -119,7 +120,7 @@ IsFaulty rs line n NoMemory = ⊥
 
 -- the first faulty line has this fault
 pub record HasFirstFault (input : List ℕ) (fault : ReadFault) : Type 0 where
-  pub short : length input ≤ 16777216
+  pub short : length input ≤ MAX_INPUT
   pub before : List (List ℕ)
   pub line : List ℕ
   pub after : List (List ℕ)
@@ -131,7 +132,7 @@ pub record HasFirstFault (input : List ℕ) (fault : ReadFault) : Type 0 where
 
 -- the refusal that the bytes denote
 abbrev pub IsRefused : List ℕ → ReadFault → Type 0
-IsRefused input InputTooLong = 16777216 < length input
+IsRefused input InputTooLong = MAX_INPUT < length input
 IsRefused input (BadLine n) = HasFirstFault input (BadLine n)
 IsRefused input (NumberTooLarge n) = HasFirstFault input (NumberTooLarge n)
 IsRefused input (TooManyBlocks n) = HasFirstFault input (TooManyBlocks n)

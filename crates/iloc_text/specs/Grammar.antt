@@ -5,10 +5,12 @@ use Rattle.std.specs.Char.{is_ascii_digit, is_ascii_alphabetic}
 use Rattle.std.specs.Str.Parse.{IsNumeral, digits_value}
 use Rattle.iloc_text.specs.declared.op.Reg.{Reg}
 use Rattle.iloc_text.specs.declared.op.Op.{Op}
-use Rattle.iloc_text.specs.Forms.{Lead, Value, Operand, opcode, operands, numbers}
-use Rattle.iloc_text.specs.Forms.Lead.{space, comma, arrow}
-use Rattle.iloc_text.specs.Forms.Value.{register, number}
-use Rattle.iloc_text.specs.Forms.Operand.{◌▹◌}
+use Rattle.iloc_text.specs.declared.forms.Lead.{Lead}
+use Rattle.iloc_text.specs.declared.forms.Value.{Value}
+use Rattle.iloc_text.specs.declared.forms.Operand.{Operand}
+use Rattle.iloc_text.specs.Forms.{opcode, operands, opcode_text, numbers}
+use Rattle.iloc_text.specs.declared.forms.Lead.TheVariants as lead
+use Rattle.iloc_text.specs.declared.forms.Value.TheVariants.{Use, Definition, Constant}
 
 -- a text of the first language, and then one of the second
 pub record Joins (P Q : List ℕ → Type 0) (bytes : List ℕ) : Type 0 where
@@ -55,22 +57,23 @@ Comma = Blanks ⋅ Text (codes ",") ⋅ Blanks
 
 -- what stands before an operand: one blank or more, a comma, or an arrow
 abbrev pub LeadText : Lead → List ℕ → Type 0
-LeadText space = SomeBlanks
-LeadText comma = Comma
-LeadText arrow = Arrow
+LeadText lead.Space = SomeBlanks
+LeadText lead.Comma = Comma
+LeadText lead.Arrow = Arrow
 
 abbrev pub ValueText : Value → List ℕ → Type 0
-ValueText (register r) = Register r
-ValueText (number n) = Number n
+ValueText (Use r) = Register r
+ValueText (Definition r) = Register r
+ValueText (Constant n) = Number n
 
 -- the operands in order, each behind what stands before it
 abbrev pub OperandsText : List Operand → List ℕ → Type 0
 OperandsText [] = Text []
-OperandsText (lead ▹ value ∷ more) = LeadText lead ⋅ ValueText value ⋅ OperandsText more
+OperandsText (o ∷ more) = LeadText o.lead ⋅ ValueText o.value ⋅ OperandsText more
 
 -- an operation, with numbers however large: its opcode and its operands
 abbrev pub Operation : Op → List ℕ → Type 0
-Operation op = Text (opcode op) ⋅ OperandsText (operands op)
+Operation op = Text (opcode_text (opcode op)) ⋅ OperandsText (operands op)
 
 abbrev pub OptionalOperation : Option Op → List ℕ → Type 0
 OptionalOperation None = Text []

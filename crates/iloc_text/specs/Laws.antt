@@ -8,12 +8,18 @@ use Rattle.iloc_text.specs.declared.fault.ReadFault.{ReadFault}
 use Rattle.iloc_text.specs.Grammar.{Reads, IsWithinLimit}
 use Rattle.iloc_text.specs.Spelling.{spelling}
 use Rattle.iloc_text.specs.Files.{Denotes, IsRefused}
+use Rattle.iloc_text.specs.ScheduleLines.{Said, Says}
 use Rattle.iloc_text.specs.Registers.{used, defined, with_registers}
+use Rattle.iloc_text.specs.declared.limits.TheConstants.{MAX_BLOCKS, MAX_OPS}
 
 -- a line has at most one reading
 abbrev pub LinesHaveOneReading : Type 0
 LinesHaveOneReading = (line : List ℕ) (label label' : Option (List ℕ)) (op op' : Option Op)
     → Reads line label op → Reads line label' op' → (label ≡ label') × (op ≡ op')
+
+-- a line of a schedule says one thing at most
+abbrev pub ScheduleLinesSayOneThing : Type 0
+ScheduleLinesSayOneThing = (line : List ℕ) (said said' : Said) → Says line said → Says line said' → said ≡ said'
 
 -- the spelling of an operation reads as that operation
 abbrev pub SpellingsReadBack : Type 0
@@ -30,10 +36,10 @@ abbrev pub TextsHaveAnAnswer : Type 0
 TextsHaveAnAnswer = (input : List ℕ)
     → ((blocks : List Block) × Denotes input blocks) ⊎ ((fault : ReadFault) × IsRefused input fault)
 
--- a file has at most 65535 blocks, each of at most 10000 operations
+-- a file has at most 65,535 blocks, each of at most 10,000 operations
 abbrev pub FilesAreWithinLimits : Type 0
 FilesAreWithinLimits = (input : List ℕ) (blocks : List Block) → Denotes input blocks
-    → (length blocks ≤ 65535) × AllByRecursion (λ b. length b.ops ≤ 10000) blocks
+    → (length blocks ≤ MAX_BLOCKS) × AllByRecursion (λ b. length b.ops ≤ MAX_OPS) blocks
 
 -- an operation with other registers uses the new ones, in the order of its own
 abbrev pub RenamingMapsUses : Type 0

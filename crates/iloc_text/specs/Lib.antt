@@ -4,5 +4,6 @@ pub mod Spelling
 pub mod Grammar
 pub mod Fault
 pub mod Files
+pub mod ScheduleLines
 pub mod Laws
 pub mod Steps

@@ -2,7 +2,9 @@
 pub mod LineReads
 pub mod Lines
 pub mod Opcodes
+pub mod Placed
 pub mod Scan
+pub mod ScheduleScan
 pub mod OnePass
 pub mod Growth
 pub mod Open

@@ -1,9 +1,14 @@
 //! Laws of the language, as contracts of functions that do nothing.
-ghost use Rattle.iloc_text.specs.Laws.{LinesHaveOneReading, SpellingsReadBack, TextsHaveAnAnswer, TextsHaveOneAnswer, FilesAreWithinLimits, RenamingMapsUses, RenamingReplacesTheDefinition};
+ghost use Rattle.iloc_text.specs.Laws.{LinesHaveOneReading, ScheduleLinesSayOneThing, SpellingsReadBack, TextsHaveAnAnswer, TextsHaveOneAnswer, FilesAreWithinLimits, RenamingMapsUses, RenamingReplacesTheDefinition};
 
 /// A line has at most one reading.
 pub fn lines_have_one_reading()
     ensures { LinesHaveOneReading }
+{}
+
+/// A line of a schedule says one thing at most.
+pub fn schedule_lines_say_one_thing()
+    ensures { ScheduleLinesSayOneThing }
 {}
 
 /// The spelling of an operation, as `push_op` writes it, reads as that operation, if its numbers are

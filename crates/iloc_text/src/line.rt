@@ -1,9 +1,9 @@
 //! What a line says.
-ghost use Rattle.std.specs.Prelude.{◌≡◌, option_map, nat_lt};
-ghost use Rattle.std.specs.List.{list_all};
+ghost use Rattle.std.specs.Prelude.{◌≡◌, option_map};
 ghost use Rattle.iloc_text.specs.Steps.LineReads.{LineReads, label_of};
 ghost use Rattle.iloc_text.specs.Steps.Scan.{is_end, body_at, line_at, optional_label_at, is_within_limit, is_within};
 
+use crate::forms::form_of;
 use crate::op::Op;
 use crate::operation::optional_operation_at;
 use crate::scan::{ABOVE_LIMIT, after_blanks, word_at};
@@ -74,40 +74,14 @@ fn line_at(bytes: &[u8]) -> Option<Line<'_>>
     Some(Line { label, op })
 }
 
-/// No number was capped.
-fn are_within_limit(numbers: &[u32]) -> bool
-    ensures { result ≡ list_all (λ n. nat_lt n 2147483648) numbers.now }
-{
-    numbers.iter().all(|number| *number < ABOVE_LIMIT)
-}
-
 /// No number of the operation was capped.
 fn is_within_limit(op: &Op) -> bool
     ensures { result ≡ is_within_limit op.now }
 {
-    match *op {
-        Op::Nop => true,
-        Op::Output { addr } => are_within_limit(&[addr]),
-        Op::LoadI { value, dest } => are_within_limit(&[value, dest.0]),
-        Op::Load { addr, dest } => are_within_limit(&[addr.0, dest.0]),
-        Op::Store { value, addr } => are_within_limit(&[value.0, addr.0]),
-        Op::Add { left, right, dest }
-        | Op::Sub { left, right, dest }
-        | Op::Mult { left, right, dest }
-        | Op::Lshift { left, right, dest }
-        | Op::Rshift { left, right, dest } => are_within_limit(&[left.0, right.0, dest.0]),
-        Op::AddI { left, value, dest }
-        | Op::SubI { left, value, dest }
-        | Op::MultI { left, value, dest }
-        | Op::LshiftI { left, value, dest }
-        | Op::RshiftI { left, value, dest } => are_within_limit(&[left.0, value, dest.0]),
-        Op::LoadAI { addr, offset, dest } => are_within_limit(&[addr.0, offset, dest.0]),
-        Op::StoreAI {
-            value,
-            addr,
-            offset,
-        } => are_within_limit(&[value.0, addr.0, offset]),
-    }
+    form_of(op)
+        .operands
+        .iter()
+        .all(|operand| operand.number() < ABOVE_LIMIT)
 }
 
 /// The line has no operation, or one of which no number was capped.

@@ -3,10 +3,10 @@ ghost use Rattle.std.specs.Prelude.{IfSome};
 ghost use Rattle.iloc_text.specs.Steps.LineReads.{label_of, FirstLineReads};
 ghost use Rattle.iloc_text.specs.Steps.OnePass.{OperationAt, WordsAt, EndsAt};
 
+use crate::forms::opcode_at;
 use crate::line::{Line, is_end, is_within, optional_label_at};
 use crate::line_ends::split_line;
 use crate::op::Op;
-use crate::opcode::opcode_at;
 use crate::operation::called_at;
 use crate::scan::after_blanks;
 

@@ -1,15 +1,148 @@
-//! The block that is being read.
-ghost use Rattle.std.specs.Prelude.{◌≤◌, length};
+//! The block that is being read: how the blocks of a file grow, line by line, within the limits.
+ghost use Rattle.std.specs.Prelude.{◌≡◌, ◌<◌, ◌≤◌, [], List, IsUtf8, OnOk, length};
+ghost use Rattle.std.specs.Option.{ForSome, option_copied};
+ghost use Rattle.iloc_text.specs.declared.file.Block.{Block as block_value};
+ghost use Rattle.iloc_text.specs.declared.limits.TheConstants.{MAX_BLOCKS, MAX_OPS};
+ghost use Rattle.iloc_text.specs.Steps.LineReads.{label_of};
+ghost use Rattle.iloc_text.specs.Steps.Growth.{opened, with_op, with_optional_op, with_line, Grows};
 
-use crate::file::Block;
+use crate::fault::{NoMemory, ReadFault};
+use crate::file::{Block, Name, Ops};
+use crate::limits::{MAX_BLOCKS, MAX_OPS};
+use crate::line::Line;
+use crate::op::Op;
+use crate::taker::TakeBlocks;
+use std::alloc::Global;
+use std::str;
 
 /// The block whose lines are being read, within the limits. Its room serves block after block.
 #[derive(Drop)]
 pub struct OpenBlock {
-    /// How many blocks there are with this one; 0 where none is open yet.
-    pub count: usize,
-    /// Its name and the operations read so far.
-    pub block: Block,
-    ghost few: { count ≤ 65535 },
-    ghost short: { length block.ops ≤ 10000 },
+    // How many blocks there are with this one; 0 where none is open yet.
+    count: usize,
+    // Its name and the operations read so far.
+    block: Block,
+    ghost few: { count ≤ MAX_BLOCKS },
+    ghost short: { length block.ops ≤ MAX_OPS },
+}
+
+/// These bytes as a text.
+fn text_of(bytes: &[u8]) -> &str
+    requires { IsUtf8 bytes.now }
+    ensures { result.now ≡ bytes.now }
+{
+    match str::from_utf8(bytes) {
+        Ok(text) => text,
+        Err(_) => unreachable!(),
+    }
+}
+
+/// Writes the new name, if there is one, into the room of the old one.
+fn set_name(alloc: Global, name: &mut Option<Name>, text: Option<&str>) -> Result<(), NoMemory>
+    ensures { OnOk result (name.new ≡ option_copied text.entry) }
+{
+    let Some(text) = text else {
+        *name = None;
+        return Ok(());
+    };
+    match name {
+        Some(old) => old.set(text)?,
+        None => *name = Some(Name::new(String::from_str(alloc, text)?)),
+    }
+    Ok(())
+}
+
+impl OpenBlock {
+    ghost use Rattle.iloc_text.specs.Steps.Open.{AreSoFar, HasTaken};
+
+    /// No block is open.
+    pub fn none(alloc: Global) -> OpenBlock
+        ensures { AreSoFar [] result [] }
+    {
+        let ops = Ops::new(Vec::new(alloc));
+        let block = Block { name: None, ops };
+        OpenBlock { count: 0, block }
+    }
+
+    /// Hands the open block over, if there is one.
+    pub fn hand_over<T: TakeBlocks>(&self, alloc: Global, taker: &mut T) -> Result<(), NoMemory>
+        ensures { (start : T) (blocks : List block_value) →
+            HasTaken T.took start taker.old self.now blocks → OnOk result (T.took start blocks taker.new) }
+    {
+        if self.count > 0 {
+            taker.take(alloc, self.count, &self.block)?;
+        }
+        Ok(())
+    }
+
+    /// Opens a block without operations, which the line with this number asks for.
+    fn open<T: TakeBlocks>(
+        &mut self,
+        alloc: Global,
+        taker: &mut T,
+        name: Option<&str>,
+        number: u32,
+    ) -> Result<(), ReadFault>
+        ensures { (start : T) (blocks : List block_value) → HasTaken T.took start taker.old self.old blocks →
+            Grows (HasTaken T.took start taker.new self.new) (opened (option_copied name.entry) blocks) number result }
+    {
+        if self.count == MAX_BLOCKS {
+            return Err(ReadFault::TooManyBlocks(number));
+        }
+        self.hand_over(alloc, taker)?;
+        self.count += 1;
+        self.block.ops.clear();
+        set_name(alloc, &mut self.block.name, name)?;
+        Ok(())
+    }
+
+    /// Adds the operation to the open block, which is there.
+    fn push(&mut self, op: Op, number: u32) -> Result<(), ReadFault>
+        ensures { (done blocks : List block_value) → AreSoFar done self.old blocks → 0 < length blocks →
+            Grows (AreSoFar done self.new) (with_op op blocks) number result }
+    {
+        if self.block.ops.len() == MAX_OPS {
+            return Err(ReadFault::TooManyOperations(number));
+        }
+        self.block.ops.push(op)?;
+        Ok(())
+    }
+
+    /// Adds the operation, if there is one, to the open block, or to an unnamed block where none is open yet.
+    fn add_op<T: TakeBlocks>(
+        &mut self,
+        alloc: Global,
+        taker: &mut T,
+        op: Option<Op>,
+        number: u32,
+    ) -> Result<(), ReadFault>
+        ensures { (start : T) (blocks : List block_value) → HasTaken T.took start taker.old self.old blocks →
+            Grows (HasTaken T.took start taker.new self.new) (with_optional_op op blocks) number result }
+    {
+        let Some(op) = op else {
+            return Ok(());
+        };
+        if self.count == 0 {
+            self.open(alloc, taker, None, number)?;
+        }
+        self.push(op, number)
+    }
+
+    /// Adds what the line with this number reads as.
+    pub fn add_line<T: TakeBlocks>(
+        &mut self,
+        alloc: Global,
+        taker: &mut T,
+        line: Line<'_>,
+        number: u32,
+    ) -> Result<(), ReadFault>
+        requires { ForSome (label_of line) IsUtf8 }
+        ensures { (start : T) (blocks : List block_value) → HasTaken T.took start taker.old self.old blocks →
+            Grows (HasTaken T.took start taker.new self.new) (with_line (label_of line.entry) line.entry.op blocks) number result }
+    {
+        if let Some(label) = line.label {
+            self.open(alloc, taker, Some(text_of(label)), number)?;
+        }
+        self.add_op(alloc, taker, line.op, number)
+    }
 }

@@ -1,13 +1,12 @@
 //! The operation of a line, scanned with numbers that count as `ABOVE_LIMIT` where they are above the limit.
 ghost use Rattle.std.specs.Prelude.{◌≡◌, [], ◌∷◌, option_map};
-ghost use Rattle.iloc_text.specs.Forms.Lead.{arrow};
-ghost use Rattle.iloc_text.specs.Forms.Operand.{◌▹◌};
-ghost use Rattle.iloc_text.specs.declared.opcode.Opcode.TheVariants as opcodes;
+ghost use Rattle.iloc_text.specs.declared.forms.Lead.TheVariants.{Arrow};
+ghost use Rattle.iloc_text.specs.Forms.{◌▹◌};
 ghost use Rattle.iloc_text.specs.Steps.Opcodes.{any_register, any_number};
 ghost use Rattle.iloc_text.specs.Steps.Scan.{value_then, operands_at, called_at, operation_at, optional_operation_at};
 
+use crate::forms::{Opcode, op_of, opcode_of};
 use crate::op::{Op, Reg};
-use crate::opcode::{Opcode, opcode_of};
 use crate::scan::{
     arrow_at, comma_at, is_word_byte, number_at, register_at, some_blanks_at, word_at,
 };
@@ -16,7 +15,7 @@ use crate::scan::{
 #[tactic(auto, unfolding(crate::specs::Steps::Scan::value_then))]
 fn number_to_register_at(bytes: &[u8]) -> Option<(u32, Reg, &[u8])>
     ensures { option_map (λ found. (found.0 ∷ found.1.0 ∷ [], found.2.now)) result
-        ≡ value_then any_number (operands_at (arrow ▹ any_register ∷ [])) bytes.now }
+        ≡ value_then any_number (operands_at (Arrow ▹ any_register ∷ [])) bytes.now }
 {
     let (value, rest) = number_at(bytes)?;
     let (dest, rest) = register_at(arrow_at(rest)?)?;
@@ -27,27 +26,11 @@ fn number_to_register_at(bytes: &[u8]) -> Option<(u32, Reg, &[u8])>
 #[tactic(auto, unfolding(crate::specs::Steps::Scan::value_then))]
 fn register_to_register_at(bytes: &[u8]) -> Option<(Reg, Reg, &[u8])>
     ensures { option_map (λ found. (found.0.0 ∷ found.1.0 ∷ [], found.2.now)) result
-        ≡ value_then any_register (operands_at (arrow ▹ any_register ∷ [])) bytes.now }
+        ≡ value_then any_register (operands_at (Arrow ▹ any_register ∷ [])) bytes.now }
 {
     let (source, rest) = register_at(bytes)?;
     let (target, rest) = register_at(arrow_at(rest)?)?;
     Some((source, target, rest))
-}
-
-/// A `storeAI`: `register => register, number`.
-#[tactic(auto, unfolding(crate::specs::Steps::Scan::called_at, crate::specs::Steps::Scan::value_then))]
-fn store_at_offset_at(bytes: &[u8]) -> Option<(Op, &[u8])>
-    ensures { option_map (λ found. (found.0, found.1.now)) result ≡ called_at opcodes.StoreAI bytes.now }
-{
-    let (value, rest) = register_at(some_blanks_at(bytes)?)?;
-    let (addr, rest) = register_at(arrow_at(rest)?)?;
-    let (offset, rest) = number_at(comma_at(rest)?)?;
-    let op = Op::StoreAI {
-        value,
-        addr,
-        offset,
-    };
-    Some((op, rest))
 }
 
 /// What stands behind an opcode: blanks and operands, or nothing behind `nop`.
@@ -65,27 +48,36 @@ pub fn called_at(opcode: Opcode, bytes: &[u8]) -> Option<(Op, &[u8])>
             let (value, dest, rest) = number_to_register_at(some_blanks_at(bytes)?)?;
             Some((Op::LoadI { value, dest }, rest))
         }
-        Opcode::Transfer(transfer) => {
+        Opcode::Load | Opcode::Store => {
             let (source, target, rest) = register_to_register_at(some_blanks_at(bytes)?)?;
-            Some((transfer.op(source, target), rest))
+            Some((op_of(opcode, &[source.0, target.0]), rest))
         }
-        Opcode::TwoSources(sources) => {
+        Opcode::Add | Opcode::Sub | Opcode::Mult | Opcode::Lshift | Opcode::Rshift => {
             let (left, rest) = register_at(some_blanks_at(bytes)?)?;
             let (right, dest, rest) = register_to_register_at(comma_at(rest)?)?;
-            Some((sources.op(left, right, dest), rest))
+            Some((op_of(opcode, &[left.0, right.0, dest.0]), rest))
         }
-        Opcode::Immediate(immediate) => {
+        Opcode::AddI
+        | Opcode::SubI
+        | Opcode::MultI
+        | Opcode::LshiftI
+        | Opcode::RshiftI
+        | Opcode::LoadAI => {
             let (left, rest) = register_at(some_blanks_at(bytes)?)?;
             let (value, dest, rest) = number_to_register_at(comma_at(rest)?)?;
-            Some((immediate.op(left, value, dest), rest))
+            Some((op_of(opcode, &[left.0, value, dest.0]), rest))
         }
-        Opcode::StoreAI => store_at_offset_at(bytes),
+        Opcode::StoreAI => {
+            let (value, addr, rest) = register_to_register_at(some_blanks_at(bytes)?)?;
+            let (offset, rest) = number_at(comma_at(rest)?)?;
+            Some((op_of(opcode, &[value.0, addr.0, offset]), rest))
+        }
     }
 }
 
 /// An opcode and what belongs behind it.
 #[tactic(auto, unfolding(crate::specs::Steps::Scan::operation_at))]
-fn operation_at(bytes: &[u8]) -> Option<(Op, &[u8])>
+pub fn operation_at(bytes: &[u8]) -> Option<(Op, &[u8])>
     ensures { option_map (λ found. (found.0, found.1.now)) result ≡ operation_at bytes.now }
 {
     let (word, rest) = word_at(bytes);

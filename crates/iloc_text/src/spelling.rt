@@ -1,14 +1,12 @@
 //! How operations and numbers are written.
-ghost use Rattle.std.specs.Prelude.{◌≡◌, ◌++◌, OnOk, OnErr, [], ◌∷◌, drop, vec_len, vec_capacity, length, codes, ◌+◌, ◌<◌, ◌≤◌};
+ghost use Rattle.std.specs.Prelude.{◌≡◌, ◌++◌, OnOk, OnErr, [], ◌∷◌, drop, vec_len, vec_capacity, length, codes, ◌+◌, ◌*◌, ◌<◌, ◌≤◌};
 ghost use Rattle.std.specs.Fmt.{decimal, signed_decimal};
-ghost use Rattle.iloc_text.specs.Forms.{opcode, operands};
-ghost use Rattle.iloc_text.specs.Forms.Lead.{space, comma, arrow};
-ghost use Rattle.iloc_text.specs.Forms.Value.{register, number};
-ghost use Rattle.iloc_text.specs.Forms.Operand.{◌▹◌};
-ghost use Rattle.iloc_text.specs.Spelling.{spelled_operands, spelling};
+ghost use Rattle.iloc_text.specs.Forms.{number_of};
+ghost use Rattle.iloc_text.specs.Spelling.{spelled_lead, spelled_value, spelled_operands, spelling};
 
 use crate::fault::NoMemory;
-use crate::op::{Op, Reg};
+use crate::forms::{Lead, Operand, Value, form_of};
+use crate::op::Op;
 use itoa::{Buffer, write_digits};
 
 /// More bytes than an operation is spelled with.
@@ -39,111 +37,44 @@ pub fn push_op(text: &mut Vec<u8>, op: &Op) -> Result<(), NoMemory>
         (vec_capacity text.old < vec_len text.old + length (spelling op.now)) }
 {
     let mut line = [0; ROOM];
-    let start = write_operands(&mut line, op);
-    let start = write_text(&mut line, start, opcode(op));
+    let form = form_of(op);
+    let start = write_operands(&mut line, form.operands.as_slice());
+    let start = write_text(&mut line, start, form.opcode.text());
     text.extend_from_slice(&line[start..])?;
     Ok(())
 }
 
-/// The opcode of the operation, as it is written.
-fn opcode(op: &Op) -> &'static [u8]
-    ensures text { result.now ≡ opcode op.now }
-    ensures short { length result.now ≤ 7 }
+/// What stands before the number of an operand.
+fn before_number(operand: &Operand) -> &'static [u8]
+    ensures text { spelled_lead operand.now.lead ++ spelled_value operand.now.value
+        ≡ result.now ++ decimal (number_of operand.now) }
+    ensures short { length result.now ≤ 5 }
 {
-    match op {
-        Op::Load { .. } => b"load",
-        Op::LoadI { .. } => b"loadI",
-        Op::Store { .. } => b"store",
-        Op::Add { .. } => b"add",
-        Op::Sub { .. } => b"sub",
-        Op::Mult { .. } => b"mult",
-        Op::Lshift { .. } => b"lshift",
-        Op::Rshift { .. } => b"rshift",
-        Op::Output { .. } => b"output",
-        Op::Nop => b"nop",
-        Op::AddI { .. } => b"addI",
-        Op::SubI { .. } => b"subI",
-        Op::MultI { .. } => b"multI",
-        Op::LshiftI { .. } => b"lshiftI",
-        Op::RshiftI { .. } => b"rshiftI",
-        Op::LoadAI { .. } => b"loadAI",
-        Op::StoreAI { .. } => b"storeAI",
+    match (operand.lead, operand.value) {
+        (Lead::Space, Value::Constant(_)) => b" ",
+        (Lead::Space, _) => b" r",
+        (Lead::Comma, Value::Constant(_)) => b", ",
+        (Lead::Comma, _) => b", r",
+        (Lead::Arrow, Value::Constant(_)) => b" => ",
+        (Lead::Arrow, _) => b" => r",
     }
 }
 
-/// Writes the operands to the end of the line, the last of them first, and gives where they start.
-#[tactic(auto, using(crate::proofs::Spelled::nothing_behind))]
-fn write_operands(line: &mut [u8], op: &Op) -> usize
-    requires { length line.old ≡ 64 }
-    ensures room { (7 ≤ result) × (result ≤ 64) }
-    ensures written { drop result line.new ≡ spelled_operands (operands op.now) }
+/// Writes the operands to the end of the line, and gives where they start.
+fn write_operands(line: &mut [u8], operands: &[Operand]) -> usize
+    requires line { length line.old ≡ 64 }
+    requires few { length operands.now ≤ 3 }
+    ensures room { (64 ≤ result + 15 * length operands.now) × (result ≤ 64) }
+    ensures length { length line.new ≡ 64 }
+    ensures written { drop result line.new ≡ spelled_operands operands.now }
 {
-    match *op {
-        Op::Nop => ROOM,
-        Op::Output { addr } => write_operand(line, ROOM, b" ", addr),
-        Op::LoadI { value, dest } => {
-            let end = write_operand(line, ROOM, b" => r", dest.0);
-            write_operand(line, end, b" ", value)
-        }
-        Op::Load { addr, dest } => write_transfer(line, ROOM, addr, dest),
-        Op::Store { value, addr } => write_transfer(line, ROOM, value, addr),
-        Op::Add { left, right, dest }
-        | Op::Sub { left, right, dest }
-        | Op::Mult { left, right, dest }
-        | Op::Lshift { left, right, dest }
-        | Op::Rshift { left, right, dest } => write_two_sources(line, left, right, dest),
-        Op::AddI { left, value, dest }
-        | Op::SubI { left, value, dest }
-        | Op::MultI { left, value, dest }
-        | Op::LshiftI { left, value, dest }
-        | Op::RshiftI { left, value, dest } => write_immediate(line, left, value, dest),
-        Op::LoadAI { addr, offset, dest } => write_immediate(line, addr, offset, dest),
-        Op::StoreAI {
-            value,
-            addr,
-            offset,
-        } => {
-            let end = write_operand(line, ROOM, b", ", offset);
-            write_transfer(line, end, value, addr)
+    match operands {
+        [] => ROOM,
+        [operand, behind @ ..] => {
+            let end = write_operands(line, behind);
+            write_operand(line, end, before_number(operand), operand.number())
         }
     }
-}
-
-/// Writes `source => target` behind a space, so that it ends at `end`, and gives where it starts.
-fn write_transfer(line: &mut [u8], end: usize, source: Reg, target: Reg) -> usize
-    requires { (34 ≤ end) × (end ≤ length line.old) }
-    ensures room { (result ≤ end) × (end ≤ result + 27) }
-    ensures written { drop result line.new
-        ≡ codes " r" ++ (decimal source.0 ++ (codes " => r" ++ (decimal target.0 ++ drop end line.old))) }
-{
-    let start = write_operand(line, end, b" => r", target.0);
-    write_operand(line, start, b" r", source.0)
-}
-
-/// Writes `left, right => dest` behind a space to the end of the line, and gives where it starts.
-#[tactic(auto, using(crate::proofs::Spelled::nothing_behind))]
-fn write_two_sources(line: &mut [u8], left: Reg, right: Reg, dest: Reg) -> usize
-    requires { length line.old ≡ 64 }
-    ensures room { (7 ≤ result) × (result ≤ 64) }
-    ensures written { drop result line.new
-        ≡ spelled_operands (space ▹ register left ∷ comma ▹ register right ∷ arrow ▹ register dest ∷ []) }
-{
-    let end = write_operand(line, ROOM, b" => r", dest.0);
-    let end = write_operand(line, end, b", r", right.0);
-    write_operand(line, end, b" r", left.0)
-}
-
-/// Writes `left, value => dest` behind a space to the end of the line, and gives where it starts.
-#[tactic(auto, using(crate::proofs::Spelled::nothing_behind))]
-fn write_immediate(line: &mut [u8], left: Reg, value: u32, dest: Reg) -> usize
-    requires { length line.old ≡ 64 }
-    ensures room { (7 ≤ result) × (result ≤ 64) }
-    ensures written { drop result line.new
-        ≡ spelled_operands (space ▹ register left ∷ comma ▹ number value ∷ arrow ▹ register dest ∷ []) }
-{
-    let end = write_operand(line, ROOM, b" => r", dest.0);
-    let end = write_operand(line, end, b", ", value);
-    write_operand(line, end, b" r", left.0)
 }
 
 /// Writes `lead` and the number so that they end at `end`, and gives where they start.

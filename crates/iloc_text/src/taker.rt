@@ -4,6 +4,7 @@ ghost use Rattle.iloc_text.specs.declared.file.Block.{Block as block_value};
 
 use crate::fault::NoMemory;
 use crate::file::Block;
+use crate::limits::{MAX_BLOCKS, MAX_OPS};
 use std::alloc::Global;
 
 /// Takes the blocks of a text, one after another.
@@ -14,8 +15,8 @@ pub trait TakeBlocks {
     /// Takes the block with this number, counted from 1. The block is lent: its room serves the next one.
     fn take(&mut self, alloc: Global, number: usize, block: &Block) -> Result<(), NoMemory>
         requires first { 1 ≤ number }
-        requires last { number ≤ 65535 }
-        requires short { length block.now.ops ≤ 10000 }
+        requires last { number ≤ MAX_BLOCKS }
+        requires short { length block.now.ops ≤ MAX_OPS }
         ensures { (start : Self) (blocks : List block_value) → took start blocks self.old →
             length blocks + 1 ≡ number → OnOk result (took start (blocks ++ block.now ∷ []) self.new) };
 

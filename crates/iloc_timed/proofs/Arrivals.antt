@@ -8,7 +8,11 @@ use Rattle.iloc_text.specs.declared.op.Op.{Op}
 use Rattle.iloc_meaning.specs.Trace.{op_at}
 use Rattle.iloc_timed.specs.declared.latencies.Latencies.{Latencies}
 use Rattle.iloc_timed.specs.declared.row.Row.{Row}
-use Rattle.iloc_timed.specs.Latency.{latency}
+use Rattle.iloc_timed.specs.declared.kind.Kind.{Kind}
+use Rattle.iloc_timed.specs.declared.kind.Kind.TheVariants as K
+use Rattle.iloc_timed.specs.Kinds.{kind}
+use Rattle.iloc_timed.specs.Latency.{latency, latency_of}
+use Rattle.iloc_timed.specs.Steps.Longest.{longest}
 use Rattle.iloc_timed.specs.Rows.{row_at, slots, holds, issue_cycle, times_issued, IsTable}
 use Rattle.iloc_timed.specs.Cycles.{cycles}
 use Rattle.iloc_timed.proofs.Counts.{any_contains}
@@ -111,20 +115,30 @@ pub issued_within : (ops : List Op) (rows : List Row) (i : ℕ) → i < length o
 issued_within ops rows i within table =
     let once : times_issued rows i ≡ 1 = table.once i within in (stands_there rows i (omega arith)).0
 
--- the last arrival of what is issued before cycle c
-pub record IsLastBefore (lat : Latencies) (ops : List Op) (rows : List Row) (c last : ℕ) : Type 0 where
-  pub most : last ≤ cycles lat ops rows
-  pub each : (i : ℕ) → i < length ops → issue_cycle rows i < c → issue_cycle rows i + latency lat (op_at ops i) ≤ last
+-- no operation takes longer than the longest latency
+latency_le_longest : (lat : Latencies) (k : Kind) → latency_of lat k ≤ longest lat
+latency_le_longest lat K.Load = omega arith
+latency_le_longest lat K.Store = omega arith
+latency_le_longest lat K.Mult = omega arith
+latency_le_longest lat K.Output = let some : 1 ≤ lat.load = lat.some_load in omega arith
+latency_le_longest lat K.Other = let some : 1 ≤ lat.load = lat.some_load in omega arith
 
-pub none_before : (lat : Latencies) (ops : List Op) (rows : List Row) → IsLastBefore lat ops rows 0 0
-none_before lat ops rows = record {
+-- the last arrival of what is issued from cycle c on
+pub record IsLastFrom (lat : Latencies) (ops : List Op) (rows : List Row) (c last : ℕ) : Type 0 where
+  pub most : last ≤ cycles lat ops rows
+  pub each : (i : ℕ) → i < length ops → c ≤ issue_cycle rows i → issue_cycle rows i + latency lat (op_at ops i) ≤ last
+
+pub none_from_end : (lat : Latencies) (ops : List Op) (rows : List Row) → IsTable ops rows
+    → IsLastFrom lat ops rows (length rows) 0
+none_from_end lat ops rows table = record {
   most = omega arith;
-  each = λ i within before. absurd (omega arith);
+  each = λ i within from. absurd (omega (arith, issued_within ops rows i within table));
 }
 
 pub one_row_more : (lat : Latencies) (ops : List Op) (rows : List Row) (c last next final : ℕ) → IsTable ops rows
-    → c < length rows → IsLastBefore lat ops rows c last → next ≡ max (arrival_in lat ops c (row_at rows c).zero) last
-    → final ≡ max (arrival_in lat ops c (row_at rows c).one) next → IsLastBefore lat ops rows (c + 1) final
+    → c < length rows → IsLastFrom lat ops rows (c + 1) last
+    → next ≡ max (arrival_in lat ops c (row_at rows c).zero) last
+    → final ≡ max (arrival_in lat ops c (row_at rows c).one) next → IsLastFrom lat ops rows c final
 one_row_more lat ops rows c last next final table within so_far first second = record {
   most =
       let a : arrival_in lat ops c (row_at rows c).zero ≤ cycles lat ops rows =
@@ -132,8 +146,8 @@ one_row_more lat ops rows c last next final table within so_far first second = r
       let b : arrival_in lat ops c (row_at rows c).one ≤ cycles lat ops rows =
       one_le_cycles lat ops rows c within table in
       omega (arith, so_far.most);
-  each = λ i known before. elim (cases_lt (issue_cycle rows i) c) [
-    | inl earlier ↦ omega (arith, so_far.each i known earlier)
+  each = λ i known from. elim (cases_lt c (issue_cycle rows i)) [
+    | inl later ↦ omega (arith, so_far.each i known (omega arith))
     | inr here ↦
         let at : issue_cycle rows i ≡ c = omega arith in
         let by : c + latency lat (op_at ops i) ≤ max (arrival_in lat ops c (row_at rows c).zero)
@@ -142,10 +156,16 @@ one_row_more lat ops rows c last next final table within so_far first second = r
   ];
 }
 
-pub last_is_cycles : (lat : Latencies) (ops : List Op) (rows : List Row) (c last : ℕ) → IsTable ops rows
-    → length rows ≤ c → IsLastBefore lat ops rows c last → last ≡ cycles lat ops rows
-last_is_cycles lat ops rows c last table past so_far =
+-- no row before cycle c holds what arrives later
+pub last_is_cycles : (lat : Latencies) (ops : List Op) (rows : List Row) (c last : ℕ)
+    → (0 < c → c + longest lat ≤ last) → IsLastFrom lat ops rows c last → last ≡ cycles lat ops rows
+last_is_cycles lat ops rows c last past so_far =
     let least : cycles lat ops rows ≤ last =
-    cycles_le lat ops rows last (λ i known.
-    so_far.each i known (omega (arith, issued_within ops rows i known table))) in
+    cycles_le lat ops rows last (λ i known. elim (cases_lt (issue_cycle rows i) c) [
+      | inl before ↦
+          let late : c + longest lat ≤ last = past (omega arith) in
+          let most : latency lat (op_at ops i) ≤ longest lat = latency_le_longest lat (kind (op_at ops i)) in
+          omega arith
+      | inr from ↦ so_far.each i known from
+    ]) in
     omega (arith, so_far.most)

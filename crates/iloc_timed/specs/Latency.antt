@@ -14,8 +14,7 @@ abbrev pub latency_of : Latencies → Kind → ℕ
 latency_of lat K.Load = lat.load
 latency_of lat K.Store = lat.store
 latency_of lat K.Mult = lat.mult
-latency_of lat K.Output = 1
-latency_of lat K.Other = 1
+latency_of lat _ = 1
 
 abbrev pub latency : Latencies → Op → ℕ
 latency lat op = latency_of lat (kind op)

@@ -21,6 +21,7 @@ pub struct Latencies {
 
 impl Latencies {
     ghost use Rattle.iloc_timed.specs.Latency.{IsLatency};
+    ghost use Rattle.iloc_timed.specs.Steps.Longest.{longest};
 
     /// These latencies; `None` where one of them isn't from 1 to 16.
     pub fn new(load: u32, store: u32, mult: u32) -> Option<Latencies>
@@ -48,5 +49,11 @@ impl Latencies {
             store: 5,
             mult: 3,
         }
+    }
+    /// The longest: no operation takes more cycles.
+    pub(crate) fn longest(&self) -> u32
+        ensures { result ≡ longest self.now }
+    {
+        self.load.max(self.store).max(self.mult)
     }
 }

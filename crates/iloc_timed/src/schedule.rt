@@ -7,7 +7,7 @@ use crate::build_fault::BuildFault;
 use crate::row::Row;
 use crate::slots::{first_bad_row, first_not_once};
 use iloc_text::Op;
-use std::alloc::Global;
+use std::alloc::{AllocError, Global};
 use std::marker::Model;
 
 /// The most rows that a schedule may have.
@@ -26,17 +26,22 @@ impl Model for Schedule {
     ghost use Rattle.std.specs.Prelude.{◌≤◌, vec_len};
     ghost use Rattle.iloc_timed.specs.Rows.{IsTable};
     ghost use Rattle.iloc_timed.specs.Schedule.{Table};
+    ghost use Rattle.iloc_timed.specs.declared.schedule.TheConstants.{MAX_ROWS};
 
     ghost Value = { Table };
 
     ghost view = { λ schedule. record { ops = schedule.ops.items; rows = schedule.rows.items } };
 
-    ghost invariant = { λ schedule. IsTable schedule.ops.items schedule.rows.items × (vec_len schedule.rows ≤ 4_000_000_000) };
+    ghost invariant = { λ schedule. IsTable schedule.ops.items schedule.rows.items × (vec_len schedule.rows ≤ MAX_ROWS) };
 }
 
 impl Schedule {
-    /// The schedule of these operations in these rows, tested in one pass over the rows and one over
-    /// the operations.
+    /// The schedule of these operations in these rows, of which there are at most `MAX_ROWS`.
+    ///
+    /// The rows are gone through twice and the operations once: first each row is tested by itself, then it is counted
+    /// where each operation stands. Refused are rows with a number that isn't an operation's or with a broken rule of
+    /// the units, and operations that don't stand in exactly one slot; the fault names the first. Then both lists are
+    /// given up, as they are where memory for the count is lacking.
     pub fn new(alloc: Global, ops: Vec<Op>, rows: Vec<Row>) -> Result<Schedule, BuildFault>
         requires { vec_len rows ≤ MAX_ROWS }
         ensures table { OnOk result (IsTable ops.items rows.items) }
@@ -63,6 +68,15 @@ impl Schedule {
         Schedule { ops, rows }
     }
 
+    /// Gives back the operations and the rows.
+    pub fn into_parts(self) -> (Vec<Op>, Vec<Row>)
+        ensures ops { result.0.items ≡ self.ops }
+        ensures rows { result.1.items ≡ self.rows }
+        ensures table { IsTable result.0.items result.1.items }
+    {
+        (self.ops, self.rows)
+    }
+
     /// The operations, by their numbers.
     pub fn ops(&self) -> &[Op]
         ensures ops { result.now ≡ self.now.ops }
@@ -77,5 +91,17 @@ impl Schedule {
         ensures few { length self.now.rows ≤ MAX_ROWS }
     {
         self.rows.as_slice()
+    }
+}
+
+impl Clone for Schedule {
+    ghost is_clone = { λ schedule copy. copy ≡ schedule };
+
+    fn clone(&self) -> Result<Schedule, AllocError> {
+        let alloc = *self.ops.allocator();
+        Ok(Schedule {
+            ops: Vec::from_slice(alloc, &self.ops)?,
+            rows: Vec::from_slice(alloc, &self.rows)?,
+        })
     }
 }

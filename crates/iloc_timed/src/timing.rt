@@ -40,10 +40,16 @@ pub fn cycles(schedule: &Schedule, latencies: &Latencies) -> u64
     ensures { result ≡ cycles latencies.now schedule.now.ops schedule.now.rows }
 {
     let ops = schedule.ops();
+    let rows = schedule.rows();
+    let longest = u64::from(latencies.longest());
     let mut last = 0;
-    for (cycle, row) in schedule.rows().iter().enumerate() {
-        last = arrival(ops, latencies, cycle, row.zero).max(last);
-        last = arrival(ops, latencies, cycle, row.one).max(last);
+    // From the last row back, as long as a row that is left may hold what arrives later.
+    let mut left = rows.len();
+    while left > 0 && last < left as u64 + longest {
+        left -= 1;
+        let row = rows[left];
+        last = arrival(ops, latencies, left, row.zero).max(last);
+        last = arrival(ops, latencies, left, row.one).max(last);
     }
     last
 }

@@ -1,17 +1,17 @@
 -- The faults of the two halves: what the parser finds, and what it has taken and is out of range.
 use Rattle.std.specs.Prelude.{◌≡◌, ◌≢◌}
 use Rattle.clap.specs.declared.error.kind.ErrorKind.{ErrorKind}
-use Rattle.clap.specs.declared.error.kind.ErrorKind.TheVariants.{DisplayHelp, OutOfMemory}
+use Rattle.clap.specs.declared.error.kind.ErrorKind.TheVariants.{OutOfMemory}
 use Rattle.iloc_args.specs.Asked.{Asked}
-use Rattle.iloc_args.specs.Due.{Overflows, StartsAmiss}
+use Rattle.iloc_args.specs.Due.{IsAskedFor, Overflows, StartsAmiss}
 use Rattle.iloc_args.specs.declared.fault.LineFault.{LineFault}
 use Rattle.iloc_args.specs.declared.fault.LineFault.TheVariants.{Help, Refused, BadStart}
 use Rattle.iloc_args.specs.declared.fault.LineFault.TheVariants.{TooManyWords, NoMemory}
 
 -- the fault is the one for an error of the parser of this kind
 abbrev pub IsFaultBy : ErrorKind → LineFault → Type 0
-IsFaultBy kind (Help text) = kind ≡ DisplayHelp
-IsFaultBy kind (Refused text) = (kind ≢ DisplayHelp) × (kind ≢ OutOfMemory)
+IsFaultBy kind (Help text) = IsAskedFor kind
+IsFaultBy kind (Refused text) = (IsAskedFor kind → ⊥) × (kind ≢ OutOfMemory)
 IsFaultBy kind (BadStart at) = ⊥
 IsFaultBy kind TooManyWords = ⊥
 IsFaultBy kind NoMemory = kind ≡ OutOfMemory

@@ -16,7 +16,8 @@ use Rattle.iloc_sched.specs.declared.edges.Edge.{Edge}
 use Rattle.iloc_sched.specs.declared.lasts.Lasts.{Lasts}
 use Rattle.iloc_sched.specs.Steps.Members.{In}
 use Rattle.iloc_sched.specs.Steps.Graph.{Graph}
-use Rattle.iloc_sched.specs.Steps.Lasts.{definer, IsLasts}
+use Rattle.iloc_sched.specs.Steps.Lasts.{IsLasts}
+use Rattle.iloc_sched.specs.Steps.ByRegister.{number_at}
 use Rattle.iloc_sched.specs.Steps.PartialGraph.{IsPartialGraph, HasEdge, HasOneMore, Grows, AddsFrom, CoversUse, CoversUses, CoversMemory}
 use Rattle.iloc_sched.specs.Steps.Views.{no_edge}
 use Rattle.iloc_sched.proofs.Members.{in_from}
@@ -45,48 +46,48 @@ tables_graph edges starts heads = record {
   delay = λ x. (get_or edges x no_edge).delay;
   start = λ j. get_or starts j 0;
   head = λ i. get_or heads i None;
-  next = λ x. (get_or edges x no_edge).next;
+  previous = λ x. (get_or edges x no_edge).previous;
 }
 
 pub one_more : (edges : List Edge) (starts : List ℕ) (heads : List (Option ℕ)) (i j d : ℕ) (edge : Edge)
     → i < length heads
-    → edge.from ≡ i → edge.to ≡ j → edge.delay ≡ d → edge.next ≡ get_or heads i None
+    → edge.from ≡ i → edge.to ≡ j → edge.delay ≡ d → edge.previous ≡ get_or heads i None
     → HasOneMore (tables_graph edges starts heads)
     (tables_graph (edges ++ edge ∷ []) starts (set heads i (Some (length edges)))) i j d
-one_more edges starts heads i j d edge there from_is to_is delay_is next_is = record {
+one_more edges starts heads i j d edge there from_is to_is delay_is previous_is = record {
   ops = length-set heads i (Some (length edges));
   count = length_push edges edge;
   start = λ k. refl;
   from = λ x before. ap (λ (e : Edge). e.from) (front_at edges (edge ∷ []) x no_edge before);
   to = λ x before. ap (λ (e : Edge). e.to) (front_at edges (edge ∷ []) x no_edge before);
   delay = λ x before. ap (λ (e : Edge). e.delay) (front_at edges (edge ∷ []) x no_edge before);
-  next = λ x before. ap (λ (e : Edge). e.next) (front_at edges (edge ∷ []) x no_edge before);
+  previous = λ x before. ap (λ (e : Edge). e.previous) (front_at edges (edge ∷ []) x no_edge before);
   last_from = ap (λ (e : Edge). e.from) (get_or_push edges edge no_edge (length edges) refl) ∙ from_is;
   last_to = ap (λ (e : Edge). e.to) (get_or_push edges edge no_edge (length edges) refl) ∙ to_is;
   last_delay = ap (λ (e : Edge). e.delay) (get_or_push edges edge no_edge (length edges) refl) ∙ delay_is;
-  last_next = ap (λ (e : Edge). e.next) (get_or_push edges edge no_edge (length edges) refl) ∙ next_is;
+  last_previous = ap (λ (e : Edge). e.previous) (get_or_push edges edge no_edge (length edges) refl) ∙ previous_is;
   head = get_or-set_same heads i (Some (length edges)) None there;
   heads = λ k apart. get_or-set_other heads i k (Some (length edges)) None apart;
 }
 
 -- one edge is pushed, and it is the last from i
 pub adds_one : (edges edges' : List Edge) (starts : List ℕ) (heads : List (Option ℕ)) (i j d place : ℕ)
-    (next : Option ℕ) → i < length heads
-    → place ≡ length edges → next ≡ get_or heads i None
-    → edges' ≡ edges ++ record { from = i; to = j; delay = d; next = next } ∷ []
+    (previous : Option ℕ) → i < length heads
+    → place ≡ length edges → previous ≡ get_or heads i None
+    → edges' ≡ edges ++ record { from = i; to = j; delay = d; previous = previous } ∷ []
     → AddsFrom (λ k. k ≡ i) (tables_graph edges starts heads) (tables_graph edges' starts (set heads i (Some place))) j
     d
-adds_one edges edges' starts heads i j d place next there place_is next_is pushed =
+adds_one edges edges' starts heads i j d place previous there place_is previous_is pushed =
     subst (λ es. AddsFrom (λ k. k ≡ i) (tables_graph edges starts heads)
     (tables_graph es starts (set heads i (Some place))) j d) (sym pushed)
     (subst (λ p. AddsFrom (λ k. k ≡ i) (tables_graph edges starts heads)
-    (tables_graph (edges ++ record { from = i; to = j; delay = d; next = next } ∷ []) starts (set heads i (Some p)))
+    (tables_graph (edges ++ record { from = i; to = j; delay = d; previous = previous } ∷ []) starts (set heads i (Some p)))
     j d) (sym place_is)
     (λ lat ops is pairs.
-    let edge : Edge = record { from = i; to = j; delay = d; next = next } in
+    let edge : Edge = record { from = i; to = j; delay = d; previous = previous } in
     let more : HasOneMore (tables_graph edges starts heads)
     (tables_graph (edges ++ edge ∷ []) starts (set heads i (Some (length edges)))) i j d =
-    one_more edges starts heads i j d edge there refl refl refl next_is in
+    one_more edges starts heads i j d edge there refl refl refl previous_is in
     let pair : IsDelayPair lat ops i j d = pairs i refl in (
       grows_by_one lat ops (tables_graph edges starts heads)
           (tables_graph (edges ++ edge ∷ []) starts (set heads i (Some (length edges)))) i j d is pair more,
@@ -120,7 +121,7 @@ adds_more front x a b c j d first second = λ lat ops is pairs.
 module _ (lat : Latencies) (ops : List Op) (lasts : Lasts) (j : ℕ) (is : IsLasts ops lasts j) (within : j < length ops)
   where
     pub adds_use : (a b : Graph) (r : Reg) (i d : ℕ) → IsRenamed ops → Contains (used (op_at ops j)) r
-        → IsPartialGraph lat ops a j → definer lasts.definers r.0 ≡ Some i → d ≡ latency lat (op_at ops i)
+        → IsPartialGraph lat ops a j → number_at lasts.definers r.0 ≡ Some i → d ≡ latency lat (op_at ops i)
         → AddsFrom (λ k. k ≡ i) a b j d → Grows lat ops a b j × CoversUse lat ops b j r
     adds_use a b r i d renamed uses partial at long adds =
         let pair : IsDelayPair lat ops i j d =
@@ -129,13 +130,13 @@ module _ (lat : Latencies) (ops : List Op) (lasts : Lasts) (j : ℕ) (is : IsLas
           h.0,
           covers_use lat ops j lasts is b renamed r
               (λ k at_k.
-              let same : k ≡ i = same_some (definer lasts.definers r.0) k i at_k at in
+              let same : k ≡ i = same_some (number_at lasts.definers r.0) k i at_k at in
               subst (λ e. HasEdge b j k e) (long ∙ ap (λ m. latency lat (op_at ops m)) (sym same)) (h.1 k same)),
         )
 
-    pub no_use : (a : Graph) (r : Reg) → IsRenamed ops → definer lasts.definers r.0 ≡ None → CoversUse lat ops a j r
+    pub no_use : (a : Graph) (r : Reg) → IsRenamed ops → number_at lasts.definers r.0 ≡ None → CoversUse lat ops a j r
     no_use a r renamed none = covers_use lat ops j lasts is a renamed r
-        (λ k at. not_both (definer lasts.definers r.0) k none at)
+        (λ k at. not_both (number_at lasts.definers r.0) k none at)
 
     pub memory_load : (a b : Graph) → IsPartialGraph lat ops a j → kind (op_at ops j) ≡ K.Load
         → AddsFrom (λ i. lasts.store ≡ Some i) a b j lat.store → Grows lat ops a b j × CoversMemory lat ops b j

@@ -94,10 +94,10 @@ not_equal true is other = cc
 not_equal false is other = cc
 
 abbrev row_one : Choice → Option Choice → Row
-row_one a b = record { zero = number_of b; one = Some a.candidate.number.0 }
+row_one a b = record { zero = number_of b; one = Some a.candidate.number }
 
 abbrev row_zero : Choice → Option Choice → Row
-row_zero a b = record { zero = Some a.candidate.number.0; one = number_of b }
+row_zero a b = record { zero = Some a.candidate.number; one = number_of b }
 
 module _ (p : Plan) (w : Waiting) (q : Queues) (rows : List Row) (plan : IsPlan p)
     (under : IsUnderWay p w q (length rows + 1))
@@ -111,9 +111,9 @@ module _ (p : Plan) (w : Waiting) (q : Queues) (rows : List Row) (plan : IsPlan 
 
   -- who stands in a queue is ready
   queued_ready : (k : Class) (c : Candidate) → In (candidates q k) c
-      → In (ready p.latencies p.ops.items rows (length rows)) c.number.0
+      → In (ready p.latencies p.ops.items rows (length rows)) c.number
   queued_ready k c held = ready_when p.latencies p.ops.items (graph_of p.edges) (progress_of w) rows plan.graph
-      under.waits matches each c.number.0 (under.queued.only k c held).0
+      under.waits matches each c.number (under.queued.only k c held).0
 
   -- the priorities of the plan are the priorities
   by_priorities : (i j : ℕ) → IsFirst (candidate_at p.priorities.items i) (candidate_at p.priorities.items j)
@@ -127,29 +127,29 @@ module _ (p : Plan) (w : Waiting) (q : Queues) (rows : List Row) (plan : IsPlan 
 
   pub chosen_first : (a : Choice) → IsBest q None (Some a)
       → first_of_all (priorities p.latencies p.ops.items) (ready p.latencies p.ops.items rows (length rows))
-      ≡ Some a.candidate.number.0
+      ≡ Some a.candidate.number
   chosen_first a best =
-      let is : a.candidate ≡ candidate_at p.priorities.items a.candidate.number.0 =
+      let is : a.candidate ≡ candidate_at p.priorities.items a.candidate.number =
       (under.queued.only a.class a.candidate best.0.1).2 in
       first_is (priorities p.latencies p.ops.items) (ready p.latencies p.ops.items rows (length rows))
-      a.candidate.number.0
+      a.candidate.number
       (ready_rises p.latencies p.ops.items rows (length rows))
       (queued_ready a.class a.candidate best.0.1)
-      (λ j held. by_priorities a.candidate.number.0 j
+      (λ j held. by_priorities a.candidate.number j
       (subst (λ c. IsFirst c (candidate_at p.priorities.items j)) is
       (best.1 (class_at p.ops.items j) (candidate_at p.priorities.items j) (refl, ready_queued j held))))
 
   module _ (q1 : Queues) (a : Choice) (held_a : In (candidates q a.class) a.candidate) (takes : Takes q q1 a) where
-    class_a : class_at p.ops.items a.candidate.number.0 ≡ a.class
+    class_a : class_at p.ops.items a.candidate.number ≡ a.class
     class_a = (under.queued.only a.class a.candidate held_a).1
 
     abbrev beside : ℕ → Bool
-    beside b = not (a.candidate.number.0 == b) && may_stand_beside (kind (op_at p.ops.items a.candidate.number.0))
+    beside b = not (a.candidate.number == b) && may_stand_beside (kind (op_at p.ops.items a.candidate.number))
         (kind (op_at p.ops.items b))
 
-    open_beside : (j : ℕ) → may_stand_beside (kind (op_at p.ops.items a.candidate.number.0))
+    open_beside : (j : ℕ) → may_stand_beside (kind (op_at p.ops.items a.candidate.number))
         (kind (op_at p.ops.items j)) ≡ not (excludes a.class (class_at p.ops.items j))
-    open_beside j = beside_by_class (kind (op_at p.ops.items a.candidate.number.0)) (kind (op_at p.ops.items j))
+    open_beside j = beside_by_class (kind (op_at p.ops.items a.candidate.number)) (kind (op_at p.ops.items j))
         ∙ ap (λ k. not (excludes k (class_at p.ops.items j))) class_a
 
     -- who is ready and can go beside a stands open in the queues that are left
@@ -159,27 +159,27 @@ module _ (p : Plan) (w : Waiting) (q : Queues) (rows : List Row) (plan : IsPlan 
     left_open j held =
         let found : In (ready p.latencies p.ops.items rows (length rows)) j × (beside j ≡ true) =
         from_filter beside (ready p.latencies p.ops.items rows (length rows)) j held in
-        let tests : (not (a.candidate.number.0 == j) ≡ true)
-        × (may_stand_beside (kind (op_at p.ops.items a.candidate.number.0)) (kind (op_at p.ops.items j)) ≡ true) =
+        let tests : (not (a.candidate.number == j) ≡ true)
+        × (may_stand_beside (kind (op_at p.ops.items a.candidate.number)) (kind (op_at p.ops.items j)) ≡ true) =
         from_both _ _ found.1 in (
           open_alone (excludes a.class (class_at p.ops.items j)) (sym (open_beside j) ∙ tests.1),
           takes.stays (class_at p.ops.items j) (candidate_at p.priorities.items j) (ready_queued j found.0)
-              (λ _ same. let equal : (a.candidate.number.0 == j) ≡ true = grind (arith, nat_tests) in
-              let other : not (a.candidate.number.0 == j) ≡ true = tests.0 in
-              not_equal (a.candidate.number.0 == j) equal other),
+              (λ _ same. let equal : (a.candidate.number == j) ≡ true = grind (arith, nat_tests) in
+              let other : not (a.candidate.number == j) ≡ true = tests.0 in
+              not_equal (a.candidate.number == j) equal other),
         )
 
     -- who stands open in them is ready and can go beside a
     open_left : (k : Class) (c : Candidate) → excludes a.class k ≡ false → In (candidates q1 k) c
-        → In (filter beside (ready p.latencies p.ops.items rows (length rows))) c.number.0
+        → In (filter beside (ready p.latencies p.ops.items rows (length rows))) c.number
     open_left k c free held =
-        let old : In (candidates q k) c × (k ≡ a.class → c.number.0 ≡ a.candidate.number.0 → ⊥) = takes.was k c held in
-        let class_c : class_at p.ops.items c.number.0 ≡ k = (under.queued.only k c old.0).1 in
-        let apart : a.candidate.number.0 ≢ c.number.0 =
+        let old : In (candidates q k) c × (k ≡ a.class → c.number ≡ a.candidate.number → ⊥) = takes.was k c held in
+        let class_c : class_at p.ops.items c.number ≡ k = (under.queued.only k c old.0).1 in
+        let apart : a.candidate.number ≢ c.number =
         (λ same. old.1 (sym class_c ∙ ap (λ n. class_at p.ops.items n) (sym same) ∙ class_a) (sym same)) in
-        in_filter beside (ready p.latencies p.ops.items rows (length rows)) c.number.0 (queued_ready k c old.0)
-        (both_true _ _ (apart_numbers a.candidate.number.0 c.number.0 apart)
-        (open_beside c.number.0 ∙ ap (λ l. not (excludes a.class l)) class_c ∙ ap not free))
+        in_filter beside (ready p.latencies p.ops.items rows (length rows)) c.number (queued_ready k c old.0)
+        (both_true _ _ (apart_numbers a.candidate.number c.number apart)
+        (open_beside c.number ∙ ap (λ l. not (excludes a.class l)) class_c ∙ ap not free))
 
     pub chosen_second : (b : Option Choice) → IsBest q1 (Some a.class) b
         → first_of_all (priorities p.latencies p.ops.items)
@@ -188,35 +188,35 @@ module _ (p : Plan) (w : Waiting) (q : Queues) (rows : List Row) (plan : IsPlan 
         (filter beside (ready p.latencies p.ops.items rows (length rows)))
         (λ j held. none (class_at p.ops.items j) (candidate_at p.priorities.items j) (left_open j held))
     chosen_second (Some b) best =
-        let is : b.candidate ≡ candidate_at p.priorities.items b.candidate.number.0 =
+        let is : b.candidate ≡ candidate_at p.priorities.items b.candidate.number =
         (under.queued.only b.class b.candidate (takes.was b.class b.candidate best.0.1).0).2 in
         first_is (priorities p.latencies p.ops.items) (filter beside (ready p.latencies p.ops.items rows (length rows)))
-        b.candidate.number.0
+        b.candidate.number
         (rises_filter beside (ready p.latencies p.ops.items rows (length rows))
         (ready_rises p.latencies p.ops.items rows (length rows)))
         (open_left b.class b.candidate best.0.0 best.0.1)
-        (λ j held. by_priorities b.candidate.number.0 j
+        (λ j held. by_priorities b.candidate.number j
         (subst (λ c. IsFirst c (candidate_at p.priorities.items j)) is
         (best.1 (class_at p.ops.items j) (candidate_at p.priorities.items j) (left_open j held))))
 
     memory_beside : (b : Option Choice) → IsBest q1 (Some a.class) b
         → is_some_kind is_memory (kind_in p.ops.items (number_of b)) ≡ is_memory_choice b
     memory_beside None none = refl
-    memory_beside (Some b) best = memory_by_class (kind (op_at p.ops.items b.candidate.number.0))
+    memory_beside (Some b) best = memory_by_class (kind (op_at p.ops.items b.candidate.number))
         ∙ ap is_memory_class (under.queued.only b.class b.candidate (takes.was b.class b.candidate best.0.1).0).1
 
     pub chosen_row : (b : Option Choice) → IsBest q None (Some a) → IsBest q1 (Some a.class) b
         → row_with a b ≡ chosen p.ops.items (priorities p.latencies p.ops.items)
         (ready p.latencies p.ops.items rows (length rows))
     chosen_row b first second =
-        let product : is_mult (kind (op_at p.ops.items a.candidate.number.0)) ≡ is_product_class a.class =
-        mult_by_class (kind (op_at p.ops.items a.candidate.number.0)) ∙ ap is_product_class class_a in
-        let row : on_units p.ops.items a.candidate.number.0 (number_of b) ≡ row_with a b =
+        let product : is_mult (kind (op_at p.ops.items a.candidate.number)) ≡ is_product_class a.class =
+        mult_by_class (kind (op_at p.ops.items a.candidate.number)) ∙ ap is_product_class class_a in
+        let row : on_units p.ops.items a.candidate.number (number_of b) ≡ row_with a b =
         ap (λ t. if t || is_some_kind is_memory (kind_in p.ops.items (number_of b)) then row_one a b else row_zero a b)
         product
         ∙ ap (λ t. if is_product_class a.class || t then row_one a b else row_zero a b) (memory_beside b second) in
         sym
         (ap (chosen_with p.ops.items (priorities p.latencies p.ops.items)
         (ready p.latencies p.ops.items rows (length rows))) (chosen_first a first)
-        ∙ ap (on_units p.ops.items a.candidate.number.0) (chosen_second b second)
+        ∙ ap (on_units p.ops.items a.candidate.number) (chosen_second b second)
         ∙ row)

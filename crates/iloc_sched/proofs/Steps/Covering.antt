@@ -17,7 +17,8 @@ use Rattle.iloc_sched.specs.declared.lasts.Lasts.{Lasts}
 use Rattle.iloc_sched.specs.Steps.Members.{In}
 use Rattle.iloc_sched.specs.Steps.Near.{NoneBetween, IsNear}
 use Rattle.iloc_sched.specs.Steps.Graph.{Graph}
-use Rattle.iloc_sched.specs.Steps.Lasts.{definer, IsLasts}
+use Rattle.iloc_sched.specs.Steps.Lasts.{IsLasts}
+use Rattle.iloc_sched.specs.Steps.ByRegister.{number_at}
 use Rattle.iloc_sched.specs.Steps.PartialGraph.{HasEdge, CoversUse, CoversUses, CoversMemory}
 use Rattle.iloc_sched.proofs.Members.{contains_from, in_from}
 use Rattle.iloc_sched.proofs.ListFacts.{any_at, from_any}
@@ -163,11 +164,11 @@ module _ (lat : Latencies) (ops : List Op) (j : ℕ) (lasts : Lasts) (is : IsLas
 
     -- a used register's definition is the one that is noted
     pub covers_use : IsRenamed ops → (r : Reg)
-        → ((i : ℕ) → definer lasts.definers r.0 ≡ Some i → HasEdge graph j i (latency lat (op_at ops i)))
+        → ((i : ℕ) → number_at lasts.definers r.0 ≡ Some i → HasEdge graph j i (latency lat (op_at ops i)))
         → CoversUse lat ops graph j r
     covers_use renamed r noted = λ i below defines.
         noted i
-        (last_is (λ k. defined (op_at ops k) ≡ Some r) j (definer lasts.definers r.0) i (is.definers r) below defines
+        (last_is (λ k. defined (op_at ops k) ≡ Some r) j (number_at lasts.definers r.0) i (is.definers r) below defines
         (λ k after before again. let same : k ≡ i = renamed.once k i r again defines in omega arith))
 
   memory_pair : (i d : ℕ) → i < j → j < length ops → (a b : Kind) → kind (op_at ops i) ≡ a → kind (op_at ops j) ≡ b
@@ -192,9 +193,9 @@ module _ (lat : Latencies) (ops : List Op) (j : ℕ) (lasts : Lasts) (is : IsLas
       let h = last_holds (λ k. is_output (kind (op_at ops k)) ≡ true) j lasts.output i is.output at in
       (h.0, output_is (kind (op_at ops i)) h.1)
 
-  pub definer_there : (r : Reg) (i : ℕ) → definer lasts.definers r.0 ≡ Some i
+  pub definer_there : (r : Reg) (i : ℕ) → number_at lasts.definers r.0 ≡ Some i
       → (i < j) × (defined (op_at ops i) ≡ Some r)
-  definer_there r i at = last_holds (λ k. defined (op_at ops k) ≡ Some r) j (definer lasts.definers r.0) i
+  definer_there r i at = last_holds (λ k. defined (op_at ops k) ≡ Some r) j (number_at lasts.definers r.0) i
       (is.definers r) at
 
   pub store_before_load : j < length ops → kind (op_at ops j) ≡ K.Load → (i : ℕ) → lasts.store ≡ Some i
@@ -228,7 +229,7 @@ module _ (lat : Latencies) (ops : List Op) (j : ℕ) (lasts : Lasts) (is : IsLas
       memory_pair i 1 h.0 within K.Load K.Store (load_is (kind (op_at ops i)) h.1) kind_is (inl refl)
 
   pub use_pair : j < length ops → (r : Reg) → Contains (used (op_at ops j)) r → (i : ℕ)
-      → definer lasts.definers r.0 ≡ Some i → IsDelayPair lat ops i j (latency lat (op_at ops i))
+      → number_at lasts.definers r.0 ≡ Some i → IsDelayPair lat ops i j (latency lat (op_at ops i))
   use_pair within r uses i at =
       let h = definer_there r i at in
       let test : uses_result (op_at ops i) (op_at ops j) ≡ true =

@@ -20,13 +20,8 @@ in_either (y ∷ xs) ys x (inr there) = elim (in_either xs ys x there) [
       inr back
 ]
 
-pub pushed_apart : (xs : List ℕ) (x : ℕ) → AreApart xs → (In xs x → ⊥) → AreApart (xs ++ x ∷ [])
-pushed_apart [] x apart new = (λ held. held, tt)
-pushed_apart (y ∷ xs) x apart new = (
-  λ held. elim (in_either xs (x ∷ []) y held) [
-    | inl front ↦ apart.0 front
-    | inr back ↦
-        elim back [ inl same ↦ new (inl (sym same)) | inr none ↦ none ]
-  ],
-  pushed_apart xs x apart.1 (λ held. new (inr held)),
-)
+-- what stands before x isn't x
+pub split_apart : (xs : List ℕ) (x : ℕ) (ys : List ℕ) → AreApart (xs ++ x ∷ ys) → In xs x → ⊥
+split_apart [] x ys apart held = held
+split_apart (z ∷ xs) x ys apart (inl same) = apart.0 (in_back xs (x ∷ ys) z (inl (sym same)))
+split_apart (z ∷ xs) x ys apart (inr held) = split_apart xs x ys apart.1 held

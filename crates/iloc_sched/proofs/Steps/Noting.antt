@@ -9,20 +9,21 @@ use Rattle.iloc_meaning.specs.Trace.{op_at, is_register}
 use Rattle.iloc_timed.specs.declared.kind.Kind.{Kind}
 use Rattle.iloc_timed.specs.declared.kind.Kind.TheVariants as K
 use Rattle.iloc_timed.specs.Kinds.{kind, is_load, is_store, is_output}
-use Rattle.iloc_sched.specs.declared.definers.Definers.{Definers}
+use Rattle.iloc_sched.specs.declared.by_register.ByRegister.{ByRegister}
+use Rattle.iloc_sched.specs.Steps.ByRegister.{number_at}
 use Rattle.iloc_sched.specs.declared.lasts.Lasts.{Lasts}
 use Rattle.iloc_sched.specs.Steps.Members.{In}
 use Rattle.iloc_sched.specs.Steps.Graph.{IsLast}
-use Rattle.iloc_sched.specs.Steps.Lasts.{definer, NotesDefiner, NotesKind, IsLasts, loads_before}
+use Rattle.iloc_sched.specs.Steps.Lasts.{NotesDefiner, NotesKind, IsLasts, loads_before}
 use Rattle.iloc_sched.proofs.DelayFacts.{is_register_same, is_register_from}
 use Rattle.iloc_sched.proofs.Steps.Cases.{by_bool, by_eq}
 use Rattle.iloc_sched.proofs.Steps.Lists.{in_front, in_back, in_either}
 use Rattle.iloc_sched.proofs.Steps.LastOnes.{last_here, last_before}
 
-pub definers_noted : (ops : List Op) (j : ℕ) (old new : Definers)
-    → ((r : Reg) → IsLast (λ i. defined (op_at ops i) ≡ Some r) j (definer old r.0))
+pub definers_noted : (ops : List Op) (j : ℕ) (old new : ByRegister)
+    → ((r : Reg) → IsLast (λ i. defined (op_at ops i) ≡ Some r) j (number_at old r.0))
     → NotesDefiner (op_at ops j) old new j → (r : Reg)
-    → IsLast (λ i. defined (op_at ops i) ≡ Some r) (j + 1) (definer new r.0)
+    → IsLast (λ i. defined (op_at ops i) ≡ Some r) (j + 1) (number_at new r.0)
 definers_noted ops j old new is notes r =
     by_bool (is_register r (defined (op_at ops j)))
     (λ test.
@@ -33,7 +34,7 @@ definers_noted ops j old new is notes r =
     let not : defined (op_at ops j) ≡ Some r → ⊥ =
     λ here. false≢true (sym test ∙ is_register_from r (defined (op_at ops j)) here) in
     subst (λ o. IsLast (λ i. defined (op_at ops i) ≡ Some r) (j + 1) o) (sym (notes.others r not))
-    (last_before (λ i. defined (op_at ops i) ≡ Some r) j (definer old r.0) not (is r)))
+    (last_before (λ i. defined (op_at ops i) ≡ Some r) j (number_at old r.0) not (is r)))
 
 module _ (ops : List Op) (j : ℕ) (old new : Lasts) (is : IsLasts ops old j) (k : Kind) (kind_is : kind (op_at ops j)
     ≡ k) where
@@ -185,7 +186,7 @@ pub noted : (ops : List Op) (j : ℕ) (old new : Lasts) → IsLasts ops old j
     → IsLasts ops new (j + 1)
 noted ops j old new is definers notes = noted_by (kind (op_at ops j)) ops j old new is refl definers notes
 
-same_kind : (k : Kind) (old new : Lasts) (d : Definers) (j : ℕ) → NotesKind k (record old { definers = d }) new j
+same_kind : (k : Kind) (old new : Lasts) (d : ByRegister) (j : ℕ) → NotesKind k (record old { definers = d }) new j
     → NotesKind k old new j
 same_kind K.Load old new d j notes = notes
 same_kind K.Store old new d j notes = notes
@@ -194,7 +195,7 @@ same_kind K.Output old new d j notes = notes
 same_kind K.Other old new d j notes = notes
 
 -- first what it defines is noted, then its kind
-pub noted_in_turn : (ops : List Op) (j : ℕ) (old new : Lasts) (d : Definers) (op : Op) (k : Kind) → IsLasts ops old j
+pub noted_in_turn : (ops : List Op) (j : ℕ) (old new : Lasts) (d : ByRegister) (op : Op) (k : Kind) → IsLasts ops old j
     → op ≡ op_at ops j → k ≡ kind op → NotesDefiner op old.definers d j → new.definers ≡ d
     → NotesKind k (record old { definers = d }) new j → IsLasts ops new (j + 1)
 noted_in_turn ops j old new d op k is op_is kind_is definers same notes =

@@ -43,18 +43,18 @@ module _ (lat : Latencies) (ops : List Op) (graph graph' : Graph) (i j d : ℕ) 
       (last_same (λ x. graph.from x ≡ k) (λ x. graph'.from x ≡ k) graph.count (graph.head k)
       (λ x there here. more.from x there ∙ here) (λ x there here. sym (more.from x there) ∙ here) (is.heads k below))))
 
-  next_more : (x : ℕ) → x < graph'.count → IsLast (λ y. graph'.from y ≡ graph'.from x) x (graph'.next x)
-  next_more x there =
+  previous_more : (x : ℕ) → x < graph'.count → IsLast (λ y. graph'.from y ≡ graph'.from x) x (graph'.previous x)
+  previous_more x there =
       by_lt x graph.count
       (λ before.
-      subst (λ o. IsLast (λ y. graph'.from y ≡ graph'.from x) x o) (sym (more.next x before))
-      (last_same (λ y. graph.from y ≡ graph.from x) (λ y. graph'.from y ≡ graph'.from x) x (graph.next x)
+      subst (λ o. IsLast (λ y. graph'.from y ≡ graph'.from x) x o) (sym (more.previous x before))
+      (last_same (λ y. graph.from y ≡ graph.from x) (λ y. graph'.from y ≡ graph'.from x) x (graph.previous x)
       (λ y below here. more.from y (omega arith) ∙ here ∙ sym (more.from x before))
       (λ y below here. sym (more.from y (omega arith)) ∙ here ∙ more.from x before)
-      (is.nexts x before)))
+      (is.previous_edges x before)))
       (λ after.
-      subst (λ z. IsLast (λ y. graph'.from y ≡ graph'.from z) z (graph'.next z)) (sym (last_place x there after))
-      (subst (λ o. IsLast (λ y. graph'.from y ≡ graph'.from graph.count) graph.count o) (sym more.last_next)
+      subst (λ z. IsLast (λ y. graph'.from y ≡ graph'.from z) z (graph'.previous z)) (sym (last_place x there after))
+      (subst (λ o. IsLast (λ y. graph'.from y ≡ graph'.from graph.count) graph.count o) (sym more.last_previous)
       (last_same (λ y. graph.from y ≡ i) (λ y. graph'.from y ≡ graph'.from graph.count) graph.count (graph.head i)
       (λ y below here. more.from y below ∙ here ∙ sym more.last_from)
       (λ y below here. sym (more.from y below) ∙ here ∙ more.last_from)
@@ -114,7 +114,7 @@ module _ (lat : Latencies) (ops : List Op) (graph graph' : Graph) (i j d : ℕ) 
     heads = λ k below.
         subst (λ n. IsLast (λ x. graph'.from x ≡ k) n (graph'.head k)) (sym more.count)
         (head_more k (subst (λ n. k < n) more.ops below));
-    nexts = next_more;
+    previous_edges = previous_more;
     all = λ a b e below delays near.
         let found = is.all a b e below delays near in
         let first : graph'.start j ≡ graph.start j = more.start j in
@@ -254,7 +254,7 @@ module _ (lat : Latencies) (ops : List Op) (graph : Graph) (j : ℕ) (is : IsPar
     to_there = to_there_more;
     sound = is.sound;
     heads = is.heads;
-    nexts = is.nexts;
+    previous_edges = is.previous_edges;
     all = all_more;
   }
 
@@ -302,7 +302,7 @@ module _ (lat : Latencies) (ops : List Op) (graph : Graph) (is : IsPartialGraph 
             omega arith,
           );
       heads = is.heads;
-      nexts = is.nexts;
+      previous_edges = is.previous_edges;
     };
     size = is.size;
     sound = is.sound;

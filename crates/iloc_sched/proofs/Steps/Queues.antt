@@ -30,8 +30,8 @@ first_trans a b c (inl above) (inr same) = inl (let e : b.priority ≡ c.priorit
 first_trans a b c (inr same) (inl more) = inl (let e : a.priority ≡ b.priority = same.0 in omega arith)
 first_trans a b c (inr same) (inr equal) = inr (
   same.0 ∙ equal.0,
-  let l : a.number.0 ≤ b.number.0 = same.1 in
-      let m : b.number.0 ≤ c.number.0 = equal.1 in omega arith,
+  let l : a.number ≤ b.number = same.1 in
+      let m : b.number ≤ c.number = equal.1 in omega arith,
 )
 
 pub all_in : {X : Type 0} (P : X → Type 0) (xs : List X) (x : X) → AllByRecursion P xs → In xs x → P x
@@ -67,11 +67,11 @@ pushed_adds xs ys x moved = record {
 }
 
 pub pushed_distinct : (xs ys : List Candidate) (x : Candidate) → IsPermutation (x ∷ xs) ys → IsDistinct same_number xs
-    → HasNone xs x.number.0 → IsDistinct same_number ys
+    → HasNone xs x.number → IsDistinct same_number ys
 pushed_distinct xs ys x moved distinct new =
     IsDistinct-IsPermutation same_number same_number_flips (x ∷ xs) ys moved
-    (IsDistinct-cons same_number x xs (all_from (λ y. same_number x y ≡ false) xs (λ c held. let apart : c.number.0
-    ≢ x.number.0 = new c held in grind (arith, nat_tests))) distinct)
+    (IsDistinct-cons same_number x xs (all_from (λ y. same_number x y ≡ false) xs (λ c held. let apart : c.number
+    ≢ x.number = new c held in grind (arith, nat_tests))) distinct)
 
 -- after a pop
 pub popped_distinct : (xs ys : List Candidate) (x : Candidate) → IsPermutation xs (x ∷ ys) → IsDistinct same_number xs
@@ -80,14 +80,14 @@ popped_distinct xs ys x moved distinct = IsDistinct-tail same_number x ys
     (IsDistinct-IsPermutation same_number same_number_flips xs (x ∷ ys) moved distinct)
 
 pub popped_removes : (xs ys : List Candidate) (x : Candidate) → IsPermutation xs (x ∷ ys) → IsDistinct same_number xs
-    → Removes xs ys x.number.0
+    → Removes xs ys x.number
 popped_removes xs ys x moved distinct =
     let others : AllByRecursion (λ y. same_number x y ≡ false) ys =
     IsDistinct-head same_number x ys (IsDistinct-IsPermutation same_number same_number_flips xs
     (x ∷ ys) moved distinct) in
     record {
       stays = λ d held apart. elim (in_permutation xs (x ∷ ys) d moved held)
-          [ inl is ↦ absurd (apart (ap (λ (c : Candidate). c.number.0) (sym is))) | inr there ↦ there ];
+          [ inl is ↦ absurd (apart (ap (λ (c : Candidate). c.number) (sym is))) | inr there ↦ there ];
       was = λ d held. (
         in_permutation (x ∷ ys) xs d (IsPermutation-sym xs (x ∷ ys) moved) (inr held),
         λ same. let differs : same_number x d ≡ false = all_in (λ y. same_number x y ≡ false) ys d others held in
@@ -128,7 +128,7 @@ heap_after_push (Ok t) xs ys n m kept same heap = kept heap
 heap_after_push (Err e) xs ys n m kept same heap = subst (λ zs. IsHeap candidate_cmp zs) (sym same.0) heap
 
 pub distinct_after_push : {T E : Type 0} (r : Result T E) (xs ys : List Candidate) (n m : ℕ) (x : Candidate)
-    → OnOk r (IsPermutation (x ∷ xs) ys) → OnErr r ((ys ≡ xs) × (m ≡ n)) → HasNone xs x.number.0
+    → OnOk r (IsPermutation (x ∷ xs) ys) → OnErr r ((ys ≡ xs) × (m ≡ n)) → HasNone xs x.number
     → IsDistinct same_number xs → IsDistinct same_number ys
 distinct_after_push (Ok t) xs ys n m x moved same new distinct = pushed_distinct xs ys x moved distinct new
 distinct_after_push (Err e) xs ys n m x moved same new distinct =
@@ -266,7 +266,7 @@ same_or_kept q q' C.Rest C.Rest keeps = inl refl
 
 -- one class has lost its first, and the others keep theirs
 pub takes_from : (q q' : Queues) (class : Class) (c : Candidate)
-    → Removes (candidates q class) (candidates q' class) c.number.0 → KeepsOthers q q' class
+    → Removes (candidates q class) (candidates q' class) c.number → KeepsOthers q q' class
     → Takes q q' (record { candidate = c; class = class })
 takes_from q q' class c removes keeps = record {
   stays = λ k d held apart. elim (same_or_kept q q' class k keeps) [
@@ -276,7 +276,7 @@ takes_from q q' class c removes keeps = record {
   ];
   was = λ k d held. elim (same_or_kept q q' class k keeps) [
     | inl same ↦
-        let old : In (candidates q class) d × (d.number.0 ≢ c.number.0) =
+        let old : In (candidates q class) d × (d.number ≢ c.number) =
         removes.was d (subst (λ j. In (candidates q' j) d) same held) in
         (subst (λ j. In (candidates q j) d) (sym same) old.0, λ is. old.1)
     | inr kept ↦ (subst (λ ds. In ds d) kept.1 held, λ same number. kept.0 same)

@@ -1,44 +1,56 @@
 -- What a read or a write of a table says of its view.
-use Rattle.std.proofs.Common.{◌≡◌, ◌≢◌, ℕ, ◌<◌, List, [], length, map, set, get_or, Option, None, sym, ◌∙◌, ap, subst, arith}
-use Rattle.std.proofs.lemmas.List.{length-map, get_or_read, get_or-map, map-set, get_or-set_same, get_or-set_other}
-use Rattle.std.specs.Global.{Vec}
+use Rattle.std.proofs.Common.{◌≡◌, ℕ, ◌<◌, length, get_or, None, sym, ◌∙◌, ap, arith}
+use Rattle.std.proofs.lemmas.List.{length-map, get_or_read, get_or-map}
 use Rattle.iloc_sched.specs.declared.edges.Edge.{Edge}
 use Rattle.iloc_sched.specs.declared.edges.Edges.{Edges}
+use Rattle.iloc_sched.specs.declared.waiting.State.{State}
 use Rattle.iloc_sched.specs.declared.waiting.Waiting.{Waiting}
 use Rattle.iloc_sched.specs.Steps.Graph.{IsGraph}
-use Rattle.iloc_sched.specs.Steps.Views.{no_edge, edge_at, graph_of, progress_of, IsSized}
+use Rattle.iloc_sched.specs.Steps.Views.{no_edge, edge_at, graph_of, issued_list, watch_list, earliest_list, progress_of, IsSized}
 
 pub edge_read : (e : Edges) (x : ℕ) (edge : Edge) → x < length e.edges.items → edge ≡ get_or e.edges.items x edge
     → edge ≡ edge_at e x
 edge_read e x edge below is = get_or_read e.edges.items x edge below is no_edge
 
--- the state of an edge's source
-pub source_read : (e : Edges) (w : Waiting) (x : ℕ) (edge : Edge) (slot : Option ℕ) → IsGraph (graph_of e) → IsSized e w
-    → x < length e.edges.items → edge ≡ get_or e.edges.items x edge → slot ≡ get_or w.issued.items edge.from slot
-    → (progress_of w).issued ((graph_of e).from x) ≡ slot
-source_read e w x edge slot is sized below edge_is slot_is =
-    let same : edge.from ≡ (graph_of e).from x = ap (λ (d : Edge). d.from) (edge_read e x edge below edge_is) in
+module _ (e : Edges) (w : Waiting) (sized : IsSized e w) where
+  pub issued_size : length (issued_list w) ≡ length e.heads.items
+  issued_size = length-map w.states.items (λ (s : State). s.issued) ∙ sized.states
+
+  pub watch_size : length (watch_list w) ≡ length e.heads.items
+  watch_size = length-map w.states.items (λ (s : State). s.reach.place) ∙ sized.states
+
+  pub earliest_size : length (earliest_list w) ≡ length e.heads.items
+  earliest_size = length-map w.states.items (λ (s : State). s.reach.earliest) ∙ sized.states
+
+-- what is read of the state of operation j
+module _ (w : Waiting) (j : ℕ) (state : State) (below : j < length w.states.items)
+    (is : state ≡ get_or w.states.items j state) where
+  pub issued_read : state.issued ≡ (progress_of w).issued j
+  issued_read = ap (λ (s : State). s.issued) is
+      ∙ sym (get_or-map (λ (s : State). s.issued) w.states.items j state None below)
+
+  pub watch_read : state.reach.place ≡ (progress_of w).watch j
+  watch_read = ap (λ (s : State). s.reach.place) is
+      ∙ sym (get_or-map (λ (s : State). s.reach.place) w.states.items j state 0 below)
+
+  pub earliest_read : state.reach.earliest ≡ (progress_of w).earliest j
+  earliest_read = ap (λ (s : State). s.reach.earliest) is
+      ∙ sym (get_or-map (λ (s : State). s.reach.earliest) w.states.items j state 0 below)
+
+-- an edge's source is an operation
+pub source_there : (e : Edges) (x : ℕ) → IsGraph (graph_of e) → x < length e.edges.items
+    → (graph_of e).from x < length e.heads.items
+source_there e x is below =
     let earlier : (graph_of e).from x < (graph_of e).to x = is.earlier x below in
     let within : (graph_of e).to x < length e.heads.items = (is.to_there x below).0 in
-    let size : length w.issued.items ≡ length e.heads.items = sized.issued in
-    subst (λ i. (progress_of w).issued i ≡ slot) same
-    (sym (get_or_read w.issued.items edge.from slot (omega arith) slot_is None))
+    omega arith
 
-abbrev pub bucket_items : List (Vec ℕ) → List (List ℕ)
-bucket_items wheel = map (λ (v : Vec ℕ). v.items) wheel
-
-pub bucket_written : (wheel : List (Vec ℕ)) (b : ℕ) (v : Vec ℕ) → b < length wheel
-    → get_or (bucket_items (set wheel b v)) b [] ≡ v.items
-bucket_written wheel b v below =
-    rw (map-set (λ (v : Vec ℕ). v.items) wheel b v)
-    (get_or-set_same (bucket_items wheel) b v.items [] (omega (arith, length-map wheel (λ (v : Vec ℕ). v.items))))
-
-pub bucket_kept : (wheel : List (Vec ℕ)) (b : ℕ) (v : Vec ℕ) (a : ℕ) → a ≢ b
-    → get_or (bucket_items (set wheel b v)) a [] ≡ get_or (bucket_items wheel) a []
-bucket_kept wheel b v a apart =
-    rw (map-set (λ (v : Vec ℕ). v.items) wheel b v) (get_or-set_other (bucket_items wheel) b a v.items [] apart)
-
-pub bucket_read : (wheel : List (Vec ℕ)) (b : ℕ) (v : Vec ℕ) → b < length wheel → v ≡ get_or wheel b v
-    → v.items ≡ get_or (bucket_items wheel) b []
-bucket_read wheel b v below is = ap (λ (v : Vec ℕ). v.items) is
-    ∙ sym (get_or-map (λ (v : Vec ℕ). v.items) wheel b v [] below)
+-- what the target of an edge watches
+pub target_read : (e : Edges) (w : Waiting) (x : ℕ) (edge : Edge) (state : State) → IsGraph (graph_of e) → IsSized e w
+    → x < length e.edges.items → edge ≡ edge_at e x → state ≡ get_or w.states.items edge.to state
+    → state.reach.place ≡ (progress_of w).watch ((graph_of e).to x)
+target_read e w x edge state is sized below edge_is read =
+    let to_is : edge.to ≡ (graph_of e).to x = ap (λ (d : Edge). d.to) edge_is in
+    let there : (graph_of e).to x < length e.heads.items = (is.to_there x below).0 in
+    let size : length w.states.items ≡ length e.heads.items = sized.states in
+    watch_read w edge.to state (omega arith) read ∙ ap (progress_of w).watch to_is

@@ -2,7 +2,6 @@
 use Rattle.std.proofs.Common.{◌≡◌, ◌≢◌, ℕ, suc, ◌+◌, ◌*◌, ◌<◌, ◌≤◌, ◌||◌, true, false, cond, List, [], ◌∷◌, ◌++◌, length, length-append, set, get_or, Option, Some, None, ◌⊎◌, inl, inr, refl, sym, ◌∙◌, ap, subst, arith, rules}
 use Rattle.std.specs.Prelude.{count_by, sum_by, is_none, option_to_list}
 use Rattle.std.proofs.lemmas.List.Sums.{sum_by-set, sum_by-le}
-use Rattle.std.specs.Global.{Vec}
 use Rattle.iloc_text.specs.declared.op.Op.{Op}
 use Rattle.iloc_timed.specs.declared.latencies.Latencies.{Latencies}
 use Rattle.iloc_timed.specs.declared.kind.Kind.{Kind}
@@ -22,7 +21,7 @@ use Rattle.iloc_sched.specs.Steps.Members.{In}
 use Rattle.iloc_sched.specs.Steps.Classes.{is_product_class}
 use Rattle.iloc_sched.specs.Steps.Queued.{IsBest}
 use Rattle.iloc_sched.specs.Steps.Progress.{MatchesRows}
-use Rattle.iloc_sched.specs.Steps.Views.{progress_of}
+use Rattle.iloc_sched.specs.Steps.Views.{issued_list, progress_of}
 use Rattle.iloc_sched.specs.Steps.SoFar.{IsPlan, IsUnderWay, IsSoFar, Issues, IssuesAny, number_of, is_memory_choice, row_with, slot_count, waiting_count}
 use Rattle.iloc_sched.proofs.RowFacts.{issue_cycle_more, issue_cycle_last, issue_cycle_beyond, row_at_last}
 use Rattle.iloc_sched.proofs.Tables.{holds_from, from_holds}
@@ -31,6 +30,7 @@ use Rattle.iloc_sched.proofs.Building.{chosen_more, chosen_is_greedy}
 use Rattle.iloc_sched.proofs.Bounds.{rows_bound}
 use Rattle.iloc_sched.proofs.Steps.Cases.{by_bool, by_option, not_both, same_some}
 use Rattle.iloc_sched.proofs.Steps.Issued.{issued_at, issued_other}
+use Rattle.iloc_sched.proofs.Steps.Reads.{issued_size}
 use Rattle.iloc_sched.proofs.Steps.Chosen.{chosen_none, chosen_row}
 
 by_slots : {P : Type 0} → (row : Row) (j : ℕ) → (In (slots row) j → P) → ((In (slots row) j → ⊥) → P) → P
@@ -73,39 +73,39 @@ two_of (Some x) a j (inr (inl is)) = inr (sym is)
 two_of (Some x) a j (inr (inr none)) = absurd none
 
 -- who stands in the row of a choice
-from_row : (a : Choice) (b : Option Choice) (j : ℕ) → In (slots (row_with a b)) j → (j ≡ a.candidate.number.0)
+from_row : (a : Choice) (b : Option Choice) (j : ℕ) → In (slots (row_with a b)) j → (j ≡ a.candidate.number)
     ⊎ (number_of b ≡ Some j)
 from_row a b j = by_bool (is_product_class a.class || is_memory_choice b)
     (λ t. rw t (λ held. elim held [ inl is ↦ inl (sym is) | inr rest ↦ inr (one_of (number_of b) j rest) ]))
-    (λ f. rw f (λ held. elim (two_of (number_of b) a.candidate.number.0 j held) [ inl is ↦ inr is | inr is ↦ inl is ]))
+    (λ f. rw f (λ held. elim (two_of (number_of b) a.candidate.number j held) [ inl is ↦ inr is | inr is ↦ inl is ]))
 
 in_last : (o : Option ℕ) (a : ℕ) → In (option_to_list o ++ a ∷ []) a
 in_last None a = inl refl
 in_last (Some x) a = inr (inl refl)
 
-in_first : (a : Choice) (b : Option Choice) → In (slots (row_with a b)) a.candidate.number.0
+in_first : (a : Choice) (b : Option Choice) → In (slots (row_with a b)) a.candidate.number
 in_first a b = by_bool (is_product_class a.class || is_memory_choice b)
     (λ t. rw t (inl refl))
-    (λ f. rw f (in_last (number_of b) a.candidate.number.0))
+    (λ f. rw f (in_last (number_of b) a.candidate.number))
 
-in_second : (a b : Choice) → In (slots (row_with a (Some b))) b.candidate.number.0
+in_second : (a b : Choice) → In (slots (row_with a (Some b))) b.candidate.number
 in_second a b = by_bool (is_product_class a.class || is_memory_choice (Some b))
     (λ t. rw t (inr (inl refl)))
     (λ f. rw f (inl refl))
 
 -- the row is a choice's, so it isn't empty
 pub row_filled : (a : Choice) (b : Option Choice) → slots (row_with a b) ≡ [] → ⊥
-row_filled a b empty = subst (λ xs. In xs a.candidate.number.0) empty (in_first a b)
+row_filled a b empty = subst (λ xs. In xs a.candidate.number) empty (in_first a b)
 
 -- nothing is ready
 pub so_far_none : (p : Plan) (w w1 w2 : Waiting) (q q1 q2 : Queues) (rows rows' : List Row) (row : Row) → IsPlan p
-    → IsSoFar p w q rows → w1.issued ≡ w.issued → IsUnderWay p w1 q1 (length rows + 1)
+    → IsSoFar p w q rows → issued_list w1 ≡ issued_list w → IsUnderWay p w1 q1 (length rows + 1)
     → IsBest q1 None None → IssuesAny p w1 w2 q1 q2 (length rows) None → row ≡ empty_row → rows' ≡ rows ++ row ∷ []
     → IsSoFar p w2 q2 rows'
 so_far_none p w w1 w2 q q1 q2 rows rows' row plan so_far same under best issues is_row is_rows =
     let size : length (rows ++ empty_row ∷ []) ≡ length rows + 1 = length-append rows (empty_row ∷ []) in
     let matches : MatchesRows (length p.ops.items) rows (progress_of w1).issued =
-    subst (λ (t : Vec (Option ℕ)). MatchesRows (length p.ops.items) rows (λ j. get_or t.items j None))
+    subst (λ xs. MatchesRows (length p.ops.items) rows (λ j. get_or xs j None))
     (sym same) so_far.matches in
     let is : rows ++ empty_row ∷ [] ≡ rows' = ap (λ r. rows ++ r ∷ []) (sym is_row) ∙ sym is_rows in
     subst (λ rs. IsSoFar p w2 q2 rs) is (record {
@@ -121,13 +121,13 @@ so_far_none p w w1 w2 q q1 q2 rows rows' row plan so_far same under best issues 
 -- the choices of a cycle in the tables
 module _ (p : Plan) (w1 w2 w3 : Waiting) (q1 q2 q3 : Queues) (c : ℕ) (a : Choice) (first : Issues p w1 w2 q1 q2 c a)
   where
-    at_first : (progress_of w2).issued a.candidate.number.0 ≡ Some c
-    at_first = issued_at w1.issued.items w2.issued.items a.candidate.number.0 c first.issued first.there
+    at_first : (progress_of w2).issued a.candidate.number ≡ Some c
+    at_first = issued_at (issued_list w1) (issued_list w2) a.candidate.number c first.issued first.there
 
-    beside_first : (j : ℕ) → j ≢ a.candidate.number.0 → (progress_of w2).issued j ≡ (progress_of w1).issued j
-    beside_first j apart = issued_other w1.issued.items w2.issued.items a.candidate.number.0 c j first.issued apart
+    beside_first : (j : ℕ) → j ≢ a.candidate.number → (progress_of w2).issued j ≡ (progress_of w1).issued j
+    beside_first j apart = issued_other (issued_list w1) (issued_list w2) a.candidate.number c j first.issued apart
 
-    now_issued : (b : Option Choice) → IssuesAny p w2 w3 q2 q3 c b → (j : ℕ) → (j ≡ a.candidate.number.0)
+    now_issued : (b : Option Choice) → IssuesAny p w2 w3 q2 q3 c b → (j : ℕ) → (j ≡ a.candidate.number)
         ⊎ (number_of b ≡ Some j) → ((progress_of w1).issued j ≡ None) × ((progress_of w3).issued j ≡ Some c)
     now_issued None second j (inl is) = (
       ap (progress_of w1).issued is ∙ first.waiting,
@@ -135,28 +135,28 @@ module _ (p : Plan) (w1 w2 w3 : Waiting) (q1 q2 q3 : Queues) (c : ℕ) (a : Choi
     )
     now_issued None second j (inr is) = cc
     now_issued (Some b) second j (inl is) =
-        let apart : j ≢ b.candidate.number.0 =
-        (λ same. not_both ((progress_of w2).issued b.candidate.number.0) c second.waiting
+        let apart : j ≢ b.candidate.number =
+        (λ same. not_both ((progress_of w2).issued b.candidate.number) c second.waiting
         (ap (progress_of w2).issued (sym same ∙ is) ∙ at_first)) in (
           ap (progress_of w1).issued is ∙ first.waiting,
-          issued_other w2.issued.items w3.issued.items b.candidate.number.0
+          issued_other (issued_list w2) (issued_list w3) b.candidate.number
               c j second.issued apart ∙ ap (progress_of w2).issued is ∙ at_first,
         )
     now_issued (Some b) second j (inr is) =
-        let same : b.candidate.number.0 ≡ j = same_some (Some j) b.candidate.number.0 j (sym is) refl in
-        let apart : j ≢ a.candidate.number.0 =
-        (λ e. not_both ((progress_of w2).issued b.candidate.number.0) c second.waiting
+        let same : b.candidate.number ≡ j = same_some (Some j) b.candidate.number j (sym is) refl in
+        let apart : j ≢ a.candidate.number =
+        (λ e. not_both ((progress_of w2).issued b.candidate.number) c second.waiting
         (ap (progress_of w2).issued (same ∙ e) ∙ at_first)) in (
           sym (beside_first j apart) ∙ ap (progress_of w2).issued (sym same) ∙ second.waiting,
-          ap (progress_of w3).issued (sym same) ∙ issued_at w2.issued.items w3.issued.items b.candidate.number.0 c
+          ap (progress_of w3).issued (sym same) ∙ issued_at (issued_list w2) (issued_list w3) b.candidate.number c
               second.issued second.there,
         )
 
-    others_kept : (b : Option Choice) → IssuesAny p w2 w3 q2 q3 c b → (j : ℕ) → j ≢ a.candidate.number.0
-        → ((x : Choice) → b ≡ Some x → j ≢ x.candidate.number.0) → (progress_of w3).issued j ≡ (progress_of w1).issued j
+    others_kept : (b : Option Choice) → IssuesAny p w2 w3 q2 q3 c b → (j : ℕ) → j ≢ a.candidate.number
+        → ((x : Choice) → b ≡ Some x → j ≢ x.candidate.number) → (progress_of w3).issued j ≡ (progress_of w1).issued j
     others_kept None second j apart other = ap (λ xs. get_or xs j None) second.1 ∙ beside_first j apart
     others_kept (Some b) second j apart other =
-        issued_other w2.issued.items w3.issued.items b.candidate.number.0 c j second.issued (other b refl)
+        issued_other (issued_list w2) (issued_list w3) b.candidate.number c j second.issued (other b refl)
         ∙ beside_first j apart
 
     under_way_after : (b : Option Choice) → IssuesAny p w2 w3 q2 q3 c b → IsUnderWay p w3 q3 (c + 1)
@@ -177,37 +177,37 @@ count_issued xs ys n c is below none =
 
 -- how many wait after the choices of a cycle
 pub count_after : (p : Plan) (w w1 w2 w3 : Waiting) (q1 q2 q3 : Queues) (c : ℕ) (a : Choice) (b : Option Choice)
-    → w1.issued ≡ w.issued → Issues p w1 w2 q1 q2 c a → IssuesAny p w2 w3 q2 q3 c b
+    → issued_list w1 ≡ issued_list w → Issues p w1 w2 q1 q2 c a → IssuesAny p w2 w3 q2 q3 c b
     → waiting_count w3 + slot_count b ≡ waiting_count w
 count_after p w w1 w2 w3 q1 q2 q3 c a None same first second =
     let one : waiting_count w2 + 1 ≡ waiting_count w1 =
-    count_issued w1.issued.items w2.issued.items a.candidate.number.0 c first.issued first.there first.waiting in
-    let start : waiting_count w1 ≡ waiting_count w = ap (λ (t : Vec (Option ℕ)). count_by is_none t.items) same in
+    count_issued (issued_list w1) (issued_list w2) a.candidate.number c first.issued first.there first.waiting in
+    let start : waiting_count w1 ≡ waiting_count w = ap (count_by is_none) same in
     let end : waiting_count w3 ≡ waiting_count w2 = ap (count_by is_none) second.1 in
     omega arith
 count_after p w w1 w2 w3 q1 q2 q3 c a (Some b) same first second =
     let one : waiting_count w2 + 1 ≡ waiting_count w1 =
-    count_issued w1.issued.items w2.issued.items a.candidate.number.0 c first.issued first.there first.waiting in
-    let start : waiting_count w1 ≡ waiting_count w = ap (λ (t : Vec (Option ℕ)). count_by is_none t.items) same in
+    count_issued (issued_list w1) (issued_list w2) a.candidate.number c first.issued first.there first.waiting in
+    let start : waiting_count w1 ≡ waiting_count w = ap (count_by is_none) same in
     let two : waiting_count w3 + 1 ≡ waiting_count w2 =
-    count_issued w2.issued.items w3.issued.items b.candidate.number.0 c second.issued second.there second.waiting in
+    count_issued (issued_list w2) (issued_list w3) b.candidate.number c second.issued second.there second.waiting in
     omega arith
 
-pub count_none : (p : Plan) (w w1 w2 : Waiting) (q1 q2 : Queues) (c : ℕ) → w1.issued ≡ w.issued
+pub count_none : (p : Plan) (w w1 w2 : Waiting) (q1 q2 : Queues) (c : ℕ) → issued_list w1 ≡ issued_list w
     → IssuesAny p w1 w2 q1 q2 c None → waiting_count w2 + 0 ≡ waiting_count w
 count_none p w w1 w2 q1 q2 c same none =
-    let start : waiting_count w1 ≡ waiting_count w = ap (λ (t : Vec (Option ℕ)). count_by is_none t.items) same in
+    let start : waiting_count w1 ≡ waiting_count w = ap (count_by is_none) same in
     let end : waiting_count w2 ≡ waiting_count w1 = ap (count_by is_none) none.1 in
     omega arith
 
 number_is : (b : Option Choice) (j : ℕ) → number_of b ≡ Some j → (x : Choice) × (b ≡ Some x)
-    × (j ≡ x.candidate.number.0)
+    × (j ≡ x.candidate.number)
 number_is None j is = cc
-number_is (Some x) j is = (x, refl, sym (same_some (Some j) x.candidate.number.0 j (sym is) refl))
+number_is (Some x) j is = (x, refl, sym (same_some (Some j) x.candidate.number j (sym is) refl))
 
 -- a first choice, and perhaps a second
 pub so_far_row : (p : Plan) (w w1 w2 w3 : Waiting) (q q1 q2 q3 : Queues) (rows rows' : List Row) (row : Row)
-    (a : Choice) (b : Option Choice) → IsPlan p → IsSoFar p w q rows → w1.issued ≡ w.issued
+    (a : Choice) (b : Option Choice) → IsPlan p → IsSoFar p w q rows → issued_list w1 ≡ issued_list w
     → IsUnderWay p w1 q1 (length rows + 1)
     → IsBest q1 None (Some a) → Issues p w1 w2 q1 q2 (length rows) a → IsBest q2 (Some a.class) b
     → IssuesAny p w2 w3 q2 q3 (length rows) b
@@ -217,7 +217,7 @@ so_far_row p w w1 w2 w3 q q1 q2 q3 rows rows' row a b plan so_far same under bes
     let made : Row = row_with a b in
     let size : length (rows ++ row_with a b ∷ []) ≡ length rows + 1 = length-append rows (row_with a b ∷ []) in
     let matches : MatchesRows (length p.ops.items) rows (progress_of w1).issued =
-    subst (λ (t : Vec (Option ℕ)). MatchesRows (length p.ops.items) rows (λ j. get_or t.items j None))
+    subst (λ xs. MatchesRows (length p.ops.items) rows (λ j. get_or xs j None))
     (sym same) so_far.matches in
     let is : rows ++ row_with a b ∷ [] ≡ rows' = ap (λ r. rows ++ r ∷ []) (sym is_row) ∙ sym is_rows in
     subst (λ rs. IsSoFar p w3 q3 rs) is (record {
@@ -229,7 +229,7 @@ so_far_row p w w1 w2 w3 q q1 q2 q3 rows rows' row a b plan so_far same under bes
           (λ j misses. others_kept p w1 w2 w3 q1 q2 q3 (length rows) a issues_a b issues_b j
           (λ e. misses (subst (λ k. In (slots (row_with a b)) k) (sym e) (in_first a b)))
           (λ x some e. misses (subst (λ k. In (slots (row_with a b)) k) (sym e)
-          (subst (λ o. In (slots (row_with a o)) x.candidate.number.0) (sym some) (in_second a x)))));
+          (subst (λ o. In (slots (row_with a o)) x.candidate.number) (sym some) (in_second a x)))));
       each = chosen_more p.latencies p.ops.items rows (row_with a b) so_far.each
           (chosen_row p w1 q1 rows plan under matches so_far.each q2 a best_a.0.1 issues_a.takes b best_a best_b);
     })
@@ -244,7 +244,7 @@ last_filled rows rows' row a b is_row is_rows empty =
 
 -- a cycle in which nothing is ready, as the code has it
 pub step_none : (p : Plan) (w w1 w2 : Waiting) (q q1 q2 : Queues) (rows rows' : List Row) (row : Row) (c : ℕ)
-    (first : Option Choice) → c ≡ length rows → IsPlan p → IsSoFar p w q rows → w1.issued ≡ w.issued
+    (first : Option Choice) → c ≡ length rows → IsPlan p → IsSoFar p w q rows → issued_list w1 ≡ issued_list w
     → IsUnderWay p w1 q1 (c + 1)
     → first ≡ None → IsBest q1 None first → IssuesAny p w1 w2 q1 q2 c first → row ≡ empty_row → rows' ≡ rows ++ row ∷ []
     → IsSoFar p w2 q2 rows'
@@ -258,7 +258,7 @@ step_none p w w1 w2 q q1 q2 rows rows' row c first now plan so_far same under no
 -- a cycle with a choice, as the code has it
 pub step_some : (p : Plan) (w w1 w2 w3 : Waiting) (q q1 q2 q3 : Queues) (rows rows' : List Row) (row : Row) (c : ℕ)
     (first : Option Choice) (a : Choice) (b : Option Choice) → c ≡ length rows → IsPlan p → IsSoFar p w q rows
-    → w1.issued ≡ w.issued → IsUnderWay p w1 q1 (c + 1)
+    → issued_list w1 ≡ issued_list w → IsUnderWay p w1 q1 (c + 1)
     → first ≡ Some a → IsBest q1 None first → IssuesAny p w1 w2 q1 q2 c first → IsBest q2 (Some a.class) b
     → IssuesAny p w2 w3 q2 q3 c b → row ≡ row_with a b → rows' ≡ rows ++ row ∷ [] → IsSoFar p w3 q3 rows'
 step_some p w w1 w2 w3 q q1 q2 q3 rows rows' row c first a b now plan so_far same under some best issues best_b issues_b
@@ -272,7 +272,7 @@ step_some p w w1 w2 w3 q q1 q2 q3 rows rows' row c first a b now plan so_far sam
     is_row is_rows
 
 pub step_count : (p : Plan) (w w1 w2 w3 : Waiting) (q1 q2 q3 : Queues) (c n : ℕ) (first : Option Choice) (a : Choice)
-    (b : Option Choice) → w1.issued ≡ w.issued → first ≡ Some a → IssuesAny p w1 w2 q1 q2 c first
+    (b : Option Choice) → issued_list w1 ≡ issued_list w → first ≡ Some a → IssuesAny p w1 w2 q1 q2 c first
     → IssuesAny p w2 w3 q2 q3 c b
     → n ≡ slot_count b → waiting_count w3 + n ≡ waiting_count w
 step_count p w w1 w2 w3 q1 q2 q3 c n first a b same some issues issues_b is =
@@ -304,10 +304,10 @@ short_sum lat ops = sum_by-le (latency lat) 16 ops (λ k d below. short_latency 
 pub few_rows : (p : Plan) (w : Waiting) (q : Queues) (rows : List Row) → IsPlan p → IsSoFar p w q rows
     → 0 < waiting_count w → length rows ≤ 160000
 few_rows p w q rows plan so_far some =
-    let found : (j : ℕ) × (j < length w.issued.items) × (get_or w.issued.items j None ≡ None) =
-    one_waits w.issued.items some in
-    let below : found.0 < length w.issued.items = found.1 in
-    let table : length w.issued.items ≡ length p.edges.heads.items = so_far.under_way.sized.issued in
+    let found : (j : ℕ) × (j < length (issued_list w)) × (get_or (issued_list w) j None ≡ None) =
+    one_waits (issued_list w) some in
+    let below : found.0 < length (issued_list w) = found.1 in
+    let table : length (issued_list w) ≡ length p.edges.heads.items = issued_size p.edges w so_far.under_way.sized in
     let size : length p.edges.heads.items ≡ length p.ops.items = plan.graph.size in
     let short : length p.edges.heads.items ≤ 10000 = p.edges.short in
     let bound : length rows ≤ sum_by (latency p.latencies) p.ops.items =
@@ -335,11 +335,11 @@ pub greedy_at_end : (p : Plan) (w : Waiting) (q : Queues) (rows : List Row) (blo
     → ((c : ℕ) → length rows ≡ c + 1 → slots (row_at rows c) ≡ [] → ⊥) → p.ops.items ≡ renamed block
     → IsGreedy p.latencies block p.ops.items rows
 greedy_at_end p w q rows block plan so_far none last is =
-    let table : length w.issued.items ≡ length p.edges.heads.items = so_far.under_way.sized.issued in
+    let table : length (issued_list w) ≡ length p.edges.heads.items = issued_size p.edges w so_far.under_way.sized in
     let size : length p.edges.heads.items ≡ length p.ops.items = plan.graph.size in
     chosen_is_greedy p.latencies block p.ops.items rows is so_far.each
     (λ i below.
-    let found : (t : ℕ) × (get_or w.issued.items i None ≡ Some t) = none_waits w.issued.items none i (omega arith) in
+    let found : (t : ℕ) × (get_or (issued_list w) i None ≡ Some t) = none_waits (issued_list w) none i (omega arith) in
     let at : (issue_cycle rows i ≡ found.0) × (found.0 < length rows) = so_far.matches.done i found.0 below found.1 in
     let same : issue_cycle rows i ≡ found.0 = at.0 in
     let early : found.0 < length rows = at.1 in

@@ -1,10 +1,9 @@
 -- An operation is issued, and the edges out of it are gone through from the last.
-use Rattle.std.proofs.Common.{◌≡◌, ◌≢◌, ℕ, ◌+◌, ◌%◌, ◌<◌, ◌≤◌, max, List, [], ◌∷◌, ◌++◌, Option, Some, None, ◌⊎◌, inl, inr, refl, sym, ◌∙◌, ap, subst, arith}
+use Rattle.std.proofs.Common.{◌≡◌, ◌≢◌, ℕ, ◌+◌, ◌%◌, ◌<◌, ◌≤◌, max, List, ◌∷◌, Option, Some, None, ◌⊎◌, inl, inr, refl, sym, ◌∙◌, ap, subst, arith}
 use Rattle.iloc_sched.specs.Steps.Members.{In, AreApart}
 use Rattle.iloc_sched.specs.Steps.Graph.{Graph, IsLast, IsGraph}
 use Rattle.iloc_sched.specs.Steps.Progress.{Progress, UpTo, Reaches, Waits, CanIssue}
 use Rattle.iloc_sched.proofs.Steps.Cases.{by_eq, by_lt, not_both, same_some, none_of}
-use Rattle.iloc_sched.proofs.Steps.Lists.{in_front, in_back, in_either, pushed_apart}
 
 -- what passes below n is at most the last that does
 pub up_to_last : (P : ℕ → Type 0) (n : ℕ) (last : Option ℕ) (x : ℕ) → IsLast P n last → x < n → P x → UpTo last x
@@ -95,11 +94,11 @@ begins graph w f i c issued' is waits can before at others =
       apart = waits.apart;
     }
 
--- of the edges out of i up to x those other than x are up to the next
-pub up_to_next : (graph : Graph) → IsGraph graph → (x y : ℕ) → x < graph.count → graph.from y ≡ graph.from x → y ≤ x
-    → y ≢ x → UpTo (graph.next x) y
-up_to_next graph is x y there same most apart =
-    up_to_last (λ z. graph.from z ≡ graph.from x) x (graph.next x) y (is.nexts x there) (omega arith) same
+-- of the edges out of i up to x those other than x are up to the one before it
+pub up_to_previous : (graph : Graph) → IsGraph graph → (x y : ℕ) → x < graph.count → graph.from y ≡ graph.from x → y ≤ x
+    → y ≢ x → UpTo (graph.previous x) y
+up_to_previous graph is x y there same most apart =
+    up_to_last (λ z. graph.from z ≡ graph.from x) x (graph.previous x) y (is.previous_edges x there) (omega arith) same
 
 -- who watches x is its target
 pub watcher : (graph : Graph) (w : Progress) (f i : ℕ) (at : Option ℕ) → IsGraph graph → Waits graph w f i at
@@ -110,14 +109,14 @@ watcher graph w f i at is waits j x there left same =
 
 -- the target does not watch edge x
 pub skips : (graph : Graph) (w : Progress) (f i x : ℕ) → IsGraph graph → Waits graph w f i (Some x) → x < graph.count
-    → graph.from x ≡ i → w.watch (graph.to x) ≢ x → Waits graph w f i (graph.next x)
+    → graph.from x ≡ i → w.watch (graph.to x) ≢ x → Waits graph w f i (graph.previous x)
 skips graph w f i x is waits there from_i free = record {
   reach = waits.reach;
   stuck = λ j within left. elim (waits.stuck j within left) [
     | inl none ↦ inl none
     | inr loose ↦ inr (
       loose.0,
-      up_to_next graph is x (w.watch j) there (loose.0 ∙ sym from_i) loose.1
+      up_to_previous graph is x (w.watch j) there (loose.0 ∙ sym from_i) loose.1
           (λ same. free (subst (λ k. w.watch k ≡ x) (sym (watcher graph w f i (Some x) is waits j x within left same))
           same)),
     )
@@ -131,7 +130,7 @@ skips graph w f i x is waits there from_i free = record {
 
 -- j goes into bucket b where it has come to its last edge
 pub record Enters (bucket bucket' : ℕ → List ℕ) (b j : ℕ) (at_end : Type 0) : Type 0 where
-  pub stays : (a k : ℕ) → In (bucket a) k → In (bucket' a) k
+  pub stays : (a k : ℕ) → a < 32 → In (bucket a) k → In (bucket' a) k
   pub was : (a k : ℕ) → a < 32 → In (bucket' a) k → In (bucket a) k ⊎ ((k ≡ j) × (a ≡ b) × at_end)
   pub comes : at_end → In (bucket' b) j
   pub apart : (a : ℕ) → a < 32 → AreApart (bucket' a)
@@ -145,7 +144,7 @@ pub moves : (graph : Graph) (w : Progress) (f i x c p t : ℕ) (watch' earliest'
     → watch' (graph.to x) ≡ p → ((k : ℕ) → k ≢ graph.to x → watch' k ≡ w.watch k)
     → earliest' (graph.to x) ≡ t → ((k : ℕ) → k ≢ graph.to x → earliest' k ≡ w.earliest k)
     → Enters w.bucket bucket' (t % 32) (graph.to x) (p ≡ graph.start (graph.to x + 1))
-    → Waits graph (record w { watch = watch'; earliest = earliest'; bucket = bucket' }) f i (graph.next x)
+    → Waits graph (record w { watch = watch'; earliest = earliest'; bucket = bucket' }) f i (graph.previous x)
 moves graph w f i x c p t watch' earliest' bucket' is waits there from_i now at_i watched reaches on free at_watch
     other_watch at_earliest other_earliest enters =
     let j : ℕ = graph.to x in
@@ -180,12 +179,12 @@ moves graph w f i x c p t watch' earliest' bucket' is waits there from_i now at_
           ∙ free (subst (λ a. p < graph.start (a + 1)) same (subst (λ a. a < graph.start (k + 1)) is_p left))))
           (λ apart. let same : watch' k ≡ w.watch k = other_watch k apart in
           let left_k : w.watch k < graph.start (k + 1) = subst (λ a. a < graph.start (k + 1)) same left in
-          subst (λ a. (w.issued (graph.from a) ≡ None) ⊎ ((graph.from a ≡ i) × UpTo (graph.next x) a)) (sym same)
+          subst (λ a. (w.issued (graph.from a) ≡ None) ⊎ ((graph.from a ≡ i) × UpTo (graph.previous x) a)) (sym same)
           (elim (waits.stuck k within left_k) [
             | inl none ↦ inl none
             | inr loose ↦ inr (
               loose.0,
-              up_to_next graph is x (w.watch k) there (loose.0 ∙ sym from_i) loose.1
+              up_to_previous graph is x (w.watch k) there (loose.0 ∙ sym from_i) loose.1
                   (λ at_x. apart (sym (watcher graph w f i (Some x) is waits k x within left_k at_x))),
             )
           ]));
@@ -201,7 +200,7 @@ moves graph w f i x c p t watch' earliest' bucket' is waits there from_i now at_
           (subst (λ a. In (bucket' (t % 32)) a) (sym same) (enters.comes at_end)))
           (λ apart. let is_e : earliest' k ≡ w.earliest k = other_earliest k apart in
           subst (λ a. In (bucket' (a % 32)) k) (sym is_e)
-          (enters.stays _ k (waits.waits k within none (sym (other_watch k apart) ∙ all)
+          (enters.stays _ k (omega arith) (waits.waits k within none (sym (other_watch k apart) ∙ all)
           (subst (λ a. f ≤ a) is_e late_k))));
       only = λ b k small held. elim (enters.was b k small held) [
         | inl old ↦
@@ -245,31 +244,33 @@ ends graph w f i waits = record {
 pub enters_none : (bucket : ℕ → List ℕ) (b j : ℕ) (at_end : Type 0) → (at_end → ⊥)
     → ((a : ℕ) → a < 32 → AreApart (bucket a)) → Enters bucket bucket b j at_end
 enters_none bucket b j at_end not apart = record {
-  stays = λ a k held. held;
+  stays = λ a k small held. held;
   was = λ a k small held. inl held;
   comes = λ end. absurd (not end);
   apart = apart;
 }
 
--- j is pushed to bucket b, which does not have it
-pub enters_pushed : (bucket bucket' : ℕ → List ℕ) (b j : ℕ) (at_end : Type 0) → at_end
-    → ((a : ℕ) → a < 32 → AreApart (bucket a)) → (In (bucket b) j → ⊥) → bucket' b ≡ bucket b ++ j ∷ []
-    → ((a : ℕ) → a ≢ b → bucket' a ≡ bucket a) → Enters bucket bucket' b j at_end
-enters_pushed bucket bucket' b j at_end end apart new at others = record {
-  stays = λ a k held. by_eq a b
+-- j is put into bucket b, which does not have it
+pub enters_put : (bucket bucket' : ℕ → List ℕ) (b j : ℕ) (at_end : Type 0) → at_end
+    → ((a : ℕ) → a < 32 → AreApart (bucket a)) → (In (bucket b) j → ⊥) → bucket' b ≡ j ∷ bucket b
+    → ((a : ℕ) → a < 32 → a ≢ b → bucket' a ≡ bucket a) → Enters bucket bucket' b j at_end
+enters_put bucket bucket' b j at_end end apart new at others = record {
+  stays = λ a k small held. by_eq a b
       (λ same. subst (λ a. In (bucket' a) k) (sym same)
-      (subst (λ xs. In xs k) (sym at) (in_front (bucket b) (j ∷ []) k (subst (λ a. In (bucket a) k) same held))))
-      (λ other. subst (λ xs. In xs k) (sym (others a other)) held);
+      (subst (λ xs. In xs k) (sym at) (inr (subst (λ a. In (bucket a) k) same held))))
+      (λ other. subst (λ xs. In xs k) (sym (others a small other)) held);
   was = λ a k small held. by_eq a b
-      (λ same. elim (in_either (bucket b) (j ∷ []) k
-      (subst (λ xs. In xs k) at (subst (λ a. In (bucket' a) k) same held))) [
-        | inl old ↦ inl (subst (λ a. In (bucket a) k) (sym same) old)
-        | inr one ↦ elim one [ inl is ↦ inr (sym is, same, end) | inr none ↦ absurd none ]
+      (λ same. elim (the_put k (subst (λ xs. In xs k) at (subst (λ a. In (bucket' a) k) same held))) [
+        | inl is ↦ inr (is, same, end)
+        | inr old ↦ inl (subst (λ a. In (bucket a) k) (sym same) old)
       ])
-      (λ other. inl (subst (λ xs. In xs k) (others a other) held));
-  comes = λ _. subst (λ xs. In xs j) (sym at) (in_back (bucket b) (j ∷ []) j (inl refl));
+      (λ other. inl (subst (λ xs. In xs k) (others a small other) held));
+  comes = λ _. subst (λ xs. In xs j) (sym at) (inl refl);
   apart = λ a small. by_eq a b
       (λ same. subst (λ a. AreApart (bucket' a)) (sym same)
-      (subst AreApart (sym at) (pushed_apart (bucket b) j (apart b (subst (λ a. a < 32) same small)) new)))
-      (λ other. subst AreApart (sym (others a other)) (apart a small));
+      (subst AreApart (sym at) (new, apart b (subst (λ a. a < 32) same small))))
+      (λ other. subst AreApart (sym (others a small other)) (apart a small));
 }
+  where
+    the_put : (k : ℕ) → In (j ∷ bucket b) k → (k ≡ j) ⊎ In (bucket b) k
+    the_put k held = elim held [ inl is ↦ inl (sym is) | inr old ↦ inr old ]

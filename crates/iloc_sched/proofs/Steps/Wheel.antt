@@ -54,7 +54,7 @@ later_still graph w c j can = let soon : w.earliest j < c = can.soon in
 
 -- the bucket of cycle c is emptied
 pub empties : (graph : Graph) (w : Progress) (c : ℕ) (bucket' : ℕ → List ℕ) → IsGraph graph → Waits graph w c 0 None
-    → bucket' (c % 32) ≡ [] → ((b : ℕ) → b ≢ c % 32 → bucket' b ≡ w.bucket b)
+    → bucket' (c % 32) ≡ [] → ((b : ℕ) → b < 32 → b ≢ c % 32 → bucket' b ≡ w.bucket b)
     → Waits graph (record w { bucket = bucket' }) (c + 1) 0 None
 empties graph w c bucket' is waits emptied others = record {
   reach = waits.reach;
@@ -66,12 +66,12 @@ empties graph w c bucket' is waits emptied others = record {
       let apart : w.earliest j % 32 ≢ c % 32 =
       (λ same. let now : w.earliest j ≡ c = same_mod (w.earliest j) c (omega arith) bound same in
       absurd (omega arith)) in
-      subst (λ xs. In xs j) (sym (others _ apart)) (waits.waits j there none all (omega arith));
+      subst (λ xs. In xs j) (sym (others _ (omega arith) apart)) (waits.waits j there none all (omega arith));
   only = λ b j small held. by_eq b (c % 32)
       (λ same. absurd (subst (λ xs. In xs j) (ap bucket' same ∙ emptied) held))
       (λ apart.
       let h : (j < graph.ops) × (w.issued j ≡ None) × (w.watch j ≡ graph.start (j + 1)) × (c ≤ w.earliest j)
-      × (w.earliest j % 32 ≡ b) = waits.only b j small (subst (λ xs. In xs j) (others b apart) held) in (
+      × (w.earliest j % 32 ≡ b) = waits.only b j small (subst (λ xs. In xs j) (others b small apart) held) in (
         h.0,
         h.1,
         h.2,
@@ -81,5 +81,5 @@ empties graph w c bucket' is waits emptied others = record {
       ));
   apart = λ b small. by_eq b (c % 32)
       (λ same. subst AreApart (sym (ap bucket' same ∙ emptied)) tt)
-      (λ apart. subst AreApart (sym (others b apart)) (waits.apart b small));
+      (λ apart. subst AreApart (sym (others b small apart)) (waits.apart b small));
 }

@@ -11,7 +11,7 @@ IsFirstOf cs (Some first) = In cs first × ((c : Candidate) → In cs c → IsFi
 
 -- no candidate has this number
 abbrev pub HasNone : List Candidate → ℕ → Type 0
-HasNone cs n = (c : Candidate) → In cs c → c.number.0 ≢ n
+HasNone cs n = (c : Candidate) → In cs c → c.number ≢ n
 
 -- c is added
 pub record Adds (cs cs' : List Candidate) (c : Candidate) : Type 0 where
@@ -21,10 +21,10 @@ pub record Adds (cs cs' : List Candidate) (c : Candidate) : Type 0 where
 
 -- the operation of this number is gone
 pub record Removes (cs cs' : List Candidate) (n : ℕ) : Type 0 where
-  pub stays : (d : Candidate) → In cs d → d.number.0 ≢ n → In cs' d
-  pub was : (d : Candidate) → In cs' d → In cs d × (d.number.0 ≢ n)
+  pub stays : (d : Candidate) → In cs d → d.number ≢ n → In cs' d
+  pub was : (d : Candidate) → In cs' d → In cs d × (d.number ≢ n)
 
 -- what was answered is gone; where there was none, nothing changed
 abbrev pub Popped : List Candidate → List Candidate → Option Candidate → Type 0
 Popped cs cs' None = cs' ≡ cs
-Popped cs cs' (Some c) = Removes cs cs' c.number.0
+Popped cs cs' (Some c) = Removes cs cs' c.number

@@ -9,7 +9,7 @@ use Rattle.iloc_sched.specs.Priority.{priority}
 use Rattle.iloc_sched.specs.Steps.Near.{IsNear}
 
 -- edges by number: those into operation j are the ones from `start j` up to `start (j + 1)`; of those out of
--- operation i the last is `head i`, and the one before edge x is `next x`
+-- operation i the last is `head i`, and the one before edge x is `previous x`
 pub record Graph : Type 0 where
   pub ops : ℕ
   pub count : ℕ
@@ -18,7 +18,7 @@ pub record Graph : Type 0 where
   pub delay : ℕ → ℕ
   pub start : ℕ → ℕ
   pub head : ℕ → Option ℕ
-  pub next : ℕ → Option ℕ
+  pub previous : ℕ → Option ℕ
 
 -- the last number below n of which P holds
 abbrev pub IsLast : (ℕ → Type 0) → ℕ → Option ℕ → Type 0
@@ -33,7 +33,7 @@ pub record IsGraph (graph : Graph) : Type 0 where
   pub earlier : (x : ℕ) → x < graph.count → graph.from x < graph.to x
   pub delays : (x : ℕ) → x < graph.count → (1 ≤ graph.delay x) × (graph.delay x ≤ 16)
   pub heads : (i : ℕ) → i < graph.ops → IsLast (λ x. graph.from x ≡ i) graph.count (graph.head i)
-  pub nexts : (x : ℕ) → x < graph.count → IsLast (λ y. graph.from y ≡ graph.from x) x (graph.next x)
+  pub previous_edges : (x : ℕ) → x < graph.count → IsLast (λ y. graph.from y ≡ graph.from x) x (graph.previous x)
 
 -- each edge is a delay pair, and each near pair has its edge
 pub record IsGraphOf (lat : Latencies) (ops : List Op) (graph : Graph) : Type 0 where

@@ -1,7 +1,5 @@
 -- What stands last before an operation.
-use Rattle.std.specs.Prelude.{ℕ, ◌≡◌, ◌≢◌, ◌<◌, true, false, if◌then◌else◌, List, [], ◌∷◌, ◌++◌, length, slice_get, Option, Some, unwrap_or}
-use Rattle.std.specs.Ordering.{nat_cmp}
-use Rattle.std.specs.BTreeMap.{get}
+use Rattle.std.specs.Prelude.{ℕ, ◌≡◌, ◌<◌, ◌≤◌, true, false, if◌then◌else◌, List, [], ◌∷◌, ◌++◌, length, Some}
 use Rattle.iloc_text.specs.declared.op.Reg.{Reg}
 use Rattle.iloc_text.specs.declared.op.Op.{Op}
 use Rattle.iloc_text.specs.Registers.{defined}
@@ -9,32 +7,32 @@ use Rattle.iloc_meaning.specs.Trace.{op_at}
 use Rattle.iloc_timed.specs.declared.kind.Kind.{Kind}
 use Rattle.iloc_timed.specs.declared.kind.Kind.TheVariants as K
 use Rattle.iloc_timed.specs.Kinds.{kind, is_load, is_store, is_output}
-use Rattle.iloc_sched.specs.declared.definers.Definers.{Definers}
+use Rattle.iloc_sched.specs.Renaming.{IsRenamed}
+use Rattle.iloc_sched.specs.declared.by_register.ByRegister.{ByRegister}
 use Rattle.iloc_sched.specs.declared.lasts.Lasts.{Lasts}
+use Rattle.iloc_sched.specs.Steps.ByRegister.{number_at}
 use Rattle.iloc_sched.specs.Steps.Members.{In}
 use Rattle.iloc_sched.specs.Steps.Graph.{IsLast}
 
--- the operation that is noted for register r
-abbrev pub definer : Definers → ℕ → Option ℕ
-definer definers r = unwrap_or (slice_get definers.table.items r) (get nat_cmp definers.others r)
-
--- operation j is noted for register r, all else is as it was
-pub record SetsDefiner (old new : Definers) (r j : ℕ) : Type 0 where
-  pub changed : definer new r ≡ Some j
-  pub others : (s : ℕ) → s ≢ r → definer new s ≡ definer old s
-
 -- operation j is noted for what it defines, all else is as it was
-pub record NotesDefiner (op : Op) (old new : Definers) (j : ℕ) : Type 0 where
-  pub changed : (r : Reg) → defined op ≡ Some r → definer new r.0 ≡ Some j
-  pub others : (r : Reg) → (defined op ≡ Some r → ⊥) → definer new r.0 ≡ definer old r.0
+pub record NotesDefiner (op : Op) (old new : ByRegister) (j : ℕ) : Type 0 where
+  pub changed : (r : Reg) → defined op ≡ Some r → number_at new r.0 ≡ Some j
+  pub others : (r : Reg) → (defined op ≡ Some r → ⊥) → number_at new r.0 ≡ number_at old r.0
 
 -- what stands last before operation j
 pub record IsLasts (ops : List Op) (lasts : Lasts) (j : ℕ) : Type 0 where
-  pub definers : (r : Reg) → IsLast (λ i. defined (op_at ops i) ≡ Some r) j (definer lasts.definers r.0)
+  pub definers : (r : Reg) → IsLast (λ i. defined (op_at ops i) ≡ Some r) j (number_at lasts.definers r.0)
   pub store : IsLast (λ i. is_store (kind (op_at ops i)) ≡ true) j lasts.store
   pub output : IsLast (λ i. is_output (kind (op_at ops i)) ≡ true) j lasts.output
   pub loads : (i : ℕ) → In lasts.loads.items i → (i < j) × (is_load (kind (op_at ops i)) ≡ true)
   pub all_loads : (i : ℕ) → i < j → is_load (kind (op_at ops i)) ≡ true → ((k : ℕ) → i < k → k < j → is_store (kind (op_at ops k)) ≡ false) → In lasts.loads.items i
+
+-- operation j of these is the next, and what stands last before it is known
+pub record IsNext (ops : List Op) (lasts : Lasts) (j : ℕ) : Type 0 where
+  pub renamed : IsRenamed ops
+  pub few : length ops ≤ 10000
+  pub there : j < length ops
+  pub known : IsLasts ops lasts j
 
 -- operation j of a kind is one of the earlier ones from now on
 abbrev pub NotesKind : Kind → Lasts → Lasts → ℕ → Type 0

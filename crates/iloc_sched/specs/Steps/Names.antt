@@ -1,10 +1,9 @@
 -- The names that registers have at a point of a walk.
 use Rattle.std.specs.Prelude.{ℕ, Option}
-use Rattle.std.specs.Ordering.{nat_cmp}
-use Rattle.std.specs.BTreeMap.{get}
 use Rattle.iloc_text.specs.declared.op.Reg.{Reg}
 use Rattle.iloc_sched.specs.declared.renaming.Names.{Names}
+use Rattle.iloc_sched.specs.Steps.ByRegister.{number_at}
 
 -- the number of a register's name, if it has one
 abbrev pub current_of : Names → Reg → Option ℕ
-current_of names r = get nat_cmp names.current r.0
+current_of names r = number_at names.current r.0

@@ -1,8 +1,10 @@
 -- What holds as a schedule begins.
-use Rattle.std.specs.Prelude.{ℕ, ◌+◌, ◌≡◌, ◌≢◌, ◌<◌, List, [], length, map, slice_index_or}
-use Rattle.std.specs.Global.{Vec}
+use Rattle.std.specs.Prelude.{ℕ, ◌+◌, ◌≡◌, ◌≢◌, ◌<◌, List, [], length, replicate, take, Option, None}
+use Rattle.iloc_sched.specs.declared.edges.Edges.{Edges}
+use Rattle.iloc_sched.specs.declared.waiting.Waiting.{Waiting}
 use Rattle.iloc_sched.specs.Steps.Members.{In, AreApart}
 use Rattle.iloc_sched.specs.Steps.Graph.{Graph}
+use Rattle.iloc_sched.specs.Steps.Views.{graph_of, progress_of, issued_list, watch_list, earliest_list}
 
 -- the operations before operation n into which no edge leads
 pub record AreRoots (graph : Graph) (js : List ℕ) (n : ℕ) : Type 0 where
@@ -10,12 +12,14 @@ pub record AreRoots (graph : Graph) (js : List ℕ) (n : ℕ) : Type 0 where
   pub only : (j : ℕ) → In js j → (j < n) × (graph.start j ≡ graph.start (j + 1))
   pub apart : AreApart js
 
--- bucket b of a wheel
-abbrev pub bucket_at : List (Vec ℕ) → ℕ → List ℕ
-bucket_at wheel b = slice_index_or (map (λ (v : Vec ℕ). v.items) wheel) b []
+abbrev pub not_issued : Option ℕ
+not_issued = None
 
--- the first bucket is as given, and no other has any
-pub record IsFreshWheel (wheel : List (Vec ℕ)) (first : List ℕ) : Type 0 where
-  pub size : length wheel ≡ 32
-  pub filled : bucket_at wheel 0 ≡ first
-  pub others : (b : ℕ) → b ≢ 0 → bucket_at wheel b ≡ []
+-- the states of the operations before operation n are made
+pub record IsOpening (e : Edges) (w : Waiting) (n : ℕ) : Type 0 where
+  pub issued : issued_list w ≡ replicate n not_issued
+  pub watch : watch_list w ≡ take n e.starts.items
+  pub earliest : earliest_list w ≡ replicate n 0
+  pub links : length w.wheel.behind.items ≡ length e.heads.items
+  pub roots : AreRoots (graph_of e) ((progress_of w).bucket 0) n
+  pub others : (b : ℕ) → b < 32 → b ≢ 0 → (progress_of w).bucket b ≡ []

@@ -6,6 +6,7 @@ use Rattle.iloc_text.specs.Registers.{used, defined}
 use Rattle.iloc_meaning.specs.Trace.{op_at}
 use Rattle.iloc_timed.specs.declared.latencies.Latencies.{Latencies}
 use Rattle.iloc_timed.specs.Latency.{latency}
+use Rattle.iloc_sched.specs.declared.edges.Edges.{Edges}
 use Rattle.iloc_sched.specs.Delays.{memory_delays, IsDelayPair}
 use Rattle.iloc_sched.specs.Steps.Near.{IsNear, NoneBetween}
 use Rattle.iloc_sched.specs.Steps.Graph.{Graph, IsLast}
@@ -20,7 +21,7 @@ pub record IsPartialGraph (lat : Latencies) (ops : List Op) (graph : Graph) (j :
   pub to_there : (x : ℕ) → x < graph.start j → (graph.to x < j) × (graph.start (graph.to x) ≤ x) × (x < graph.start (graph.to x + 1))
   pub sound : (x : ℕ) → x < graph.count → IsDelayPair lat ops (graph.from x) (graph.to x) (graph.delay x)
   pub heads : (i : ℕ) → i < graph.ops → IsLast (λ x. graph.from x ≡ i) graph.count (graph.head i)
-  pub nexts : (x : ℕ) → x < graph.count → IsLast (λ y. graph.from y ≡ graph.from x) x (graph.next x)
+  pub previous_edges : (x : ℕ) → x < graph.count → IsLast (λ y. graph.from y ≡ graph.from x) x (graph.previous x)
   pub all : (i b d : ℕ) → b < j → IsDelayPair lat ops i b d → IsNear lat ops i b d → (x : ℕ) × (x < graph.start j) × (graph.to x ≡ b) × (graph.from x ≡ i) × (d ≤ graph.delay x)
 
 -- an edge into j, the last operation so far, from i with at least the delay d
@@ -39,13 +40,18 @@ pub record HasOneMore (graph graph' : Graph) (i j d : ℕ) : Type 0 where
   pub from : (x : ℕ) → x < graph.count → graph'.from x ≡ graph.from x
   pub to : (x : ℕ) → x < graph.count → graph'.to x ≡ graph.to x
   pub delay : (x : ℕ) → x < graph.count → graph'.delay x ≡ graph.delay x
-  pub next : (x : ℕ) → x < graph.count → graph'.next x ≡ graph.next x
+  pub previous : (x : ℕ) → x < graph.count → graph'.previous x ≡ graph.previous x
   pub last_from : graph'.from graph.count ≡ i
   pub last_to : graph'.to graph.count ≡ j
   pub last_delay : graph'.delay graph.count ≡ d
-  pub last_next : graph'.next graph.count ≡ graph.head i
+  pub last_previous : graph'.previous graph.count ≡ graph.head i
   pub head : graph'.head i ≡ Some graph.count
   pub heads : (k : ℕ) → k ≢ i → graph'.head k ≡ graph.head k
+
+-- the operations and what leads into those before stay
+pub record KeepsFrame (old new : Edges) : Type 0 where
+  pub heads : length new.heads.items ≡ length old.heads.items
+  pub starts : new.starts ≡ old.starts
 
 -- more edges into j, the others as they were
 pub record Grows (lat : Latencies) (ops : List Op) (graph graph' : Graph) (j : ℕ) : Type 0 where

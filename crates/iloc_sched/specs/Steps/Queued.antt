@@ -46,8 +46,8 @@ IsBest q beside (Some choice) = IsOpen q beside choice.class choice.candidate ×
 
 -- the choice is gone, and all else is as it was
 pub record Takes (q q' : Queues) (choice : Choice) : Type 0 where
-  pub stays : (k : Class) (c : Candidate) → In (candidates q k) c → (k ≡ choice.class → c.number.0 ≡ choice.candidate.number.0 → ⊥) → In (candidates q' k) c
-  pub was : (k : Class) (c : Candidate) → In (candidates q' k) c → In (candidates q k) c × (k ≡ choice.class → c.number.0 ≡ choice.candidate.number.0 → ⊥)
+  pub stays : (k : Class) (c : Candidate) → In (candidates q k) c → (k ≡ choice.class → c.number ≡ choice.candidate.number → ⊥) → In (candidates q' k) c
+  pub was : (k : Class) (c : Candidate) → In (candidates q' k) c → In (candidates q k) c × (k ≡ choice.class → c.number ≡ choice.candidate.number → ⊥)
 
 -- the candidate is added to its class, and all else is as it was
 pub record AddsTo (q q' : Queues) (k : Class) (c : Candidate) : Type 0 where

@@ -1,5 +1,5 @@
 -- What holds of a schedule that is being made.
-use Rattle.std.specs.Prelude.{ℕ, ◌+◌, ◌≡◌, ◌<◌, ◌⊎◌, ◌||◌, List, length, slice_index_or, slice_set, count_by, is_none, Option, Some, None, Bool, false, if◌then◌else◌}
+use Rattle.std.specs.Prelude.{ℕ, ◌+◌, ◌%◌, ◌≡◌, ◌≢◌, ◌<◌, ◌++◌, ◌⊎◌, ◌||◌, List, length, slice_index_or, slice_set, count_by, is_none, Option, Some, None, Bool, false, if◌then◌else◌}
 use Rattle.iloc_meaning.specs.Trace.{op_at}
 use Rattle.iloc_text.specs.declared.op.Op.{Op}
 use Rattle.iloc_timed.specs.declared.row.Row.{Row}
@@ -18,7 +18,7 @@ use Rattle.iloc_sched.specs.Steps.Classes.{class_of, is_memory_class, is_product
 use Rattle.iloc_sched.specs.Steps.Queued.{candidates, Takes}
 use Rattle.iloc_sched.specs.Steps.Graph.{Graph, IsGraphOf}
 use Rattle.iloc_sched.specs.Steps.Progress.{Progress, Waits, CanIssue, MatchesRows}
-use Rattle.iloc_sched.specs.Steps.Views.{graph_of, progress_of, IsSized}
+use Rattle.iloc_sched.specs.Steps.Views.{graph_of, issued_list, progress_of, IsSized}
 
 -- the class of operation i
 abbrev pub class_at : List Op → ℕ → Class
@@ -33,13 +33,22 @@ pub record IsPlan (p : Plan) : Type 0 where
 -- the queues have just what can be issued, by class
 pub record IsQueued (ops : List Op) (prios : List ℕ) (graph : Graph) (w : Progress) (f : ℕ) (q : Queues) : Type 0 where
   pub has : (j : ℕ) → CanIssue graph w f j → In (candidates q (class_at ops j)) (candidate_at prios j)
-  pub only : (k : Class) (c : Candidate) → In (candidates q k) c → CanIssue graph w f c.number.0 × (class_at ops c.number.0 ≡ k) × (c ≡ candidate_at prios c.number.0)
+  pub only : (k : Class) (c : Candidate) → In (candidates q k) c → CanIssue graph w f c.number × (class_at ops c.number ≡ k) × (c ≡ candidate_at prios c.number)
 
 -- these were added to the queues
 pub record Admits (ops : List Op) (prios : List ℕ) (q q' : Queues) (js : List ℕ) : Type 0 where
   pub comes : (j : ℕ) → In js j → In (candidates q' (class_at ops j)) (candidate_at prios j)
   pub stays : (k : Class) (c : Candidate) → In (candidates q k) c → In (candidates q' k) c
-  pub was : (k : Class) (c : Candidate) → In (candidates q' k) c → In (candidates q k) c ⊎ (In js c.number.0 × (class_at ops c.number.0 ≡ k) × (c ≡ candidate_at prios c.number.0))
+  pub was : (k : Class) (c : Candidate) → In (candidates q' k) c → In (candidates q k) c ⊎ (In js c.number × (class_at ops c.number ≡ k) × (c ≡ candidate_at prios c.number))
+
+-- of what stood in the bucket of cycle c some is in the queues now, and the rest stands there still
+pub record IsReleasing (p : Plan) (w w' : Waiting) (q q' : Queues) (c : ℕ) : Type 0 where
+  pub done : List ℕ
+  pub bucket : (progress_of w).bucket (c % 32) ≡ done ++ (progress_of w').bucket (c % 32)
+  pub admits : Admits p.ops.items p.priorities.items q q' done
+  pub others : (b : ℕ) → b < 32 → b ≢ c % 32 → (progress_of w').bucket b ≡ (progress_of w).bucket b
+  pub states : w'.states ≡ w.states
+  pub links : length w'.wheel.behind.items ≡ length w.wheel.behind.items
 
 -- what holds before cycle f, once what becomes ready before it is in the queues
 pub record IsUnderWay (p : Plan) (w : Waiting) (q : Queues) (f : ℕ) : Type 0 where
@@ -57,12 +66,12 @@ pub record IsSoFar (p : Plan) (w : Waiting) (q : Queues) (rows : List Row) : Typ
 pub record Issues (p : Plan) (w w' : Waiting) (q q' : Queues) (c : ℕ) (choice : Choice) : Type 0 where
   pub under_way : IsUnderWay p w' q' (c + 1)
   pub takes : Takes q q' choice
-  pub there : choice.candidate.number.0 < length w.issued.items
-  pub waiting : slice_index_or w.issued.items choice.candidate.number.0 None ≡ None
-  pub issued : w'.issued.items ≡ slice_set w.issued.items choice.candidate.number.0 (Some c)
+  pub there : choice.candidate.number < length (issued_list w)
+  pub waiting : slice_index_or (issued_list w) choice.candidate.number None ≡ None
+  pub issued : issued_list w' ≡ slice_set (issued_list w) choice.candidate.number (Some c)
 
 abbrev pub IssuesAny : Plan → Waiting → Waiting → Queues → Queues → ℕ → Option Choice → Type 0
-IssuesAny p w w' q q' c None = IsUnderWay p w' q' (c + 1) × (w'.issued.items ≡ w.issued.items) × (q' ≡ q)
+IssuesAny p w w' q q' c None = IsUnderWay p w' q' (c + 1) × (issued_list w' ≡ issued_list w) × (q' ≡ q)
 IssuesAny p w w' q q' c (Some choice) = Issues p w w' q q' c choice
 
 -- whether the choice is a load or a store
@@ -73,13 +82,13 @@ is_memory_choice (Some choice) = is_memory_class choice.class
 -- the number of a choice
 abbrev pub number_of : Option Choice → Option ℕ
 number_of None = None
-number_of (Some choice) = Some choice.candidate.number.0
+number_of (Some choice) = Some choice.candidate.number
 
 -- a, and what stands beside it, on their units
 abbrev pub row_with : Choice → Option Choice → Row
 row_with a b =
     if is_product_class a.class || is_memory_choice b
-    then record { zero = number_of b; one = Some a.candidate.number.0 } else record { zero = Some a.candidate.number.0; one = number_of b }
+    then record { zero = number_of b; one = Some a.candidate.number } else record { zero = Some a.candidate.number; one = number_of b }
 
 -- in how many slots a choice stands with what is beside it
 abbrev pub slot_count : Option Choice → ℕ
@@ -88,4 +97,4 @@ slot_count (Some choice) = 2
 
 -- how many wait
 abbrev pub waiting_count : Waiting → ℕ
-waiting_count w = count_by is_none w.issued.items
+waiting_count w = count_by is_none (issued_list w)

@@ -1,14 +1,15 @@
 -- The scheduler's tables as functions of numbers.
-use Rattle.std.specs.Prelude.{ℕ, ◌+◌, ◌≡◌, [], length, map, slice_index, slice_index_or, None}
-use Rattle.std.specs.Global.{Vec}
+use Rattle.std.specs.Prelude.{ℕ, ◌+◌, ◌≡◌, List, length, map, slice_index, slice_index_or, Option, None}
 use Rattle.iloc_sched.specs.declared.edges.Edge.{Edge}
 use Rattle.iloc_sched.specs.declared.edges.Edges.{Edges}
+use Rattle.iloc_sched.specs.declared.waiting.State.{State}
 use Rattle.iloc_sched.specs.declared.waiting.Waiting.{Waiting}
 use Rattle.iloc_sched.specs.Steps.Graph.{Graph}
 use Rattle.iloc_sched.specs.Steps.Progress.{Progress}
+use Rattle.iloc_sched.specs.Steps.Wheel.{bucket_of}
 
 abbrev pub no_edge : Edge
-no_edge = record { from = 0; to = 0; delay = 0; next = None }
+no_edge = record { from = 0; to = 0; delay = 0; previous = None }
 
 abbrev pub edge_at : Edges → ℕ → Edge
 edge_at e x = slice_index_or e.edges.items x no_edge
@@ -22,21 +23,41 @@ graph_of e = record {
   delay = λ x. (edge_at e x).delay;
   start = λ j. slice_index e.starts.items j;
   head = λ i. slice_index_or e.heads.items i None;
-  next = λ x. (edge_at e x).next;
+  previous = λ x. (edge_at e x).previous;
 }
 
-abbrev pub progress_of : Waiting → Progress
-progress_of w = record {
-  issued = λ j. slice_index_or w.issued.items j None;
-  watch = λ j. slice_index w.watch.items j;
-  earliest = λ j. slice_index w.earliest.items j;
-  bucket = λ b. slice_index_or (map (λ (v : Vec ℕ). v.items) w.wheel.items) b [];
+abbrev pub issued_in : List State → List (Option ℕ)
+issued_in states = map (λ (s : State). s.issued) states
+
+abbrev pub watched_in : List State → List ℕ
+watched_in states = map (λ (s : State). s.reach.place) states
+
+abbrev pub earliest_in : List State → List ℕ
+earliest_in states = map (λ (s : State). s.reach.earliest) states
+
+-- these states, and these operations in the buckets
+abbrev pub progress_with : List State → (ℕ → List ℕ) → Progress
+progress_with states bucket = record {
+  issued = λ j. slice_index_or (issued_in states) j None;
+  watch = λ j. slice_index (watched_in states) j;
+  earliest = λ j. slice_index (earliest_in states) j;
+  bucket = bucket;
 }
+
+abbrev pub issued_list : Waiting → List (Option ℕ)
+issued_list w = issued_in w.states.items
+
+abbrev pub watch_list : Waiting → List ℕ
+watch_list w = watched_in w.states.items
+
+abbrev pub earliest_list : Waiting → List ℕ
+earliest_list w = earliest_in w.states.items
+
+abbrev pub progress_of : Waiting → Progress
+progress_of w = progress_with w.states.items (bucket_of w.wheel)
 
 -- the tables have their lengths
 pub record IsSized (e : Edges) (w : Waiting) : Type 0 where
   pub starts : length e.starts.items ≡ length e.heads.items + 1
-  pub issued : length w.issued.items ≡ length e.heads.items
-  pub watch : length w.watch.items ≡ length e.heads.items
-  pub earliest : length w.earliest.items ≡ length e.heads.items
-  pub wheel : length w.wheel.items ≡ 32
+  pub states : length w.states.items ≡ length e.heads.items
+  pub links : length w.wheel.behind.items ≡ length e.heads.items

@@ -4,6 +4,7 @@ use Rattle.iloc_text.specs.declared.op.Op.{Op}
 use Rattle.iloc_text.specs.declared.file.Block.{Block}
 use Rattle.iloc_text.specs.declared.fault.ReadFault.{ReadFault}
 use Rattle.iloc_text.specs.declared.fault.ReadFault.TheVariants.{InputTooLong, BadLine, NumberTooLarge, TooManyBlocks, TooManyOperations, NoMemory}
+use Rattle.iloc_text.specs.declared.limits.TheConstants.{MAX_BLOCKS, MAX_OPS}
 
 -- a block without operations stands behind the others
 abbrev pub opened : Option (List ℕ) → List Block → List Block
@@ -36,8 +37,8 @@ last_ops (b ∷ c ∷ bs) = last_ops (c ∷ bs)
 
 -- neither too many blocks, nor too many operations in the last one
 pub record AreWithin (blocks : List Block) : Type 0 where
-  pub count : length blocks ≤ 65535
-  pub last : length (last_ops blocks) ≤ 10000
+  pub count : length blocks ≤ MAX_BLOCKS
+  pub last : length (last_ops blocks) ≤ MAX_OPS
 
 -- What comes of a step that makes these blocks wanted, on this line: at its end `Stand` holds of them.
 abbrev pub Grows : (List Block → Type 0) → List Block → ℕ → Result (Unit {0}) ReadFault → Type 0
@@ -45,6 +46,6 @@ Grows Stand wanted line (Ok done) = Stand wanted
 Grows Stand wanted line (Err InputTooLong) = ⊥
 Grows Stand wanted line (Err (BadLine n)) = ⊥
 Grows Stand wanted line (Err (NumberTooLarge n)) = ⊥
-Grows Stand wanted line (Err (TooManyBlocks n)) = (n ≡ line) × (65535 < length wanted)
-Grows Stand wanted line (Err (TooManyOperations n)) = (n ≡ line) × (length wanted ≤ 65535) × (10000 < length (last_ops wanted))
+Grows Stand wanted line (Err (TooManyBlocks n)) = (n ≡ line) × (MAX_BLOCKS < length wanted)
+Grows Stand wanted line (Err (TooManyOperations n)) = (n ≡ line) × (length wanted ≤ MAX_BLOCKS) × (MAX_OPS < length (last_ops wanted))
 Grows Stand wanted line (Err NoMemory) = Unit {0}

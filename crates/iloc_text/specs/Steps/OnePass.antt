@@ -2,9 +2,9 @@
 use Rattle.std.specs.Prelude.{◌≡◌, ℕ, Bool, true, false, Option, Some, None, List, ◌∷◌, ◌++◌}
 use Rattle.std.specs.Borrow.{Bor}
 use Rattle.iloc_text.specs.declared.op.Op.{Op}
-use Rattle.iloc_text.specs.declared.opcode.Opcode.{Opcode}
+use Rattle.iloc_text.specs.declared.forms.Opcode.{Opcode}
 use Rattle.iloc_text.specs.Steps.Lines.{lines_of, lines_left}
-use Rattle.iloc_text.specs.Steps.Opcodes.{opcode_text}
+use Rattle.iloc_text.specs.Forms.{opcode_text}
 use Rattle.iloc_text.specs.Steps.Scan.{after_blanks, called_at, optional_label_at, is_end}
 
 -- an opcode stands at the front, and then what belongs behind it; or nothing is taken

@@ -4,13 +4,15 @@ use Rattle.std.specs.List.{list_all}
 use Rattle.std.specs.Char.{is_ascii_digit, is_ascii_alphabetic}
 use Rattle.iloc_text.specs.declared.op.Reg.{Reg}
 use Rattle.iloc_text.specs.declared.op.Op.{Op}
-use Rattle.iloc_text.specs.declared.opcode.Opcode.{Opcode}
-use Rattle.iloc_text.specs.Forms.{Lead, Value, Operand, numbers}
-use Rattle.iloc_text.specs.Forms.Lead.{space, comma, arrow}
-use Rattle.iloc_text.specs.Forms.Value.{register, number}
-use Rattle.iloc_text.specs.Forms.Operand.{◌▹◌}
+use Rattle.iloc_text.specs.declared.forms.Opcode.{Opcode}
+use Rattle.iloc_text.specs.declared.forms.Lead.{Lead}
+use Rattle.iloc_text.specs.declared.forms.Value.{Value}
+use Rattle.iloc_text.specs.declared.forms.Operand.{Operand}
+use Rattle.iloc_text.specs.Forms.{operands, number_of, op_of}
+use Rattle.iloc_text.specs.declared.forms.Lead.TheVariants.{Space, Comma, Arrow}
+use Rattle.iloc_text.specs.declared.forms.Value.TheVariants.{Use, Definition, Constant}
 use Rattle.iloc_text.specs.Grammar.{is_blank, is_word_byte}
-use Rattle.iloc_text.specs.Steps.Opcodes.{opcode_of, op_of, operands_of}
+use Rattle.iloc_text.specs.Steps.Opcodes.{opcode_of, operands_of}
 
 infixl 10 ◌>>=◌
 abbrev pub ◌>>=◌ : {A B : Type 0} → Option A → (A → Option B) → Option B
@@ -66,14 +68,14 @@ abbrev pub word_of : List ℕ → List ℕ
 word_of bytes = take (length bytes - length (after_word bytes)) bytes
 
 abbrev pub lead_at : Lead → List ℕ → Option (List ℕ)
-lead_at space bytes = some_blanks_at bytes
-lead_at comma bytes = comma_at bytes
-lead_at arrow bytes = arrow_at bytes
+lead_at Space bytes = some_blanks_at bytes
+lead_at Comma bytes = comma_at bytes
+lead_at Arrow bytes = arrow_at bytes
 
 -- the number of a value of this kind
 abbrev pub value_at : Value → List ℕ → Option (ℕ × List ℕ)
-value_at (register r) bytes = register_at bytes >>= (λ found. Some (found.0.0, found.1))
-value_at (number n) bytes = number_at bytes
+value_at (Constant n) bytes = number_at bytes
+value_at _ bytes = register_at bytes >>= (λ found. Some (found.0.0, found.1))
 
 -- the number of a value of this kind, and the numbers behind it
 unfoldable pub value_then : Value → (List ℕ → Option (List ℕ × List ℕ)) → List ℕ → Option (List ℕ × List ℕ)
@@ -85,7 +87,7 @@ value_then value more bytes = do
 -- the numbers of operands that are as these but for their numbers
 abbrev pub operands_at : List Operand → List ℕ → Option (List ℕ × List ℕ)
 operands_at [] bytes = Some ([], bytes)
-operands_at (lead ▹ value ∷ more) bytes = lead_at lead bytes >>= value_then value (operands_at more)
+operands_at (o ∷ more) bytes = lead_at o.lead bytes >>= value_then o.value (operands_at more)
 
 -- an operation of which the opcode was read
 unfoldable pub called_at : Opcode → List ℕ → Option (Op × List ℕ)
@@ -139,7 +141,7 @@ line_at bytes = do
 
 -- no number was capped
 abbrev pub is_within_limit : Op → Bool
-is_within_limit op = list_all (λ n. nat_lt n 2147483648) (numbers op)
+is_within_limit op = list_all (λ o. nat_lt (number_of o) 2147483648) (operands op)
 
 abbrev pub is_within : Option Op → Bool
 is_within None = true

@@ -6,6 +6,7 @@ use Rattle.iloc_text.specs.Registers.{defined}
 use Rattle.iloc_meaning.specs.declared.outcome.Outcome.{Outcome}
 use Rattle.iloc_meaning.specs.declared.outcome.Outcome.TheVariants.{Finished, Fault}
 use Rattle.iloc_meaning.specs.Address.{is_good}
+use Rattle.iloc_meaning.specs.declared.memory.TheConstants.{WORDS}
 use Rattle.iloc_meaning.specs.Memory.{word_at}
 use Rattle.iloc_meaning.specs.Registers.{value_of}
 use Rattle.iloc_meaning.specs.Effect.{effect}
@@ -32,8 +33,8 @@ AllLand c (e ∷ earlier) = (e.due < c) × Lands e.executed × AllLand c earlier
 
 -- what is due before cycle c is written, and the rest is under way
 pub record Follows (memory : List ℤ) (c : ℕ) (log : List Issued) (machine : Machine) : Type 0 where
-  pub size : length memory ≡ 16384
-  pub same_size : length machine.memory.words ≡ 16384
+  pub size : length memory ≡ WORDS
+  pub same_size : length machine.memory.words ≡ WORDS
   pub registers : (r : Reg) → value_of machine.registers r ≡ register_in (landed c log) r
   pub words : (a : ℕ) → IsTrue (is_good (pos a)) → word_at machine.memory.words a ≡ word_in memory (landed c log) a
   pub under_way : AreUnderWay c log machine.wheel

@@ -3,7 +3,7 @@ use Rattle.std.specs.Prelude.{ℕ, ◌==◌, if◌then◌else◌, Option, Some, 
 use Rattle.iloc_text.specs.declared.op.Reg.{Reg}
 use Rattle.iloc_text.specs.Registers.{defined}
 use Rattle.iloc_meaning.specs.declared.effect.Effect.{Effect}
-use Rattle.iloc_meaning.specs.declared.effect.Effect.TheVariants.{Faults, Gives, Writes, Emits, Nothing}
+use Rattle.iloc_meaning.specs.declared.effect.Effect.TheVariants.{Gives, Writes}
 use Rattle.iloc_meaning.specs.Address.{is_good}
 use Rattle.iloc_meaning.specs.Trace.{Executed}
 use Rattle.iloc_timed.specs.declared.wheel.Pending.{Pending}
@@ -16,11 +16,9 @@ sent_to (Some r) value = Some (Register r value)
 
 -- what an effect sends on its way, where the operation defines this register
 abbrev pub sent_by : Option Reg → Effect → Option Pending
-sent_by register Faults = None
 sent_by register (Gives result) = sent_to register result
 sent_by register (Writes address word) = Some (Word address word)
-sent_by register (Emits word) = None
-sent_by register Nothing = None
+sent_by register _ = None
 
 -- what something that was executed sends on its way
 abbrev pub sent : Executed → Option Pending

@@ -9,4 +9,6 @@ returns c =
     c.in_ok-subcommand-2.ensures in
     let three = more_command _ _ _ _ c.in_ok-subcommand-3.field-0 two c.in_ok-schedule_command.ensures
     c.in_ok-subcommand-3.ensures in
-    if_more_command _ _ _ _ c.subcommand-4.result three c.in_ok-counts_command.ensures c.subcommand-4.ensures
+    let four = more_command _ _ _ _ c.in_ok-subcommand-4.field-0 three c.in_ok-counts_command.ensures
+    c.in_ok-subcommand-4.ensures in
+    if_more_command _ _ _ _ c.subcommand-5.result four c.in_ok-explain_command.ensures c.subcommand-5.ensures

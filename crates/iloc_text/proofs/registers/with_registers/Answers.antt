@@ -1,7 +1,7 @@
 use Rattle.std.proofs.Common.{◌≡◌, [], ◌∷◌, ◌-◌, length, take, get_or, unwrap_or, ap, sym, ◌∙◌}
 use Rattle.std.proofs.lemmas.Option.{unwrap_or-slice_get}
 use Rattle.iloc_text.specs.Registers.{used}
-use Rattle.iloc_text.proofs.Renaming.{at_most_two, by_places}
+use Rattle.iloc_text.proofs.Renaming.{at_most_two, by_places, used-placed, placed_as_renamed}
 use Rattle.iloc_text.proofs.registers.with_registers.Goals as goal
 
 places : (c : goal.After-with_operands) → c.args.uses.now ≡ take (length (used c.args.op.now))
@@ -18,7 +18,8 @@ places c =
     rw (left, right) (by_places uses dest _ c.requires (at_most_two c.args.op.now))
 
 pub returns-clause-renamed : goal.returns-clause-renamed
-returns-clause-renamed c = λ new same. c.with_operands.ensures.renamed new (same ∙ places c)
+returns-clause-renamed c = λ new same. c.with_operands.ensures ∙ placed_as_renamed new c.args.dest c.args.op.now _ _
+    (same ∙ places c)
 
 pub returns-clause-used : goal.returns-clause-used
-returns-clause-used c = c.with_operands.ensures.used ∙ sym (places c)
+returns-clause-used c = ap used c.with_operands.ensures ∙ used-placed c.args.dest _ _ c.args.op.now ∙ sym (places c)

@@ -17,7 +17,7 @@ returns-clause-partial c =
     let uses : CoversUses lat ops graph j = λ r held. use_covered lat ops (graph_of c.add_uses.new.self) graph j r grows
     (c.in_ok-add_uses.ensures.covers r held) in
     let same_starts : c.add_memory.new.self.starts.items ≡ c.args.self.now.starts.items =
-    ap (λ (v : Vec ℕ). v.items) (c.add_memory.ensures.starts ∙ c.add_uses.ensures.starts) in
+    ap (λ (v : Vec ℕ). v.items) (c.add_memory.ensures.frame.starts ∙ c.add_uses.ensures.frame.starts) in
     let size : length c.add_memory.new.self.starts.items ≡ j + 1 = ap (length {A = ℕ}) same_starts
     ∙ c.requires.starts in
     let starts = starts_pushed c.add_memory.new.self.starts.items c.push.new.self.items c.len.result j

@@ -22,8 +22,7 @@ loop-i-preserved c =
           (adds_more (take k xs) _ (graph_of c.args.self.now) (graph_of c.loop-i.self) (graph_of c.add.new.self)
           c.args.to c.args.delay c.loop-i.invariant.adds c.in_ok-add.ensures.adds);
       count = omega (arith, c.in_ok-add.ensures.count);
-      heads = omega arith;
-      starts = cc;
+      frame = record { heads = omega arith; starts = cc };
     }
 
 pub returns-clause-adds : goal.returns-clause-adds

@@ -1,6 +1,6 @@
 use Rattle.std.proofs.Common.{◌≡◌, ◌+◌, length, take}
 use Rattle.iloc_sched.specs.Steps.Members.{In}
-use Rattle.iloc_sched.specs.Steps.PartialGraph.{AddsFrom}
+use Rattle.iloc_sched.specs.Steps.PartialGraph.{KeepsFrame, AddsFrom}
 use Rattle.iloc_sched.specs.Steps.Views.{graph_of}
 use Rattle.iloc_sched.proofs.edges.Edges.add_each.Given as goal
 
@@ -8,6 +8,5 @@ abbrev pub invariant-loop-i : goal.invariant-loop-i
 invariant-loop-i l = record {
   adds : AddsFrom (In (take l.i-index l.from)) (graph_of l.fn.self) (graph_of l.self) l.to l.delay;
   count : length l.self.edges.items ≡ length l.fn.self.edges.items + l.i-index;
-  heads : length l.self.heads.items ≡ length l.fn.self.heads.items;
-  starts : l.self.starts ≡ l.fn.self.starts;
+  frame : KeepsFrame l.fn.self l.self;
 }

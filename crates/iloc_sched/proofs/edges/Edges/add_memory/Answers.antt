@@ -20,28 +20,28 @@ kind_read ops j k q d there read is = ap kind (get_or_default ops j Nop d there)
 pub returns-in-Load-clause-grows : goal.returns-in-Load-clause-grows
 returns-in-Load-clause-grows c =
     let kind_is : kind (op_at c.args.ops.now c.args.j) ≡ K.Load =
-    kind_read c.args.ops.now c.args.j c.of.result K.Load _ c.requires.there c.of.ensures c.in-Load.is in
+    kind_read c.args.ops.now c.args.j c.of.result K.Load _ c.requires.next.there c.of.ensures c.in-Load.is in
     on_ok_weaker c.add_from.result
-    (λ adds. (memory_load c.args.latencies.now c.args.ops.now c.args.lasts.now c.args.j c.requires.lasts
-    c.requires.there (graph_of c.args.self.now) (graph_of c.add_from.new.self) c.requires.partial kind_is adds).0)
+    (λ adds. (memory_load c.args.latencies.now c.args.ops.now c.args.lasts.now c.args.j c.requires.next.known
+    c.requires.next.there (graph_of c.args.self.now) (graph_of c.add_from.new.self) c.requires.partial kind_is adds).0)
     c.add_from.ensures.adds
 
 pub returns-in-Load-clause-covers : goal.returns-in-Load-clause-covers
 returns-in-Load-clause-covers c =
     let kind_is : kind (op_at c.args.ops.now c.args.j) ≡ K.Load =
-    kind_read c.args.ops.now c.args.j c.of.result K.Load _ c.requires.there c.of.ensures c.in-Load.is in
+    kind_read c.args.ops.now c.args.j c.of.result K.Load _ c.requires.next.there c.of.ensures c.in-Load.is in
     on_ok_weaker c.add_from.result
-    (λ adds. (memory_load c.args.latencies.now c.args.ops.now c.args.lasts.now c.args.j c.requires.lasts
-    c.requires.there (graph_of c.args.self.now) (graph_of c.add_from.new.self) c.requires.partial kind_is adds).1)
+    (λ adds. (memory_load c.args.latencies.now c.args.ops.now c.args.lasts.now c.args.j c.requires.next.known
+    c.requires.next.there (graph_of c.args.self.now) (graph_of c.add_from.new.self) c.requires.partial kind_is adds).1)
     c.add_from.ensures.adds
 
 pub returns-in_ok-add_from-in-Output-clause-grows : goal.returns-in_ok-add_from-in-Output-clause-grows
 returns-in_ok-add_from-in-Output-clause-grows c =
     let kind_is : kind (op_at c.args.ops.now c.args.j) ≡ K.Output =
-    kind_read c.args.ops.now c.args.j c.of.result K.Output _ c.requires.there c.of.ensures c.in-Output.is in
+    kind_read c.args.ops.now c.args.j c.of.result K.Output _ c.requires.next.there c.of.ensures c.in-Output.is in
     on_ok_weaker c.add_from-in-Output-2.result
-    (λ adds. (memory_output c.args.latencies.now c.args.ops.now c.args.lasts.now c.args.j c.requires.lasts
-    c.requires.there (graph_of c.args.self.now) (graph_of c.add_from-in-Output.new.self)
+    (λ adds. (memory_output c.args.latencies.now c.args.ops.now c.args.lasts.now c.args.j c.requires.next.known
+    c.requires.next.there (graph_of c.args.self.now) (graph_of c.add_from-in-Output.new.self)
     (graph_of c.add_from-in-Output-2.new.self) c.requires.partial kind_is c.in_ok-add_from-in-Output.ensures.adds
     adds).0)
     c.add_from-in-Output-2.ensures.adds
@@ -49,10 +49,10 @@ returns-in_ok-add_from-in-Output-clause-grows c =
 pub returns-in_ok-add_from-in-Output-clause-covers : goal.returns-in_ok-add_from-in-Output-clause-covers
 returns-in_ok-add_from-in-Output-clause-covers c =
     let kind_is : kind (op_at c.args.ops.now c.args.j) ≡ K.Output =
-    kind_read c.args.ops.now c.args.j c.of.result K.Output _ c.requires.there c.of.ensures c.in-Output.is in
+    kind_read c.args.ops.now c.args.j c.of.result K.Output _ c.requires.next.there c.of.ensures c.in-Output.is in
     on_ok_weaker c.add_from-in-Output-2.result
-    (λ adds. (memory_output c.args.latencies.now c.args.ops.now c.args.lasts.now c.args.j c.requires.lasts
-    c.requires.there (graph_of c.args.self.now) (graph_of c.add_from-in-Output.new.self)
+    (λ adds. (memory_output c.args.latencies.now c.args.ops.now c.args.lasts.now c.args.j c.requires.next.known
+    c.requires.next.there (graph_of c.args.self.now) (graph_of c.add_from-in-Output.new.self)
     (graph_of c.add_from-in-Output-2.new.self) c.requires.partial kind_is c.in_ok-add_from-in-Output.ensures.adds
     adds).1)
     c.add_from-in-Output-2.ensures.adds
@@ -60,10 +60,10 @@ returns-in_ok-add_from-in-Output-clause-covers c =
 pub returns-in_ok-add_from-in-Store-2-clause-grows : goal.returns-in_ok-add_from-in-Store-2-clause-grows
 returns-in_ok-add_from-in-Store-2-clause-grows c =
     let kind_is : kind (op_at c.args.ops.now c.args.j) ≡ K.Store =
-    kind_read c.args.ops.now c.args.j c.of.result K.Store _ c.requires.there c.of.ensures c.in-Store.is in
+    kind_read c.args.ops.now c.args.j c.of.result K.Store _ c.requires.next.there c.of.ensures c.in-Store.is in
     on_ok_weaker c.add_each.result
-    (λ adds. (memory_store c.args.latencies.now c.args.ops.now c.args.lasts.now c.args.j c.requires.lasts
-    c.requires.there (graph_of c.args.self.now) (graph_of c.add_from-in-Store.new.self)
+    (λ adds. (memory_store c.args.latencies.now c.args.ops.now c.args.lasts.now c.args.j c.requires.next.known
+    c.requires.next.there (graph_of c.args.self.now) (graph_of c.add_from-in-Store.new.self)
     (graph_of c.add_from-in-Store-2.new.self) (graph_of c.add_each.new.self) c.requires.partial kind_is
     c.in_ok-add_from-in-Store.ensures.adds c.in_ok-add_from-in-Store-2.ensures.adds
     (subst (λ xs. AddsFrom (In xs) (graph_of c.add_from-in-Store-2.new.self) (graph_of c.add_each.new.self) c.args.j
@@ -73,10 +73,10 @@ returns-in_ok-add_from-in-Store-2-clause-grows c =
 pub returns-in_ok-add_from-in-Store-2-clause-covers : goal.returns-in_ok-add_from-in-Store-2-clause-covers
 returns-in_ok-add_from-in-Store-2-clause-covers c =
     let kind_is : kind (op_at c.args.ops.now c.args.j) ≡ K.Store =
-    kind_read c.args.ops.now c.args.j c.of.result K.Store _ c.requires.there c.of.ensures c.in-Store.is in
+    kind_read c.args.ops.now c.args.j c.of.result K.Store _ c.requires.next.there c.of.ensures c.in-Store.is in
     on_ok_weaker c.add_each.result
-    (λ adds. (memory_store c.args.latencies.now c.args.ops.now c.args.lasts.now c.args.j c.requires.lasts
-    c.requires.there (graph_of c.args.self.now) (graph_of c.add_from-in-Store.new.self)
+    (λ adds. (memory_store c.args.latencies.now c.args.ops.now c.args.lasts.now c.args.j c.requires.next.known
+    c.requires.next.there (graph_of c.args.self.now) (graph_of c.add_from-in-Store.new.self)
     (graph_of c.add_from-in-Store-2.new.self) (graph_of c.add_each.new.self) c.requires.partial kind_is
     c.in_ok-add_from-in-Store.ensures.adds c.in_ok-add_from-in-Store-2.ensures.adds
     (subst (λ xs. AddsFrom (In xs) (graph_of c.add_from-in-Store-2.new.self) (graph_of c.add_each.new.self) c.args.j

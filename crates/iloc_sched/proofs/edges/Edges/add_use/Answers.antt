@@ -4,7 +4,7 @@ use Rattle.std.proofs.lemmas.Result.{on_ok_weaker}
 use Rattle.iloc_text.specs.declared.op.Op.TheVariants.{Nop}
 use Rattle.iloc_meaning.specs.Trace.{op_at}
 use Rattle.iloc_timed.specs.Latency.{latency}
-use Rattle.iloc_sched.specs.Steps.Lasts.{definer}
+use Rattle.iloc_sched.specs.Steps.ByRegister.{number_at}
 use Rattle.iloc_sched.specs.Steps.PartialGraph.{AddsFrom, Grows, CoversUse}
 use Rattle.iloc_sched.specs.Steps.Views.{graph_of}
 use Rattle.iloc_sched.proofs.Steps.Covering.{definer_there}
@@ -20,17 +20,17 @@ Both c =
 both : (c : goal.After-add) → Both c
 both c =
     let ops = c.args.ops.now in
-    let at : definer c.args.lasts.now.definers c.args.register.0 ≡ Some c.in-Some.i = sym c.get.ensures
+    let at : number_at c.args.lasts.now.definers c.args.register.0 ≡ Some c.in-Some.i = sym c.get.ensures
     ∙ c.in-Some.is in
     let earlier : c.in-Some.i < c.args.j =
-    (definer_there c.args.latencies.now ops c.args.j c.args.lasts.now c.requires.lasts c.args.register c.in-Some.i
+    (definer_there c.args.latencies.now ops c.args.j c.args.lasts.now c.requires.next.known c.args.register c.in-Some.i
     at).0 in
     let there : c.in-Some.i < length ops = omega arith in
     let long : c.latency.result ≡ latency c.args.latencies.now (op_at ops c.in-Some.i) = c.latency.ensures.latency
     ∙ ap (latency c.args.latencies.now) (get_or_default ops c.in-Some.i _ Nop there) in
-    adds_use c.args.latencies.now ops c.args.lasts.now c.args.j c.requires.lasts c.requires.there
+    adds_use c.args.latencies.now ops c.args.lasts.now c.args.j c.requires.next.known c.requires.next.there
     (graph_of c.args.self.now) (graph_of c.add.new.self) c.args.register c.in-Some.i c.latency.result
-    c.requires.renamed c.requires.used c.requires.partial at long
+    c.requires.next.renamed c.requires.used c.requires.partial at long
 
 pub returns-in-Some-clause-grows : goal.returns-in-Some-clause-grows
 returns-in-Some-clause-grows c = on_ok_weaker c.add.result (λ adds. (both c adds).0) c.add.ensures.adds

@@ -26,8 +26,7 @@ loop-register-preserved c =
           c.args.j (take k xs) _ c.in_ok-add_use.ensures.grows c.loop-register.invariant.covers
           c.in_ok-add_use.ensures.covers);
       count = omega (arith, c.in_ok-add_use.ensures.count);
-      heads = omega arith;
-      starts = cc;
+      frame = record { heads = omega arith; starts = cc };
     }
 
 pub returns-clause-covers : goal.returns-clause-covers
@@ -36,5 +35,5 @@ returns-clause-covers c =
     c.as_slice-register-items.result.now
     (take_all c.loop-register.register-index c.as_slice-register-items.result.now (omega arith))
     (c.as_slice-register-items.ensures.value ∙ c.uses-registers.ensures
-    ∙ ap used (get_or_default c.args.ops.now c.args.j _ Nop c.requires.there))
+    ∙ ap used (get_or_default c.args.ops.now c.args.j _ Nop c.requires.next.there))
     c.loop-register.invariant.covers

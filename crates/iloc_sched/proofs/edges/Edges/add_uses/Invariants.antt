@@ -1,7 +1,7 @@
-use Rattle.std.proofs.Common.{◌≡◌, ◌+◌, ◌≤◌, length, take}
+use Rattle.std.proofs.Common.{◌+◌, ◌≤◌, length, take}
 use Rattle.iloc_text.specs.declared.op.Reg.{Reg}
 use Rattle.iloc_sched.specs.Steps.Members.{In}
-use Rattle.iloc_sched.specs.Steps.PartialGraph.{Grows, CoversUse}
+use Rattle.iloc_sched.specs.Steps.PartialGraph.{KeepsFrame, Grows, CoversUse}
 use Rattle.iloc_sched.specs.Steps.Views.{graph_of}
 use Rattle.iloc_sched.proofs.edges.Edges.add_uses.Given as goal
 
@@ -11,6 +11,5 @@ invariant-loop-register l = record {
   covers : (r : Reg) → In (take l.register-index l.register-items) r
       → CoversUse l.latencies l.ops (graph_of l.self) l.j r;
   count : length l.self.edges.items ≤ length l.fn.self.edges.items + l.register-index;
-  heads : length l.self.heads.items ≡ length l.fn.self.heads.items;
-  starts : l.self.starts ≡ l.fn.self.starts;
+  frame : KeepsFrame l.fn.self l.self;
 }

@@ -1,17 +1,22 @@
-use Rattle.std.proofs.Common.{refl, Some, rules}
-use Rattle.std.specs.Vec.{with_item}
-use Rattle.iloc_sched.proofs.Steps.Passing.{started}
+use Rattle.std.proofs.Common.{length, ap, ◌∙◌}
+use Rattle.iloc_sched.specs.declared.wheel.Wheel.{Wheel}
+use Rattle.iloc_sched.proofs.Steps.Passing.{started, places_as_before}
 use Rattle.iloc_sched.proofs.waiting.Waiting.issue.Goals as goal
 
 pub loop-at-init : goal.loop-at-init
 loop-at-init c =
-    let begun = started c.args.edges.now c.args.self.now c.args.i c.args.cycle
-    (with_item c.args.self.now.issued c.args.i (Some c.args.cycle)) c.index-at.result.now c.requires.graph
-    c.requires.sized c.requires.waits c.requires.can refl c.index-at.ensures in
+    let begun = started c.args.edges.now c.args.self.now c.mark.new.self c.args.i c.args.cycle c.requires.graph
+    c.requires.sized c.requires.waits c.requires.can c.mark.ensures.issued c.mark.ensures.watch c.mark.ensures.earliest
+    c.mark.ensures.wheel in
     record {
-      waits = begun.0;
-      from = begun.1;
-      issued = refl;
-      keeps = λ j done. (refl, refl);
-      sized = search rules;
+      waits = rw c.last_from-at.ensures begun.0;
+      from = rw c.last_from-at.ensures begun.1;
+      issued = c.mark.ensures.issued;
+      keeps = places_as_before c.args.edges.now c.args.self.now c.mark.new.self c.mark.ensures.watch
+          c.mark.ensures.earliest;
+      sized = record {
+        starts = c.requires.sized.starts;
+        states = c.mark.ensures.size ∙ c.requires.sized.states;
+        links = ap (λ (wheel : Wheel). length wheel.behind.items) c.mark.ensures.wheel ∙ c.requires.sized.links;
+      };
     }

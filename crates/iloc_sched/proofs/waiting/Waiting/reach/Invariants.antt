@@ -8,7 +8,6 @@ invariant-loop-place l = record {
   reaches : Reaches (graph_of l.edges) (progress_of l.self).issued l.j l.place l.earliest;
   on : (progress_of l.self).watch l.j ≤ l.place;
   end : l.end ≤ (graph_of l.edges).count;
-  small : l.earliest ≤ 1000016;
 }
 
 abbrev pub decreases-loop-place : goal.decreases-loop-place

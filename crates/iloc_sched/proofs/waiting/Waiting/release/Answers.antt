@@ -1,51 +1,54 @@
-use Rattle.std.proofs.Common.{◌≡◌, ◌%◌, ◌<◌, length, refl, sym, ap, subst, ◌∙◌, arith}
-use Rattle.std.specs.Vec.{with_item}
-use Rattle.iloc_sched.specs.Steps.Members.{In, AreApart}
-use Rattle.iloc_sched.specs.Steps.Views.{graph_of, progress_of}
+use Rattle.std.proofs.Common.{◌≡◌, ◌<◌, length, ap, sym, subst, ◌∙◌, arith}
+use Rattle.iloc_sched.specs.declared.candidate.Candidate.{Candidate}
+use Rattle.iloc_sched.specs.declared.waiting.Waiting.{Waiting}
+use Rattle.iloc_sched.specs.Steps.Changes.{HasNone}
+use Rattle.iloc_sched.specs.Steps.Queued.{candidates}
+use Rattle.iloc_sched.specs.Steps.SoFar.{IsReleasing}
 use Rattle.iloc_sched.proofs.PriorityFacts.{length-priorities}
-use Rattle.iloc_sched.proofs.Steps.Reads.{bucket_read}
-use Rattle.iloc_sched.proofs.Steps.Admitting.{due_is_new}
-use Rattle.iloc_sched.proofs.Steps.Issued.{released}
+use Rattle.iloc_sched.proofs.Steps.Issued.{due_linked, taken_there, taken_new, releasing_more, released}
 use Rattle.iloc_sched.proofs.waiting.Waiting.release.Goals as goal
 
-pub admit-requires-clause-sized : goal.admit-requires-clause-sized
-admit-requires-clause-sized c =
-    ap length c.requires.plan.priorities ∙ length-priorities c.args.plan.now.latencies c.args.plan.now.ops.items
+pub take-requires : goal.take-requires
+take-requires c =
+    due_linked c.args.plan.now c.args.self.now c.loop-j.self c.args.queues.now c.loop-j.queues c.args.cycle
+    c.requires.plan c.requires.under_way c.loop-j.invariant
 
-pub admit-requires-clause-within : goal.admit-requires-clause-within
-admit-requires-clause-within c = λ j held.
-    let size : length c.args.self.now.wheel.items ≡ 32 = c.requires.under_way.sized.wheel in
-    let is : c.deref.result.now ≡ (progress_of c.args.self.now).bucket (c.args.cycle % 32) = c.deref.ensures.value
-    ∙ bucket_read c.args.self.now.wheel.items (c.args.cycle % 32) c.index.result.now
-    (omega arith) c.index.ensures in
-    subst (λ n. j < n) c.requires.plan.graph.size (c.requires.under_way.waits.only (c.args.cycle % 32) j (omega arith)
-    (subst (λ js. In js j) is held)).0
+pub class_of-class-requires : goal.class_of-class-requires
+class_of-class-requires c =
+    taken_there c.args.plan.now c.args.self.now c.loop-j.self c.args.queues.now c.loop-j.queues c.args.cycle
+    c.requires.plan c.requires.under_way c.loop-j.invariant c.take.new.self c.in-Some.j c.in-Some.ensures.taken
 
-pub admit-requires-clause-apart : goal.admit-requires-clause-apart
-admit-requires-clause-apart c =
-    let size : length c.args.self.now.wheel.items ≡ 32 = c.requires.under_way.sized.wheel in
-    let is : c.deref.result.now ≡ (progress_of c.args.self.now).bucket (c.args.cycle % 32) = c.deref.ensures.value
-    ∙ bucket_read c.args.self.now.wheel.items (c.args.cycle % 32) c.index.result.now
-    (omega arith) c.index.ensures in
-    subst AreApart (sym is) (c.requires.under_way.waits.apart (c.args.cycle % 32) (omega arith))
+pub candidate-candidate-requires : goal.candidate-candidate-requires
+candidate-candidate-requires c =
+    let p = c.args.plan.now in
+    let there : c.in-Some.j < length p.ops.items =
+    taken_there p c.args.self.now c.loop-j.self c.args.queues.now c.loop-j.queues c.args.cycle
+    c.requires.plan c.requires.under_way c.loop-j.invariant c.take.new.self c.in-Some.j c.in-Some.ensures.taken in
+    let size : length p.priorities.items ≡ length p.ops.items =
+    ap length c.requires.plan.priorities ∙ length-priorities p.latencies p.ops.items in
+    omega arith
 
-pub admit-requires-clause-new : goal.admit-requires-clause-new
-admit-requires-clause-new c = λ j k held.
-    let size : length c.args.self.now.wheel.items ≡ 32 = c.requires.under_way.sized.wheel in
-    let is : c.deref.result.now ≡ (progress_of c.args.self.now).bucket (c.args.cycle % 32) = c.deref.ensures.value
-    ∙ bucket_read c.args.self.now.wheel.items (c.args.cycle % 32) c.index.result.now
-    (omega arith) c.index.ensures in
-    due_is_new c.args.plan.now.ops.items c.args.plan.now.priorities.items (graph_of c.args.plan.now.edges)
-    (progress_of c.args.self.now) c.args.cycle c.args.queues.now
-    c.requires.plan.graph.is_graph c.requires.under_way.waits c.requires.under_way.queued j k
-    (subst (λ js. In js j) is held)
+pub insert-requires : goal.insert-requires
+insert-requires c =
+    subst (λ (d : Candidate). HasNone (candidates c.loop-j.queues c.class_of-class.result) d.number)
+    (sym c.candidate-candidate.ensures)
+    (taken_new c.args.plan.now c.args.self.now c.loop-j.self c.args.queues.now c.loop-j.queues c.args.cycle
+    c.requires.plan c.requires.under_way c.loop-j.invariant c.take.new.self c.in-Some.j c.in-Some.ensures.taken
+    c.class_of-class.result)
+
+pub loop-j-preserved : goal.loop-j-preserved
+loop-j-preserved c =
+    releasing_more c.args.plan.now c.args.self.now c.loop-j.self c.args.queues.now c.loop-j.queues c.args.cycle
+    c.requires.plan c.requires.under_way c.loop-j.invariant c.take.new.self c.in-Some.j c.in-Some.ensures.taken
+    c.insert.new.self c.class_of-class.result c.candidate-candidate.result
+    c.in-Some.ensures.others c.in-Some.ensures.states c.in-Some.ensures.room c.class_of-class.ensures
+    c.candidate-candidate.ensures c.in_ok-insert.ensures
 
 pub returns-clause-under_way : goal.returns-clause-under_way
 returns-clause-under_way c =
-    let size : length c.args.self.now.wheel.items ≡ 32 = c.requires.under_way.sized.wheel in
-    let is : c.deref.result.now ≡ (progress_of c.args.self.now).bucket (c.args.cycle % 32) = c.deref.ensures.value
-    ∙ bucket_read c.args.self.now.wheel.items (c.args.cycle % 32) c.index.result.now
-    (omega arith) c.index.ensures in
-    released c.args.plan.now c.args.self.now c.args.queues.now c.admit.new.queues c.args.cycle c.clear.new.self
-    (with_item c.args.self.now.wheel (c.args.cycle % 32) c.clear.new.self) c.deref.result.now
-    c.requires.plan c.requires.under_way is c.in_ok-admit.ensures refl c.clear.ensures.items
+    let p = c.args.plan.now in
+    let w1 : Waiting = c.take.new.self in
+    released p c.args.self.now w1 c.args.queues.now c.loop-j.queues c.args.cycle c.requires.plan c.requires.under_way
+    (subst (λ (w : Waiting). IsReleasing p c.args.self.now w c.args.queues.now c.loop-j.queues c.args.cycle)
+    (sym c.in_default.ensures.unchanged) c.loop-j.invariant)
+    c.in_default.ensures.none

@@ -1,0 +1,52 @@
+"""What the charts share: the parts of an SVG picture, in colours that read on light and on dark ground."""
+from html import escape
+
+# Text, lines and grid stand on the page's own ground, so they are neither light nor dark.
+INK = "#7d8590"
+GRID = "#7d859055"
+# What is written into a filled box.
+ON_FILL = "#0b0f14"
+STYLE = ("text { font: 12px ui-monospace, 'DejaVu Sans Mono', Menlo, Consolas, monospace; }"
+         f" .ink {{ fill: {INK}; }} .on {{ fill: {ON_FILL}; }} .head {{ font-weight: bold; }}"
+         f" .grid {{ stroke: {GRID}; }} .axis {{ stroke: {INK}; }}")
+# No letter of the fonts above is wider.
+LETTER = 7.4
+
+
+def number(value):
+    return f"{value:.1f}".removesuffix(".0")
+
+
+def element(name, content=None, **attributes):
+    """An element; an underscore in an attribute's name stands for a hyphen."""
+    given = "".join(f' {key.rstrip("_").replace("_", "-")}="{escape(number(it) if isinstance(it, float) else str(it))}"'
+                    for key, it in attributes.items())
+    return f"<{name}{given}/>" if content is None else f"<{name}{given}>{content}</{name}>"
+
+
+def text(x, y, words, kind="ink", **attributes):
+    return element("text", escape(words), x=float(x), y=float(y), class_=kind, **attributes)
+
+
+def rectangle(x, y, width, height, fill, **attributes):
+    return element("rect", x=float(x), y=float(y), width=float(width), height=float(height), rx=2, fill=fill,
+                   **attributes)
+
+
+def line(x1, y1, x2, y2, **attributes):
+    return element("line", x1=float(x1), y1=float(y1), x2=float(x2), y2=float(y2), **attributes)
+
+
+def group(tooltip, *parts):
+    """Parts with one tooltip."""
+    return element("g", element("title", escape(tooltip)) + "".join(parts))
+
+
+def width_of(words):
+    return LETTER * len(words)
+
+
+def picture(width, height, title, parts):
+    head = (f'<svg xmlns="http://www.w3.org/2000/svg" width="{number(width)}" height="{number(height)}" '
+            f'viewBox="0 0 {number(width)} {number(height)}" role="img">')
+    return "\n".join([head, element("title", escape(title)), element("style", STYLE), *parts, "</svg>"]) + "\n"

@@ -1,0 +1,19 @@
+use Rattle.std.proofs.Common.{◌≡◌, false, sym, codes}
+use Rattle.std.specs.Str.{bytes_eq}
+use Rattle.std.proofs.lemmas.Slice.Eq.{bytes_eq-Decides}
+use Rattle.clap.specs.Words.{Text}
+use Rattle.iloc_meaning.proofs.Cases.{by_bool}
+use Rattle.iloc_args.proofs.line.task_of.Goals as goal
+
+-- two texts that differ
+apart : (name word : Text) → (word ≡ name → ⊥) → bytes_eq name word ≡ false
+apart name word other = by_bool (bytes_eq name word) (λ t. absurd (other (sym ((bytes_eq-Decides name word).0 t)))) (λ f. f)
+
+pub unreachable-requires : goal.unreachable-requires
+unreachable-requires c =
+    let run = apart (codes "run") c.args.name.now c.in_default.not-run in
+    let simulate = apart (codes "simulate") c.args.name.now c.in_default.not-simulate in
+    let schedule = apart (codes "schedule") c.args.name.now c.in_default.not-schedule in
+    let counts = apart (codes "counts") c.args.name.now c.in_default.not-counts in
+    let explain = apart (codes "explain") c.args.name.now c.in_default.not-explain in
+    rw (run, simulate, schedule, counts, explain) at c.requires

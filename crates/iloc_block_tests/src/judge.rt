@@ -1,0 +1,118 @@
+use crate::written::{Issue, block_of, build};
+use iloc_judge::same;
+use iloc_sched::schedule;
+use iloc_text::Op;
+use iloc_timed::{Latencies, Schedule};
+use std::alloc::Global;
+use std::process::Abort;
+use std::test::Fail;
+
+/// The schedule in which the operations of a text stand on their own units, one in a cycle, so many cycles
+/// apart.
+fn spread(alloc: Global, text: &[u8], apart: usize) -> Result<Schedule, Fail> {
+    let block = block_of(alloc, text)?;
+    let mut issues = Vec::new(alloc);
+    for (i, op) in block.ops.as_slice().iter().enumerate() {
+        let is_product = matches!(op, Op::Mult { .. } | Op::MultI { .. });
+        let issue: Issue = if is_product {
+            (i * apart, None, Some(i))
+        } else {
+            (i * apart, Some(i), None)
+        };
+        issues.push(issue)?;
+    }
+    Ok(build(alloc, block.ops.as_slice(), &issues)?)
+}
+
+/// Whether our schedule of a block and somebody's operations, so many cycles apart, are seen to do the
+/// same.
+fn is_same(alloc: Global, block: &[u8], theirs: &[u8], apart: usize) -> Result<bool, Fail> {
+    let latencies = Latencies::usual();
+    let ours = schedule(alloc, &block_of(alloc, block)?, &latencies)?;
+    let theirs = spread(alloc, theirs, apart)?;
+    Ok(same(alloc, &ours, &theirs, &latencies)?)
+}
+
+/// Asserts whether somebody's operations, six cycles apart, are seen to do what a block does.
+fn assert_same(
+    rt: &impl Abort,
+    alloc: Global,
+    block: &[u8],
+    theirs: &[u8],
+    expected: bool,
+) -> Result<(), Fail> {
+    let seen = is_same(alloc, block, theirs, 6)?;
+    let text = str::from_utf8(theirs)?;
+    assert_eq!(rt; seen, expected, "{text}");
+    Ok(())
+}
+
+const LOADS_AND_STORES: &[u8] = b"loadI 1024 => r1\nloadAI r1, 4 => r2\nmult r2, r2 => r3\nstoreAI r3 => r1, 8\noutput 1032\n";
+
+#[test]
+fn knows_other_names_and_places(rt: HostRuntime) -> Result<(), Fail> {
+    let alloc = rt.alloc();
+    assert_same(&rt, alloc, LOADS_AND_STORES, LOADS_AND_STORES, true)?;
+    // Other registers, one register for all words, a constant in place of a sum.
+    assert_same(&rt, alloc, LOADS_AND_STORES, b"loadI 1024 => r9\nloadAI r9, 4 => r7\nmult r7, r7 => r8\nstoreAI r8 => r9, 8\noutput 1032\n", true)?;
+    assert_same(&rt, alloc, LOADS_AND_STORES, b"loadI 1028 => r1\nload r1 => r1\nmult r1, r1 => r1\nloadI 1032 => r2\nstore r1 => r2\noutput 1032\n", true)?;
+    Ok(())
+}
+
+#[test]
+fn knows_arithmetic(rt: HostRuntime) -> Result<(), Fail> {
+    let alloc = rt.alloc();
+    let block = b"loadI 8 => r1\nload r1 => r2\nlshiftI r2, 2 => r3\naddI r3, 12 => r4\nstore r4 => r1\n";
+    assert_same(&rt, alloc, block, b"loadI 8 => r1\nload r1 => r2\nmultI r2, 4 => r3\naddI r3, 12 => r4\nstore r4 => r1\n", true)?;
+    assert_same(&rt, alloc, block, b"loadI 8 => r1\nload r1 => r2\naddI r2, 3 => r3\nmultI r3, 4 => r4\nstore r4 => r1\n", true)?;
+    assert_same(&rt, alloc, block, b"loadI 8 => r1\nload r1 => r2\nadd r2, r2 => r3\nadd r3, r3 => r4\naddI r4, 12 => r4\nstore r4 => r1\n", true)?;
+    assert_same(&rt, alloc, block, b"loadI 8 => r1\nload r1 => r2\nadd r2, r2 => r3\nadd r3, r3 => r4\naddI r4, 13 => r4\nstore r4 => r1\n", false)?;
+    Ok(())
+}
+
+#[test]
+fn tells_addresses_apart(rt: HostRuntime) -> Result<(), Fail> {
+    let alloc = rt.alloc();
+    // Two stores with one unknown base, and loads of words that lie elsewhere, in another order.
+    let block = b"loadI 8 => r1\nload r1 => r2\nstoreAI r1 => r2, 4\nstoreAI r2 => r2, 8\nloadAI r2, 12 => r3\nstore r3 => r1\n";
+    let other = b"loadI 8 => r1\nload r1 => r2\nloadAI r2, 12 => r3\nstoreAI r2 => r2, 8\nstoreAI r1 => r2, 4\nstore r3 => r1\n";
+    assert_same(&rt, alloc, block, other, true)?;
+    // The word that is loaded is one that was stored.
+    let stored = b"loadI 8 => r1\nload r1 => r2\nstoreAI r1 => r2, 4\nstoreAI r2 => r2, 8\nloadAI r2, 8 => r3\nstore r3 => r1\n";
+    let forwarded = b"loadI 8 => r1\nload r1 => r2\nstoreAI r1 => r2, 4\nstoreAI r2 => r2, 8\nstore r2 => r1\n";
+    assert_same(&rt, alloc, stored, forwarded, true)?;
+    assert_same(&rt, alloc, block, forwarded, false)?;
+    // A store to a known address stays where it is, before one to an unknown one.
+    let ordered = b"loadI 8 => r1\nload r1 => r2\nstore r1 => r1\nstore r1 => r2\n";
+    let exchanged = b"loadI 8 => r1\nload r1 => r2\nstore r1 => r2\nstore r1 => r1\n";
+    assert_same(&rt, alloc, ordered, exchanged, false)?;
+    Ok(())
+}
+
+#[test]
+fn compares_faults(rt: HostRuntime) -> Result<(), Fail> {
+    let alloc = rt.alloc();
+    // A load whose result nobody uses can fault, where its address isn't known.
+    let unknown = b"loadI 8 => r1\nload r1 => r2\nload r2 => r3\noutput 8\n";
+    assert_same(&rt, alloc, unknown, b"loadI 8 => r1\nload r1 => r2\noutput 8\n", false)?;
+    assert_same(&rt, alloc, b"output 8\n", unknown, false)?;
+    assert_same(&rt, alloc, b"loadI 8 => r1\nload r1 => r2\noutput 8\n", b"output 8\n", true)?;
+    // Whatever stands behind a fault that always comes isn't done.
+    assert_same(&rt, alloc, b"output 1\noutput 8\n", b"loadI 1 => r1\nload r1 => r2\n", true)?;
+    assert_same(&rt, alloc, b"output 1\noutput 8\n", b"output 8\n", false)?;
+    Ok(())
+}
+
+#[test]
+fn knows_wrong_ones(rt: HostRuntime) -> Result<(), Fail> {
+    let alloc = rt.alloc();
+    let outputs = b"output 4\noutput 8\n";
+    assert_same(&rt, alloc, outputs, outputs, true)?;
+    assert_same(&rt, alloc, outputs, b"output 8\noutput 4\n", false)?;
+    assert_same(&rt, alloc, outputs, b"output 4\n", false)?;
+    assert_same(&rt, alloc, LOADS_AND_STORES, b"loadI 1024 => r1\nloadAI r1, 4 => r2\nmult r2, r2 => r3\nstoreAI r3 => r1, 12\noutput 1032\n", false)?;
+    // Five cycles apart each result is there; four apart one is used a cycle too early.
+    assert_eq!(rt; is_same(alloc, LOADS_AND_STORES, LOADS_AND_STORES, 5)?, true);
+    assert_eq!(rt; is_same(alloc, LOADS_AND_STORES, LOADS_AND_STORES, 4)?, false);
+    Ok(())
+}

@@ -1,0 +1,33 @@
+use Rattle.std.proofs.Common.{◌≡◌, ℕ, ap, sym, ◌∙◌, subst, length, take, ◌<◌, arith}
+use Rattle.iloc_board.specs.declared.state.State.{State}
+use Rattle.iloc_board.specs.Core.{Core, IsWithin}
+use Rattle.iloc_board.specs.Play.{final}
+use Rattle.iloc_board.proofs.Runs.{length-costs_final, shows_more, told_more}
+use Rattle.iloc_board.proofs.Laws.{within_final}
+use Rattle.iloc_board.proofs.core_steps.play.Goals as goal
+
+pub step-requires-clause-costs : goal.step-requires-clause-costs
+step-requires-clause-costs c = ap length c.loop-step.invariant.shows.costs_are
+    ∙ (length-costs_final c.args.count (take c.loop-step.step-index c.args.steps.now) ∙ sym c.loop-step.invariant.same)
+
+pub step-requires-clause-within : goal.step-requires-clause-within
+step-requires-clause-within c = λ q.
+    let P : State → Type 0 = λ s. IsWithin c.loop-step.core.count s in
+    let Q : ℕ → Type 0 = λ n. IsWithin n ((final c.args.count (take c.loop-step.step-index c.args.steps.now)).state
+    q) in
+    subst P (sym (c.loop-step.invariant.shows.states_are q))
+    (subst Q (sym c.loop-step.invariant.same)
+    (within_final c.args.count (take c.loop-step.step-index c.args.steps.now) q))
+
+pub loop-step-preserved : goal.loop-step-preserved
+loop-step-preserved c =
+    let so_far : Core = final c.args.count (take c.loop-step.step-index c.args.steps.now) in
+    let made = c.in_ok-reply.ensures so_far c.loop-step.invariant.shows in
+    let here : c.loop-step.step-index < length c.args.steps.now = omega arith in
+    let same : c.loop-step.core.count ≡ c.args.count = c.loop-step.invariant.same in
+    record {
+      same = made.1 ∙ same;
+      shows = shows_more c.args.count _ c.args.steps.now c.loop-step.step-index _ here same _ _ _ made.2;
+      told = c.in_ok-push.ensures.items ∙ told_more c.args.count _ c.args.steps.now c.loop-step.step-index _ here same _
+          _ c.loop-step.invariant.told made.0;
+    }

@@ -1,0 +1,10 @@
+pub mod Greatest
+pub mod HasDelay
+pub mod IssueCycles
+pub mod LatestOnes
+pub mod Links
+pub mod ReadyCycles
+pub mod Waits
+pub mod Explaining
+pub mod Lines
+pub mod OneText

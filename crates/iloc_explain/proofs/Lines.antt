@@ -1,0 +1,54 @@
+-- The lines of operations, one after another.
+use Rattle.std.proofs.Common.{◌≡◌, ◌<◌, ◌≤◌, ℕ, not, ◌+◌, List, ◌∷◌, ◌++◌, length, drop, get_or, refl, sym, ap, ◌∙◌, append_assoc, add-one, drop-cons, arith}
+use Rattle.std.proofs.lemmas.List.Filters.{length-filter_both}
+use Rattle.iloc_meaning.proofs.Cases.{by_bool}
+use Rattle.iloc_text.specs.declared.op.Op.{Op}
+use Rattle.iloc_text.specs.declared.op.Op.TheVariants.{Nop}
+use Rattle.iloc_sched.specs.Renaming.{is_nop, without_nops}
+use Rattle.iloc_sched.proofs.Nops.{is_nop-true}
+use Rattle.iloc_explain.specs.declared.explanation.Explained.{Explained}
+use Rattle.iloc_explain.specs.Listing.{explained_line, explained_lines}
+
+-- the first of what is left
+drop_first : {X : Type 0} (xs : List X) (i : ℕ) (d : X) → i < length xs → drop i xs ≡ get_or xs i d ∷ drop (i + 1) xs
+drop_first xs i d within = rw add-one (drop-cons xs i d within)
+
+pub nop_passed : (block : List Op) (i : ℕ) (d : Op) → i < length block → get_or block i d ≡ Nop
+    → without_nops (drop (i + 1) block) ≡ without_nops (drop i block)
+nop_passed block i d within is = sym (ap without_nops (drop_first block i d within ∙ ap (λ op. op ∷ drop (i + 1) block) is))
+
+kept : (op : Op) (rest : List Op) → (op ≡ Nop → ⊥) → without_nops (op ∷ rest) ≡ op ∷ without_nops rest
+kept op rest other = by_bool (is_nop op)
+    (λ t. absurd (other (is_nop-true op t)))
+    (λ f. rw f refl)
+
+pub op_taken : (block : List Op) (i : ℕ) (d : Op) → i < length block → (get_or block i d ≡ Nop → ⊥)
+    → without_nops (drop i block) ≡ get_or block i d ∷ without_nops (drop (i + 1) block)
+op_taken block i d within other =
+    ap without_nops (drop_first block i d within) ∙ kept (get_or block i d) (drop (i + 1) block) other
+
+pub nops_left_out : (block : List Op) → length (without_nops block) ≤ length block
+nops_left_out block =
+    omega (arith, length-filter_both (λ op. not (is_nop op)) (λ op. not (not (is_nop op))) (λ op. refl) block)
+
+-- one more line
+pub line_more : (text new all : List ℕ) (j : ℕ) (explained : List Explained) (left rest renamed : List Op)
+    (e : Explained) (op other : Op) → j < length explained → j < length renamed → e ≡ get_or explained j e
+    → left ≡ op ∷ rest → text ++ explained_lines j (drop j explained) left (drop j renamed) ≡ all
+    → new ≡ text ++ explained_line j e op (get_or renamed j other)
+    → new ++ explained_lines (j + 1) (drop (j + 1) explained) rest (drop (j + 1) renamed) ≡ all
+line_more text new all j explained left rest renamed e op other known there is taken so_far pushed =
+    let more : List ℕ = explained_lines (j + 1) (drop (j + 1) explained) rest (drop (j + 1) renamed) in
+    let first : drop j explained ≡ e ∷ drop (j + 1) explained =
+    drop_first explained j e known ∙ ap (λ x. x ∷ drop (j + 1) explained) (sym is) in
+    let second : drop j renamed ≡ get_or renamed j other ∷ drop (j + 1) renamed = drop_first renamed j other there in
+    let whole : explained_lines j (drop j explained) left (drop j renamed)
+    ≡ explained_line j e op (get_or renamed j other) ++ more =
+    rw (first, second, taken) refl in
+    ap (λ xs. xs ++ more) pushed ∙ (append_assoc text (explained_line j e op (get_or renamed j other)) more
+    ∙ (ap (λ xs. text ++ xs) (sym whole) ∙ so_far))
+
+-- the parts of an explanation, pushed one after another
+pub parts_joined : (text lines head number tail chain : List ℕ)
+    → ((((text ++ lines) ++ head) ++ number) ++ tail) ++ chain ≡ text ++ ((lines ++ ((head ++ number) ++ tail)) ++ chain)
+parts_joined text lines head number tail chain = simp append_assoc

@@ -1,0 +1,219 @@
+-- The latest of what earlier operations leave to wait for is when an operation is ready.
+use Rattle.std.proofs.Common.{◌≡◌, ◌<◌, ◌≤◌, ℕ, ◌+◌, ◌&&◌, ◌||◌, max, Bool, true, List, map, length, arith, refl, sym, ◌∙◌, ◌⊎◌, inl, inr}
+use Rattle.std.specs.Prelude.{Contains}
+use Rattle.std.proofs.lemmas.Bool.{and_from, and_parts, cases_lt, false≢true, or_cases, or_left, or_right}
+use Rattle.iloc_meaning.proofs.Cases.{by_bool}
+use Rattle.iloc_text.specs.declared.op.Op.{Op}
+use Rattle.iloc_text.specs.declared.op.Reg.{Reg}
+use Rattle.iloc_text.specs.Registers.{used, defined}
+use Rattle.iloc_meaning.specs.Trace.{op_at, is_register}
+use Rattle.iloc_timed.specs.declared.kind.Kind.{Kind}
+use Rattle.iloc_timed.specs.declared.kind.Kind.TheVariants as K
+use Rattle.iloc_timed.specs.declared.latencies.Latencies.{Latencies}
+use Rattle.iloc_timed.specs.declared.row.Row.{Row}
+use Rattle.iloc_timed.specs.Kinds.{kind, is_load, is_memory, is_store, is_output}
+use Rattle.iloc_timed.specs.Latency.{latency}
+use Rattle.iloc_timed.specs.Rows.{issue_cycle}
+use Rattle.iloc_sched.specs.Delays.{uses_result, reads_stored, keeps_order, when, memory_delays, delays}
+use Rattle.iloc_sched.proofs.Members.{In, contains_from, in_from}
+use Rattle.iloc_sched.proofs.ListFacts.{in_left, in_right, from_append, in_map, from_map, any_at, from_any}
+use Rattle.iloc_sched.proofs.Maxima.{fold_max_start, fold_max_each, fold_max_reached}
+use Rattle.iloc_explain.specs.declared.latest.Latest.{Latest}
+use Rattle.iloc_explain.specs.Waiting.{IsReadyAt}
+use Rattle.iloc_explain.specs.Steps.Latest.{AreLatest, result_of, by_kind, ready_after, arrival, next_cycle}
+
+in_when : (b : Bool) (d : ℕ) → b ≡ true → In (when b d) d
+in_when b d holds = rw holds (inl refl)
+
+from_when : (b : Bool) (d e : ℕ) → In (when b d) e → (b ≡ true) × (d ≡ e)
+from_when b d e there =
+    by_bool b
+    (λ t. elim (rw t at there) [ inl here ↦ (t, here) | inr none ↦ absurd none ])
+    (λ t. absurd (rw t at there))
+
+-- why a delay stands between two operations
+data Reason (lat : Latencies) (i j : Op) (d : ℕ) : Type 0 where
+  Uses : (r : Reg) → In (used j) r → is_register r (defined i) ≡ true → latency lat i ≡ d → Reason lat i j d
+  Reads : reads_stored (kind i) (kind j) ≡ true → latency lat i ≡ d → Reason lat i j d
+  Keeps : keeps_order (kind i) (kind j) ≡ true → 1 ≡ d → Reason lat i j d
+
+reason : (lat : Latencies) (i j : Op) (d : ℕ) → Contains (delays lat i j) d → Reason lat i j d
+reason lat i j d there = elim (from_append (when (uses_result i j) (latency lat i)) (memory_delays lat i j) d
+    (in_from (delays lat i j) d there)) [
+      | inl here ↦
+          let is = from_when (uses_result i j) (latency lat i) d here in
+          let one = from_any (λ r. is_register r (defined i)) (used j) is.0 in
+          Uses one.0 one.1 one.2 is.1
+      | inr memory ↦ elim (from_append (when (reads_stored (kind i) (kind j)) (latency lat i))
+          (when (keeps_order (kind i) (kind j)) 1) d memory) [
+            | inl stored ↦ let is = from_when (reads_stored (kind i) (kind j)) (latency lat i) d stored in Reads is.0 is.1
+            | inr order ↦ let is = from_when (keeps_order (kind i) (kind j)) 1 d order in Keeps is.0 is.1
+          ]
+    ]
+
+delay_of : (lat : Latencies) (i j : Op) (d : ℕ) → Reason lat i j d → Contains (delays lat i j) d
+delay_of lat i j d (Uses r there is at) =
+    let test : uses_result i j ≡ true = any_at (λ s. is_register s (defined i)) (used j) r there is in
+    contains_from (delays lat i j) d (in_left (when (uses_result i j) (latency lat i)) (memory_delays lat i j) d
+    (rw (← at) (in_when _ _ test)))
+delay_of lat i j d (Reads is at) =
+    contains_from (delays lat i j) d (in_right (when (uses_result i j) (latency lat i)) (memory_delays lat i j) d
+    (in_left (when (reads_stored (kind i) (kind j)) (latency lat i)) (when (keeps_order (kind i) (kind j)) 1) d
+    (rw (← at) (in_when _ _ is))))
+delay_of lat i j d (Keeps is at) =
+    contains_from (delays lat i j) d (in_right (when (uses_result i j) (latency lat i)) (memory_delays lat i j) d
+    (in_right (when (reads_stored (kind i) (kind j)) (latency lat i)) (when (keeps_order (kind i) (kind j)) 1) d
+    (rw (← at) (in_when _ _ is))))
+
+max_is : (a b : ℕ) → (max a b ≡ a) ⊎ (max a b ≡ b)
+max_is a b = elim (cases_lt a b) [ inl less ↦ inr (omega arith) | inr more ↦ inl (omega arith) ]
+
+module _ (lat : Latencies) (ops : List Op) (rows : List Row) (j : ℕ) (l : Latest) (are : AreLatest lat ops rows j l) where
+  -- what an earlier operation stored is there by then
+  stored_by : (k : Kind) (i : ℕ) → i < j → reads_stored (kind (op_at ops i)) k ≡ true
+      → arrival lat ops rows i ≤ by_kind l k
+  stored_by k i before is = by k both.1
+    where
+      both : (is_store (kind (op_at ops i)) ≡ true) × ((is_load k || is_output k) ≡ true)
+      both = and_parts (is_store (kind (op_at ops i))) (is_load k || is_output k) is
+
+      low : arrival lat ops rows i ≤ l.stored
+      low = are.stored.over i before both.0
+
+      by : (k : Kind) → (is_load k || is_output k) ≡ true → arrival lat ops rows i ≤ by_kind l k
+      by K.Load reads = low
+      by K.Output reads = omega (arith, low)
+      by _ reads = absurd (false≢true reads)
+
+  -- what has to come first is issued before then
+  ordered_by : (k : Kind) (i : ℕ) → i < j → keeps_order (kind (op_at ops i)) k ≡ true
+      → next_cycle lat ops rows i ≤ by_kind l k
+  ordered_by k i before is =
+      elim (or_cases ((is_memory a || is_output a) && is_store k) (is_output a && is_output k) is) [
+        | inl stores ↦
+            let both = and_parts (is_memory a || is_output a) (is_store k) stores in
+            by_store k both.1 (or_cases (is_memory a) (is_output a) both.0)
+        | inr outputs ↦
+            let both = and_parts (is_output a) (is_output k) outputs in
+            by_output k both.1 (are.outputs.over i before both.0)
+      ]
+    where
+      a : Kind
+      a = kind (op_at ops i)
+
+      by_store : (k : Kind) → is_store k ≡ true → (is_memory a ≡ true) ⊎ (is_output a ≡ true)
+          → next_cycle lat ops rows i ≤ by_kind l k
+      by_store K.Store store (inl memory) = elim (or_cases (is_load a) (is_store a) memory) [
+        | inl load ↦ let low : next_cycle lat ops rows i ≤ l.loads = are.loads.over i before load in omega arith
+        | inr stored ↦ let low : next_cycle lat ops rows i ≤ l.stores = are.stores.over i before stored in omega arith
+      ]
+      by_store K.Store store (inr output) =
+          let low : next_cycle lat ops rows i ≤ l.outputs = are.outputs.over i before output in omega arith
+      by_store _ store which = absurd (false≢true store)
+
+      by_output : (k : Kind) → is_output k ≡ true → next_cycle lat ops rows i ≤ l.outputs
+          → next_cycle lat ops rows i ≤ by_kind l k
+      by_output K.Output output low = omega arith
+      by_output _ output low = absurd (false≢true output)
+
+  -- an earlier operation for which operation j waits until this cycle, or none where that is 0
+  abbrev Reached : Op → ℕ → Type 0
+  Reached op c = (c ≡ 0) ⊎ ((i : ℕ) × (i < j) × (d : ℕ) × Reason lat (op_at ops i) op d × (issue_cycle rows i + d ≡ c))
+
+  abbrev ReachedBy : Kind → ℕ → Type 0
+  ReachedBy k c = (c ≡ 0) ⊎ ((i : ℕ) × (i < j) × (
+      ((reads_stored (kind (op_at ops i)) k ≡ true) × (arrival lat ops rows i ≡ c))
+      ⊎ ((keeps_order (kind (op_at ops i)) k ≡ true) × (next_cycle lat ops rows i ≡ c))))
+
+  stored_reached : (k : Kind) → ((a : Kind) → is_store a ≡ true → reads_stored a k ≡ true) → ReachedBy k l.stored
+  stored_reached k reads = elim are.stored.reached [
+    | inl zero ↦ inl zero
+    | inr one ↦ inr (one.0, one.1, inl (reads _ one.2, one.3))
+  ]
+
+  loads_reached : ReachedBy K.Store l.loads
+  loads_reached = elim are.loads.reached [
+    | inl zero ↦ inl zero
+    | inr one ↦ inr (one.0, one.1, inr (or_left _ _ (and_from _ _ (or_left _ _ (or_left _ _ one.2)) refl), one.3))
+  ]
+
+  stores_reached : ReachedBy K.Store l.stores
+  stores_reached = elim are.stores.reached [
+    | inl zero ↦ inl zero
+    | inr one ↦ inr (one.0, one.1, inr (or_left _ _ (and_from _ _ (or_left _ _ (or_right _ _ one.2)) refl), one.3))
+  ]
+
+  outputs_reached : (k : Kind) → ((a : Kind) → is_output a ≡ true → keeps_order a k ≡ true) → ReachedBy k l.outputs
+  outputs_reached k keeps = elim are.outputs.reached [
+    | inl zero ↦ inl zero
+    | inr one ↦ inr (one.0, one.1, inr (keeps _ one.2, one.3))
+  ]
+
+  greater : (k : Kind) (a b : ℕ) → ReachedBy k a → ReachedBy k b → ReachedBy k (max a b)
+  greater k a b first second = elim (max_is a b) [ inl is ↦ rw is first | inr is ↦ rw is second ]
+
+  kind_reached : (k : Kind) → ReachedBy k (by_kind l k)
+  kind_reached K.Load = stored_reached K.Load (λ a store. and_from _ _ store refl)
+  kind_reached K.Store =
+      greater K.Store (max l.loads l.stores) l.outputs (greater K.Store l.loads l.stores loads_reached stores_reached)
+      (outputs_reached K.Store (λ a output. or_left _ _ (and_from _ _ (or_right _ _ output) refl)))
+  kind_reached K.Output =
+      greater K.Output l.stored l.outputs (stored_reached K.Output (λ a store. and_from _ _ store refl))
+      (outputs_reached K.Output (λ a output. or_right _ _ (and_from _ _ output refl)))
+  kind_reached _ = inl refl
+
+  reached : (op : Op) → Reached op (ready_after l op)
+  reached op = elim (fold_max_reached (by_kind l (kind op)) (map (result_of l) (used op))) [
+    | inl start ↦ by_its_kind start (kind_reached (kind op))
+    | inr there ↦
+        let one = from_map (result_of l) (used op) (ready_after l op) there in
+        by_use one.0 one.1 one.2 (are.results one.0).reached
+  ]
+    where
+      by_its_kind : ready_after l op ≡ by_kind l (kind op) → ReachedBy (kind op) (by_kind l (kind op))
+          → Reached op (ready_after l op)
+      by_its_kind start (inl zero) = inl (start ∙ zero)
+      by_its_kind start (inr (i, before, inl (reads, at))) =
+          inr (i, before, latency lat (op_at ops i), Reads reads refl, at ∙ sym start)
+      by_its_kind start (inr (i, before, inr (keeps, at))) = inr (i, before, 1, Keeps keeps refl, at ∙ sym start)
+
+      by_use : (r : Reg) → In (used op) r → result_of l r ≡ ready_after l op
+          → (result_of l r ≡ 0) ⊎ ((i : ℕ) × (i < j) × (is_register r (defined (op_at ops i)) ≡ true) × (arrival lat ops rows i ≡ result_of l r))
+          → Reached op (ready_after l op)
+      by_use r there is (inl zero) = inl (sym is ∙ zero)
+      by_use r there is (inr (i, before, defines, at)) =
+          inr (i, before, latency lat (op_at ops i), Uses r there defines refl, at ∙ is)
+
+  over : (op : Op) (i d : ℕ) → i < j → Reason lat (op_at ops i) op d → issue_cycle rows i + d ≤ ready_after l op
+  over op i d before (Uses r there defines at) =
+      let low : arrival lat ops rows i ≤ result_of l r = (are.results r).over i before defines in
+      let most : result_of l r ≤ ready_after l op =
+      fold_max_each (by_kind l (kind op)) (map (result_of l) (used op)) (result_of l r)
+      (in_map (result_of l) (used op) r there) in
+      omega arith
+  over op i d before (Reads reads at) =
+      let low : arrival lat ops rows i ≤ by_kind l (kind op) = stored_by (kind op) i before reads in
+      let most : by_kind l (kind op) ≤ ready_after l op =
+      fold_max_start (by_kind l (kind op)) (map (result_of l) (used op)) in
+      omega arith
+  over op i d before (Keeps keeps at) =
+      let low : next_cycle lat ops rows i ≤ by_kind l (kind op) = ordered_by (kind op) i before keeps in
+      let most : by_kind l (kind op) ≤ ready_after l op =
+      fold_max_start (by_kind l (kind op)) (map (result_of l) (used op)) in
+      omega arith
+
+  pub is_ready : j < length ops → IsReadyAt lat ops rows j (ready_after l (op_at ops j))
+  is_ready within = record {
+    over = λ i d pair. over (op_at ops j) i d pair.order (reason lat (op_at ops i) (op_at ops j) d pair.delay);
+    earliest = elim (reached (op_at ops j)) [
+      | inl zero ↦ inl zero
+      | inr (i, before, d, why, at) ↦ inr (
+        i,
+        record {
+          delay = d;
+          pair = record { order = before; within = within; delay = delay_of lat (op_at ops i) (op_at ops j) d why };
+          ends = at;
+        },
+      )
+    ];
+  }

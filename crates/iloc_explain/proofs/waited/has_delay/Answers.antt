@@ -1,0 +1,11 @@
+use Rattle.std.proofs.lemmas.List.{get_or_default}
+use Rattle.iloc_text.specs.declared.op.Op.TheVariants.{Nop}
+use Rattle.iloc_explain.proofs.HasDelay.{has_delay_at}
+use Rattle.iloc_explain.proofs.waited.has_delay.Goals as goal
+
+pub returns : goal.returns
+returns c =
+    has_delay_at c.args.latencies.now c.args.ops.now c.args.i c.args.j _ _ _ _ _ c.args.delay
+    (get_or_default c.args.ops.now c.args.i _ Nop c.requires.first)
+    (get_or_default c.args.ops.now c.args.j _ Nop c.requires.second) c.contains.ensures.value c.as_slice.ensures.value
+    c.delays.ensures

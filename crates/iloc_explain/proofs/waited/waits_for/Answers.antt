@@ -1,0 +1,5 @@
+use Rattle.iloc_explain.proofs.HasDelay.{waits_is}
+use Rattle.iloc_explain.proofs.waited.waits_for.Goals as goal
+
+pub returns-then-i-j : goal.returns-then-i-j
+returns-then-i-j c = waits_is c.args.latencies.now c.args.ops.now c.args.i c.args.j c.args.delay _ c.if-i-j.true c.has_delay.ensures

@@ -1,0 +1,6 @@
+pub mod Waiting
+pub mod Chain
+pub mod Explained
+pub mod Laws
+pub mod Listing
+pub mod Steps

@@ -1,0 +1,61 @@
+-- The listing of what explains a schedule.
+use Rattle.std.specs.Prelude.{ℕ, ◌+◌, ◌≡◌, List, [], ◌∷◌, ◌++◌, codes}
+use Rattle.std.specs.List.{flat_map}
+use Rattle.std.specs.Fmt.{decimal}
+use Rattle.iloc_text.specs.declared.op.Op.{Op}
+use Rattle.iloc_text.specs.Spelling.{spelling}
+use Rattle.iloc_timed.specs.declared.latencies.Latencies.{Latencies}
+use Rattle.iloc_timed.specs.declared.row.Row.{Row}
+use Rattle.iloc_timed.specs.Cycles.{cycles}
+use Rattle.iloc_sched.specs.Renaming.{without_nops}
+use Rattle.iloc_explain.specs.declared.explanation.Explained.{Explained}
+use Rattle.iloc_explain.specs.declared.explanation.Unit.{Unit as unit_type}
+use Rattle.iloc_explain.specs.declared.explanation.Unit.TheVariants as unit
+use Rattle.iloc_explain.specs.Chain.{IsLongestChain}
+use Rattle.iloc_explain.specs.Explained.{AreExplained}
+
+-- ` NAME N`
+abbrev pub column : List ℕ → ℕ → List ℕ
+column name n = codes " " ++ name ++ codes " " ++ decimal n
+
+-- numbers with commas between them, `-` where there are none
+abbrev pub comma_separated : List ℕ → List ℕ
+comma_separated [] = codes "-"
+comma_separated (n ∷ rest) = decimal n ++ flat_map (λ m. codes "," ++ decimal m) rest
+
+abbrev pub unit_number : unit_type → ℕ
+unit_number unit.Zero = 0
+unit_number unit.One = 1
+
+-- `J cycle C unit U ready R after I,I priority P OPERATION ; RENAMED`
+abbrev pub explained_line : ℕ → Explained → Op → Op → List ℕ
+explained_line j e op renamed =
+    decimal j ++ column (codes "cycle") e.cycle ++ column (codes "unit") (unit_number e.unit)
+    ++ column (codes "ready") e.ready ++ codes " after " ++ comma_separated e.after.items
+    ++ column (codes "priority") e.priority ++ codes " " ++ spelling op ++ codes " ; " ++ spelling renamed ++ codes "\n"
+
+-- the lines of operations from number j on: each as it stands in the block, and as it is renamed
+abbrev pub explained_lines : ℕ → List Explained → List Op → List Op → List ℕ
+explained_lines j [] ops renamed = []
+explained_lines j (e ∷ more) [] renamed = []
+explained_lines j (e ∷ more) (op ∷ ops) [] = []
+explained_lines j (e ∷ more) (op ∷ ops) (new ∷ renamed) =
+    explained_line j e op new ++ explained_lines (j + 1) more ops renamed
+
+-- `chain I J ..`, the operations of a chain, `-` where there are none
+abbrev pub chain_line : List ℕ → List ℕ
+chain_line [] = codes "chain -\n"
+chain_line (i ∷ chain) = codes "chain" ++ flat_map (λ j. codes " " ++ decimal j) (i ∷ chain) ++ codes "\n"
+
+-- `cycles C`
+abbrev pub cycles_line : Latencies → List Op → List Row → List ℕ
+cycles_line lat ops rows = codes "cycles " ++ decimal (cycles lat ops rows) ++ codes "\n"
+
+-- The text explains these operations in these rows, a schedule of the block: a line for each operation, the cycles,
+-- and a longest chain of delays.
+pub record IsExplanation (lat : Latencies) (block ops : List Op) (rows : List Row) (text : List ℕ) : Type 0 where
+  pub explained : List Explained
+  pub are_explained : AreExplained lat ops rows explained
+  pub chain : List ℕ
+  pub is_longest : IsLongestChain lat ops chain
+  pub listed : text ≡ explained_lines 0 explained (without_nops block) ops ++ cycles_line lat ops rows ++ chain_line chain

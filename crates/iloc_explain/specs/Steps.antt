@@ -1,0 +1,7 @@
+-- What the code keeps from step to step: no contract of a public function names them.
+pub mod Issued
+pub mod Latest
+pub mod Waits
+pub mod Links
+pub mod SoFar
+pub mod Greatest

@@ -1,0 +1,12 @@
+-- Waits by their delays.
+use Rattle.std.specs.Prelude.{ℕ, ◌==◌, ◌&&◌, nat_lt, Bool, List}
+use Rattle.std.specs.List.{list_any}
+use Rattle.iloc_text.specs.declared.op.Op.{Op}
+use Rattle.iloc_meaning.specs.Trace.{op_at}
+use Rattle.iloc_timed.specs.declared.latencies.Latencies.{Latencies}
+use Rattle.iloc_sched.specs.Delays.{delays}
+
+-- whether operation j waits for operation i for so many cycles
+abbrev pub waits_for : Latencies → List Op → ℕ → ℕ → ℕ → Bool
+waits_for lat ops j delay i =
+    nat_lt i j && list_any (λ d. d == delay) (delays lat (op_at ops i) (op_at ops j))

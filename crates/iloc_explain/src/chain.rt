@@ -1,0 +1,67 @@
+//! A longest chain of delays.
+ghost use Rattle.std.specs.Prelude.{◌≡◌, ◌<◌, ◌↔◌, [], length, IfOk, IsTrue, MatchOption};
+ghost use Rattle.iloc_sched.specs.Priority.{priorities as all_priorities};
+ghost use Rattle.iloc_explain.specs.Chain.{Continues, IsLongestChain, SpansTheGreatest};
+ghost use Rattle.iloc_explain.specs.Steps.Greatest.{IsPlaceOfGreatest};
+
+use crate::waited::has_delay;
+use iloc_text::{NoMemory, Op};
+use iloc_timed::Latencies;
+use std::alloc::Global;
+
+/// The first place of the greatest number.
+fn place_of_greatest(numbers: &[u64]) -> Option<usize>
+    ensures { MatchOption result (numbers.now ≡ []) (IsPlaceOfGreatest numbers.now) }
+{
+    if numbers.is_empty() {
+        return None;
+    }
+    let mut greatest = 0;
+    for i in 1..numbers.len() {
+        if numbers[greatest] < numbers[i] {
+            greatest = i;
+        }
+    }
+    Some(greatest)
+}
+
+/// Whether a longest chain from operation i may go on with operation j.
+fn continues(ops: &[Op], latencies: &Latencies, priorities: &[u64], i: usize, j: usize) -> bool
+    requires order { i < j }
+    requires within { j < length ops.now }
+    requires priorities { priorities.now ≡ all_priorities latencies.now ops.now }
+    ensures { IsTrue result ↔ Continues latencies.now ops.now i j }
+{
+    let own = priorities[i];
+    let next = priorities[j];
+    next <= own && has_delay(ops, latencies, i, j, own - next)
+}
+
+/// A longest chain of delays of renamed operations, by their priorities: it starts with the first operation of the
+/// greatest priority, and goes on with the first operation whose delay and priority together are that of the one
+/// before. So the delays and the latency of the last operation together are the greatest priority. It takes time linear
+/// in the number of operations.
+pub fn longest_chain(
+    alloc: Global,
+    ops: &[Op],
+    latencies: &Latencies,
+    priorities: &[u64],
+) -> Result<Vec<usize>, NoMemory>
+    requires { priorities.now ≡ all_priorities latencies.now ops.now }
+    ensures chosen { IfOk result (λ chain. IsLongestChain latencies.now ops.now chain.items) }
+    ensures longest { IfOk result (λ chain. SpansTheGreatest latencies.now ops.now chain.items) }
+{
+    let mut chain = Vec::new(alloc);
+    let Some(first) = place_of_greatest(priorities) else {
+        return Ok(chain);
+    };
+    chain.push(first)?;
+    let mut last = first;
+    for j in first + 1..ops.len() {
+        if continues(ops, latencies, priorities, last, j) {
+            chain.push(j)?;
+            last = j;
+        }
+    }
+    Ok(chain)
+}

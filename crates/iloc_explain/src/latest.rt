@@ -1,0 +1,95 @@
+//! What earlier operations leave to wait for.
+ghost use Rattle.std.specs.Prelude.{◌≡◌, ◌+◌, ◌<◌, ◌^◌, OnOk};
+ghost use Rattle.iloc_text.specs.declared.op.Reg.{Reg as reg_value};
+
+use iloc_text::{NoMemory, Op, Reg, defines, uses};
+use iloc_timed::Kind;
+use std::alloc::Global;
+use std::collections::BTreeMap;
+
+/// The latest cycles that the operations so far leave to wait for, 0 where there is none.
+#[derive(Drop)]
+pub(crate) struct Latest {
+    /// By register the cycle at which the last result for it arrives.
+    results: BTreeMap<u32, u64>,
+    /// The cycle at which the last stored word arrives.
+    stored: u64,
+    /// The cycle after the last store.
+    stores: u64,
+    /// The cycle after the last load.
+    loads: u64,
+    /// The cycle after the last output.
+    outputs: u64,
+}
+
+impl Latest {
+    ghost use Rattle.iloc_explain.specs.Steps.Latest.{Notes, by_kind, ready_after, result_of};
+
+    /// Before the first operation.
+    pub(crate) fn new(alloc: Global) -> Latest
+        ensures results { (r : reg_value) → result_of result r ≡ 0 }
+        ensures stored { result.stored ≡ 0 }
+        ensures stores { result.stores ≡ 0 }
+        ensures loads { result.loads ≡ 0 }
+        ensures outputs { result.outputs ≡ 0 }
+    {
+        Latest {
+            results: BTreeMap::new(alloc),
+            stored: 0,
+            stores: 0,
+            loads: 0,
+            outputs: 0,
+        }
+    }
+
+    /// The cycle at which the last result for a register arrives.
+    fn result(&self, register: Reg) -> u64
+        ensures { result ≡ result_of self.now register }
+    {
+        self.results.get(&register.0).copied().unwrap_or(0)
+    }
+
+    /// What an operation of this kind waits for whatever its registers are.
+    fn by_kind(&self, kind: Kind) -> u64
+        ensures { result ≡ by_kind self.now kind }
+    {
+        match kind {
+            Kind::Load => self.stored,
+            Kind::Store => self.loads.max(self.stores).max(self.outputs),
+            Kind::Output => self.stored.max(self.outputs),
+            Kind::Mult | Kind::Other => 0,
+        }
+    }
+
+    /// The cycle at which an operation behind these is ready.
+    pub(crate) fn ready(&self, op: &Op) -> u64
+        ensures { result ≡ ready_after self.now op.now }
+    {
+        let mut ready = self.by_kind(Kind::of(op));
+        for register in uses(op).as_slice() {
+            ready = ready.max(self.result(*register));
+        }
+        ready
+    }
+
+    /// Takes in one more operation, which is issued at this cycle and whose result arrives at that one.
+    pub(crate) fn note(&mut self, op: &Op, issue: u64, arrives: u64) -> Result<(), NoMemory>
+        requires { issue + 1 < 2 ^ 64 }
+        ensures { OnOk result (Notes op.now issue arrives self.old self.new) }
+    {
+        if let Some(register) = defines(op) {
+            let latest = self.result(register).max(arrives);
+            self.results.insert(register.0, latest)?;
+        }
+        match Kind::of(op) {
+            Kind::Load => self.loads = self.loads.max(issue + 1),
+            Kind::Store => {
+                self.stores = self.stores.max(issue + 1);
+                self.stored = self.stored.max(arrives);
+            }
+            Kind::Output => self.outputs = self.outputs.max(issue + 1),
+            Kind::Mult | Kind::Other => {}
+        }
+        Ok(())
+    }
+}

@@ -1,0 +1,14 @@
+//! Why a schedule takes its cycles: when each operation is ready, what it waited for, and a longest chain of delays.
+#![tactic(auto)]
+
+mod chain;
+mod explanation;
+mod issued;
+mod latest;
+pub mod laws;
+mod listing;
+mod waited;
+
+pub use chain::longest_chain;
+pub use explanation::{Explained, Unit, explain};
+pub use listing::push_explanation;

@@ -1,0 +1,156 @@
+//! The listing of what explains a schedule.
+ghost use Rattle.std.specs.Prelude.{◌≡◌, ◌++◌, ◌≤◌, List, ℕ, length, OnOk, codes};
+ghost use Rattle.std.specs.List.{flat_map};
+ghost use Rattle.std.specs.Fmt.{decimal};
+ghost use Rattle.iloc_sched.specs.Renaming.{renamed, without_nops};
+ghost use Rattle.iloc_explain.specs.Listing as listed;
+ghost use Rattle.iloc_explain.specs.Listing.{IsExplanation};
+
+use crate::chain::longest_chain;
+use crate::explanation::{Explained, Unit, explain};
+use iloc_sched::priorities;
+use iloc_text::{MAX_OPS, NoMemory, Op, push_op};
+use iloc_timed::{Latencies, Schedule, cycles};
+use itoa::Buffer;
+use std::alloc::Global;
+
+/// Appends a number.
+fn push_decimal(text: &mut Vec<u8>, number: u64) -> Result<(), NoMemory>
+    ensures { OnOk result (text.new.items ≡ text.old.items ++ decimal number) }
+{
+    let mut buffer = Buffer::new();
+    Ok(text.extend_from_slice(buffer.format(number).as_bytes())?)
+}
+
+/// Appends ` NAME N`.
+fn push_column(text: &mut Vec<u8>, name: &str, number: u64) -> Result<(), NoMemory>
+    ensures { OnOk result (text.new.items ≡ text.old.items ++ listed.column name.now number) }
+{
+    text.extend_from_slice(b" ")?;
+    text.extend_from_slice(name.as_bytes())?;
+    text.extend_from_slice(b" ")?;
+    push_decimal(text, number)
+}
+
+/// Appends each number behind this mark.
+fn push_marked(text: &mut Vec<u8>, mark: &[u8], numbers: &[usize]) -> Result<(), NoMemory>
+    ensures { OnOk result (text.new.items
+        ≡ text.old.items ++ flat_map (λ n. mark.now ++ decimal n) numbers.now) }
+{
+    for number in numbers {
+        text.extend_from_slice(mark)?;
+        push_decimal(text, *number as u64)?;
+    }
+    Ok(())
+}
+
+/// Appends numbers with commas between them, `-` where there are none.
+fn push_comma_separated(text: &mut Vec<u8>, numbers: &[usize]) -> Result<(), NoMemory>
+    ensures { OnOk result (text.new.items ≡ text.old.items ++ listed.comma_separated numbers.now) }
+{
+    match numbers {
+        [] => Ok(text.extend_from_slice(b"-")?),
+        [first, rest @ ..] => {
+            push_decimal(text, *first as u64)?;
+            push_marked(text, b",", rest)
+        }
+    }
+}
+
+/// The number of a unit.
+fn unit_number(unit: Unit) -> u64
+    ensures { result ≡ listed.unit_number unit }
+{
+    match unit {
+        Unit::Zero => 0,
+        Unit::One => 1,
+    }
+}
+
+/// Appends the line of operation j, which stands so in the block and is renamed so.
+fn push_explained(
+    text: &mut Vec<u8>,
+    j: usize,
+    explained: &Explained,
+    op: &Op,
+    renamed: &Op,
+) -> Result<(), NoMemory>
+    ensures { OnOk result (text.new.items
+        ≡ text.old.items ++ listed.explained_line j explained.now op.now renamed.now) }
+{
+    push_decimal(text, j as u64)?;
+    push_column(text, "cycle", explained.cycle as u64)?;
+    push_column(text, "unit", unit_number(explained.unit))?;
+    push_column(text, "ready", explained.ready as u64)?;
+    text.extend_from_slice(b" after ")?;
+    push_comma_separated(text, &explained.after)?;
+    push_column(text, "priority", explained.priority)?;
+    text.extend_from_slice(b" ")?;
+    push_op(text, op)?;
+    text.extend_from_slice(b" ; ")?;
+    push_op(text, renamed)?;
+    Ok(text.extend_from_slice(b"\n")?)
+}
+
+/// Appends the line of a chain.
+fn push_chain(text: &mut Vec<u8>, chain: &[usize]) -> Result<(), NoMemory>
+    ensures { OnOk result (text.new.items ≡ text.old.items ++ listed.chain_line chain.now) }
+{
+    if chain.is_empty() {
+        return Ok(text.extend_from_slice(b"chain -\n")?);
+    }
+    text.extend_from_slice(b"chain")?;
+    push_marked(text, b" ", chain)?;
+    Ok(text.extend_from_slice(b"\n")?)
+}
+
+/// Appends the lines of all operations of a block that are no `nop`, as they stand and as they are renamed.
+fn push_lines(
+    text: &mut Vec<u8>,
+    block: &[Op],
+    explained: &[Explained],
+    renamed: &[Op],
+) -> Result<(), NoMemory>
+    requires all { length explained.now ≡ length renamed.now }
+    requires same { length (without_nops block.now) ≡ length renamed.now }
+    ensures { OnOk result (text.new.items ≡ text.old.items
+        ++ listed.explained_lines 0 explained.now (without_nops block.now) renamed.now) }
+{
+    let mut j = 0;
+    for op in block {
+        match op {
+            Op::Nop => {}
+            _ => {
+                push_explained(text, j, &explained[j], op, &renamed[j])?;
+                j += 1;
+            }
+        }
+    }
+    Ok(())
+}
+
+/// Appends what explains a schedule of a block, whose operations are the block's renamed ones: a line for each
+/// operation, the cycles, and a longest chain of delays.
+pub fn push_explanation(
+    alloc: Global,
+    text: &mut Vec<u8>,
+    block: &[Op],
+    schedule: &Schedule,
+    latencies: &Latencies,
+) -> Result<(), NoMemory>
+    requires few { length block.now ≤ MAX_OPS }
+    requires names { schedule.now.ops ≡ renamed block.now }
+    ensures { OnOk result ((entry : List ℕ)
+        × IsExplanation latencies.now block.now schedule.now.ops schedule.now.rows entry
+        × (text.new.items ≡ text.old.items ++ entry)) }
+{
+    let ops = schedule.ops();
+    let priorities = priorities(alloc, ops, latencies)?;
+    let explained = explain(alloc, schedule, latencies, &priorities)?;
+    let chain = longest_chain(alloc, ops, latencies, &priorities)?;
+    push_lines(text, block, &explained, ops)?;
+    text.extend_from_slice(b"cycles ")?;
+    push_decimal(text, cycles(schedule, latencies))?;
+    text.extend_from_slice(b"\n")?;
+    push_chain(text, &chain)
+}

@@ -1,0 +1,72 @@
+//! What is listed of one block's schedule, made apart from the others, and the listing of all.
+ghost use Rattle.std.specs.Prelude.{◌≡◌, ◌≤◌, ◌<◌, ◌^◌, ◌++◌, length, sum_by, IfOk};
+ghost use Rattle.std.specs.List.{flat_map};
+ghost use Rattle.iloc_farm.specs.Listing.{total_of};
+ghost use Rattle.iloc_farm.specs.Steps.Entries.{IsEntry};
+
+use crate::listing::{Detail, push_schedule, push_total};
+use crate::pieces::Pieces;
+use iloc_sched::schedule;
+use iloc_text::{Block, NoMemory};
+use iloc_timed::{Latencies, MAX_ROWS, cycles};
+use std::alloc::Global;
+
+/// An entry gets so many bytes of room at first, enough for most that list cycles alone.
+const FIRST_ROOM: usize = 64;
+
+/// What is listed of one block.
+#[derive(Drop)]
+pub struct Entry {
+    pub text: Vec<u8>,
+    /// The cycles of the block's schedule.
+    pub cycles: u32,
+}
+
+/// The entry of the block with this number, counted from 1, in so much detail. The schedule is let go.
+pub(crate) fn entry_of(
+    alloc: Global,
+    number: usize,
+    block: &Block,
+    latencies: &Latencies,
+    detail: Detail,
+) -> Result<Entry, NoMemory>
+    requires short { length block.now.ops ≤ 10000 }
+    requires number { number < 2 ^ 63 }
+    ensures { IfOk result (IsEntry detail latencies.now number block.now) }
+{
+    let schedule = schedule(alloc, block, latencies)?;
+    prove!(schedule.rows().len() <= MAX_ROWS);
+    let cycles = cycles(&schedule, latencies);
+    let mut text = Vec::with_capacity(alloc, FIRST_ROOM)?;
+    push_schedule(
+        &mut text,
+        number,
+        block.name.as_ref(),
+        &schedule,
+        cycles,
+        detail,
+    )?;
+    text.shrink_to_fit();
+    Ok(Entry {
+        text,
+        cycles: cycles as u32,
+    })
+}
+
+/// The listing of these entries: their texts, and at the end the cycles of all.
+pub(crate) fn entries_text(alloc: Global, entries: Vec<Entry>) -> Result<Pieces, NoMemory>
+    requires { sum_by (λ e. e.cycles) entries.items < 2 ^ 63 }
+    ensures { IfOk result (λ text. text ≡ flat_map (λ e. e.text.items) entries.items
+        ++ total_of (sum_by (λ e. e.cycles) entries.items)) }
+{
+    let mut text = Pieces::new(alloc, Vec::new(alloc));
+    let mut total = 0;
+    for entry in entries {
+        total += u64::from(entry.cycles);
+        text.push(entry.text)?;
+    }
+    let mut line = Vec::new(alloc);
+    push_total(&mut line, total)?;
+    text.push(line)?;
+    Ok(text)
+}

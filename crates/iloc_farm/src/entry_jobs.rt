@@ -1,0 +1,47 @@
+//! The entries of a file's blocks in a listing of schedules as the jobs of a board.
+ghost use Rattle.std.specs.Prelude.{◌≤◌, length};
+ghost use Rattle.std.specs.List.{All};
+
+use crate::entry::{Entry, entry_of};
+use crate::listing::Detail;
+use iloc_board::{Jobs, NoMemory};
+use iloc_text::Block;
+use iloc_timed::Latencies;
+use std::alloc::Global;
+
+/// Blocks to be scheduled for a machine with these latencies, and listed in so much detail.
+#[derive(Clone, Copy)]
+pub struct EntryJobs<'f> {
+    /// At most 65,535 blocks, each of at most 10,000 operations.
+    pub blocks: &'f [Block],
+    pub latencies: Latencies,
+    pub detail: Detail,
+    ghost few: { length blocks.now ≤ 65535 },
+    ghost short: { All (λ b. length b.ops ≤ 10000) blocks.now },
+}
+
+impl<'f> Jobs for EntryJobs<'f> {
+    ghost use Rattle.iloc_farm.specs.Steps.Entries.{IsEntryOf};
+
+    type Answer = Entry;
+
+    ghost number = { λ jobs. length jobs.blocks.now };
+
+    ghost fits = { λ jobs i entry. IsEntryOf jobs.detail jobs.latencies jobs.blocks.now i entry };
+
+    ghost price = { λ _ entry. entry.cycles };
+
+    fn count(&self) -> u32 {
+        self.blocks.len() as u32
+    }
+
+    fn cost(&self, entry: &Entry) -> u64 {
+        u64::from(entry.cycles)
+    }
+
+    fn answer(&self, alloc: Global, i: u32) -> Result<Entry, NoMemory> {
+        let number = i as usize + 1;
+        let block = &self.blocks[i as usize];
+        entry_of(alloc, number, block, &self.latencies, self.detail).map_err(|_| NoMemory)
+    }
+}

@@ -1,0 +1,60 @@
+//! The listings whose entries the workers make.
+ghost use Rattle.std.specs.Prelude.{IfOk};
+ghost use Rattle.iloc_farm.specs.Run.{ListsFarmed, ListsGreedy};
+ghost use Rattle.iloc_farm.specs.Schedules.{IsWithinLimits};
+ghost use Rattle.iloc_farm.specs.Steps.Detailed.{listing_with};
+ghost use Rattle.iloc_farm.specs.Steps.Entries.{AreEntries};
+
+use crate::answering::answer_all;
+use crate::entry::{Entry, entries_text};
+use crate::entry_jobs::EntryJobs;
+use crate::fault::FarmFault;
+use crate::laws::greedy_schedules_can_be_listed;
+use crate::listing::Detail;
+use crate::pieces::Pieces;
+use iloc_args::Request;
+use iloc_board::FreeGate;
+use iloc_text::IlocFile;
+use std::alloc::Global;
+use std::sync::Wait;
+use std::thread::Threads;
+
+/// The entries of the blocks' greedy schedules, for the request's latencies and by its workers.
+fn entries_of<R: Threads + Wait + Sync>(
+    rt: &R,
+    alloc: Global,
+    file: &IlocFile,
+    request: &Request,
+    detail: Detail,
+) -> Result<Vec<Entry>, FarmFault>
+    requires { IsWithinLimits file.now.blocks }
+    ensures { IfOk result (λ entries. AreEntries detail request.now file.now.blocks entries.items) }
+{
+    let jobs = EntryJobs {
+        blocks: file.blocks.as_slice(),
+        latencies: request.latencies,
+        detail,
+    };
+    let collected = answer_all(rt, alloc, &jobs, request.workers, &FreeGate)?;
+    Ok(collected.answers)
+}
+
+/// The listing of the blocks' greedy schedules, in so much detail, for the request's latencies and
+/// by its workers.
+pub(crate) fn farmed_text<R: Threads + Wait + Sync>(
+    rt: &R,
+    alloc: Global,
+    file: &IlocFile,
+    request: &Request,
+    detail: Detail,
+) -> Result<Pieces, FarmFault>
+    requires { IsWithinLimits file.now.blocks }
+    ensures greedy { let blocks = file.now.blocks in let latencies = request.now.latencies in
+        IfOk result (ListsGreedy latencies blocks (listing_with detail latencies blocks)) }
+    ensures farmed { let blocks = file.now.blocks in
+        IfOk result (ListsFarmed request.now blocks (listing_with detail request.now.latencies blocks)) }
+{
+    greedy_schedules_can_be_listed();
+    let entries = entries_of(rt, alloc, file, request, detail)?;
+    Ok(entries_text(alloc, entries)?)
+}

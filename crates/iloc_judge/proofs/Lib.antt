@@ -1,0 +1,11 @@
+pub mod Lists
+pub mod Nodes
+pub mod Arithmetic
+pub mod Products
+pub mod Epochs
+pub mod Tracking
+pub mod Rows
+pub mod Marks
+pub mod Meanings
+pub mod Ending
+pub mod Places

@@ -1,0 +1,11 @@
+use Rattle.iloc_timed.proofs.WholeRuns.{if_ok}
+use Rattle.iloc_judge.proofs.Meanings.{meaning_of, is_meaning}
+use Rattle.iloc_judge.proofs.Ending.{same_outcome}
+use Rattle.iloc_judge.proofs.judgement.same.Goals as goal
+
+pub returns : goal.returns
+returns c = if_ok _ _ c.agree.result (λ yes agrees is memory fits.
+    let meaning = is_meaning memory _ fits (c.is_ordered.ensures c.if-not-is_ordered.false) in
+    let second = c.in_ok-other.ensures memory _ meaning in
+    let first = c.in_ok-one.ensures memory _ second.0 in
+    same_outcome memory _ _ _ _ _ fits.size first.1 second.1 (agrees is memory _ meaning)) c.agree.ensures

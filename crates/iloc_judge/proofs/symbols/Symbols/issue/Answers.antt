@@ -1,0 +1,11 @@
+use Rattle.iloc_judge.proofs.Tracking.{keeps_issue}
+use Rattle.iloc_judge.proofs.Rows.{on_ok}
+use Rattle.iloc_judge.proofs.symbols.Symbols.issue.Goals as goal
+
+pub returns : goal.returns
+returns c = on_ok c.perform.result _ _ (λ records memory d meaning.
+    let acts = c.in_ok-action.ensures memory d meaning in (
+      acts.0,
+      λ n log from upto keeps. keeps_issue memory d n c.args.due c.args.op.now log c.args.self.now c.perform.new.self
+          c.in_ok-action.action c.defines.result c.defines.ensures acts.1 records from upto keeps,
+    )) c.perform.ensures

@@ -1,0 +1,13 @@
+use Rattle.std.proofs.Common.{◌<◌, ◌%◌, length, arith, sym, ap, ◌∙◌, ◌∷◌, [], ◌++◌, set}
+use Rattle.iloc_judge.proofs.Lists.{items_at, items_set}
+use Rattle.iloc_judge.proofs.wheel.Wheel.push.Goals as goal
+
+pub returns : goal.returns
+returns c =
+    let within : c.args.cycle % 16 < length c.self.inside.lists.items =
+    rw (← c.self.inside.lists.ok.0, c.self.invariant) (omega arith) in
+    items_set c.self.inside.lists.items _ _ c.push.new.self c.self.view_is
+    ∙ ap (set c.args.self.now (c.args.cycle % 16))
+    (c.in_ok-push.ensures.items
+    ∙ ap (λ list. list ++ c.args.sent ∷ [])
+    (sym (items_at c.self.inside.lists.items _ (c.args.cycle % 16) _ c.self.view_is within c.index_mut.ensures.value)))

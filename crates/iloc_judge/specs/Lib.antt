@@ -1,0 +1,4 @@
+pub mod Terms
+pub mod Place
+pub mod Verdict
+pub mod Steps

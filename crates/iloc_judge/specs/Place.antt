@@ -1,0 +1,54 @@
+-- Where an outcome differs from the one that was wanted.
+use Rattle.std.specs.Prelude.{ℕ, ◌≡◌, ◌≢◌, ◌<◌, List, Option, slice_get, IsTrue, ℤ, pos}
+use Rattle.iloc_meaning.specs.declared.outcome.Outcome.{Outcome}
+use Rattle.iloc_meaning.specs.declared.outcome.Outcome.TheVariants as O
+use Rattle.iloc_meaning.specs.Address.{is_good}
+use Rattle.iloc_meaning.specs.Memory.{word_at}
+use Rattle.iloc_judge.specs.declared.place.Place.{Place}
+use Rattle.iloc_judge.specs.declared.place.Place.TheVariants.{Output, Word, Fault, NoFault}
+
+-- the first output that differs, with both words; nothing where there is none
+pub record IsFirstOutput (gots wanteds : List ℤ) (index : ℕ) (got wanted : Option ℤ) : Type 0 where
+  pub first : slice_get gots index ≡ got
+  pub second : slice_get wanteds index ≡ wanted
+  pub apart : got ≢ wanted
+  pub others : (k : ℕ) → k < index → slice_get gots k ≡ slice_get wanteds k
+
+-- the lowest address whose words differ, with both
+pub record IsLowestWord (gots wanteds : List ℤ) (address : ℕ) (got wanted : ℤ) : Type 0 where
+  pub good : IsTrue (is_good (pos address))
+  pub first : word_at gots address ≡ got
+  pub second : word_at wanteds address ≡ wanted
+  pub apart : got ≢ wanted
+  pub others : (a : ℕ) → a < address → word_at gots a ≡ word_at wanteds a
+
+-- the place is the first output that differs
+abbrev pub IsOutput : List ℤ → List ℤ → Place → Type 0
+IsOutput gots wanteds (Output index got wanted) = IsFirstOutput gots wanteds index got wanted
+IsOutput gots wanteds (Word address got wanted) = ⊥
+IsOutput gots wanteds Fault = ⊥
+IsOutput gots wanteds NoFault = ⊥
+
+-- the place is the lowest word that differs
+abbrev pub IsWord : List ℤ → List ℤ → Place → Type 0
+IsWord gots wanteds (Output index got wanted) = ⊥
+IsWord gots wanteds (Word address got wanted) = IsLowestWord gots wanteds address got wanted
+IsWord gots wanteds Fault = ⊥
+IsWord gots wanteds NoFault = ⊥
+
+-- the place is the first output that differs, or else the lowest word
+abbrev pub IsIn : List ℤ → List ℤ → List ℤ → List ℤ → Place → Type 0
+IsIn outputs memory wanteds wanted_memory (Output index got wanted) =
+    IsFirstOutput outputs wanteds index got wanted
+IsIn outputs memory wanteds wanted_memory (Word address got wanted) =
+    (outputs ≡ wanteds) × IsLowestWord memory wanted_memory address got wanted
+IsIn outputs memory wanteds wanted_memory Fault = ⊥
+IsIn outputs memory wanteds wanted_memory NoFault = ⊥
+
+-- where the first outcome differs from the second, which was wanted
+abbrev pub IsPlace : Outcome → Outcome → Place → Type 0
+IsPlace O.Fault O.Fault place = ⊥
+IsPlace O.Fault (O.Finished wanteds wanted_memory) place = place ≡ Fault
+IsPlace (O.Finished outputs memory) O.Fault place = place ≡ NoFault
+IsPlace (O.Finished outputs memory) (O.Finished wanteds wanted_memory) place =
+    IsIn outputs memory wanteds wanted_memory place

@@ -1,0 +1,103 @@
+//! Whether two runs in terms end with the same.
+ghost use Rattle.std.specs.Prelude.{◌≡◌, ◌⊎◌, true, false, List, ℤ, slice_index_or, IfOk};
+ghost use Rattle.iloc_meaning.specs.Address.{is_good};
+ghost use Rattle.iloc_judge.specs.Terms.{Meaning, IsMeaning};
+ghost use Rattle.iloc_judge.specs.Steps.Symbols.{some_bad};
+ghost use Rattle.iloc_judge.specs.Steps.Agreement.{AreMarks, IsSurelyGood, BadThere, Agree};
+
+use crate::node::Node;
+use crate::symbols::Symbols;
+use crate::table::Table;
+use iloc_meaning::Memory;
+use iloc_text::NoMemory;
+use std::alloc::Global;
+
+/// Whether an address is known, and good or not as asked.
+fn is_known(table: &Table, address: u32, good: bool) -> bool
+    ensures { result ≡ true → (memory : List ℤ) (d : Meaning) → IsMeaning memory table.now d → is_good (d.word address) ≡ good }
+{
+    match table.node(address) {
+        Some(Node::Known(word)) => Memory::is_good(word) == good,
+        _ => false,
+    }
+}
+
+/// Whether one of these addresses is known and isn't good.
+fn has_known_bad(table: &Table, addresses: &[u32]) -> bool
+    ensures { result ≡ true → (memory : List ℤ) (d : Meaning) → IsMeaning memory table.now d →
+        some_bad d addresses.now ≡ true }
+{
+    addresses
+        .iter()
+        .any(|&address| is_known(table, address, false))
+}
+
+/// For each of so many numbers whether it stands in a list.
+fn marks(alloc: Global, numbers: &[u32], count: usize) -> Result<Vec<bool>, NoMemory>
+    ensures { IfOk result (λ marks. AreMarks numbers.now marks.items) }
+{
+    let mut marks = vec![in alloc; false; count]?;
+    for number in numbers {
+        if let Some(mark) = marks.get_mut(*number as usize) {
+            *mark = true;
+        }
+    }
+    Ok(marks)
+}
+
+/// Whether a number is marked.
+fn is_marked(marks: &[bool], number: u32) -> bool
+    ensures { result ≡ slice_index_or marks.now number false }
+{
+    marks.get(number as usize).copied().unwrap_or(false)
+}
+
+/// Whether an address is marked, or known and good.
+fn is_settled(table: &Table, marks: &[bool], address: u32) -> bool
+    ensures { result ≡ true → (slice_index_or marks.now address false ≡ true) ⊎ IsSurelyGood table.now address }
+{
+    is_marked(marks, address) || is_known(table, address, true)
+}
+
+/// Whether each of these addresses is surely good or stands among those: where one of these is bad, one
+/// of those is.
+fn is_bad_there(
+    alloc: Global,
+    table: &Table,
+    these: &[u32],
+    those: &[u32],
+) -> Result<bool, NoMemory>
+    ensures { IfOk result (λ yes. yes ≡ true → BadThere table.now these.now those.now) }
+{
+    let marks = marks(alloc, those, table.len())?;
+    for address in these {
+        if !is_settled(table, &marks, *address) {
+            return Ok(false);
+        }
+    }
+    Ok(true)
+}
+
+/// Whether two runs end with the same outputs and memory and the same unknown addresses, or both have a
+/// known bad one.
+pub(crate) fn agree(
+    alloc: Global,
+    table: &Table,
+    one: &Symbols,
+    other: &Symbols,
+) -> Result<bool, NoMemory>
+    ensures { IfOk result (λ yes. yes ≡ true → (memory : List ℤ) (d : Meaning) →
+        IsMeaning memory table.now d → Agree d one.now other.now) }
+{
+    let faults = has_known_bad(table, &one.addresses);
+    if faults != has_known_bad(table, &other.addresses) {
+        return Ok(false);
+    }
+    Ok(
+        faults
+            || one.outputs == other.outputs
+                && one.memory == other.memory
+                && is_bad_there(alloc, table, &one.addresses, &other.addresses)?
+                && is_bad_there(alloc, table, &other.addresses, &one.addresses)?,
+    )
+}

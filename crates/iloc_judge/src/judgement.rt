@@ -1,0 +1,32 @@
+//! Whether two schedules do the same on every memory.
+ghost use Rattle.std.specs.Prelude.{◌≡◌, true, List, ℤ, IfOk};
+ghost use Rattle.iloc_timed.specs.Timed.{timed_outcome};
+ghost use Rattle.iloc_judge.specs.Terms.{IsMemory};
+
+use crate::agreement::agree;
+use crate::symbols::Symbols;
+use crate::table::Table;
+use iloc_text::NoMemory;
+use iloc_timed::{Latencies, Schedule};
+use std::alloc::Global;
+
+/// Whether two schedules are seen to do the same: where it answers `true`, their timed outcomes are equal
+/// on every memory of 16,384 words of 32 bits. Of `false` nothing follows.
+pub fn same(
+    alloc: Global,
+    ours: &Schedule,
+    theirs: &Schedule,
+    latencies: &Latencies,
+) -> Result<bool, NoMemory>
+    ensures { IfOk result (λ yes. yes ≡ true → (memory : List ℤ) → IsMemory memory
+        → timed_outcome latencies.now ours.now.ops ours.now.rows memory
+        ≡ timed_outcome latencies.now theirs.now.ops theirs.now.rows memory) }
+{
+    let mut table = Table::new(alloc);
+    let one = Symbols::of(alloc, &mut table, ours, latencies)?;
+    let other = Symbols::of(alloc, &mut table, theirs, latencies)?;
+    if !table.is_ordered() {
+        return Ok(false);
+    }
+    agree(alloc, &table, &one, &other)
+}

@@ -1,0 +1,20 @@
+//! The judge of schedules that others made: whether their outcome is that of ours, on every memory.
+#![tactic(auto)]
+
+mod action;
+mod agreement;
+mod judgement;
+mod memories;
+mod node;
+mod place;
+mod registers;
+mod symbols;
+mod table;
+mod tries;
+mod verdict;
+mod wheel;
+mod words;
+
+pub use judgement::same;
+pub use place::Place;
+pub use verdict::{Verdict, judge};

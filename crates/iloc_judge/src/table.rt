@@ -1,0 +1,79 @@
+//! A table of terms.
+ghost use Rattle.std.specs.Prelude.{◌≡◌, [], length, true, IfSome, IfOk};
+
+use crate::node::Node;
+use iloc_text::NoMemory;
+use std::alloc::Global;
+use std::collections::BTreeMap;
+use std::marker::Model;
+
+/// Terms by their numbers. Equal terms share a number.
+#[derive(Drop)]
+pub(crate) struct Table {
+    nodes: Vec<Node>,
+    // Where each term stands. It is a hint: whoever asks looks whether it does.
+    numbers: BTreeMap<Node, u32>,
+}
+
+impl Model for Table {
+    ghost use Rattle.std.specs.Prelude.{List};
+    ghost use Rattle.iloc_judge.specs.declared.node.Node.{Node};
+
+    ghost Value = { List Node };
+
+    ghost view = { λ table. table.nodes.items };
+}
+
+impl Table {
+    ghost use Rattle.iloc_judge.specs.Terms.{IsNode, Means, Adds};
+    ghost use Rattle.iloc_judge.specs.Steps.Order.{IsOrdered};
+
+    /// The table without terms.
+    pub(crate) fn new(alloc: Global) -> Table
+        ensures { result ≡ [] }
+    {
+        Table {
+            nodes: Vec::new(alloc),
+            numbers: BTreeMap::new(alloc),
+        }
+    }
+
+    /// How many terms it has.
+    pub(crate) fn len(&self) -> usize
+        ensures { result ≡ length self.now }
+    {
+        self.nodes.len()
+    }
+
+    /// The term with this number.
+    pub(crate) fn node(&self, number: u32) -> Option<Node>
+        ensures { IfSome result (IsNode self.now number) }
+    {
+        self.nodes.get(number as usize).copied()
+    }
+
+    /// The number of a term, which is added where it isn't there.
+    pub(crate) fn intern(&mut self, node: Node) -> Result<u32, NoMemory>
+        ensures { IfOk result (λ number. Adds self.old self.new (λ memory d. Means memory d number node)) }
+    {
+        let Ok(next) = u32::try_from(self.nodes.len()) else {
+            return Err(NoMemory);
+        };
+        let number = *self.numbers.entry(node)?.or_insert(next);
+        if self.node(number) == Some(node) {
+            return Ok(number);
+        }
+        self.nodes.push(node)?;
+        Ok(next)
+    }
+
+    /// Whether each term names numbers below its own alone.
+    pub(crate) fn is_ordered(&self) -> bool
+        ensures { result ≡ true → IsOrdered self.now }
+    {
+        self.nodes
+            .iter()
+            .enumerate()
+            .all(|(number, node)| node.names_below(number))
+    }
+}

@@ -1,0 +1,308 @@
+-- A text has one answer.
+use Rattle.std.proofs.Common.{◌≡◌, ◌∙◌, ℕ, ◌+◌, ◌<◌, ◌≤◌, List, [], ◌∷◌, ◌++◌, length, refl, sym, ap, ap₂, subst, subst₂, ◌⊎◌, inl, inr, append_assoc, append-nil, arith}
+use Rattle.std.specs.List.{join_with_byte}
+use Rattle.iloc_text.specs.declared.file.Block.{Block}
+use Rattle.iloc_text.specs.declared.fault.ReadFault.{ReadFault}
+use Rattle.iloc_text.specs.declared.fault.ReadFault.TheVariants.{InputTooLong, BadLine, NumberTooLarge, TooManyBlocks, TooManyOperations, NoMemory}
+use Rattle.iloc_text.specs.Files as files
+use Rattle.iloc_text.specs.Files.{AreLines}
+use Rattle.iloc_text.specs.ScheduleLines.{Said, Says, SaysSomethingWidely}
+use Rattle.iloc_text.proofs.Answer.{lines_are_of, one_answer}
+use Rattle.iloc_text.proofs.ScheduleLines.{one_said}
+use Rattle.iloc_rows.specs.declared.fault.RowsFault.{RowsFault}
+use Rattle.iloc_rows.specs.declared.fault.RowsFault.TheVariants.{Read, NoSuchBlock}
+use Rattle.iloc_rows.specs.declared.proposal.Proposal.{Proposal}
+use Rattle.iloc_rows.specs.Proposing.{is_of_block, op_count, proposals_of, Fits, AllFit}
+use Rattle.iloc_rows.specs.Submissions.{SayAll, BlocksEnd, StartWithSchedule, Denotes, IsFaulty, HaveFirstFault, BlocksAreRefused, RowsAreRefused, IsRefused}
+use Rattle.iloc_rows.specs.Laws as laws
+
+-- Where the blocks end
+
+same_parts : (b a c d : List (List ℕ)) → b ++ a ≡ c ++ d → BlocksEnd b a → BlocksEnd c d → (b ≡ c) × (a ≡ d)
+same_parts [] a [] d e h k = (refl, e)
+same_parts [] a (y ∷ ys) d e h k = absurd (k.none.0 (subst StartWithSchedule e h.first))
+same_parts (x ∷ xs) a [] d e h k = absurd (h.none.0 (subst StartWithSchedule (sym e) k.first))
+same_parts (x ∷ xs) a (y ∷ ys) d e h k =
+    let one : x ≡ y = cc in
+    let rest : xs ++ a ≡ ys ++ d = cc in
+    let more = same_parts xs a ys d rest (record { none = h.none.1; first = h.first })
+    (record { none = k.none.1; first = k.first }) in
+    (ap₂ (λ l ls. l ∷ ls) one more.0, more.1)
+
+same_split : (input : List ℕ) (b a c d : List (List ℕ)) → AreLines input (b ++ a) → AreLines input (c ++ d)
+    → BlocksEnd b a → BlocksEnd c d → (b ≡ c) × (a ≡ d)
+same_split input b a c d l m h k =
+    same_parts b a c d (sym (lines_are_of input (b ++ a) l) ∙ lines_are_of input (c ++ d) m) h k
+
+-- What lines say
+
+same_said : (lines : List (List ℕ)) (ss ts : List Said) → SayAll lines ss → SayAll lines ts → ss ≡ ts
+same_said [] [] [] h k = refl
+same_said [] [] (t ∷ ts) h k = absurd k
+same_said [] (s ∷ ss) ts h k = absurd h
+same_said (l ∷ ls) [] ts h k = absurd h
+same_said (l ∷ ls) (s ∷ ss) [] h k = absurd k
+same_said (l ∷ ls) (s ∷ ss) (t ∷ ts) h k = ap₂ (λ x xs. x ∷ xs) (one_said l s t h.0 k.0) (same_said ls ss ts h.1 k.1)
+
+says_widely : (line : List ℕ) (s : Said) → Says line s → SaysSomethingWidely line
+says_widely line s h = (s, h.0)
+
+-- Faults
+
+-- a line that fits has no fault
+no_fault : (blocks : List Block) (ss : List Said) (line : List ℕ) (n : ℕ) (fault : RowsFault) (s : Said) → Says line s
+    → Fits blocks ss s → IsFaulty blocks ss line n fault → ⊥
+no_fault blocks ss line n (Read InputTooLong) s h f k = k
+no_fault blocks ss line n (Read (BadLine m)) s h f k = k.1 (says_widely line s h)
+no_fault blocks ss line n (Read (NumberTooLarge m)) s h f k = k.2 (s, h)
+no_fault blocks ss line n (Read (TooManyBlocks m)) s h f k = k
+no_fault blocks ss line n (Read (TooManyOperations m)) s h f k =
+    let same = ap (op_count ss) (one_said line s k.1.said h k.1.says) in
+    let few = f.few in
+    let many = k.1.many in omega arith
+no_fault blocks ss line n (Read NoMemory) s h f k = k
+no_fault blocks ss line n (NoSuchBlock m) s h f k =
+    let same = ap (is_of_block blocks ss) (one_said line s k.1.said h k.1.says) in
+    let there = f.of_block in
+    let none = k.1.of_none in cc
+
+-- one line has one fault at most
+same_fault : (blocks : List Block) (ss : List Said) (line : List ℕ) (n : ℕ) (fault fault' : RowsFault)
+    → IsFaulty blocks ss line n fault → IsFaulty blocks ss line n fault' → fault ≡ fault'
+same_fault blocks ss line n (Read InputTooLong) g h k = absurd h
+same_fault blocks ss line n (Read (TooManyBlocks m)) g h k = absurd h
+same_fault blocks ss line n (Read NoMemory) g h k = absurd h
+same_fault blocks ss line n (Read (BadLine m)) (Read (BadLine j)) h k = ap (λ i. Read (BadLine i)) (h.0 ∙ sym k.0)
+same_fault blocks ss line n (Read (BadLine m)) (Read (NumberTooLarge j)) h k = absurd (h.1 k.1)
+same_fault blocks ss line n (Read (BadLine m)) (Read (TooManyOperations j)) h k =
+    absurd (h.1 (says_widely line k.1.said k.1.says))
+same_fault blocks ss line n (Read (BadLine m)) (NoSuchBlock j) h k = absurd (h.1 (says_widely line k.1.said k.1.says))
+same_fault blocks ss line n (Read (BadLine m)) (Read InputTooLong) h k = absurd k
+same_fault blocks ss line n (Read (BadLine m)) (Read (TooManyBlocks j)) h k = absurd k
+same_fault blocks ss line n (Read (BadLine m)) (Read NoMemory) h k = absurd k
+same_fault blocks ss line n (Read (NumberTooLarge m)) (Read (BadLine j)) h k = absurd (k.1 h.1)
+same_fault blocks ss line n (Read (NumberTooLarge m)) (Read (NumberTooLarge j)) h k =
+    ap (λ i. Read (NumberTooLarge i)) (h.0 ∙ sym k.0)
+same_fault blocks ss line n (Read (NumberTooLarge m)) (Read (TooManyOperations j)) h k =
+    absurd (h.2 (k.1.said, k.1.says))
+same_fault blocks ss line n (Read (NumberTooLarge m)) (NoSuchBlock j) h k = absurd (h.2 (k.1.said, k.1.says))
+same_fault blocks ss line n (Read (NumberTooLarge m)) (Read InputTooLong) h k = absurd k
+same_fault blocks ss line n (Read (NumberTooLarge m)) (Read (TooManyBlocks j)) h k = absurd k
+same_fault blocks ss line n (Read (NumberTooLarge m)) (Read NoMemory) h k = absurd k
+same_fault blocks ss line n (Read (TooManyOperations m)) (Read (BadLine j)) h k =
+    absurd (k.1 (says_widely line h.1.said h.1.says))
+same_fault blocks ss line n (Read (TooManyOperations m)) (Read (NumberTooLarge j)) h k =
+    absurd (k.2 (h.1.said, h.1.says))
+same_fault blocks ss line n (Read (TooManyOperations m)) (Read (TooManyOperations j)) h k =
+    ap (λ i. Read (TooManyOperations i)) (h.0 ∙ sym k.0)
+same_fault blocks ss line n (Read (TooManyOperations m)) (NoSuchBlock j) h k =
+    let same = ap (is_of_block blocks ss) (one_said line h.1.said k.1.said h.1.says k.1.says) in
+    let there = h.1.of_block in
+    let none = k.1.of_none in cc
+same_fault blocks ss line n (Read (TooManyOperations m)) (Read InputTooLong) h k = absurd k
+same_fault blocks ss line n (Read (TooManyOperations m)) (Read (TooManyBlocks j)) h k = absurd k
+same_fault blocks ss line n (Read (TooManyOperations m)) (Read NoMemory) h k = absurd k
+same_fault blocks ss line n (NoSuchBlock m) (Read (BadLine j)) h k =
+    absurd (k.1 (says_widely line h.1.said h.1.says))
+same_fault blocks ss line n (NoSuchBlock m) (Read (NumberTooLarge j)) h k = absurd (k.2 (h.1.said, h.1.says))
+same_fault blocks ss line n (NoSuchBlock m) (Read (TooManyOperations j)) h k =
+    let same = ap (is_of_block blocks ss) (one_said line h.1.said k.1.said h.1.says k.1.says) in
+    let none = h.1.of_none in
+    let there = k.1.of_block in cc
+same_fault blocks ss line n (NoSuchBlock m) (NoSuchBlock j) h k = ap (λ i. NoSuchBlock i) (h.0 ∙ sym k.0)
+same_fault blocks ss line n (NoSuchBlock m) (Read InputTooLong) h k = absurd k
+same_fault blocks ss line n (NoSuchBlock m) (Read (TooManyBlocks j)) h k = absurd k
+same_fault blocks ss line n (NoSuchBlock m) (Read NoMemory) h k = absurd k
+
+-- a line with a fault, behind lines that fit behind a front
+record Faulty (blocks : List Block) (front : List Said) (n : ℕ) (before : List (List ℕ)) (line : List ℕ)
+    (fault : RowsFault) : Type 0 where
+  said : List Said
+  say : SayAll before said
+  fit : AllFit blocks front said
+  faulty : IsFaulty blocks (front ++ said) line (n + length before + 1) fault
+
+-- the same, where the first line before it is looked at
+at_none : (blocks : List Block) (front : List Said) (n : ℕ) (line : List ℕ) (fault : RowsFault)
+    → Faulty blocks front n [] line fault → IsFaulty blocks front line (n + 1) fault
+at_none blocks front n line fault f = by f.said f.say f.faulty
+  where
+    by : (ss : List Said) → SayAll [] ss → IsFaulty blocks (front ++ ss) line (n + 0 + 1) fault
+        → IsFaulty blocks front line (n + 1) fault
+    by [] h k =
+        let none : front ++ [] ≡ front = append-nil front in
+        let number : n + 0 + 1 ≡ n + 1 = omega arith in
+        subst₂ (λ ss m. IsFaulty blocks ss line m fault) none number k
+    by (s ∷ ss) h k = absurd h
+
+at_some : (blocks : List Block) (front : List Said) (n : ℕ) (x : List ℕ) (xs : List (List ℕ)) (line : List ℕ)
+    (fault : RowsFault) → Faulty blocks front n (x ∷ xs) line fault
+    → (s : Said) × Says x s × Fits blocks front s × Faulty blocks (front ++ s ∷ []) (n + 1) xs line fault
+at_some blocks front n x xs line fault f = by f.said f.say f.fit f.faulty
+  where
+    by : (ss : List Said) → SayAll (x ∷ xs) ss → AllFit blocks front ss
+        → IsFaulty blocks (front ++ ss) line (n + length (x ∷ xs) + 1) fault
+        → (s : Said) × Says x s × Fits blocks front s × Faulty blocks (front ++ s ∷ []) (n + 1) xs line fault
+    by [] h a k = absurd h
+    by (s ∷ ss) h a k =
+        let number : n + length (x ∷ xs) + 1 ≡ n + 1 + length xs + 1 = omega arith in (
+          s,
+          h.0,
+          a.0,
+          record {
+            said = ss;
+            say = h.1;
+            fit = a.1;
+            faulty = subst₂ (λ ts m. IsFaulty blocks ts line m fault) (sym (append_assoc front (s ∷ []) ss)) number k;
+          },
+        )
+
+same_first : (blocks : List Block) (front : List Said) (n : ℕ) (b : List (List ℕ)) (l : List ℕ) (a : List (List ℕ))
+    (c : List (List ℕ)) (m : List ℕ) (d : List (List ℕ)) (fault fault' : RowsFault)
+    → b ++ l ∷ a ≡ c ++ m ∷ d → Faulty blocks front n b l fault → Faulty blocks front n c m fault' → fault ≡ fault'
+same_first blocks front n [] l a [] m d fault fault' e f g =
+    let same : l ≡ m = cc in
+    same_fault blocks front m (n + 1) fault fault'
+    (subst (λ t. IsFaulty blocks front t (n + 1) fault) same (at_none blocks front n l fault f))
+    (at_none blocks front n m fault' g)
+same_first blocks front n [] l a (y ∷ ys) m d fault fault' e f g =
+    let same : l ≡ y = cc in
+    let there = at_some blocks front n y ys m fault' g in
+    absurd (no_fault blocks front y (n + 1) fault there.0 there.1 there.2
+    (subst (λ t. IsFaulty blocks front t (n + 1) fault) same (at_none blocks front n l fault f)))
+same_first blocks front n (x ∷ xs) l a [] m d fault fault' e f g =
+    let same : m ≡ x = cc in
+    let there = at_some blocks front n x xs l fault f in
+    absurd (no_fault blocks front x (n + 1) fault' there.0 there.1 there.2
+    (subst (λ t. IsFaulty blocks front t (n + 1) fault') same (at_none blocks front n m fault' g)))
+same_first blocks front n (x ∷ xs) l a (y ∷ ys) m d fault fault' e f g =
+    let same : y ≡ x = cc in
+    let rest : xs ++ l ∷ a ≡ ys ++ m ∷ d = cc in
+    let here = at_some blocks front n x xs l fault f in
+    let there = at_some blocks front n y ys m fault' g in
+    let one : there.0 ≡ here.0 = one_said x there.0 here.0 (subst (λ t. Says t there.0) same there.1) here.1 in
+    same_first blocks (front ++ here.0 ∷ []) (n + 1) xs l a ys m d fault fault' rest here.3
+    (subst (λ s. Faulty blocks (front ++ s ∷ []) (n + 1) ys m fault') one there.3)
+
+-- lines that all fit have no fault
+none_first : (blocks : List Block) (front : List Said) (n : ℕ) (lines : List (List ℕ)) (ss : List Said)
+    (b : List (List ℕ)) (l : List ℕ) (a : List (List ℕ)) (fault : RowsFault) → SayAll lines ss
+    → AllFit blocks front ss → lines ≡ b ++ l ∷ a → Faulty blocks front n b l fault → ⊥
+none_first blocks front n [] ss [] l a fault h f e g = cc
+none_first blocks front n [] ss (x ∷ xs) l a fault h f e g = cc
+none_first blocks front n (y ∷ ys) [] b l a fault h f e g = h
+none_first blocks front n (y ∷ ys) (s ∷ ss) [] l a fault h f e g =
+    let same : l ≡ y = cc in
+    no_fault blocks front y (n + 1) fault s h.0 f.0
+    (subst (λ t. IsFaulty blocks front t (n + 1) fault) same (at_none blocks front n l fault g))
+none_first blocks front n (y ∷ ys) (s ∷ ss) (x ∷ xs) l a fault h f e g =
+    let same : x ≡ y = cc in
+    let rest : ys ≡ xs ++ l ∷ a = cc in
+    let there = at_some blocks front n x xs l fault g in
+    let one : there.0 ≡ s = one_said y there.0 s (subst (λ t. Says t there.0) same there.1) h.0 in
+    none_first blocks (front ++ s ∷ []) (n + 1) ys ss xs l a fault h.1 f.1 rest
+    (subst (λ t. Faulty blocks (front ++ t ∷ []) (n + 1) xs l fault) one there.3)
+
+faulty_of : {blocks : List Block} {n : ℕ} {lines : List (List ℕ)} {fault : RowsFault}
+    (f : HaveFirstFault blocks n lines fault) → Faulty blocks [] n f.before f.line fault
+faulty_of {blocks} {n} {lines} {fault} f =
+    record { said = f.said; say = f.say; fit = f.fit; faulty = f.faulty }
+
+-- Texts
+
+abbrev Refusal : List ℕ → RowsFault → Type 0
+Refusal input fault = ((fault ≡ Read InputTooLong) × (16777216 < length input))
+    ⊎ (((g : ReadFault) × (fault ≡ Read g) × BlocksAreRefused input g) ⊎ RowsAreRefused input fault)
+
+refusal_is : (input : List ℕ) (fault : RowsFault) → IsRefused input fault → Refusal input fault
+refusal_is input (Read InputTooLong) h = inl (refl, h)
+refusal_is input (Read (BadLine n)) (inl b) = inr (inl (BadLine n, refl, b))
+refusal_is input (Read (BadLine n)) (inr r) = inr (inr r)
+refusal_is input (Read (NumberTooLarge n)) (inl b) = inr (inl (NumberTooLarge n, refl, b))
+refusal_is input (Read (NumberTooLarge n)) (inr r) = inr (inr r)
+refusal_is input (Read (TooManyBlocks n)) h = inr (inl (TooManyBlocks n, refl, h))
+refusal_is input (Read (TooManyOperations n)) (inl b) = inr (inl (TooManyOperations n, refl, b))
+refusal_is input (Read (TooManyOperations n)) (inr r) = inr (inr r)
+refusal_is input (Read NoMemory) h = absurd h
+refusal_is input (NoSuchBlock n) h = inr (inr h)
+
+long_and_short : (n : ℕ) → 16777216 < n → n ≤ 16777216 → ⊥
+long_and_short n h k = omega arith
+
+abbrev front_text : List (List ℕ) → List ℕ
+front_text before = join_with_byte 10 before
+
+same_blocks : (input : List ℕ) (g g' : ReadFault) → BlocksAreRefused input g → BlocksAreRefused input g' → g ≡ g'
+same_blocks input g g' h k =
+    let parts = same_split input h.before h.after k.before k.after h.are_lines k.are_lines h.ends k.ends in
+    one_answer.refusal (front_text k.before) g g'
+    (subst (λ b. files.IsRefused (front_text b) g) parts.0 h.refused) k.refused
+
+blocks_or_rows : (input : List ℕ) (g : ReadFault) (fault : RowsFault) → BlocksAreRefused input g
+    → RowsAreRefused input fault → ⊥
+blocks_or_rows input g fault h k =
+    let parts = same_split input h.before h.after k.before k.after h.are_lines k.are_lines h.ends k.ends in
+    one_answer.apart (front_text k.before) k.blocks g k.file
+    (subst (λ b. files.IsRefused (front_text b) g) parts.0 h.refused)
+
+same_rows : (input : List ℕ) (fault fault' : RowsFault) → RowsAreRefused input fault → RowsAreRefused input fault'
+    → fault ≡ fault'
+same_rows input fault fault' h k =
+    let parts = same_split input h.before h.after k.before k.after h.are_lines k.are_lines h.ends k.ends in
+    let blocks : h.blocks ≡ k.blocks = one_answer.file (front_text k.before) h.blocks k.blocks
+    (subst (λ b. files.Denotes (front_text b) h.blocks) parts.0 h.file) k.file in
+    let number : length h.before ≡ length k.before = ap length parts.0 in
+    let mine = faulty_of h.first in
+    let moved : Faulty k.blocks [] (length k.before) h.first.before h.first.line fault =
+    subst₂ (λ bs n. Faulty bs [] n h.first.before h.first.line fault) blocks number mine in
+    same_first k.blocks [] (length k.before) h.first.before h.first.line h.first.after k.first.before k.first.line
+    k.first.after fault fault' (sym h.first.whole ∙ parts.1 ∙ k.first.whole) moved (faulty_of k.first)
+
+one_refusal : (input : List ℕ) (fault fault' : RowsFault) → IsRefused input fault → IsRefused input fault'
+    → fault ≡ fault'
+one_refusal input fault fault' h k = by (refusal_is input fault h) (refusal_is input fault' k)
+  where
+    by : Refusal input fault → Refusal input fault' → fault ≡ fault'
+    by (inl a) (inl b) = a.0 ∙ sym b.0
+    by (inl a) (inr (inl b)) = absurd (long_and_short (length input) a.1 b.2.short)
+    by (inl a) (inr (inr b)) = absurd (long_and_short (length input) a.1 b.short)
+    by (inr (inl a)) (inl b) = absurd (long_and_short (length input) b.1 a.2.short)
+    by (inr (inl a)) (inr (inl b)) = a.1 ∙ ap (λ g. Read g) (same_blocks input a.0 b.0 a.2 b.2) ∙ sym b.1
+    by (inr (inl a)) (inr (inr b)) = absurd (blocks_or_rows input a.0 fault' a.2 b)
+    by (inr (inr a)) (inl b) = absurd (long_and_short (length input) b.1 a.short)
+    by (inr (inr a)) (inr (inl b)) = absurd (blocks_or_rows input b.0 fault b.2 a)
+    by (inr (inr a)) (inr (inr b)) = same_rows input fault fault' a b
+
+one_submission : (input : List ℕ) (blocks blocks' : List Block) (proposals proposals' : List Proposal)
+    → Denotes input blocks proposals → Denotes input blocks' proposals' → (blocks ≡ blocks') × (proposals ≡ proposals')
+one_submission input blocks blocks' proposals proposals' h k =
+    let parts = same_split input h.before h.after k.before k.after h.are_lines k.are_lines h.ends k.ends in
+    let same : blocks ≡ blocks' = one_answer.file (front_text k.before) blocks blocks'
+    (subst (λ b. files.Denotes (front_text b) blocks) parts.0 h.file) k.file in
+    let said : h.propose.said ≡ k.propose.said = same_said k.after h.propose.said k.propose.said
+    (subst (λ ls. SayAll ls h.propose.said) parts.1 h.propose.say) k.propose.say in
+    (same, h.propose.are ∙ ap₂ (λ bs ss. proposals_of (length bs) ss) same said ∙ sym k.propose.are)
+
+denoted_or_refused : (input : List ℕ) (blocks : List Block) (proposals : List Proposal) (fault : RowsFault)
+    → Denotes input blocks proposals → IsRefused input fault → ⊥
+denoted_or_refused input blocks proposals fault h k = by (refusal_is input fault k)
+  where
+    by : Refusal input fault → ⊥
+    by (inl a) = long_and_short (length input) a.1 h.short
+    by (inr (inl a)) =
+        let r = a.2 in
+        let parts = same_split input h.before h.after r.before r.after h.are_lines r.are_lines h.ends r.ends in
+        one_answer.apart (front_text r.before) blocks a.0
+        (subst (λ b. files.Denotes (front_text b) blocks) parts.0 h.file) r.refused
+    by (inr (inr r)) =
+        let parts = same_split input h.before h.after r.before r.after h.are_lines r.are_lines h.ends r.ends in
+        let same : r.blocks ≡ blocks = one_answer.file (front_text h.before) r.blocks blocks
+        (subst (λ b. files.Denotes (front_text b) r.blocks) (sym parts.0) r.file) h.file in
+        let f = r.first in
+        let moved : Faulty blocks [] (length r.before) f.before f.line fault =
+        subst (λ bs. Faulty bs [] (length r.before) f.before f.line fault) same (faulty_of f) in
+        none_first blocks [] (length r.before) h.after h.propose.said f.before f.line f.after fault h.propose.say
+        h.propose.fit (parts.1 ∙ f.whole) moved
+
+pub one_answer_each : laws.TextsHaveOneAnswer
+one_answer_each = record { blocks = one_submission; refusal = one_refusal; apart = denoted_or_refused }

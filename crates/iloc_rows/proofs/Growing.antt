@@ -1,0 +1,220 @@
+-- What the steps of the reader do to what is proposed.
+use Rattle.std.proofs.Common.{◌≡◌, ◌∙◌, ℕ, ◌+◌, ◌-◌, ◌<◌, ◌≤◌, nat_lt, max, Bool, true, false, cond, ◌&&◌, ◌||◌, ◌==◌, List, [], ◌∷◌, ◌++◌, length, refl, sym, ap, ap₂, subst, Option, Some, None, Result, Ok, Err, set, inl, inr, ◌⊎◌, arith}
+use Rattle.std.proofs.lemmas.List.{get_or_past}
+use Rattle.std.proofs.lemmas.List.FromFn.{length-map-range_with_len, get_or-map-range_with_len}
+use Rattle.std.proofs.lemmas.Bool.Decides.{nat_tests}
+use Rattle.iloc_text.specs.declared.op.Op.{Op}
+use Rattle.iloc_text.specs.declared.file.Block.{Block}
+use Rattle.iloc_text.specs.declared.fault.ReadFault.TheVariants.{InputTooLong, BadLine, NumberTooLarge, TooManyBlocks, TooManyOperations, NoMemory}
+use Rattle.iloc_text.specs.ScheduleLines.{Said}
+use Rattle.iloc_text.specs.ScheduleLines.Said.{nothing, row, head, cycles, total}
+use Rattle.iloc_rows.specs.declared.fault.RowsFault.{RowsFault}
+use Rattle.iloc_rows.specs.declared.fault.RowsFault.TheVariants.{Read, NoSuchBlock}
+use Rattle.iloc_rows.specs.declared.proposal.Proposal.{Proposal}
+use Rattle.iloc_rows.specs.declared.proposing.Proposing.{Proposing}
+use Rattle.iloc_rows.specs.Proposing.{last_head, block_of, head_number, row_in, cycles_in, rows_of, proposal_of, proposals_of, is_named, op_count}
+use Rattle.iloc_rows.specs.Steps.Growth.{none_proposed, with_row, with_cycles, place, at_place, HasProposed, Adds, RowAdds, CyclesAdd, Turns}
+use Rattle.iloc_rows.proofs.Picking.{last_head-none, last_head-head}
+use Rattle.iloc_rows.proofs.Numbering.{ops_in-snoc, proposal-same, proposal-row, proposal-row_else, proposal-cycles, proposal-cycles_else, proposal-short, map-same, map-set}
+
+-- Places
+
+pub length-proposals : (count : ℕ) (ss : List Said) → length (proposals_of count ss) ≡ count
+length-proposals count ss = length-map-range_with_len (proposal_of ss) 1 count
+
+at-proposals : (count : ℕ) (ss : List Said) (i : ℕ) → i < count
+    → at_place (proposals_of count ss) i ≡ proposal_of ss (1 + i)
+at-proposals count ss i lt = get_or-map-range_with_len (proposal_of ss) 1 count i (1 + i) none_proposed lt refl
+
+-- the place where there is one
+place_found : (last count i : ℕ) → place last count ≡ Some i
+    → (max 1 last ≡ 1 + i) × ((nat_lt 0 last || (count == 1)) ≡ true) × (last ≤ count → i < count)
+place_found last count i = by (nat_lt 0 last) refl (count == 1) refl
+  where
+    by : (a : Bool) → nat_lt 0 last ≡ a → (b : Bool) → (count == 1) ≡ b
+        → cond a (Some (last - 1)) (cond b (Some 0) None) ≡ Some i
+        → (max 1 last ≡ 1 + i) × ((a || b) ≡ true) × (last ≤ count → i < count)
+    by true e b f h =
+        let some : 0 < last = grind (arith, nat_tests) in
+        let same : last - 1 ≡ i = cc in
+        (omega arith, refl, λ le. omega arith)
+    by false e true f h =
+        let none : last ≡ 0 = grind (arith, nat_tests) in
+        let one : count ≡ 1 = grind (arith, nat_tests) in
+        let same : 0 ≡ i = cc in
+        (omega arith, refl, λ le. omega arith)
+    by false e false f h = cc
+
+-- and where there is none
+place_none : (last count : ℕ) → place last count ≡ None → (nat_lt 0 last || (count == 1)) ≡ false
+place_none last count = by (nat_lt 0 last) (count == 1)
+  where
+    by : (a b : Bool) → ◌≡◌ {A = Option ℕ} (cond a (Some (last - 1)) (cond b (Some 0) None)) None → (a || b) ≡ false
+    by true b h = cc
+    by false true h = cc
+    by false false h = refl
+
+-- a line is of the place that stands in the state
+record IsAt (blocks : List Block) (ss : List Said) (i : ℕ) : Type 0 where
+  block : block_of ss ≡ 1 + i
+  within : i < length blocks
+  there : (nat_lt 0 (last_head ss) || (length blocks == 1)) ≡ true
+
+is_at : {blocks : List Block} {ss : List Said} {old : Proposing} (i : ℕ) → HasProposed blocks ss old
+    → place old.last (length old.proposals.items) ≡ Some i → IsAt blocks ss i
+is_at {blocks} {ss} {old} i h e =
+    let count : length old.proposals.items ≡ length blocks =
+    ap length h.proposals ∙ length-proposals (length blocks) ss in
+    let found = place_found (last_head ss) (length blocks) i (sym (ap₂ place h.last count) ∙ e) in
+    record {
+      block = found.0;
+      there = found.1;
+      within = found.2 (let last = h.last in let within = old.within in omega arith);
+    }
+
+nowhere : {blocks : List Block} {ss : List Said} {old : Proposing} → HasProposed blocks ss old
+    → place old.last (length old.proposals.items) ≡ None
+    → (nat_lt 0 (last_head ss) || (length blocks == 1)) ≡ false
+nowhere {blocks} {ss} {old} h e =
+    let count : length old.proposals.items ≡ length blocks =
+    ap length h.proposals ∙ length-proposals (length blocks) ss in
+    place_none (last_head ss) (length blocks) (sym (ap₂ place h.last count) ∙ e)
+
+still_of : (ss : List Said) (s : Said) → head_number s ≡ None → block_of (ss ++ s ∷ []) ≡ block_of ss
+still_of ss s h = ap (max 1) (last_head-none ss s h)
+
+-- Rows
+
+rows_grow : (blocks : List Block) (ss : List Said) (one two : Op) (i : ℕ) → IsAt blocks ss i
+    → proposals_of (length blocks) (ss ++ row one two ∷ [])
+    ≡ set (proposals_of (length blocks) ss) i (with_row (at_place (proposals_of (length blocks) ss) i) one two)
+rows_grow blocks ss one two i a =
+    let here : block_of (ss ++ row one two ∷ []) ≡ 1 + i = still_of ss (row one two) refl ∙ a.block in
+    map-set (proposal_of ss) (proposal_of (ss ++ row one two ∷ [])) 1 (length blocks) i
+    (with_row (at_place (proposals_of (length blocks) ss) i) one two) a.within
+    (proposal-row ss one two (1 + i) here
+    ∙ ap (λ p. with_row p one two) (sym (at-proposals (length blocks) ss i a.within)))
+    (λ k ne. proposal-row_else ss one two k (λ e. ne (sym e ∙ here)))
+
+row_count : (blocks : List Block) (ss : List Said) (one two : Op) (i : ℕ) → IsAt blocks ss i
+    → length (with_row (at_place (proposals_of (length blocks) ss) i) one two).ops ≡ op_count ss (row one two)
+row_count blocks ss one two i a =
+    ap (λ p. length (with_row p one two).ops) (at-proposals (length blocks) ss i a.within)
+    ∙ ap (λ k. length (with_row (proposal_of ss k) one two).ops) (sym a.block)
+    ∙ ap length (sym (ops_in-snoc (rows_of (block_of ss) ss) (one, two)))
+
+pub row_adds : {blocks : List Block} {ss : List Said} {old : Proposing} (one two : Op) (n : ℕ) (new : Proposing)
+    (result : Result (Unit {0}) RowsFault)
+    → HasProposed blocks ss old → RowAdds old one two n new result → Adds blocks ss (row one two) n new result
+row_adds {blocks} {ss} {old} one two n new (Ok done) h r =
+    let a = is_at r.0 h r.1 in
+    let grown : new.proposals.items ≡ proposals_of (length blocks) (ss ++ row one two ∷ []) =
+    r.2 ∙ ap (λ ps. set ps r.0 (with_row (at_place ps r.0) one two)) h.proposals
+    ∙ sym (rows_grow blocks ss one two r.0 a) in
+    let count = ap (λ ps. length (with_row (at_place ps r.0) one two).ops) h.proposals
+    ∙ row_count blocks ss one two r.0 a in (
+      record { of_block = a.there; few = let few = r.4 in omega arith },
+      record { proposals = grown; last = r.3 ∙ h.last ∙ sym (last_head-none ss (row one two) refl) },
+    )
+row_adds one two n new (Err (Read InputTooLong)) h r = r
+row_adds one two n new (Err (Read (BadLine k))) h r = r
+row_adds one two n new (Err (Read (NumberTooLarge k))) h r = r
+row_adds one two n new (Err (Read (TooManyBlocks k))) h r = r
+row_adds {blocks} {ss} {old} one two n new (Err (Read (TooManyOperations k))) h r =
+    let a = is_at r.1 h r.2 in
+    let count = ap (λ ps. length (with_row (at_place ps r.1) one two).ops) h.proposals
+    ∙ row_count blocks ss one two r.1 a in
+    let many = r.3 in
+    (r.0, a.there, omega arith)
+row_adds one two n new (Err (Read NoMemory)) h r = tt
+row_adds one two n new (Err (NoSuchBlock k)) h r = (r.0, nowhere h r.1)
+
+-- Claims
+
+cycles_grow : (blocks : List Block) (ss : List Said) (c i : ℕ) → IsAt blocks ss i
+    → proposals_of (length blocks) (ss ++ cycles c ∷ [])
+    ≡ set (proposals_of (length blocks) ss) i (with_cycles (at_place (proposals_of (length blocks) ss) i) c)
+cycles_grow blocks ss c i a =
+    let here : block_of (ss ++ cycles c ∷ []) ≡ 1 + i = still_of ss (cycles c) refl ∙ a.block in
+    map-set (proposal_of ss) (proposal_of (ss ++ cycles c ∷ [])) 1 (length blocks) i
+    (with_cycles (at_place (proposals_of (length blocks) ss) i) c) a.within
+    (proposal-cycles ss c (1 + i) here
+    ∙ ap (λ p. with_cycles p c) (sym (at-proposals (length blocks) ss i a.within)))
+    (λ k ne. proposal-cycles_else ss c k (λ e. ne (sym e ∙ here)))
+
+pub cycles_add : {blocks : List Block} {ss : List Said} {old : Proposing} (c n : ℕ) (new : Proposing)
+    (result : Result (Unit {0}) RowsFault)
+    → HasProposed blocks ss old → CyclesAdd old c n new result → Adds blocks ss (cycles c) n new result
+cycles_add {blocks} {ss} {old} c n new (Ok done) h r =
+    let a = is_at r.0 h r.1 in
+    let grown : new.proposals.items ≡ proposals_of (length blocks) (ss ++ cycles c ∷ []) =
+    r.2 ∙ ap (λ ps. set ps r.0 (with_cycles (at_place ps r.0) c)) h.proposals
+    ∙ sym (cycles_grow blocks ss c r.0 a) in (
+      record { of_block = a.there; few = omega arith },
+      record { proposals = grown; last = r.3 ∙ h.last ∙ sym (last_head-none ss (cycles c) refl) },
+    )
+cycles_add c n new (Err (Read fault)) h r = absurd r
+cycles_add c n new (Err (NoSuchBlock k)) h r = (r.0, nowhere h r.1)
+
+-- Heads, and lines that propose nothing
+
+same_proposals : (count : ℕ) (ss : List Said) (s : Said) → row_in s ≡ None → cycles_in s ≡ None
+    → proposals_of count ss ≡ proposals_of count (ss ++ s ∷ [])
+same_proposals count ss s r c =
+    sym (map-same (proposal_of ss) (proposal_of (ss ++ s ∷ [])) 1 count (λ k le. proposal-same ss s k r c))
+
+below : (a k : ℕ) → a < k → nat_lt a k ≡ true
+below a k h = grind (arith, nat_tests)
+
+pub head_turns : {blocks : List Block} {ss : List Said} {old : Proposing} (k : ℕ) (name : Option (List ℕ)) (n : ℕ)
+    (new : Proposing) (result : Result (Unit {0}) RowsFault)
+    → HasProposed blocks ss old → Turns blocks old k name n new result → Adds blocks ss (head k name) n new result
+head_turns {blocks} {ss} {old} k name n new (Ok done) h r = (
+  record {
+    of_block = ap₂ (λ a b. a && b) (below (last_head ss) k (let last = h.last in let lt = r.0 in omega arith)) r.1;
+    few = omega arith;
+  },
+  record {
+    proposals = r.2 ∙ h.proposals ∙ same_proposals (length blocks) ss (head k name) refl refl;
+    last = r.3 ∙ sym (last_head-head ss k name);
+  },
+)
+head_turns k name n new (Err (Read fault)) h r = absurd r
+head_turns {blocks} {ss} {old} k name n new (Err (NoSuchBlock m)) h r =
+    (r.0, ap (λ last. nat_lt last k && is_named blocks k name) (sym h.last) ∙ r.1)
+
+pub nothing_adds : {blocks : List Block} {ss : List Said} {old : Proposing} (n : ℕ) → HasProposed blocks ss old
+    → Adds blocks ss nothing n old (Ok tt)
+nothing_adds {blocks} {ss} {old} n h = (
+  record { of_block = refl; few = omega arith },
+  record {
+    proposals = h.proposals ∙ same_proposals (length blocks) ss nothing refl refl;
+    last = h.last ∙ sym (last_head-none ss nothing refl);
+  },
+)
+
+pub total_adds : {blocks : List Block} {ss : List Said} {old : Proposing} (t n : ℕ) → HasProposed blocks ss old
+    → Adds blocks ss (total t) n old (Ok tt)
+total_adds {blocks} {ss} {old} t n h = (
+  record { of_block = refl; few = omega arith },
+  record {
+    proposals = h.proposals ∙ same_proposals (length blocks) ss (total t) refl refl;
+    last = h.last ∙ sym (last_head-none ss (total t) refl);
+  },
+)
+
+-- Room
+
+pub rows_few : {blocks : List Block} {ss : List Said} {old : Proposing} → HasProposed blocks ss old
+    → length ss < 4000000000 → (i : ℕ) → length (at_place old.proposals.items i).rows < 4000000000
+rows_few {blocks} {ss} {old} h few i =
+    let P : List Proposal → Type 0 = λ ps. length (at_place ps i).rows < 4000000000 in
+    subst P (sym h.proposals) (elim (split i (length blocks)) [
+      | inl lt ↦ (let same = ap (λ p. length p.rows) (at-proposals (length blocks) ss i lt) in
+          omega (arith, proposal-short ss (1 + i)))
+      | inr le ↦ (let same = ap (λ p. length p.rows) (get_or_past (proposals_of (length blocks) ss) i none_proposed
+          (omega (arith, length-proposals (length blocks) ss))) in omega arith)
+    ])
+  where
+    split : (a b : ℕ) → (a < b) ⊎ (b ≤ a)
+    split a b = grind arith

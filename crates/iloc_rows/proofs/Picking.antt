@@ -1,0 +1,112 @@
+-- What one more line does to what is picked of the lines of a block.
+use Rattle.std.proofs.Common.{◌≡◌, ◌≢◌, ◌∙◌, ℕ, suc, ◌≤◌, Bool, true, false, cond, ◌==◌, List, [], ◌∷◌, ◌++◌, length, map, filter_map, refl, ap, Option, Some, None, unwrap_or, option_to_list, append-nil, eq-eqb, ne_eqb, arith}
+use Rattle.std.proofs.lemmas.List.{map-append, length-map}
+use Rattle.std.proofs.lemmas.List.Elements.{filter_map-append}
+use Rattle.iloc_text.specs.ScheduleLines.{Said}
+use Rattle.iloc_text.specs.ScheduleLines.Said.{head}
+use Rattle.iloc_rows.specs.Proposing.{last_of, fronts, head_number, last_head, block_of, of_last, picked}
+
+fronts-snoc : (ss : List Said) (s : Said) → fronts (ss ++ s ∷ []) ≡ fronts ss ++ (ss ++ s ∷ []) ∷ []
+fronts-snoc [] s = refl
+fronts-snoc (x ∷ xs) s = ap (λ f. (x ∷ []) ∷ map (λ front. x ∷ front) f) (fronts-snoc xs s)
+    ∙ ap (λ f. (x ∷ []) ∷ f) (map-append (λ front. x ∷ front) (fronts xs) ((xs ++ s ∷ []) ∷ []))
+
+of_last-snoc : {A : Type 0} (pick : Said → Option A) (ss : List Said) (s : Said) → of_last pick (ss ++ s ∷ []) ≡ pick s
+of_last-snoc pick [] s = refl
+of_last-snoc pick (x ∷ []) s = refl
+of_last-snoc pick (x ∷ y ∷ xs) s = of_last-snoc pick (y ∷ xs) s
+
+pub last_of-snoc : {A : Type 0} (xs : List A) (x : A) → last_of (xs ++ x ∷ []) ≡ Some x
+last_of-snoc [] x = refl
+last_of-snoc (y ∷ []) x = refl
+last_of-snoc (y ∷ z ∷ xs) x = last_of-snoc (z ∷ xs) x
+
+filter_map-one : {A B : Type 0} (f : A → Option B) (x : A) → filter_map f (x ∷ []) ≡ option_to_list (f x)
+filter_map-one {A} {B} f x = by (f x) refl
+  where
+    by : (o : Option B) → f x ≡ o → filter_map f (x ∷ []) ≡ option_to_list o
+    by None e = rw e refl
+    by (Some y) e = rw e refl
+
+one_or_none : {A : Type 0} (b : Bool) (o p : Option A) → o ≡ p
+    → option_to_list (cond b o None) ≡ cond b (option_to_list p) []
+one_or_none true o p h = ap option_to_list h
+one_or_none false o p h = refl
+
+picked-snoc : {A : Type 0} (pick : Said → Option A) (k : ℕ) (ss : List Said) (s : Said)
+    → picked pick k (ss ++ s ∷ [])
+    ≡ picked pick k ss ++ cond (block_of (ss ++ s ∷ []) == k) (option_to_list (pick s)) []
+unfolding picked
+picked-snoc {A} pick k ss s =
+    let f : List Said → Option A = λ front. cond (block_of front == k) (of_last pick front) None in
+    ap (filter_map f) (fronts-snoc ss s) ∙ filter_map-append f (fronts ss) ((ss ++ s ∷ []) ∷ [])
+    ∙ ap (λ o. filter_map f (fronts ss) ++ o)
+    (filter_map-one f (ss ++ s ∷ []) ∙ one_or_none (block_of (ss ++ s ∷ []) == k)
+    (of_last pick (ss ++ s ∷ [])) (pick s) (of_last-snoc pick ss s))
+
+-- nothing is picked of the line
+pub picked-nothing : {A : Type 0} (pick : Said → Option A) (k : ℕ) (ss : List Said) (s : Said) → pick s ≡ None
+    → picked pick k (ss ++ s ∷ []) ≡ picked pick k ss
+picked-nothing {A} pick k ss s h = picked-snoc pick k ss s
+    ∙ ap (λ o. picked pick k ss ++ cond (block_of (ss ++ s ∷ []) == k) (option_to_list o) []) h
+    ∙ ap (λ o. picked pick k ss ++ o) (by (block_of (ss ++ s ∷ []) == k)) ∙ append-nil (picked pick k ss)
+  where
+    by : (b : Bool) → ◌≡◌ {A = List A} (cond b [] []) []
+    by true = refl
+    by false = refl
+
+-- the line is of this block
+pub picked-here : {A : Type 0} (pick : Said → Option A) (k : ℕ) (ss : List Said) (s : Said) (x : A) → pick s ≡ Some x
+    → block_of (ss ++ s ∷ []) ≡ k → picked pick k (ss ++ s ∷ []) ≡ picked pick k ss ++ x ∷ []
+picked-here {A} pick k ss s x h e = let same : (block_of (ss ++ s ∷ []) == k) ≡ true = eq-eqb _ _ e in
+    picked-snoc pick k ss s ∙ ap (λ b. picked pick k ss ++ cond b (option_to_list (pick s)) []) same
+    ∙ ap (λ o. picked pick k ss ++ option_to_list o) h
+
+-- the line is of another one
+pub picked-else : {A : Type 0} (pick : Said → Option A) (k : ℕ) (ss : List Said) (s : Said)
+    → block_of (ss ++ s ∷ []) ≢ k → picked pick k (ss ++ s ∷ []) ≡ picked pick k ss
+picked-else {A} pick k ss s h = let other : (block_of (ss ++ s ∷ []) == k) ≡ false = ne_eqb _ _ h in
+    picked-snoc pick k ss s ∙ ap (λ b. picked pick k ss ++ cond b (option_to_list (pick s)) []) other
+    ∙ append-nil (picked pick k ss)
+
+-- The last head
+
+pub last_head-none : (ss : List Said) (s : Said) → head_number s ≡ None → last_head (ss ++ s ∷ []) ≡ last_head ss
+unfolding last_head
+last_head-none ss s h = ap (λ ns. unwrap_or (last_of ns) 0) (filter_map-append head_number ss (s ∷ [])
+    ∙ ap (λ o. filter_map head_number ss ++ o) (filter_map-one head_number s ∙ ap option_to_list h)
+    ∙ append-nil (filter_map head_number ss))
+
+pub last_head-head : (ss : List Said) (k : ℕ) (name : Option (List ℕ)) → last_head (ss ++ head k name ∷ []) ≡ k
+unfolding last_head
+last_head-head ss k name = ap (λ ns. unwrap_or (last_of ns) 0) (filter_map-append head_number ss (head k name ∷ []))
+    ∙ ap (λ o. unwrap_or o 0) (last_of-snoc (filter_map head_number ss) k)
+
+pub last_head-nothing : last_head [] ≡ 0
+unfolding last_head
+last_head-nothing = refl
+
+-- How much is picked
+
+filter_map-short : {A B : Type 0} (f : A → Option B) (xs : List A) → length (filter_map f xs) ≤ length xs
+filter_map-short f [] = omega arith
+filter_map-short {A} {B} f (x ∷ xs) = by (f x) refl (filter_map-short f xs)
+  where
+    by : (o : Option B) → f x ≡ o → length (filter_map f xs) ≤ length xs
+        → length (filter_map f (x ∷ xs)) ≤ length (x ∷ xs)
+    by None e h = rw e (omega arith)
+    by (Some y) e h = rw e (omega arith)
+
+length-fronts : (ss : List Said) → length (fronts ss) ≡ length ss
+length-fronts [] = refl
+length-fronts (s ∷ ss) = ap suc (length-map (fronts ss) (λ front. s ∷ front) ∙ length-fronts ss)
+
+pub picked-short : {A : Type 0} (pick : Said → Option A) (k : ℕ) (ss : List Said) → length (picked pick k ss) ≤ length ss
+unfolding picked
+picked-short {A} pick k ss =
+    let f : List Said → Option A = λ front. cond (block_of front == k) (of_last pick front) None in
+    omega (arith, filter_map-short f (fronts ss), length-fronts ss)
+
+pub picked-none : {A : Type 0} (pick : Said → Option A) (k : ℕ) → picked pick k [] ≡ []
+unfolding picked
+picked-none pick k = refl

@@ -1,0 +1,218 @@
+-- What the reader has read of schedule lines, from line to line.
+use Rattle.std.proofs.Common.{◌≡◌, ◌≢◌, ◌∙◌, ℕ, suc, ◌+◌, ◌<◌, ◌≤◌, List, [], ◌∷◌, ◌++◌, length, refl, sym, ap, subst, Option, Some, None, Result, Err, IfErr, append_assoc, append-nil, length-append, Bor, inl, inr, arith}
+use Rattle.std.specs.List.{join_with_byte}
+use Rattle.iloc_text.specs.declared.file.Block.{Block}
+use Rattle.iloc_text.specs.declared.fault.ReadFault.{ReadFault}
+use Rattle.iloc_text.specs.declared.fault.ReadFault.TheVariants.{InputTooLong, BadLine, NumberTooLarge, TooManyBlocks, TooManyOperations, NoMemory}
+use Rattle.iloc_text.specs.Files as files
+use Rattle.iloc_text.specs.Files.{AreLines}
+use Rattle.iloc_text.specs.ScheduleLines.{Said, Says}
+use Rattle.iloc_text.specs.Steps.Lines.{lines_of, lines_left}
+use Rattle.iloc_text.proofs.Splitting.{lines_are, lines_few}
+use Rattle.iloc_rows.specs.declared.fault.RowsFault.{RowsFault}
+use Rattle.iloc_rows.specs.declared.fault.RowsFault.TheVariants.{Read, NoSuchBlock}
+use Rattle.iloc_rows.specs.declared.blocks_end.Parts.{Parts}
+use Rattle.iloc_rows.specs.declared.proposal.Proposal.{Proposal}
+use Rattle.iloc_rows.specs.declared.proposing.Proposing.{Proposing}
+use Rattle.iloc_rows.specs.Proposing.{proposals_of, Fits, AllFit}
+use Rattle.iloc_rows.specs.Submissions.{SayAll, Propose, Denotes, IsFaulty, HaveFirstFault, BlocksAreRefused, RowsAreRefused, IsRefused}
+use Rattle.iloc_rows.specs.Steps.Growth.{HasProposed, Adds}
+use Rattle.iloc_rows.specs.Steps.Ends.{ArePartsOf}
+use Rattle.iloc_rows.proofs.Picking.{last_head-nothing}
+use Rattle.iloc_rows.proofs.Ends.{join-append}
+
+SayAll-snoc : (lines : List (List ℕ)) (ss : List Said) (line : List ℕ) (s : Said) → SayAll lines ss → Says line s
+    → SayAll (lines ++ line ∷ []) (ss ++ s ∷ [])
+SayAll-snoc [] [] line s h says = (says, tt)
+SayAll-snoc [] (x ∷ xs) line s h says = absurd h
+SayAll-snoc (l ∷ ls) [] line s h says = absurd h
+SayAll-snoc (l ∷ ls) (x ∷ xs) line s h says = (h.0, SayAll-snoc ls xs line s h.1 says)
+
+pub length-SayAll : (lines : List (List ℕ)) (ss : List Said) → SayAll lines ss → length ss ≡ length lines
+length-SayAll [] [] h = refl
+length-SayAll [] (s ∷ ss) h = absurd h
+length-SayAll (l ∷ ls) [] h = absurd h
+length-SayAll (l ∷ ls) (s ∷ ss) h = ap suc (length-SayAll ls ss h.1)
+
+AllFit-snoc : (blocks : List Block) (lines ss : List Said) (s : Said) → AllFit blocks lines ss
+    → Fits blocks (lines ++ ss) s → AllFit blocks lines (ss ++ s ∷ [])
+AllFit-snoc blocks lines [] s h f = (subst (λ l. Fits blocks l s) (append-nil lines) f, tt)
+AllFit-snoc blocks lines (x ∷ xs) s h f = (
+  h.0,
+  AllFit-snoc blocks (lines ++ x ∷ []) xs s h.1 (subst (λ l. Fits blocks l s)
+      (sym (append_assoc lines (x ∷ []) xs)) f),
+)
+
+-- this was proposed on the first of all these lines, and the rest is still to be read
+pub record Progress (blocks : List Block) (lines : ℕ) (all : List (List ℕ)) (state : Proposing) (number : ℕ)
+    (rest : Option (Bor (List ℕ))) : Type 0 where
+  pub before : List (List ℕ)
+  pub said : List Said
+  pub say : SayAll before said
+  pub fit : AllFit blocks [] said
+  pub proposed : HasProposed blocks said state
+  pub number_is : number ≡ lines + length before
+  pub whole : all ≡ before ++ lines_left rest
+
+pub progress_begins : (blocks : List Block) (lines : ℕ) (state : Proposing) (rest : Option (Bor (List ℕ)))
+    → state.proposals.items ≡ proposals_of (length blocks) [] → state.last ≡ 0
+    → Progress blocks lines (lines_left rest) state lines rest
+progress_begins blocks lines state rest p l = record {
+  before = [];
+  said = [];
+  say = tt;
+  fit = tt;
+  proposed = record { proposals = p; last = l ∙ sym last_head-nothing };
+  number_is = omega arith;
+  whole = refl;
+}
+
+pub progress_step : {blocks : List Block} {lines : ℕ} {all : List (List ℕ)} {state : Proposing} {number : ℕ}
+    {text : Bor (List ℕ)} (p : Progress blocks lines all state number (Some text)) (line : List ℕ)
+    (after : Option (Bor (List ℕ))) (s : Said) (new : Proposing)
+    → lines_of text.now ≡ line ∷ lines_left after → Says line s
+    → Fits blocks p.said s × HasProposed blocks (p.said ++ s ∷ []) new
+    → Progress blocks lines all new (number + 1) after
+progress_step {blocks} {lines} {all} {state} {number} {text} p line after s new split says added = record {
+  before = p.before ++ line ∷ [];
+  said = p.said ++ s ∷ [];
+  say = SayAll-snoc p.before p.said line s p.say says;
+  fit = AllFit-snoc blocks [] p.said s p.fit added.0;
+  proposed = added.1;
+  number_is = omega (arith, length-append p.before (line ∷ []), p.number_is);
+  whole = p.whole ∙ ap (λ l. p.before ++ l) split ∙ sym (append_assoc p.before (line ∷ []) (lines_left after));
+}
+
+pub progress_number : {blocks : List Block} {lines : ℕ} {all : List (List ℕ)} {state : Proposing} {number : ℕ}
+    {rest : Option (Bor (List ℕ))} → Progress blocks lines all state number rest
+    → number + length (lines_left rest) ≡ lines + length all
+progress_number {blocks} {lines} {all} {state} {number} {rest} p =
+    omega (arith, p.number_is, ap length p.whole, length-append p.before (lines_left rest))
+
+pub progress_room : {blocks : List Block} {lines : ℕ} {all : List (List ℕ)} {state : Proposing} {number : ℕ}
+    {rest : Option (Bor (List ℕ))} (p : Progress blocks lines all state number rest)
+    → lines + length all ≤ 16777217 → length p.said < 4000000000
+progress_room {blocks} {lines} {all} {state} {number} {rest} p few =
+    omega (arith, length-SayAll p.before p.said p.say, ap length p.whole, length-append p.before (lines_left rest))
+
+pub progress_ends : {blocks : List Block} {lines : ℕ} {all : List (List ℕ)} {state : Proposing} {number : ℕ}
+    → Progress blocks lines all state number None → Propose blocks all state.proposals.items
+progress_ends {blocks} {lines} {all} {state} {number} p = record {
+  said = p.said;
+  say = subst (λ ls. SayAll ls p.said) (sym (p.whole ∙ append-nil p.before)) p.say;
+  fit = p.fit;
+  are = p.proposed.proposals;
+}
+
+-- Faults
+
+-- the line at hand has this fault
+pub fault_here : {blocks : List Block} {lines : ℕ} {all : List (List ℕ)} {state : Proposing} {number : ℕ}
+    {text : Bor (List ℕ)} (p : Progress blocks lines all state number (Some text)) (line : List ℕ)
+    (after : Option (Bor (List ℕ))) (fault : RowsFault)
+    → lines_of text.now ≡ line ∷ lines_left after → IsFaulty blocks p.said line (number + 1) fault
+    → HaveFirstFault blocks lines all fault
+fault_here {blocks} {lines} {all} {state} {number} {text} p line after fault split faulty = record {
+  before = p.before;
+  line = line;
+  after = lines_left after;
+  whole = p.whole ∙ ap (λ l. p.before ++ l) split;
+  said = p.said;
+  say = p.say;
+  fit = p.fit;
+  faulty = subst (λ n. IsFaulty blocks p.said line n fault) (ap (λ n. n + 1) p.number_is) faulty;
+}
+
+pub added_faulty : (blocks : List Block) (ss : List Said) (line : List ℕ) (s : Said) (n : ℕ) (state : Proposing)
+    (fault : RowsFault) → Says line s → Adds blocks ss s n state (Err fault) → fault ≢ Read NoMemory
+    → IsFaulty blocks ss line n fault
+added_faulty blocks ss line s n state (Read InputTooLong) says a memory = a
+added_faulty blocks ss line s n state (Read (BadLine k)) says a memory = absurd a
+added_faulty blocks ss line s n state (Read (NumberTooLarge k)) says a memory = absurd a
+added_faulty blocks ss line s n state (Read (TooManyBlocks k)) says a memory = a
+added_faulty blocks ss line s n state (Read (TooManyOperations k)) says a memory =
+    (a.0, record { said = s; says = says; of_block = a.1; many = a.2 })
+added_faulty blocks ss line s n state (Read NoMemory) says a memory = absurd (memory refl)
+added_faulty blocks ss line s n state (NoSuchBlock k) says a memory = (a.0, record { said = s; says = says; of_none = a.1 })
+
+-- the fault that a call hands on
+pub err_is : {T : Type 0} (P : RowsFault → Type 0) (r : Result T RowsFault) (fault : RowsFault) → r ≡ Err fault
+    → (fault ≢ Read NoMemory → P fault) → IfErr r (λ f. f ≢ Read NoMemory → P f)
+err_is {T} P r fault e h = let Q : Result T RowsFault → Type 0 = λ x. IfErr x (λ f. f ≢ Read NoMemory → P f) in
+    subst Q (sym e) h
+
+-- The whole text
+
+pub parts_number : {input : List ℕ} {parts : Parts} → ArePartsOf input parts
+    → parts.lines + length (lines_left parts.rows) ≤ length input + 1
+parts_number {input} {parts} a =
+    omega (arith, a.count, lines_few input, ap length a.lines, length-append a.before (lines_left parts.rows))
+
+pub denoted : {input : List ℕ} {parts : Parts} (a : ArePartsOf input parts) (blocks : List Block)
+    (proposals : List Proposal) → length input ≤ 16777216 → files.Denotes parts.blocks.now blocks
+    → Propose blocks (lines_left parts.rows) proposals → Denotes input blocks proposals
+denoted {input} {parts} a blocks proposals short file propose = record {
+  short = short;
+  before = a.before;
+  after = lines_left parts.rows;
+  are_lines = subst (AreLines input) a.lines (lines_are input);
+  ends = a.ends;
+  file = subst (λ t. files.Denotes t blocks) a.blocks file;
+  propose = propose;
+}
+
+front_short : (before after : List (List ℕ)) → length (join_with_byte 10 before)
+    ≤ length (join_with_byte 10 (before ++ after))
+front_short before [] = omega (arith, ap (λ ls. length (join_with_byte 10 ls)) (append-nil before))
+front_short [] (l ∷ ls) = omega arith
+front_short (x ∷ xs) (l ∷ ls) = omega (
+  arith,
+  ap length (join-append (x ∷ xs) l ls (λ e. cc)),
+  length-append (join_with_byte 10 (x ∷ xs)) (10 ∷ join_with_byte 10 (l ∷ ls)),
+)
+
+pub blocks_refused : {input : List ℕ} {parts : Parts} (a : ArePartsOf input parts) (fault : ReadFault)
+    → length input ≤ 16777216 → files.IsRefused parts.blocks.now fault → IsRefused input (Read fault)
+blocks_refused {input} {parts} a fault short h = by fault (record {
+  short = short;
+  before = a.before;
+  after = lines_left parts.rows;
+  are_lines = subst (AreLines input) a.lines (lines_are input);
+  ends = a.ends;
+  refused = subst (λ t. files.IsRefused t fault) a.blocks h;
+})
+  where
+    by : (fault : ReadFault) → BlocksAreRefused input fault → IsRefused input (Read fault)
+    by InputTooLong b =
+        let long = b.refused in
+        let front = front_short b.before b.after in
+        let whole = ap length (b.are_lines.whole) in
+        omega arith
+    by (BadLine n) b = inl b
+    by (NumberTooLarge n) b = inl b
+    by (TooManyBlocks n) b = b
+    by (TooManyOperations n) b = inl b
+    by NoMemory b = b.refused
+
+pub rows_refused : {input : List ℕ} {parts : Parts} (a : ArePartsOf input parts) (blocks : List Block)
+    (fault : RowsFault) → length input ≤ 16777216 → files.Denotes parts.blocks.now blocks
+    → HaveFirstFault blocks parts.lines (lines_left parts.rows) fault → IsRefused input fault
+rows_refused {input} {parts} a blocks fault short file h = by fault (record {
+  short = short;
+  before = a.before;
+  after = lines_left parts.rows;
+  are_lines = subst (AreLines input) a.lines (lines_are input);
+  ends = a.ends;
+  blocks = blocks;
+  file = subst (λ t. files.Denotes t blocks) a.blocks file;
+  first = subst (λ n. HaveFirstFault blocks n (lines_left parts.rows) fault) a.count h;
+})
+  where
+    by : (fault : RowsFault) → RowsAreRefused input fault → IsRefused input fault
+    by (Read InputTooLong) r = absurd r.first.faulty
+    by (Read (BadLine n)) r = inr r
+    by (Read (NumberTooLarge n)) r = inr r
+    by (Read (TooManyBlocks n)) r = absurd r.first.faulty
+    by (Read (TooManyOperations n)) r = inr r
+    by (Read NoMemory) r = absurd r.first.faulty
+    by (NoSuchBlock n) r = r

@@ -1,0 +1,10 @@
+use Rattle.std.proofs.Common.{length}
+use Rattle.iloc_text.specs.Steps.Lines.{lines_left}
+use Rattle.iloc_rows.proofs.Ends.{AreBlocks}
+use Rattle.iloc_rows.proofs.blocks_end.parts_of.Given as goal
+
+abbrev pub invariant-loop-rest : goal.invariant-loop-rest
+invariant-loop-rest l = AreBlocks l.fn.input l.lines l.rest
+
+abbrev pub decreases-loop-rest : goal.decreases-loop-rest
+decreases-loop-rest l = length (lines_left l.rest)

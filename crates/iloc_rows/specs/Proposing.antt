@@ -1,0 +1,152 @@
+-- Which schedules the lines of a listing propose for blocks: by counting over the lines.
+use Rattle.std.specs.Prelude.{◌≡◌, ℕ, ◌+◌, ◌-◌, ◌≤◌, max, nat_lt, Bool, true, false, ◌&&◌, ◌||◌, ◌==◌, if◌then◌else◌, Option, Some, None, unwrap_or, List, [], ◌∷◌, ◌++◌, length, map, slice_get}
+use Rattle.std.specs.List.{filter_map, flat_map, range_with_len}
+use Rattle.std.specs.Option.{option_map_or}
+use Rattle.std.specs.Str.{bytes_eq}
+use Rattle.iloc_text.specs.declared.op.Op.{Op}
+use Rattle.iloc_text.specs.declared.op.Op.TheVariants.{Nop}
+use Rattle.iloc_text.specs.declared.file.Block.{Block}
+use Rattle.iloc_text.specs.ScheduleLines.{Said}
+use Rattle.iloc_text.specs.ScheduleLines.Said.{nothing, row, head, cycles, total}
+use Rattle.iloc_timed.specs.declared.row.Row.{Row}
+use Rattle.iloc_rows.specs.declared.proposal.Proposal.{Proposal}
+
+-- Whose lines they are
+
+-- the last of a list
+abbrev pub last_of : {A : Type 0} → List A → Option A
+last_of [] = None
+last_of (x ∷ []) = Some x
+last_of (x ∷ y ∷ xs) = last_of (y ∷ xs)
+
+-- the lines up to the first, up to the second, and so on
+abbrev pub fronts : List Said → List (List Said)
+fronts [] = []
+fronts (s ∷ ss) = (s ∷ []) ∷ map (λ front. s ∷ front) (fronts ss)
+
+-- the number in a head
+abbrev pub head_number : Said → Option ℕ
+head_number nothing = None
+head_number (row zero one) = None
+head_number (head k name) = Some k
+head_number (cycles c) = None
+head_number (total t) = None
+
+-- the number in the last head, 0 where there is none
+unfoldable pub last_head : List Said → ℕ
+last_head lines = unwrap_or (last_of (filter_map head_number lines)) 0
+
+-- the number of the block of which the last line is: that in the last head, and without a head the first
+abbrev pub block_of : List Said → ℕ
+block_of lines = max 1 (last_head lines)
+
+-- what is picked of the last line
+abbrev pub of_last : {A : Type 0} → (Said → Option A) → List Said → Option A
+of_last pick [] = None
+of_last pick (s ∷ []) = pick s
+of_last pick (s ∷ t ∷ ss) = of_last pick (t ∷ ss)
+
+-- what is picked of the lines of block k, in order
+unfoldable pub picked : {A : Type 0} → (Said → Option A) → ℕ → List Said → List A
+picked pick k lines = filter_map (λ front. if block_of front == k then of_last pick front else None) (fronts lines)
+
+-- Rows
+
+-- the operations of a row, on unit 0 and on unit 1
+abbrev pub row_in : Said → Option (Op × Op)
+row_in nothing = None
+row_in (row zero one) = Some (zero, one)
+row_in (head k name) = None
+row_in (cycles c) = None
+row_in (total t) = None
+
+-- a number of cycles
+abbrev pub cycles_in : Said → Option ℕ
+cycles_in nothing = None
+cycles_in (row zero one) = None
+cycles_in (head k name) = None
+cycles_in (cycles c) = Some c
+cycles_in (total t) = None
+
+-- the rows of block k, and the numbers of cycles that are said of it
+abbrev pub rows_of : ℕ → List Said → List (Op × Op)
+rows_of k lines = picked row_in k lines
+
+abbrev pub claims_of : ℕ → List Said → List ℕ
+claims_of k lines = picked cycles_in k lines
+
+-- a `nop` stands for an empty slot
+abbrev pub is_empty : Op → Bool
+is_empty Nop = true
+is_empty _ = false
+
+-- the operation in a slot, if it isn't empty
+abbrev pub filled : Op → List Op
+filled op = if is_empty op then [] else op ∷ []
+
+-- the operations of rows, in order, in each that on unit 0 first
+abbrev pub ops_in : List (Op × Op) → List Op
+ops_in rows = flat_map (λ r. filled r.0 ++ filled r.1) rows
+
+-- a slot whose operation is the next behind n
+abbrev pub slot : ℕ → Op → Option ℕ
+slot n op = if is_empty op then None else Some n
+
+-- the rows with numbers in place of operations, behind n operations: each operation in its own slot, in order
+abbrev pub numbered : ℕ → List (Op × Op) → List Row
+numbered n [] = []
+numbered n (r ∷ rs) =
+    record { zero = slot n r.0; one = slot (n + length (filled r.0)) r.1 }
+    ∷ numbered (n + length (filled r.0 ++ filled r.1)) rs
+
+-- what the lines propose for block k
+abbrev pub proposal_of : List Said → ℕ → Proposal
+proposal_of lines k = record {
+  ops = ops_in (rows_of k lines);
+  rows = numbered 0 (rows_of k lines);
+  claimed = last_of (claims_of k lines);
+}
+
+-- what they propose for so many blocks
+abbrev pub proposals_of : ℕ → List Said → List Proposal
+proposals_of count lines = map (proposal_of lines) (range_with_len 1 count)
+
+-- Which lines fit the blocks
+
+-- the same name, or none both
+abbrev pub is_same_name : Option (List ℕ) → Option (List ℕ) → Bool
+is_same_name None None = true
+is_same_name None (Some name) = false
+is_same_name (Some name) None = false
+is_same_name (Some name) (Some other) = bytes_eq name other
+
+-- block k, counted from 1, is there and has this name
+abbrev pub is_named : List Block → ℕ → Option (List ℕ) → Bool
+is_named blocks k name = option_map_or (λ block. is_same_name block.name name) (slice_get blocks (k - 1)) false
+
+-- Behind these lines a line speaks of a block that is there: a head names one behind that of the last head, and a row
+-- or a number of cycles stands below a head, or there is one block only.
+abbrev pub is_of_block : List Block → List Said → Said → Bool
+is_of_block blocks lines nothing = true
+is_of_block blocks lines (row zero one) = nat_lt 0 (last_head lines) || (length blocks == 1)
+is_of_block blocks lines (head k name) = nat_lt (last_head lines) k && is_named blocks k name
+is_of_block blocks lines (cycles c) = nat_lt 0 (last_head lines) || (length blocks == 1)
+is_of_block blocks lines (total t) = true
+
+-- how many operations the rows of its block have with this one, where the line is a row
+abbrev pub op_count : List Said → Said → ℕ
+op_count lines nothing = 0
+op_count lines (row zero one) = length (ops_in (rows_of (block_of lines) lines ++ (zero, one) ∷ []))
+op_count lines (head k name) = 0
+op_count lines (cycles c) = 0
+op_count lines (total t) = 0
+
+-- the line speaks of a block that is there, and its row makes no more than 10000 operations
+pub record Fits (blocks : List Block) (lines : List Said) (line : Said) : Type 0 where
+  pub of_block : is_of_block blocks lines line ≡ true
+  pub few : op_count lines line ≤ 10000
+
+-- so does each further line
+abbrev pub AllFit : List Block → List Said → List Said → Type 0
+AllFit blocks lines [] = Unit {0}
+AllFit blocks lines (s ∷ ss) = Fits blocks lines s × AllFit blocks (lines ++ s ∷ []) ss

@@ -1,0 +1,116 @@
+-- Which blocks and proposals a text denotes, and which refusal.
+use Rattle.std.specs.Prelude.{◌≡◌, ℕ, ◌+◌, ◌≤◌, ◌<◌, false, true, List, [], ◌∷◌, ◌++◌, length, ◌⊎◌}
+use Rattle.std.specs.List.{AllByRecursion, join_with_byte}
+use Rattle.iloc_text.specs.declared.file.Block.{Block}
+use Rattle.iloc_text.specs.declared.fault.ReadFault.{ReadFault}
+use Rattle.iloc_text.specs.declared.fault.ReadFault.TheVariants.{InputTooLong, BadLine, NumberTooLarge, TooManyBlocks, TooManyOperations, NoMemory}
+use Rattle.iloc_text.specs.Files as files
+use Rattle.iloc_text.specs.Files.{AreLines}
+use Rattle.iloc_text.specs.ScheduleLines.{Said, Says, SaysSomething, SaysSomethingWidely, IsScheduleLine}
+use Rattle.iloc_rows.specs.declared.fault.RowsFault.{RowsFault}
+use Rattle.iloc_rows.specs.declared.fault.RowsFault.TheVariants.{Read, NoSuchBlock}
+use Rattle.iloc_rows.specs.declared.proposal.Proposal.{Proposal}
+use Rattle.iloc_rows.specs.Proposing.{proposals_of, is_of_block, op_count, AllFit}
+
+-- the lines say this, one by one
+abbrev pub SayAll : List (List ℕ) → List Said → Type 0
+SayAll [] [] = Unit {0}
+SayAll [] (s ∷ ss) = ⊥
+SayAll (line ∷ lines) [] = ⊥
+SayAll (line ∷ lines) (s ∷ ss) = Says line s × SayAll lines ss
+
+abbrev pub StartWithSchedule : List (List ℕ) → Type 0
+StartWithSchedule [] = Unit {0}
+StartWithSchedule (line ∷ lines) = IsScheduleLine line
+
+-- the blocks stand on the lines before the first schedule line
+pub record BlocksEnd (before after : List (List ℕ)) : Type 0 where
+  pub none : AllByRecursion (λ line. IsScheduleLine line → ⊥) before
+  pub first : StartWithSchedule after
+
+-- What is proposed
+
+-- the lines propose these schedules for the blocks
+pub record Propose (blocks : List Block) (lines : List (List ℕ)) (proposals : List Proposal) : Type 0 where
+  pub said : List Said
+  pub say : SayAll lines said
+  pub fit : AllFit blocks [] said
+  pub are : proposals ≡ proposals_of (length blocks) said
+
+-- the bytes denote the blocks and what is proposed for them
+pub record Denotes (input : List ℕ) (blocks : List Block) (proposals : List Proposal) : Type 0 where
+  pub short : length input ≤ 16777216
+  pub before : List (List ℕ)
+  pub after : List (List ℕ)
+  pub are_lines : AreLines input (before ++ after)
+  pub ends : BlocksEnd before after
+  pub file : files.Denotes (join_with_byte 10 before) blocks
+  pub propose : Propose blocks after proposals
+
+-- Refusals
+
+-- behind lines that say this a line speaks of no block that is there, or makes too many operations of its block
+pub record SpeaksOfNoBlock (blocks : List Block) (lines : List Said) (line : List ℕ) : Type 0 where
+  pub said : Said
+  pub says : Says line said
+  pub of_none : is_of_block blocks lines said ≡ false
+
+pub record HoldsTooManyOperations (blocks : List Block) (lines : List Said) (line : List ℕ) : Type 0 where
+  pub said : Said
+  pub says : Says line said
+  pub of_block : is_of_block blocks lines said ≡ true
+  pub many : 10000 < op_count lines said
+
+-- line n, behind schedule lines that say this, has this fault
+abbrev pub IsFaulty : List Block → List Said → List ℕ → ℕ → RowsFault → Type 0
+IsFaulty blocks lines line n (Read InputTooLong) = ⊥
+IsFaulty blocks lines line n (Read (BadLine k)) = (k ≡ n) × (SaysSomethingWidely line → ⊥)
+IsFaulty blocks lines line n (Read (NumberTooLarge k)) =
+    (k ≡ n) × SaysSomethingWidely line × (SaysSomething line → ⊥)
+IsFaulty blocks lines line n (Read (TooManyBlocks k)) = ⊥
+IsFaulty blocks lines line n (Read (TooManyOperations k)) = (k ≡ n) × HoldsTooManyOperations blocks lines line
+IsFaulty blocks lines line n (Read NoMemory) = ⊥
+IsFaulty blocks lines line n (NoSuchBlock k) = (k ≡ n) × SpeaksOfNoBlock blocks lines line
+
+-- the first faulty one of the lines behind line n has this fault
+pub record HaveFirstFault (blocks : List Block) (n : ℕ) (lines : List (List ℕ)) (fault : RowsFault) : Type 0 where
+  pub before : List (List ℕ)
+  pub line : List ℕ
+  pub after : List (List ℕ)
+  pub whole : lines ≡ before ++ line ∷ after
+  pub said : List Said
+  pub say : SayAll before said
+  pub fit : AllFit blocks [] said
+  pub faulty : IsFaulty blocks said line (n + length before + 1) fault
+
+-- the text is refused in its blocks
+pub record BlocksAreRefused (input : List ℕ) (fault : ReadFault) : Type 0 where
+  pub short : length input ≤ 16777216
+  pub before : List (List ℕ)
+  pub after : List (List ℕ)
+  pub are_lines : AreLines input (before ++ after)
+  pub ends : BlocksEnd before after
+  pub refused : files.IsRefused (join_with_byte 10 before) fault
+
+-- the text is refused behind its blocks
+pub record RowsAreRefused (input : List ℕ) (fault : RowsFault) : Type 0 where
+  pub short : length input ≤ 16777216
+  pub before : List (List ℕ)
+  pub after : List (List ℕ)
+  pub are_lines : AreLines input (before ++ after)
+  pub ends : BlocksEnd before after
+  pub blocks : List Block
+  pub file : files.Denotes (join_with_byte 10 before) blocks
+  pub first : HaveFirstFault blocks (length before) after fault
+
+-- the refusal that the bytes denote
+abbrev pub IsRefused : List ℕ → RowsFault → Type 0
+IsRefused input (Read InputTooLong) = 16777216 < length input
+IsRefused input (Read (BadLine n)) = BlocksAreRefused input (BadLine n) ⊎ RowsAreRefused input (Read (BadLine n))
+IsRefused input (Read (NumberTooLarge n)) =
+    BlocksAreRefused input (NumberTooLarge n) ⊎ RowsAreRefused input (Read (NumberTooLarge n))
+IsRefused input (Read (TooManyBlocks n)) = BlocksAreRefused input (TooManyBlocks n)
+IsRefused input (Read (TooManyOperations n)) =
+    BlocksAreRefused input (TooManyOperations n) ⊎ RowsAreRefused input (Read (TooManyOperations n))
+IsRefused input (Read NoMemory) = ⊥
+IsRefused input (NoSuchBlock n) = RowsAreRefused input (NoSuchBlock n)

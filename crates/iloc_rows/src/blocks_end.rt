@@ -1,0 +1,63 @@
+//! Where the blocks of a text end.
+ghost use Rattle.std.specs.Prelude.{◌≡◌, ◌≤◌, MatchBool, length};
+ghost use Rattle.iloc_text.specs.ScheduleLines.{IsScheduleLine, said_of};
+ghost use Rattle.iloc_rows.specs.Steps.Ends.{is_nothing, ArePartsOf};
+
+use crate::line_ends::split_line;
+use iloc_text::{LineFault, ScheduleLine, read_schedule_line};
+
+/// A text, cut before its first schedule line.
+#[derive(Clone, Copy)]
+pub struct Parts<'a> {
+    /// The lines before that one, without their last line end.
+    pub blocks: &'a [u8],
+    /// How many lines those are.
+    pub lines: u32,
+    /// The first schedule line and all that stands behind it, if there is one.
+    pub rows: Option<&'a [u8]>,
+}
+
+/// Whether nothing is said.
+fn is_nothing(line: &ScheduleLine<'_>) -> bool
+    ensures { result ≡ is_nothing (said_of line.now) }
+{
+    matches!(line, ScheduleLine::Empty)
+}
+
+/// Whether the line says more than nothing, or would if numbers had no limit.
+fn is_schedule_line(line: &[u8]) -> bool
+    ensures { MatchBool result (IsScheduleLine line.now) (IsScheduleLine line.now → ⊥) }
+{
+    match read_schedule_line(line) {
+        Ok(found) => !is_nothing(&found),
+        Err(LineFault::Bad) => false,
+        Err(LineFault::NumberTooLarge) => true,
+    }
+}
+
+/// Cuts the text before its first schedule line.
+pub fn parts_of(input: &[u8]) -> Parts<'_>
+    requires { length input.now ≤ 16777216 }
+    ensures { ArePartsOf input.now result }
+{
+    let mut lines = 0;
+    let mut rest = Some(input);
+    while let Some(text) = rest {
+        let (line, after) = split_line(text);
+        if is_schedule_line(line) {
+            let end = (input.len() - text.len()).saturating_sub(1);
+            return Parts {
+                blocks: &input[..end],
+                lines,
+                rows: Some(text),
+            };
+        }
+        lines += 1;
+        rest = after;
+    }
+    Parts {
+        blocks: input,
+        lines,
+        rows: None,
+    }
+}

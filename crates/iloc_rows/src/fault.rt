@@ -1,0 +1,66 @@
+//! Why a text with rows is refused.
+ghost use Rattle.std.specs.Prelude.{◌≡◌};
+
+use iloc_text::{NoMemory, ReadFault};
+use std::alloc::AllocFailed;
+use std::error::Error;
+use std::fmt::{self, Display, Formatter};
+
+/// Why a text denotes no blocks with proposals. Lines are counted from 1.
+#[derive(Clone, Copy, Debug, Drop, PartialEq, Eq)]
+pub enum RowsFault {
+    /// As a file of blocks is refused; of a schedule line, that it isn't understood, that it would be if numbers had
+    /// no limit, or that it holds operation 10,001 of its block's rows.
+    Read(ReadFault),
+    /// This line is a head that names no block behind that of the head before it, or has another name; or a row or a
+    /// number of cycles without a head where there isn't exactly one block.
+    NoSuchBlock(u32),
+}
+
+impl Display for RowsFault {
+    ghost use Rattle.std.specs.Prelude.{Some};
+    ghost use Rattle.iloc_rows.specs.Fault.{rows_fault_text};
+
+    ghost output = { λ fault. Some (rows_fault_text fault) };
+
+    fn fmt<W: fmt::Write>(&self, f: &mut Formatter<W>) -> fmt::Result {
+        match self {
+            RowsFault::Read(fault) => write!(f, "{fault}"),
+            RowsFault::NoSuchBlock(line) => write!(f, "line {line}: no such block"),
+        }
+    }
+}
+
+impl Error for RowsFault {}
+
+impl From<ReadFault> for RowsFault {
+    ghost use Rattle.iloc_rows.specs.declared.fault.RowsFault.TheVariants.{Read as read};
+
+    ghost from_gives = { λ from fault. fault ≡ read from };
+
+    fn from(fault: ReadFault) -> RowsFault {
+        RowsFault::Read(fault)
+    }
+}
+
+impl From<NoMemory> for RowsFault {
+    ghost use Rattle.iloc_text.specs.declared.fault.ReadFault.TheVariants.{NoMemory as no_memory};
+    ghost use Rattle.iloc_rows.specs.declared.fault.RowsFault.TheVariants.{Read as read};
+
+    ghost from_gives = { λ _ fault. fault ≡ read no_memory };
+
+    fn from(_: NoMemory) -> RowsFault {
+        RowsFault::Read(ReadFault::NoMemory)
+    }
+}
+
+impl<T: Drop> From<AllocFailed<T>> for RowsFault {
+    ghost use Rattle.iloc_text.specs.declared.fault.ReadFault.TheVariants.{NoMemory as no_memory};
+    ghost use Rattle.iloc_rows.specs.declared.fault.RowsFault.TheVariants.{Read as read};
+
+    ghost from_gives = { λ _ fault. fault ≡ read no_memory };
+
+    fn from(_: AllocFailed<T>) -> RowsFault {
+        RowsFault::Read(ReadFault::NoMemory)
+    }
+}

@@ -1,0 +1,195 @@
+//! How what is proposed grows, line by line.
+ghost use Rattle.std.specs.Prelude.{◌≡◌, ◌≤◌, ◌<◌, ◌+◌, ℕ, [], ◌++◌, List, length, vec_len, slice_set, option_map, IfOk, IfSome, OnOk};
+ghost use Rattle.std.specs.Option.{option_copied};
+ghost use Rattle.iloc_text.specs.ScheduleLines.{Said, said_of};
+ghost use Rattle.iloc_rows.specs.Proposing.{is_empty, filled, slot, is_same_name, is_named, proposals_of};
+ghost use Rattle.iloc_rows.specs.Steps.Growth.{none_proposed, with_row, with_cycles, place, at_place, HasProposed, Adds, RowAdds, CyclesAdd, Turns};
+
+use crate::fault::RowsFault;
+use crate::proposal::{Proposal, Rows};
+use crate::proposing::Proposing;
+use iloc_text::{Block, MAX_OPS, Name, NoMemory, Op, Ops, ReadFault, ScheduleLine};
+use iloc_timed::Row;
+use std::alloc::Global;
+
+/// A `nop` stands for an empty slot.
+fn is_empty(op: &Op) -> bool
+    ensures { result ≡ is_empty op.now }
+{
+    matches!(op, Op::Nop)
+}
+
+/// The same name, or none both.
+fn is_same_name(own: Option<&Name>, name: Option<&[u8]>) -> bool
+    ensures { result ≡ is_same_name (option_copied own.entry) (option_map (λ text. text.now) name.entry) }
+{
+    match (own, name) {
+        (None, None) => true,
+        (Some(own), Some(name)) => own.as_str().as_bytes() == name,
+        _ => false,
+    }
+}
+
+/// Whether the block with this number, counted from 1, is there and has this name.
+fn is_named(blocks: &[Block], number: u32, name: Option<&[u8]>) -> bool
+    requires { 0 < number }
+    ensures { result ≡ is_named blocks.now number (option_map (λ text. text.now) name.entry) }
+{
+    match blocks.get(number as usize - 1) {
+        Some(block) => is_same_name(block.name.as_ref(), name),
+        None => false,
+    }
+}
+
+impl Proposal {
+    /// Nothing is proposed.
+    fn none(alloc: Global) -> Proposal
+        ensures { result ≡ none_proposed }
+    {
+        Proposal {
+            ops: Ops::new(Vec::new(alloc)),
+            rows: Rows::none(alloc),
+            claimed: None,
+        }
+    }
+
+    /// Adds the operation, if it fills its slot, and gives its number.
+    fn push_slot(&mut self, op: Op) -> Result<Option<usize>, NoMemory>
+        ensures slot { IfOk result (λ place. place ≡ slot (length self.old.ops) op) }
+        ensures ops { OnOk result (self.new ≡ record self.old { ops = self.old.ops ++ filled op }) }
+    {
+        if is_empty(&op) {
+            return Ok(None);
+        }
+        let place = self.ops.len();
+        self.ops.push(op)?;
+        Ok(Some(place))
+    }
+
+    /// Adds a row.
+    fn push_row(&mut self, zero: Op, one: Op) -> Result<(), NoMemory>
+        requires { length self.old.rows < 4000000000 }
+        ensures { OnOk result (self.new ≡ with_row self.old zero one) }
+    {
+        let zero = self.push_slot(zero)?;
+        let one = self.push_slot(one)?;
+        self.rows.push(Row { zero, one })?;
+        Ok(())
+    }
+}
+
+impl Proposing {
+    /// Nothing is proposed for so many blocks.
+    pub fn none(alloc: Global, count: usize) -> Result<Proposing, NoMemory>
+        ensures proposals { IfOk result (λ state. state.proposals.items ≡ proposals_of count []) }
+        ensures last { IfOk result (λ state. state.last ≡ 0) }
+    {
+        let mut proposals = Vec::with_capacity(alloc, count)?;
+        for _ in 0..count {
+            proposals.push(Proposal::none(alloc))?;
+        }
+        Ok(Proposing { proposals, last: 0 })
+    }
+
+    /// The place of the block of which rows and numbers of cycles are, if there is one.
+    fn place(&self) -> Option<usize>
+        ensures place { result ≡ place self.now.last (vec_len self.now.proposals) }
+        ensures within { IfSome result (λ i. i < vec_len self.now.proposals) }
+    {
+        if self.last > 0 {
+            Some(self.last as usize - 1)
+        } else if self.proposals.len() == 1 {
+            Some(0)
+        } else {
+            None
+        }
+    }
+
+    /// Adds a row to what is proposed for the block at this place.
+    fn push_row(&mut self, i: usize, zero: Op, one: Op) -> Result<(), NoMemory>
+        requires within { i < vec_len self.old.proposals }
+        requires room { length (at_place self.old.proposals.items i).rows < 4000000000 }
+        ensures proposals { OnOk result (self.new.proposals.items
+            ≡ slice_set self.old.proposals.items i (with_row (at_place self.old.proposals.items i) zero one)) }
+        ensures last { self.new.last ≡ self.old.last }
+    {
+        self.proposals[i].push_row(zero, one)?;
+        Ok(())
+    }
+
+    /// The last claim of the block at this place is so many cycles.
+    fn set_cycles(&mut self, i: usize, cycles: u32)
+        requires { i < vec_len self.old.proposals }
+        ensures proposals { self.new.proposals.items
+            ≡ slice_set self.old.proposals.items i (with_cycles (at_place self.old.proposals.items i) cycles) }
+        ensures last { self.new.last ≡ self.old.last }
+    {
+        self.proposals[i].claimed = Some(cycles);
+    }
+
+    /// Adds a row on the line with this number.
+    fn add_row(&mut self, zero: Op, one: Op, number: u32) -> Result<(), RowsFault>
+        requires { (i : ℕ) → length (at_place self.old.proposals.items i).rows < 4000000000 }
+        ensures { RowAdds self.old zero one number self.new result }
+    {
+        let Some(i) = self.place() else {
+            return Err(RowsFault::NoSuchBlock(number));
+        };
+        self.push_row(i, zero, one)?;
+        if self.proposals[i].ops.len() > MAX_OPS {
+            return Err(RowsFault::Read(ReadFault::TooManyOperations(number)));
+        }
+        Ok(())
+    }
+
+    /// Adds a claim on the line with this number.
+    fn add_cycles(&mut self, cycles: u32, number: u32) -> Result<(), RowsFault>
+        ensures { CyclesAdd self.old cycles number self.new result }
+    {
+        let Some(i) = self.place() else {
+            return Err(RowsFault::NoSuchBlock(number));
+        };
+        self.set_cycles(i, cycles);
+        Ok(())
+    }
+
+    /// Turns to the block that a head names on the line with this number.
+    fn turn_to(
+        &mut self,
+        blocks: &[Block],
+        block: u32,
+        name: Option<&[u8]>,
+        number: u32,
+    ) -> Result<(), RowsFault>
+        requires { length blocks.now ≡ length self.old.proposals.items }
+        ensures { Turns blocks.now self.old block (option_map (λ text. text.now) name.entry) number self.new result }
+    {
+        if block <= self.last || !is_named(blocks, block, name) {
+            return Err(RowsFault::NoSuchBlock(number));
+        }
+        self.last = block;
+        Ok(())
+    }
+
+    /// Adds what the line with this number says of these blocks.
+    pub fn add(
+        &mut self,
+        blocks: &[Block],
+        line: ScheduleLine<'_>,
+        number: u32,
+    ) -> Result<(), RowsFault>
+        requires { (lines : List Said) × HasProposed blocks.now lines self.old × (length lines < 4000000000) }
+        ensures { (lines : List Said) → HasProposed blocks.now lines self.old →
+            Adds blocks.now lines (said_of line.entry) number self.new result }
+    {
+        match line {
+            ScheduleLine::Empty | ScheduleLine::Total(_) => Ok(()),
+            ScheduleLine::Row { zero, one } => self.add_row(zero, one, number),
+            ScheduleLine::Head {
+                number: block,
+                name,
+            } => self.turn_to(blocks, block, name, number),
+            ScheduleLine::Cycles(cycles) => self.add_cycles(cycles, number),
+        }
+    }
+}

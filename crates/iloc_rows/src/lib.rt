@@ -1,0 +1,16 @@
+//! Schedules that others made: blocks of ILOC and behind them, as schedules are listed, the rows that are proposed for
+//! each.
+#![tactic(auto)]
+
+mod blocks_end;
+mod fault;
+mod growth;
+pub mod laws;
+mod line_ends;
+mod proposal;
+mod proposing;
+mod reader;
+
+pub use fault::RowsFault;
+pub use proposal::{Proposal, Proposals, Rows};
+pub use reader::{Submission, read_submission};

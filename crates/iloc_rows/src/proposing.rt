@@ -1,0 +1,14 @@
+//! What schedule lines have proposed so far.
+ghost use Rattle.std.specs.Prelude.{◌≤◌, vec_len};
+
+use crate::proposal::Proposal;
+
+/// What the lines so far propose for some blocks.
+#[derive(Drop)]
+pub struct Proposing {
+    /// For each block.
+    pub proposals: Vec<Proposal>,
+    /// The number in the last head, 0 where there was none.
+    pub last: u32,
+    ghost within: { last ≤ vec_len proposals },
+}

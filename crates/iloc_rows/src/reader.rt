@@ -1,0 +1,77 @@
+//! The reader: from bytes to blocks and what is proposed for them.
+ghost use Rattle.std.specs.Prelude.{◌≢◌, ◌≤◌, ◌+◌, length, IfOk, IfErr};
+ghost use Rattle.iloc_text.specs.declared.fault.ReadFault.TheVariants.{NoMemory as no_memory};
+ghost use Rattle.iloc_text.specs.Steps.Lines.{lines_left};
+ghost use Rattle.iloc_rows.specs.declared.fault.RowsFault.TheVariants.{Read as read};
+ghost use Rattle.iloc_rows.specs.Submissions.{Denotes, IsRefused, Propose, HaveFirstFault};
+
+use crate::blocks_end::parts_of;
+use crate::fault::RowsFault;
+use crate::line_ends::split_line;
+use crate::proposal::Proposals;
+use crate::proposing::Proposing;
+use iloc_text::{Block, Blocks, LineFault, MAX_INPUT, ReadFault, read_file, read_schedule_line};
+use std::alloc::Global;
+
+/// Blocks, and what is proposed for each.
+#[derive(Debug, Drop)]
+pub struct Submission {
+    /// The blocks, in the order of their lines.
+    pub blocks: Blocks,
+    /// As many proposals, in the order of the blocks.
+    pub proposals: Proposals,
+}
+
+/// What the schedule lines propose for the blocks, or the first fault; `lines` lines stand before them.
+fn read_proposals(
+    alloc: Global,
+    blocks: &[Block],
+    rows: Option<&[u8]>,
+    lines: u32,
+) -> Result<Proposals, RowsFault>
+    requires { lines + length (lines_left rows) ≤ 16777217 }
+    ensures ok { IfOk result (Propose blocks.now (lines_left rows.entry)) }
+    ensures err { IfErr result (λ fault. fault ≢ read no_memory →
+        HaveFirstFault blocks.now lines (lines_left rows.entry) fault) }
+{
+    let mut proposing = Proposing::none(alloc, blocks.len())?;
+    let mut number = lines;
+    let mut rest = rows;
+    while let Some(text) = rest {
+        number += 1;
+        let (bytes, after) = split_line(text);
+        let line = match read_schedule_line(bytes) {
+            Ok(line) => line,
+            Err(LineFault::Bad) => return Err(RowsFault::Read(ReadFault::BadLine(number))),
+            Err(LineFault::NumberTooLarge) => {
+                return Err(RowsFault::Read(ReadFault::NumberTooLarge(number)));
+            }
+        };
+        proposing.add(blocks, line, number)?;
+        rest = after;
+    }
+    Ok(Proposals::new(proposing.proposals))
+}
+
+/// Reads blocks of ILOC and, behind them, schedule lines: exactly the blocks and proposals that the text denotes, or
+/// the refusal that it denotes.
+///
+/// The blocks end before the first schedule line, and what stands before it is read as `iloc_text::read_file` reads it.
+/// A text that is too long is refused before any line is looked at; otherwise the earliest faulty line is named. On one
+/// line `BadLine` comes before `NumberTooLarge`, `NoSuchBlock` and `TooManyOperations`. `NoMemory` may come besides,
+/// where a growth is refused.
+pub fn read_submission(alloc: Global, input: &[u8]) -> Result<Submission, RowsFault>
+    ensures ok { IfOk result (λ found. Denotes input.now found.blocks found.proposals) }
+    ensures err { IfErr result (λ fault. fault ≢ read no_memory → IsRefused input.now fault) }
+{
+    if input.len() > MAX_INPUT {
+        return Err(RowsFault::Read(ReadFault::InputTooLong));
+    }
+    let parts = parts_of(input);
+    let file = read_file(alloc, parts.blocks)?;
+    let proposals = read_proposals(alloc, file.blocks.as_slice(), parts.rows, parts.lines)?;
+    Ok(Submission {
+        blocks: file.blocks,
+        proposals,
+    })
+}

@@ -1,0 +1,11 @@
+use Rattle.std.proofs.Common.{sym, subst}
+use Rattle.std.specs.List.{IsDistinct}
+use Rattle.iloc_sched.specs.Steps.Order.{same_number}
+use Rattle.iloc_sched.proofs.queue.Queue.clear.Goals as goal
+
+pub invariant_of-self : goal.invariant_of-self
+unfolding IsDistinct
+invariant_of-self c = record {
+  ordered = c.clear.ensures.heap_order;
+  distinct = subst (λ cs. IsDistinct same_number cs) (sym c.clear.ensures.items) tt;
+}

@@ -1,0 +1,12 @@
+use Rattle.std.proofs.Common.{◌≡◌, ◌*◌, ◌≤◌, take}
+use Rattle.iloc_sched.specs.Renaming.{without_nops, numbering, renamed_by}
+use Rattle.iloc_sched.specs.Steps.Naming.{Named}
+use Rattle.iloc_sched.specs.Steps.Names.{current_of}
+use Rattle.iloc_sched.proofs.renaming.Names.rename_block.Given as goal
+
+abbrev pub invariant-loop-op : goal.invariant-loop-op
+invariant-loop-op l =
+    (l.self.given ≤ 3 * l.op-index)
+    × Named (without_nops (take l.op-index l.op-items)) l.self.given (current_of l.self)
+    × (l.renamed.items ≡ renamed_by (without_nops (take l.op-index l.op-items))
+    (numbering (without_nops (take l.op-index l.op-items))))

@@ -1,0 +1,15 @@
+use Rattle.std.proofs.Common.{get_or, ap}
+use Rattle.iloc_sched.specs.declared.wheel.Bucket.{Bucket}
+use Rattle.iloc_sched.specs.Steps.Wheel.{chain, no_bucket}
+use Rattle.iloc_sched.proofs.Steps.Linked.{read_replicate}
+use Rattle.iloc_sched.proofs.wheel.Wheel.clear.Goals as goal
+
+pub returns-in_err-resize-clause-empty : goal.returns-in_err-resize-clause-empty
+returns-in_err-resize-clause-empty c = λ b.
+    ap (λ (bucket : Bucket). chain (λ j. get_or c.resize.new.self.items j 0) bucket.count bucket.first)
+    (read_replicate 32 no_bucket b)
+
+pub returns-clause-empty : goal.returns-clause-empty
+returns-clause-empty c = λ b.
+    ap (λ (bucket : Bucket). chain (λ j. get_or c.resize.new.self.items j 0) bucket.count bucket.first)
+    (read_replicate 32 no_bucket b)

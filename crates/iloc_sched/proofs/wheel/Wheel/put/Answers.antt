@@ -1,0 +1,26 @@
+use Rattle.std.proofs.Common.{◌≡◌, ◌%◌, ◌<◌, length, get_or, arith}
+use Rattle.iloc_sched.specs.declared.wheel.Bucket.{Bucket}
+use Rattle.iloc_sched.specs.Steps.Wheel.{no_bucket, bucket_of}
+use Rattle.iloc_sched.proofs.Steps.Linked.{length-chain, put_here, put_elsewhere}
+use Rattle.iloc_sched.proofs.wheel.Wheel.put.Goals as goal
+
+pub overflow_add-self : goal.overflow_add-self
+overflow_add-self c =
+    let w = c.args.self.now in
+    let bucket : Bucket = get_or w.buckets (c.args.cycle % 32) no_bucket in
+    let count : length (bucket_of w (c.args.cycle % 32)) ≡ bucket.count =
+    length-chain (λ j. get_or w.behind.items j 0) bucket.count bucket.first in
+    omega (arith, c.requires.few)
+
+pub returns-clause-put : goal.returns-clause-put
+returns-clause-put c =
+    let w = c.args.self.now in
+    let small : c.args.cycle % 32 < 32 = omega arith in
+    put_here w.buckets w.behind.items (c.args.cycle % 32) c.args.j (omega arith) c.requires.there
+    (c.requires.new (c.args.cycle % 32) small)
+
+pub returns-clause-others : goal.returns-clause-others
+returns-clause-others c = λ b small apart.
+    let w = c.args.self.now in
+    put_elsewhere w.buckets w.behind.items (c.args.cycle % 32) c.args.j (omega arith) c.requires.there b apart
+    (c.requires.new b small)

@@ -1,0 +1,86 @@
+//! Operations by the cycle at which they become ready.
+ghost use Rattle.std.specs.Prelude.{ℕ, ◌≡◌, ◌≢◌, ◌+◌, ◌^◌, ◌%◌, ◌<◌, [], ◌∷◌, length, IfNone, IfSome, OnOk};
+
+use iloc_text::NoMemory;
+use std::alloc::Global;
+
+// More than the longest delay, so the operations of one bucket become ready at the same cycle.
+const BUCKETS: usize = 32;
+
+/// So many operations, of which the first is known.
+#[derive(Clone, Copy, Debug)]
+struct Bucket {
+    first: u32,
+    count: u32,
+}
+
+/// Operations in buckets, by a cycle modulo 32.
+#[derive(Debug, Drop)]
+pub struct Wheel {
+    buckets: [Bucket; BUCKETS],
+    // By operation the one behind it in its bucket.
+    behind: Vec<u32>,
+}
+
+impl Wheel {
+    ghost use Rattle.iloc_sched.specs.Steps.Members.{In};
+    ghost use Rattle.iloc_sched.specs.Steps.Wheel.{bucket_of};
+
+    /// No operation, and room for none.
+    pub fn new(alloc: Global) -> Wheel {
+        Wheel {
+            buckets: [Bucket { first: 0, count: 0 }; BUCKETS],
+            behind: Vec::new(alloc),
+        }
+    }
+
+    /// Takes out all operations, and has room for so many.
+    pub fn clear(&mut self, count: usize) -> Result<(), NoMemory>
+        ensures empty { (b : ℕ) → bucket_of self.new b ≡ [] }
+        ensures room { OnOk result (length self.new.behind.items ≡ count) }
+    {
+        self.buckets = [Bucket { first: 0, count: 0 }; BUCKETS];
+        self.behind.clear();
+        self.behind.resize(count, 0)?;
+        Ok(())
+    }
+
+    /// Puts an operation that is in no bucket into that of a cycle.
+    pub fn put(&mut self, j: u32, cycle: u32)
+        requires there { j < length self.old.behind.items }
+        requires new { (b : ℕ) → b < 32 → In (bucket_of self.old b) j → ⊥ }
+        requires few { length (bucket_of self.old (cycle % 32)) + 1 < 2 ^ 32 }
+        ensures put { bucket_of self.new (cycle % 32) ≡ j ∷ bucket_of self.old (cycle % 32) }
+        ensures others { (b : ℕ) → b < 32 → b ≢ cycle % 32 → bucket_of self.new b ≡ bucket_of self.old b }
+        ensures room { length self.new.behind.items ≡ length self.old.behind.items }
+    {
+        let place = cycle as usize % BUCKETS;
+        let bucket = self.buckets[place];
+        self.behind[j as usize] = bucket.first;
+        self.buckets[place] = Bucket {
+            first: j,
+            count: bucket.count + 1,
+        };
+    }
+
+    /// Takes an operation out of the bucket of a cycle, if there is one.
+    pub fn take(&mut self, cycle: u32) -> Option<u32>
+        requires { (j : ℕ) → In (bucket_of self.old (cycle % 32)) j → j < length self.old.behind.items }
+        ensures none { IfNone result (bucket_of self.new (cycle % 32) ≡ []) }
+        ensures unchanged { IfNone result (self.new ≡ self.old) }
+        ensures taken { IfSome result (λ j. bucket_of self.old (cycle % 32) ≡ j ∷ bucket_of self.new (cycle % 32)) }
+        ensures others { (b : ℕ) → b < 32 → b ≢ cycle % 32 → bucket_of self.new b ≡ bucket_of self.old b }
+        ensures room { length self.new.behind.items ≡ length self.old.behind.items }
+    {
+        let place = cycle as usize % BUCKETS;
+        let bucket = self.buckets[place];
+        if bucket.count == 0 {
+            return None;
+        }
+        self.buckets[place] = Bucket {
+            first: self.behind[bucket.first as usize],
+            count: bucket.count - 1,
+        };
+        Some(bucket.first)
+    }
+}

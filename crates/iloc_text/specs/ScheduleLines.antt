@@ -1,0 +1,77 @@
+-- Which texts a line of a schedule may have, as schedules are listed.
+use Rattle.std.specs.Prelude.{◌≡◌, ◌≢◌, ℕ, ◌≤◌, Option, Some, None, option_map, Result, Ok, Err, List, [], ◌∷◌, ◌++◌, codes}
+use Rattle.std.specs.List.{AllByRecursion}
+use Rattle.iloc_text.specs.declared.op.Op.{Op}
+use Rattle.iloc_text.specs.declared.line.LineFault.{LineFault}
+use Rattle.iloc_text.specs.declared.line.LineFault.TheVariants.{Bad, NumberTooLarge}
+use Rattle.iloc_text.specs.declared.schedule_line.ScheduleLine.{ScheduleLine}
+use Rattle.iloc_text.specs.declared.schedule_line.ScheduleLine.TheVariants.{Empty, Row, Head, Cycles, Total}
+use Rattle.iloc_text.specs.Forms.{numbers}
+use Rattle.iloc_text.specs.Grammar.{◌⋅◌, Text, Blanks, SomeBlanks, Number, Operation, OptionalComment, Name}
+
+-- What a line says: nothing; a row, with the operation on unit 0 and that on unit 1; that what stands below is of the
+-- block with this number and this name; how many cycles a block's schedule takes; or how many all schedules take.
+pub data Said : Type 0 where
+  nothing : Said
+  row : Op → Op → Said
+  head : ℕ → Option (List ℕ) → Said
+  cycles : ℕ → Said
+  total : ℕ → Said
+
+-- an operation with any blanks on both sides
+abbrev pub SlotText : Op → List ℕ → Type 0
+SlotText op = Blanks ⋅ Operation op ⋅ Blanks
+
+-- the name of a block, `-` where it has none
+abbrev pub BlockName : Option (List ℕ) → List ℕ → Type 0
+BlockName None = Text (codes "-")
+BlockName (Some name) = Name name
+
+-- `[ X ; Y ]`, `block K NAME`, `cycles C` or `total T`, with numbers however large
+abbrev pub SaidText : Said → List ℕ → Type 0
+SaidText nothing = Text []
+SaidText (row zero one) = Text (codes "[") ⋅ SlotText zero ⋅ Text (codes ";") ⋅ SlotText one ⋅ Text (codes "]")
+SaidText (head k name) = Text (codes "block") ⋅ SomeBlanks ⋅ Number k ⋅ SomeBlanks ⋅ BlockName name
+SaidText (cycles c) = Text (codes "cycles") ⋅ SomeBlanks ⋅ Number c
+SaidText (total t) = Text (codes "total") ⋅ SomeBlanks ⋅ Number t
+
+-- the line says this, with numbers however large
+abbrev pub SaysWidely : List ℕ → Said → Type 0
+SaysWidely line said = (Blanks ⋅ SaidText said ⋅ Blanks ⋅ OptionalComment) line
+
+-- the numbers that are said, those of the operations among them
+abbrev pub said_numbers : Said → List ℕ
+said_numbers nothing = []
+said_numbers (row zero one) = numbers zero ++ numbers one
+said_numbers (head k name) = k ∷ []
+said_numbers (cycles c) = c ∷ []
+said_numbers (total t) = t ∷ []
+
+-- the line says this, and each number is at most 2147483647
+abbrev pub Says : List ℕ → Said → Type 0
+Says line said = SaysWidely line said × AllByRecursion (λ n. n ≤ 2147483647) (said_numbers said)
+
+abbrev pub SaysSomething : List ℕ → Type 0
+SaysSomething line = (said : Said) × Says line said
+
+-- it would say something if numbers had no limit
+abbrev pub SaysSomethingWidely : List ℕ → Type 0
+SaysSomethingWidely line = (said : Said) × SaysWidely line said
+
+-- it says more than nothing, with numbers however large
+abbrev pub IsScheduleLine : List ℕ → Type 0
+IsScheduleLine line = (said : Said) × (said ≢ nothing) × SaysWidely line said
+
+-- what was read from a line
+abbrev pub said_of : ScheduleLine → Said
+said_of Empty = nothing
+said_of (Row zero one) = row zero one
+said_of (Head number name) = head number (option_map (λ text. text.now) name)
+said_of (Cycles number) = cycles number
+said_of (Total number) = total number
+
+-- what the line says, or why it says nothing that is understood
+abbrev pub IsSaidBy : List ℕ → Result ScheduleLine LineFault → Type 0
+IsSaidBy line (Ok found) = Says line (said_of found)
+IsSaidBy line (Err Bad) = SaysSomethingWidely line → ⊥
+IsSaidBy line (Err NumberTooLarge) = SaysSomethingWidely line × (SaysSomething line → ⊥)

@@ -1,0 +1,17 @@
+# Completions of ilocfarm for bash, made by man/make from the help of the program.
+_ilocfarm() {
+    local words
+    COMPREPLY=()
+    case $COMP_CWORD,${COMP_WORDS[COMP_CWORD - 1]} in *,--at|*,--load|*,--mult|*,--store|*,--workers) return ;; esac
+    case $COMP_CWORD,${COMP_WORDS[1]} in
+    1,*) words="run simulate schedule counts help --help --version" ;;
+    *,run) words="--at --help" ;;
+    *,simulate) words="--at --load --store --mult --help" ;;
+    *,schedule) words="--workers --load --store --mult --help" ;;
+    *,counts) words="--workers --load --store --mult --help" ;;
+    2,help) words="run simulate schedule counts" ;;
+    *) return ;;
+    esac
+    mapfile -t COMPREPLY < <(compgen -W "$words" -- "${COMP_WORDS[COMP_CWORD]}")
+}
+complete -F _ilocfarm ilocfarm

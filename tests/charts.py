@@ -1,0 +1,134 @@
+"""Cases of charts/: what is drawn, by the tooltips of the pictures, and the pictures that docs/ shows."""
+import re
+from xml.etree import ElementTree
+
+from place import expect
+
+SVG = "{http://www.w3.org/2000/svg}"
+# The example of docs/LANGUAGE.md, whose table there gives cycles and reasons.
+BLOCK = b"""loadI 4 => r1
+loadI 8 => r2
+mult r1, r2 => r3
+load r1 => r4
+add r3, r4 => r5
+store r5 => r2
+output 8
+"""
+ISSUED = ["loadI 4 => r0: unit 0, issued at 0, arrives at 1", "loadI 8 => r1: unit 1, issued at 0, arrives at 1",
+          "load r0 => r3: unit 0, issued at 1, arrives at 6", "mult r0, r1 => r2: unit 1, issued at 1, arrives at 4",
+          "add r2, r3 => r4: unit 0, issued at 6, arrives at 7", "store r4 => r1: unit 0, issued at 7, arrives at 12",
+          "output 8: unit 0, issued at 12, arrives at 13"]
+EXPLAINED = b"""block 1 -
+0 cycle 0 unit 0 ready 0 after - priority 13 loadI 4 => r1 ; loadI 4 => r0
+1 cycle 0 unit 1 ready 0 after - priority 11 loadI 8 => r2 ; loadI 8 => r1
+2 cycle 1 unit 1 ready 1 after 0,1 priority 10 mult r1, r2 => r3 ; mult r0, r1 => r2
+3 cycle 1 unit 0 ready 1 after 0 priority 12 load r1 => r4 ; load r0 => r3
+4 cycle 6 unit 0 ready 6 after 3 priority 7 add r3, r4 => r5 ; add r2, r3 => r4
+5 cycle 7 unit 0 ready 7 after 4 priority 6 store r5 => r2 ; store r4 => r1
+6 cycle 12 unit 0 ready 12 after 5 priority 1 output 8 ; output 8
+cycles 13 least 13
+chain 0 3 4 5 6
+total 13
+"""
+CHECKED = b"""block 1 sum same cycles 14 ours 14 least 13
+block 2 dot differs cycles 19 ours 22 least 20 claimed 8
+  output 2: 7 for 8
+total 33 ours 36 least 33
+"""
+CHAIN_OUTLINE = "#e5484d"
+
+
+def picture(place, *words, given=b""):
+    status, out, err = place.run(*words, given=given)
+    expect(f"{words}", (status, err), (0, b""))
+    return ElementTree.fromstring(out)
+
+
+def tooltips(root):
+    return [it.find(f"{SVG}title").text for it in root.iter(f"{SVG}g")]
+
+
+def height(part):
+    return float(part.get("height"))
+
+
+def timeline(place):
+    """Each operation stands where the listing has it, and its bar is as long as its latency."""
+    listing = place.run("ilocfarm", "schedule", given=BLOCK)[1]
+    root = picture(place, "charts/timeline", given=listing)
+    expect("tooltips", [it.replace("\n", ": ") for it in tooltips(root)], ISSUED)
+    groups = {it.find(f"{SVG}text").text: it.findall(f"{SVG}rect") for it in root.iter(f"{SVG}g")}
+    bars = {name: round((height(parts[0]) + 3) / 18) for name, parts in groups.items() if len(parts) == 2}
+    expect("cycles of the bars", bars, {"load r0 => r3": 5, "mult r0, r1 => r2": 3, "store r4 => r1": 5})
+    tops = {name: (float(parts[-1].get("y")) - 69) / 18 for name, parts in groups.items()}
+    issued = {it.split(":")[0]: int(re.search("issued at ([0-9]+)", it)[1]) for it in ISSUED}
+    expect("cycles of the boxes", tops, issued)
+
+
+def timeline_explained(place):
+    root = picture(place, "charts/timeline", given=EXPLAINED)
+    expect("tooltip", tooltips(root)[2], "mult r0, r1 => r2\nunit 1, issued at 1, arrives at 4\nnumber 2: "
+                                         "mult r1, r2 => r3\nready at 1, waited last for 0 and 1\npriority 10")
+    marked = [group.find(f"{SVG}text").text[0] for group in root.iter(f"{SVG}g")
+              if any(it.get("stroke") == CHAIN_OUTLINE for it in group)]
+    expect("the chain", marked, list("03456"))
+    expect("title", root.find(f"{SVG}title").text, "block 1: 13 cycles, at least 13")
+
+
+def timeline_of_many(place):
+    """Three hundred operations, each drawn once; the second block of two, for other latencies."""
+    lines = b"".join(b"load r%d => r%d\n" % (k, k + 1) for k in range(300))
+    listing = place.run("ilocfarm", "schedule", "--load", "2", given=b"a: nop\nb: " + lines)[1]
+    root = picture(place, "charts/timeline", "--block", "2", "--load", "2", given=listing)
+    issued = [f"load r{k} => r{k + 1}\nunit 0, issued at {2 * k}, arrives at {2 * k + 2}" for k in range(300)]
+    expect("tooltips", tooltips(root), issued)
+
+
+def timeline_refuses(place):
+    listing = place.run("ilocfarm", "schedule", "--load", "2", given=BLOCK)[1]
+    for words, given, said in (
+            ([], listing, b"these are not the latencies of the listing: give them by --load, --store and --mult"),
+            (["--block", "2", "--load", "2"], listing, b"the listing has no block 2"),
+            ([], b"", b"the listing has no block 1"),
+            ([], b"block 1 a\n7\n", b"line 2 is none of a listing of schedule or explain: 7")):
+        expect(f"timeline {words}", place.run("charts/timeline", *words, given=given),
+               (1, b"", b"charts/timeline: " + said + b"\n"))
+    expect("status", place.run("charts/timeline", "--load", "17", given=listing)[0], 2)
+
+
+def compare(place):
+    place.write("one", b"block 1 - cycles 4\nblock 2 b cycles 20\ntotal 24\n")
+    place.write("two", b"block 1 x cycles 6\nblock 2 y cycles 0\ntotal 6\n")
+    root = picture(place, "charts/compare", "one", "last=two")
+    expect("tooltips", tooltips(root), ["1 -\none: 4\nlast: 6", "2 b\none: 20\nlast: 0"])
+    texts = [it.text for it in root.iter(f"{SVG}text")]
+    expect("totals", texts[-3:], ["total", "24", "6"])
+    first, second = [it.findall(f"{SVG}circle")[0] for it in root.iter(f"{SVG}g")]
+    scale = {it.text: float(it.get("x")) for it in root.iter(f"{SVG}text") if it.get("text-anchor") == "middle"}
+    expect("a mark stands at its cycles", float(second.get("cx")), scale["20"])
+    expect("and between", float(first.get("cx")), (4 * scale["0"] + scale["20"]) / 5)
+
+
+def compare_checked(place):
+    place.write("ada", CHECKED)
+    place.write("dan", CHECKED.replace(b"differs", b"same").replace(b"cycles 14", b"cycles 24"))
+    root = picture(place, "charts/compare", "ada", "dan")
+    expect("tooltips", tooltips(root), ["1 sum\nada: 14\ndan: 24\nours: 14\nbound: 13",
+                                        "2 dot\nada: 19\ndan: 19\nours: 22\nbound: 20\nada: differs"])
+
+
+def compare_refuses(place):
+    place.write("one", b"block 1 - cycles 4\ntotal 4\n")
+    place.write("two", b"block 1 x cycles 6\nblock 2 y cycles 0\ntotal 6\n")
+    place.write("none", b"total 0\n")
+    place.write("other", b"block 1 - cycles 4\n[ nop ; nop ]\n")
+    for words, said in ((["one", "two"], b"the listings have 1, 2 blocks: only the same ones can be compared"),
+                        (["one", "none"], b"none: there is no block"),
+                        (["one", "other"], b"other: line 2 is none of a listing of counts or check: [ nop ; nop ]")):
+        expect(f"compare {words}", place.run("charts/compare", *words), (1, b"", b"charts/compare: " + said + b"\n"))
+    expect("status", place.run("charts/compare", "one")[0], 2)
+    expect("status", place.run("charts/compare", "one", "nowhere")[0], 4)
+
+
+CHART_CASES = (timeline, timeline_explained, timeline_of_many, timeline_refuses, compare, compare_checked,
+               compare_refuses)

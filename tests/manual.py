@@ -1,0 +1,122 @@
+"""Cases of man/, of ./install and of what is asked of the program by --help, --version and help."""
+import os
+import re
+
+from place import TOP, Failed, expect, needs
+from shown import examples_of
+
+PAGE = f"{TOP}/man/ilocfarm.1"
+LITERAL = re.compile(r"^\.Bd -literal.*\n((?:(?!\.Ed).*\n)*)\.Ed\n", re.MULTILINE)
+LIMITS = (b"16777216", b"65535", b"10000", b"2147483647")
+# The words of a line, the last of which is to be completed, and what is offered.
+COMPLETIONS = (
+    (["s"], "simulate schedule"),
+    (["--v"], "--version"),
+    (["run", "--"], "--at --help"),
+    (["counts", "--load", ""], ""),
+    (["counts", "--load", "1", "--m"], "--mult"),
+    (["help", "c"], "counts"),
+    (["run", "--at", "4", "1"], ""),
+)
+COMPLETE = ('source "$0"; COMP_WORDS=(ilocfarm "$@"); COMP_CWORD=$#; _ilocfarm; echo "${COMPREPLY[*]}"')
+INSTALLED = ("bin/ilocfarm", "share/bash-completion/completions/ilocfarm", "share/ilocfarm/charts/compare",
+             "share/ilocfarm/charts/svg.py", "share/ilocfarm/charts/timeline", "share/ilocfarm/cluster/job",
+             "share/ilocfarm/cluster/join", "share/ilocfarm/cluster/split", "share/ilocfarm/examples/class/ada.iloc",
+             "share/ilocfarm/examples/first.iloc", "share/man/man1/ilocfarm.1")
+
+
+def read(path):
+    with open(path, "rb") as file:
+        return file.read()
+
+
+def commands_of(place):
+    """The commands that the top help lists, `help` among them."""
+    out = place.run("ilocfarm", "--help")[1].decode()
+    return re.findall(r"^  (\w+) ", out.partition("Commands:\n")[2].partition("\n\n")[0], re.MULTILINE)
+
+
+def page_is_the_helps(place):
+    """The page and the completions are what man/make makes of the program's help."""
+    os.mkdir(place.path("made"))
+    expect("man/make", place.run("man/make", "bin/ilocfarm", "made"), (0, b"", b""))
+    for name in ("ilocfarm.1", "ilocfarm.bash"):
+        if place.read(f"made/{name}") != read(f"{TOP}/man/{name}"):
+            raise Failed(f"man/{name} is not what `man/make PROGRAM man` writes")
+
+
+def page_has_no_slips(place):
+    needs("mandoc")
+    expect("mandoc", place.run("mandoc", "-T", "lint", PAGE), (0, b"", b""))
+
+
+def page_examples(place):
+    text = read(PAGE).decode()
+    commands = [it for part in LITERAL.findall(text) for it in examples_of(part)]
+    named = {command.split()[1] for command, _ in commands}
+    expect("commands with an example", named, set(commands_of(place)))
+    for command, below in commands:
+        expect(command, place.shell(command)[1], below)
+
+
+def help_in_three_ways(place):
+    top = place.run("ilocfarm", "--help")
+    expect("help", place.run("ilocfarm", "help"), top)
+    expect("-h", place.run("ilocfarm", "-h"), top)
+    missing = [it for it in LIMITS if it not in top[1]]
+    expect("limits that the help leaves out", missing, [])
+    for name in commands_of(place):
+        if name != "help":
+            shown = place.run("ilocfarm", name, "--help")
+            expect(f"{name}: status", shown[0], 0)
+            expect(f"help {name}", place.run("ilocfarm", "help", name), shown)
+
+
+def completes(place):
+    for words, offered in COMPLETIONS:
+        done = place.run("bash", "-c", COMPLETE, f"{TOP}/man/ilocfarm.bash", *words)
+        expect(f"completions of {words}", done, (0, f"{offered}\n".encode(), b""))
+
+
+def files_below(folder):
+    return {os.path.relpath(f"{at}/{name}", folder) for at, _, names in os.walk(folder) for name in names}
+
+
+def installs(place):
+    version = place.run("ilocfarm", "--version")
+    expect("install", place.run("./install", place.path("a prefix"), "bin/ilocfarm"), version)
+    expect("files that were left out", set(INSTALLED) - files_below(place.path("a prefix")), set())
+    for made, source in (("bin/ilocfarm", place.program), ("share/man/man1/ilocfarm.1", PAGE),
+                         ("share/ilocfarm/cluster/join", f"{TOP}/cluster/join")):
+        expect(f"{made} as it stands", place.read(f"a prefix/{made}") == read(source), True)
+    listing = place.run("ilocfarm", "schedule", given=place.read("examples/dot.iloc"))[1]
+    expect("timeline", place.run("a prefix/share/ilocfarm/charts/timeline", given=listing),
+           place.run("charts/timeline", given=listing))
+    expect("files of the charts", sorted(os.listdir(place.path("a prefix/share/ilocfarm/charts"))),
+           ["compare", "svg.py", "timeline"])
+    given = place.read("examples/first.iloc")
+    expect("run", place.run("a prefix/bin/ilocfarm", "run", given=given), (0, b"block 1 -\n7\n", b""))
+    expect("DESTDIR", place.run("./install", "/usr", "bin/ilocfarm", DESTDIR=place.path("root")), version)
+    expect("files", files_below(place.path("root/usr")), files_below(place.path("a prefix")))
+
+
+def installs_nothing_by_mistake(place):
+    for words in ((), ("--help",)):
+        status, out, err = place.run("./install", *words)
+        expect("install", (status, out, err.startswith(b"usage: ")), (2, b"", True))
+    status, out, err = place.run("./install", place.path("prefix"), "no program")
+    expect("install", (status == 0, out, bool(err)), (False, b"", True))
+
+
+def tests_want_a_program(place):
+    """The scripts of tests/ that take a program end with a message where they are given none."""
+    for name in ("run", "cluster", "beside"):
+        for words, message in ((["nosuch"], f"tests/{name}: nosuch is no program\n"), (["--help"], None), ([], None)):
+            status, out, err = place.run(f"{TOP}/tests/{name}", *words)
+            expect(f"tests/{name} {words}", (status, out), (1, b""))
+            usage = f"tests/{name} PROGRAM" in err.decode()
+            expect(f"tests/{name} {words}", usage if message is None else err.decode(), message or True)
+
+
+MANUAL_CASES = (page_is_the_helps, page_has_no_slips, page_examples, help_in_three_ways, completes, installs,
+                installs_nothing_by_mistake, tests_want_a_program)
