@@ -23,6 +23,8 @@ pub mod Maxima
 pub mod PriorityFacts
 pub mod Covers
 pub mod Bounds
+pub mod Counting
+pub mod Leasts
 pub mod OneGreedy
 pub mod LawfulOutcomes
 pub mod Existing

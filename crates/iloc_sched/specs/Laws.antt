@@ -9,6 +9,7 @@ use Rattle.iloc_timed.specs.Rows.{issue_cycle}
 use Rattle.iloc_timed.specs.Cycles.{cycles}
 use Rattle.iloc_timed.specs.Timed.{timed_outcome}
 use Rattle.iloc_sched.specs.Priority.{priority}
+use Rattle.iloc_sched.specs.Least.{least}
 use Rattle.iloc_sched.specs.Lawful.{IsLawful}
 use Rattle.iloc_sched.specs.Greedy.{IsGreedy}
 
@@ -27,6 +28,11 @@ pub record BlocksHaveOneGreedySchedule : Type 0 where
 abbrev pub PrioritiesBoundTheCycles : Type 0
 PrioritiesBoundTheCycles = (lat : Latencies) (block ops : List Op) (rows : List Row)
     → IsLawful lat block ops rows → (i : ℕ) → i < length ops → issue_cycle rows i + priority lat ops i ≤ cycles lat ops rows
+
+-- a lawful schedule of a block takes at least so many cycles
+abbrev pub LeastBoundsTheCycles : Type 0
+LeastBoundsTheCycles = (lat : Latencies) (block ops : List Op) (rows : List Row)
+    → IsLawful lat block ops rows → least lat block ≤ cycles lat ops rows
 
 -- the cycles of a greedy schedule are at most the latencies of its operations together
 abbrev pub LatenciesBoundTheCycles : Type 0

@@ -4,5 +4,6 @@ pub mod Pairs
 pub mod Priority
 pub mod Lawful
 pub mod Greedy
+pub mod Least
 pub mod Laws
 pub mod Steps

@@ -10,6 +10,7 @@ pub mod Views
 pub mod Order
 pub mod Changes
 pub mod Classes
+pub mod Shares
 pub mod Queued
 pub mod SoFar
 pub mod Opening

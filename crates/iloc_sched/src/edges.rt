@@ -47,7 +47,9 @@ impl Edges {
     ghost use Rattle.iloc_sched.specs.Steps.Views.{edge_at, graph_of};
 
     /// No operation and no edge.
-    pub fn new(alloc: Global) -> Edges {
+    pub fn new(alloc: Global) -> Edges
+        ensures { length result.heads.items ≡ 0 }
+    {
         Edges {
             edges: Vec::new(alloc),
             starts: Vec::new(alloc),

@@ -26,7 +26,9 @@ impl Lasts {
     ghost use Rattle.iloc_sched.specs.Steps.Lasts.{IsLasts, NotesDefiner, NotesKind, loads_before};
 
     /// Before the first operation of a list.
-    pub fn new(alloc: Global) -> Lasts {
+    pub fn new(alloc: Global) -> Lasts
+        ensures { (ops : List Op) → IsLasts ops result 0 }
+    {
         Lasts {
             definers: ByRegister::new(alloc),
             store: None,

@@ -1,5 +1,5 @@
 //! Laws of schedules, as contracts of functions that do nothing.
-ghost use Rattle.iloc_sched.specs.Laws.{LawfulSchedulesKeepTheOutcome, BlocksHaveOneGreedySchedule, PrioritiesBoundTheCycles, LatenciesBoundTheCycles};
+ghost use Rattle.iloc_sched.specs.Laws.{LawfulSchedulesKeepTheOutcome, BlocksHaveOneGreedySchedule, PrioritiesBoundTheCycles, LeastBoundsTheCycles, LatenciesBoundTheCycles};
 
 /// Whatever schedule of a block is lawful: on every memory, with all registers 0, it has the block's
 /// outcome. It emits the same words and leaves the same memory, or it faults where the block does.
@@ -16,6 +16,11 @@ pub fn one_greedy_schedule()
 /// most the cycles of the schedule.
 pub fn priorities_bound_the_cycles()
     ensures { PrioritiesBoundTheCycles }
+{}
+
+/// No lawful schedule of a block takes fewer cycles than its `least`.
+pub fn least_bounds_the_cycles()
+    ensures { LeastBoundsTheCycles }
 {}
 
 /// A greedy schedule takes at most as many cycles as the latencies of its operations together.

@@ -9,6 +9,7 @@ mod delay_pairs;
 mod edges;
 mod lasts;
 pub mod laws;
+mod lower_bound;
 mod plan;
 mod priority;
 mod queue;
@@ -19,6 +20,7 @@ mod waiting;
 mod wheel;
 
 pub use delay_pairs::{Pair, delays, pairs};
+pub use lower_bound::least;
 pub use priority::priorities;
 pub use renaming::rename;
 pub use scheduler::{Scheduler, schedule};

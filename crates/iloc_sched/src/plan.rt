@@ -1,5 +1,5 @@
 //! What is fixed while a block is scheduled.
-ghost use Rattle.std.specs.Prelude.{◌≡◌, ◌<◌, ◌≤◌, length, OnOk};
+ghost use Rattle.std.specs.Prelude.{◌≡◌, ◌<◌, ◌≤◌, [], length, OnOk};
 ghost use Rattle.iloc_sched.specs.Renaming.{IsRenamed};
 
 use crate::candidate::Candidate;
@@ -26,7 +26,9 @@ impl Plan {
     ghost use Rattle.iloc_sched.specs.Steps.SoFar.{IsPlan, class_at};
 
     /// The plan of no operation.
-    pub fn new(alloc: Global) -> Plan {
+    pub fn new(alloc: Global) -> Plan
+        ensures { result.ops.items ≡ [] }
+    {
         Plan {
             ops: Vec::new(alloc),
             latencies: Latencies::usual(),

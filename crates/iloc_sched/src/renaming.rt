@@ -30,7 +30,9 @@ impl Names {
     ghost use Rattle.iloc_sched.specs.Steps.Names.{current_of};
 
     /// Names for blocks, one after another.
-    pub(crate) fn new(alloc: Global) -> Names {
+    pub(crate) fn new(alloc: Global) -> Names
+        ensures { (r : Reg) → current_of result r ≡ None }
+    {
         Names {
             current: ByRegister::new(alloc),
             given: 0,

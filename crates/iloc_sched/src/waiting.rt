@@ -44,7 +44,9 @@ impl Waiting {
     ghost use Rattle.iloc_sched.specs.Steps.SoFar.{waiting_count};
 
     /// No operation.
-    pub fn new(alloc: Global) -> Waiting {
+    pub fn new(alloc: Global) -> Waiting
+        ensures { waiting_count result ≡ 0 }
+    {
         Waiting {
             states: Vec::new(alloc),
             wheel: Wheel::new(alloc),

@@ -27,7 +27,9 @@ impl Wheel {
     ghost use Rattle.iloc_sched.specs.Steps.Wheel.{bucket_of};
 
     /// No operation, and room for none.
-    pub fn new(alloc: Global) -> Wheel {
+    pub fn new(alloc: Global) -> Wheel
+        ensures { (b : ℕ) → bucket_of result b ≡ [] }
+    {
         Wheel {
             buckets: [Bucket { first: 0, count: 0 }; BUCKETS],
             behind: Vec::new(alloc),

@@ -1,13 +1,16 @@
-use Rattle.std.proofs.Common.{◌≡◌, false, sym, codes}
+use Rattle.std.proofs.Common.{◌≡◌, false, inl, inr, sym, codes}
 use Rattle.std.specs.Str.{bytes_eq}
+use Rattle.std.proofs.lemmas.Bool.{cases_Bool}
 use Rattle.std.proofs.lemmas.Slice.Eq.{bytes_eq-Decides}
 use Rattle.clap.specs.Words.{Text}
-use Rattle.iloc_meaning.proofs.Cases.{by_bool}
 use Rattle.iloc_args.proofs.line.task_of.Goals as goal
 
 -- two texts that differ
 apart : (name word : Text) → (word ≡ name → ⊥) → bytes_eq name word ≡ false
-apart name word other = by_bool (bytes_eq name word) (λ t. absurd (other (sym ((bytes_eq-Decides name word).0 t)))) (λ f. f)
+apart name word other = elim (cases_Bool (bytes_eq name word)) [
+  | inl same ↦ absurd (other (sym ((bytes_eq-Decides name word).0 same)))
+  | inr differs ↦ differs
+]
 
 pub unreachable-requires : goal.unreachable-requires
 unreachable-requires c =
