@@ -25,7 +25,7 @@ NOTHING, GROWTH, GROWTH_OF_A_START, THREAD = range(4)
 # takes room as the items come. So nothing is lost, and the next refusal is told.
 DOES_WITHOUT = {
     "iloc_farm::program::serve": "the words behind the program's name",
-    "iloc_sched::scheduler::schedule": "the latencies of a block's operations",
+    "iloc_sched::priority::priorities": "the priorities that are answered",
 }
 GROWS = re.compile(r"rattle_alloc|std_alloc::vec::Vec::grow_amortized")
 # As soon as so many runs in a row asked for no growth of the number, none asks for one any more.

@@ -1,6 +1,5 @@
 //! Blocks with proposed schedules behind them.
-use crate::operations::{output, set};
-use crate::rows::{EMPTY, alone, both};
+use crate::written::{EMPTY, alone, both, output, set};
 use iloc_rows::{Proposal, RowsFault, Submission, read_submission};
 use iloc_text::{MAX_BLOCKS, MAX_INPUT, MAX_OPS, Op, ReadFault, Reg};
 use iloc_timed::{Row, Schedule};

@@ -2,7 +2,7 @@
 //! reference that a function makes.
 ghost use Rattle.std.specs.Prelude.{◌≤◌, length, IfOk};
 
-use iloc_text::{Block, MAX_OPS, Op, read_file};
+use iloc_text::{Block, MAX_OPS, Op, Reg, read_file};
 use iloc_timed::{BuildFault, Latencies, MAX_ROWS, Row, Schedule};
 use std::alloc::{AllocError, Global};
 use std::test::Fail;
@@ -23,6 +23,38 @@ pub(crate) fn block_of(alloc: Global, text: &[u8]) -> Result<Block, Fail>
     Ok(block)
 }
 
+/// `loadI value => dest`
+pub(crate) fn set(dest: Reg, value: u32) -> Op {
+    Op::LoadI { value, dest }
+}
+
+/// `output addr`
+pub(crate) fn output(addr: u32) -> Op {
+    Op::Output { addr }
+}
+
+/// A row in which nothing is issued.
+pub(crate) const EMPTY: Row = Row {
+    zero: None,
+    one: None,
+};
+
+/// One operation, on unit 0.
+pub(crate) fn alone(zero: usize) -> Row {
+    Row {
+        zero: Some(zero),
+        one: None,
+    }
+}
+
+/// Two operations, on unit 0 and on unit 1.
+pub(crate) fn both(zero: usize, one: usize) -> Row {
+    Row {
+        zero: Some(zero),
+        one: Some(one),
+    }
+}
+
 /// What is issued in a cycle: the cycle, and the operations on unit 0 and on unit 1.
 pub(crate) type Issue = (usize, Option<usize>, Option<usize>);
 
@@ -31,7 +63,7 @@ pub(crate) fn rows_of(alloc: Global, issues: &[Issue]) -> Result<Vec<Row>, Alloc
     let mut rows = Vec::new(alloc);
     for issue in issues {
         let (cycle, zero, one) = *issue;
-        rows.resize(cycle, Row::default())?;
+        rows.resize(cycle, EMPTY)?;
         rows.push(Row { zero, one })?;
     }
     Ok(rows)

@@ -1,6 +1,6 @@
 mod end_to_end;
 mod fakes;
-mod program;
+mod listings;
 mod refusals;
 mod sample;
 mod threads;

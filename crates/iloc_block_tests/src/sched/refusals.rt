@@ -1,6 +1,7 @@
 //! Each call that takes memory, on a small block and on a middling one: to be run with each growth refused in turn.
 ghost use Rattle.std.specs.Prelude.{◌≤◌, length, IfOk};
 
+use crate::written::alone;
 use iloc_sched::{Pair, pairs, priorities, rename, schedule};
 use iloc_text::{Block, MAX_OPS, Op, Ops, Reg};
 use iloc_timed::{Latencies, Row};
@@ -29,7 +30,7 @@ fn assert_each_waits(rt: &impl Abort, rows: &[Row], prios: &[u64], pairs: &[Pair
     assert_eq!(rt; prios.len(), rows.len());
     assert_eq!(rt; pairs.len().wrapping_add(1), rows.len());
     for (i, row) in rows.iter().enumerate() {
-        assert_eq!(rt; (row.zero, row.one), (Some(i), None));
+        assert!(rt; *row == alone(i));
         assert_eq!(rt;
             prios.get(i).copied(),
             (rows.len() as u64).checked_sub(i as u64)

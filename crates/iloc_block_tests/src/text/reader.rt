@@ -57,45 +57,61 @@ const MIXED: &[u8] = b"output 0\noutput 4\nlonger: nop\nb:\nc: output 8 // last"
 
 const BAD_AT_ITS_END: &[u8] = b"output 0\nA: output 4\nB: output 8\noutput";
 
-/// How much room a diary has, what it is given, what is answered, which block it was asked to take last, and what it
+/// How much room a diary has, what it is given, why that is refused, which block it was asked to take last, and what it
 /// has written down.
-type Case<'a> = (usize, &'a [u8], Result<(), ReadFault>, usize, &'a [u8]);
+type Case<'a> = (usize, &'a [u8], ReadFault, usize, &'a [u8]);
 
 const CASES: &[Case] = &[
+    (0, MIXED, ReadFault::NoMemory, 1, b""),
     (
-        9,
+        1,
         MIXED,
-        Ok(()),
-        4,
-        b"1 -; output 0; output 4\n2 longer; nop\n3 b\n4 c; output 8\n",
+        ReadFault::NoMemory,
+        2,
+        b"1 -; output 0; output 4\n",
     ),
-    // Nothing is handed over behind a refusal.
-    (0, MIXED, Err(ReadFault::NoMemory), 1, b""),
     (
         2,
         MIXED,
-        Err(ReadFault::NoMemory),
+        ReadFault::NoMemory,
         3,
         b"1 -; output 0; output 4\n2 longer; nop\n",
+    ),
+    (
+        3,
+        MIXED,
+        ReadFault::NoMemory,
+        4,
+        b"1 -; output 0; output 4\n2 longer; nop\n3 b\n",
     ),
     // What stands before a fault is handed over.
     (
         9,
         BAD_AT_ITS_END,
-        Err(ReadFault::BadLine(4)),
+        ReadFault::BadLine(4),
         2,
         b"1 -; output 0\n2 A; output 4\n",
     ),
 ];
 
 #[test]
-fn hands_each_block_over_once(rt: HostRuntime) -> Result<(), Fail> {
-    for (room, text, answer, asked, lines) in CASES {
+fn hands_nothing_over_behind_a_refusal(rt: HostRuntime) {
+    for (room, text, fault, asked, lines) in CASES {
         let mut diary = Diary::new(rt.alloc(), *room);
-        assert!(rt; read_blocks(rt.alloc(), text, &mut diary) == *answer);
+        assert!(rt; read_blocks(rt.alloc(), text, &mut diary) == Err(*fault));
         assert_eq!(rt; diary.asked, *asked);
         assert_eq!(rt; diary.lines.as_slice(), *lines);
     }
+}
+
+const LINES: &[u8] = b"1 -; output 0; output 4\n2 longer; nop\n3 b\n4 c; output 8\n";
+
+#[test]
+fn hands_each_block_over_once(rt: HostRuntime) -> Result<(), Fail> {
+    let mut diary = Diary::new(rt.alloc(), 4);
+    read_blocks(rt.alloc(), MIXED, &mut diary)?;
+    assert_eq!(rt; diary.asked, 4);
+    assert_eq!(rt; diary.lines.as_slice(), LINES);
     Ok(())
 }
 

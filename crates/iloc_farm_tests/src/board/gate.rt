@@ -9,14 +9,14 @@ use std::alloc::Global;
 use std::cell::Cell;
 use std::test::*;
 
-#[derive(Clone, Copy, Debug, PartialEq, Eq)]
+#[derive(Clone, Copy, PartialEq, Eq)]
 enum Call {
     Looked,
     Took,
 }
 
 // A call of the gate, with the job that was next just then.
-#[derive(Clone, Copy, Debug, PartialEq, Eq)]
+#[derive(Clone, Copy, PartialEq, Eq)]
 struct Told {
     call: Call,
     worker: u32,
@@ -91,6 +91,34 @@ fn calls<'b, 'a>(
     Ok(told)
 }
 
+/// What worker 2 tells.
+const TOLD: &[Told] = &[
+    Told {
+        call: Call::Looked,
+        worker: 2,
+        job: 0,
+        next: Seen::Block(0),
+    },
+    Told {
+        call: Call::Took,
+        worker: 2,
+        job: 0,
+        next: Seen::Block(1),
+    },
+    Told {
+        call: Call::Looked,
+        worker: 2,
+        job: 1,
+        next: Seen::Block(1),
+    },
+    Told {
+        call: Call::Took,
+        worker: 2,
+        job: 1,
+        next: Seen::NoneLeft,
+    },
+];
+
 #[test]
 fn the_gate_is_told_of_each_look_and_each_take(rt: HostRuntime) -> Result<(), Fail> {
     let jobs = Tens { count: 2 };
@@ -99,18 +127,6 @@ fn the_gate_is_told_of_each_look_and_each_take(rt: HostRuntime) -> Result<(), Fa
     let _idle = board.pass(&mut root);
     let mut pass = board.pass(&mut root);
     let told = calls(rt.alloc(), &board, bystander, &mut pass)?;
-    let call = |call, job, next| Told {
-        call,
-        worker: 2,
-        job,
-        next,
-    };
-    let expected = [
-        call(Call::Looked, 0, Seen::Block(0)),
-        call(Call::Took, 0, Seen::Block(1)),
-        call(Call::Looked, 1, Seen::Block(1)),
-        call(Call::Took, 1, Seen::NoneLeft),
-    ];
-    assert_eq!(rt; told.as_slice(), &expected[..]);
+    assert!(rt; told.as_slice() == TOLD);
     Ok(())
 }

@@ -1,153 +1,147 @@
-ghost use Rattle.std.specs.Prelude.{◌≡◌, ◌≤◌};
+ghost use Rattle.std.specs.Prelude.{◌≡◌};
 
-use super::steps::{assert_takes, collect_both, collect_with};
-use super::tens::{Refusing, Tens};
-use iloc_board::{Board, CollectFault, FreeGate, NoMemory, Seen, State, Tried, work};
-use std::cell::Cell;
-use std::test::*;
+use super::steps::{Act, act_all, assert_collected, collect_both, collect_with};
+use super::tens::Refusing;
+use iloc_board::Seen::{Block, NoneLeft};
+use iloc_board::State::{Free, Holding};
+use iloc_board::Tried::{Stale, Took};
+use iloc_board::{Board, NoMemory, Pass};
+use std::alloc::Global;
+use std::process::Abort;
+use std::test::Fail;
 
-fn refusing(count: u32, job: u32) -> Refusing
-    requires { count ≤ 65535 }
-    ensures { result.tens.count ≡ count }
+/// How many jobs there are, and the one to which an answer is refused once; what two passes do in turn, pass 0 first;
+/// and the answers, or the job that is missing.
+type Case<'a> = (u32, Option<u32>, &'a [&'a [Act]], Result<&'a [u32], u32>);
+
+const TAKE_0: &[Act] = &[Act::Look(Block(0)), Act::Try(Took(0))];
+
+const HAND_BACK: &[Act] = &[Act::HandBack];
+
+const LOSE_1: &[Act] = &[Act::Work(Err(NoMemory)), Act::Is(0, Holding(1))];
+
+const WORK: &[Act] = &[Act::Work(Ok(())), Act::Look(NoneLeft)];
+
+const CASES: &[Case] = &[
+    (0, None, &[&[Act::Look(NoneLeft)]], Ok(&[])),
+    // Two passes share two jobs.
+    (
+        2,
+        None,
+        &[
+            &[Act::Look(Block(0))],
+            TAKE_0,
+            &[Act::Try(Stale(1)), Act::Try(Took(1))],
+            HAND_BACK,
+            HAND_BACK,
+            &[Act::Look(NoneLeft)],
+        ],
+        Ok(&[10, 11]),
+    ),
+    // A look sees what others took. A job that is held is missing.
+    (
+        2,
+        None,
+        &[
+            &[Act::Look(Block(0))],
+            TAKE_0,
+            &[Act::Look(Block(1)), Act::Try(Took(1))],
+            &[Act::HandBack, Act::Look(NoneLeft), Act::Is(1, Free)],
+            &[Act::Is(0, Holding(1))],
+        ],
+        Err(1),
+    ),
+    (1, None, &[TAKE_0], Err(0)),
+    // A lost answer is missing, though others work on; made anew it is there.
+    (3, Some(1), &[LOSE_1], Err(1)),
+    (3, Some(1), &[LOSE_1, WORK], Err(1)),
+    (
+        3,
+        Some(1),
+        &[LOSE_1, &[], &[Act::HandBack, Act::Work(Ok(()))]],
+        Ok(&[10, 11, 12]),
+    ),
+];
+
+/// Has two passes do this in turn.
+fn act_in_turn<'a>(
+    rt: &impl Abort,
+    board: &Board<'a, Refusing>,
+    zero: &mut Pass<'a, Refusing>,
+    one: &mut Pass<'a, Refusing>,
+    turns: &[&[Act]],
+) -> Result<(), Fail>
+    requires zero { zero.old.board ≡ board.now }
+    requires one { one.old.board ≡ board.now }
+    ensures zero { zero.new.board ≡ board.now }
+    ensures one { one.new.board ≡ board.now }
 {
-    Refusing {
-        tens: Tens { count },
-        refused: Cell::new(Some(job)),
+    for (i, acts) in turns.iter().enumerate() {
+        if i % 2 == 0 {
+            act_all(rt, board, zero, acts)?;
+        } else {
+            act_all(rt, board, one, acts)?;
+        }
     }
-}
-
-#[test]
-fn two_passes_share_two_jobs(rt: HostRuntime) -> Result<(), Fail> {
-    let jobs = Tens { count: 2 };
-    let (board, mut root) = Board::new(rt.alloc(), &jobs, 2)?;
-    let mut zero = board.pass(&mut root);
-    let mut one = board.pass(&mut root);
-    assert_eq!(rt; board.look(&mut zero), Seen::Block(0));
-    assert_takes(&rt, &board, &mut one, 0);
-    assert_eq!(rt; board.try_take(&mut zero), Tried::Stale(1));
-    assert_eq!(rt; board.try_take(&mut zero), Tried::Took(1));
-    assert!(rt; board.hand_back(&mut one, 10).is_ok());
-    assert!(rt; board.hand_back(&mut zero, 11).is_ok());
-    assert_eq!(rt; board.look(&mut one), Seen::NoneLeft);
-    let collected = collect_both(board, root, one, zero)?;
-    assert_eq!(rt; collected.answers.as_slice(), &[10, 11][..]);
-    assert_eq!(rt; collected.costs.as_slice(), &[10, 11][..]);
     Ok(())
 }
 
-#[test]
-fn a_look_sees_what_others_took(rt: HostRuntime) -> Result<(), Fail> {
-    let jobs = Tens { count: 2 };
-    let (board, mut root) = Board::new(rt.alloc(), &jobs, 2)?;
+/// Has two passes do this in turn, gathers them, and asserts what is collected.
+fn assert_shared(
+    rt: &impl Abort,
+    alloc: Global,
+    jobs: &Refusing,
+    turns: &[&[Act]],
+    wanted: Result<&[u32], u32>,
+) -> Result<(), Fail> {
+    let (board, mut root) = Board::new(alloc, jobs, 2)?;
     let mut zero = board.pass(&mut root);
     let mut one = board.pass(&mut root);
-    assert_eq!(rt; board.look(&mut zero), Seen::Block(0));
-    assert_takes(&rt, &board, &mut one, 0);
-    assert_takes(&rt, &board, &mut zero, 1);
-    assert!(rt; board.hand_back(&mut one, 10).is_ok());
-    assert_eq!(rt; board.look(&mut one), Seen::NoneLeft);
-    assert_eq!(rt; (one.worker(), one.state()), (1, State::Free));
-    assert_eq!(rt; (zero.worker(), zero.state()), (0, State::Holding(1)));
-    assert_eq!(rt; (root.workers(), root.made()), (2, 2));
-    let fault = collect_both(board, root, one, zero).err();
-    assert_eq!(rt; fault, Some(CollectFault::Missing(1)));
-    Ok(())
+    assert!(rt; (root.workers(), root.made()) == (2, 2));
+    act_in_turn(rt, &board, &mut zero, &mut one, turns)?;
+    assert_collected(rt, collect_both(board, root, zero, one), wanted)
 }
 
 #[test]
-fn a_job_that_is_held_is_missing(rt: HostRuntime) -> Result<(), Fail> {
-    let jobs = Tens { count: 1 };
-    let (board, mut root) = Board::new(rt.alloc(), &jobs, 1)?;
-    let mut pass = board.pass(&mut root);
-    assert_takes(&rt, &board, &mut pass, 0);
-    let fault = collect_with(board, root, pass).err();
-    assert_eq!(rt; fault, Some(CollectFault::Missing(0)));
+fn two_passes_act_in_turn(rt: HostRuntime) -> Result<(), Fail> {
+    for (count, refused, turns, wanted) in CASES {
+        if *count > 3 {
+            return Err(Fail::from("too many jobs"));
+        }
+        let jobs = Refusing::new(*count, *refused);
+        assert_shared(&rt, rt.alloc(), &jobs, turns, *wanted)?;
+    }
     Ok(())
 }
 
 #[test]
 fn a_job_that_was_not_taken_is_missing(rt: HostRuntime) -> Result<(), Fail> {
-    let jobs = Tens { count: 1 };
+    let jobs = Refusing::new(1, None);
     let (board, root) = Board::new(rt.alloc(), &jobs, 1)?;
-    assert_eq!(rt; board.collect(root).err(), Some(CollectFault::Missing(0)));
-    Ok(())
-}
-
-#[test]
-fn a_board_without_jobs_is_done(rt: HostRuntime) -> Result<(), Fail> {
-    let jobs = Tens { count: 0 };
-    let (board, mut root) = Board::new(rt.alloc(), &jobs, 1)?;
-    let mut pass = board.pass(&mut root);
-    assert_eq!(rt; board.look(&mut pass), Seen::NoneLeft);
-    let collected = board.collect(root)?;
-    assert!(rt; collected.answers.is_empty() && collected.costs.is_empty());
-    Ok(())
+    assert!(rt; (root.workers(), root.made()) == (1, 0));
+    assert_collected(&rt, board.collect(root), Err(0))
 }
 
 #[test]
 fn a_later_pass_starts_where_the_gathered_got_to(rt: HostRuntime) -> Result<(), Fail> {
-    let jobs = Tens { count: 1 };
+    let jobs = Refusing::new(1, None);
     let (board, mut root) = Board::new(rt.alloc(), &jobs, 2)?;
     let mut first = board.pass(&mut root);
-    assert_takes(&rt, &board, &mut first, 0);
-    assert!(rt; board.hand_back(&mut first, 10).is_ok());
+    act_all(&rt, &board, &mut first, WORK)?;
     assert!(rt; board.gather(&mut root, first).is_ok());
     let mut second = board.pass(&mut root);
-    assert_eq!(rt; board.look(&mut second), Seen::NoneLeft);
-    Ok(())
-}
-
-#[test]
-fn a_lost_answer_is_missing(rt: HostRuntime) -> Result<(), Fail> {
-    let jobs = refusing(3, 1);
-    let (board, mut root) = Board::new(rt.alloc(), &jobs, 1)?;
-    let mut pass = board.pass(&mut root);
-    assert_eq!(rt; work(&board, &mut pass, &FreeGate), Err(NoMemory));
-    assert_eq!(rt; pass.state(), State::Holding(1));
-    let fault = collect_with(board, root, pass).err();
-    assert_eq!(rt; fault, Some(CollectFault::Missing(1)));
-    Ok(())
-}
-
-#[test]
-fn others_do_not_make_a_lost_answer_anew(rt: HostRuntime) -> Result<(), Fail> {
-    let jobs = refusing(3, 1);
-    let (board, mut root) = Board::new(rt.alloc(), &jobs, 2)?;
-    let mut first = board.pass(&mut root);
-    let mut second = board.pass(&mut root);
-    assert_eq!(rt; work(&board, &mut first, &FreeGate), Err(NoMemory));
-    assert_eq!(rt; work(&board, &mut second, &FreeGate), Ok(()));
-    let fault = collect_both(board, root, first, second).err();
-    assert_eq!(rt; fault, Some(CollectFault::Missing(1)));
-    Ok(())
-}
-
-#[test]
-fn a_lost_answer_is_made_anew(rt: HostRuntime) -> Result<(), Fail> {
-    let jobs = refusing(3, 1);
-    let (board, mut root) = Board::new(rt.alloc(), &jobs, 1)?;
-    let mut pass = board.pass(&mut root);
-    assert_eq!(rt; work(&board, &mut pass, &FreeGate), Err(NoMemory));
-    assert_eq!(rt; pass.state(), State::Holding(1));
-    assert!(rt; board.hand_back(&mut pass, 11).is_ok());
-    assert_eq!(rt; work(&board, &mut pass, &FreeGate), Ok(()));
-    let collected = collect_with(board, root, pass)?;
-    assert_eq!(rt; collected.answers.as_slice(), &[10, 11, 12][..]);
-    assert_eq!(rt; collected.costs.as_slice(), &[10, 11, 12][..]);
-    Ok(())
+    act_all(&rt, &board, &mut second, &[Act::Look(NoneLeft)])
 }
 
 #[test]
 fn the_answers_of_a_dropped_pass_are_missing(rt: HostRuntime) -> Result<(), Fail> {
-    let jobs = Tens { count: 3 };
+    let jobs = Refusing::new(3, None);
     let (board, mut root) = Board::new(rt.alloc(), &jobs, 2)?;
     let mut lost = board.pass(&mut root);
-    assert_takes(&rt, &board, &mut lost, 0);
-    assert!(rt; board.hand_back(&mut lost, 10).is_ok());
+    act_all(&rt, &board, &mut lost, TAKE_0)?;
+    act_all(&rt, &board, &mut lost, HAND_BACK)?;
     drop(lost);
     let mut second = board.pass(&mut root);
-    assert_eq!(rt; work(&board, &mut second, &FreeGate), Ok(()));
-    let fault = collect_with(board, root, second).err();
-    assert_eq!(rt; fault, Some(CollectFault::Missing(0)));
-    Ok(())
+    act_all(&rt, &board, &mut second, WORK)?;
+    assert_collected(&rt, collect_with(board, root, second), Err(0))
 }

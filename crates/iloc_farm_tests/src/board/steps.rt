@@ -1,26 +1,62 @@
-//! Steps that several tests take.
-ghost use Rattle.std.specs.Prelude.{◌≡◌, false};
-ghost use Rattle.iloc_board.specs.declared.state.State.TheVariants as about;
-ghost use Rattle.iloc_board.specs.Core.{is_holding};
-ghost use Rattle.iloc_board.specs.Views.{state};
+//! Steps that tests take with a pass, written down.
+ghost use Rattle.std.specs.Prelude.{◌≡◌};
 
-use iloc_board::{Board, CollectFault, Collected, Jobs, Pass, Root, Seen, Tried};
+use super::tens::Refusing;
+use iloc_board::{
+    Board, CollectFault, Collected, FreeGate, Jobs, NoMemory, Pass, Root, Seen, State, Tried, work,
+};
 use std::process::Abort;
+use std::test::Fail;
 
-/// Asserts that the pass sees this job and takes it.
-pub(crate) fn assert_takes<'a, J: Jobs>(
+/// What is done with a pass, and what has to come of it.
+#[derive(Clone, Copy)]
+pub(crate) enum Act {
+    Look(Seen),
+    Try(Tried),
+    /// The answer to the job that the pass holds.
+    HandBack,
+    Work(Result<(), NoMemory>),
+    /// Nothing is done: the worker's number and what it is about.
+    Is(u32, State),
+}
+
+/// Does this with the pass, where its state allows it, and asserts what comes of it.
+fn carry_out<'a>(
     rt: &impl Abort,
-    board: &Board<'a, J>,
-    pass: &mut Pass<'a, J>,
-    job: u32,
-)
-    requires own { pass.old.board ≡ board.now }
-    requires free { is_holding (state pass.old) ≡ false }
-    ensures own { pass.new.board ≡ board.now }
-    ensures holds { state pass.new ≡ about.Holding job }
+    board: &Board<'a, Refusing>,
+    pass: &mut Pass<'a, Refusing>,
+    act: Act,
+) -> Result<(), Fail>
+    requires { pass.old.board ≡ board.now }
+    ensures { pass.new.board ≡ board.now }
 {
-    assert_eq!(rt; board.look(pass), Seen::Block(job));
-    assert_eq!(rt; board.try_take(pass), Tried::Took(job));
+    match (act, pass.state()) {
+        (Act::Look(seen), State::Free | State::Looked(_)) => assert!(rt; board.look(pass) == seen),
+        (Act::Try(tried), State::Looked(_)) => assert!(rt; board.try_take(pass) == tried),
+        (Act::HandBack, State::Holding(job)) => {
+            assert!(rt; board.hand_back(pass, 10 + job).is_ok());
+        }
+        (Act::Work(done), State::Free) => assert!(rt; work(board, pass, &FreeGate) == done),
+        (Act::Is(worker, about), state) => assert!(rt; pass.worker() == worker && state == about),
+        _ => return Err(Fail::from("the state forbids the step")),
+    }
+    Ok(())
+}
+
+/// Does all this with the pass, one after another.
+pub(crate) fn act_all<'a>(
+    rt: &impl Abort,
+    board: &Board<'a, Refusing>,
+    pass: &mut Pass<'a, Refusing>,
+    acts: &[Act],
+) -> Result<(), Fail>
+    requires { pass.old.board ≡ board.now }
+    ensures { pass.new.board ≡ board.now }
+{
+    for it in acts {
+        carry_out(rt, board, pass, *it)?;
+    }
+    Ok(())
 }
 
 /// Gathers the last pass and closes the board.
@@ -53,4 +89,27 @@ pub(crate) fn collect_both<'a, J: Jobs>(
         return Err(CollectFault::NoMemory);
     }
     collect_with(board, root, second)
+}
+
+/// Asserts that the answers are these, each at its cost, or that this job is missing.
+pub(crate) fn assert_collected(
+    rt: &impl Abort,
+    collected: Result<Collected<u32>, CollectFault>,
+    wanted: Result<&[u32], u32>,
+) -> Result<(), Fail> {
+    match wanted {
+        Ok(answers) => {
+            let Collected {
+                answers: found,
+                costs,
+            } = collected?;
+            assert_eq!(rt; found.as_slice(), answers);
+            assert_eq!(rt; costs.len(), answers.len());
+            for (i, cost) in costs.iter().enumerate() {
+                assert!(rt; found.get(i).copied().map(u64::from) == Some(*cost));
+            }
+        }
+        Err(job) => assert!(rt; collected.err() == Some(CollectFault::Missing(job))),
+    }
+    Ok(())
 }

@@ -41,6 +41,19 @@ pub struct Refusing {
     pub refused: Cell<Option<u32>>,
 }
 
+impl Refusing {
+    /// So many jobs; an answer to `refused` is refused once.
+    pub fn new(count: u32, refused: Option<u32>) -> Refusing
+        requires { count ≤ 65535 }
+        ensures { result.tens.count ≡ count }
+    {
+        Refusing {
+            tens: Tens { count },
+            refused: Cell::new(refused),
+        }
+    }
+}
+
 impl Jobs for Refusing {
     type Answer = u32;
 

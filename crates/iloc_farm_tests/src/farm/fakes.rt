@@ -1,4 +1,4 @@
-//! Readers and writers that are slow, fail or have no end.
+//! Readers and writers that are slow or fail.
 use std::alloc::Global;
 use std::io::{Error, ErrorKind, Read, Result as IoResult, Write};
 
@@ -32,37 +32,6 @@ pub(crate) fn giving(bytes: &[u8]) -> Source<'_> {
         bytes,
         at_once: usize::MAX,
         end: None,
-        turns: 0,
-    }
-}
-
-/// Gives line ends, and fails once `most` of them were given.
-#[derive(Drop)]
-pub(crate) struct Endless {
-    pub given: usize,
-    pub most: usize,
-    /// How often it was read.
-    pub turns: usize,
-}
-
-impl Read for Endless {
-    fn read(&mut self, buf: &mut [u8]) -> IoResult<usize> {
-        self.turns = self.turns.saturating_add(1);
-        let count = buf.len().min(self.most.saturating_sub(self.given));
-        if count == 0 {
-            return Err(Error::from(ErrorKind::BrokenPipe));
-        }
-        buf[..count].fill(b'\n');
-        self.given = self.given.saturating_add(count);
-        Ok(count)
-    }
-}
-
-/// Gives line ends until `most` of them were given.
-pub(crate) fn giving_lines(most: usize) -> Endless {
-    Endless {
-        given: 0,
-        most,
         turns: 0,
     }
 }

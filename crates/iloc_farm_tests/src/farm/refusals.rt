@@ -1,10 +1,10 @@
 //! The run of each task, where a growth is refused: it answers want of memory or of a thread, nothing is written, and a
-//! second try ends well. To be run with each growth refused in turn.
-use super::fakes::{Sink, giving};
+//! second try ends well. To be run with each growth refused in turn: each test ends with the refusal.
+use super::fakes::{Sink, giving, taking_all};
 use iloc_args::{Request, parse_line};
 use iloc_farm::{FarmFault, RunFault, run};
 use iloc_text::push_number;
-use std::alloc::{AllocError, Global};
+use std::alloc::Global;
 use std::process::Abort;
 use std::sync::Wait;
 use std::test::Fail;
@@ -19,22 +19,20 @@ const BLOCK: &[u8] =
 fn roomy(alloc: Global) -> Result<Sink, Fail> {
     Ok(Sink {
         taken: Vec::with_capacity(alloc, 1 << 16)?,
-        at_once: usize::MAX,
-        room: usize::MAX,
-        flushes: true,
-        flushed: None,
+        ..taking_all(alloc)
     })
 }
 
-/// What a run lists, at its second try where a growth was refused at the first.
+/// What a run lists, at its second try where a growth was refused at the first, and how the first ended.
 fn listed<H: Abort + AllocGlobal + Threads + Wait + Sync>(
     rt: &H,
     request: &Request,
     input: &[u8],
-) -> Result<Vec<u8>, Fail> {
+) -> Result<(Vec<u8>, Result<(), RunFault>), Fail> {
     let alloc = rt.alloc();
     let mut writer = roomy(alloc)?;
-    if let Err(fault) = run(rt, alloc, &mut giving(input), &mut writer, request) {
+    let first = run(rt, alloc, &mut giving(input), &mut writer, request);
+    if let Err(fault) = first {
         assert!(rt;
             matches!(
                 fault,
@@ -44,45 +42,51 @@ fn listed<H: Abort + AllocGlobal + Threads + Wait + Sync>(
         assert!(rt; writer.taken.is_empty());
         run(rt, alloc, &mut giving(input), &mut writer, request)?;
     }
-    Ok(writer.taken)
+    Ok((writer.taken, first))
 }
 
-/// Asserts what each task lists of the input.
+/// Words, and what they list.
+type Case<'a> = (&'a [&'a str], &'a [u8]);
+
+/// Asserts what each task lists of the input, and answers the refusal.
 fn assert_listed<H: Abort + AllocGlobal + Threads + Wait + Sync>(
     rt: &H,
-    cases: &[(&[&str], &[u8])],
+    cases: &[Case],
     input: &[u8],
 ) -> Result<(), Fail> {
     for (words, listing) in cases {
         let request = parse_line(rt.alloc(), words)?;
-        assert_eq!(rt; listed(rt, &request, input)?.as_slice(), *listing);
+        let (found, first) = listed(rt, &request, input)?;
+        assert_eq!(rt; found.as_slice(), *listing);
+        first?;
     }
     Ok(())
 }
 
+const OUTCOMES: &[u8] = b"block 1 -\nblock 2 B\n9\n";
+
+const SCHEDULES: &[u8] = b"block 1 -
+[ loadI 4 => r0 ; nop ]
+[ store r0 => r0 ; nop ]
+cycles 6
+block 2 B
+[ output 4 ; nop ]
+cycles 1
+total 7
+";
+
+const COUNTS: &[u8] = b"block 1 - cycles 6\nblock 2 B cycles 1\ntotal 7\n";
+
+const CASES: &[Case] = &[
+    (&["run", "--at", "4", "9"], OUTCOMES),
+    (&["simulate", "--at", "4", "9"], OUTCOMES),
+    (&["schedule", "--workers", "1"], SCHEDULES),
+    (&["counts", "--workers", "8"], COUNTS),
+];
+
 #[test]
 fn lists_a_small_file(rt: HostRuntime) -> Result<(), Fail> {
-    let cases: [(&[&str], &[u8]); 4] = [
-        (&["run", "--at", "4", "9"], b"block 1 -\nblock 2 B\n9\n"),
-        (
-            &["simulate", "--at", "4", "9"],
-            b"block 1 -\nblock 2 B\n9\n",
-        ),
-        (
-            &["schedule", "--workers", "1"],
-            b"block 1 -\n[ loadI 4 => r0 ; nop ]\n[ store r0 => r0 ; nop ]\ncycles 6\nblock 2 B\n[ output 4 ; nop ]\ncycles 1\ntotal 7\n",
-        ),
-        (
-            &["counts", "--workers", "8"],
-            b"block 1 - cycles 6\nblock 2 B cycles 1\ntotal 7\n",
-        ),
-    ];
-    assert_listed(&rt, &cases, SMALL)
-}
-
-/// So many copies of the block.
-fn blocks(alloc: Global, count: usize) -> Result<Vec<u8>, AllocError> {
-    BLOCK.repeat(alloc, count)
+    assert_listed(&rt, CASES, SMALL)
 }
 
 /// The cycles of 40 such blocks, and their sum.
@@ -97,10 +101,11 @@ fn counted(alloc: Global) -> Result<Vec<u8>, Fail> {
     Ok(text)
 }
 
+const THREE: &[&str] = &["counts", "--workers", "3"];
+
 #[test]
 fn schedules_a_middling_file(rt: HostRuntime) -> Result<(), Fail> {
-    let input = blocks(rt.alloc(), 40)?;
+    let input = BLOCK.repeat(rt.alloc(), 40)?;
     let listing = counted(rt.alloc())?;
-    let words: [&str; 3] = ["counts", "--workers", "3"];
-    assert_listed(&rt, &[(&words, &listing)], &input)
+    assert_listed(&rt, &[(THREE, &listing)], &input)
 }

@@ -1,11 +1,11 @@
 //! The farm's threads: that all of them work, and that what they find does not depend on them.
 ghost use Rattle.std.specs.Prelude.{◌<◌, ◌≤◌};
 
-use iloc_board::{FreeGate, Gate};
+use iloc_board::Gate;
 use iloc_farm::schedule_all;
 use iloc_text::laws::files_are_within_limits;
 use iloc_text::read_file;
-use iloc_timed::{Latencies, Row, Schedule};
+use iloc_timed::{Latencies, Schedule};
 use std::alloc::Global;
 use std::sync::Wait;
 use std::sync::atomic::{AtomicU64, Ordering};
@@ -20,6 +20,8 @@ const TURNS: u32 = 100_000_000;
 struct Meeting {
     all: u64,
     marks: AtomicU64,
+    /// How many workers waited in vain.
+    in_vain: AtomicU64,
 }
 
 impl Meeting {
@@ -29,6 +31,7 @@ impl Meeting {
         Meeting {
             all: (1 << workers) - 1,
             marks: AtomicU64::new(0),
+            in_vain: AtomicU64::new(0),
         }
     }
 
@@ -43,15 +46,17 @@ impl Meeting {
         }
         self.marks.fetch_add(mark, Ordering::SeqCst);
         for _ in 0..TURNS {
-            if self.have_met() {
+            if self.marks.load(Ordering::SeqCst) == self.all {
                 return;
             }
             yield_now();
         }
+        self.in_vain.fetch_add(1, Ordering::SeqCst);
     }
 
+    /// Whether all workers have the mark, and none waited in vain.
     fn have_met(&self) -> bool {
-        self.marks.load(Ordering::SeqCst) == self.all
+        self.marks.load(Ordering::SeqCst) == self.all && self.in_vain.load(Ordering::SeqCst) == 0
     }
 }
 
@@ -101,36 +106,31 @@ fn schedules<R: Threads + Wait + Sync, G: Gate + Sync>(
     Ok(schedule_all(rt, alloc, &file, &Latencies::usual(), workers, gate)?)
 }
 
-const ONE_EACH: &[u8] = b"A:\nA:\nA:\nA:\nA:\nA:\nA:\nA:\n";
-
-#[test]
-fn two_workers_take_a_block_each_at_once(rt: HostRuntime) -> Result<(), Fail> {
-    let gate = Meetings::new(2);
-    let text = b"A: loadI 4 => r1\nB:\noutput 0\n";
-    let found = schedules(&rt, rt.alloc(), text, 2, &gate)?;
-    assert!(rt; gate.looks.have_met() && gate.takes.have_met());
-    assert_eq!(rt; gate.taken.load(Ordering::SeqCst), 2);
-    let alone = Row {
-        zero: Some(0),
-        one: None,
-    };
-    assert_eq!(rt; found.len(), 2);
-    for schedule in &found {
-        assert_eq!(rt; schedule.ops().len(), 1);
-        assert_eq!(rt; schedule.rows(), [alone].as_slice());
+/// Blocks of one output, of two, and so on: no two have one schedule.
+fn stairs(alloc: Global, count: u32) -> Result<Vec<u8>, Fail> {
+    let mut text = Vec::new(alloc);
+    for k in 0..count {
+        text.extend_from_slice(b"A:\n")?;
+        for _ in 0..=k {
+            text.extend_from_slice(b"output 0\n")?;
+        }
     }
-    Ok(())
+    Ok(text)
 }
 
 #[test]
-fn eight_workers_take_a_block_each_at_once(rt: HostRuntime) -> Result<(), Fail> {
-    let gate = Meetings::new(8);
-    let found = schedules(&rt, rt.alloc(), ONE_EACH, 8, &gate)?;
-    assert!(rt; gate.looks.have_met() && gate.takes.have_met());
-    assert_eq!(rt; gate.taken.load(Ordering::SeqCst), 8);
-    assert_eq!(rt; found.len(), 8);
-    for schedule in &found {
-        assert!(rt; schedule.rows().is_empty());
+fn workers_take_a_block_each_at_once(rt: HostRuntime) -> Result<(), Fail> {
+    for workers in 2..9 {
+        let gate = Meetings::new(workers);
+        let text = stairs(rt.alloc(), workers)?;
+        let found = schedules(&rt, rt.alloc(), &text, workers, &gate)?;
+        assert!(rt; gate.looks.have_met() && gate.takes.have_met());
+        assert_eq!(rt; gate.taken.load(Ordering::SeqCst), u64::from(workers));
+        assert_eq!(rt; found.len(), workers as usize);
+        for (k, schedule) in found.iter().enumerate() {
+            assert_eq!(rt; schedule.ops().len(), k + 1);
+            assert_eq!(rt; schedule.rows().len(), k + 1);
+        }
     }
     Ok(())
 }
@@ -141,35 +141,6 @@ fn no_block_is_no_work(rt: HostRuntime) -> Result<(), Fail> {
     assert!(rt; schedules(&rt, rt.alloc(), b"", 8, &gate)?.is_empty());
     assert_eq!(rt; gate.taken.load(Ordering::SeqCst), 0);
     assert_eq!(rt; gate.looks.marks.load(Ordering::SeqCst), 0);
-    Ok(())
-}
-
-#[test]
-fn more_workers_than_blocks_find_the_same(rt: HostRuntime) -> Result<(), Fail> {
-    let text = b"add r1, r1 => r2\nmult r2, r2 => r3\nmult r3, r3 => r4\nload r1 => r5\n";
-    let rows = [
-        Row {
-            zero: Some(3),
-            one: Some(0),
-        },
-        Row {
-            zero: None,
-            one: Some(1),
-        },
-        Row::default(),
-        Row::default(),
-        Row {
-            zero: None,
-            one: Some(2),
-        },
-    ];
-    for workers in 1..9 {
-        let found = schedules(&rt, rt.alloc(), text, workers, &FreeGate)?;
-        assert_eq!(rt; found.len(), 1);
-        for schedule in &found {
-            assert_eq!(rt; schedule.rows(), rows.as_slice());
-        }
-    }
     Ok(())
 }
 
@@ -210,18 +181,14 @@ fn stay(turns: u32) {
 #[test]
 fn leaves_no_thread_behind(rt: HostRuntime) -> Result<(), Fail> {
     files_are_within_limits();
-    let Ok(file) = read_file(rt.alloc(), ONE_EACH) else {
-        return Ok(());
-    };
+    let file = read_file(rt.alloc(), b"A:\nA:\nA:\nA:\nA:\nA:\nA:\nA:\n")?;
     let gate = Crowd::new();
     let found = schedule_all(&rt, rt.alloc(), &file, &Latencies::usual(), 8, &gate);
     assert_eq!(rt; gate.inside.load(Ordering::SeqCst), 0);
     let looks = gate.looks.load(Ordering::SeqCst);
     stay(10_000);
     assert_eq!(rt; gate.looks.load(Ordering::SeqCst), looks);
-    if let Ok(found) = found {
-        assert_eq!(rt; found.len(), 8);
-        assert!(rt; looks >= 8);
-    }
+    assert_eq!(rt; found?.len(), 8);
+    assert!(rt; looks >= 8);
     Ok(())
 }

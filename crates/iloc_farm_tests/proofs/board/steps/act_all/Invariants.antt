@@ -1,0 +1,5 @@
+use Rattle.std.proofs.Common.{◌≡◌}
+use Rattle.iloc_farm_tests.proofs.board.steps.act_all.Given as goal
+
+abbrev pub invariant-loop-it : goal.invariant-loop-it
+invariant-loop-it g l = record { own : l.pass.board ≡ l.board }

@@ -1,0 +1,79 @@
+//! Listings of what is there already: to be run with each growth refused in turn.
+use super::sample::TWO_OUTPUTS;
+use iloc_args::parse_line;
+use iloc_farm::{counts_text, initial_memory, outcomes_text, schedules_text};
+use iloc_meaning::run_block;
+use iloc_text::{IlocFile, NoMemory, read_file};
+use iloc_timed::{Latencies, Row, Schedule, cycles};
+use std::alloc::Global;
+use std::test::Fail;
+
+/// Both operations on unit 1, with an empty row between them.
+const APART: [Row; 3] = [
+    Row {
+        zero: None,
+        one: Some(0),
+    },
+    Row {
+        zero: None,
+        one: None,
+    },
+    Row {
+        zero: None,
+        one: Some(1),
+    },
+];
+
+/// Both listings of a file of one block with its schedule.
+fn listed(alloc: Global, file: &IlocFile, schedule: Schedule) -> Result<(Vec<u8>, Vec<u8>), Fail> {
+    let usual = Latencies::usual();
+    let schedules = [schedule];
+    if file.blocks.as_slice().len() != 1 || cycles(&schedules[0], &usual) > 1_000 {
+        return Err(Fail::from("not one small block"));
+    }
+    Ok((
+        schedules_text(alloc, file, &usual, &schedules)?,
+        counts_text(alloc, file, &usual, &schedules)?,
+    ))
+}
+
+#[test]
+fn lists_schedules_that_are_there(rt: HostRuntime) -> Result<(), Fail> {
+    let alloc = rt.alloc();
+    let file = read_file(alloc, TWO_OUTPUTS)?;
+    let block = file.blocks.as_slice().first().ok_or("no block")?;
+    let ops = Vec::from_slice(alloc, block.ops.as_slice())?;
+    let schedule = Schedule::new(alloc, ops, Vec::from_slice(alloc, &APART)?)?;
+    let (rows, counts) = listed(alloc, &file, schedule)?;
+    let wanted = b"block 1 -
+[ nop ; output 0 ]
+[ nop ; nop ]
+[ nop ; output 4 ]
+cycles 3
+total 3
+";
+    assert_eq!(rt; rows.as_slice(), wanted.as_slice());
+    assert_eq!(rt;
+        counts.as_slice(),
+        b"block 1 - cycles 3\ntotal 3\n".as_slice()
+    );
+    Ok(())
+}
+
+#[test]
+fn lists_outcomes_that_are_there(rt: HostRuntime) -> Result<(), Fail> {
+    let alloc = rt.alloc();
+    let request = parse_line(alloc, &["run", "--at", "4", "5"])?;
+    let file = read_file(alloc, b"output 0\noutput 4\nB: output 2\n")?;
+    let mut outcomes = Vec::new(alloc);
+    for block in file.blocks.as_slice() {
+        outcomes.push(run_block(alloc, block, initial_memory(alloc, &request)?)?)?;
+    }
+    assert_eq!(rt; outcomes.len(), file.blocks.as_slice().len());
+    let text = outcomes_text(alloc, &file, &outcomes)?;
+    assert_eq!(rt;
+        text.as_slice(),
+        b"block 1 -\n0\n5\nblock 2 B\nfault\n".as_slice()
+    );
+    Ok(())
+}
