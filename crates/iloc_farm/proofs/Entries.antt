@@ -26,7 +26,8 @@ use Rattle.iloc_farm.proofs.Schedules.{greedy_all_exist, greedy_all_same, greedy
 
 -- Jobs that were answered were answered by the `other` of each job too, where it fits and costs the same.
 module _ {A B : Type 0} (fits : ℕ → A → Type 0) (price : A → ℕ) (fits' : ℕ → B → Type 0) (price' : B → ℕ)
-    (other : ℕ → B) (fit : (k : ℕ) → fits' k (other k)) (same : (k : ℕ) (a : A) → fits k a → price' (other k) ≡ price a) where
+    (other : ℕ → B) (fit : (k : ℕ) → fits' k (other k))
+    (same : (k : ℕ) (a : A) → fits k a → price' (other k) ≡ price a) where
   abbrev retold : List (ℕ × A) → List (ℕ × B)
   retold handed = map (λ x. (x.0, other x.0)) handed
 
@@ -80,16 +81,16 @@ module _ {A B : Type 0} (fits : ℕ → A → Type 0) (price : A → ℕ) (fits'
         };
       }
 
-module _ (detail : Detail) (lat : Latencies) where
-  -- each of the greedy schedules is that of its block
-  schedule_fits : (blocks : List Block) (schedules : List Table) → AreGreedy lat blocks schedules → (k : ℕ) (d : Table)
-      → IsScheduleOf lat blocks k (slice_index_or schedules k d)
-  schedule_fits [] [] greedy k d = tt
-  schedule_fits [] (s ∷ schedules) greedy k d = absurd greedy
-  schedule_fits (b ∷ blocks) [] greedy k d = absurd greedy
-  schedule_fits (b ∷ blocks) (s ∷ schedules) greedy zero d = greedy.0
-  schedule_fits (b ∷ blocks) (s ∷ schedules) greedy (suc k) d = schedule_fits blocks schedules greedy.1 k d
+-- each of the greedy schedules is that of its block
+schedule_fits : (lat : Latencies) (blocks : List Block) (schedules : List Table) → AreGreedy lat blocks schedules
+    → (k : ℕ) (d : Table) → IsScheduleOf lat blocks k (slice_index_or schedules k d)
+schedule_fits lat [] [] greedy k d = tt
+schedule_fits lat [] (s ∷ schedules) greedy k d = absurd greedy
+schedule_fits lat (b ∷ blocks) [] greedy k d = absurd greedy
+schedule_fits lat (b ∷ blocks) (s ∷ schedules) greedy zero d = greedy.0
+schedule_fits lat (b ∷ blocks) (s ∷ schedules) greedy (suc k) d = schedule_fits lat blocks schedules greedy.1 k d
 
+module _ (detail : Detail) (lat : Latencies) where
   -- the schedule that an entry lists is the greedy one of its block
   lists_greedy : (number : ℕ) (b : Block) (s : Table) (e : Entry) → IsGreedy lat b.ops s.ops s.rows
       → (h : IsEntry detail lat number b e) → h.schedule ≡ s
@@ -143,7 +144,8 @@ no_table = record { ops = []; rows = [] }
 
 -- what workers have handed back is the entries of the greedy schedules, for which the headline holds
 pub are_entries : (detail : Detail) (request : Request) (blocks : List Block) (made : List Entry) (costs : List ℕ)
-    → AreAnswered (length blocks) (IsEntryOf detail request.latencies blocks) (λ (e : Entry). e.cycles) request.workers made costs
+    → AreAnswered (length blocks) (IsEntryOf detail request.latencies blocks) (λ (e : Entry). e.cycles)
+    request.workers made costs
     → AreEntries detail request blocks made
 are_entries detail request blocks made costs h =
     let lat : Latencies = request.latencies in
@@ -152,7 +154,7 @@ are_entries detail request blocks made costs h =
     (λ i e at. (h.in_order.each i e at).1) in
     let answered : AreAnswered (length blocks) (IsScheduleOf lat blocks) (cycles_of lat) request.workers found.0 costs =
     answered_too (IsEntryOf detail lat blocks) (λ (e : Entry). e.cycles) (IsScheduleOf lat blocks) (cycles_of lat)
-    (λ k. slice_index_or found.0 k no_table) (λ k. schedule_fits detail lat blocks found.0 found.1 k no_table)
+    (λ k. slice_index_or found.0 k no_table) (λ k. schedule_fits lat blocks found.0 found.1 k no_table)
     (λ k e fits. same_price detail lat blocks found.0 found.1 (k + 1) k no_table e fits)
     (length blocks) request.workers made found.0 costs (greedy_long lat blocks found.0 found.1)
     (λ i s at. get_or_from_slice_get found.0 i s no_table at) h in

@@ -83,7 +83,7 @@ one_explained lat blocks n b s text more entry total next within read short gree
       sum =
           let before : total ≡ total_cycles lat so_far.schedules = so_far.sum in
           let both : total_cycles lat (so_far.schedules ++ s ∷ [])
-              ≡ total_cycles lat so_far.schedules + total_cycles lat (s ∷ []) =
+          ≡ total_cycles lat so_far.schedules + total_cycles lat (s ∷ []) =
           sum_by-append (cycles_of lat) so_far.schedules (s ∷ []) in
           let one : total_cycles lat (s ∷ []) ≡ cycles_of lat s + total_cycles lat [] = sum_by-cons (cycles_of lat) s [] in
           let none : total_cycles lat [] ≡ 0 = refl in

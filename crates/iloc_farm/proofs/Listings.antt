@@ -22,7 +22,8 @@ one_listing : (lat lat' : Latencies) (blocks : List Block) (listing : Latencies 
 one_listing lat lat' blocks listing text text' same lists lists' =
     let P : Latencies → Type 0 = λ l. ListsGreedy l blocks (listing l) text' in
     let other = subst P (sym same) lists' in
-    lists.listed ∙ (ap (listing lat) (greedy_all_same lat blocks other.schedules lists.schedules other.greedy lists.greedy)
+    lists.listed ∙ (ap (listing lat)
+    (greedy_all_same lat blocks other.schedules lists.schedules other.greedy lists.greedy)
     ∙ sym other.listed)
 
 -- what is listed of blocks that are run follows from the memory
@@ -41,7 +42,8 @@ of_one_task task.Run r q alike blocks text text' lists lists' =
 of_one_task task.Simulate r q alike blocks text text' lists lists' =
     one_run (memory_of r) (memory_of q) blocks text text' (one_memory r q alike) lists.1 lists'.1
 of_one_task task.Schedule r q alike blocks text text' lists lists' =
-    one_listing r.latencies q.latencies blocks (λ lat. schedules_listing lat blocks) text text' alike.latencies lists lists'
+    one_listing r.latencies q.latencies blocks (λ lat. schedules_listing lat blocks) text text' alike.latencies
+    lists lists'
 of_one_task task.Counts r q alike blocks text text' lists lists' =
     one_listing r.latencies q.latencies blocks (λ lat. counts_listing lat blocks) text text' alike.latencies lists lists'
 of_one_task task.Explain r q alike blocks text text' lists lists' =

@@ -46,7 +46,7 @@ pub record IsItsSchedule (lat : Latencies) (handed : List (ℕ × Table)) (costs
 -- So many workers made these schedules of the blocks.
 pub record Headline (lat : Latencies) (blocks : List Block) (workers : ℕ) (schedules : List Table)
     : Type 0 where
-  -- There is one list of looks, tries and hand-backs, all by these workers. Each worker's journal is its own part of it.
+  -- There is one list of looks, tries and hand-backs, all by these workers; each worker's journal is its own part.
   pub steps : List Step
   pub journals : List JournalView
   pub one_list : IsOneList (length blocks) workers journals steps
@@ -54,7 +54,7 @@ pub record Headline (lat : Latencies) (blocks : List Block) (workers : ℕ) (sch
   -- These were handed back: one schedule for each hand-back in the journals, of its block and at its cost.
   pub handed : List (ℕ × Table)
   pub filed : AreFitting (IsScheduleOf lat blocks) (cycles_of lat) handed (all_handed journals)
-  -- With them the list is a legal history of a board of one thread, from all blocks waiting to none waiting and none out.
+  -- With them it is a legal history of a board of one thread, from all blocks waiting to none waiting and none out.
   pub legal : Legal (IsScheduleOf lat blocks) (opened (length blocks)) (calls (length blocks) handed steps)
   pub over : IsOver (board_after (opened (length blocks)) (calls (length blocks) handed steps))
   -- No block is taken twice or handed back twice.

@@ -14,7 +14,11 @@ use iloc_timed::{Latencies, Row, Schedule, cycles};
 use std::alloc::Global;
 
 /// Appends `block K NAME`, with `-` for a block without a name.
-pub(crate) fn push_block_head(text: &mut Vec<u8>, number: usize, name: Option<&Name>) -> Result<(), NoMemory>
+pub(crate) fn push_block_head(
+    text: &mut Vec<u8>,
+    number: usize,
+    name: Option<&Name>,
+) -> Result<(), NoMemory>
     requires { number < 2 ^ 63 }
     ensures { OnOk result
         (text.new.items ≡ text.old.items ++ listed.block_head number (option_copied name.entry)) }

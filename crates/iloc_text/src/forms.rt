@@ -110,17 +110,53 @@ pub fn form_of(op: &Op) -> (Opcode, Operands)
         Op::Add { left, right, dest } => (Opcode::Add, Operands::Sources { left, right, dest }),
         Op::Sub { left, right, dest } => (Opcode::Sub, Operands::Sources { left, right, dest }),
         Op::Mult { left, right, dest } => (Opcode::Mult, Operands::Sources { left, right, dest }),
-        Op::Lshift { left, right, dest } => (Opcode::Lshift, Operands::Sources { left, right, dest }),
-        Op::Rshift { left, right, dest } => (Opcode::Rshift, Operands::Sources { left, right, dest }),
+        Op::Lshift { left, right, dest } => (
+            Opcode::Lshift,
+            Operands::Sources { left, right, dest },
+        ),
+        Op::Rshift { left, right, dest } => (
+            Opcode::Rshift,
+            Operands::Sources { left, right, dest },
+        ),
         Op::Output { addr } => (Opcode::Output, Operands::Constant(addr)),
         Op::Nop => (Opcode::Nop, Operands::Nothing),
-        Op::AddI { left, value, dest } => (Opcode::AddI, Operands::WithConstant { left, value, dest }),
-        Op::SubI { left, value, dest } => (Opcode::SubI, Operands::WithConstant { left, value, dest }),
-        Op::MultI { left, value, dest } => (Opcode::MultI, Operands::WithConstant { left, value, dest }),
-        Op::LshiftI { left, value, dest } => (Opcode::LshiftI, Operands::WithConstant { left, value, dest }),
-        Op::RshiftI { left, value, dest } => (Opcode::RshiftI, Operands::WithConstant { left, value, dest }),
-        Op::LoadAI { addr: left, offset: value, dest } => (Opcode::LoadAI, Operands::WithConstant { left, value, dest }),
-        Op::StoreAI { value, addr, offset } => (Opcode::StoreAI, Operands::StoredAt { value, addr, offset }),
+        Op::AddI { left, value, dest } => (
+            Opcode::AddI,
+            Operands::WithConstant { left, value, dest },
+        ),
+        Op::SubI { left, value, dest } => (
+            Opcode::SubI,
+            Operands::WithConstant { left, value, dest },
+        ),
+        Op::MultI { left, value, dest } => (
+            Opcode::MultI,
+            Operands::WithConstant { left, value, dest },
+        ),
+        Op::LshiftI { left, value, dest } => (
+            Opcode::LshiftI,
+            Operands::WithConstant { left, value, dest },
+        ),
+        Op::RshiftI { left, value, dest } => (
+            Opcode::RshiftI,
+            Operands::WithConstant { left, value, dest },
+        ),
+        Op::LoadAI {
+            addr: left,
+            offset: value,
+            dest,
+        } => (Opcode::LoadAI, Operands::WithConstant { left, value, dest }),
+        Op::StoreAI {
+            value,
+            addr,
+            offset,
+        } => (
+            Opcode::StoreAI,
+            Operands::StoredAt {
+                value,
+                addr,
+                offset,
+            },
+        ),
     }
 }
 
