@@ -6,7 +6,7 @@ use Rattle.std.proofs.lemmas.Bool.Decides.{nat_tests}
 use Rattle.std.proofs.lemmas.Slice.Eq.{bytes_eq-Decides}
 use Rattle.iloc_text.specs.declared.op.Op.{Op}
 use Rattle.iloc_text.specs.Forms.{numbers, operands}
-use Rattle.iloc_text.specs.declared.forms.Value.TheVariants.{Constant}
+use Rattle.iloc_text.specs.Forms.Value.{Constant}
 use Rattle.iloc_text.specs.Grammar.{◌⋅◌, Text, is_blank, is_word_byte, Blanks, SomeBlanks, Number, IsName, IsWithinLimit, OptionalComment}
 use Rattle.iloc_text.specs.ScheduleLines.{Said, SlotText, BlockName, SaidText, SaysWidely, said_numbers, Says, SaysSomething, SaysSomethingWidely}
 use Rattle.iloc_text.specs.ScheduleLines.Said.{nothing, row, head, cycles, total}
