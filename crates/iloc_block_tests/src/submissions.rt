@@ -66,6 +66,7 @@ fn reads_a_listing_behind_its_blocks(rt: HostRuntime) -> Result<(), Fail> {
     let found = read_submission(rt.alloc(), &text)?;
     assert_listed(&rt, &found);
     let blocks = found.blocks.as_slice();
+    assert_eq!(rt; blocks.len(), 3);
     assert_eq!(rt; blocks[2].ops.as_slice(), [Op::Nop].as_slice());
     Ok(())
 }
@@ -267,7 +268,9 @@ fn reads_as_many_rows_as_a_text_holds(rt: HostRuntime) -> Result<(), Fail> {
     let count = MAX_INPUT / row.len() - 1;
     let text = joined(rt.alloc(), b"nop\n", &row.repeat(rt.alloc(), count)?)?;
     let found = read_submission(rt.alloc(), &text)?;
-    let rows = found.proposals.as_slice()[0].rows.as_slice();
+    let proposals = found.proposals.as_slice();
+    assert_eq!(rt; proposals.len(), 1);
+    let rows = proposals[0].rows.as_slice();
     assert_eq!(rt; rows.len(), count);
     assert!(rt; rows.iter().all(|row| *row == EMPTY));
     Ok(())
