@@ -1,8 +1,9 @@
 use crate::rows::build;
 use crate::sched::sample::block_of;
-use iloc_judge::same;
+use iloc_judge::{Place, Slots, Verdict, judge, number_operations, same};
+use iloc_meaning::Memory;
 use iloc_sched::schedule;
-use iloc_text::{Block, Op};
+use iloc_text::Op;
 use iloc_timed::{Latencies, MAX_ROWS, Row, Schedule};
 use std::alloc::Global;
 use std::process::Abort;
@@ -60,26 +61,64 @@ fn assert_same(
     Ok(())
 }
 
-const LOADS_AND_STORES: &[u8] = b"loadI 1024 => r1\nloadAI r1, 4 => r2\nmult r2, r2 => r3\nstoreAI r3 => r1, 8\noutput 1032\n";
+const LOADS_AND_STORES: &[u8] =
+    b"loadI 1024 => r1\nloadAI r1, 4 => r2\nmult r2, r2 => r3\nstoreAI r3 => r1, 8\noutput 1032\n";
 
 #[test]
 fn knows_other_names_and_places(rt: HostRuntime) -> Result<(), Fail> {
     let alloc = rt.alloc();
     assert_same(&rt, alloc, LOADS_AND_STORES, LOADS_AND_STORES, true)?;
     // Other registers, one register for all words, a constant in place of a sum.
-    assert_same(&rt, alloc, LOADS_AND_STORES, b"loadI 1024 => r9\nloadAI r9, 4 => r7\nmult r7, r7 => r8\nstoreAI r8 => r9, 8\noutput 1032\n", true)?;
-    assert_same(&rt, alloc, LOADS_AND_STORES, b"loadI 1028 => r1\nload r1 => r1\nmult r1, r1 => r1\nloadI 1032 => r2\nstore r1 => r2\noutput 1032\n", true)?;
+    assert_same(
+        &rt,
+        alloc,
+        LOADS_AND_STORES,
+        b"loadI 1024 => r9\nloadAI r9, 4 => r7\nmult r7, r7 => r8\nstoreAI r8 => r9, 8\noutput 1032\n",
+        true,
+    )?;
+    assert_same(
+        &rt,
+        alloc,
+        LOADS_AND_STORES,
+        b"loadI 1028 => r1\nload r1 => r1\nmult r1, r1 => r1\nloadI 1032 => r2\nstore r1 => r2\noutput 1032\n",
+        true,
+    )?;
     Ok(())
 }
 
 #[test]
 fn knows_arithmetic(rt: HostRuntime) -> Result<(), Fail> {
     let alloc = rt.alloc();
-    let block = b"loadI 8 => r1\nload r1 => r2\nlshiftI r2, 2 => r3\naddI r3, 12 => r4\nstore r4 => r1\n";
-    assert_same(&rt, alloc, block, b"loadI 8 => r1\nload r1 => r2\nmultI r2, 4 => r3\naddI r3, 12 => r4\nstore r4 => r1\n", true)?;
-    assert_same(&rt, alloc, block, b"loadI 8 => r1\nload r1 => r2\naddI r2, 3 => r3\nmultI r3, 4 => r4\nstore r4 => r1\n", true)?;
-    assert_same(&rt, alloc, block, b"loadI 8 => r1\nload r1 => r2\nadd r2, r2 => r3\nadd r3, r3 => r4\naddI r4, 12 => r4\nstore r4 => r1\n", true)?;
-    assert_same(&rt, alloc, block, b"loadI 8 => r1\nload r1 => r2\nadd r2, r2 => r3\nadd r3, r3 => r4\naddI r4, 13 => r4\nstore r4 => r1\n", false)?;
+    let block =
+        b"loadI 8 => r1\nload r1 => r2\nlshiftI r2, 2 => r3\naddI r3, 12 => r4\nstore r4 => r1\n";
+    assert_same(
+        &rt,
+        alloc,
+        block,
+        b"loadI 8 => r1\nload r1 => r2\nmultI r2, 4 => r3\naddI r3, 12 => r4\nstore r4 => r1\n",
+        true,
+    )?;
+    assert_same(
+        &rt,
+        alloc,
+        block,
+        b"loadI 8 => r1\nload r1 => r2\naddI r2, 3 => r3\nmultI r3, 4 => r4\nstore r4 => r1\n",
+        true,
+    )?;
+    assert_same(
+        &rt,
+        alloc,
+        block,
+        b"loadI 8 => r1\nload r1 => r2\nadd r2, r2 => r3\nadd r3, r3 => r4\naddI r4, 12 => r4\nstore r4 => r1\n",
+        true,
+    )?;
+    assert_same(
+        &rt,
+        alloc,
+        block,
+        b"loadI 8 => r1\nload r1 => r2\nadd r2, r2 => r3\nadd r3, r3 => r4\naddI r4, 13 => r4\nstore r4 => r1\n",
+        false,
+    )?;
     Ok(())
 }
 
@@ -87,12 +126,16 @@ fn knows_arithmetic(rt: HostRuntime) -> Result<(), Fail> {
 fn tells_addresses_apart(rt: HostRuntime) -> Result<(), Fail> {
     let alloc = rt.alloc();
     // Two stores with one unknown base, and loads of words that lie elsewhere, in another order.
-    let block = b"loadI 8 => r1\nload r1 => r2\nstoreAI r1 => r2, 4\nstoreAI r2 => r2, 8\nloadAI r2, 12 => r3\nstore r3 => r1\n";
-    let other = b"loadI 8 => r1\nload r1 => r2\nloadAI r2, 12 => r3\nstoreAI r2 => r2, 8\nstoreAI r1 => r2, 4\nstore r3 => r1\n";
+    let block =
+        b"loadI 8 => r1\nload r1 => r2\nstoreAI r1 => r2, 4\nstoreAI r2 => r2, 8\nloadAI r2, 12 => r3\nstore r3 => r1\n";
+    let other =
+        b"loadI 8 => r1\nload r1 => r2\nloadAI r2, 12 => r3\nstoreAI r2 => r2, 8\nstoreAI r1 => r2, 4\nstore r3 => r1\n";
     assert_same(&rt, alloc, block, other, true)?;
     // The word that is loaded is one that was stored.
-    let stored = b"loadI 8 => r1\nload r1 => r2\nstoreAI r1 => r2, 4\nstoreAI r2 => r2, 8\nloadAI r2, 8 => r3\nstore r3 => r1\n";
-    let forwarded = b"loadI 8 => r1\nload r1 => r2\nstoreAI r1 => r2, 4\nstoreAI r2 => r2, 8\nstore r2 => r1\n";
+    let stored =
+        b"loadI 8 => r1\nload r1 => r2\nstoreAI r1 => r2, 4\nstoreAI r2 => r2, 8\nloadAI r2, 8 => r3\nstore r3 => r1\n";
+    let forwarded =
+        b"loadI 8 => r1\nload r1 => r2\nstoreAI r1 => r2, 4\nstoreAI r2 => r2, 8\nstore r2 => r1\n";
     assert_same(&rt, alloc, stored, forwarded, true)?;
     assert_same(&rt, alloc, block, forwarded, false)?;
     // A store to a known address stays where it is, before one to an unknown one.
@@ -107,11 +150,29 @@ fn compares_faults(rt: HostRuntime) -> Result<(), Fail> {
     let alloc = rt.alloc();
     // A load whose result nobody uses can fault, where its address isn't known.
     let unknown = b"loadI 8 => r1\nload r1 => r2\nload r2 => r3\noutput 8\n";
-    assert_same(&rt, alloc, unknown, b"loadI 8 => r1\nload r1 => r2\noutput 8\n", false)?;
+    assert_same(
+        &rt,
+        alloc,
+        unknown,
+        b"loadI 8 => r1\nload r1 => r2\noutput 8\n",
+        false,
+    )?;
     assert_same(&rt, alloc, b"output 8\n", unknown, false)?;
-    assert_same(&rt, alloc, b"loadI 8 => r1\nload r1 => r2\noutput 8\n", b"output 8\n", true)?;
+    assert_same(
+        &rt,
+        alloc,
+        b"loadI 8 => r1\nload r1 => r2\noutput 8\n",
+        b"output 8\n",
+        true,
+    )?;
     // Whatever stands behind a fault that always comes isn't done.
-    assert_same(&rt, alloc, b"output 1\noutput 8\n", b"loadI 1 => r1\nload r1 => r2\n", true)?;
+    assert_same(
+        &rt,
+        alloc,
+        b"output 1\noutput 8\n",
+        b"loadI 1 => r1\nload r1 => r2\n",
+        true,
+    )?;
     assert_same(&rt, alloc, b"output 1\noutput 8\n", b"output 8\n", false)?;
     Ok(())
 }
@@ -123,9 +184,115 @@ fn knows_wrong_ones(rt: HostRuntime) -> Result<(), Fail> {
     assert_same(&rt, alloc, outputs, outputs, true)?;
     assert_same(&rt, alloc, outputs, b"output 8\noutput 4\n", false)?;
     assert_same(&rt, alloc, outputs, b"output 4\n", false)?;
-    assert_same(&rt, alloc, LOADS_AND_STORES, b"loadI 1024 => r1\nloadAI r1, 4 => r2\nmult r2, r2 => r3\nstoreAI r3 => r1, 12\noutput 1032\n", false)?;
+    assert_same(
+        &rt,
+        alloc,
+        LOADS_AND_STORES,
+        b"loadI 1024 => r1\nloadAI r1, 4 => r2\nmult r2, r2 => r3\nstoreAI r3 => r1, 12\noutput 1032\n",
+        false,
+    )?;
     // Five cycles apart each result is there; four apart one is used a cycle too early.
-    assert_eq!(rt; is_same(alloc, LOADS_AND_STORES, LOADS_AND_STORES, 5)?, true);
-    assert_eq!(rt; is_same(alloc, LOADS_AND_STORES, LOADS_AND_STORES, 4)?, false);
+    assert_eq!(rt;
+        is_same(alloc, LOADS_AND_STORES, LOADS_AND_STORES, 5)?,
+        true
+    );
+    assert_eq!(rt;
+        is_same(alloc, LOADS_AND_STORES, LOADS_AND_STORES, 4)?,
+        false
+    );
+    Ok(())
+}
+
+/// What is said of the operations of a text as rows for a block, six cycles apart, products on unit 1 or
+/// all on unit 0, where 9 stands at 4 and else 0.
+fn verdict(
+    alloc: Global,
+    block: &[u8],
+    theirs: &[u8],
+    products_on_one: bool,
+) -> Result<Verdict, Fail> {
+    let latencies = Latencies::usual();
+    let block = block_of(alloc, block)?;
+    let ours = schedule(alloc, &block, &latencies)?;
+    let mut listing = Vec::new(alloc);
+    for op in block_of(alloc, theirs)?.ops.as_slice() {
+        let is_product = matches!(op, Op::Mult { .. } | Op::MultI { .. });
+        listing.push(if is_product && products_on_one {
+            Slots {
+                zero: Op::Nop,
+                one: *op,
+            }
+        } else {
+            Slots {
+                zero: *op,
+                one: Op::Nop,
+            }
+        })?;
+        for _ in 0..5 {
+            listing.push(Slots {
+                zero: Op::Nop,
+                one: Op::Nop,
+            })?;
+        }
+    }
+    let made = number_operations(alloc, &listing[..listing.len().min(MAX_ROWS)])?;
+    let mut memory = Memory::zero(alloc)?;
+    memory.set(4, 9);
+    Ok(judge(
+        alloc, &block, &ours, made.ops, made.rows, &latencies, &memory,
+    )?)
+}
+
+#[test]
+fn says_where_rows_differ(rt: HostRuntime) -> Result<(), Fail> {
+    let alloc = rt.alloc();
+    let block = b"loadI 4 => r1\nload r1 => r2\nmult r2, r2 => r3\nstore r3 => r1\noutput 4\n";
+    let cases: [(&[u8], Verdict); 6] = [
+        (block, Verdict::Same),
+        // One output too many.
+        (
+            b"loadI 4 => r1\nload r1 => r2\nmult r2, r2 => r3\nstore r3 => r1\noutput 4\noutput 8\n",
+            Verdict::Differs(Place::Output {
+                index: 1,
+                got: Some(0),
+                wanted: None,
+            }),
+        ),
+        // The word that was there before.
+        (
+            b"loadI 4 => r1\noutput 4\nload r1 => r2\nmult r2, r2 => r3\nstore r3 => r1\n",
+            Verdict::Differs(Place::Output {
+                index: 0,
+                got: Some(9),
+                wanted: Some(81),
+            }),
+        ),
+        // One more word is left.
+        (
+            b"loadI 4 => r1\nload r1 => r2\nmult r2, r2 => r3\nstore r3 => r1\noutput 4\nloadI 0 => r4\nstore r3 => r4\n",
+            Verdict::Differs(Place::Word {
+                address: 0,
+                got: 81,
+                wanted: 0,
+            }),
+        ),
+        (
+            b"loadI 4 => r1\nload r1 => r2\nload r2 => r3\noutput 4\n",
+            Verdict::Differs(Place::Fault),
+        ),
+        // The product of 9 and 9, but of nothing else.
+        (
+            b"loadI 4 => r1\nload r1 => r2\nmultI r2, 9 => r3\nstore r3 => r1\noutput 4\n",
+            Verdict::Agrees,
+        ),
+    ];
+    for (theirs, expected) in &cases {
+        assert_eq!(rt; verdict(alloc, block, theirs, true)?, *expected);
+    }
+    assert_eq!(rt; verdict(alloc, block, block, false)?, Verdict::Units(12));
+    assert_eq!(rt;
+        verdict(alloc, b"output 1\n", b"output 8\n", true)?,
+        Verdict::Differs(Place::NoFault)
+    );
     Ok(())
 }
