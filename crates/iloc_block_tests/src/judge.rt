@@ -1,8 +1,9 @@
 use crate::written::{Issue, block_of, build};
-use iloc_judge::same;
+use iloc_judge::{Place, Slots, Verdict, judge, number_operations, same};
+use iloc_meaning::Memory;
 use iloc_sched::schedule;
 use iloc_text::Op;
-use iloc_timed::{Latencies, Schedule};
+use iloc_timed::{Latencies, MAX_ROWS, Schedule};
 use std::alloc::Global;
 use std::process::Abort;
 use std::test::Fail;
@@ -185,6 +186,100 @@ fn knows_wrong_ones(rt: HostRuntime) -> Result<(), Fail> {
     assert_eq!(rt;
         is_same(alloc, LOADS_AND_STORES, LOADS_AND_STORES, 4)?,
         false
+    );
+    Ok(())
+}
+
+/// What is said of the operations of a text as rows for a block, six cycles apart, products on unit 1 or
+/// all on unit 0, where 9 stands at 4 and else 0.
+fn verdict(
+    alloc: Global,
+    block: &[u8],
+    theirs: &[u8],
+    products_on_one: bool,
+) -> Result<Verdict, Fail> {
+    let latencies = Latencies::usual();
+    let block = block_of(alloc, block)?;
+    let ours = schedule(alloc, &block, &latencies)?;
+    let mut listing = Vec::new(alloc);
+    for op in block_of(alloc, theirs)?.ops.as_slice() {
+        let is_product = matches!(op, Op::Mult { .. } | Op::MultI { .. });
+        listing.push(if is_product && products_on_one {
+            Slots {
+                zero: Op::Nop,
+                one: *op,
+            }
+        } else {
+            Slots {
+                zero: *op,
+                one: Op::Nop,
+            }
+        })?;
+        for _ in 0..5 {
+            listing.push(Slots {
+                zero: Op::Nop,
+                one: Op::Nop,
+            })?;
+        }
+    }
+    let made = number_operations(alloc, &listing[..listing.len().min(MAX_ROWS)])?;
+    let mut memory = Memory::zero(alloc)?;
+    memory.set(4, 9);
+    Ok(judge(
+        alloc, &block, &ours, made.ops, made.rows, &latencies, &memory,
+    )?)
+}
+
+#[test]
+fn says_where_rows_differ(rt: HostRuntime) -> Result<(), Fail> {
+    let alloc = rt.alloc();
+    let block = b"loadI 4 => r1\nload r1 => r2\nmult r2, r2 => r3\nstore r3 => r1\noutput 4\n";
+    let cases: [(&[u8], Verdict); 6] = [
+        (block, Verdict::Same),
+        // One output too many.
+        (
+            b"loadI 4 => r1\nload r1 => r2\nmult r2, r2 => r3\nstore r3 => r1\noutput 4\noutput 8\n",
+            Verdict::Differs(Place::Output {
+                index: 1,
+                got: Some(0),
+                wanted: None,
+            }),
+        ),
+        // The word that was there before.
+        (
+            b"loadI 4 => r1\noutput 4\nload r1 => r2\nmult r2, r2 => r3\nstore r3 => r1\n",
+            Verdict::Differs(Place::Output {
+                index: 0,
+                got: Some(9),
+                wanted: Some(81),
+            }),
+        ),
+        // One more word is left.
+        (
+            b"loadI 4 => r1\nload r1 => r2\nmult r2, r2 => r3\nstore r3 => r1\noutput 4\nloadI 0 => r4\nstore r3 => r4\n",
+            Verdict::Differs(Place::Word {
+                address: 0,
+                got: 81,
+                wanted: 0,
+            }),
+        ),
+        (
+            b"loadI 4 => r1\nload r1 => r2\nload r2 => r3\noutput 4\n",
+            Verdict::Differs(Place::Fault),
+        ),
+        // The product of 9 and 9, but of nothing else.
+        (
+            b"loadI 4 => r1\nload r1 => r2\nmultI r2, 9 => r3\nstore r3 => r1\noutput 4\n",
+            Verdict::Agrees,
+        ),
+    ];
+    for (theirs, expected) in &cases {
+        assert_eq!(rt; verdict(alloc, block, theirs, true)?, *expected);
+    }
+    assert_eq!(rt; verdict(alloc, block, block, false)?, Verdict::Units(12));
+    assert_eq!(rt;
+        verdict(alloc, b"output 1\n", b"output 8\n", true)?,
+        Verdict::Differs(Place::NoFault)
     );
     Ok(())
 }

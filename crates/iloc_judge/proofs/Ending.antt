@@ -1,5 +1,5 @@
 -- Two runs whose terms agree have the same outcome.
-use Rattle.std.proofs.Common.{◌≡◌, ◌<◌, ℕ, ◌*◌, ◌⊎◌, true, false, List, length, map, IsTrue, ℤ, pos, arith, refl, sym, ap, ◌∙◌, inl, inr}
+use Rattle.std.proofs.Common.{◌≡◌, ◌<◌, ℕ, ◌*◌, true, false, List, length, map, IsTrue, ℤ, pos, arith, refl, sym, ap, ◌∙◌, inl, inr}
 use Rattle.std.proofs.lemmas.Bool.Decides.{nat_tests}
 use Rattle.std.proofs.lemmas.List.FromFn.{get_or-map-range_with_len, length-map-range_with_len, fill_by_all}
 use Rattle.iloc_meaning.specs.Address.{is_good}
@@ -9,7 +9,7 @@ use Rattle.iloc_timed.specs.Timed.{Issued, word_in, executed_in, timed_outcome_o
 use Rattle.iloc_judge.specs.declared.symbols.Symbols.{Symbols}
 use Rattle.iloc_judge.specs.Terms.{Meaning}
 use Rattle.iloc_judge.specs.Steps.Symbols.{some_bad}
-use Rattle.iloc_judge.specs.Steps.Tracking.{Faulted, Stands, Ends}
+use Rattle.iloc_judge.specs.Steps.Tracking.{Stands, Ends}
 use Rattle.iloc_judge.specs.Steps.Agreement.{AreSame, Agree}
 
 good_word : (k : ℕ) → k < 16384 → is_good (pos (4 * k)) ≡ true

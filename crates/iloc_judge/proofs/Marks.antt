@@ -1,11 +1,11 @@
 -- Addresses of one run that are bad with those of another.
-use Rattle.std.proofs.Common.{◌≡◌, ◌<◌, ℕ, ◌+◌, ◌==◌, ◌||◌, ◌⊎◌, true, false, List, [], ◌∷◌, length, get_or, take, ℤ, refl, sym, ap, ◌∙◌, inl, inr}
+use Rattle.std.proofs.Common.{◌≡◌, ◌<◌, ℕ, ◌+◌, ◌==◌, ◌⊎◌, true, false, List, [], ◌∷◌, length, get_or, take, refl, sym, ◌∙◌, inl, inr}
 use Rattle.std.specs.Prelude.{not, Bool}
 use Rattle.std.proofs.lemmas.Bool.{eqb-true, or_cases, or_right}
 use Rattle.std.proofs.lemmas.List.Folds.{list_any_more}
 use Rattle.iloc_meaning.specs.Address.{is_good}
 use Rattle.iloc_judge.specs.declared.node.Node.{Node}
-use Rattle.iloc_judge.specs.Terms.{Meaning, IsMeaning}
+use Rattle.iloc_judge.specs.Terms.{Meaning}
 use Rattle.iloc_judge.specs.Steps.Symbols.{some_bad}
 use Rattle.iloc_judge.specs.Steps.Agreement.{is_in, AreMarks, IsSurelyGood, BadThere}
 

@@ -1,6 +1,6 @@
 -- Terms that name earlier ones alone have a meaning on every memory.
-use Rattle.std.proofs.Common.{◌≡◌, ◌≢◌, ◌<◌, ◌≤◌, ℕ, zero, suc, ◌+◌, ◌*◌, ◌^◌, ◌%◌, ◌/◌, ◌==◌, ◌&&◌, nat_lt, Bool, true, false, if◌then◌else◌, List, length, Option, Some, None, IfSome, unwrap_or, ℤ, pos, negsuc, ◌+ℤ◌, ◌*ℤ◌, All, FitsSigned, w32, arith, rules, refl, sym, ap, ◌∙◌, inl, inr, eq-eqb, ne_eqb, subst}
-use Rattle.std.specs.Prelude.{option_map, ◌-ℤ◌}
+use Rattle.std.proofs.Common.{◌≡◌, ◌<◌, ◌≤◌, ℕ, zero, suc, ◌+◌, ◌*◌, ◌^◌, ◌%◌, ◌/◌, ◌==◌, ◌&&◌, nat_lt, true, false, if◌then◌else◌, List, length, Option, Some, None, IfSome, unwrap_or, ℤ, pos, negsuc, ◌+ℤ◌, ◌*ℤ◌, All, FitsSigned, w32, arith, rules, refl, sym, ap, ◌∙◌, inl, inr, eq-eqb, ne_eqb}
+use Rattle.std.specs.Prelude.{◌-ℤ◌}
 use Rattle.std.specs.Int.{int_shl, int_shr, cast_unsigned}
 use Rattle.std.proofs.Math.Facts.{sfits_to_z}
 use Rattle.std.specs.Int.Signed.{mag_shr}
@@ -9,8 +9,8 @@ use Rattle.std.proofs.lemmas.List.Elements.{All-get_or}
 use Rattle.std.proofs.lemmas.Bool.{and_parts, cases_lt, cases_eq, lt-ltb}
 use Rattle.std.proofs.lemmas.Bool.Decides.{nat_tests}
 use Rattle.std.proofs.lemmas.Int.{SFits-int_wrap}
-use Rattle.iloc_meaning.specs.Address.{is_good, good_address}
-use Rattle.iloc_meaning.specs.Arithmetic.{wrapped, shift_of, shifted_left, shifted_right}
+use Rattle.iloc_meaning.specs.Address.{is_good}
+use Rattle.iloc_meaning.specs.Arithmetic.{wrapped, shift_of}
 use Rattle.iloc_meaning.specs.Memory.{word_at}
 use Rattle.iloc_meaning.proofs.Cases.{by_bool}
 use Rattle.iloc_judge.specs.declared.node.Binary.{Binary}

@@ -1,5 +1,5 @@
 -- Rows in terms, and the run of a schedule from its start to its end.
-use Rattle.std.proofs.Common.{◌≡◌, ◌<◌, ◌≤◌, ℕ, ◌+◌, ◌⊎◌, true, false, List, [], ◌∷◌, length, get_or, Option, Some, option_to_list, Result, Ok, Err, OnOk, IfSome, ℤ, arith, refl, sym, ap, ◌∙◌, subst, inl, inr}
+use Rattle.std.proofs.Common.{◌≡◌, ◌<◌, ◌≤◌, ℕ, ◌+◌, true, false, List, [], ◌∷◌, length, get_or, Option, Some, option_to_list, Result, Ok, Err, OnOk, IfSome, ℤ, arith, refl, sym, ap, ◌∙◌, subst, inl, inr}
 use Rattle.std.proofs.lemmas.Bool.{or_from}
 use Rattle.std.proofs.lemmas.List.{get_or_default}
 use Rattle.iloc_text.specs.declared.op.Op.{Op}
@@ -11,12 +11,12 @@ use Rattle.iloc_timed.specs.declared.row.Row.{Row}
 use Rattle.iloc_timed.specs.Latency.{latency, IsLatency}
 use Rattle.iloc_timed.specs.Rows.{row_at, slots}
 use Rattle.iloc_timed.specs.Timed.{Issued, word_in, issue_all, issued_before, executed_in}
-use Rattle.iloc_timed.specs.Steps.Machine.{landed, AllLand, then_issued}
+use Rattle.iloc_timed.specs.Steps.Machine.{AllLand, then_issued}
 use Rattle.iloc_timed.proofs.Landing.{landed_all}
 use Rattle.iloc_timed.proofs.WholeRuns.{slot_issued, row_more}
 use Rattle.iloc_judge.specs.declared.symbols.Symbols.{Symbols}
 use Rattle.iloc_judge.specs.Terms.{Meaning}
-use Rattle.iloc_judge.specs.Steps.Tracking.{Tracks, Faulted, Keeps, Stands, Ends}
+use Rattle.iloc_judge.specs.Steps.Tracking.{Tracks, Keeps, Stands, Ends}
 
 -- what follows where a call answered
 pub on_ok : {X E : Type 0} (r : Result X E) (P Q : Type 0) → (P → Q) → OnOk r P → OnOk r Q

@@ -1,10 +1,9 @@
 -- A schedule in mid-run, with terms, one step on.
-use Rattle.std.proofs.Common.{◌≡◌, ◌≢◌, ◌<◌, ◌≤◌, ℕ, ◌+◌, ◌%◌, ◌||◌, ◌⊎◌, Bool, true, false, List, [], ◌∷◌, ◌++◌, length, map, set, get_or, Option, Some, None, option_to_list, IsTrue, ℤ, pos, negsuc, arith, refl, sym, ap, ◌∙◌, subst, append-nil, inl, inr}
+use Rattle.std.proofs.Common.{◌≡◌, ◌<◌, ◌≤◌, ℕ, ◌+◌, ◌%◌, ◌||◌, Bool, true, false, List, [], ◌∷◌, ◌++◌, length, map, set, Option, Some, None, ℤ, pos, negsuc, arith, refl, sym, ap, ◌∙◌, inl, inr}
 use Rattle.std.specs.Prelude.{fold, option_map, not}
-use Rattle.std.specs.List.{list_any}
 use Rattle.std.proofs.lemmas.List.{get_or-map, map-set, length-map, map-append}
 use Rattle.std.proofs.lemmas.List.Folds.{list_any-append}
-use Rattle.std.proofs.lemmas.Bool.{or_right, or_from, or_parts, or_cases}
+use Rattle.std.proofs.lemmas.Bool.{or_right}
 use Rattle.iloc_text.specs.declared.op.Reg.{Reg}
 use Rattle.iloc_text.specs.declared.op.Op.{Op}
 use Rattle.iloc_text.specs.Registers.{defined}
@@ -12,12 +11,9 @@ use Rattle.iloc_meaning.specs.declared.effect.Effect.{Effect}
 use Rattle.iloc_meaning.specs.declared.effect.Effect.TheVariants as E
 use Rattle.iloc_meaning.specs.Address.{is_good, good_address}
 use Rattle.iloc_meaning.specs.Effect.{effect, at_address}
-use Rattle.iloc_meaning.specs.Outcome.{is_fault, has_fault, emitted, emitted_by}
-use Rattle.iloc_meaning.specs.Results.{GoesTo}
+use Rattle.iloc_meaning.specs.Outcome.{is_fault, emitted, emitted_by}
 use Rattle.iloc_meaning.proofs.Cases.{by_bool}
 use Rattle.iloc_meaning.proofs.Effects.{effect_same, results_go}
-use Rattle.iloc_timed.specs.declared.wheel.Pending.{Pending}
-use Rattle.iloc_timed.specs.declared.wheel.Pending.TheVariants as P
 use Rattle.iloc_timed.specs.Timed.{Issued, register_in, word_in, executed_in}
 use Rattle.iloc_timed.specs.Steps.Pending.{sent_by, landed_in_register, landed_in_word}
 use Rattle.iloc_timed.specs.Steps.Wheel.{list_at, due_at, AreUnderWay}
@@ -32,7 +28,7 @@ use Rattle.iloc_judge.specs.declared.action.Action.TheVariants.{Gives, Loads, St
 use Rattle.iloc_judge.specs.declared.symbols.Symbols.{Symbols}
 use Rattle.iloc_judge.specs.Terms.{Meaning}
 use Rattle.iloc_judge.specs.Steps.Symbols.{number_in, sent_at, address_of, meant, effect_of, some_bad, HasLanded}
-use Rattle.iloc_judge.specs.Steps.Tracking.{Tracks, Faulted, Keeps, address_in, emitted_in, sent_in, with_sent, Records}
+use Rattle.iloc_judge.specs.Steps.Tracking.{Keeps, address_in, emitted_in, sent_in, with_sent, Records}
 
 -- the lists of terms, and of what they stand for
 lists_meant : (d : Meaning) (lists : List (List Sent)) (c : ℕ) → length lists ≡ 16

@@ -1,4 +1,5 @@
 pub mod Terms
+pub mod Slots
 pub mod Place
 pub mod Verdict
 pub mod Steps

@@ -8,6 +8,7 @@ mod memories;
 mod node;
 mod place;
 mod registers;
+mod slots;
 mod symbols;
 mod table;
 mod tries;
@@ -17,4 +18,5 @@ mod words;
 
 pub use judgement::same;
 pub use place::Place;
+pub use slots::{Numbered, Slots, number_operations};
 pub use verdict::{Verdict, judge};

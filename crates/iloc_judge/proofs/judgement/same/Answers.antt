@@ -1,5 +1,5 @@
 use Rattle.iloc_timed.proofs.WholeRuns.{if_ok}
-use Rattle.iloc_judge.proofs.Meanings.{meaning_of, is_meaning}
+use Rattle.iloc_judge.proofs.Meanings.{is_meaning}
 use Rattle.iloc_judge.proofs.Ending.{same_outcome}
 use Rattle.iloc_judge.proofs.judgement.same.Goals as goal
 

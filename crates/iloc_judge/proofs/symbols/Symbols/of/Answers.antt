@@ -1,4 +1,4 @@
-use Rattle.std.proofs.Common.{◌≡◌, ◌<◌, ◌≤◌, length, arith, ap}
+use Rattle.std.proofs.Common.{◌≡◌, ◌≤◌, length, arith, ap}
 use Rattle.iloc_timed.specs.Timed.{issued_before}
 use Rattle.iloc_timed.proofs.Arrivals.{zero_known, one_known}
 use Rattle.iloc_judge.proofs.Rows.{keeps_more, ends}

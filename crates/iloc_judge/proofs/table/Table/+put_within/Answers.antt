@@ -1,4 +1,4 @@
-use Rattle.std.proofs.Common.{◌≡◌, ◌==◌, false, refl, ◌∙◌}
+use Rattle.std.proofs.Common.{◌==◌, refl, ◌∙◌}
 use Rattle.iloc_meaning.proofs.Cases.{by_bool}
 use Rattle.iloc_judge.proofs.table.Table.+put_within.Goals as goal
 

@@ -1,4 +1,4 @@
-use Rattle.std.proofs.Common.{◌≡◌, ◌+ℤ◌, FitsSigned, w32, rules, ap, ◌∙◌}
+use Rattle.std.proofs.Common.{◌+ℤ◌, FitsSigned, w32, rules, ap, ◌∙◌}
 use Rattle.iloc_meaning.specs.Arithmetic.{wrapped}
 use Rattle.iloc_timed.proofs.WholeRuns.{if_ok}
 use Rattle.iloc_judge.specs.Terms.{base_word}
