@@ -97,7 +97,11 @@ impl Machine {
         ensures follows { OnOk result ((memory : List ℤ) (log : List Issued) →
             Follows memory cycle log self.old → Follows memory (cycle + 1) log self.new) }
     {
-        land_all(&mut self.state.registers, &mut self.state.memory, self.wheel.due(cycle))?;
+        land_all(
+            &mut self.state.registers,
+            &mut self.state.memory,
+            self.wheel.due(cycle),
+        )?;
         self.wheel.clear(cycle);
         Ok(())
     }
