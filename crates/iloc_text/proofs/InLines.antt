@@ -9,7 +9,7 @@ use Rattle.iloc_text.specs.declared.forms.Opcode.{Opcode}
 use Rattle.iloc_text.specs.declared.forms.Opcode.TheVariants.{Nop}
 use Rattle.iloc_text.specs.Forms.{Lead, Value, Operand, opcode, operands, opcode_text}
 use Rattle.iloc_text.specs.Forms.Lead.{space, comma, arrow}
-use Rattle.iloc_text.specs.Forms.Value.{Use, Definition, Constant}
+use Rattle.iloc_text.specs.Forms.Value.{Constant}
 use Rattle.iloc_text.specs.Grammar.{◌⋅◌, Text, is_blank, is_word_byte, Blanks, Number, LeadText, ValueText, OperandsText, Operation, OptionalOperation, Name, OptionalLabel}
 use Rattle.iloc_text.specs.Files.{HasNoLineEnd}
 use Rattle.iloc_text.proofs.Tokens.{IsWord}

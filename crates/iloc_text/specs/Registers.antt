@@ -3,7 +3,7 @@ use Rattle.std.specs.Prelude.{ℕ, List, map, Option, Some, None, slice_get}
 use Rattle.std.specs.List.{filter_map}
 use Rattle.iloc_text.specs.declared.op.Reg.{Reg}
 use Rattle.iloc_text.specs.declared.op.Op.{Op}
-use Rattle.iloc_text.specs.Forms.{Value, Operand, opcode, operands, op_of}
+use Rattle.iloc_text.specs.Forms.{Value, opcode, operands, op_of}
 use Rattle.iloc_text.specs.Forms.Value.{Use, Definition, Constant}
 
 abbrev pub used_in : Value → Option Reg

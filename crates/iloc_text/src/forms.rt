@@ -36,17 +36,17 @@ pub enum Operands {
     /// `constant`.
     Constant(u32),
     /// `constant => defined`.
-    Immediate { value: u32, dest: Reg },
+    Immediate(u32, Reg),
     /// `used => defined`.
-    Copied { source: Reg, dest: Reg },
+    Copied(Reg, Reg),
     /// `used => used`.
-    Stored { value: Reg, addr: Reg },
+    Stored(Reg, Reg),
     /// `used, used => defined`.
-    Sources { left: Reg, right: Reg, dest: Reg },
+    Sources(Reg, Reg, Reg),
     /// `used, constant => defined`.
-    WithConstant { left: Reg, value: u32, dest: Reg },
+    WithConstant(Reg, u32, Reg),
     /// `used => used, constant`.
-    StoredAt { value: Reg, addr: Reg, offset: u32 },
+    StoredAt(Reg, Reg, u32),
 }
 
 impl Opcode {
@@ -103,60 +103,29 @@ pub fn form_of(op: &Op) -> (Opcode, Operands)
     ensures opcode { result.0 ≡ opcode op.now }
     ensures operands { operands_in result.1 ≡ operands op.now }
 {
+    use Operands::{Constant, Copied, Immediate, Nothing, Sources, Stored, StoredAt, WithConstant};
     match *op {
-        Op::Load { addr: source, dest } => (Opcode::Load, Operands::Copied { source, dest }),
-        Op::LoadI { value, dest } => (Opcode::LoadI, Operands::Immediate { value, dest }),
-        Op::Store { value, addr } => (Opcode::Store, Operands::Stored { value, addr }),
-        Op::Add { left, right, dest } => (Opcode::Add, Operands::Sources { left, right, dest }),
-        Op::Sub { left, right, dest } => (Opcode::Sub, Operands::Sources { left, right, dest }),
-        Op::Mult { left, right, dest } => (Opcode::Mult, Operands::Sources { left, right, dest }),
-        Op::Lshift { left, right, dest } => (
-            Opcode::Lshift,
-            Operands::Sources { left, right, dest },
-        ),
-        Op::Rshift { left, right, dest } => (
-            Opcode::Rshift,
-            Operands::Sources { left, right, dest },
-        ),
-        Op::Output { addr } => (Opcode::Output, Operands::Constant(addr)),
-        Op::Nop => (Opcode::Nop, Operands::Nothing),
-        Op::AddI { left, value, dest } => (
-            Opcode::AddI,
-            Operands::WithConstant { left, value, dest },
-        ),
-        Op::SubI { left, value, dest } => (
-            Opcode::SubI,
-            Operands::WithConstant { left, value, dest },
-        ),
-        Op::MultI { left, value, dest } => (
-            Opcode::MultI,
-            Operands::WithConstant { left, value, dest },
-        ),
-        Op::LshiftI { left, value, dest } => (
-            Opcode::LshiftI,
-            Operands::WithConstant { left, value, dest },
-        ),
-        Op::RshiftI { left, value, dest } => (
-            Opcode::RshiftI,
-            Operands::WithConstant { left, value, dest },
-        ),
-        Op::LoadAI {
-            addr: left,
-            offset: value,
-            dest,
-        } => (Opcode::LoadAI, Operands::WithConstant { left, value, dest }),
+        Op::Load { addr, dest } => (Opcode::Load, Copied(addr, dest)),
+        Op::LoadI { value, dest } => (Opcode::LoadI, Immediate(value, dest)),
+        Op::Store { value, addr } => (Opcode::Store, Stored(value, addr)),
+        Op::Add { left, right, dest } => (Opcode::Add, Sources(left, right, dest)),
+        Op::Sub { left, right, dest } => (Opcode::Sub, Sources(left, right, dest)),
+        Op::Mult { left, right, dest } => (Opcode::Mult, Sources(left, right, dest)),
+        Op::Lshift { left, right, dest } => (Opcode::Lshift, Sources(left, right, dest)),
+        Op::Rshift { left, right, dest } => (Opcode::Rshift, Sources(left, right, dest)),
+        Op::Output { addr } => (Opcode::Output, Constant(addr)),
+        Op::Nop => (Opcode::Nop, Nothing),
+        Op::AddI { left, value, dest } => (Opcode::AddI, WithConstant(left, value, dest)),
+        Op::SubI { left, value, dest } => (Opcode::SubI, WithConstant(left, value, dest)),
+        Op::MultI { left, value, dest } => (Opcode::MultI, WithConstant(left, value, dest)),
+        Op::LshiftI { left, value, dest } => (Opcode::LshiftI, WithConstant(left, value, dest)),
+        Op::RshiftI { left, value, dest } => (Opcode::RshiftI, WithConstant(left, value, dest)),
+        Op::LoadAI { addr, offset, dest } => (Opcode::LoadAI, WithConstant(addr, offset, dest)),
         Op::StoreAI {
             value,
             addr,
             offset,
-        } => (
-            Opcode::StoreAI,
-            Operands::StoredAt {
-                value,
-                addr,
-                offset,
-            },
-        ),
+        } => (Opcode::StoreAI, StoredAt(value, addr, offset)),
     }
 }
 

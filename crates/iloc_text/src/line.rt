@@ -89,16 +89,12 @@ fn is_within_limit(op: &Op) -> bool
     match form_of(op).1 {
         Operands::Nothing => true,
         Operands::Constant(value) => are_within_limit(&[value]),
-        Operands::Immediate { value, dest } => are_within_limit(&[value, dest.0]),
-        Operands::Copied { source, dest } => are_within_limit(&[source.0, dest.0]),
-        Operands::Stored { value, addr } => are_within_limit(&[value.0, addr.0]),
-        Operands::Sources { left, right, dest } => are_within_limit(&[left.0, right.0, dest.0]),
-        Operands::WithConstant { left, value, dest } => are_within_limit(&[left.0, value, dest.0]),
-        Operands::StoredAt {
-            value,
-            addr,
-            offset,
-        } => are_within_limit(&[value.0, addr.0, offset]),
+        Operands::Immediate(value, dest) => are_within_limit(&[value, dest.0]),
+        Operands::Copied(source, dest) => are_within_limit(&[source.0, dest.0]),
+        Operands::Stored(value, addr) => are_within_limit(&[value.0, addr.0]),
+        Operands::Sources(left, right, dest) => are_within_limit(&[left.0, right.0, dest.0]),
+        Operands::WithConstant(left, value, dest) => are_within_limit(&[left.0, value, dest.0]),
+        Operands::StoredAt(value, addr, offset) => are_within_limit(&[value.0, addr.0, offset]),
     }
 }
 

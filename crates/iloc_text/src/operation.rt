@@ -2,7 +2,7 @@
 ghost use Rattle.std.specs.Prelude.{◌≡◌, [], ◌∷◌, option_map};
 ghost use Rattle.iloc_text.specs.Forms.Lead.{arrow};
 ghost use Rattle.iloc_text.specs.Forms.{◌▹◌};
-ghost use Rattle.iloc_text.specs.Steps.Opcodes.{any_register, any_number};
+ghost use Rattle.iloc_text.specs.Forms.Value.{Use, Constant};
 ghost use Rattle.iloc_text.specs.Steps.Scan.{value_then, operands_at, called_at, operation_at, optional_operation_at};
 
 use crate::forms::{Opcode, op_of, opcode_of};
@@ -15,7 +15,7 @@ use crate::scan::{
 #[tactic(auto, unfolding(crate::specs::Steps::Scan::value_then))]
 fn number_to_register_at(bytes: &[u8]) -> Option<(u32, Reg, &[u8])>
     ensures { option_map (λ found. (found.0 ∷ found.1.0 ∷ [], found.2.now)) result
-        ≡ value_then any_number (operands_at (arrow ▹ any_register ∷ [])) bytes.now }
+        ≡ value_then (Constant 0) (operands_at (arrow ▹ Use (record { 0 = 0 }) ∷ [])) bytes.now }
 {
     let (value, rest) = number_at(bytes)?;
     let (dest, rest) = register_at(arrow_at(rest)?)?;
@@ -26,7 +26,7 @@ fn number_to_register_at(bytes: &[u8]) -> Option<(u32, Reg, &[u8])>
 #[tactic(auto, unfolding(crate::specs::Steps::Scan::value_then))]
 fn register_to_register_at(bytes: &[u8]) -> Option<(Reg, Reg, &[u8])>
     ensures { option_map (λ found. (found.0.0 ∷ found.1.0 ∷ [], found.2.now)) result
-        ≡ value_then any_register (operands_at (arrow ▹ any_register ∷ [])) bytes.now }
+        ≡ value_then (Use (record { 0 = 0 })) (operands_at (arrow ▹ Use (record { 0 = 0 }) ∷ [])) bytes.now }
 {
     let (source, rest) = register_at(bytes)?;
     let (target, rest) = register_at(arrow_at(rest)?)?;

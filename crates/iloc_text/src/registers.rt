@@ -15,14 +15,14 @@ pub fn uses(op: &Op) -> ArrayVec<Reg, 2>
 {
     let mut registers = ArrayVec::new();
     match form_of(op).1 {
-        Operands::Nothing | Operands::Constant(_) | Operands::Immediate { .. } => {}
-        Operands::Copied { source, .. } => registers.push(source),
-        Operands::WithConstant { left, .. } => registers.push(left),
-        Operands::Stored { value, addr } | Operands::StoredAt { value, addr, .. } => {
+        Operands::Nothing | Operands::Constant(_) | Operands::Immediate(..) => {}
+        Operands::Copied(source, _) => registers.push(source),
+        Operands::WithConstant(left, ..) => registers.push(left),
+        Operands::Stored(value, addr) | Operands::StoredAt(value, addr, _) => {
             registers.push(value);
             registers.push(addr);
         }
-        Operands::Sources { left, right, .. } => {
+        Operands::Sources(left, right, _) => {
             registers.push(left);
             registers.push(right);
         }
@@ -35,14 +35,12 @@ pub fn defines(op: &Op) -> Option<Reg>
     ensures { result ≡ defined op.now }
 {
     match form_of(op).1 {
-        Operands::Immediate { dest, .. }
-        | Operands::Copied { dest, .. }
-        | Operands::Sources { dest, .. }
-        | Operands::WithConstant { dest, .. } => Some(dest),
-        Operands::Nothing
-        | Operands::Constant(_)
-        | Operands::Stored { .. }
-        | Operands::StoredAt { .. } => None,
+        Operands::Immediate(_, dest)
+        | Operands::Copied(_, dest)
+        | Operands::Sources(_, _, dest)
+        | Operands::WithConstant(_, _, dest) => Some(dest),
+        Operands::Nothing | Operands::Constant(_) | Operands::Stored(..) | Operands::StoredAt(..) =>
+            None,
     }
 }
 
@@ -55,12 +53,12 @@ fn with_operands(op: &Op, left: Reg, right: Reg, dest: Reg) -> Op
     match operands {
         Operands::Nothing => op_of(opcode, &[]),
         Operands::Constant(value) => op_of(opcode, &[value]),
-        Operands::Immediate { value, .. } => op_of(opcode, &[value, dest.0]),
-        Operands::Copied { .. } => op_of(opcode, &[left.0, dest.0]),
-        Operands::Stored { .. } => op_of(opcode, &[left.0, right.0]),
-        Operands::Sources { .. } => op_of(opcode, &[left.0, right.0, dest.0]),
-        Operands::WithConstant { value, .. } => op_of(opcode, &[left.0, value, dest.0]),
-        Operands::StoredAt { offset, .. } => op_of(opcode, &[left.0, right.0, offset]),
+        Operands::Immediate(value, _) => op_of(opcode, &[value, dest.0]),
+        Operands::Copied(..) => op_of(opcode, &[left.0, dest.0]),
+        Operands::Stored(..) => op_of(opcode, &[left.0, right.0]),
+        Operands::Sources(..) => op_of(opcode, &[left.0, right.0, dest.0]),
+        Operands::WithConstant(_, value, _) => op_of(opcode, &[left.0, value, dest.0]),
+        Operands::StoredAt(_, _, offset) => op_of(opcode, &[left.0, right.0, offset]),
     }
 }
 

@@ -57,19 +57,15 @@ fn write_operands(line: &mut [u8], operands: Operands) -> usize
     match operands {
         Operands::Nothing => ROOM,
         Operands::Constant(value) => write_operand(line, ROOM, b" ", value),
-        Operands::Immediate { value, dest } => {
+        Operands::Immediate(value, dest) => {
             let end = write_operand(line, ROOM, b" => r", dest.0);
             write_operand(line, end, b" ", value)
         }
-        Operands::Copied { source, dest } => write_transfer(line, ROOM, source, dest),
-        Operands::Stored { value, addr } => write_transfer(line, ROOM, value, addr),
-        Operands::Sources { left, right, dest } => write_two_sources(line, left, right, dest),
-        Operands::WithConstant { left, value, dest } => write_immediate(line, left, value, dest),
-        Operands::StoredAt {
-            value,
-            addr,
-            offset,
-        } => {
+        Operands::Copied(source, dest) => write_transfer(line, ROOM, source, dest),
+        Operands::Stored(value, addr) => write_transfer(line, ROOM, value, addr),
+        Operands::Sources(left, right, dest) => write_two_sources(line, left, right, dest),
+        Operands::WithConstant(left, value, dest) => write_immediate(line, left, value, dest),
+        Operands::StoredAt(value, addr, offset) => {
             let end = write_operand(line, ROOM, b", ", offset);
             write_transfer(line, end, value, addr)
         }

@@ -2,8 +2,7 @@
 use Rattle.std.specs.Prelude.{ℕ, List, [], Option, find}
 use Rattle.std.specs.Str.{bytes_eq}
 use Rattle.iloc_text.specs.declared.forms.Opcode.{Opcode}
-use Rattle.iloc_text.specs.Forms.{Value, Operand, opcodes, opcode_text, operands, op_of}
-use Rattle.iloc_text.specs.Forms.Value.{Use, Constant}
+use Rattle.iloc_text.specs.Forms.{Operand, opcodes, opcode_text, operands, op_of}
 
 -- the opcode that is written so
 abbrev pub opcode_of : List ℕ → Option Opcode
@@ -12,10 +11,3 @@ opcode_of word = find (λ o. bytes_eq (opcode_text o) word) opcodes
 -- what stands behind the opcode, with 0 for each number
 abbrev pub operands_of : Opcode → List Operand
 operands_of o = operands (op_of o [])
-
--- values of which the kind alone counts
-abbrev pub any_register : Value
-any_register = Use (record { 0 = 0 })
-
-abbrev pub any_number : Value
-any_number = Constant 0

@@ -7,7 +7,7 @@ use Rattle.iloc_text.specs.declared.op.Op.{Op}
 use Rattle.iloc_text.specs.declared.forms.Opcode.{Opcode}
 use Rattle.iloc_text.specs.Forms.{Lead, Value, Operand, operands, number_of, op_of}
 use Rattle.iloc_text.specs.Forms.Lead.{space, comma, arrow}
-use Rattle.iloc_text.specs.Forms.Value.{Use, Definition, Constant}
+use Rattle.iloc_text.specs.Forms.Value.{Constant}
 use Rattle.iloc_text.specs.Grammar.{is_blank, is_word_byte}
 use Rattle.iloc_text.specs.Steps.Opcodes.{opcode_of, operands_of}
 
