@@ -5,7 +5,7 @@ ghost use Rattle.iloc_farm.specs.Schedules.{IsWithinLimits};
 
 use crate::listing::push_block_head;
 use iloc_explain::push_explanation;
-use iloc_sched::schedule;
+use iloc_sched::Scheduler;
 use iloc_text::{IlocFile, NoMemory, push_number};
 use iloc_timed::{Latencies, cycles};
 use std::alloc::Global;
@@ -20,10 +20,11 @@ pub fn explained_text(
     requires { IsWithinLimits file.now.blocks }
     ensures { IfOk result (λ text. ListsExplained latencies.now file.now.blocks text.items) }
 {
+    let mut scheduler = Scheduler::new(alloc);
     let mut text = Vec::new(alloc);
     let mut total = 0;
     for (index, block) in file.blocks.as_slice().iter().enumerate() {
-        let schedule = schedule(alloc, block, latencies)?;
+        let schedule = scheduler.schedule(block, latencies)?;
         push_block_head(&mut text, index + 1, block.name.as_ref())?;
         text.push(b'\n')?;
         push_explanation(alloc, &mut text, block, &schedule, latencies)?;

@@ -27,8 +27,8 @@ impl TakeBlocks for Lister {
     ghost took = { λ start blocks now. ((runs now.runner).memory ≡ (runs start.runner).memory)
         × (now.text.items ≡ start.text.items ++ run_listing (runs start.runner).memory blocks) };
 
-    fn take(&mut self, alloc: Global, number: usize, block: &Block) -> Result<(), NoMemory> {
-        self.runner.run(alloc, block)?;
+    fn take(&mut self, _alloc: Global, number: usize, block: &Block) -> Result<(), NoMemory> {
+        self.runner.run(block)?;
         push_outcome(
             &mut self.text,
             number,

@@ -5,7 +5,7 @@ ghost use Rattle.iloc_meaning.specs.Outcome.{outcome, shown};
 ghost use Rattle.iloc_farm.specs.Steps.Runner.{runs};
 
 use iloc_meaning::{Interpreter, Memory};
-use iloc_sched::schedule;
+use iloc_sched::Scheduler;
 use iloc_text::{Block, NoMemory};
 use iloc_timed::{Latencies, Simulator};
 use std::alloc::Global;
@@ -17,6 +17,7 @@ pub(crate) enum Runner {
     Plain(Interpreter),
     /// On the timed machine, by the block's greedy schedule for these latencies.
     Timed {
+        scheduler: Scheduler,
         simulator: Simulator,
         latencies: Latencies,
     },
@@ -39,13 +40,14 @@ impl Runner {
         ensures { IfOk result (λ runner. (runs runner).memory ≡ memory) }
     {
         Ok(Runner::Timed {
+            scheduler: Scheduler::new(alloc),
             simulator: Simulator::new(alloc, memory)?,
             latencies,
         })
     }
 
     /// Runs a block. The outcome is the same either way.
-    pub(crate) fn run(&mut self, alloc: Global, block: &Block) -> Result<(), NoMemory>
+    pub(crate) fn run(&mut self, block: &Block) -> Result<(), NoMemory>
         requires { length block.now.ops ≤ 10000 }
         ensures memory { OnOk result ((runs self.new).memory ≡ (runs self.old).memory) }
         ensures outcome { OnOk result ((runs self.new).last ≡ outcome block.now.ops (runs self.old).memory) }
@@ -53,10 +55,11 @@ impl Runner {
         match self {
             Runner::Plain(interpreter) => interpreter.run(block)?,
             Runner::Timed {
+                scheduler,
                 simulator,
                 latencies,
             } => {
-                let schedule = schedule(alloc, block, latencies)?;
+                let schedule = scheduler.schedule(block, latencies)?;
                 simulator.run(&schedule, latencies)?;
             }
         }

@@ -5,4 +5,4 @@ use Rattle.iloc_farm.specs.declared.runner.Runner.TheVariants.{Plain, Timed}
 
 abbrev pub runs : Runner → Runs
 runs (Plain interpreter) = interpreter
-runs (Timed simulator latencies) = simulator
+runs (Timed scheduler simulator latencies) = simulator

@@ -1,6 +1,6 @@
 use Rattle.std.proofs.Common.{◌≡◌, false, inl, inr, sym, codes}
 use Rattle.std.specs.Str.{bytes_eq}
-use Rattle.std.proofs.lemmas.Bool.{cases_Bool}
+use Rattle.std.proofs.lemmas.Bool.{cases_Bool, false≢true}
 use Rattle.std.proofs.lemmas.Slice.Eq.{bytes_eq-Decides}
 use Rattle.clap.specs.Words.{Text}
 use Rattle.iloc_args.proofs.line.task_of.Goals as goal
@@ -19,4 +19,4 @@ unreachable-requires c =
     let schedule = apart (codes "schedule") c.args.name.now c.in_default.not-schedule in
     let counts = apart (codes "counts") c.args.name.now c.in_default.not-counts in
     let explain = apart (codes "explain") c.args.name.now c.in_default.not-explain in
-    rw (run, simulate, schedule, counts, explain) at c.requires
+    false≢true (rw (run, simulate, schedule, counts, explain) at c.requires)
