@@ -58,7 +58,8 @@ same_outcome memory d log log' one other size ended ended' agree = elim agree [
     | inl faulted ↦ both_fault memory log log' faulted.fault
         (faults memory d log' other ended' (same.there faulted.bad))
     | inr stands ↦ elim ended' [
-      | inl faulted' ↦ both_fault memory log log' (faults memory d log one (inr stands) (same.back faulted'.bad)) faulted'.fault
+      | inl faulted' ↦ both_fault memory log log'
+          (faults memory d log one (inr stands) (same.back faulted'.bad)) faulted'.fault
       | inr stands' ↦ both_stand memory d log log' one other size stands stands' same
     ]
   ]

@@ -12,7 +12,8 @@ node_means memory nodes d k node meaning there = subst (Means memory d k) there.
 
 pub empty_no_other : (memory : List ℤ) (nodes : List Node) (d : Meaning) (trie key : ℕ) → IsMeaning memory nodes d
     → IsNode nodes trie Empty → HasNoOther d trie key
-empty_no_other memory nodes d trie key meaning there = λ other differs. node_means memory nodes d trie Empty meaning there other
+empty_no_other memory nodes d trie key meaning there = λ other differs.
+    node_means memory nodes d trie Empty meaning there other
 
 pub leaf_no_other : (memory : List ℤ) (nodes : List Node) (d : Meaning) (trie key at value : ℕ)
     → IsMeaning memory nodes d → IsNode nodes trie (Leaf at value) → (at == key) ≡ true → HasNoOther d trie key

@@ -74,7 +74,8 @@ times_one k = let plain : pos 0 +ℤ k ≡ k = omega (arith, ints) in
     *ℤ_comm k (pos 1) ∙ suc_ℤ-*ℤ (pos 0) k ∙ ap (λ x. x +ℤ k) (zero-*ℤ k) ∙ plain
 
 -- a word less another is its sum with -1 times the other
-pub less_times : (left right less : ℤ) → less ≡ wrapped (right *ℤ negsuc 0) → wrapped (left +ℤ less) ≡ wrapped (left -ℤ right)
+pub less_times : (left right less : ℤ) → less ≡ wrapped (right *ℤ negsuc 0)
+    → wrapped (left +ℤ less) ≡ wrapped (left -ℤ right)
 less_times left right less is =
     let back : neg_ℤ right ≡ pos 0 -ℤ right = omega (arith, ints) in
     let minus : right *ℤ negsuc 0 ≡ pos 0 -ℤ right = *ℤ-negsuc right 0 ∙ ap neg_ℤ (times_one right) ∙ back in

@@ -98,7 +98,8 @@ fault_is_bad d Nothing = refl
 -- at a good address an act is done there
 at_good : (z : ℤ) (act : ℕ → Effect) → (not (is_good z) || false) ≡ false
     → at_address (good_address z) act ≡ act (address_of z)
-at_good (pos a) act good = by_bool (is_good (pos a)) (λ t. rw t refl) (λ t. absurd (let no : true ≡ false = rw t at good in cc))
+at_good (pos a) act good = by_bool (is_good (pos a)) (λ t. rw t refl)
+    (λ t. absurd (let no : true ≡ false = rw t at good in cc))
 at_good (negsuc n) act good = absurd cc
 
 -- where the address is good, what is emitted and sent is what the terms stand for

@@ -14,7 +14,8 @@ use std::alloc::Global;
 
 /// Whether an address is known, and good or not as asked.
 fn is_known(table: &Table, address: u32, good: bool) -> bool
-    ensures { result ≡ true → (memory : List ℤ) (d : Meaning) → IsMeaning memory table.now d → is_good (d.word address) ≡ good }
+    ensures { result ≡ true → (memory : List ℤ) (d : Meaning) → IsMeaning memory table.now d
+        → is_good (d.word address) ≡ good }
 {
     match table.node(address) {
         Some(Node::Known(word)) => Memory::is_good(word) == good,

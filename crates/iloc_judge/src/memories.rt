@@ -39,7 +39,8 @@ impl Table {
 
     /// The memory handed in.
     pub(crate) fn start(&mut self) -> Result<u32, NoMemory>
-        ensures { IfOk result (λ n. Adds self.old self.new (λ memory d. (z : ℤ) → d.words n z ≡ word_or_zero memory z)) }
+        ensures { IfOk result (λ n. Adds self.old self.new (λ memory d. (z : ℤ)
+            → d.words n z ≡ word_or_zero memory z)) }
     {
         self.intern(Node::Start)
     }

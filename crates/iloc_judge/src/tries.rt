@@ -44,7 +44,8 @@ impl Table {
 
     /// Whether a trie has no word at another key than this.
     fn is_at_most_at(&self, trie: u32, key: u32) -> bool
-        ensures { result ≡ true → (memory : List ℤ) (d : Meaning) → IsMeaning memory self.now d → HasNoOther d trie key }
+        ensures { result ≡ true → (memory : List ℤ) (d : Meaning) → IsMeaning memory self.now d
+            → HasNoOther d trie key }
     {
         match self.node(trie) {
             Some(Node::Empty) => true,
