@@ -1,7 +1,8 @@
 -- The listing of explanations, block by block.
-use Rattle.std.proofs.Common.{◌≡◌, ◌<◌, ◌≤◌, ℕ, ◌+◌, ◌*◌, List, [], ◌∷◌, ◌++◌, length, take, get_or, arith, refl, sym, ap, ap₂, ◌∙◌, subst, append_assoc, append-nil}
+use Rattle.std.proofs.Common.{◌≡◌, ◌<◌, ◌≤◌, ℕ, zero, suc, ◌+◌, ◌*◌, List, [], ◌∷◌, ◌++◌, length, take, get_or, arith, refl, sym, ap, ap₂, ◌∙◌, subst, append_assoc, append-nil}
 use Rattle.std.specs.Prelude.{codes}
 use Rattle.std.specs.Fmt.{decimal}
+use Rattle.std.specs.List.{AllByRecursion}
 use Rattle.std.proofs.lemmas.List.{length-take-le, take_all, take_more}
 use Rattle.std.proofs.lemmas.List.Sums.{sum_by-append, sum_by-cons}
 use Rattle.iloc_text.specs.declared.file.Block.{Block}
@@ -133,3 +134,10 @@ explained_same lat blocks text text' lists also =
     let entries : lists.entries ≡ also.entries =
     entries_same lat 1 blocks lists.schedules lists.entries also.entries lists.explained (subst P same also.explained) in
     lists.listed ∙ (ap₂ (λ es schedules. es ++ total_line lat schedules) entries (sym same) ∙ sym also.listed)
+
+-- the block that was read is short
+pub short_at : (blocks : List Block) (n : ℕ) (b : Block) → AllByRecursion (λ (a : Block). length a.ops ≤ 10000) blocks
+    → n < length blocks → b ≡ get_or blocks n b → length b.ops ≤ 10000
+short_at [] n b short within read = absurd (omega arith)
+short_at (a ∷ blocks) zero b short within read = rw read short.0
+short_at (a ∷ blocks) (suc n) b short within read = short_at blocks n b short.1 (omega arith) read
