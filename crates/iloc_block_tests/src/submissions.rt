@@ -325,12 +325,9 @@ fn tells_faults_in_words(rt: HostRuntime) -> Result<(), Fail> {
 
 /// Run with each allocation failing in turn, this has a refusal at each step of the reader.
 #[test]
-fn reads_again_after_want_of_memory(rt: HostRuntime) -> Result<(), Fail> {
+fn tells_want_of_memory(rt: HostRuntime) -> Result<(), Fail> {
     let text = joined(rt.alloc(), TWO_BLOCKS, LISTING)?;
-    let found = match read_submission(rt.alloc(), &text) {
-        Err(RowsFault::Read(ReadFault::NoMemory)) => read_submission(rt.alloc(), &text)?,
-        answer => answer?,
-    };
+    let found = read_submission(rt.alloc(), &text)?;
     assert_listed(&rt, &found);
     Ok(())
 }

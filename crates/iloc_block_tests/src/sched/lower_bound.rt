@@ -1,17 +1,13 @@
-use super::sample::{SEVEN_OPERATIONS, block_of};
+use crate::written::{SEVEN_OPERATIONS, block_of};
 use iloc_sched::least;
-use iloc_text::NoMemory;
 use iloc_timed::Latencies;
 use std::alloc::Global;
 use std::test::Fail;
 
-/// The bound on the cycles of the one block of a text; where memory is refused it is asked for again.
+/// The bound on the cycles of the one block of a text.
 fn least_of(alloc: Global, text: &[u8], latencies: &Latencies) -> Result<u64, Fail> {
     let block = block_of(alloc, text)?;
-    match least(alloc, &block, latencies) {
-        Err(NoMemory) => Ok(least(alloc, &block, latencies)?),
-        answer => Ok(answer?),
-    }
+    Ok(least(alloc, &block, latencies)?)
 }
 
 #[test]
