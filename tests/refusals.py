@@ -27,7 +27,7 @@ DOES_WITHOUT = {
     "iloc_farm::program::serve": "the words behind the program's name",
     "iloc_sched::priority::priorities": "the priorities that are answered",
 }
-GROWS = re.compile(r"rattle_alloc|std_alloc::vec::Vec::grow_amortized")
+GROWS = re.compile(r"rattle_(?:re)?alloc|std_alloc::vec::Vec::grow_amortized")
 # As soon as so many runs in a row asked for no growth of the number, none asks for one any more.
 UNTOUCHED = 20
 SAMPLED = 40

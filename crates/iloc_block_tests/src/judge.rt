@@ -14,11 +14,12 @@ fn spread(alloc: Global, text: &[u8], apart: usize) -> Result<Schedule, Fail> {
     let block = block_of(alloc, text)?;
     let mut issues = Vec::new(alloc);
     for (i, op) in block.ops.as_slice().iter().enumerate() {
+        let cycle = i.wrapping_mul(apart);
         let is_product = matches!(op, Op::Mult { .. } | Op::MultI { .. });
         let issue: Issue = if is_product {
-            (i * apart, None, Some(i))
+            (cycle, None, Some(i))
         } else {
-            (i * apart, Some(i), None)
+            (cycle, Some(i), None)
         };
         issues.push(issue)?;
     }

@@ -38,6 +38,22 @@ fn assert_proposes(
     assert_eq!(rt; proposal.claimed, claimed);
 }
 
+/// Asserts that a text proposes one schedule, of this many rows, each of them empty.
+fn assert_proposes_empty_rows(
+    rt: &impl Abort,
+    alloc: Global,
+    text: &[u8],
+    count: usize,
+) -> Result<(), Fail> {
+    let found = read_submission(alloc, text)?;
+    let proposals = found.proposals.as_slice();
+    assert_eq!(rt; proposals.len(), 1);
+    let rows = proposals[0].rows.as_slice();
+    assert_eq!(rt; rows.len(), count);
+    assert!(rt; rows.iter().all(|row| *row == EMPTY));
+    Ok(())
+}
+
 /// Asserts what is proposed for a listing's three blocks.
 fn assert_listed(rt: &impl Abort, found: &Submission) {
     let proposals = found.proposals.as_slice();
@@ -267,13 +283,7 @@ fn reads_as_many_rows_as_a_text_holds(rt: HostRuntime) -> Result<(), Fail> {
     let row = b"[nop;nop]\n";
     let count = MAX_INPUT / row.len() - 1;
     let text = joined(rt.alloc(), b"nop\n", &row.repeat(rt.alloc(), count)?)?;
-    let found = read_submission(rt.alloc(), &text)?;
-    let proposals = found.proposals.as_slice();
-    assert_eq!(rt; proposals.len(), 1);
-    let rows = proposals[0].rows.as_slice();
-    assert_eq!(rt; rows.len(), count);
-    assert!(rt; rows.iter().all(|row| *row == EMPTY));
-    Ok(())
+    assert_proposes_empty_rows(&rt, rt.alloc(), &text, count)
 }
 
 #[test]
