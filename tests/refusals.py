@@ -22,10 +22,12 @@ NO_MEMORY = (3, b"", b"ilocfarm: out of memory\n")
 NO_WORKER = (3, b"", b"ilocfarm: a worker could not be started\n")
 NOTHING, GROWTH, GROWTH_OF_A_START, THREAD = range(4)
 # Lists that are collected from an iterator: the library asks for the whole room at once, and where that is refused it
-# takes room as the items come. So nothing is lost, and the next refusal is told.
+# takes room as the items come. So nothing is lost, and the next refusal is told. And a text that gives back the room
+# that it has left over: where that is refused, it keeps the room.
 DOES_WITHOUT = {
     "iloc_farm::program::serve": "the words behind the program's name",
     "iloc_sched::priority::priorities": "the priorities that are answered",
+    "core::scope::entry": "the room that a listed entry's text gives back, built into the work of a thread",
 }
 GROWS = re.compile(r"rattle_(?:re)?alloc|std_alloc::vec::Vec::grow_amortized")
 # As soon as so many runs in a row asked for no growth of the number, none asks for one any more.
