@@ -231,38 +231,54 @@ fn verdict(
     )?)
 }
 
+const SQUARE: &[u8] =
+    b"loadI 4 => r1\nload r1 => r2\nmult r2, r2 => r3\nstore r3 => r1\noutput 4\n";
+
+#[test]
+fn says_which_output_differs(rt: HostRuntime) -> Result<(), Fail> {
+    let alloc = rt.alloc();
+    let one_more = Place::Output {
+        index: 1,
+        got: Some(0),
+        wanted: None,
+    };
+    let word_before = Place::Output {
+        index: 0,
+        got: Some(9),
+        wanted: Some(81),
+    };
+    let cases: [(&[u8], Place); 2] = [
+        (
+            b"loadI 4 => r1\nload r1 => r2\nmult r2, r2 => r3\nstore r3 => r1\noutput 4\noutput 8\n",
+            one_more,
+        ),
+        (
+            b"loadI 4 => r1\noutput 4\nload r1 => r2\nmult r2, r2 => r3\nstore r3 => r1\n",
+            word_before,
+        ),
+    ];
+    for (theirs, place) in cases {
+        assert_eq!(rt;
+            verdict(alloc, SQUARE, theirs, true)?,
+            Verdict::Differs(place)
+        );
+    }
+    Ok(())
+}
+
 #[test]
 fn says_where_rows_differ(rt: HostRuntime) -> Result<(), Fail> {
     let alloc = rt.alloc();
-    let block = b"loadI 4 => r1\nload r1 => r2\nmult r2, r2 => r3\nstore r3 => r1\noutput 4\n";
-    let cases: [(&[u8], Verdict); 6] = [
-        (block, Verdict::Same),
-        // One output too many.
-        (
-            b"loadI 4 => r1\nload r1 => r2\nmult r2, r2 => r3\nstore r3 => r1\noutput 4\noutput 8\n",
-            Verdict::Differs(Place::Output {
-                index: 1,
-                got: Some(0),
-                wanted: None,
-            }),
-        ),
-        // The word that was there before.
-        (
-            b"loadI 4 => r1\noutput 4\nload r1 => r2\nmult r2, r2 => r3\nstore r3 => r1\n",
-            Verdict::Differs(Place::Output {
-                index: 0,
-                got: Some(9),
-                wanted: Some(81),
-            }),
-        ),
-        // One more word is left.
+    let one_more_word = Place::Word {
+        address: 0,
+        got: 81,
+        wanted: 0,
+    };
+    let cases: [(&[u8], Verdict); 4] = [
+        (SQUARE, Verdict::Same),
         (
             b"loadI 4 => r1\nload r1 => r2\nmult r2, r2 => r3\nstore r3 => r1\noutput 4\nloadI 0 => r4\nstore r3 => r4\n",
-            Verdict::Differs(Place::Word {
-                address: 0,
-                got: 81,
-                wanted: 0,
-            }),
+            Verdict::Differs(one_more_word),
         ),
         (
             b"loadI 4 => r1\nload r1 => r2\nload r2 => r3\noutput 4\n",
@@ -275,9 +291,9 @@ fn says_where_rows_differ(rt: HostRuntime) -> Result<(), Fail> {
         ),
     ];
     for (theirs, expected) in &cases {
-        assert_eq!(rt; verdict(alloc, block, theirs, true)?, *expected);
+        assert_eq!(rt; verdict(alloc, SQUARE, theirs, true)?, *expected);
     }
-    assert_eq!(rt; verdict(alloc, block, block, false)?, Verdict::Units(12));
+    assert_eq!(rt; verdict(alloc, SQUARE, SQUARE, false)?, Verdict::Units(12));
     assert_eq!(rt;
         verdict(alloc, b"output 1\n", b"output 8\n", true)?,
         Verdict::Differs(Place::NoFault)
