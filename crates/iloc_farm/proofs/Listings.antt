@@ -7,7 +7,8 @@ use Rattle.iloc_timed.specs.Schedule.{Table}
 use Rattle.iloc_args.specs.declared.request.Request.{Request}
 use Rattle.iloc_args.specs.declared.request.Task.{Task}
 use Rattle.iloc_args.specs.declared.request.Task.TheVariants as task
-use Rattle.iloc_farm.specs.Initial.{memory_of, words_from}
+use Rattle.iloc_meaning.specs.Memory.{words_from}
+use Rattle.iloc_farm.specs.Initial.{memory_of}
 use Rattle.iloc_farm.specs.Laws.{AskAlike, GreedySchedulesCanBeListed, ListingsIgnoreWorkers}
 use Rattle.iloc_farm.specs.Explaining.{ListsExplained}
 use Rattle.iloc_farm.specs.Listing.{counts_listing, schedules_listing}
