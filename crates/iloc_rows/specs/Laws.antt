@@ -1,5 +1,5 @@
 -- What holds of texts with rows as a whole.
-use Rattle.std.specs.Prelude.{◌≡◌, ℕ, ◌≤◌, List, length}
+use Rattle.std.specs.Prelude.{◌≡◌, ℕ, ◌≤◌, ◌⊎◌, List, length}
 use Rattle.std.specs.List.{AllByRecursion}
 use Rattle.iloc_text.specs.declared.file.Block.{Block}
 use Rattle.iloc_text.specs.declared.limits.TheConstants.{MAX_BLOCKS, MAX_OPS}
@@ -17,6 +17,12 @@ pub record TextsHaveOneAnswer : Type 0 where
       → fault ≡ fault'
   pub apart : (input : List ℕ) (blocks : List Block) (proposals : List Proposal) (fault : RowsFault)
       → Denotes input blocks proposals → IsRefused input fault → ⊥
+
+-- each text denotes blocks with proposals, or a refusal
+abbrev pub TextsHaveAnAnswer : Type 0
+TextsHaveAnAnswer = (input : List ℕ)
+    → ((blocks : List Block) × (proposals : List Proposal) × Denotes input blocks proposals)
+    ⊎ ((fault : RowsFault) × IsRefused input fault)
 
 -- There are at most 65,535 blocks, each of at most 10,000 operations, and as many proposals, each of at most 10,000
 -- operations too. In the rows of a proposal each of its operations stands in exactly one slot, and no other number.

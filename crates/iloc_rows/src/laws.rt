@@ -1,9 +1,14 @@
 //! Laws of texts with rows, as contracts of functions that do nothing.
-ghost use Rattle.iloc_rows.specs.Laws.{TextsHaveOneAnswer, SubmissionsAreWithinLimits};
+ghost use Rattle.iloc_rows.specs.Laws.{TextsHaveOneAnswer, TextsHaveAnAnswer, SubmissionsAreWithinLimits};
 
 /// A text denotes at most one list of blocks with one list of proposals, or one refusal, and never both.
 pub fn texts_have_one_answer()
     ensures { TextsHaveOneAnswer }
+{}
+
+/// Each text denotes blocks with proposals, or a refusal, so want of memory is never the only answer to it.
+pub fn texts_have_an_answer()
+    ensures { TextsHaveAnAnswer }
 {}
 
 /// A text denotes at most 65,535 blocks, each of at most 10,000 operations, and as many proposals; each operation of a
