@@ -11,7 +11,7 @@ pub fn texts_have_an_answer()
     ensures { TextsHaveAnAnswer }
 {}
 
-/// A text denotes at most 65,535 blocks, each of at most 10,000 operations, and as many proposals; each operation of a
+/// A text denotes at most 65,535 blocks and as many proposals, each of at most 10,000 operations; each operation of a
 /// proposal stands in exactly one slot of its rows, and each number there is an operation's.
 pub fn submissions_are_within_limits()
     ensures { SubmissionsAreWithinLimits }
