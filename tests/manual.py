@@ -15,7 +15,8 @@ COMPLETIONS = (
     (["run", "--"], "--at --help"),
     (["counts", "--load", ""], ""),
     (["counts", "--load", "1", "--m"], "--mult"),
-    (["help", "c"], "counts"),
+    (["check", "--"], "--at --load --store --mult --help"),
+    (["help", "c"], "counts check"),
     (["run", "--at", "4", "1"], ""),
 )
 COMPLETE = ('source "$0"; COMP_WORDS=(ilocfarm "$@"); COMP_CWORD=$#; _ilocfarm; echo "${COMPREPLY[*]}"')
@@ -53,7 +54,7 @@ def page_has_no_slips(place):
 def page_examples(place):
     text = read(PAGE).decode()
     commands = [it for part in LITERAL.findall(text) for it in examples_of(part)]
-    named = {command.split()[1] for command, _ in commands}
+    named = {it for command, _ in commands for it in re.findall(r"\bilocfarm (\w+)", command)}
     expect("commands with an example", named, set(commands_of(place)))
     for command, below in commands:
         expect(command, place.shell(command)[1], below)

@@ -37,6 +37,14 @@ const ASKED: &[Asked] = &[
         (5, 5, 3),
     ),
     (
+        &["check", "--load", "9", "3", "--at", "0"],
+        Task::Check,
+        2,
+        0,
+        &[3],
+        (9, 5, 3),
+    ),
+    (
         &["run", "7", "--at=8", "0", "+5", "4294967294"],
         Task::Run,
         2,
@@ -77,6 +85,11 @@ const WRONG: &[(&[&str], Option<u32>, &str)] = &[
     (
         &["run", "--at", "65530", "1", "2", "3"],
         Some(65_530),
+        "--at is not a multiple of 4",
+    ),
+    (
+        &["check", "--at", "6", "--mult", "2"],
+        Some(6),
         "--at is not a multiple of 4",
     ),
     (
