@@ -1,5 +1,5 @@
 pub mod Terms
-pub mod Slots
 pub mod Place
+pub mod Probe
 pub mod Verdict
 pub mod Steps

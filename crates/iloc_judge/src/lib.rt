@@ -7,8 +7,8 @@ mod judgement;
 mod memories;
 mod node;
 mod place;
+mod probe;
 mod registers;
-mod slots;
 mod symbols;
 mod table;
 mod tries;
@@ -18,5 +18,5 @@ mod words;
 
 pub use judgement::same;
 pub use place::Place;
-pub use slots::{Numbered, Slots, number_operations};
+pub use probe::Probe;
 pub use verdict::{Verdict, judge};

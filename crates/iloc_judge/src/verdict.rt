@@ -8,13 +8,14 @@ ghost use Rattle.iloc_judge.specs.Verdict.{IsVerdict};
 
 use crate::judgement::same;
 use crate::place::{Place, difference};
+use crate::probe::Probe;
 use iloc_meaning::{Memory, run_block};
 use iloc_text::{Block, NoMemory, Op};
 use iloc_timed::{BuildFault, Latencies, MAX_ROWS, Row, Schedule, run_schedule};
 use std::alloc::Global;
 
 /// What is said of somebody's rows for a block.
-#[derive(Clone, Copy, Debug, PartialEq, Eq)]
+#[derive(Debug, Drop, PartialEq, Eq)]
 pub enum Verdict {
     /// This row, from 0, is the first that breaks the rules of the units.
     Units(usize),
@@ -24,6 +25,9 @@ pub enum Verdict {
     Agrees,
     /// On the memory handed in their outcome differs from the block's, there.
     Differs(Place),
+    /// On the memory handed in they have it, but on this one, which is made up, their outcome differs from
+    /// the block's, there.
+    DiffersOn(Probe, Place),
 }
 
 /// Where a schedule's outcome on a memory differs from a block's.
