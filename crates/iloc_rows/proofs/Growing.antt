@@ -80,7 +80,7 @@ nowhere {blocks} {ss} {old} h e =
     ap length h.proposals ∙ length-proposals (length blocks) ss in
     place_none (last_head ss) (length blocks) (sym (ap₂ place h.last count) ∙ e)
 
-still_of : (ss : List Said) (s : Said) → head_number s ≡ None → block_of (ss ++ s ∷ []) ≡ block_of ss
+pub still_of : (ss : List Said) (s : Said) → head_number s ≡ None → block_of (ss ++ s ∷ []) ≡ block_of ss
 still_of ss s h = ap (max 1) (last_head-none ss s h)
 
 -- Rows

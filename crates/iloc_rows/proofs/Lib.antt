@@ -5,3 +5,6 @@ pub mod Ends
 pub mod Reading
 pub mod Answer
 pub mod Facts
+pub mod Slots
+pub mod Within
+pub mod Every

@@ -11,7 +11,7 @@ use Rattle.iloc_rows.specs.Proposing.{block_of, row_in, cycles_in, rows_of, clai
 use Rattle.iloc_rows.specs.Steps.Growth.{none_proposed, with_row, with_cycles}
 use Rattle.iloc_rows.proofs.Picking.{last_of-snoc, picked-nothing, picked-here, picked-else, picked-short, picked-none}
 
-abbrev ops_of_row : Op × Op → List Op
+abbrev pub ops_of_row : Op × Op → List Op
 ops_of_row r = filled r.0 ++ filled r.1
 
 pub ops_in-snoc : (rs : List (Op × Op)) (r : Op × Op) → ops_in (rs ++ r ∷ []) ≡ ops_in rs ++ (filled r.0 ++ filled r.1)
@@ -20,7 +20,7 @@ ops_in-snoc (x ∷ xs) r = ap (λ ops. ops_of_row x ++ ops) (ops_in-snoc xs r)
     ∙ sym (append_assoc (ops_of_row x) (ops_in xs) (ops_of_row r))
 
 -- a row that stands behind n operations
-abbrev row_behind : ℕ → Op × Op → Row
+abbrev pub row_behind : ℕ → Op × Op → Row
 row_behind n r = record { zero = slot n r.0; one = slot (n + length (filled r.0)) r.1 }
 
 numbered-snoc : (n m : ℕ) (rs : List (Op × Op)) (r : Op × Op) → n + length (ops_in rs) ≡ m

@@ -21,7 +21,7 @@ use Rattle.iloc_rows.specs.Steps.Ends.{ArePartsOf}
 use Rattle.iloc_rows.proofs.Picking.{last_head-nothing}
 use Rattle.iloc_rows.proofs.Ends.{join-append}
 
-SayAll-snoc : (lines : List (List ℕ)) (ss : List Said) (line : List ℕ) (s : Said) → SayAll lines ss → Says line s
+pub SayAll-snoc : (lines : List (List ℕ)) (ss : List Said) (line : List ℕ) (s : Said) → SayAll lines ss → Says line s
     → SayAll (lines ++ line ∷ []) (ss ++ s ∷ [])
 SayAll-snoc [] [] line s h says = (says, tt)
 SayAll-snoc [] (x ∷ xs) line s h says = absurd h
@@ -34,7 +34,7 @@ length-SayAll [] (s ∷ ss) h = absurd h
 length-SayAll (l ∷ ls) [] h = absurd h
 length-SayAll (l ∷ ls) (s ∷ ss) h = ap suc (length-SayAll ls ss h.1)
 
-AllFit-snoc : (blocks : List Block) (lines ss : List Said) (s : Said) → AllFit blocks lines ss
+pub AllFit-snoc : (blocks : List Block) (lines ss : List Said) (s : Said) → AllFit blocks lines ss
     → Fits blocks (lines ++ ss) s → AllFit blocks lines (ss ++ s ∷ [])
 AllFit-snoc blocks lines [] s h f = (subst (λ l. Fits blocks l s) (append-nil lines) f, tt)
 AllFit-snoc blocks lines (x ∷ xs) s h f = (
@@ -171,9 +171,32 @@ front_short (x ∷ xs) (l ∷ ls) = omega (
   length-append (join_with_byte 10 (x ∷ xs)) (10 ∷ join_with_byte 10 (l ∷ ls)),
 )
 
+-- a refusal of the blocks refuses the text
+pub blocks_refuse : (input : List ℕ) (fault : ReadFault) → BlocksAreRefused input fault → IsRefused input (Read fault)
+blocks_refuse input InputTooLong b =
+    let long = b.refused in
+    let front = front_short b.before b.after in
+    let whole = ap length (b.are_lines.whole) in
+    omega arith
+blocks_refuse input (BadLine n) b = inl b
+blocks_refuse input (NumberTooLarge n) b = inl b
+blocks_refuse input (TooManyBlocks n) b = b
+blocks_refuse input (TooManyOperations n) b = inl b
+blocks_refuse input NoMemory b = b.refused
+
+-- and so does one of the schedule lines
+pub rows_refuse : (input : List ℕ) (fault : RowsFault) → RowsAreRefused input fault → IsRefused input fault
+rows_refuse input (Read InputTooLong) r = absurd r.first.faulty
+rows_refuse input (Read (BadLine n)) r = inr r
+rows_refuse input (Read (NumberTooLarge n)) r = inr r
+rows_refuse input (Read (TooManyBlocks n)) r = absurd r.first.faulty
+rows_refuse input (Read (TooManyOperations n)) r = inr r
+rows_refuse input (Read NoMemory) r = absurd r.first.faulty
+rows_refuse input (NoSuchBlock n) r = r
+
 pub blocks_refused : {input : List ℕ} {parts : Parts} (a : ArePartsOf input parts) (fault : ReadFault)
     → length input ≤ 16777216 → files.IsRefused parts.blocks.now fault → IsRefused input (Read fault)
-blocks_refused {input} {parts} a fault short h = by fault (record {
+blocks_refused {input} {parts} a fault short h = blocks_refuse input fault (record {
   short = short;
   before = a.before;
   after = lines_left parts.rows;
@@ -181,23 +204,11 @@ blocks_refused {input} {parts} a fault short h = by fault (record {
   ends = a.ends;
   refused = subst (λ t. files.IsRefused t fault) a.blocks h;
 })
-  where
-    by : (fault : ReadFault) → BlocksAreRefused input fault → IsRefused input (Read fault)
-    by InputTooLong b =
-        let long = b.refused in
-        let front = front_short b.before b.after in
-        let whole = ap length (b.are_lines.whole) in
-        omega arith
-    by (BadLine n) b = inl b
-    by (NumberTooLarge n) b = inl b
-    by (TooManyBlocks n) b = b
-    by (TooManyOperations n) b = inl b
-    by NoMemory b = b.refused
 
 pub rows_refused : {input : List ℕ} {parts : Parts} (a : ArePartsOf input parts) (blocks : List Block)
     (fault : RowsFault) → length input ≤ 16777216 → files.Denotes parts.blocks.now blocks
     → HaveFirstFault blocks parts.lines (lines_left parts.rows) fault → IsRefused input fault
-rows_refused {input} {parts} a blocks fault short file h = by fault (record {
+rows_refused {input} {parts} a blocks fault short file h = rows_refuse input fault (record {
   short = short;
   before = a.before;
   after = lines_left parts.rows;
@@ -207,12 +218,3 @@ rows_refused {input} {parts} a blocks fault short file h = by fault (record {
   file = subst (λ t. files.Denotes t blocks) a.blocks file;
   first = subst (λ n. HaveFirstFault blocks n (lines_left parts.rows) fault) a.count h;
 })
-  where
-    by : (fault : RowsFault) → RowsAreRefused input fault → IsRefused input fault
-    by (Read InputTooLong) r = absurd r.first.faulty
-    by (Read (BadLine n)) r = inr r
-    by (Read (NumberTooLarge n)) r = inr r
-    by (Read (TooManyBlocks n)) r = absurd r.first.faulty
-    by (Read (TooManyOperations n)) r = inr r
-    by (Read NoMemory) r = absurd r.first.faulty
-    by (NoSuchBlock n) r = r

@@ -1,6 +1,9 @@
 -- What holds of texts with rows as a whole.
-use Rattle.std.specs.Prelude.{◌≡◌, ℕ, List}
+use Rattle.std.specs.Prelude.{◌≡◌, ℕ, ◌≤◌, ◌⊎◌, List, length}
+use Rattle.std.specs.List.{AllByRecursion}
 use Rattle.iloc_text.specs.declared.file.Block.{Block}
+use Rattle.iloc_text.specs.declared.limits.TheConstants.{MAX_BLOCKS, MAX_OPS}
+use Rattle.iloc_timed.specs.Schedule.{AreOnce, AreInRange}
 use Rattle.iloc_rows.specs.declared.fault.RowsFault.{RowsFault}
 use Rattle.iloc_rows.specs.declared.proposal.Proposal.{Proposal}
 use Rattle.iloc_rows.specs.Submissions.{Denotes, IsRefused}
@@ -14,3 +17,24 @@ pub record TextsHaveOneAnswer : Type 0 where
       → fault ≡ fault'
   pub apart : (input : List ℕ) (blocks : List Block) (proposals : List Proposal) (fault : RowsFault)
       → Denotes input blocks proposals → IsRefused input fault → ⊥
+
+-- each text denotes blocks with proposals, or a refusal
+abbrev pub TextsHaveAnAnswer : Type 0
+TextsHaveAnAnswer = (input : List ℕ)
+    → ((blocks : List Block) × (proposals : List Proposal) × Denotes input blocks proposals)
+    ⊎ ((fault : RowsFault) × IsRefused input fault)
+
+-- There are at most 65,535 blocks and as many proposals, each of at most 10,000 operations. Each operation of a
+-- proposal stands in exactly one slot of its rows, and each number there is an operation's.
+pub record AreWithinLimits (blocks : List Block) (proposals : List Proposal) : Type 0 where
+  pub few_blocks : length blocks ≤ MAX_BLOCKS
+  pub short_blocks : AllByRecursion (λ b. length b.ops ≤ MAX_OPS) blocks
+  pub as_many : length proposals ≡ length blocks
+  pub short_proposals : AllByRecursion (λ p. length p.ops ≤ MAX_OPS) proposals
+  pub once : AllByRecursion (λ p. AreOnce (length p.ops) p.rows) proposals
+  pub in_range : AllByRecursion (λ p. AreInRange (length p.ops) p.rows) proposals
+
+-- so are the blocks and the proposals that a text denotes
+abbrev pub SubmissionsAreWithinLimits : Type 0
+SubmissionsAreWithinLimits = (input : List ℕ) (blocks : List Block) (proposals : List Proposal)
+    → Denotes input blocks proposals → AreWithinLimits blocks proposals

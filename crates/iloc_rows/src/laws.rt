@@ -1,7 +1,18 @@
 //! Laws of texts with rows, as contracts of functions that do nothing.
-ghost use Rattle.iloc_rows.specs.Laws.{TextsHaveOneAnswer};
+ghost use Rattle.iloc_rows.specs.Laws.{TextsHaveOneAnswer, TextsHaveAnAnswer, SubmissionsAreWithinLimits};
 
 /// A text denotes at most one list of blocks with one list of proposals, or one refusal, and never both.
 pub fn texts_have_one_answer()
     ensures { TextsHaveOneAnswer }
+{}
+
+/// Each text denotes blocks with proposals, or a refusal, so want of memory is never the only answer to it.
+pub fn texts_have_an_answer()
+    ensures { TextsHaveAnAnswer }
+{}
+
+/// A text denotes at most 65,535 blocks and as many proposals, each of at most 10,000 operations; each operation of a
+/// proposal stands in exactly one slot of its rows, and each number there is an operation's.
+pub fn submissions_are_within_limits()
+    ensures { SubmissionsAreWithinLimits }
 {}

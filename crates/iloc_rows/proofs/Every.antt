@@ -1,0 +1,204 @@
+-- Every text has an answer: its blocks end somewhere, and line by line each schedule line is read or faulty.
+use Rattle.std.proofs.Common.{◌≡◌, ◌∙◌, ℕ, ◌+◌, ◌<◌, ◌≤◌, nat_lt, Bool, true, false, List, [], ◌∷◌, ◌++◌, length, refl, sym, ap, subst, Option, Some, None, ◌⊎◌, inl, inr, append_assoc, append-nil, arith}
+use Rattle.std.specs.List.{join_with_byte}
+use Rattle.std.proofs.lemmas.Bool.Decides.{nat_tests}
+use Rattle.iloc_text.specs.declared.file.Block.{Block}
+use Rattle.iloc_text.specs.declared.fault.ReadFault.TheVariants.{InputTooLong, BadLine, NumberTooLarge, TooManyOperations}
+use Rattle.iloc_text.specs.Files as files
+use Rattle.iloc_text.specs.Files.{AreLines}
+use Rattle.iloc_text.specs.ScheduleLines.{Said, Says, IsScheduleLine}
+use Rattle.iloc_text.specs.ScheduleLines.Said.{nothing, row, head, cycles, total}
+use Rattle.iloc_text.specs.Steps.Lines.{lines_of}
+use Rattle.iloc_text.specs.Steps.ScheduleScan.{schedule_line_at, is_said_within}
+use Rattle.iloc_text.proofs.Every as files_every
+use Rattle.iloc_text.proofs.ScheduleLines.{said_bad, said_good, said_large}
+use Rattle.iloc_text.proofs.Splitting.{lines_are}
+use Rattle.iloc_rows.specs.declared.fault.RowsFault.{RowsFault}
+use Rattle.iloc_rows.specs.declared.fault.RowsFault.TheVariants.{Read, NoSuchBlock}
+use Rattle.iloc_rows.specs.declared.proposal.Proposal.{Proposal}
+use Rattle.iloc_rows.specs.Proposing.{proposals_of, is_of_block, op_count, Fits, AllFit}
+use Rattle.iloc_rows.specs.Submissions.{SayAll, BlocksEnd, Propose, Denotes, IsFaulty, HaveFirstFault, IsRefused}
+use Rattle.iloc_rows.specs.Laws.{TextsHaveAnAnswer}
+use Rattle.iloc_rows.proofs.Ends.{nothing_is_none, bad_is_none, large_is_one}
+use Rattle.iloc_rows.proofs.Reading.{SayAll-snoc, AllFit-snoc, blocks_refuse, rows_refuse}
+
+-- Where the blocks end
+
+abbrev IsOneOrNone : List ℕ → Type 0
+IsOneOrNone line = IsScheduleLine line ⊎ (IsScheduleLine line → ⊥)
+
+by_said : (line : List ℕ) (said : Said) → Says line said → IsOneOrNone line
+by_said line nothing h = inr (nothing_is_none line h.0)
+by_said line (row one two) h = inl (row one two, λ e. cc, h.0)
+by_said line (head k name) h = inl (head k name, λ e. cc, h.0)
+by_said line (cycles c) h = inl (cycles c, λ e. cc, h.0)
+by_said line (total t) h = inl (total t, λ e. cc, h.0)
+
+one_or_none : (line : List ℕ) → IsOneOrNone line
+one_or_none line = by (schedule_line_at line) refl
+  where
+    within : (said : Said) → schedule_line_at line ≡ Some said → (b : Bool) → is_said_within said ≡ b → IsOneOrNone line
+    within said e true w = by_said line said (said_good line said e w)
+    within said e false w = let large = said_large line said e w in inl (large_is_one line large.0 large.1)
+
+    by : (found : Option Said) → schedule_line_at line ≡ found → IsOneOrNone line
+    by None e = inr (bad_is_none line (said_bad line e))
+    by (Some said) e = within said e (is_said_within said) refl
+
+-- the lines, cut before the first schedule line
+record AreCut (lines : List (List ℕ)) : Type 0 where
+  before : List (List ℕ)
+  after : List (List ℕ)
+  whole : lines ≡ before ++ after
+  ends : BlocksEnd before after
+
+cut : (lines : List (List ℕ)) → AreCut lines
+cut [] = record { before = []; after = []; whole = refl; ends = record { none = tt; first = tt } }
+cut (line ∷ lines) = elim (one_or_none line) as (λ _. AreCut (line ∷ lines)) [
+  | inl one ↦ record { before = []; after = line ∷ lines; whole = refl; ends = record { none = tt; first = one } }
+  | inr none ↦ let rest = cut lines in record {
+    before = line ∷ rest.before;
+    after = rest.after;
+    whole = ap (λ ls. line ∷ ls) rest.whole;
+    ends = record { none = (none, rest.ends.none); first = rest.ends.first };
+  }
+]
+
+-- One schedule line
+
+-- the line says something that fits behind what these lines say
+record IsRead (blocks : List Block) (said : List Said) (line : List ℕ) : Type 0 where
+  saying : Said
+  says : Says line saying
+  fits : Fits blocks said saying
+
+abbrev Judged : List Block → List Said → List ℕ → ℕ → Type 0
+Judged blocks said line n = ((fault : RowsFault) × IsFaulty blocks said line n fault) ⊎ IsRead blocks said line
+
+above : (a b : ℕ) → nat_lt a b ≡ true → a < b
+above a b h = grind (arith, nat_tests)
+
+not_above : (a b : ℕ) → nat_lt a b ≡ false → b ≤ a
+not_above a b h = grind (arith, nat_tests)
+
+by_fit : (blocks : List Block) (said : List Said) (line : List ℕ) (n : ℕ) (s : Said) → Says line s
+    → (there many : Bool) → is_of_block blocks said s ≡ there → nat_lt 10000 (op_count said s) ≡ many
+    → Judged blocks said line n
+by_fit blocks said line n s says false many t m =
+    inl (NoSuchBlock n, (refl, record { said = s; says = says; of_none = t }))
+by_fit blocks said line n s says true true t m =
+    inl (Read (TooManyOperations n), (refl, record { said = s; says = says; of_block = t; many = above _ _ m }))
+by_fit blocks said line n s says true false t m =
+    inr (record { saying = s; says = says; fits = record { of_block = t; few = not_above _ _ m } })
+
+judged : (blocks : List Block) (said : List Said) (line : List ℕ) (n : ℕ) → Judged blocks said line n
+judged blocks said line n = by (schedule_line_at line) refl
+  where
+    within : (s : Said) → schedule_line_at line ≡ Some s → (b : Bool) → is_said_within s ≡ b → Judged blocks said line n
+    within s e true w = by_fit blocks said line n s (said_good line s e w) _ _ refl refl
+    within s e false w =
+        let large = said_large line s e w in inl (Read (NumberTooLarge n), (refl, large.0, large.1))
+
+    by : (found : Option Said) → schedule_line_at line ≡ found → Judged blocks said line n
+    by None e = inl (Read (BadLine n), (refl, said_bad line e))
+    by (Some s) e = within s e (is_said_within s) refl
+
+-- All of them
+
+abbrev Proposed : List Block → ℕ → List (List ℕ) → Type 0
+Proposed blocks n lines = ((proposals : List Proposal) × Propose blocks lines proposals)
+    ⊎ ((fault : RowsFault) × HaveFirstFault blocks n lines fault)
+
+-- where the lines before say this, and it fits
+from_here : (blocks : List Block) (n : ℕ) (all before lines : List (List ℕ)) (said : List Said)
+    → all ≡ before ++ lines → SayAll before said → AllFit blocks [] said → Proposed blocks n all
+from_here blocks n all before [] said whole say fit = inl (
+  proposals_of (length blocks) said,
+  record {
+    said = said;
+    say = subst (λ ls. SayAll ls said) (sym (whole ∙ append-nil before)) say;
+    fit = fit;
+    are = refl;
+  },
+)
+from_here blocks n all before (line ∷ lines) said whole say fit =
+    elim (judged blocks said line (n + length before + 1)) as (λ _. Proposed blocks n all) [
+      | inl bad ↦ inr (
+        bad.0,
+        record {
+          before = before;
+          line = line;
+          after = lines;
+          whole = whole;
+          said = said;
+          say = say;
+          fit = fit;
+          faulty = bad.1;
+        },
+      )
+      | inr good ↦ from_here blocks n all (before ++ line ∷ []) lines (said ++ good.saying ∷ [])
+          (whole ∙ sym (append_assoc before (line ∷ []) lines))
+          (SayAll-snoc before said line good.saying say good.says)
+          (AllFit-snoc blocks [] said good.saying fit good.fits)
+    ]
+
+-- Texts
+
+abbrev Answered : List ℕ → Type 0
+Answered input = ((blocks : List Block) × (proposals : List Proposal) × Denotes input blocks proposals)
+    ⊎ ((fault : RowsFault) × IsRefused input fault)
+
+by_rows : (input : List ℕ) → length input ≤ 16777216 → (c : AreCut (lines_of input)) (blocks : List Block)
+    → files.Denotes (join_with_byte 10 c.before) blocks → Answered input
+by_rows input short c blocks file =
+    elim (from_here blocks (length c.before) c.after [] c.after [] refl tt tt) as (λ _. Answered input) [
+      | inl good ↦ inl (
+        blocks,
+        good.0,
+        record {
+          short = short;
+          before = c.before;
+          after = c.after;
+          are_lines = subst (AreLines input) c.whole (lines_are input);
+          ends = c.ends;
+          file = file;
+          propose = good.1;
+        },
+      )
+      | inr bad ↦ inr (
+        bad.0,
+        rows_refuse input bad.0 (record {
+          short = short;
+          before = c.before;
+          after = c.after;
+          are_lines = subst (AreLines input) c.whole (lines_are input);
+          ends = c.ends;
+          blocks = blocks;
+          file = file;
+          first = bad.1;
+        }),
+      )
+    ]
+
+by_blocks : (input : List ℕ) → length input ≤ 16777216 → (c : AreCut (lines_of input)) → Answered input
+by_blocks input short c = elim (files_every.an_answer (join_with_byte 10 c.before)) as (λ _. Answered input) [
+  | inl good ↦ by_rows input short c good.0 good.1
+  | inr bad ↦ inr (
+    Read bad.0,
+    blocks_refuse input bad.0 (record {
+      short = short;
+      before = c.before;
+      after = c.after;
+      are_lines = subst (AreLines input) c.whole (lines_are input);
+      ends = c.ends;
+      refused = bad.1;
+    }),
+  )
+]
+
+by_length : (input : List ℕ) (long : Bool) → nat_lt 16777216 (length input) ≡ long → Answered input
+by_length input true e = inr (Read InputTooLong, above _ _ e)
+by_length input false e = by_blocks input (not_above _ _ e) (cut (lines_of input))
+
+pub an_answer : TextsHaveAnAnswer
+an_answer input = by_length input _ refl

@@ -1,0 +1,195 @@
+-- Each operation of rows with numbers stands in exactly one slot.
+use Rattle.std.proofs.Common.{◌≡◌, ◌∙◌, ℕ, zero, suc, ◌+◌, ◌<◌, ◌≤◌, nat_lt, ◌==◌, ◌⊎◌, inl, inr, Bool, true, false, cond, List, [], ◌∷◌, ◌++◌, length, length-append, count_by, Option, Some, None, option_to_list, refl, arith, eq-eqb, ne_eqb}
+use Rattle.std.proofs.lemmas.Bool.{cases_lt, cases_eq}
+use Rattle.std.proofs.lemmas.Bool.Decides.{nat_tests}
+use Rattle.std.proofs.lemmas.List.Sums.{sum_by-cons}
+use Rattle.iloc_text.specs.declared.op.Op.{Op}
+use Rattle.iloc_timed.specs.declared.row.Row.{Row}
+use Rattle.iloc_timed.specs.Rows.{slots, times_issued}
+use Rattle.iloc_timed.specs.Schedule.{AreOnce, AreInRange, in_range}
+use Rattle.iloc_rows.specs.Proposing.{is_empty, filled, slot, ops_in, numbered}
+use Rattle.iloc_rows.proofs.Numbering.{ops_of_row, row_behind}
+
+-- One slot
+
+-- how often a number stands in a slot
+abbrev times_in : ℕ → Option ℕ → ℕ
+times_in i None = 0
+times_in i (Some j) = cond (i == j) 1 0
+
+-- the next number stands there alone, and only where the slot is filled
+slot_here : (n : ℕ) (op : Op) → times_in n (slot n op) ≡ length (filled op)
+slot_here n op = by (is_empty op) refl
+  where
+    same : (n == n) ≡ true
+    same = eq-eqb n n refl
+
+    by : (b : Bool) → is_empty op ≡ b → times_in n (slot n op) ≡ length (filled op)
+    by true e = rw e refl
+    by false e = rw (e, same) refl
+
+slot_elsewhere : (i n : ℕ) (op : Op) → (i ≡ n → ⊥) → times_in i (slot n op) ≡ 0
+slot_elsewhere i n op apart = by (is_empty op) refl
+  where
+    other : (i == n) ≡ false
+    other = ne_eqb i n apart
+
+    by : (b : Bool) → is_empty op ≡ b → times_in i (slot n op) ≡ 0
+    by true e = rw e refl
+    by false e = rw (e, other) refl
+
+abbrev InSlot : ℕ → ℕ → Op → Type 0
+InSlot i n op = ((i ≡ n) × (times_in i (slot n op) ≡ length (filled op)))
+    ⊎ ((i ≡ n → ⊥) × (times_in i (slot n op) ≡ 0))
+
+in_slot : (i n : ℕ) (op : Op) → InSlot i n op
+in_slot i n op = elim (cases_eq i n) as (λ _. InSlot i n op) [
+  | inl here ↦ inl (here, rw here (slot_here n op))
+  | inr apart ↦ inr (apart, slot_elsewhere i n op apart)
+]
+
+one_at_most : (op : Op) → length (filled op) ≤ 1
+one_at_most op = by (is_empty op) refl
+  where
+    by : (b : Bool) → is_empty op ≡ b → length (filled op) ≤ 1
+    by true e = rw e (omega arith)
+    by false e = rw e (omega arith)
+
+-- One row
+
+two_slots : (i : ℕ) (one two : Option ℕ)
+    → count_by (λ j. i == j) (option_to_list two ++ option_to_list one) ≡ times_in i one + times_in i two
+two_slots i None None = refl
+two_slots i (Some a) None =
+    let last : count_by (λ j. i == j) (a ∷ []) ≡ cond (i == a) 1 0 + 0 = sum_by-cons (λ j. cond (i == j) 1 0) a [] in
+    omega (arith, last)
+two_slots i None (Some b) =
+    let last : count_by (λ j. i == j) (b ∷ []) ≡ cond (i == b) 1 0 + 0 = sum_by-cons (λ j. cond (i == j) 1 0) b [] in
+    omega (arith, last)
+two_slots i (Some a) (Some b) =
+    let first : count_by (λ j. i == j) (b ∷ a ∷ []) ≡ cond (i == b) 1 0 + count_by (λ j. i == j) (a ∷ []) =
+    sum_by-cons (λ j. cond (i == j) 1 0) b (a ∷ []) in
+    let last : count_by (λ j. i == j) (a ∷ []) ≡ cond (i == a) 1 0 + 0 = sum_by-cons (λ j. cond (i == j) 1 0) a [] in
+    omega (arith, first, last)
+
+abbrev times_in_row : ℕ → ℕ → Op × Op → ℕ
+times_in_row i n r = count_by (λ j. i == j) (slots (row_behind n r))
+
+-- the next numbers alone stand in a row
+record InRow (i n : ℕ) (r : Op × Op) : Type 0 where
+  before : i < n → times_in_row i n r ≡ 0
+  here : n ≤ i → i < n + length (ops_of_row r) → times_in_row i n r ≡ 1
+  beyond : n + length (ops_of_row r) ≤ i → times_in_row i n r ≡ 0
+
+in_row : (i n : ℕ) (r : Op × Op) → InRow i n r
+in_row i n r =
+    let both : times_in_row i n r ≡ times_in i (slot n r.0) + times_in i (slot (n + length (filled r.0)) r.1) =
+    two_slots i (slot n r.0) (slot (n + length (filled r.0)) r.1) in
+    let size : length (ops_of_row r) ≡ length (filled r.0) + length (filled r.1) =
+    length-append (filled r.0) (filled r.1) in
+    let few = one_at_most r.0 in
+    let few' = one_at_most r.1 in
+    elim (in_slot i n r.0) as (λ _. InRow i n r) [
+      | inl first ↦ elim (in_slot i (n + length (filled r.0)) r.1) as (λ _. InRow i n r) [
+        | inl second ↦ record {
+          before = λ b. omega (arith, both, size, first.0, first.1, second.0, second.1);
+          here = λ b h. omega (arith, both, size, few, few', first.0, first.1, second.0, second.1);
+          beyond = λ b. omega (arith, both, size, first.0, first.1, second.0, second.1);
+        }
+        | inr second ↦ record {
+          before = λ b. omega (arith, both, size, first.0, first.1, second.0, second.1);
+          here = λ b h. omega (arith, both, size, few, few', first.0, first.1, second.0, second.1);
+          beyond = λ b. omega (arith, both, size, first.0, first.1, second.0, second.1);
+        }
+      ]
+      | inr first ↦ elim (in_slot i (n + length (filled r.0)) r.1) as (λ _. InRow i n r) [
+        | inl second ↦ record {
+          before = λ b. omega (arith, both, size, first.0, first.1, second.0, second.1);
+          here = λ b h. omega (arith, both, size, few, few', first.0, first.1, second.0, second.1);
+          beyond = λ b. omega (arith, both, size, first.0, first.1, second.0, second.1);
+        }
+        | inr second ↦ record {
+          before = λ b. omega (arith, both, size, first.0, first.1, second.0, second.1);
+          here = λ b h. omega (arith, both, size, few, few', first.0, first.1, second.0, second.1);
+          beyond = λ b. omega (arith, both, size, first.0, first.1, second.0, second.1);
+        }
+      ]
+    ]
+
+-- All rows
+
+row_times : (i n : ℕ) (r : Op × Op) (rows : List Row)
+    → times_issued (row_behind n r ∷ rows) i ≡ times_in_row i n r + times_issued rows i
+row_times i n r rows = sum_by-cons (λ row. count_by (λ j. i == j) (slots row)) (row_behind n r) rows
+
+none_from : (n : ℕ) (rs : List (Op × Op)) (i : ℕ) → i < n → times_issued (numbered n rs) i ≡ 0
+none_from n [] i below = refl
+none_from n (r ∷ rs) i below = row_times i n r (numbered (n + length (ops_of_row r)) rs) ∙ omega (
+  arith,
+  (in_row i n r).before below,
+  none_from (n + length (ops_of_row r)) rs i (omega arith),
+)
+
+once_from : (n : ℕ) (rs : List (Op × Op)) (i : ℕ) → n ≤ i → i < n + length (ops_in rs)
+    → times_issued (numbered n rs) i ≡ 1
+once_from n [] i from upto = absurd (omega arith)
+once_from n (r ∷ rs) i from upto =
+    let size : length (ops_in (r ∷ rs)) ≡ length (ops_of_row r) + length (ops_in rs) =
+    length-append (ops_of_row r) (ops_in rs) in
+    row_times i n r (numbered (n + length (ops_of_row r)) rs)
+    ∙ elim (cases_lt i (n + length (ops_of_row r))) [
+      | inl here ↦ omega (
+        arith,
+        (in_row i n r).here from here,
+        none_from (n + length (ops_of_row r)) rs i here,
+      )
+      | inr beyond ↦ omega (
+        arith,
+        (in_row i n r).beyond beyond,
+        once_from (n + length (ops_of_row r)) rs i beyond (omega (arith, size)),
+      )
+    ]
+
+-- each operation stands in exactly one slot
+pub numbered_once : (rs : List (Op × Op)) → AreOnce (length (ops_in rs)) (numbered 0 rs)
+numbered_once rs i below = once_from 0 rs i (omega arith) (omega arith)
+
+-- Numbers
+
+below_true : (n count : ℕ) → n < count → nat_lt n count ≡ true
+below_true n count h = grind (arith, nat_tests)
+
+row_in_range : (count n : ℕ) (r : Op × Op) → n + length (ops_of_row r) ≤ count
+    → in_range count (row_behind n r) ≡ true
+row_in_range count n r h = by (is_empty r.0) refl (is_empty r.1) refl
+  where
+    size : length (ops_of_row r) ≡ length (filled r.0) + length (filled r.1)
+    size = length-append (filled r.0) (filled r.1)
+
+    by : (a : Bool) → is_empty r.0 ≡ a → (b : Bool) → is_empty r.1 ≡ b → in_range count (row_behind n r) ≡ true
+    by true e true f = rw (e, f) refl
+    by true e false f =
+        let long : length (ops_of_row r) ≡ 1 = rw (e, f) refl in
+        let low : nat_lt (n + 0) count ≡ true = below_true (n + 0) count (omega arith) in
+        rw (e, f, low) refl
+    by false e true f =
+        let long : length (ops_of_row r) ≡ 1 = rw (e, f) refl in
+        let low : nat_lt n count ≡ true = below_true n count (omega arith) in
+        rw (e, f, low) refl
+    by false e false f =
+        let long : length (ops_of_row r) ≡ 2 = rw (e, f) refl in
+        let low : nat_lt n count ≡ true = below_true n count (omega arith) in
+        let high : nat_lt (n + 1) count ≡ true = below_true (n + 1) count (omega arith) in
+        rw (e, f, low, high) refl
+
+in_range_from : (count n : ℕ) (rs : List (Op × Op)) → n + length (ops_in rs) ≤ count → AreInRange count (numbered n rs)
+in_range_from count n [] h c below = absurd (omega arith)
+in_range_from count n (r ∷ rs) h zero below =
+    row_in_range count n r (omega (arith, length-append (ops_of_row r) (ops_in rs)))
+in_range_from count n (r ∷ rs) h (suc c) below =
+    in_range_from count (n + length (ops_of_row r)) rs (omega (arith, length-append (ops_of_row r) (ops_in rs))) c
+    (omega arith)
+
+-- each number is an operation's
+pub numbered_in_range : (rs : List (Op × Op)) → AreInRange (length (ops_in rs)) (numbered 0 rs)
+numbered_in_range rs = in_range_from (length (ops_in rs)) 0 rs (omega arith)

@@ -1,0 +1,77 @@
+-- What a text denotes is within the limits.
+use Rattle.std.proofs.Common.{◌≡◌, ◌∙◌, ℕ, ◌≤◌, inl, inr, List, [], ◌∷◌, ◌++◌, length, map, refl, sym, ap, subst, append_assoc, append-nil, arith}
+use Rattle.std.specs.List.{AllByRecursion, range_with_len}
+use Rattle.std.proofs.lemmas.Bool.{cases_eq}
+use Rattle.iloc_text.specs.declared.op.Op.{Op}
+use Rattle.iloc_text.specs.declared.file.Block.{Block}
+use Rattle.iloc_text.specs.ScheduleLines.{Said}
+use Rattle.iloc_text.specs.ScheduleLines.Said.{nothing, row, head, cycles, total}
+use Rattle.iloc_text.proofs.Within.{files_within}
+use Rattle.iloc_rows.specs.declared.proposal.Proposal.{Proposal}
+use Rattle.iloc_rows.specs.Proposing.{block_of, row_in, rows_of, ops_in, proposal_of, proposals_of, Fits, AllFit}
+use Rattle.iloc_rows.specs.Laws.{SubmissionsAreWithinLimits}
+use Rattle.iloc_rows.proofs.Picking.{picked-nothing, picked-here, picked-else, picked-none}
+use Rattle.iloc_rows.proofs.Growing.{still_of}
+use Rattle.iloc_rows.proofs.Facts.{as_many}
+use Rattle.iloc_rows.proofs.Slots.{numbered_once, numbered_in_range}
+
+-- Operations
+
+-- the rows of each block have at most 10,000 operations
+abbrev AreFew : List Said → Type 0
+AreFew ss = (k : ℕ) → length (ops_in (rows_of k ss)) ≤ 10000
+
+few_rows : (rows rows' : List (Op × Op)) → rows ≡ rows' → length (ops_in rows') ≤ 10000 → length (ops_in rows) ≤ 10000
+few_rows rows rows' e h = omega (arith, ap (λ rs. length (ops_in rs)) e)
+
+few-row : (blocks : List Block) (ss : List Said) (one two : Op) → Fits blocks ss (row one two) → AreFew ss
+    → AreFew (ss ++ row one two ∷ [])
+few-row blocks ss one two f h k =
+    let still : block_of (ss ++ row one two ∷ []) ≡ block_of ss = still_of ss (row one two) refl in
+    elim (cases_eq (block_of (ss ++ row one two ∷ [])) k) [
+      | inl here ↦ few_rows _ _ (picked-here row_in k ss (row one two) (one, two) refl here)
+          (few_rows _ _ (ap (λ n. rows_of n ss ++ (one, two) ∷ []) (sym here ∙ still)) f.few)
+      | inr apart ↦ few_rows _ _ (picked-else row_in k ss (row one two) apart) (h k)
+    ]
+
+few-line : (blocks : List Block) (ss : List Said) (s : Said) → Fits blocks ss s → AreFew ss → AreFew (ss ++ s ∷ [])
+few-line blocks ss nothing f h k = few_rows _ _ (picked-nothing row_in k ss nothing refl) (h k)
+few-line blocks ss (row one two) f h k = few-row blocks ss one two f h k
+few-line blocks ss (head n name) f h k = few_rows _ _ (picked-nothing row_in k ss (head n name) refl) (h k)
+few-line blocks ss (cycles c) f h k = few_rows _ _ (picked-nothing row_in k ss (cycles c) refl) (h k)
+few-line blocks ss (total t) f h k = few_rows _ _ (picked-nothing row_in k ss (total t) refl) (h k)
+
+few-lines : (blocks : List Block) (lines ss : List Said) → AllFit blocks lines ss → AreFew lines → AreFew (lines ++ ss)
+few-lines blocks lines [] f h = subst AreFew (sym (append-nil lines)) h
+few-lines blocks lines (s ∷ ss) f h =
+    subst AreFew (append_assoc lines (s ∷ []) ss)
+    (few-lines blocks (lines ++ s ∷ []) ss f.1 (few-line blocks lines s f.0 h))
+
+few-none : AreFew []
+few-none k = few_rows _ _ (picked-none row_in k) (omega arith)
+
+-- Proposals
+
+all-map : {A B : Type 0} (P : B → Type 0) (f : A → B) (xs : List A) → ((x : A) → P (f x)) → AllByRecursion P (map f xs)
+all-map P f [] h = tt
+all-map P f (x ∷ xs) h = (h x, all-map P f xs h)
+
+-- what holds of what any block is proposed holds of all that is proposed
+all_proposed : (P : Proposal → Type 0) (count : ℕ) (ss : List Said) (proposals : List Proposal)
+    → proposals ≡ proposals_of count ss → ((k : ℕ) → P (proposal_of ss k)) → AllByRecursion P proposals
+all_proposed P count ss proposals e h =
+    subst (AllByRecursion P) (sym e) (all-map P (proposal_of ss) (range_with_len 1 count) h)
+
+pub submissions_within : SubmissionsAreWithinLimits
+submissions_within input blocks proposals d =
+    let file = files_within _ blocks d.file in
+    let said = d.propose.said in
+    record {
+      few_blocks = file.0;
+      short_blocks = file.1;
+      as_many = as_many input blocks proposals d;
+      short_proposals = all_proposed (λ p. length p.ops ≤ 10000) (length blocks) said proposals d.propose.are
+          (few-lines blocks [] said d.propose.fit few-none);
+      once = all_proposed _ (length blocks) said proposals d.propose.are (λ k. numbered_once (rows_of k said));
+      in_range = all_proposed _ (length blocks) said proposals d.propose.are (λ k. numbered_in_range (rows_of k said));
+    }
