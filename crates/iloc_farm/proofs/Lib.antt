@@ -1,4 +1,3 @@
-pub mod Placing
 pub mod Said
 pub mod Words
 pub mod Written

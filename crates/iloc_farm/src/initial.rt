@@ -11,9 +11,5 @@ use std::alloc::Global;
 pub fn initial_memory(alloc: Global, request: &Request) -> Result<Memory, NoMemory>
     ensures { IfOk result (λ memory. memory ≡ memory_of request.now) }
 {
-    let mut memory = Memory::zero(alloc)?;
-    for (index, word) in request.words.as_slice().iter().enumerate() {
-        memory.set(request.at + 4 * index as u32, word.cast_signed());
-    }
-    Ok(memory)
+    Memory::with_words(alloc, request.at, &request.words)
 }

@@ -3,6 +3,7 @@ pub mod RegisterValues
 pub mod Tables
 pub mod PuttingBack
 pub mod MemoryWords
+pub mod Placing
 pub mod Effects
 pub mod Steps
 pub mod Runs

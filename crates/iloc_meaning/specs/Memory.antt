@@ -1,5 +1,6 @@
 -- A memory as the list of its words: the word at the address 4 * k is the kth.
-use Rattle.std.specs.Prelude.{ℕ, ◌*◌, ◌/◌, List, length, map, replicate, slice_index_or, ℤ, pos}
+use Rattle.std.specs.Prelude.{ℕ, ◌+◌, ◌-◌, ◌*◌, ◌/◌, List, ◌++◌, length, map, replicate, slice_index_or, ℤ, pos}
+use Rattle.std.specs.Int.{w32, cast_signed}
 use Rattle.std.specs.List.{range_with_len}
 use Rattle.iloc_meaning.specs.declared.memory.TheConstants.{WORDS}
 
@@ -14,3 +15,10 @@ word_at memory a = slice_index_or memory (a / 4) (pos 0)
 -- the memory of the same size that has these words at its addresses
 abbrev pub with_words : List ℤ → (ℕ → ℤ) → List ℤ
 with_words memory word = map (λ k. word (4 * k)) (range_with_len 0 (length memory))
+
+-- zeros up to the address `at`, then the words as signed 32-bit numbers, then zeros: as many words as a memory has
+abbrev pub words_from : ℕ → List ℕ → List ℤ
+words_from at words =
+    replicate (at / 4) (pos 0)
+    ++ map (cast_signed w32) words
+    ++ replicate (WORDS - (at / 4 + length words)) (pos 0)

@@ -1,7 +1,7 @@
 //! The memory of a block: 16,384 words at the addresses 0, 4, .., 65,532.
-ghost use Rattle.std.specs.Prelude.{◌≡◌, ◌/◌, pos, length, slice_set, IfOk, IsTrue};
+ghost use Rattle.std.specs.Prelude.{◌≡◌, ◌≤◌, ◌+◌, ◌*◌, ◌/◌, ◌%◌, pos, length, slice_set, IfOk, IsTrue};
 ghost use Rattle.iloc_meaning.specs.Address.{is_good};
-ghost use Rattle.iloc_meaning.specs.Memory.{zeros, word_at};
+ghost use Rattle.iloc_meaning.specs.Memory.{words_from, zeros, word_at};
 
 use iloc_text::NoMemory;
 use std::alloc::Global;
@@ -39,6 +39,20 @@ impl Memory {
         Ok(Memory {
             words: vec![in alloc; 0; WORDS]?,
         })
+    }
+
+    /// The memory that has these words, as patterns of 32 bits, from the address `at` on, and else zeros.
+    pub fn with_words(alloc: Global, at: u32, words: &[u32]) -> Result<Memory, NoMemory>
+        requires aligned { at % 4 ≡ 0 }
+        requires start { at ≤ 65532 }
+        requires fits { at + 4 * length words.now ≤ 65536 }
+        ensures { IfOk result (λ memory. memory ≡ words_from at words.now) }
+    {
+        let mut memory = Memory::zero(alloc)?;
+        for (index, word) in words.iter().enumerate() {
+            memory.set(at + 4 * index as u32, word.cast_signed());
+        }
+        Ok(memory)
     }
 
     /// A second memory with the same words.

@@ -13,7 +13,7 @@ use Rattle.iloc_timed.specs.declared.kind.Kind.TheVariants as K
 use Rattle.iloc_timed.specs.Kinds.{kind}
 use Rattle.iloc_timed.specs.Latency.{latency, latency_of}
 use Rattle.iloc_timed.specs.Steps.Longest.{longest}
-use Rattle.iloc_timed.specs.Rows.{row_at, slots, holds, issue_cycle, times_issued, IsTable}
+use Rattle.iloc_timed.specs.Rows.{row_at, slots, holds, issue_cycle, times_issued, AreNumbered, IsTable}
 use Rattle.iloc_timed.specs.Cycles.{cycles}
 use Rattle.iloc_timed.proofs.Counts.{any_contains}
 use Rattle.iloc_timed.proofs.Greatest.{item_le_fold_max, fold_max_le}
@@ -50,34 +50,46 @@ cycles_le lat ops rows m each =
 
 -- what a slot of a row holds arrives by the last cycle
 slot_le_cycles : (lat : Latencies) (ops : List Op) (rows : List Row) (c : ℕ) (slot : Option ℕ) → c < length rows
-    → IsTable ops rows → ((i : ℕ) → slot ≡ Some i → holds (row_at rows c) i ≡ true)
+    → AreNumbered ops rows → ((i : ℕ) → slot ≡ Some i → holds (row_at rows c) i ≡ true)
     → arrival_in lat ops c slot ≤ cycles lat ops rows
-slot_le_cycles lat ops rows c None within table there = omega arith
-slot_le_cycles lat ops rows c (Some i) within table there =
-    let known : i < length ops = table.in_range c i (any_contains (slots (row_at rows c)) i (there i refl)) in
-    let at : issue_cycle rows i ≡ c = issued_there rows c i (table.once i known) within (there i refl) in
+slot_le_cycles lat ops rows c None within numbered there = omega arith
+slot_le_cycles lat ops rows c (Some i) within numbered there =
+    let known : i < length ops = numbered.in_range c i (any_contains (slots (row_at rows c)) i (there i refl)) in
+    let at : issue_cycle rows i ≡ c = issued_there rows c i (numbered.once i known) within (there i refl) in
     rw (← at) (arrival_le_cycles lat ops rows i known)
 
-pub zero_le_cycles : (lat : Latencies) (ops : List Op) (rows : List Row) (c : ℕ) → c < length rows → IsTable ops rows
+pub zero_le_cycles : (lat : Latencies) (ops : List Op) (rows : List Row) (c : ℕ) → c < length rows → AreNumbered ops rows
     → arrival_in lat ops c (row_at rows c).zero ≤ cycles lat ops rows
-zero_le_cycles lat ops rows c within table = slot_le_cycles lat ops rows c (row_at rows c).zero within table
+zero_le_cycles lat ops rows c within numbered = slot_le_cycles lat ops rows c (row_at rows c).zero within numbered
     (λ i is. holds_zero (row_at rows c) i is)
 
-pub one_le_cycles : (lat : Latencies) (ops : List Op) (rows : List Row) (c : ℕ) → c < length rows → IsTable ops rows
+pub one_le_cycles : (lat : Latencies) (ops : List Op) (rows : List Row) (c : ℕ) → c < length rows → AreNumbered ops rows
     → arrival_in lat ops c (row_at rows c).one ≤ cycles lat ops rows
-one_le_cycles lat ops rows c within table =
-    slot_le_cycles lat ops rows c (row_at rows c).one within table (λ i is. holds_one (row_at rows c) i is)
+one_le_cycles lat ops rows c within numbered =
+    slot_le_cycles lat ops rows c (row_at rows c).one within numbered (λ i is. holds_one (row_at rows c) i is)
 
 -- the slots of a row are numbers of operations
+pub zero_numbered : (ops : List Op) (rows : List Row) (c : ℕ) → AreNumbered ops rows
+    → IfSome (row_at rows c).zero (λ i. i < length ops)
+zero_numbered ops rows c numbered = if_some (row_at rows c).zero _
+    (λ i is. numbered.in_range c i (any_contains (slots (row_at rows c)) i (holds_zero (row_at rows c) i is)))
+
+pub one_numbered : (ops : List Op) (rows : List Row) (c : ℕ) → AreNumbered ops rows
+    → IfSome (row_at rows c).one (λ i. i < length ops)
+one_numbered ops rows c numbered = if_some (row_at rows c).one _
+    (λ i is. numbered.in_range c i (any_contains (slots (row_at rows c)) i (holds_one (row_at rows c) i is)))
+
+-- a schedule's rows are numbered so
+pub table_numbered : (ops : List Op) (rows : List Row) → IsTable ops rows → AreNumbered ops rows
+table_numbered ops rows table = record { in_range = table.in_range; once = table.once }
+
 pub zero_known : (ops : List Op) (rows : List Row) (c : ℕ) → IsTable ops rows
     → IfSome (row_at rows c).zero (λ i. i < length ops)
-zero_known ops rows c table = if_some (row_at rows c).zero _
-    (λ i is. table.in_range c i (any_contains (slots (row_at rows c)) i (holds_zero (row_at rows c) i is)))
+zero_known ops rows c table = zero_numbered ops rows c (table_numbered ops rows table)
 
 pub one_known : (ops : List Op) (rows : List Row) (c : ℕ) → IsTable ops rows
     → IfSome (row_at rows c).one (λ i. i < length ops)
-one_known ops rows c table = if_some (row_at rows c).one _
-    (λ i is. table.in_range c i (any_contains (slots (row_at rows c)) i (holds_one (row_at rows c) i is)))
+one_known ops rows c table = one_numbered ops rows c (table_numbered ops rows table)
 
 -- of what the slots of a row hold, the later arrives at the greater of the two cycles
 either_arrives : (lat : Latencies) (ops : List Op) (c i : ℕ) (one zero : Option ℕ)
@@ -101,19 +113,23 @@ either_arrives lat ops c i (Some o) (Some z) any = elim (or_cases (i == o) ((i =
 ]
 
 -- what is issued in row c arrives by the greater of the two cycles
-pub issued_arrives : (lat : Latencies) (ops : List Op) (rows : List Row) (i : ℕ) → i < length ops → IsTable ops rows
+pub issued_arrives : (lat : Latencies) (ops : List Op) (rows : List Row) (i : ℕ) → i < length ops → AreNumbered ops rows
     → issue_cycle rows i + latency lat (op_at ops i)
     ≤ max (arrival_in lat ops (issue_cycle rows i) (row_at rows (issue_cycle rows i)).zero)
     (arrival_in lat ops (issue_cycle rows i) (row_at rows (issue_cycle rows i)).one)
-issued_arrives lat ops rows i within table =
-    let once : times_issued rows i ≡ 1 = table.once i within in
+issued_arrives lat ops rows i within numbered =
+    let once : times_issued rows i ≡ 1 = numbered.once i within in
     either_arrives lat ops (issue_cycle rows i) i (row_at rows (issue_cycle rows i)).one
     (row_at rows (issue_cycle rows i)).zero (stands_there rows i (omega arith)).1
 
+issued_below : (ops : List Op) (rows : List Row) (i : ℕ) → i < length ops → AreNumbered ops rows
+    → issue_cycle rows i < length rows
+issued_below ops rows i within numbered =
+    let once : times_issued rows i ≡ 1 = numbered.once i within in (stands_there rows i (omega arith)).0
+
 pub issued_within : (ops : List Op) (rows : List Row) (i : ℕ) → i < length ops → IsTable ops rows
     → issue_cycle rows i < length rows
-issued_within ops rows i within table =
-    let once : times_issued rows i ≡ 1 = table.once i within in (stands_there rows i (omega arith)).0
+issued_within ops rows i within table = issued_below ops rows i within (table_numbered ops rows table)
 
 -- no operation takes longer than the longest latency
 latency_le_longest : (lat : Latencies) (k : Kind) → latency_of lat k ≤ longest lat
@@ -128,30 +144,30 @@ pub record IsLastFrom (lat : Latencies) (ops : List Op) (rows : List Row) (c las
   pub most : last ≤ cycles lat ops rows
   pub each : (i : ℕ) → i < length ops → c ≤ issue_cycle rows i → issue_cycle rows i + latency lat (op_at ops i) ≤ last
 
-pub none_from_end : (lat : Latencies) (ops : List Op) (rows : List Row) → IsTable ops rows
+pub none_from_end : (lat : Latencies) (ops : List Op) (rows : List Row) → AreNumbered ops rows
     → IsLastFrom lat ops rows (length rows) 0
-none_from_end lat ops rows table = record {
+none_from_end lat ops rows numbered = record {
   most = omega arith;
-  each = λ i within from. absurd (omega (arith, issued_within ops rows i within table));
+  each = λ i within from. absurd (omega (arith, issued_below ops rows i within numbered));
 }
 
-pub one_row_more : (lat : Latencies) (ops : List Op) (rows : List Row) (c last next final : ℕ) → IsTable ops rows
+pub one_row_more : (lat : Latencies) (ops : List Op) (rows : List Row) (c last next final : ℕ) → AreNumbered ops rows
     → c < length rows → IsLastFrom lat ops rows (c + 1) last
     → next ≡ max (arrival_in lat ops c (row_at rows c).zero) last
     → final ≡ max (arrival_in lat ops c (row_at rows c).one) next → IsLastFrom lat ops rows c final
-one_row_more lat ops rows c last next final table within so_far first second = record {
+one_row_more lat ops rows c last next final numbered within so_far first second = record {
   most =
       let a : arrival_in lat ops c (row_at rows c).zero ≤ cycles lat ops rows =
-      zero_le_cycles lat ops rows c within table in
+      zero_le_cycles lat ops rows c within numbered in
       let b : arrival_in lat ops c (row_at rows c).one ≤ cycles lat ops rows =
-      one_le_cycles lat ops rows c within table in
+      one_le_cycles lat ops rows c within numbered in
       omega (arith, so_far.most);
   each = λ i known from. elim (cases_lt c (issue_cycle rows i)) [
     | inl later ↦ omega (arith, so_far.each i known (omega arith))
     | inr here ↦
         let at : issue_cycle rows i ≡ c = omega arith in
         let by : c + latency lat (op_at ops i) ≤ max (arrival_in lat ops c (row_at rows c).zero)
-        (arrival_in lat ops c (row_at rows c).one) = rw at at (issued_arrives lat ops rows i known table) in
+        (arrival_in lat ops c (row_at rows c).one) = rw at at (issued_arrives lat ops rows i known numbered) in
         rw at (omega arith)
   ];
 }

@@ -8,16 +8,8 @@ use Rattle.std.proofs.lemmas.List.Elements.{All-contains}
 use Rattle.std.specs.List.{list_all}
 use Rattle.iloc_text.specs.declared.op.Op.{Op}
 use Rattle.iloc_timed.specs.declared.row.Row.{Row}
-use Rattle.iloc_timed.specs.Rows.{empty_row, row_at, slots, times_issued, keeps_units, IsTable}
+use Rattle.iloc_timed.specs.Rows.{empty_row, row_at, slots, times_issued, keeps_units, AreNumbered, IsTable}
 use Rattle.iloc_timed.specs.Schedule.{in_range, is_sound, AreSound, AreInRange, AreOnce}
-
--- the slots of a sound row have operations' numbers
-pub sound_in_range : (ops : List Op) (row : Row) (i : ℕ) → is_sound ops row ≡ true → Contains (slots row) i
-    → i < length ops
-sound_in_range ops row i sound there =
-    let all : list_all (λ j. nat_lt j (length ops)) (slots row) ≡ true = (and_parts _ (keeps_units ops row) sound).0 in
-    ltb-true i (length ops) (All-contains (λ j. nat_lt j (length ops) ≡ true) (slots row) i
-    (AllPass-from_list_all _ (slots row) all) there)
 
 each_slot : (n : ℕ) (one zero : Option ℕ) → list_all (λ j. nat_lt j n) (option_to_list one ++ option_to_list zero)
     ≡ true → IfSome one (λ i. i < n) × IfSome zero (λ i. i < n)
@@ -39,6 +31,22 @@ in_range_zero count row all = (each_slot count row.one row.zero all).1
 pub sound_rows_in_range : (ops : List Op) (rows : List Row) → AreSound ops rows → AreInRange (length ops) rows
 sound_rows_in_range ops rows sound c within = (and_parts _ (keeps_units ops (row_at rows c)) (sound c within)).0
 
+-- rows whose numbers are operations', and in which each operation stands once, are numbered
+pub numbered_from : (ops : List Op) (rows : List Row) → AreInRange (length ops) rows → AreOnce (length ops) rows
+    → AreNumbered ops rows
+numbered_from ops rows known once = record {
+  in_range = λ c i there. elim (cases_lt c (length rows)) [
+    | inl within ↦
+        ltb-true i (length ops) (All-contains (λ j. nat_lt j (length ops) ≡ true) (slots (row_at rows c)) i
+        (AllPass-from_list_all _ (slots (row_at rows c)) (known c within)) there)
+    | inr past ↦
+        let empty : row_at rows c ≡ empty_row = get_or_past rows c empty_row past in
+        let nowhere : Contains (slots empty_row) i = rw empty at there in
+        absurd (omega (arith, nowhere.1))
+  ];
+  once = once;
+}
+
 -- one more row
 pub times_more : (rows : List Row) (c i : ℕ) (d : Row) → c < length rows → times_issued (take (c + 1) rows) i
     ≡ times_issued (take c rows) i + (count_by (λ j. i == j) (option_to_list (get_or rows c d).zero)
@@ -55,13 +63,7 @@ times_more rows c i d within =
 -- sound rows in which each operation stands once are a table
 pub table_from : (ops : List Op) (rows : List Row) → AreSound ops rows → AreOnce (length ops) rows → IsTable ops rows
 table_from ops rows sound once = record {
-  in_range = λ c i there. elim (cases_lt c (length rows)) [
-    | inl within ↦ sound_in_range ops (row_at rows c) i (sound c within) there
-    | inr past ↦
-        let empty : row_at rows c ≡ empty_row = get_or_past rows c empty_row past in
-        let nowhere : Contains (slots empty_row) i = rw empty at there in
-        absurd (omega (arith, nowhere.1))
-  ];
+  in_range = (numbered_from ops rows (sound_rows_in_range ops rows sound) once).in_range;
   once = once;
   units = λ c. elim (cases_lt c (length rows)) [
     | inl within ↦ (and_parts _ (keeps_units ops (row_at rows c)) (sound c within)).1

@@ -4,5 +4,6 @@ pub mod Units
 pub mod Rows
 pub mod Schedule
 pub mod Cycles
+pub mod Spelling
 pub mod Timed
 pub mod Steps

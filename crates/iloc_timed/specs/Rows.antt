@@ -49,6 +49,11 @@ keeps_units ops row =
     && not (is_some_kind needs_zero (kind_in ops row.one))
     && not (is_some_kind stands_alone (kind_in ops row.zero) && is_some_kind stands_alone (kind_in ops row.one))
 
+-- each number in a row is an operation's, and each operation stands in exactly one slot
+pub record AreNumbered (ops : List Op) (rows : List Row) : Type 0 where
+  pub in_range : (c i : ℕ) → Contains (slots (row_at rows c)) i → i < length ops
+  pub once : (i : ℕ) → i < length ops → times_issued rows i ≡ 1
+
 -- What any schedule keeps: each number in a row is an operation's, each operation stands in exactly one slot, and
 -- each row keeps the rules of the units.
 pub record IsTable (ops : List Op) (rows : List Row) : Type 0 where

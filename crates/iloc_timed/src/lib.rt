@@ -11,6 +11,7 @@ mod run;
 mod schedule;
 mod simulator;
 mod slots;
+mod spelling;
 mod timing;
 mod wheel;
 
@@ -21,4 +22,5 @@ pub use row::Row;
 pub use run::run_schedule;
 pub use schedule::{MAX_ROWS, Schedule};
 pub use simulator::Simulator;
-pub use timing::{cycles, latency};
+pub use spelling::push_row;
+pub use timing::{cycles, cycles_of, latency};

@@ -3,9 +3,11 @@ ghost use Rattle.std.specs.Prelude.{◌≡◌, ◌+◌, ◌<◌, ◌≤◌, leng
 ghost use Rattle.iloc_meaning.specs.Trace.{op_at};
 ghost use Rattle.iloc_timed.specs.Latency.{latency, IsLatency};
 ghost use Rattle.iloc_timed.specs.Cycles.{cycles};
+ghost use Rattle.iloc_timed.specs.Rows.{AreNumbered};
 
 use crate::kind::Kind;
 use crate::latencies::Latencies;
+use crate::row::Row;
 use crate::schedule::{MAX_ROWS, Schedule};
 use iloc_text::Op;
 
@@ -34,13 +36,13 @@ fn arrival(ops: &[Op], latencies: &Latencies, cycle: usize, slot: Option<usize>)
     }
 }
 
-/// How many cycles a schedule takes, until its last result has arrived: the greatest cycle of issue
-/// and latency together, 0 where there is no operation.
-pub fn cycles(schedule: &Schedule, latencies: &Latencies) -> u64
-    ensures { result ≡ cycles latencies.now schedule.now.ops schedule.now.rows }
+/// How many cycles rows take, until their last result has arrived: the greatest cycle of issue and
+/// latency together, 0 where there is no operation. The rows may break the rules of the units.
+pub fn cycles_of(ops: &[Op], rows: &[Row], latencies: &Latencies) -> u64
+    requires numbered { AreNumbered ops.now rows.now }
+    requires few { length rows.now ≤ MAX_ROWS }
+    ensures { result ≡ cycles latencies.now ops.now rows.now }
 {
-    let ops = schedule.ops();
-    let rows = schedule.rows();
     let longest = u64::from(latencies.longest());
     let mut last = 0;
     // From the last row back, as long as a row that is left may hold what arrives later.
@@ -52,4 +54,11 @@ pub fn cycles(schedule: &Schedule, latencies: &Latencies) -> u64
         last = arrival(ops, latencies, left, row.one).max(last);
     }
     last
+}
+
+/// How many cycles a schedule takes, until its last result has arrived.
+pub fn cycles(schedule: &Schedule, latencies: &Latencies) -> u64
+    ensures { result ≡ cycles latencies.now schedule.now.ops schedule.now.rows }
+{
+    cycles_of(schedule.ops(), schedule.rows(), latencies)
 }

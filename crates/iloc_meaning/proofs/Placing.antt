@@ -2,8 +2,7 @@
 use Rattle.std.proofs.Common.{◌≡◌, ℕ, ◌+◌, ◌-◌, ◌/◌, ◌<◌, ◌≤◌, List, [], ◌∷◌, ◌++◌, length, map, replicate, set, take, get_or, ℤ, pos, arith, refl, ap, sym, ◌∙◌, add-one, append_assoc, append-nil, length-append, length-take-le}
 use Rattle.std.specs.Int.{w32, cast_signed}
 use Rattle.std.proofs.lemmas.List.{length-map, length-replicate, replicate-append-replicate, set_at, map_more}
-use Rattle.iloc_meaning.specs.Memory.{zeros}
-use Rattle.iloc_farm.specs.Initial.{words_from}
+use Rattle.iloc_meaning.specs.Memory.{words_from, zeros}
 
 -- without words there are zeros alone
 pub placed_none : (at : ℕ) → at ≤ 65532 → zeros ≡ words_from at []
