@@ -1,7 +1,7 @@
 //! Whether two runs in terms end with the same.
 ghost use Rattle.std.specs.Prelude.{◌≡◌, ◌⊎◌, true, false, List, ℤ, slice_index_or, IfOk};
 ghost use Rattle.iloc_meaning.specs.Address.{is_good};
-ghost use Rattle.iloc_judge.specs.Terms.{Meaning, IsMeaning};
+ghost use Rattle.iloc_judge.specs.Steps.Terms.{Meaning, IsMeaning};
 ghost use Rattle.iloc_judge.specs.Steps.Symbols.{some_bad};
 ghost use Rattle.iloc_judge.specs.Steps.Agreement.{AreMarks, IsSurelyGood, BadThere, Agree};
 

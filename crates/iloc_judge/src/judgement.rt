@@ -1,7 +1,7 @@
 //! Whether two schedules do the same on every memory.
 ghost use Rattle.std.specs.Prelude.{◌≡◌, true, List, ℤ, IfOk};
 ghost use Rattle.iloc_timed.specs.Timed.{timed_outcome};
-ghost use Rattle.iloc_judge.specs.Terms.{IsMemory};
+ghost use Rattle.iloc_judge.specs.Memory.{IsMemory};
 
 use crate::agreement::agree;
 use crate::symbols::Symbols;

@@ -25,7 +25,7 @@ impl Model for Table {
 }
 
 impl Table {
-    ghost use Rattle.iloc_judge.specs.Terms.{IsNode, Means, Adds};
+    ghost use Rattle.iloc_judge.specs.Steps.Terms.{IsNode, Means, Adds};
     ghost use Rattle.iloc_judge.specs.Steps.Order.{IsOrdered};
 
     /// The table without terms.
