@@ -2,17 +2,13 @@
 use Rattle.std.specs.Prelude.{ℕ, ◌+◌, List, [], ◌∷◌, ◌++◌, sum_by, Option, Some, None, ℤ, codes}
 use Rattle.std.specs.List.{flat_map}
 use Rattle.std.specs.Fmt.{decimal, signed_decimal}
-use Rattle.iloc_text.specs.declared.op.Op.{Op}
-use Rattle.iloc_text.specs.declared.op.Op.TheVariants.{Nop}
 use Rattle.iloc_text.specs.declared.file.Block.{Block}
-use Rattle.iloc_text.specs.Spelling.{spelling}
 use Rattle.iloc_meaning.specs.declared.outcome.Outcome.{Outcome}
-use Rattle.iloc_meaning.specs.Trace.{op_at}
 use Rattle.iloc_meaning.specs.Outcome.{shown}
 use Rattle.iloc_timed.specs.declared.latencies.Latencies.{Latencies}
-use Rattle.iloc_timed.specs.declared.row.Row.{Row}
 use Rattle.iloc_timed.specs.Cycles.{cycles}
 use Rattle.iloc_timed.specs.Schedule.{Table}
+use Rattle.iloc_timed.specs.Spelling.{row_line}
 
 -- Blocks
 
@@ -54,16 +50,6 @@ abbrev pub outcomes_listing : List Block → List Outcome → List ℕ
 outcomes_listing blocks outcomes = entries outcome_entry 1 blocks outcomes
 
 -- Schedules
-
--- the operation in a slot, `nop` where it is empty
-abbrev pub op_in : List Op → Option ℕ → Op
-op_in ops None = Nop
-op_in ops (Some i) = op_at ops i
-
--- `[ X ; Y ]`: the operation on unit 0, then that on unit 1
-abbrev pub row_line : List Op → Row → List ℕ
-row_line ops row =
-    codes "[ " ++ spelling (op_in ops row.zero) ++ codes " ; " ++ spelling (op_in ops row.one) ++ codes " ]\n"
 
 abbrev pub cycles_of : Latencies → Table → ℕ
 cycles_of lat s = cycles lat s.ops s.rows

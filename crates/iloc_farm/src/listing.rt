@@ -3,14 +3,14 @@ ghost use Rattle.std.specs.Prelude.{◌≡◌, ◌<◌, ◌^◌, ◌++◌, lengt
 ghost use Rattle.std.specs.Option.{option_copied};
 ghost use Rattle.std.specs.List.{flat_map};
 ghost use Rattle.std.specs.Fmt.{decimal};
-ghost use Rattle.iloc_text.specs.Spelling.{spelling};
 ghost use Rattle.iloc_timed.specs.declared.latencies.Latencies.{Latencies};
+ghost use Rattle.iloc_timed.specs.Spelling.{row_line};
 ghost use Rattle.iloc_farm.specs.Listing as listed;
 ghost use Rattle.iloc_farm.specs.Steps.Detailed.{entry_with, listing_with};
 
 use iloc_meaning::Outcome;
-use iloc_text::{IlocFile, Name, NoMemory, Op, push_number, push_op};
-use iloc_timed::{Latencies, Row, Schedule, cycles};
+use iloc_text::{IlocFile, Name, NoMemory, Op, push_number};
+use iloc_timed::{Latencies, Row, Schedule, cycles, push_row};
 use std::alloc::Global;
 
 /// Appends `block K NAME`, with `-` for a block without a name.
@@ -82,35 +82,14 @@ pub fn outcomes_text(
     Ok(text)
 }
 
-/// Appends the line of a row: `[ X ; Y ]`, with `nop` for an empty slot.
-fn push_row(text: &mut Vec<u8>, ops: &[Op], row: &Row) -> Result<(), NoMemory>
-    ensures { OnOk result (text.new.items ≡ text.old.items ++ listed.row_line ops.now row.now) }
-{
-    text.extend_from_slice(b"[ ")?;
-    push_slot(text, ops, row.zero)?;
-    text.extend_from_slice(b" ; ")?;
-    push_slot(text, ops, row.one)?;
-    text.extend_from_slice(b" ]\n")?;
-    Ok(())
-}
-
-/// Appends the operation in a slot, `nop` for an empty one.
-fn push_slot(text: &mut Vec<u8>, ops: &[Op], slot: Option<usize>) -> Result<(), NoMemory>
-    ensures { OnOk result (text.new.items ≡ text.old.items ++ spelling (listed.op_in ops.now slot)) }
-{
-    match slot.and_then(|i| ops.get(i)) {
-        Some(op) => push_op(text, op),
-        None => push_op(text, &Op::Nop),
-    }
-}
-
 /// Appends a line for each row.
 fn push_rows(text: &mut Vec<u8>, ops: &[Op], rows: &[Row]) -> Result<(), NoMemory>
     ensures { OnOk result
-        (text.new.items ≡ text.old.items ++ flat_map (listed.row_line ops.now) rows.now) }
+        (text.new.items ≡ text.old.items ++ flat_map (row_line ops.now) rows.now) }
 {
     for row in rows {
         push_row(text, ops, row)?;
+        text.push(b'\n')?;
     }
     Ok(())
 }

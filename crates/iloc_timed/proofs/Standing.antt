@@ -9,7 +9,7 @@ use Rattle.std.specs.List.{list_all}
 use Rattle.iloc_text.specs.declared.op.Op.{Op}
 use Rattle.iloc_timed.specs.declared.row.Row.{Row}
 use Rattle.iloc_timed.specs.Rows.{empty_row, row_at, slots, times_issued, keeps_units, AreNumbered, IsTable}
-use Rattle.iloc_timed.specs.Schedule.{in_range, is_sound, AreSound, AreInRange, AreOnce}
+use Rattle.iloc_timed.specs.Schedule.{in_range, AreSound, AreInRange, AreOnce}
 
 each_slot : (n : ℕ) (one zero : Option ℕ) → list_all (λ j. nat_lt j n) (option_to_list one ++ option_to_list zero)
     ≡ true → IfSome one (λ i. i < n) × IfSome zero (λ i. i < n)

@@ -1,6 +1,6 @@
 use Rattle.std.proofs.Common.{◌≡◌, ◌++◌, take}
 use Rattle.std.specs.List.{flat_map}
-use Rattle.iloc_farm.specs.Listing.{row_line}
+use Rattle.iloc_timed.specs.Spelling.{row_line}
 use Rattle.iloc_farm.proofs.listing.push_rows.Given as goal
 
 abbrev pub invariant-loop-row : goal.invariant-loop-row

@@ -1,5 +1,4 @@
-use Rattle.std.proofs.Common.{◌≡◌, ◌+◌, ◌-◌, ◌<◌, ◌≤◌, ℕ, length, max, sym, ap, ◌∙◌, subst, arith}
-use Rattle.iloc_timed.specs.declared.row.Row.{Row}
+use Rattle.std.proofs.Common.{◌≡◌, ◌+◌, ◌-◌, ◌<◌, ◌≤◌, ℕ, length, max, ap, ◌∙◌, subst, arith}
 use Rattle.iloc_timed.specs.Rows.{row_at}
 use Rattle.iloc_timed.proofs.Arrivals.{IsLastFrom, arrival_in, zero_numbered, one_numbered, none_from_end, one_row_more, last_is_cycles}
 use Rattle.iloc_timed.proofs.timing.cycles_of.Goals as goal
