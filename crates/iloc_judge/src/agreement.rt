@@ -34,7 +34,7 @@ fn has_known_bad(table: &Table, addresses: &[u32]) -> bool
 }
 
 /// For each of so many numbers whether it stands in a list.
-fn marks(alloc: Global, numbers: &[u32], count: usize) -> Result<Vec<bool>, NoMemory>
+pub(crate) fn marks(alloc: Global, numbers: &[u32], count: usize) -> Result<Vec<bool>, NoMemory>
     ensures { IfOk result (λ marks. AreMarks numbers.now marks.items) }
 {
     let mut marks = vec![in alloc; false; count]?;
@@ -47,7 +47,7 @@ fn marks(alloc: Global, numbers: &[u32], count: usize) -> Result<Vec<bool>, NoMe
 }
 
 /// Whether a number is marked.
-fn is_marked(marks: &[bool], number: u32) -> bool
+pub(crate) fn is_marked(marks: &[bool], number: u32) -> bool
     ensures { result ≡ slice_index_or marks.now number false }
 {
     marks.get(number as usize).copied().unwrap_or(false)

@@ -45,6 +45,13 @@ impl Table {
         self.nodes.len()
     }
 
+    /// The terms, by their numbers.
+    pub(crate) fn nodes(&self) -> &[Node]
+        ensures { result.now ≡ self.now }
+    {
+        self.nodes.as_slice()
+    }
+
     /// The term with this number.
     pub(crate) fn node(&self, number: u32) -> Option<Node>
         ensures { IfSome result (IsNode self.now number) }
