@@ -287,7 +287,7 @@ fn says_where_rows_differ(rt: HostRuntime) -> Result<(), Fail> {
         got: 81,
         wanted: 0,
     };
-    let cases: [(&[u8], Verdict); 4] = [
+    let cases: [(&[u8], Verdict); 3] = [
         (SQUARE, Verdict::Same),
         (
             b"loadI 4 => r1\nload r1 => r2\nmult r2, r2 => r3\nstore r3 => r1\noutput 4\nloadI 0 => r4\nstore r3 => r4\n",
@@ -296,11 +296,6 @@ fn says_where_rows_differ(rt: HostRuntime) -> Result<(), Fail> {
         (
             b"loadI 4 => r1\nload r1 => r2\nload r2 => r3\noutput 4\n",
             Verdict::Differs(Place::Fault),
-        ),
-        // The product of 9 and 9, but of nothing else.
-        (
-            b"loadI 4 => r1\nload r1 => r2\nmultI r2, 9 => r3\nstore r3 => r1\noutput 4\n",
-            Verdict::Agrees,
         ),
     ];
     for (theirs, expected) in &cases {
@@ -311,5 +306,61 @@ fn says_where_rows_differ(rt: HostRuntime) -> Result<(), Fail> {
         verdict(alloc, b"output 1\n", b"output 8\n", true)?,
         Verdict::Differs(Place::NoFault)
     );
+    Ok(())
+}
+
+/// A block, operations that have its outcome where 9 stands at 4, the address at which a made-up memory
+/// starts, and the place where their outcome on it differs from the block's.
+type Refuted = (&'static [u8], &'static [u8], u32, Place);
+
+const REFUTED: [Refuted; 3] = [
+    // The product of 9 and 9, but of nothing else.
+    (
+        SQUARE,
+        b"loadI 4 => r1\nload r1 => r2\nmultI r2, 9 => r3\nstore r3 => r1\noutput 4\n",
+        4,
+        Place::Output {
+            index: 0,
+            got: Some(9),
+            wanted: Some(1),
+        },
+    ),
+    // Two stores exchanged, of which the first goes where a word of memory says.
+    (
+        b"loadI 8 => r1\nload r1 => r2\nloadI 5 => r3\nstore r3 => r2\nstore r1 => r1\n",
+        b"loadI 8 => r1\nload r1 => r2\nloadI 5 => r3\nstore r1 => r1\nstore r3 => r2\n",
+        8,
+        Place::Word {
+            address: 8,
+            got: 5,
+            wanted: 8,
+        },
+    ),
+    // A load left out that nobody uses, but that faults on some memories.
+    (
+        b"loadI 8 => r1\nload r1 => r2\nload r2 => r3\noutput 8\n",
+        b"loadI 8 => r1\nload r1 => r2\noutput 8\n",
+        8,
+        Place::NoFault,
+    ),
+];
+
+#[test]
+fn refutes_on_made_up_memories(rt: HostRuntime) -> Result<(), Fail> {
+    let alloc = rt.alloc();
+    for (block, theirs, at, place) in REFUTED {
+        let said = verdict(alloc, block, theirs, true)?;
+        let Verdict::DiffersOn(probe, found) = said else {
+            return Err(Fail::from("not refuted"));
+        };
+        assert_eq!(rt; probe.at, at);
+        assert_eq!(rt; found, place);
+    }
+    // Sums in another order are right, though that isn't seen.
+    let sum =
+        b"loadI 4 => r1\nload r1 => r2\nloadAI r1, 4 => r3\nloadAI r1, 8 => r4\nadd r2, r3 => r5\nadd r5, r4 => r6\nstore r6 => r1\n";
+    let other =
+        b"loadI 4 => r1\nload r1 => r2\nloadAI r1, 4 => r3\nloadAI r1, 8 => r4\nadd r3, r4 => r5\nadd r2, r5 => r6\nstore r6 => r1\n";
+    assert_eq!(rt; verdict(alloc, sum, other, true)?, Verdict::Agrees);
     Ok(())
 }

@@ -1,5 +1,4 @@
-pub mod Terms
+pub mod Memory
 pub mod Place
-pub mod Probe
 pub mod Verdict
 pub mod Steps

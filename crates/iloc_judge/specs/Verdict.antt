@@ -9,9 +9,8 @@ use Rattle.iloc_timed.specs.Schedule.{IsFirstBadRow}
 use Rattle.iloc_timed.specs.Timed.{timed_outcome}
 use Rattle.iloc_judge.specs.declared.verdict.Verdict.{Verdict}
 use Rattle.iloc_judge.specs.declared.verdict.Verdict.TheVariants.{Units, Same, Agrees, Differs, DiffersOn}
-use Rattle.iloc_judge.specs.Terms.{IsMemory}
+use Rattle.iloc_judge.specs.Memory.{IsMemory, memory_of}
 use Rattle.iloc_judge.specs.Place.{IsPlace}
-use Rattle.iloc_judge.specs.Probe.{memory_of}
 
 -- on a memory the rows have the block's outcome
 abbrev pub AgreesOn : Latencies → List Op → List Op → List Row → List ℤ → Type 0

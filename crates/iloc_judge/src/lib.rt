@@ -3,11 +3,14 @@
 
 mod action;
 mod agreement;
+mod clues;
 mod judgement;
 mod memories;
 mod node;
+mod pattern;
 mod place;
 mod probe;
+mod refutation;
 mod registers;
 mod symbols;
 mod table;
