@@ -21,7 +21,7 @@ use Rattle.iloc_judge.specs.declared.place.Place.TheVariants.{Output, Word, Faul
 use Rattle.iloc_judge.specs.declared.verdict.Verdict.{Verdict}
 use Rattle.iloc_judge.specs.declared.verdict.Verdict.TheVariants.{Units, Same, Agrees, Differs, DiffersOn}
 use Rattle.iloc_judge.specs.Place.{IsPlace}
-use Rattle.iloc_judge.specs.Probe.{memory_of}
+use Rattle.iloc_judge.specs.Memory.{memory_of}
 use Rattle.iloc_judge.specs.Verdict.{IsVerdict}
 use Rattle.iloc_check.specs.Steps.Counted.{IsCounted, CanBeListed}
 

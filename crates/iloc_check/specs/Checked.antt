@@ -10,7 +10,7 @@ use Rattle.iloc_rows.specs.declared.proposal.Proposal.{Proposal}
 use Rattle.iloc_sched.specs.Least.{least}
 use Rattle.iloc_judge.specs.declared.verdict.Verdict.{Verdict}
 use Rattle.iloc_judge.specs.declared.verdict.Verdict.TheVariants.{Units, Same, Agrees, Differs, DiffersOn}
-use Rattle.iloc_judge.specs.Terms.{IsMemory}
+use Rattle.iloc_judge.specs.Memory.{IsMemory}
 use Rattle.iloc_judge.specs.Verdict.{AgreesOn, IsVerdict}
 use Rattle.iloc_check.specs.declared.checked.Checked.{Checked}
 use Rattle.iloc_check.specs.Listing.{verdict_line, detail}
