@@ -1,28 +1,42 @@
-use crate::written::{Issue, block_of, build};
-use iloc_judge::{Place, Slots, Verdict, judge, number_operations, same};
+ghost use Rattle.std.specs.Prelude.{◌≤◌, vec_len, IfOk};
+ghost use Rattle.iloc_timed.specs.Schedule.{AreOnce};
+
+use crate::written::{Issue, block_of, build, rows_of};
+use iloc_judge::{Place, Verdict, judge, same};
 use iloc_meaning::Memory;
 use iloc_sched::schedule;
 use iloc_text::Op;
-use iloc_timed::{Latencies, MAX_ROWS, Schedule};
+use iloc_timed::{Latencies, MAX_ROWS, Row, Schedule};
 use std::alloc::Global;
 use std::process::Abort;
 use std::test::Fail;
 
-/// The schedule in which the operations of a text stand on their own units, one in a cycle, so many cycles
-/// apart.
-fn spread(alloc: Global, text: &[u8], apart: usize) -> Result<Schedule, Fail> {
-    let block = block_of(alloc, text)?;
+/// Operations one in a cycle, so many cycles apart: products on unit 1 or all on unit 0, the rest on unit 0.
+fn issues_of(
+    alloc: Global,
+    ops: &[Op],
+    apart: usize,
+    products_on_one: bool,
+) -> Result<Vec<Issue>, Fail> {
     let mut issues = Vec::new(alloc);
-    for (i, op) in block.ops.as_slice().iter().enumerate() {
+    for (i, op) in ops.iter().enumerate() {
         let cycle = i.wrapping_mul(apart);
         let is_product = matches!(op, Op::Mult { .. } | Op::MultI { .. });
-        let issue: Issue = if is_product {
+        let issue: Issue = if is_product && products_on_one {
             (cycle, None, Some(i))
         } else {
             (cycle, Some(i), None)
         };
         issues.push(issue)?;
     }
+    Ok(issues)
+}
+
+/// The schedule in which the operations of a text stand on their own units, one in a cycle, so many cycles
+/// apart.
+fn spread(alloc: Global, text: &[u8], apart: usize) -> Result<Schedule, Fail> {
+    let block = block_of(alloc, text)?;
+    let issues = issues_of(alloc, block.ops.as_slice(), apart, true)?;
     Ok(build(alloc, block.ops.as_slice(), &issues)?)
 }
 
@@ -191,6 +205,18 @@ fn knows_wrong_ones(rt: HostRuntime) -> Result<(), Fail> {
     Ok(())
 }
 
+/// The rows of these issues, if each of so many operations stands in a slot of its own there.
+fn rows_with_each(alloc: Global, count: usize, issues: &[Issue]) -> Result<Vec<Row>, Fail>
+    ensures once { IfOk result (λ rows. AreOnce count rows.items) }
+    ensures few { IfOk result (λ rows. vec_len rows ≤ MAX_ROWS) }
+{
+    let mut rows = rows_of(alloc, issues)?;
+    rows.truncate(MAX_ROWS);
+    let any_unit = vec![in alloc; Op::Nop; count]?;
+    let (_, rows) = Schedule::new(alloc, any_unit, rows)?.into_parts();
+    Ok(rows)
+}
+
 /// What is said of the operations of a text as rows for a block, six cycles apart, products on unit 1 or
 /// all on unit 0, where 9 stands at 4 and else 0.
 fn verdict(
@@ -202,32 +228,19 @@ fn verdict(
     let latencies = Latencies::usual();
     let block = block_of(alloc, block)?;
     let ours = schedule(alloc, &block, &latencies)?;
-    let mut listing = Vec::new(alloc);
-    for op in block_of(alloc, theirs)?.ops.as_slice() {
-        let is_product = matches!(op, Op::Mult { .. } | Op::MultI { .. });
-        listing.push(if is_product && products_on_one {
-            Slots {
-                zero: Op::Nop,
-                one: *op,
-            }
-        } else {
-            Slots {
-                zero: *op,
-                one: Op::Nop,
-            }
-        })?;
-        for _ in 0..5 {
-            listing.push(Slots {
-                zero: Op::Nop,
-                one: Op::Nop,
-            })?;
-        }
-    }
-    let made = number_operations(alloc, &listing[..listing.len().min(MAX_ROWS)])?;
+    let ops = block_of(alloc, theirs)?.ops;
+    let issues = issues_of(alloc, ops.as_slice(), 6, products_on_one)?;
+    let rows = rows_with_each(alloc, ops.len(), &issues)?;
     let mut memory = Memory::zero(alloc)?;
     memory.set(4, 9);
     Ok(judge(
-        alloc, &block, &ours, made.ops, made.rows, &latencies, &memory,
+        alloc,
+        &block,
+        &ours,
+        ops.into_vec(),
+        rows,
+        &latencies,
+        &memory,
     )?)
 }
 
@@ -274,7 +287,7 @@ fn says_where_rows_differ(rt: HostRuntime) -> Result<(), Fail> {
         got: 81,
         wanted: 0,
     };
-    let cases: [(&[u8], Verdict); 4] = [
+    let cases: [(&[u8], Verdict); 3] = [
         (SQUARE, Verdict::Same),
         (
             b"loadI 4 => r1\nload r1 => r2\nmult r2, r2 => r3\nstore r3 => r1\noutput 4\nloadI 0 => r4\nstore r3 => r4\n",
@@ -283,11 +296,6 @@ fn says_where_rows_differ(rt: HostRuntime) -> Result<(), Fail> {
         (
             b"loadI 4 => r1\nload r1 => r2\nload r2 => r3\noutput 4\n",
             Verdict::Differs(Place::Fault),
-        ),
-        // The product of 9 and 9, but of nothing else.
-        (
-            b"loadI 4 => r1\nload r1 => r2\nmultI r2, 9 => r3\nstore r3 => r1\noutput 4\n",
-            Verdict::Agrees,
         ),
     ];
     for (theirs, expected) in &cases {
@@ -298,5 +306,61 @@ fn says_where_rows_differ(rt: HostRuntime) -> Result<(), Fail> {
         verdict(alloc, b"output 1\n", b"output 8\n", true)?,
         Verdict::Differs(Place::NoFault)
     );
+    Ok(())
+}
+
+/// A block, operations that have its outcome where 9 stands at 4, the address at which a made-up memory
+/// starts, and the place where their outcome on it differs from the block's.
+type Refuted = (&'static [u8], &'static [u8], u32, Place);
+
+const REFUTED: [Refuted; 3] = [
+    // The product of 9 and 9, but of nothing else.
+    (
+        SQUARE,
+        b"loadI 4 => r1\nload r1 => r2\nmultI r2, 9 => r3\nstore r3 => r1\noutput 4\n",
+        4,
+        Place::Output {
+            index: 0,
+            got: Some(9),
+            wanted: Some(1),
+        },
+    ),
+    // Two stores exchanged, of which the first goes where a word of memory says.
+    (
+        b"loadI 8 => r1\nload r1 => r2\nloadI 5 => r3\nstore r3 => r2\nstore r1 => r1\n",
+        b"loadI 8 => r1\nload r1 => r2\nloadI 5 => r3\nstore r1 => r1\nstore r3 => r2\n",
+        8,
+        Place::Word {
+            address: 8,
+            got: 5,
+            wanted: 8,
+        },
+    ),
+    // A load left out that nobody uses, but that faults on some memories.
+    (
+        b"loadI 8 => r1\nload r1 => r2\nload r2 => r3\noutput 8\n",
+        b"loadI 8 => r1\nload r1 => r2\noutput 8\n",
+        8,
+        Place::NoFault,
+    ),
+];
+
+#[test]
+fn refutes_on_made_up_memories(rt: HostRuntime) -> Result<(), Fail> {
+    let alloc = rt.alloc();
+    for (block, theirs, at, place) in REFUTED {
+        let said = verdict(alloc, block, theirs, true)?;
+        let Verdict::DiffersOn(probe, found) = said else {
+            return Err(Fail::from("not refuted"));
+        };
+        assert_eq!(rt; probe.at, at);
+        assert_eq!(rt; found, place);
+    }
+    // Sums in another order are right, though that isn't seen.
+    let sum =
+        b"loadI 4 => r1\nload r1 => r2\nloadAI r1, 4 => r3\nloadAI r1, 8 => r4\nadd r2, r3 => r5\nadd r5, r4 => r6\nstore r6 => r1\n";
+    let other =
+        b"loadI 4 => r1\nload r1 => r2\nloadAI r1, 4 => r3\nloadAI r1, 8 => r4\nadd r3, r4 => r5\nadd r2, r5 => r6\nstore r6 => r1\n";
+    assert_eq!(rt; verdict(alloc, sum, other, true)?, Verdict::Agrees);
     Ok(())
 }

@@ -3,7 +3,7 @@ use Rattle.std.proofs.Common.{◌≡◌, ℤ, pos, ◌+ℤ◌, ◌-ℤ◌, FitsS
 use Rattle.std.specs.Int.{cast_signed, cast_unsigned}
 use Rattle.std.proofs.lemmas.Int.{int_wrap_fits, int_wrap-add_left, int_wrap-add_right, to_z-of_z, SFits-int_wrap, ints}
 use Rattle.iloc_meaning.specs.Arithmetic.{wrapped}
-use Rattle.iloc_judge.specs.Terms.{key_of}
+use Rattle.iloc_judge.specs.Steps.Terms.{key_of}
 
 -- what is above a base by c has the key c
 pub key_of_sum : (base c a : ℤ) → FitsSigned w32 c → a ≡ wrapped (base +ℤ c) → key_of base a ≡ cast_unsigned w32 c

@@ -9,7 +9,7 @@ use Rattle.std.proofs.lemmas.Bool.Decides.{Decides-int_eq}
 use Rattle.iloc_meaning.proofs.Cases.{by_bool}
 use Rattle.iloc_judge.specs.declared.node.Node.{Node}
 use Rattle.iloc_judge.specs.declared.node.Node.TheVariants.{Epoch}
-use Rattle.iloc_judge.specs.Terms.{Meaning, IsMeaning, IsNode, base_word, key_of, ArePartsOf, IsLocationOf}
+use Rattle.iloc_judge.specs.Steps.Terms.{Meaning, IsMeaning, IsNode, base_word, key_of, ArePartsOf, IsLocationOf}
 use Rattle.iloc_judge.proofs.Arithmetic.{key_of_sum, key_of_other}
 use Rattle.iloc_judge.proofs.Nodes.{node_means}
 

@@ -9,4 +9,3 @@ pub mod Marks
 pub mod Meanings
 pub mod Ending
 pub mod Places
-pub mod Numbers

@@ -5,7 +5,7 @@ use Rattle.std.proofs.lemmas.Bool.{eqb-true, or_cases, or_right}
 use Rattle.std.proofs.lemmas.List.Folds.{list_any_more}
 use Rattle.iloc_meaning.specs.Address.{is_good}
 use Rattle.iloc_judge.specs.declared.node.Node.{Node}
-use Rattle.iloc_judge.specs.Terms.{Meaning}
+use Rattle.iloc_judge.specs.Steps.Terms.{Meaning}
 use Rattle.iloc_judge.specs.Steps.Symbols.{some_bad}
 use Rattle.iloc_judge.specs.Steps.Agreement.{is_in, AreMarks, IsSurelyGood, BadThere}
 

@@ -17,7 +17,8 @@ use Rattle.iloc_judge.specs.declared.node.Binary.{Binary}
 use Rattle.iloc_judge.specs.declared.node.Binary.TheVariants.{Sum, Difference, Product, ShiftLeft, ShiftRight}
 use Rattle.iloc_judge.specs.declared.node.Node.{Node}
 use Rattle.iloc_judge.specs.declared.node.Node.TheVariants.{Known, Offset, Scaled, Combined, Word, Start, Epoch, Empty, Leaf, Fork}
-use Rattle.iloc_judge.specs.Terms.{Meaning, IsMeaning, IsMemory, Means, node_at, base_word, key_of, computed, word_or_zero}
+use Rattle.iloc_judge.specs.Memory.{IsMemory}
+use Rattle.iloc_judge.specs.Steps.Terms.{Meaning, IsMeaning, Means, node_at, base_word, key_of, computed, word_or_zero}
 use Rattle.iloc_judge.specs.Steps.Order.{names_below, base_below, IsOrdered}
 
 -- what one term means, as it goes by those before it

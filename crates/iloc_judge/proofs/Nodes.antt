@@ -3,7 +3,7 @@ use Rattle.std.proofs.Common.{◌≡◌, ℕ, ◌==◌, true, false, List, ℤ, 
 use Rattle.std.proofs.lemmas.Bool.{eqb-true}
 use Rattle.iloc_judge.specs.declared.node.Node.{Node}
 use Rattle.iloc_judge.specs.declared.node.Node.TheVariants.{Empty, Leaf}
-use Rattle.iloc_judge.specs.Terms.{Meaning, IsMeaning, IsNode, Means, HasNoOther}
+use Rattle.iloc_judge.specs.Steps.Terms.{Meaning, IsMeaning, IsNode, Means, HasNoOther}
 
 -- a term of the table means what it says
 pub node_means : (memory : List ℤ) (nodes : List Node) (d : Meaning) (k : ℕ) (node : Node) → IsMeaning memory nodes d

@@ -15,7 +15,7 @@ use Rattle.iloc_timed.specs.Steps.Machine.{AllLand, then_issued}
 use Rattle.iloc_timed.proofs.Landing.{landed_all}
 use Rattle.iloc_timed.proofs.WholeRuns.{slot_issued, row_more}
 use Rattle.iloc_judge.specs.declared.symbols.Symbols.{Symbols}
-use Rattle.iloc_judge.specs.Terms.{Meaning}
+use Rattle.iloc_judge.specs.Steps.Terms.{Meaning}
 use Rattle.iloc_judge.specs.Steps.Tracking.{Tracks, Keeps, Stands, Ends}
 
 -- what follows where a call answered

@@ -26,7 +26,7 @@ use Rattle.iloc_judge.specs.declared.wheel.Sent.TheVariants as S
 use Rattle.iloc_judge.specs.declared.action.Action.{Action}
 use Rattle.iloc_judge.specs.declared.action.Action.TheVariants.{Gives, Loads, Stores, Emits, Nothing}
 use Rattle.iloc_judge.specs.declared.symbols.Symbols.{Symbols}
-use Rattle.iloc_judge.specs.Terms.{Meaning}
+use Rattle.iloc_judge.specs.Steps.Terms.{Meaning}
 use Rattle.iloc_judge.specs.Steps.Symbols.{number_in, sent_at, address_of, meant, effect_of, some_bad, HasLanded}
 use Rattle.iloc_judge.specs.Steps.Tracking.{Keeps, address_in, emitted_in, sent_in, with_sent, Records}
 

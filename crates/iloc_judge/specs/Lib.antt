@@ -1,5 +1,4 @@
-pub mod Terms
-pub mod Slots
+pub mod Memory
 pub mod Place
 pub mod Verdict
 pub mod Steps

@@ -22,20 +22,6 @@ pub record IsLowestWord (gots wanteds : List ℤ) (address : ℕ) (got wanted : 
   pub apart : got ≢ wanted
   pub others : (a : ℕ) → a < address → word_at gots a ≡ word_at wanteds a
 
--- the place is the first output that differs
-abbrev pub IsOutput : List ℤ → List ℤ → Place → Type 0
-IsOutput gots wanteds (Output index got wanted) = IsFirstOutput gots wanteds index got wanted
-IsOutput gots wanteds (Word address got wanted) = ⊥
-IsOutput gots wanteds Fault = ⊥
-IsOutput gots wanteds NoFault = ⊥
-
--- the place is the lowest word that differs
-abbrev pub IsWord : List ℤ → List ℤ → Place → Type 0
-IsWord gots wanteds (Output index got wanted) = ⊥
-IsWord gots wanteds (Word address got wanted) = IsLowestWord gots wanteds address got wanted
-IsWord gots wanteds Fault = ⊥
-IsWord gots wanteds NoFault = ⊥
-
 -- the place is the first output that differs, or else the lowest word
 abbrev pub IsIn : List ℤ → List ℤ → List ℤ → List ℤ → Place → Type 0
 IsIn outputs memory wanteds wanted_memory (Output index got wanted) =

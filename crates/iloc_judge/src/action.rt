@@ -3,7 +3,7 @@ ghost use Rattle.std.specs.Prelude.{◌≡◌, pos, IfOk};
 ghost use Rattle.iloc_meaning.specs.declared.effect.Effect.TheVariants as E;
 ghost use Rattle.iloc_meaning.specs.Address.{good_address};
 ghost use Rattle.iloc_meaning.specs.Effect.{effect, at_address};
-ghost use Rattle.iloc_judge.specs.Terms.{Adds, Meaning};
+ghost use Rattle.iloc_judge.specs.Steps.Terms.{Adds, Meaning};
 ghost use Rattle.iloc_judge.specs.Steps.Symbols.{number_in, effect_of};
 
 use crate::registers::Registers;

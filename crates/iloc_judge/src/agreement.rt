@@ -1,7 +1,7 @@
 //! Whether two runs in terms end with the same.
 ghost use Rattle.std.specs.Prelude.{◌≡◌, ◌⊎◌, true, false, List, ℤ, slice_index_or, IfOk};
 ghost use Rattle.iloc_meaning.specs.Address.{is_good};
-ghost use Rattle.iloc_judge.specs.Terms.{Meaning, IsMeaning};
+ghost use Rattle.iloc_judge.specs.Steps.Terms.{Meaning, IsMeaning};
 ghost use Rattle.iloc_judge.specs.Steps.Symbols.{some_bad};
 ghost use Rattle.iloc_judge.specs.Steps.Agreement.{AreMarks, IsSurelyGood, BadThere, Agree};
 
@@ -34,7 +34,7 @@ fn has_known_bad(table: &Table, addresses: &[u32]) -> bool
 }
 
 /// For each of so many numbers whether it stands in a list.
-fn marks(alloc: Global, numbers: &[u32], count: usize) -> Result<Vec<bool>, NoMemory>
+pub(crate) fn marks(alloc: Global, numbers: &[u32], count: usize) -> Result<Vec<bool>, NoMemory>
     ensures { IfOk result (λ marks. AreMarks numbers.now marks.items) }
 {
     let mut marks = vec![in alloc; false; count]?;
@@ -47,7 +47,7 @@ fn marks(alloc: Global, numbers: &[u32], count: usize) -> Result<Vec<bool>, NoMe
 }
 
 /// Whether a number is marked.
-fn is_marked(marks: &[bool], number: u32) -> bool
+pub(crate) fn is_marked(marks: &[bool], number: u32) -> bool
     ensures { result ≡ slice_index_or marks.now number false }
 {
     marks.get(number as usize).copied().unwrap_or(false)

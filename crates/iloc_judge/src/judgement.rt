@@ -1,14 +1,36 @@
 //! Whether two schedules do the same on every memory.
-ghost use Rattle.std.specs.Prelude.{◌≡◌, true, List, ℤ, IfOk};
+ghost use Rattle.std.specs.Prelude.{◌≡◌, true, List, ℤ, IfOk, Option, None};
 ghost use Rattle.iloc_timed.specs.Timed.{timed_outcome};
-ghost use Rattle.iloc_judge.specs.Terms.{IsMemory};
+ghost use Rattle.iloc_judge.specs.Memory.{IsMemory};
 
 use crate::agreement::agree;
+use crate::clues::Clues;
 use crate::symbols::Symbols;
 use crate::table::Table;
 use iloc_text::NoMemory;
 use iloc_timed::{Latencies, Schedule};
 use std::alloc::Global;
+
+/// Nothing where two schedules are seen to do the same: their timed outcomes are equal on every memory of
+/// 16,384 words of 32 bits. Else what their runs mention.
+pub(crate) fn clues(
+    alloc: Global,
+    ours: &Schedule,
+    theirs: &Schedule,
+    latencies: &Latencies,
+) -> Result<Option<Clues>, NoMemory>
+    ensures { IfOk result (λ clues. clues ≡ None → (memory : List ℤ) → IsMemory memory
+        → timed_outcome latencies.now ours.now.ops ours.now.rows memory
+        ≡ timed_outcome latencies.now theirs.now.ops theirs.now.rows memory) }
+{
+    let mut table = Table::new(alloc);
+    let one = Symbols::of(alloc, &mut table, ours, latencies)?;
+    let other = Symbols::of(alloc, &mut table, theirs, latencies)?;
+    if table.is_ordered() && agree(alloc, &table, &one, &other)? {
+        return Ok(None);
+    }
+    Ok(Some(Clues::of(alloc, &table, &one.addresses, &other.addresses)?))
+}
 
 /// Whether two schedules are seen to do the same: where it answers `true`, their timed outcomes are equal
 /// on every memory of 16,384 words of 32 bits. Of `false` nothing follows.
@@ -22,11 +44,5 @@ pub fn same(
         → timed_outcome latencies.now ours.now.ops ours.now.rows memory
         ≡ timed_outcome latencies.now theirs.now.ops theirs.now.rows memory) }
 {
-    let mut table = Table::new(alloc);
-    let one = Symbols::of(alloc, &mut table, ours, latencies)?;
-    let other = Symbols::of(alloc, &mut table, theirs, latencies)?;
-    if !table.is_ordered() {
-        return Ok(false);
-    }
-    agree(alloc, &table, &one, &other)
+    Ok(clues(alloc, ours, theirs, latencies)?.is_none())
 }

@@ -3,12 +3,15 @@
 
 mod action;
 mod agreement;
+mod clues;
 mod judgement;
 mod memories;
 mod node;
+mod pattern;
 mod place;
+mod probe;
+mod refutation;
 mod registers;
-mod slots;
 mod symbols;
 mod table;
 mod tries;
@@ -18,5 +21,5 @@ mod words;
 
 pub use judgement::same;
 pub use place::Place;
-pub use slots::{Numbered, Slots, number_operations};
+pub use probe::Probe;
 pub use verdict::{Verdict, judge};

@@ -1,7 +1,7 @@
 //! The memories of a table: the memory handed in, and epochs of writes whose addresses have one base.
 ghost use Rattle.std.specs.Prelude.{◌≡◌, List, ℤ, FitsSigned, IfOk};
 ghost use Rattle.std.specs.Int.{w32};
-ghost use Rattle.iloc_judge.specs.Terms.{Adds, Meaning, IsMeaning, IsWritten, IsSeen, IsLocationOf, word_or_zero, with_word};
+ghost use Rattle.iloc_judge.specs.Steps.Terms.{Adds, Meaning, IsMeaning, IsWritten, IsSeen, IsLocationOf, word_or_zero, with_word};
 
 use crate::node::Node;
 use crate::table::Table;

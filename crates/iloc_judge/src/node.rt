@@ -2,7 +2,7 @@
 ghost use Rattle.std.specs.Prelude.{◌≡◌};
 
 /// An operation on two words.
-#[derive(Clone, Copy, Debug, PartialEq, Eq, PartialOrd, Ord)]
+#[derive(Clone, Copy, Debug, PartialEq, Eq)]
 pub(crate) enum Binary {
     /// The sum, wrapped to 32 bits.
     Sum,
@@ -18,7 +18,7 @@ pub(crate) enum Binary {
 
 /// A term: a word, a memory, or a trie, which has words at some keys. A term names others by their
 /// numbers in a table.
-#[derive(Clone, Copy, Debug, PartialEq, Eq, PartialOrd, Ord)]
+#[derive(Clone, Copy, Debug, PartialEq, Eq)]
 pub(crate) enum Node {
     /// This word.
     Known(i32),
@@ -66,6 +66,27 @@ pub(crate) enum Node {
     },
 }
 
+/// Four numbers in one, the first of them above the others.
+fn joined(first: u32, second: u32, third: u32, fourth: u32) -> u128 {
+    u128::from(first) << 96
+        | u128::from(second) << 64
+        | u128::from(third) << 32
+        | u128::from(fourth)
+}
+
+impl Binary {
+    /// Its part of the key of a term, another one for each operation.
+    fn key(self) -> u32 {
+        match self {
+            Binary::Sum => 0,
+            Binary::Difference => 1,
+            Binary::Product => 2,
+            Binary::ShiftLeft => 3,
+            Binary::ShiftRight => 4,
+        }
+    }
+}
+
 impl Node {
     ghost use Rattle.iloc_judge.specs.Steps.Order.{names_below};
 
@@ -85,6 +106,32 @@ impl Node {
                 && below(trie),
             Node::Leaf { value, .. } => below(value),
             Node::Fork { even, odd } => below(even) && below(odd),
+        }
+    }
+
+    /// A number by which terms are kept in order, another one for each term: two numbers are compared at
+    /// once, two terms field by field.
+    pub(crate) fn key(&self) -> u128 {
+        match *self {
+            Node::Known(word) => joined(0, 0, 0, word.cast_unsigned()),
+            Node::Offset { base, constant } => joined(1, base, 0, constant.cast_unsigned()),
+            Node::Scaled { factor, by } => joined(2, factor, 0, by.cast_unsigned()),
+            Node::Combined { by, left, right } => joined(3, by.key(), left, right),
+            Node::Word { address, memory } => joined(4, address, 0, memory),
+            Node::Start => joined(5, 0, 0, 0),
+            Node::Epoch {
+                memory,
+                base: None,
+                trie,
+            } => joined(6, 0, memory, trie),
+            Node::Epoch {
+                memory,
+                base: Some(base),
+                trie,
+            } => joined(7, base, memory, trie),
+            Node::Empty => joined(8, 0, 0, 0),
+            Node::Leaf { at, value } => joined(9, at, 0, value),
+            Node::Fork { even, odd } => joined(10, even, 0, odd),
         }
     }
 }

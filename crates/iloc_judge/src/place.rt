@@ -1,6 +1,7 @@
 //! Where two outcomes differ.
 ghost use Rattle.std.specs.Prelude.{ℕ, ◌≡◌, MatchOption};
-ghost use Rattle.iloc_judge.specs.Place.{IsPlace, IsOutput, IsWord};
+ghost use Rattle.iloc_judge.specs.Place.{IsPlace};
+ghost use Rattle.iloc_judge.specs.Steps.Place.{IsOutput, IsWord};
 
 use iloc_meaning::{Memory, Outcome};
 

@@ -17,7 +17,7 @@ pub(crate) struct Registers {
 impl Registers {
     ghost use Rattle.std.specs.Prelude.{◌≢◌, pos};
     ghost use Rattle.iloc_text.specs.declared.op.Reg.{Reg as Register};
-    ghost use Rattle.iloc_judge.specs.Terms.{Adds};
+    ghost use Rattle.iloc_judge.specs.Steps.Terms.{Adds};
     ghost use Rattle.iloc_judge.specs.Steps.Symbols.{number_in, ChangesOnly};
 
     /// All registers 0.

@@ -3,7 +3,7 @@ ghost use Rattle.std.specs.Prelude.{◌≡◌, ◌+◌, ◌<◌, ◌≤◌, ◌�
 ghost use Rattle.iloc_timed.specs.Timed.{Issued, issue_all, issued_before};
 ghost use Rattle.iloc_timed.specs.Rows.{slots};
 ghost use Rattle.iloc_timed.specs.Steps.Machine.{then_issued};
-ghost use Rattle.iloc_judge.specs.Terms.{Adds};
+ghost use Rattle.iloc_judge.specs.Steps.Terms.{Adds};
 ghost use Rattle.iloc_judge.specs.Steps.Symbols.{HasLanded};
 
 use crate::action::Action;

@@ -11,8 +11,8 @@ use std::marker::Model;
 #[derive(Drop)]
 pub(crate) struct Table {
     nodes: Vec<Node>,
-    // Where each term stands. It is a hint: whoever asks looks whether it does.
-    numbers: BTreeMap<Node, u32>,
+    // Where each term stands, by its key. It is a hint: whoever asks looks whether it does.
+    numbers: BTreeMap<u128, u32>,
 }
 
 impl Model for Table {
@@ -25,7 +25,7 @@ impl Model for Table {
 }
 
 impl Table {
-    ghost use Rattle.iloc_judge.specs.Terms.{IsNode, Means, Adds};
+    ghost use Rattle.iloc_judge.specs.Steps.Terms.{IsNode, Means, Adds};
     ghost use Rattle.iloc_judge.specs.Steps.Order.{IsOrdered};
 
     /// The table without terms.
@@ -45,6 +45,13 @@ impl Table {
         self.nodes.len()
     }
 
+    /// The terms, by their numbers.
+    pub(crate) fn nodes(&self) -> &[Node]
+        ensures { result.now ≡ self.now }
+    {
+        self.nodes.as_slice()
+    }
+
     /// The term with this number.
     pub(crate) fn node(&self, number: u32) -> Option<Node>
         ensures { IfSome result (IsNode self.now number) }
@@ -59,7 +66,7 @@ impl Table {
         let Ok(next) = u32::try_from(self.nodes.len()) else {
             return Err(NoMemory);
         };
-        let number = *self.numbers.entry(node)?.or_insert(next);
+        let number = *self.numbers.entry(node.key())?.or_insert(next);
         if self.node(number) == Some(node) {
             return Ok(number);
         }

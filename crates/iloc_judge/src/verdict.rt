@@ -1,20 +1,21 @@
 //! What is said of somebody's rows for a block.
-ghost use Rattle.std.specs.Prelude.{ℕ, ◌≡◌, ◌≤◌, List, ℤ, length, vec_len, MatchOption, IfOk};
+ghost use Rattle.std.specs.Prelude.{◌≡◌, ◌≤◌, List, ℤ, length, vec_len, IfOk};
 ghost use Rattle.iloc_meaning.specs.Outcome.{outcome};
 ghost use Rattle.iloc_timed.specs.Schedule.{AreOnce};
 ghost use Rattle.iloc_timed.specs.Timed.{timed_outcome};
-ghost use Rattle.iloc_judge.specs.Place.{IsPlace};
 ghost use Rattle.iloc_judge.specs.Verdict.{IsVerdict};
 
-use crate::judgement::same;
-use crate::place::{Place, difference};
-use iloc_meaning::{Memory, run_block};
+use crate::judgement::clues;
+use crate::place::Place;
+use crate::probe::Probe;
+use crate::refutation::{Refutation, difference_on, refute};
+use iloc_meaning::Memory;
 use iloc_text::{Block, NoMemory, Op};
-use iloc_timed::{BuildFault, Latencies, MAX_ROWS, Row, Schedule, run_schedule};
+use iloc_timed::{BuildFault, Latencies, MAX_ROWS, Row, Schedule};
 use std::alloc::Global;
 
 /// What is said of somebody's rows for a block.
-#[derive(Clone, Copy, Debug, PartialEq, Eq)]
+#[derive(Debug, Drop, PartialEq, Eq)]
 pub enum Verdict {
     /// This row, from 0, is the first that breaks the rules of the units.
     Units(usize),
@@ -24,29 +25,15 @@ pub enum Verdict {
     Agrees,
     /// On the memory handed in their outcome differs from the block's, there.
     Differs(Place),
-}
-
-/// Where a schedule's outcome on a memory differs from a block's.
-fn difference_on(
-    alloc: Global,
-    block: &Block,
-    schedule: &Schedule,
-    latencies: &Latencies,
-    memory: &Memory,
-) -> Result<Option<Place>, NoMemory>
-    ensures { IfOk result (λ found. MatchOption found
-        (timed_outcome latencies.now schedule.now.ops schedule.now.rows memory.now ≡ outcome block.now.ops memory.now)
-        (IsPlace (timed_outcome latencies.now schedule.now.ops schedule.now.rows memory.now)
-        (outcome block.now.ops memory.now))) }
-{
-    let wanted = run_block(alloc, block, memory.copy()?)?;
-    let got = run_schedule(alloc, schedule, latencies, memory.copy()?)?;
-    Ok(difference(&got, &wanted))
+    /// On the memory handed in they have it, but on this one, which is made up, their outcome differs from
+    /// the block's, there.
+    DiffersOn(Probe, Place),
 }
 
 /// Judges somebody's operations and rows for a block, each operation in a slot of its own. Our schedule of
-/// the block, which has the block's outcome on every memory, is what they are compared with. That no
-/// difference was found doesn't mean that there is none: only `Verdict::Same` does.
+/// the block, which has the block's outcome on every memory, is what they are compared with. Where that
+/// doesn't show them right, they are run on the memory handed in, and then on a few that are made up. That
+/// no difference was found doesn't mean that there is none: only `Verdict::Same` does.
 pub fn judge(
     alloc: Global,
     block: &Block,
@@ -68,11 +55,14 @@ pub fn judge(
         Err(BuildFault::NotOnce(_)) => unreachable!(),
         Err(BuildFault::NoMemory) => return Err(NoMemory),
     };
-    if same(alloc, ours, &theirs, latencies)? {
+    let Some(clues) = clues(alloc, ours, &theirs, latencies)? else {
         return Ok(Verdict::Same);
+    };
+    if let Some(place) = difference_on(alloc, block, &theirs, latencies, memory)? {
+        return Ok(Verdict::Differs(place));
     }
-    match difference_on(alloc, block, &theirs, latencies, memory)? {
-        Some(place) => Ok(Verdict::Differs(place)),
+    match refute(alloc, block, &theirs, latencies, &clues)? {
+        Some(Refutation { probe, place }) => Ok(Verdict::DiffersOn(probe, place)),
         None => Ok(Verdict::Agrees),
     }
 }

@@ -2,7 +2,7 @@
 //! and its multiples one is named; sums and products name the lower number first.
 ghost use Rattle.std.specs.Prelude.{◌≡◌, List, ℤ, ◌+ℤ◌, ◌-ℤ◌, ◌*ℤ◌, IfOk, IfSome};
 ghost use Rattle.iloc_meaning.specs.Arithmetic.{wrapped, shifted_left, shifted_right};
-ghost use Rattle.iloc_judge.specs.Terms.{computed, Adds, Meaning, IsMeaning, ArePartsOf, IsMultipleOf};
+ghost use Rattle.iloc_judge.specs.Steps.Terms.{computed, Adds, Meaning, IsMeaning, ArePartsOf, IsMultipleOf};
 
 use crate::node::{Binary, Node};
 use crate::table::Table;

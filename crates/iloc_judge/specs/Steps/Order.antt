@@ -2,7 +2,7 @@
 use Rattle.std.specs.Prelude.{ℕ, ◌≡◌, ◌<◌, ◌&&◌, nat_lt, Bool, true, List, length, Option, Some, None}
 use Rattle.iloc_judge.specs.declared.node.Node.{Node}
 use Rattle.iloc_judge.specs.declared.node.Node.TheVariants.{Known, Offset, Scaled, Combined, Word, Start, Epoch, Empty, Leaf, Fork}
-use Rattle.iloc_judge.specs.Terms.{node_at}
+use Rattle.iloc_judge.specs.Steps.Terms.{node_at}
 
 -- whether a base is below k, if there is one
 abbrev pub base_below : ℕ → Option ℕ → Bool

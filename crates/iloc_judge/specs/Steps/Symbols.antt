@@ -16,7 +16,7 @@ use Rattle.iloc_judge.specs.declared.wheel.Sent.{Sent}
 use Rattle.iloc_judge.specs.declared.wheel.Sent.TheVariants.{Register, Word}
 use Rattle.iloc_judge.specs.declared.action.Action.{Action}
 use Rattle.iloc_judge.specs.declared.action.Action.TheVariants.{Gives, Loads, Stores, Emits, Nothing}
-use Rattle.iloc_judge.specs.Terms.{Meaning}
+use Rattle.iloc_judge.specs.Steps.Terms.{Meaning}
 
 -- the number of the term in register r
 abbrev pub number_in : Registers → Reg → ℕ

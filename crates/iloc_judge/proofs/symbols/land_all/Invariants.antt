@@ -1,5 +1,5 @@
 use Rattle.std.proofs.Common.{take}
-use Rattle.iloc_judge.specs.Terms.{Adds}
+use Rattle.iloc_judge.specs.Steps.Terms.{Adds}
 use Rattle.iloc_judge.specs.Steps.Symbols.{HasLanded}
 use Rattle.iloc_judge.proofs.symbols.land_all.Given as goal
 

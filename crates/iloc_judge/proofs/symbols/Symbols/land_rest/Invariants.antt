@@ -1,6 +1,6 @@
 use Rattle.std.proofs.Common.{List}
 use Rattle.iloc_timed.specs.Timed.{Issued}
-use Rattle.iloc_judge.specs.Terms.{Adds}
+use Rattle.iloc_judge.specs.Steps.Terms.{Adds}
 use Rattle.iloc_judge.specs.Steps.Tracking.{Keeps}
 use Rattle.iloc_judge.proofs.symbols.Symbols.land_rest.Given as goal
 

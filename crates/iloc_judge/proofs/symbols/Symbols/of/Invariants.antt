@@ -1,5 +1,5 @@
 use Rattle.iloc_timed.specs.Timed.{issued_before}
-use Rattle.iloc_judge.specs.Terms.{Adds}
+use Rattle.iloc_judge.specs.Steps.Terms.{Adds}
 use Rattle.iloc_judge.specs.Steps.Tracking.{Keeps}
 use Rattle.iloc_judge.proofs.symbols.Symbols.of.Given as goal
 

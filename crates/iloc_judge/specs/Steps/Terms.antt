@@ -1,5 +1,5 @@
 -- What terms mean on a memory.
-use Rattle.std.specs.Prelude.{ℕ, ◌≡◌, ◌<◌, ◌==◌, ◌%◌, ◌/◌, if◌then◌else◌, false, List, All, length, slice_index_or, Option, Some, None, unwrap_or, option_map, ℤ, pos, ◌+ℤ◌, ◌-ℤ◌, ◌*ℤ◌, FitsSigned}
+use Rattle.std.specs.Prelude.{ℕ, ◌≡◌, ◌<◌, ◌==◌, ◌%◌, ◌/◌, if◌then◌else◌, false, List, length, slice_index_or, Option, Some, None, unwrap_or, option_map, ℤ, pos, ◌+ℤ◌, ◌-ℤ◌, ◌*ℤ◌, FitsSigned}
 use Rattle.std.specs.Int.{w32, cast_unsigned}
 use Rattle.std.specs.Ordering.{int_eq}
 use Rattle.iloc_meaning.specs.Address.{good_address}
@@ -76,11 +76,6 @@ pub record IsNode (nodes : List Node) (k : ℕ) (node : Node) : Type 0 where
 -- whatever the new terms mean, the old ones meant it, and this holds
 abbrev pub Adds : List Node → List Node → (List ℤ → Meaning → Type 0) → Type 0
 Adds old new P = (memory : List ℤ) (d : Meaning) → IsMeaning memory new d → IsMeaning memory old d × P memory d
-
--- 16,384 words of 32 bits
-pub record IsMemory (memory : List ℤ) : Type 0 where
-  pub size : length memory ≡ 16384
-  pub fits : All (FitsSigned w32) memory
 
 -- the trie has this at the key, and at every other what the old one has
 abbrev pub PutsAt : Meaning → ℕ → ℕ → ℕ → Option ℕ → Type 0

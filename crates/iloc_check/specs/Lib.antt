@@ -1,0 +1,4 @@
+pub mod Checked
+pub mod Listing
+pub mod Laws
+pub mod Steps
