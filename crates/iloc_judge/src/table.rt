@@ -1,7 +1,7 @@
 //! A table of terms.
 ghost use Rattle.std.specs.Prelude.{◌≡◌, [], length, true, IfSome, IfOk};
 
-use crate::node::{Node, joined};
+use crate::node::{Node, fork_key};
 use iloc_text::NoMemory;
 use std::alloc::Global;
 use std::collections::BTreeMap;
@@ -68,7 +68,7 @@ impl Table {
     {
         match node {
             Node::Fork { even, odd } => {
-                Ok(*self.forks.entry(joined(even, odd))?.or_insert(here))
+                Ok(*self.forks.entry(fork_key(even, odd))?.or_insert(here))
             }
             _ => Ok(*self.numbers.entry(node.key())?.or_insert(here)),
         }
