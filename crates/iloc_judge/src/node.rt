@@ -66,12 +66,22 @@ pub(crate) enum Node {
     },
 }
 
-/// Four numbers in one, the first of them above the others.
-fn joined(first: u32, second: u32, third: u32, fourth: u32) -> u128 {
-    u128::from(first) << 96
-        | u128::from(second) << 64
-        | u128::from(third) << 32
-        | u128::from(fourth)
+/// A number by which forks are kept in order, below 2^31 another one for each. The newer half counts first,
+/// so a new fork mostly comes last, beside those that were looked up just before.
+pub(crate) fn fork_key(even: u32, odd: u32) -> u64 {
+    let newer = u64::from(even.max(odd));
+    let older = u64::from(even.min(odd));
+    newer << 32 | older << 1 | u64::from(even < odd)
+}
+
+/// Two numbers in one, the first of them above the other.
+fn joined(first: u32, second: u32) -> u64 {
+    u64::from(first) << 32 | u64::from(second)
+}
+
+/// Four numbers in one, the first two of them above the others.
+fn keyed(first: u32, second: u32, third: u32, fourth: u32) -> u128 {
+    u128::from(joined(first, second)) << 64 | u128::from(joined(third, fourth))
 }
 
 impl Binary {
@@ -113,25 +123,25 @@ impl Node {
     /// once, two terms field by field.
     pub(crate) fn key(&self) -> u128 {
         match *self {
-            Node::Known(word) => joined(0, 0, 0, word.cast_unsigned()),
-            Node::Offset { base, constant } => joined(1, base, 0, constant.cast_unsigned()),
-            Node::Scaled { factor, by } => joined(2, factor, 0, by.cast_unsigned()),
-            Node::Combined { by, left, right } => joined(3, by.key(), left, right),
-            Node::Word { address, memory } => joined(4, address, 0, memory),
-            Node::Start => joined(5, 0, 0, 0),
+            Node::Known(word) => keyed(0, 0, 0, word.cast_unsigned()),
+            Node::Offset { base, constant } => keyed(1, base, 0, constant.cast_unsigned()),
+            Node::Scaled { factor, by } => keyed(2, factor, 0, by.cast_unsigned()),
+            Node::Combined { by, left, right } => keyed(3, by.key(), left, right),
+            Node::Word { address, memory } => keyed(4, address, 0, memory),
+            Node::Start => keyed(5, 0, 0, 0),
             Node::Epoch {
                 memory,
                 base: None,
                 trie,
-            } => joined(6, 0, memory, trie),
+            } => keyed(6, 0, memory, trie),
             Node::Epoch {
                 memory,
                 base: Some(base),
                 trie,
-            } => joined(7, base, memory, trie),
-            Node::Empty => joined(8, 0, 0, 0),
-            Node::Leaf { at, value } => joined(9, at, 0, value),
-            Node::Fork { even, odd } => joined(10, even, 0, odd),
+            } => keyed(7, base, memory, trie),
+            Node::Empty => keyed(8, 0, 0, 0),
+            Node::Leaf { at, value } => keyed(9, at, 0, value),
+            Node::Fork { even, odd } => keyed(10, even, 0, odd),
         }
     }
 }

@@ -1,7 +1,7 @@
 //! A table of terms.
 ghost use Rattle.std.specs.Prelude.{◌≡◌, [], length, true, IfSome, IfOk};
 
-use crate::node::Node;
+use crate::node::{Node, fork_key};
 use iloc_text::NoMemory;
 use std::alloc::Global;
 use std::collections::BTreeMap;
@@ -11,7 +11,9 @@ use std::marker::Model;
 #[derive(Drop)]
 pub(crate) struct Table {
     nodes: Vec<Node>,
-    // Where each term stands, by its key. It is a hint: whoever asks looks whether it does.
+    // Where each fork stands, by its halves, and each other term, by its key. They are hints: whoever asks
+    // looks whether it does.
+    forks: BTreeMap<u64, u32>,
     numbers: BTreeMap<u128, u32>,
 }
 
@@ -34,6 +36,7 @@ impl Table {
     {
         Table {
             nodes: Vec::new(alloc),
+            forks: BTreeMap::new(alloc),
             numbers: BTreeMap::new(alloc),
         }
     }
@@ -59,6 +62,18 @@ impl Table {
         self.nodes.get(number as usize).copied()
     }
 
+    /// Where a term is said to stand; where nothing is said, it is noted to stand here.
+    fn noted(&mut self, node: Node, here: u32) -> Result<u32, NoMemory>
+        ensures { self.new ≡ self.old }
+    {
+        match node {
+            Node::Fork { even, odd } => {
+                Ok(*self.forks.entry(fork_key(even, odd))?.or_insert(here))
+            }
+            _ => Ok(*self.numbers.entry(node.key())?.or_insert(here)),
+        }
+    }
+
     /// The number of a term, which is added where it isn't there.
     pub(crate) fn intern(&mut self, node: Node) -> Result<u32, NoMemory>
         ensures { IfOk result (λ number. Adds self.old self.new (λ memory d. Means memory d number node)) }
@@ -66,7 +81,7 @@ impl Table {
         let Ok(next) = u32::try_from(self.nodes.len()) else {
             return Err(NoMemory);
         };
-        let number = *self.numbers.entry(node.key())?.or_insert(next);
+        let number = self.noted(node, next)?;
         if self.node(number) == Some(node) {
             return Ok(number);
         }
