@@ -12,6 +12,7 @@ use crate::scan::{
 };
 
 /// `number => register`.
+#[inline(always)]
 #[tactic(auto, unfolding(crate::specs::Steps::Scan::value_then))]
 fn number_to_register_at(bytes: &[u8]) -> Option<(u32, Reg, &[u8])>
     ensures { option_map (λ found. (found.0 ∷ found.1.0 ∷ [], found.2.now)) result
@@ -23,6 +24,7 @@ fn number_to_register_at(bytes: &[u8]) -> Option<(u32, Reg, &[u8])>
 }
 
 /// `register => register`.
+#[inline(always)]
 #[tactic(auto, unfolding(crate::specs::Steps::Scan::value_then))]
 fn register_to_register_at(bytes: &[u8]) -> Option<(Reg, Reg, &[u8])>
     ensures { option_map (λ found. (found.0.0 ∷ found.1.0 ∷ [], found.2.now)) result
@@ -34,6 +36,7 @@ fn register_to_register_at(bytes: &[u8]) -> Option<(Reg, Reg, &[u8])>
 }
 
 /// What stands behind an opcode: blanks and operands, or nothing behind `nop`.
+#[inline(always)]
 #[tactic(auto, unfolding(crate::specs::Steps::Scan::called_at, crate::specs::Steps::Scan::value_then))]
 pub fn called_at(opcode: Opcode, bytes: &[u8]) -> Option<(Op, &[u8])>
     ensures { option_map (λ found. (found.0, found.1.now)) result ≡ called_at opcode bytes.now }
