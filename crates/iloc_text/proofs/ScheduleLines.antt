@@ -4,6 +4,8 @@ use Rattle.std.specs.List.{AllByRecursion, list_all}
 use Rattle.std.specs.Char.{is_ascii_digit, is_ascii_alphabetic}
 use Rattle.std.proofs.lemmas.Bool.Decides.{nat_tests}
 use Rattle.std.proofs.lemmas.Slice.Eq.{bytes_eq-Decides}
+use Rattle.iloc_text.specs.declared.limits.TheConstants.{MAX_NUMBER}
+use Rattle.iloc_text.specs.declared.scan.TheConstants.{ABOVE_LIMIT}
 use Rattle.iloc_text.specs.declared.op.Op.{Op}
 use Rattle.iloc_text.specs.Forms.{numbers, operands}
 use Rattle.iloc_text.specs.Forms.Value.{Constant}
@@ -416,7 +418,7 @@ and_true true b h = (refl, h)
 and_true false b h = cc
 
 abbrev AreAllSmall : List ℕ → Type 0
-AreAllSmall ns = AllByRecursion (λ n. n ≤ 2147483647) ns
+AreAllSmall ns = AllByRecursion (λ n. n ≤ MAX_NUMBER) ns
 
 all-append : (xs ys : List ℕ) → AreAllSmall xs → AreAllSmall ys → AreAllSmall (xs ++ ys)
 all-append [] ys h k = k
@@ -431,12 +433,12 @@ op_small op h =
     all_numbers (operands (capped_op op)) ∙ (ap (λ ns. is_all_small ns) (numbers-capped op) ∙ small_all (numbers op) h)
   where
     is_all_small : List ℕ → Bool
-    is_all_small ns = list_all (λ n. nat_lt n 2147483648) ns
+    is_all_small ns = list_all (λ n. nat_lt n ABOVE_LIMIT) ns
 
-number_small : (n : ℕ) → n ≤ 2147483647 → nat_lt (capped n) 2147483648 ≡ true
+number_small : (n : ℕ) → n ≤ MAX_NUMBER → nat_lt (capped n) ABOVE_LIMIT ≡ true
 number_small n h = grind (arith, nat_tests)
 
-number_within : (n : ℕ) → nat_lt (capped n) 2147483648 ≡ true → n ≤ 2147483647
+number_within : (n : ℕ) → nat_lt (capped n) ABOVE_LIMIT ≡ true → n ≤ MAX_NUMBER
 number_within n h = grind (arith, nat_tests)
 
 abbrev AreSmall : Said → Type 0

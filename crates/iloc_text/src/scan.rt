@@ -3,10 +3,11 @@ ghost use Rattle.std.specs.Prelude.{◌≡◌, ◌≤◌, ◌<◌, ◌-◌, ◌+
 ghost use Rattle.iloc_text.specs.Grammar.{is_blank, is_word_byte};
 ghost use Rattle.iloc_text.specs.Steps.Scan.{after_blanks, some_blanks_at, capped, digits_after, number_at, register_at, arrow_at, comma_at, after_word, word_of};
 
+use crate::limits::MAX_NUMBER;
 use crate::op::Reg;
 
-/// The least number above the limit of 2147483647. While a line is scanned it stands for every such number.
-pub const ABOVE_LIMIT: u32 = 2_147_483_648;
+/// The least number above the limit. While a line is scanned it stands for every such number.
+pub const ABOVE_LIMIT: u32 = MAX_NUMBER + 1;
 
 fn is_blank(byte: u8) -> bool
     ensures { result ≡ is_blank byte }
