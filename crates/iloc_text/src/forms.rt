@@ -2,7 +2,7 @@
 ghost use Rattle.std.specs.Prelude.{◌≡◌, ◌≤◌, ◌++◌, length, get_or, IfSome};
 ghost use Rattle.iloc_text.specs.Forms.{opcode, operands, opcode_text, op_of};
 ghost use Rattle.iloc_text.specs.Steps.Operands.{operands_in};
-ghost use Rattle.iloc_text.specs.Steps.Opcodes.{opcode_of};
+ghost use Rattle.iloc_text.specs.Steps.Opcodes.{opcode_of, operands_of};
 
 use crate::op::{Op, Reg};
 
@@ -183,6 +183,14 @@ pub fn op_of(opcode: Opcode, numbers: &[u32]) -> Op
             offset: third,
         },
     }
+}
+
+/// The operands of an opcode, with 0 for each number.
+#[inline(always)]
+pub fn shape_of(opcode: Opcode) -> Operands
+    ensures { operands_in result ≡ operands_of opcode }
+{
+    form_of(&op_of(opcode, &[])).1
 }
 
 /// The opcode that is written as `word`.
