@@ -1,5 +1,5 @@
 -- Which texts a line of a schedule may have, as schedules are listed.
-use Rattle.std.specs.Prelude.{◌≡◌, ◌≢◌, ℕ, ◌≤◌, Option, Some, None, option_map, Result, Ok, Err, List, [], ◌∷◌, ◌++◌, codes}
+use Rattle.std.specs.Prelude.{◌≢◌, ℕ, ◌≤◌, Option, Some, None, option_map, Result, Ok, Err, List, [], ◌∷◌, ◌++◌, codes}
 use Rattle.std.specs.List.{AllByRecursion}
 use Rattle.iloc_text.specs.declared.limits.TheConstants.{MAX_NUMBER}
 use Rattle.iloc_text.specs.declared.op.Op.{Op}

@@ -30,6 +30,13 @@ fn words_at(text: &[u8]) -> (Line<'_>, &[u8])
     ensures { WordsAt text.now (label_of result.0) result.0.op result.1.now }
 {
     let start = after_blanks(text);
+    match start {
+        [first, ..] if first.is_ascii_alphabetic() => {}
+        _ => {
+            let (label, op) = (None, None);
+            return (Line { label, op }, start);
+        }
+    }
     let (op, rest) = operation_or_none(start);
     if op.is_some() {
         return (Line { label: None, op }, rest);

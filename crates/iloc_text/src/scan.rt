@@ -74,7 +74,11 @@ pub fn number_at(bytes: &[u8]) -> Option<(u32, &[u8])>
         return None;
     }
     let mut value = with_digit(0, *first);
-    let mut rest = if value == 0 { after_zeros(after) } else { after };
+    let mut rest = if value == 0 {
+        after_zeros(after)
+    } else {
+        after
+    };
     while let [digit, after @ ..] = rest
         && digit.is_ascii_digit()
     {
