@@ -3,6 +3,7 @@ use Rattle.std.proofs.Common.{◌≡◌, ◌∙◌, ℕ, ◌+◌, ◌<◌, ◌�
 use Rattle.std.specs.List.{AllByRecursion, join_with_byte}
 use Rattle.std.proofs.lemmas.List.Splits.{slice_split_none, slice_split_at}
 use Rattle.std.proofs.lemmas.Bool.Decides.{nat_tests}
+use Rattle.iloc_text.specs.declared.limits.TheConstants.{MAX_INPUT, MAX_BLOCKS, MAX_OPS}
 use Rattle.iloc_text.specs.declared.op.Op.{Op}
 use Rattle.iloc_text.specs.declared.file.Block.{Block}
 use Rattle.iloc_text.specs.declared.fault.ReadFault.{ReadFault}
@@ -39,8 +40,8 @@ lines_are_of input lines a = ap lines_of a.whole ∙ lines_joined lines a.some a
 -- The answer of one line, and of the lines
 
 abbrev limited : List Reading → Reading → ℕ → Result Reading ReadFault
-limited rs r n = cond (nat_lt 65535 (block_count (rs ++ r ∷ []))) (Err (TooManyBlocks n))
-    (cond (nat_lt 10000 (length (ops_of (block_count (rs ++ r ∷ [])) (rs ++ r ∷ [])))) (Err (TooManyOperations n))
+limited rs r n = cond (nat_lt MAX_BLOCKS (block_count (rs ++ r ∷ []))) (Err (TooManyBlocks n))
+    (cond (nat_lt MAX_OPS (length (ops_of (block_count (rs ++ r ∷ [])) (rs ++ r ∷ [])))) (Err (TooManyOperations n))
     (Ok r))
 
 abbrev verdict_on : Option (Option (List ℕ) × Option Op) → List Reading → ℕ → Result Reading ReadFault
@@ -64,8 +65,8 @@ reads_verdict rs line n r h = let f = found_reads line r.label r.op h in
 within_verdict : (rs : List Reading) (line : List ℕ) (n : ℕ) (r : Reading) → Reads line r.label r.op
     → IsWithin (rs ++ r ∷ []) → verdict rs line n ≡ Ok r
 within_verdict rs line n r h w =
-    let blocks : nat_lt 65535 (block_count (rs ++ r ∷ [])) ≡ false = let most = w.blocks in grind (arith, nat_tests) in
-    let operations : nat_lt 10000 (length (ops_of (block_count (rs ++ r ∷ [])) (rs ++ r ∷ []))) ≡ false = let most =
+    let blocks : nat_lt MAX_BLOCKS (block_count (rs ++ r ∷ [])) ≡ false = let most = w.blocks in grind (arith, nat_tests) in
+    let operations : nat_lt MAX_OPS (length (ops_of (block_count (rs ++ r ∷ [])) (rs ++ r ∷ []))) ≡ false = let most =
     w.operations in grind (arith, nat_tests) in
     reads_verdict rs line n r h ∙ (rw (blocks, operations) refl)
 
@@ -99,17 +100,17 @@ faulty_verdict rs line n (NumberTooLarge k) h = large_verdict rs line n h.1 h.2
     ∙ ap (λ m. Err (NumberTooLarge m)) (sym h.0)
 faulty_verdict rs line n (TooManyBlocks k) h =
     let r = h.1.reading in
-    let blocks : nat_lt 65535 (block_count (rs ++ r ∷ [])) ≡ true = let more = h.1.blocks in grind (arith, nat_tests) in
+    let blocks : nat_lt MAX_BLOCKS (block_count (rs ++ r ∷ [])) ≡ true = let more = h.1.blocks in grind (arith, nat_tests) in
     reads_verdict rs line n r h.1.read
     ∙ ap (λ b. cond b (Err (TooManyBlocks n))
-    (cond (nat_lt 10000 (length (ops_of (block_count (rs ++ r ∷ [])) (rs ++ r ∷ [])))) (Err (TooManyOperations n))
+    (cond (nat_lt MAX_OPS (length (ops_of (block_count (rs ++ r ∷ [])) (rs ++ r ∷ [])))) (Err (TooManyOperations n))
     (Ok r))) blocks
     ∙ ap (λ m. Err (TooManyBlocks m)) (sym h.0)
 faulty_verdict rs line n (TooManyOperations k) h =
     let r = h.1.reading in
-    let blocks : nat_lt 65535 (block_count (rs ++ r ∷ [])) ≡ false = let most = h.1.blocks in
+    let blocks : nat_lt MAX_BLOCKS (block_count (rs ++ r ∷ [])) ≡ false = let most = h.1.blocks in
     grind (arith, nat_tests) in
-    let operations : nat_lt 10000 (length (ops_of (block_count (rs ++ r ∷ [])) (rs ++ r ∷ []))) ≡ true = let more =
+    let operations : nat_lt MAX_OPS (length (ops_of (block_count (rs ++ r ∷ [])) (rs ++ r ∷ []))) ≡ true = let more =
     h.1.operations in grind (arith, nat_tests) in
     reads_verdict rs line n r h.1.read
     ∙ ap₂ (λ a b. cond a (Err (TooManyBlocks n)) (cond b (Err (TooManyOperations n)) (Ok r))) blocks operations
@@ -164,8 +165,8 @@ fault_answer input fault h =
 
 -- a refusal is that of the first faulty line, or that the input is too long
 refusal_answer : (input : List ℕ) (fault : ReadFault) → IsRefused input fault
-    → ((fault ≡ InputTooLong) × (16777216 < length input))
-    ⊎ ((length input ≤ 16777216) × (answer_from [] (lines_of input) ≡ Err fault))
+    → ((fault ≡ InputTooLong) × (MAX_INPUT < length input))
+    ⊎ ((length input ≤ MAX_INPUT) × (answer_from [] (lines_of input) ≡ Err fault))
 refusal_answer input InputTooLong h = inl (refl, h)
 refusal_answer input (BadLine n) h = inr (h.short, fault_answer input (BadLine n) h)
 refusal_answer input (NumberTooLarge n) h = inr (h.short, fault_answer input (NumberTooLarge n) h)

@@ -2,6 +2,8 @@
 use Rattle.std.proofs.Common.{◌≡◌, ◌∙◌, ℕ, ◌≤◌, nat_lt, Bool, true, false, ◌&&◌, List, [], ◌∷◌, map, refl, sym, ap, ap₂, Some, arith}
 use Rattle.std.specs.List.{AllByRecursion, list_all}
 use Rattle.std.proofs.lemmas.Bool.Decides.{nat_tests}
+use Rattle.iloc_text.specs.declared.limits.TheConstants.{MAX_NUMBER}
+use Rattle.iloc_text.specs.declared.scan.TheConstants.{ABOVE_LIMIT}
 use Rattle.iloc_text.specs.declared.op.Op.{Op}
 use Rattle.std.proofs.lemmas.List.Folds.{list_all-map}
 use Rattle.iloc_text.specs.Forms.{Operand, operands, number_of, numbers, opcode, op_of}
@@ -10,14 +12,14 @@ use Rattle.iloc_text.specs.Steps.Scan.{capped, is_within}
 use Rattle.iloc_text.proofs.Names.{capped_op, op_same, numbers-capped}
 
 -- the test of each operand's number is that of the numbers
-pub all_numbers : (os : List Operand) → list_all (λ o. nat_lt (number_of o) 2147483648) os
-    ≡ list_all (λ n. nat_lt n 2147483648) (map number_of os)
-all_numbers os = sym (list_all-map (λ n. nat_lt n 2147483648) number_of os)
+pub all_numbers : (os : List Operand) → list_all (λ o. nat_lt (number_of o) ABOVE_LIMIT) os
+    ≡ list_all (λ n. nat_lt n ABOVE_LIMIT) (map number_of os)
+all_numbers os = sym (list_all-map (λ n. nat_lt n ABOVE_LIMIT) number_of os)
 
-pub capped_within : (n : ℕ) → n ≤ 2147483647 → capped n ≡ n
+pub capped_within : (n : ℕ) → n ≤ MAX_NUMBER → capped n ≡ n
 capped_within n h = omega arith
 
-all_within : (ns : List ℕ) → AllByRecursion (λ n. n ≤ 2147483647) ns → map capped ns ≡ ns
+all_within : (ns : List ℕ) → AllByRecursion (λ n. n ≤ MAX_NUMBER) ns → map capped ns ≡ ns
 all_within [] h = refl
 all_within (n ∷ ns) h = ap₂ (λ m ms. m ∷ ms) (capped_within n h.0) (all_within ns h.1)
 
@@ -25,24 +27,24 @@ pub capped-within : (op : Op) → IsWithinLimit op → capped_op op ≡ op
 unfolding capped_op
 capped-within op h = ap (op_of (opcode op)) (all_within (numbers op) h) ∙ op_same op
 
-pub all_small : (ns : List ℕ) → list_all (λ n. nat_lt n 2147483648) (map capped ns) ≡ true
-    → AllByRecursion (λ n. n ≤ 2147483647) ns
+pub all_small : (ns : List ℕ) → list_all (λ n. nat_lt n ABOVE_LIMIT) (map capped ns) ≡ true
+    → AllByRecursion (λ n. n ≤ MAX_NUMBER) ns
 all_small [] h = tt
-all_small (n ∷ ns) h = by (nat_lt (capped n) 2147483648) refl (all_small ns) h
+all_small (n ∷ ns) h = by (nat_lt (capped n) ABOVE_LIMIT) refl (all_small ns) h
   where
-    by : (b : Bool) → nat_lt (capped n) 2147483648 ≡ b → (list_all (λ n. nat_lt n 2147483648) (map capped ns) ≡ true
-        → AllByRecursion (λ n. n ≤ 2147483647) ns)
-        → (b && list_all (λ n. nat_lt n 2147483648) (map capped ns)) ≡ true
-        → AllByRecursion (λ n. n ≤ 2147483647) (n ∷ ns)
+    by : (b : Bool) → nat_lt (capped n) ABOVE_LIMIT ≡ b → (list_all (λ n. nat_lt n ABOVE_LIMIT) (map capped ns) ≡ true
+        → AllByRecursion (λ n. n ≤ MAX_NUMBER) ns)
+        → (b && list_all (λ n. nat_lt n ABOVE_LIMIT) (map capped ns)) ≡ true
+        → AllByRecursion (λ n. n ≤ MAX_NUMBER) (n ∷ ns)
     by true e rest h = (grind (arith, nat_tests), rest h)
     by false e rest h = cc
 
-pub small_all : (ns : List ℕ) → AllByRecursion (λ n. n ≤ 2147483647) ns
-    → list_all (λ n. nat_lt n 2147483648) (map capped ns) ≡ true
+pub small_all : (ns : List ℕ) → AllByRecursion (λ n. n ≤ MAX_NUMBER) ns
+    → list_all (λ n. nat_lt n ABOVE_LIMIT) (map capped ns) ≡ true
 small_all [] h = refl
-small_all (n ∷ ns) h = let small : nat_lt (capped n) 2147483648 ≡ true = let le : n ≤ 2147483647 = h.0 in
+small_all (n ∷ ns) h = let small : nat_lt (capped n) ABOVE_LIMIT ≡ true = let le : n ≤ MAX_NUMBER = h.0 in
     grind (arith, nat_tests) in rw (small, small_all ns h.1) refl
 
 pub within_limit : (op : Op) → is_within (Some (capped_op op)) ≡ true → IsWithinLimit op
-within_limit op h = all_small (numbers op) (ap (list_all (λ n. nat_lt n 2147483648)) (sym (numbers-capped op))
+within_limit op h = all_small (numbers op) (ap (list_all (λ n. nat_lt n ABOVE_LIMIT)) (sym (numbers-capped op))
     ∙ sym (all_numbers (operands (capped_op op))) ∙ h)

@@ -1,6 +1,7 @@
 -- Every text has an answer: line by line, each is read or faulty.
 use Rattle.std.proofs.Common.{◌≡◌, ℕ, ◌+◌, ◌<◌, ◌≤◌, nat_lt, Bool, true, false, List, [], ◌∷◌, ◌++◌, length, refl, sym, subst, Option, Some, None, ◌⊎◌, inl, inr, append_assoc, append-nil, arith}
 use Rattle.std.proofs.lemmas.Bool.Decides.{nat_tests}
+use Rattle.iloc_text.specs.declared.limits.TheConstants.{MAX_INPUT, MAX_BLOCKS, MAX_OPS}
 use Rattle.iloc_text.specs.declared.op.Op.{Op}
 use Rattle.iloc_text.specs.declared.file.Block.{Block}
 use Rattle.iloc_text.specs.declared.fault.ReadFault.{ReadFault}
@@ -33,8 +34,8 @@ not_above a b h = grind (arith, nat_tests)
 
 by_limits : (rs : List Reading) (line : List ℕ) (n : ℕ) (r : Reading) → Reads line r.label r.op
     → (blocks operations : Bool)
-    → nat_lt 65535 (block_count (rs ++ r ∷ [])) ≡ blocks
-    → nat_lt 10000 (length (ops_of (block_count (rs ++ r ∷ [])) (rs ++ r ∷ []))) ≡ operations
+    → nat_lt MAX_BLOCKS (block_count (rs ++ r ∷ [])) ≡ blocks
+    → nat_lt MAX_OPS (length (ops_of (block_count (rs ++ r ∷ [])) (rs ++ r ∷ []))) ≡ operations
     → Judged rs line n
 by_limits rs line n r reads true operations b o =
     inl (TooManyBlocks n, (refl, record { reading = r; read = reads; blocks = above _ _ b }))
@@ -87,7 +88,7 @@ abbrev Answered : List ℕ → Type 0
 Answered input = ((blocks : List Block) × Denotes input blocks) ⊎ ((fault : ReadFault) × IsRefused input fault)
 
 -- where the lines before have these readings, and none of them is faulty
-from_here : (input : List ℕ) → length input ≤ 16777216 → (before lines : List (List ℕ)) (rs : List Reading)
+from_here : (input : List ℕ) → length input ≤ MAX_INPUT → (before lines : List (List ℕ)) (rs : List Reading)
     → AreLines input (before ++ lines) → ReadAs before rs → NoneFaulty rs → Answered input
 from_here input short before [] rs are read none_faulty = inl (
   file_of rs,
@@ -123,7 +124,7 @@ from_here input short before (line ∷ lines) rs are read none_faulty =
           (NoneFaulty-snoc rs good.reading none_faulty good.within)
     ]
 
-by_length : (input : List ℕ) (long : Bool) → nat_lt 16777216 (length input) ≡ long → Answered input
+by_length : (input : List ℕ) (long : Bool) → nat_lt MAX_INPUT (length input) ≡ long → Answered input
 by_length input true e = inr (InputTooLong, above _ _ e)
 by_length input false e = from_here input (not_above _ _ e) [] (lines_of input) [] (lines_are input) tt tt
 

@@ -1,5 +1,6 @@
 -- What the steps of the reader do to the blocks.
 use Rattle.std.proofs.Common.{◌≡◌, ◌∙◌, ℕ, suc, ◌+◌, ◌-◌, ◌<◌, ◌≤◌, List, [], ◌∷◌, ◌++◌, length, refl, sym, ap, subst, subst₂, is_some, true, Option, Some, None, Result, Ok, Err, length-append, inl, inr, arith}
+use Rattle.iloc_text.specs.declared.limits.TheConstants.{MAX_BLOCKS, MAX_OPS}
 use Rattle.iloc_text.specs.declared.op.Op.{Op}
 use Rattle.iloc_text.specs.declared.file.Block.{Block}
 use Rattle.iloc_text.specs.declared.open_block.OpenBlock.{OpenBlock}
@@ -60,8 +61,8 @@ so_far_within done blocks o h = record {
 }
 
 pub pushed_above : (op : Op) (done blocks : List Block) (o : OpenBlock) → AreSoFar done o blocks → 0 < length blocks
-    → length o.block.ops ≡ 10000
-    → (length (with_op op blocks) ≤ 65535) × (10000 < length (last_ops (with_op op blocks)))
+    → length o.block.ops ≡ MAX_OPS
+    → (length (with_op op blocks) ≤ MAX_BLOCKS) × (MAX_OPS < length (last_ops (with_op op blocks)))
 pushed_above op done blocks o h some full =
     let few = o.few in
     let count = h.count in
@@ -72,8 +73,8 @@ pushed_above op done blocks o h some full =
 pub length-opened : (name : Option (List ℕ)) (blocks : List Block) → length (opened name blocks) ≡ length blocks + 1
 length-opened name blocks = length-append blocks (record { name = name; ops = [] } ∷ [])
 
-pub opened_above : (name : Option (List ℕ)) (blocks : List Block) → length blocks ≡ 65535
-    → 65535 < length (opened name blocks)
+pub opened_above : (name : Option (List ℕ)) (blocks : List Block) → length blocks ≡ MAX_BLOCKS
+    → MAX_BLOCKS < length (opened name blocks)
 opened_above name blocks h = omega (arith, length-append blocks (record { name = name; ops = [] } ∷ []))
 
 -- Lines

@@ -1,6 +1,7 @@
 -- The scanner reads the lines of the grammar, and each of them.
 use Rattle.std.proofs.Common.{◌≡◌, ◌∙◌, ℕ, nat_lt, true, false, List, ◌++◌, refl, sym, ap, subst, Option, Some, None, IfSome, option_map, unwrap_or}
 use Rattle.std.specs.List.{list_all}
+use Rattle.iloc_text.specs.declared.scan.TheConstants.{ABOVE_LIMIT}
 use Rattle.iloc_text.specs.declared.op.Op.{Op}
 use Rattle.iloc_text.specs.Forms.{operands, numbers}
 use Rattle.iloc_text.specs.Grammar.{is_blank, is_word_byte, ReadsWidely, Reads, HasReading, HasWideReading}
@@ -96,7 +97,7 @@ found_reads bytes label None r = (line_again bytes label None r.0, refl)
 found_reads bytes label (Some op) r = (
   line_again bytes label (Some op) r.0 ∙ ap (λ o. Some (label, Some o)) (capped-within op r.1),
   all_numbers (operands op)
-      ∙ ap (list_all (λ n. nat_lt n 2147483648)) (ap numbers (sym (capped-within op r.1)) ∙ numbers-capped op)
+      ∙ ap (list_all (λ n. nat_lt n ABOVE_LIMIT)) (ap numbers (sym (capped-within op r.1)) ∙ numbers-capped op)
       ∙ small_all (numbers op) r.1,
 )
 

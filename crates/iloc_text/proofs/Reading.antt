@@ -4,6 +4,7 @@ use Rattle.std.specs.List.{AllByRecursion}
 use Rattle.std.specs.Option.{ForSome}
 use Rattle.std.proofs.lemmas.Str.{IsUtf8-from_ascii}
 use Rattle.std.proofs.lemmas.Bool.Decides.{nat_tests}
+use Rattle.iloc_text.specs.declared.limits.TheConstants.{MAX_INPUT}
 use Rattle.iloc_text.specs.declared.op.Op.{Op}
 use Rattle.iloc_text.specs.declared.file.Block.{Block}
 use Rattle.iloc_text.specs.declared.fault.ReadFault.{ReadFault}
@@ -119,7 +120,7 @@ progress_number {input} {blocks} {number} {rest} p =
     omega (arith, p.number_is, lines_few input, ap length p.lines, length-append p.before (lines_left rest))
 
 pub progress_ends : {input : List ℕ} {blocks : List Block} {number : ℕ} (p : Progress input blocks number None)
-    → length input ≤ 16777216 → Denotes input blocks
+    → length input ≤ MAX_INPUT → Denotes input blocks
 progress_ends {input} {blocks} {number} p short = record {
   short = short;
   lines = p.before;
@@ -144,7 +145,7 @@ refused input NoMemory memory long h = absurd (memory refl)
 -- the line at hand has this fault
 pub fault_here : {input : List ℕ} {blocks : List Block} {number : ℕ} {text : Bor (List ℕ)}
     (p : Progress input blocks number (Some text))
-    (line : List ℕ) (after : Option (Bor (List ℕ))) (fault : ReadFault) → length input ≤ 16777216
+    (line : List ℕ) (after : Option (Bor (List ℕ))) (fault : ReadFault) → length input ≤ MAX_INPUT
     → lines_of text.now ≡ line ∷ lines_left after
     → fault ≢ NoMemory → fault ≢ InputTooLong → IsFaulty p.readings line (number + 1) fault → IsRefused input fault
 fault_here {input} {blocks} {number} {text} p line after fault short split memory long faulty =
@@ -203,7 +204,7 @@ pub grown_here : {input : List ℕ} {blocks : List Block} {number : ℕ} {text :
     (p : Progress input blocks number (Some text))
     (line : List ℕ) (after : Option (Bor (List ℕ))) (fault : ReadFault) (label : Option (List ℕ)) (op : Option Op)
     (Stand : List Block → Type 0)
-    → length input ≤ 16777216 → lines_of text.now ≡ line ∷ lines_left after → Reads line label op
+    → length input ≤ MAX_INPUT → lines_of text.now ≡ line ∷ lines_left after → Reads line label op
     → Grows Stand (with_line label op blocks) (number + 1) (Err fault) → fault ≢ NoMemory → IsRefused input fault
 grown_here {input} {blocks} {number} {text} p line after fault label op Stand short split reads g memory =
     let P : List Block → Type 0 = λ bs. Grows Stand (with_line label op bs) (number + 1) (Err fault) in

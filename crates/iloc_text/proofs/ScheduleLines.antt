@@ -4,22 +4,24 @@ use Rattle.std.specs.List.{AllByRecursion, list_all}
 use Rattle.std.specs.Char.{is_ascii_digit, is_ascii_alphabetic}
 use Rattle.std.proofs.lemmas.Bool.Decides.{nat_tests}
 use Rattle.std.proofs.lemmas.Slice.Eq.{bytes_eq-Decides}
+use Rattle.iloc_text.specs.declared.limits.TheConstants.{MAX_NUMBER}
+use Rattle.iloc_text.specs.declared.scan.TheConstants.{ABOVE_LIMIT}
 use Rattle.iloc_text.specs.declared.op.Op.{Op}
 use Rattle.iloc_text.specs.Forms.{numbers, operands}
 use Rattle.iloc_text.specs.Forms.Value.{Constant}
-use Rattle.iloc_text.specs.Grammar.{◌⋅◌, Text, is_blank, is_word_byte, Blanks, SomeBlanks, Number, IsName, IsWithinLimit, OptionalComment}
+use Rattle.iloc_text.specs.Grammar.{◌⋅◌, Text, is_blank, is_word_byte, SomeBlanks, Number, IsName, IsWithinLimit}
 use Rattle.iloc_text.specs.ScheduleLines.{Said, SlotText, BlockName, SaidText, SaysWidely, said_numbers, Says, SaysSomething, SaysSomethingWidely}
 use Rattle.iloc_text.specs.ScheduleLines.Said.{nothing, row, head, cycles, total}
 use Rattle.iloc_text.specs.Steps.Scan.{capped, after_blanks, some_blanks_at, number_at, word_of, after_word, operation_at, is_end, is_within}
 use Rattle.iloc_text.specs.Steps.ScheduleScan.{slot_at, behind_byte, row_at, number_behind, block_name_at, head_at, cycles_at, total_at, worded_at, said_at, schedule_line_at, is_said_within}
 use Rattle.iloc_text.proofs.Parts.{Before, Before-join, Before-split, Before-all, all-Before, starts}
-use Rattle.iloc_text.proofs.Tokens.{blanks_read, blanks_none, blanks_over, blanks_again, some_blanks_read, some_blanks_again, FindsNumber, number_read, number_again, some_map, IsWord, word_again, word_read}
+use Rattle.iloc_text.proofs.Tokens.{blanks_read, blanks_none, blanks_over, blanks_again, some_blanks_read, some_blanks_again, number_read, number_again, some_map, IsWord, word_again, word_read}
 use Rattle.iloc_text.proofs.Opcodes.{bind_each}
 use Rattle.iloc_text.proofs.Starts.{blanks_fail, text_starts, blank_is_no_digit, blank_is_no_word_byte, digit_is_no_blank, digit_start_by_word, some_fail, value_fails}
 use Rattle.iloc_text.proofs.Names.{capped_op, numbers-capped}
 use Rattle.iloc_text.proofs.Operations.{operation_read, operation_again, operation_starts}
 use Rattle.iloc_text.proofs.Bodies.{end_read, end_again, end_starts, no_blank_start}
-use Rattle.iloc_text.proofs.Labels.{word_is_name, name_is_word, letter_is_word_byte}
+use Rattle.iloc_text.proofs.Labels.{word_is_name, name_is_word}
 use Rattle.iloc_text.proofs.Caps.{all_numbers, capped_within, capped-within, small_all, within_limit}
 
 -- what is said, with each number capped
@@ -416,7 +418,7 @@ and_true true b h = (refl, h)
 and_true false b h = cc
 
 abbrev AreAllSmall : List ℕ → Type 0
-AreAllSmall ns = AllByRecursion (λ n. n ≤ 2147483647) ns
+AreAllSmall ns = AllByRecursion (λ n. n ≤ MAX_NUMBER) ns
 
 all-append : (xs ys : List ℕ) → AreAllSmall xs → AreAllSmall ys → AreAllSmall (xs ++ ys)
 all-append [] ys h k = k
@@ -431,12 +433,12 @@ op_small op h =
     all_numbers (operands (capped_op op)) ∙ (ap (λ ns. is_all_small ns) (numbers-capped op) ∙ small_all (numbers op) h)
   where
     is_all_small : List ℕ → Bool
-    is_all_small ns = list_all (λ n. nat_lt n 2147483648) ns
+    is_all_small ns = list_all (λ n. nat_lt n ABOVE_LIMIT) ns
 
-number_small : (n : ℕ) → n ≤ 2147483647 → nat_lt (capped n) 2147483648 ≡ true
+number_small : (n : ℕ) → n ≤ MAX_NUMBER → nat_lt (capped n) ABOVE_LIMIT ≡ true
 number_small n h = grind (arith, nat_tests)
 
-number_within : (n : ℕ) → nat_lt (capped n) 2147483648 ≡ true → n ≤ 2147483647
+number_within : (n : ℕ) → nat_lt (capped n) ABOVE_LIMIT ≡ true → n ≤ MAX_NUMBER
 number_within n h = grind (arith, nat_tests)
 
 abbrev AreSmall : Said → Type 0

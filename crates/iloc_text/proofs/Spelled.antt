@@ -3,6 +3,7 @@ use Rattle.std.proofs.Common.{◌≡◌, ℕ, ◌≤◌, ◌<◌, ◌^◌, lengt
 use Rattle.std.specs.List.{AllByRecursion}
 use Rattle.std.proofs.lemmas.List.{drop_all}
 use Rattle.std.proofs.lemmas.Fmt.{decimal_is_IsNumeral, length-decimal-le}
+use Rattle.iloc_text.specs.declared.limits.TheConstants.{MAX_NUMBER}
 use Rattle.iloc_text.specs.declared.op.Op.{Op}
 use Rattle.iloc_text.specs.Forms.{Lead, Value, Operand, number_in, number_of, opcode, operands, opcode_text}
 use Rattle.iloc_text.specs.Forms.Lead.{space, comma, arrow}
@@ -12,7 +13,7 @@ use Rattle.iloc_text.specs.Spelling.{spelled_lead, spelled_value, spelled_operan
 use Rattle.iloc_text.proofs.Parts.{Before, Before-join, Before-all}
 
 abbrev IsSmall : ℕ → Type 0
-IsSmall n = n ≤ 2147483647
+IsSmall n = n ≤ MAX_NUMBER
 
 -- Parts, with a rest behind them
 

@@ -1,6 +1,7 @@
 -- A file that a text denotes is within the limits.
 use Rattle.std.proofs.Common.{ℕ, ◌≤◌, List, [], ◌∷◌, ◌++◌, length, sym, ap, subst, Option, Some, None, arith}
 use Rattle.std.specs.List.{AllByRecursion}
+use Rattle.iloc_text.specs.declared.limits.TheConstants.{MAX_BLOCKS, MAX_OPS}
 use Rattle.iloc_text.specs.declared.op.Op.{Op}
 use Rattle.iloc_text.specs.declared.file.Block.{Block}
 use Rattle.iloc_text.specs.Files.{Reading, block_count, block_names, fronts, file_of, IsWithin, NoneFaulty}
@@ -11,13 +12,13 @@ use Rattle.iloc_text.proofs.BlockOps.{over_lines}
 use Rattle.iloc_text.proofs.BlockLists.{length-file, last-file, file-snoc}
 
 abbrev AllFit : List Block → Type 0
-AllFit blocks = AllByRecursion (λ b. length b.ops ≤ 10000) blocks
+AllFit blocks = AllByRecursion (λ b. length b.ops ≤ MAX_OPS) blocks
 
-fit-snoc : (bs : List Block) (b : Block) → AllFit bs → length b.ops ≤ 10000 → AllFit (bs ++ b ∷ [])
+fit-snoc : (bs : List Block) (b : Block) → AllFit bs → length b.ops ≤ MAX_OPS → AllFit (bs ++ b ∷ [])
 fit-snoc [] b h l = (l, tt)
 fit-snoc (x ∷ xs) b h l = (h.0, fit-snoc xs b h.1 l)
 
-fit-with_op : (op : Op) (bs : List Block) → AllFit bs → length (last_ops (with_op op bs)) ≤ 10000
+fit-with_op : (op : Op) (bs : List Block) → AllFit bs → length (last_ops (with_op op bs)) ≤ MAX_OPS
     → AllFit (with_op op bs)
 fit-with_op op [] h l = tt
 fit-with_op op (x ∷ []) h l = (l, tt)
@@ -28,14 +29,14 @@ fit-with_label : (label : Option (List ℕ)) (bs : List Block) → AllFit bs →
 fit-with_label None bs h = h
 fit-with_label (Some name) bs h = fit-snoc bs (record { name = Some name; ops = [] }) h (omega arith)
 
-fit-with_optional : (op : Option Op) (bs : List Block) → AllFit bs → length (last_ops (with_optional_op op bs)) ≤ 10000
+fit-with_optional : (op : Option Op) (bs : List Block) → AllFit bs → length (last_ops (with_optional_op op bs)) ≤ MAX_OPS
     → AllFit (with_optional_op op bs)
 fit-with_optional None bs h l = h
 fit-with_optional (Some op) [] h l = (l, tt)
 fit-with_optional (Some op) (b ∷ bs) h l = fit-with_op op (b ∷ bs) h l
 
 fit-with_line : (label : Option (List ℕ)) (op : Option Op) (bs : List Block) → AllFit bs
-    → length (last_ops (with_line label op bs)) ≤ 10000 → AllFit (with_line label op bs)
+    → length (last_ops (with_line label op bs)) ≤ MAX_OPS → AllFit (with_line label op bs)
 fit-with_line label op bs h l = fit-with_optional op (with_optional_label label bs) (fit-with_label label bs h) l
 
 all-front : {A : Type 0} (P : A → Type 0) (xs : List A) (x : A) → AllByRecursion P (xs ++ x ∷ []) → AllByRecursion P xs
@@ -45,7 +46,7 @@ all-front P (y ∷ ys) x h = let rest = all-front P ys x h.1 in ((h.0, rest.0), 
 
 -- the file of these lines fits, and has few enough blocks, where no line was faulty
 abbrev Fits : List Reading → Type 0
-Fits rs = NoneFaulty rs → AllFit (file_of rs) × (block_count rs ≤ 65535)
+Fits rs = NoneFaulty rs → AllFit (file_of rs) × (block_count rs ≤ MAX_BLOCKS)
 
 fits-step : (rs : List Reading) (r : Reading) → Fits rs → Fits (rs ++ r ∷ [])
 fits-step rs r f h =
@@ -53,7 +54,7 @@ fits-step rs r f h =
     let before = (f parts.0).0 in
     let within = parts.1 in
     let most = within.operations in
-    let last : length (last_ops (with_line r.label r.op (file_of rs))) ≤ 10000 =
+    let last : length (last_ops (with_line r.label r.op (file_of rs))) ≤ MAX_OPS =
     omega (arith, ap (λ bs. length (last_ops bs)) (file-snoc rs r), ap length (last-file (rs ++ r ∷ []))) in
     (subst AllFit (sym (file-snoc rs r)) (fit-with_line r.label r.op (file_of rs) before last), within.blocks)
 

@@ -3,6 +3,7 @@ use Rattle.std.specs.Prelude.{◌≡◌, ℕ, ◌≤◌, ◌<◌, Bool, true, �
 use Rattle.std.specs.List.{AllByRecursion}
 use Rattle.std.specs.Char.{is_ascii_digit, is_ascii_alphabetic}
 use Rattle.std.specs.Str.Parse.{IsNumeral, digits_value}
+use Rattle.iloc_text.specs.declared.limits.TheConstants.{MAX_NUMBER}
 use Rattle.iloc_text.specs.declared.op.Reg.{Reg}
 use Rattle.iloc_text.specs.declared.op.Op.{Op}
 use Rattle.iloc_text.specs.Forms.{Lead, Value, Operand, opcode, operands, opcode_text, numbers}
@@ -105,9 +106,9 @@ abbrev pub ReadsWidely : List ℕ → Option (List ℕ) → Option Op → Type 0
 ReadsWidely line label op =
     (Blanks ⋅ OptionalLabel label ⋅ Blanks ⋅ OptionalOperation op ⋅ Blanks ⋅ OptionalComment) line
 
--- each number is at most 2147483647
+-- each number is at most MAX_NUMBER
 abbrev pub IsWithinLimit : Op → Type 0
-IsWithinLimit op = AllByRecursion (λ n. n ≤ 2147483647) (numbers op)
+IsWithinLimit op = AllByRecursion (λ n. n ≤ MAX_NUMBER) (numbers op)
 
 abbrev pub OptionalIsWithinLimit : Option Op → Type 0
 OptionalIsWithinLimit None = Unit {0}

@@ -1,6 +1,7 @@
 -- Which texts a line of a schedule may have, as schedules are listed.
-use Rattle.std.specs.Prelude.{◌≡◌, ◌≢◌, ℕ, ◌≤◌, Option, Some, None, option_map, Result, Ok, Err, List, [], ◌∷◌, ◌++◌, codes}
+use Rattle.std.specs.Prelude.{◌≢◌, ℕ, ◌≤◌, Option, Some, None, option_map, Result, Ok, Err, List, [], ◌∷◌, ◌++◌, codes}
 use Rattle.std.specs.List.{AllByRecursion}
+use Rattle.iloc_text.specs.declared.limits.TheConstants.{MAX_NUMBER}
 use Rattle.iloc_text.specs.declared.op.Op.{Op}
 use Rattle.iloc_text.specs.declared.line.LineFault.{LineFault}
 use Rattle.iloc_text.specs.declared.line.LineFault.TheVariants.{Bad, NumberTooLarge}
@@ -47,9 +48,9 @@ said_numbers (head k name) = k ∷ []
 said_numbers (cycles c) = c ∷ []
 said_numbers (total t) = t ∷ []
 
--- the line says this, and each number is at most 2147483647
+-- the line says this, and each number is at most MAX_NUMBER
 abbrev pub Says : List ℕ → Said → Type 0
-Says line said = SaysWidely line said × AllByRecursion (λ n. n ≤ 2147483647) (said_numbers said)
+Says line said = SaysWidely line said × AllByRecursion (λ n. n ≤ MAX_NUMBER) (said_numbers said)
 
 abbrev pub SaysSomething : List ℕ → Type 0
 SaysSomething line = (said : Said) × Says line said

@@ -2,7 +2,7 @@
 ghost use Rattle.std.specs.Prelude.{◌≡◌, ◌≤◌, ◌++◌, length, get_or, IfSome};
 ghost use Rattle.iloc_text.specs.Forms.{opcode, operands, opcode_text, op_of};
 ghost use Rattle.iloc_text.specs.Steps.Operands.{operands_in};
-ghost use Rattle.iloc_text.specs.Steps.Opcodes.{opcode_of};
+ghost use Rattle.iloc_text.specs.Steps.Opcodes.{opcode_of, operands_of};
 
 use crate::op::{Op, Reg};
 
@@ -71,6 +71,7 @@ impl Opcode {
     ];
 
     /// The opcode as it is written.
+    #[inline(always)]
     pub fn text(self) -> &'static [u8]
         ensures text { result.now ≡ opcode_text self }
         ensures short { length result.now ≤ 7 }
@@ -138,6 +139,7 @@ fn number_at(numbers: &[u32], place: usize) -> u32
 }
 
 /// The operation of an opcode and numbers, left to right; 0 stands for a number that isn't there.
+#[inline(always)]
 pub fn op_of(opcode: Opcode, numbers: &[u32]) -> Op
     ensures { result ≡ op_of opcode numbers.now }
 {
@@ -183,6 +185,14 @@ pub fn op_of(opcode: Opcode, numbers: &[u32]) -> Op
     }
 }
 
+/// The operands of an opcode, with 0 for each number.
+#[inline(always)]
+pub fn shape_of(opcode: Opcode) -> Operands
+    ensures { operands_in result ≡ operands_of opcode }
+{
+    form_of(&op_of(opcode, &[])).1
+}
+
 /// The opcode that is written as `word`.
 pub fn opcode_of(word: &[u8]) -> Option<Opcode>
     ensures { result ≡ opcode_of word.now }
@@ -193,44 +203,37 @@ pub fn opcode_of(word: &[u8]) -> Option<Opcode>
         .find(|opcode| opcode.text() == word)
 }
 
+/// The first of the opcodes that stands at the front of the bytes, and what stands behind it.
+#[inline(always)]
+fn first_of<'a>(opcodes: &[Opcode], bytes: &'a [u8]) -> Option<(Opcode, &'a [u8])>
+    ensures { IfSome result (λ found. bytes.now ≡ opcode_text found.0 ++ found.1.now) }
+{
+    for opcode in opcodes {
+        if let Some(rest) = bytes.strip_prefix(opcode.text()) {
+            return Some((*opcode, rest));
+        }
+    }
+    None
+}
+
 /// The longest opcode at the front of the bytes, and what stands behind it.
+///
+/// The first letter picks the few opcodes whose texts are compared, each longer one before its own front.
+/// The compiler makes a comparison of two numbers of each, since these lists and the texts are known to it.
+#[inline(always)]
 pub fn opcode_at(bytes: &[u8]) -> Option<(Opcode, &[u8])>
     ensures { IfSome result (λ found. bytes.now ≡ opcode_text found.0 ++ found.1.now) }
 {
-    match bytes {
-        [b'l', b'o', b'a', b'd', rest @ ..] => Some(match rest {
-            [b'I', rest @ ..] => (Opcode::LoadI, rest),
-            [b'A', b'I', rest @ ..] => (Opcode::LoadAI, rest),
-            _ => (Opcode::Load, rest),
-        }),
-        [b's', b't', b'o', b'r', b'e', rest @ ..] => Some(match rest {
-            [b'A', b'I', rest @ ..] => (Opcode::StoreAI, rest),
-            _ => (Opcode::Store, rest),
-        }),
-        [b'o', b'u', b't', b'p', b'u', b't', rest @ ..] => Some((Opcode::Output, rest)),
-        [b'n', b'o', b'p', rest @ ..] => Some((Opcode::Nop, rest)),
-        _ => computing_opcode_at(bytes),
+    use Opcode::{Add, AddI, Load, LoadAI, LoadI, Lshift, LshiftI, Mult, MultI, Nop, Output};
+    use Opcode::{Rshift, RshiftI, Store, StoreAI, Sub, SubI};
+    match bytes.first()? {
+        b'a' => first_of(&[AddI, Add], bytes),
+        b'l' => first_of(&[LoadI, LoadAI, Load, LshiftI, Lshift], bytes),
+        b'm' => first_of(&[MultI, Mult], bytes),
+        b'n' => first_of(&[Nop], bytes),
+        b'o' => first_of(&[Output], bytes),
+        b'r' => first_of(&[RshiftI, Rshift], bytes),
+        b's' => first_of(&[StoreAI, Store, SubI, Sub], bytes),
+        _ => None,
     }
-}
-
-/// As `opcode_at`, of the opcodes that come with and without a constant.
-fn computing_opcode_at(bytes: &[u8]) -> Option<(Opcode, &[u8])>
-    ensures { IfSome result (λ found. bytes.now ≡ opcode_text found.0 ++ found.1.now) }
-{
-    let (sources, immediate, rest) = match bytes {
-        [b'a', b'd', b'd', rest @ ..] => (Opcode::Add, Opcode::AddI, rest),
-        [b's', b'u', b'b', rest @ ..] => (Opcode::Sub, Opcode::SubI, rest),
-        [b'm', b'u', b'l', b't', rest @ ..] => (Opcode::Mult, Opcode::MultI, rest),
-        [b'l', b's', b'h', b'i', b'f', b't', rest @ ..] => {
-            (Opcode::Lshift, Opcode::LshiftI, rest)
-        }
-        [b'r', b's', b'h', b'i', b'f', b't', rest @ ..] => {
-            (Opcode::Rshift, Opcode::RshiftI, rest)
-        }
-        _ => return None,
-    };
-    Some(match rest {
-        [b'I', rest @ ..] => (immediate, rest),
-        _ => (sources, rest),
-    })
 }

@@ -8,3 +8,6 @@ pub const MAX_BLOCKS: usize = 65_535;
 
 /// The greatest number of operations in a block.
 pub const MAX_OPS: usize = 10_000;
+
+/// The greatest number that a text may have.
+pub const MAX_NUMBER: u32 = 2_147_483_647;

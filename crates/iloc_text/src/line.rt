@@ -1,6 +1,7 @@
 //! What a line says.
 ghost use Rattle.std.specs.Prelude.{◌≡◌, option_map, nat_lt};
 ghost use Rattle.std.specs.List.{list_all};
+ghost use Rattle.iloc_text.specs.declared.scan.TheConstants.{ABOVE_LIMIT};
 ghost use Rattle.iloc_text.specs.Steps.LineReads.{LineReads, label_of};
 ghost use Rattle.iloc_text.specs.Steps.Scan.{is_end, body_at, line_at, optional_label_at, is_within_limit, is_within};
 
@@ -77,7 +78,7 @@ fn line_at(bytes: &[u8]) -> Option<Line<'_>>
 
 /// No number was capped.
 fn are_within_limit(numbers: &[u32]) -> bool
-    ensures { result ≡ list_all (λ n. nat_lt n 2147483648) numbers.now }
+    ensures { result ≡ list_all (λ n. nat_lt n ABOVE_LIMIT) numbers.now }
 {
     numbers.iter().all(|number| *number < ABOVE_LIMIT)
 }

@@ -11,6 +11,7 @@ use crate::operation::called_at;
 use crate::scan::after_blanks;
 
 /// An operation and what stands behind it, or all bytes where none is found.
+#[inline(always)]
 fn operation_or_none(bytes: &[u8]) -> (Option<Op>, &[u8])
     ensures { OperationAt bytes.now result.0 result.1.now }
 {
@@ -24,6 +25,7 @@ fn operation_or_none(bytes: &[u8]) -> (Option<Op>, &[u8])
 
 /// What the first line says, and what stands behind that. Where no letter stands it says nothing; a label
 /// is looked for only where no operation is found at once.
+#[inline(always)]
 fn words_at(text: &[u8]) -> (Line<'_>, &[u8])
     ensures { WordsAt text.now (label_of result.0) result.0.op result.1.now }
 {
@@ -45,9 +47,13 @@ fn words_at(text: &[u8]) -> (Line<'_>, &[u8])
 }
 
 /// What stands behind the first line end, if there is one, where nothing but blanks and a comment stands before it.
+#[inline(always)]
 fn behind_line_end(bytes: &[u8]) -> Option<Option<&[u8]>>
     ensures { IfSome result (EndsAt bytes.now) }
 {
+    if let [b'\n', after @ ..] = bytes {
+        return Some(Some(after));
+    }
     let rest = after_blanks(bytes);
     match rest {
         [b'\n', after @ ..] => Some(Some(after)),
@@ -57,6 +63,7 @@ fn behind_line_end(bytes: &[u8]) -> Option<Option<&[u8]>>
 }
 
 /// What the first line of the text reads as, and what stands behind its line end, if it has one.
+#[inline(always)]
 pub fn usual_line(text: &[u8]) -> Option<(Line<'_>, Option<&[u8]>)>
     ensures { IfSome result (λ found. FirstLineReads text.now found.0 found.1) }
 {

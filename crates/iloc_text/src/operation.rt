@@ -5,13 +5,14 @@ ghost use Rattle.iloc_text.specs.Forms.{◌▹◌};
 ghost use Rattle.iloc_text.specs.Forms.Value.{Use, Constant};
 ghost use Rattle.iloc_text.specs.Steps.Scan.{value_then, operands_at, called_at, operation_at, optional_operation_at};
 
-use crate::forms::{Opcode, op_of, opcode_of};
+use crate::forms::{Opcode, Operands, op_of, opcode_of, shape_of};
 use crate::op::{Op, Reg};
 use crate::scan::{
     arrow_at, comma_at, is_word_byte, number_at, register_at, some_blanks_at, word_at,
 };
 
 /// `number => register`.
+#[inline(always)]
 #[tactic(auto, unfolding(crate::specs::Steps::Scan::value_then))]
 fn number_to_register_at(bytes: &[u8]) -> Option<(u32, Reg, &[u8])>
     ensures { option_map (λ found. (found.0 ∷ found.1.0 ∷ [], found.2.now)) result
@@ -23,6 +24,7 @@ fn number_to_register_at(bytes: &[u8]) -> Option<(u32, Reg, &[u8])>
 }
 
 /// `register => register`.
+#[inline(always)]
 #[tactic(auto, unfolding(crate::specs::Steps::Scan::value_then))]
 fn register_to_register_at(bytes: &[u8]) -> Option<(Reg, Reg, &[u8])>
     ensures { option_map (λ found. (found.0.0 ∷ found.1.0 ∷ [], found.2.now)) result
@@ -33,41 +35,36 @@ fn register_to_register_at(bytes: &[u8]) -> Option<(Reg, Reg, &[u8])>
     Some((source, target, rest))
 }
 
-/// What stands behind an opcode: blanks and operands, or nothing behind `nop`.
+/// What stands behind an opcode: the operands that belong there, by their shape.
 #[tactic(auto, unfolding(crate::specs::Steps::Scan::called_at, crate::specs::Steps::Scan::value_then))]
 pub fn called_at(opcode: Opcode, bytes: &[u8]) -> Option<(Op, &[u8])>
     ensures { option_map (λ found. (found.0, found.1.now)) result ≡ called_at opcode bytes.now }
 {
-    match opcode {
-        Opcode::Nop => Some((Op::Nop, bytes)),
-        Opcode::Output => {
-            let (addr, rest) = number_at(some_blanks_at(bytes)?)?;
-            Some((Op::Output { addr }, rest))
+    match shape_of(opcode) {
+        Operands::Nothing => Some((op_of(opcode, &[]), bytes)),
+        Operands::Constant(_) => {
+            let (value, rest) = number_at(some_blanks_at(bytes)?)?;
+            Some((op_of(opcode, &[value]), rest))
         }
-        Opcode::LoadI => {
+        Operands::Immediate(..) => {
             let (value, dest, rest) = number_to_register_at(some_blanks_at(bytes)?)?;
-            Some((Op::LoadI { value, dest }, rest))
+            Some((op_of(opcode, &[value, dest.0]), rest))
         }
-        Opcode::Load | Opcode::Store => {
+        Operands::Copied(..) | Operands::Stored(..) => {
             let (source, target, rest) = register_to_register_at(some_blanks_at(bytes)?)?;
             Some((op_of(opcode, &[source.0, target.0]), rest))
         }
-        Opcode::Add | Opcode::Sub | Opcode::Mult | Opcode::Lshift | Opcode::Rshift => {
+        Operands::Sources(..) => {
             let (left, rest) = register_at(some_blanks_at(bytes)?)?;
             let (right, dest, rest) = register_to_register_at(comma_at(rest)?)?;
             Some((op_of(opcode, &[left.0, right.0, dest.0]), rest))
         }
-        Opcode::AddI
-        | Opcode::SubI
-        | Opcode::MultI
-        | Opcode::LshiftI
-        | Opcode::RshiftI
-        | Opcode::LoadAI => {
+        Operands::WithConstant(..) => {
             let (left, rest) = register_at(some_blanks_at(bytes)?)?;
             let (value, dest, rest) = number_to_register_at(comma_at(rest)?)?;
             Some((op_of(opcode, &[left.0, value, dest.0]), rest))
         }
-        Opcode::StoreAI => {
+        Operands::StoredAt(..) => {
             let (value, addr, rest) = register_to_register_at(some_blanks_at(bytes)?)?;
             let (offset, rest) = number_at(comma_at(rest)?)?;
             Some((op_of(opcode, &[value.0, addr.0, offset]), rest))

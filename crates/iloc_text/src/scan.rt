@@ -3,10 +3,11 @@ ghost use Rattle.std.specs.Prelude.{◌≡◌, ◌≤◌, ◌<◌, ◌-◌, ◌+
 ghost use Rattle.iloc_text.specs.Grammar.{is_blank, is_word_byte};
 ghost use Rattle.iloc_text.specs.Steps.Scan.{after_blanks, some_blanks_at, capped, digits_after, number_at, register_at, arrow_at, comma_at, after_word, word_of};
 
+use crate::limits::MAX_NUMBER;
 use crate::op::Reg;
 
-/// The least number above the limit of 2147483647. While a line is scanned it stands for every such number.
-pub const ABOVE_LIMIT: u32 = 2_147_483_648;
+/// The least number above the limit. While a line is scanned it stands for every such number.
+pub const ABOVE_LIMIT: u32 = MAX_NUMBER + 1;
 
 fn is_blank(byte: u8) -> bool
     ensures { result ≡ is_blank byte }
@@ -15,6 +16,7 @@ fn is_blank(byte: u8) -> bool
 }
 
 /// The bytes behind the blanks at the front.
+#[inline(always)]
 pub fn after_blanks(bytes: &[u8]) -> &[u8]
     ensures { result.now ≡ after_blanks bytes.now }
 {
@@ -28,6 +30,7 @@ pub fn after_blanks(bytes: &[u8]) -> &[u8]
 }
 
 /// The bytes behind one blank or more.
+#[inline(always)]
 pub fn some_blanks_at(bytes: &[u8]) -> Option<&[u8]>
     ensures { option_map (λ rest. rest.now) result ≡ some_blanks_at bytes.now }
 {
@@ -38,6 +41,7 @@ pub fn some_blanks_at(bytes: &[u8]) -> Option<&[u8]>
 }
 
 /// The number that `digit` makes when it is written behind `value`, as far as the limit goes.
+#[inline(always)]
 fn with_digit(value: u32, digit: u8) -> u32
     requires { (48 ≤ digit) × (digit ≤ 57) }
     ensures { result ≡ capped (value * 10 + (digit - 48)) }
@@ -47,6 +51,7 @@ fn with_digit(value: u32, digit: u8) -> u32
 }
 
 /// The bytes behind the zeros at the front, which count for nothing in a number.
+#[inline(always)]
 fn after_zeros(bytes: &[u8]) -> &[u8]
     ensures { digits_after 0 result.now ≡ digits_after 0 bytes.now }
 {
@@ -58,17 +63,22 @@ fn after_zeros(bytes: &[u8]) -> &[u8]
 }
 
 /// A number, which counts as `ABOVE_LIMIT` where it is greater.
+#[inline(always)]
 pub fn number_at(bytes: &[u8]) -> Option<(u32, &[u8])>
     ensures { option_map (λ found. (found.0, found.1.now)) result ≡ number_at bytes.now }
 {
-    let [first, ..] = bytes else {
+    let [first, after @ ..] = bytes else {
         return None;
     };
     if !first.is_ascii_digit() {
         return None;
     }
-    let mut value = 0;
-    let mut rest = after_zeros(bytes);
+    let mut value = with_digit(0, *first);
+    let mut rest = if value == 0 {
+        after_zeros(after)
+    } else {
+        after
+    };
     while let [digit, after @ ..] = rest
         && digit.is_ascii_digit()
     {
@@ -79,6 +89,7 @@ pub fn number_at(bytes: &[u8]) -> Option<(u32, &[u8])>
 }
 
 /// `r` and a number.
+#[inline(always)]
 pub fn register_at(bytes: &[u8]) -> Option<(Reg, &[u8])>
     ensures { option_map (λ found. (found.0, found.1.now)) result ≡ register_at bytes.now }
 {
@@ -92,6 +103,7 @@ pub fn register_at(bytes: &[u8]) -> Option<(Reg, &[u8])>
 }
 
 /// `=>` with any blanks on both sides.
+#[inline(always)]
 pub fn arrow_at(bytes: &[u8]) -> Option<&[u8]>
     ensures { option_map (λ rest. rest.now) result ≡ arrow_at bytes.now }
 {
@@ -105,6 +117,7 @@ pub fn arrow_at(bytes: &[u8]) -> Option<&[u8]>
 }
 
 /// `,` with any blanks on both sides.
+#[inline(always)]
 pub fn comma_at(bytes: &[u8]) -> Option<&[u8]>
     ensures { option_map (λ rest. rest.now) result ≡ comma_at bytes.now }
 {

@@ -6,6 +6,7 @@ ghost use Rattle.iloc_text.specs.Forms.Lead.{space, comma, arrow};
 ghost use Rattle.iloc_text.specs.Forms.Value.{Use, Definition, Constant};
 ghost use Rattle.iloc_text.specs.Spelling.{spelled_operands, spelling};
 ghost use Rattle.iloc_text.specs.Steps.Operands.{operands_in};
+ghost use Rattle.iloc_text.specs.declared.spelling.TheConstants.{ROOM};
 
 use crate::fault::NoMemory;
 use crate::forms::{Operands, form_of};
@@ -50,8 +51,8 @@ pub fn push_op(text: &mut Vec<u8>, op: &Op) -> Result<(), NoMemory>
 /// Writes the operands to the end of the line, the last of them first, and gives where they start.
 #[tactic(auto, using(crate::proofs::Spelled::nothing_behind))]
 fn write_operands(line: &mut [u8], operands: Operands) -> usize
-    requires { length line.old ≡ 64 }
-    ensures room { (7 ≤ result) × (result ≤ 64) }
+    requires { length line.old ≡ ROOM }
+    ensures room { (7 ≤ result) × (result ≤ ROOM) }
     ensures written { drop result line.new ≡ spelled_operands (operands_in operands) }
 {
     match operands {
@@ -86,8 +87,8 @@ fn write_transfer(line: &mut [u8], end: usize, source: Reg, target: Reg) -> usiz
 /// Writes `left, right => dest` behind a space to the end of the line, and gives where it starts.
 #[tactic(auto, using(crate::proofs::Spelled::nothing_behind))]
 fn write_two_sources(line: &mut [u8], left: Reg, right: Reg, dest: Reg) -> usize
-    requires { length line.old ≡ 64 }
-    ensures room { (7 ≤ result) × (result ≤ 64) }
+    requires { length line.old ≡ ROOM }
+    ensures room { (7 ≤ result) × (result ≤ ROOM) }
     ensures written { drop result line.new
         ≡ spelled_operands (space ▹ Use left ∷ comma ▹ Use right ∷ arrow ▹ Definition dest ∷ []) }
 {
@@ -99,8 +100,8 @@ fn write_two_sources(line: &mut [u8], left: Reg, right: Reg, dest: Reg) -> usize
 /// Writes `left, value => dest` behind a space to the end of the line, and gives where it starts.
 #[tactic(auto, using(crate::proofs::Spelled::nothing_behind))]
 fn write_immediate(line: &mut [u8], left: Reg, value: u32, dest: Reg) -> usize
-    requires { length line.old ≡ 64 }
-    ensures room { (7 ≤ result) × (result ≤ 64) }
+    requires { length line.old ≡ ROOM }
+    ensures room { (7 ≤ result) × (result ≤ ROOM) }
     ensures written { drop result line.new
         ≡ spelled_operands (space ▹ Use left ∷ comma ▹ Constant value ∷ arrow ▹ Definition dest ∷ []) }
 {

@@ -2,6 +2,7 @@
 use Rattle.std.specs.Prelude.{ℕ, ◌+◌, ◌-◌, ◌*◌, min, nat_lt, Bool, true, false, ◌&&◌, ◌==◌, if◌then◌else◌, Option, Some, None, List, [], ◌∷◌, take, length}
 use Rattle.std.specs.List.{list_all}
 use Rattle.std.specs.Char.{is_ascii_digit, is_ascii_alphabetic}
+use Rattle.iloc_text.specs.declared.scan.TheConstants.{ABOVE_LIMIT}
 use Rattle.iloc_text.specs.declared.op.Reg.{Reg}
 use Rattle.iloc_text.specs.declared.op.Op.{Op}
 use Rattle.iloc_text.specs.declared.forms.Opcode.{Opcode}
@@ -26,7 +27,7 @@ some_blanks_at (c ∷ cs) = if is_blank c then Some (after_blanks cs) else None
 
 -- every number above the limit counts as the least of them
 abbrev pub capped : ℕ → ℕ
-capped n = min n 2147483648
+capped n = min n ABOVE_LIMIT
 
 abbrev pub digits_after : ℕ → List ℕ → ℕ × List ℕ
 digits_after value [] = (value, [])
@@ -138,7 +139,7 @@ line_at bytes = do
 
 -- no number was capped
 abbrev pub is_within_limit : Op → Bool
-is_within_limit op = list_all (λ o. nat_lt (number_of o) 2147483648) (operands op)
+is_within_limit op = list_all (λ o. nat_lt (number_of o) ABOVE_LIMIT) (operands op)
 
 abbrev pub is_within : Option Op → Bool
 is_within None = true

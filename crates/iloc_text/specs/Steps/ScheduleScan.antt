@@ -2,6 +2,7 @@
 use Rattle.std.specs.Prelude.{ℕ, nat_lt, Bool, true, ◌&&◌, ◌==◌, if◌then◌else◌, Option, Some, None, List, [], ◌∷◌, codes}
 use Rattle.std.specs.Str.{bytes_eq}
 use Rattle.std.specs.Char.{is_ascii_alphabetic}
+use Rattle.iloc_text.specs.declared.scan.TheConstants.{ABOVE_LIMIT}
 use Rattle.iloc_text.specs.declared.op.Op.{Op}
 use Rattle.iloc_text.specs.Grammar.{is_word_byte}
 use Rattle.iloc_text.specs.Steps.Scan.{◌>>=◌, after_blanks, some_blanks_at, number_at, word_of, after_word, operation_at, is_end, is_within}
@@ -78,6 +79,6 @@ schedule_line_at bytes = do
 abbrev pub is_said_within : Said → Bool
 is_said_within nothing = true
 is_said_within (row zero one) = is_within (Some zero) && is_within (Some one)
-is_said_within (head k name) = nat_lt k 2147483648
-is_said_within (cycles c) = nat_lt c 2147483648
-is_said_within (total t) = nat_lt t 2147483648
+is_said_within (head k name) = nat_lt k ABOVE_LIMIT
+is_said_within (cycles c) = nat_lt c ABOVE_LIMIT
+is_said_within (total t) = nat_lt t ABOVE_LIMIT
