@@ -12,7 +12,7 @@ use Rattle.iloc_sched.specs.Steps.Members.{In}
 use Rattle.iloc_sched.proofs.Basics.Members.{contains_from, from_append, in_left, in_right, any_at, from_any}
 use Rattle.iloc_sched.proofs.Basics.Ordered.{Ordered, ordered_append, ordered_pair}
 
-count_by-cons : {X : Type 0} → (p : X → Bool) (x : X) (xs : List X)
+pub count_by-cons : {X : Type 0} → (p : X → Bool) (x : X) (xs : List X)
     → count_by p (x ∷ xs) ≡ cond (p x) 1 0 + count_by p xs
 count_by-cons p x xs = sum_by-cons (λ y. cond (p y) 1 0) x xs
 

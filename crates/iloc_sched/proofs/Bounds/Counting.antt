@@ -6,33 +6,20 @@ use Rattle.std.specs.List.Sorted.{IsPermutation}
 use Rattle.std.proofs.Math.Nat.{div-mul-le_self}
 use Rattle.std.proofs.lemmas.Nat.{le-div}
 use Rattle.std.proofs.lemmas.Bool.Decides.{nat_tests}
-use Rattle.std.proofs.lemmas.List.Sums.{sum_by-cons}
+use Rattle.std.proofs.lemmas.List.Sums.{count_by-le-length}
 use Rattle.std.proofs.lemmas.List.Sorted.{sum_by-IsPermutation}
 use Rattle.iloc_sched.specs.Steps.Members.{In}
-
-pub count-cons : {X : Type 0} → (p : X → Bool) (x : X) (xs : List X)
-    → count_by p (x ∷ xs) ≡ cond (p x) 1 0 + count_by p xs
-count-cons p x xs = sum_by-cons (λ y. cond (p y) 1 0) x xs
+use Rattle.iloc_sched.proofs.Basics.Slots.{count_by-cons}
 
 pub count-permutation : {X : Type 0} → (p : X → Bool) (xs ys : List X) → IsPermutation xs ys
     → count_by p ys ≡ count_by p xs
 count-permutation p xs ys h = sum_by-IsPermutation (λ y. cond (p y) 1 0) xs ys h
 
-pub count-short : {X : Type 0} → (p : X → Bool) (xs : List X) → count_by p xs ≤ length xs
-count-short p [] = omega arith
-count-short p (x ∷ xs) = let rest : count_by p xs ≤ length xs = count-short p xs in
-    let first : cond {A = ℕ} (p x) 1 0 ≤ 1 = by (p x) in
-    subst (λ n. n ≤ length (x ∷ xs)) (sym (count-cons p x xs)) (omega arith)
-  where
-    by : (b : Bool) → cond {A = ℕ} b 1 0 ≤ 1
-    by true = omega arith
-    by false = omega arith
-
 pub count-map : {X Y : Type 0} → (p : Y → Bool) (f : X → Y) (xs : List X)
     → count_by p (map f xs) ≡ count_by (λ x. p (f x)) xs
 count-map p f [] = refl
-count-map p f (x ∷ xs) = count-cons p (f x) (map f xs) ∙ ap (λ n. cond (p (f x)) 1 0 + n) (count-map p f xs)
-    ∙ sym (count-cons (λ y. p (f y)) x xs)
+count-map p f (x ∷ xs) = count_by-cons p (f x) (map f xs) ∙ ap (λ n. cond (p (f x)) 1 0 + n) (count-map p f xs)
+    ∙ sym (count_by-cons (λ y. p (f y)) x xs)
 
 pub count-filter : {X : Type 0} → (p q : X → Bool) (xs : List X)
     → count_by p (filter q xs) ≡ count_by (λ x. q x && p x) xs
@@ -44,12 +31,12 @@ count-filter {X} p q (x ∷ xs) = by (q x) refl (count-filter p q xs)
     by true e rest =
         let here : filter q (x ∷ xs) ≡ x ∷ filter q xs = rw e refl in
         let both : (q x && p x) ≡ p x = rw e refl in
-        ap (count_by p) here ∙ count-cons p x (filter q xs) ∙ ap₂ (λ b n. cond b 1 0 + n) (sym both) rest
-        ∙ sym (count-cons (λ y. q y && p y) x xs)
+        ap (count_by p) here ∙ count_by-cons p x (filter q xs) ∙ ap₂ (λ b n. cond b 1 0 + n) (sym both) rest
+        ∙ sym (count_by-cons (λ y. q y && p y) x xs)
     by false e rest =
         let here : filter q (x ∷ xs) ≡ filter q xs = rw e refl in
         let none : cond {A = ℕ} (q x && p x) 1 0 ≡ 0 = rw e refl in
-        let both = count-cons (λ y. q y && p y) x xs in
+        let both = count_by-cons (λ y. q y && p y) x xs in
         let same : count_by (λ y. q y && p y) (x ∷ xs) ≡ count_by (λ y. q y && p y) xs = omega arith in
         ap (count_by p) here ∙ rest ∙ sym same
 
@@ -60,7 +47,7 @@ count-mono p q [] h = omega arith
 count-mono {X} p q (x ∷ xs) h =
     let rest : count_by p xs ≤ count_by q xs = count-mono p q xs (λ y there. h y (inr there)) in
     let first : cond {A = ℕ} (p x) 1 0 ≤ cond (q x) 1 0 = by (p x) (q x) (h x (inl refl)) in
-    subst₂ (λ a b. a ≤ b) (sym (count-cons p x xs)) (sym (count-cons q x xs)) (omega arith)
+    subst₂ (λ a b. a ≤ b) (sym (count_by-cons p x xs)) (sym (count_by-cons q x xs)) (omega arith)
   where
     by : (a b : Bool) → (a ≡ true → b ≡ true) → cond {A = ℕ} a 1 0 ≤ cond b 1 0
     by false b h = omega arith
@@ -73,9 +60,9 @@ count-or p q [] = omega arith
 count-or {X} p q (x ∷ xs) =
     let rest : count_by (λ y. p y || q y) xs ≤ count_by p xs + count_by q xs = count-or p q xs in
     let first : cond {A = ℕ} (p x || q x) 1 0 ≤ cond (p x) 1 0 + cond (q x) 1 0 = by (p x) (q x) in
-    let here = count-cons (λ y. p y || q y) x xs in
-    let mine = count-cons p x xs in
-    let other = count-cons q x xs in omega arith
+    let here = count_by-cons (λ y. p y || q y) x xs in
+    let mine = count_by-cons p x xs in
+    let other = count_by-cons q x xs in omega arith
   where
     by : (a b : Bool) → cond {A = ℕ} (a || b) 1 0 ≤ cond a 1 0 + cond b 1 0
     by true b = omega arith
@@ -87,7 +74,7 @@ late_none : (x a n : ℕ) → x < a → count_by (λ i. i == x) (range_with_len 
 late_none x a zero h = refl
 late_none x a (suc n) h =
     let other : (a == x) ≡ false = grind (arith, nat_tests) in
-    count-cons (λ i. i == x) a (range_with_len (a + 1) n)
+    count_by-cons (λ i. i == x) a (range_with_len (a + 1) n)
     ∙ ap₂ (λ b m. cond b 1 0 + m) other (late_none x (a + 1) n (omega arith))
 
 one_at_most : (x a n : ℕ) → count_by (λ i. i == x) (range_with_len a n) ≤ 1
@@ -99,10 +86,10 @@ one_at_most x a (suc n) = by (a == x) refl (one_at_most x (a + 1) n)
     by true e rest =
         let same : a ≡ x = grind (arith, nat_tests) in
         let none = late_none x (a + 1) n (omega arith) in
-        let here = count-cons (λ i. i == x) a (range_with_len (a + 1) n) ∙ ap (λ b. cond b 1 0
+        let here = count_by-cons (λ i. i == x) a (range_with_len (a + 1) n) ∙ ap (λ b. cond b 1 0
         + count_by (λ i. i == x) (range_with_len (a + 1) n)) e in omega arith
     by false e rest =
-        let here = count-cons (λ i. i == x) a (range_with_len (a + 1) n) ∙ ap (λ b. cond b 1 0
+        let here = count_by-cons (λ i. i == x) a (range_with_len (a + 1) n) ∙ ap (λ b. cond b 1 0
         + count_by (λ i. i == x) (range_with_len (a + 1) n)) e in omega arith
 
 abbrev pub among : List ℕ → ℕ → Bool
@@ -125,7 +112,7 @@ among-short [] a n = none a n
     none : (a n : ℕ) → count_by (λ i. false) (range_with_len a n) ≤ 0
     none a zero = omega arith
     none a (suc n) = let rest = none (a + 1) n in
-        let here = count-cons (λ (i : ℕ). false) a (range_with_len (a + 1) n) in omega arith
+        let here = count_by-cons (λ (i : ℕ). false) a (range_with_len (a + 1) n) in omega arith
 among-short (x ∷ xs) a n =
     let rest = among-short xs a n in
     let one = one_at_most x a n in
@@ -152,7 +139,7 @@ all_pass q (x ∷ xs) h =
     let low : q ≤ x = h 0 (omega arith) in
     let here : nat_le q x ≡ true = grind (arith, nat_tests) in
     let rest = all_pass q xs (λ j lt. h (suc j) (omega arith)) in
-    let one = count-cons (λ p. nat_le q p) x xs ∙ ap (λ b. cond b 1 0 + count_by (λ p. nat_le q p) xs) here in
+    let one = count_by-cons (λ p. nat_le q p) x xs ∙ ap (λ b. cond b 1 0 + count_by (λ p. nat_le q p) xs) here in
     omega arith
 
 -- from a place on all numbers are at least that at the place
@@ -163,7 +150,7 @@ count_up (x ∷ xs) zero h lt = let all = all_pass x (x ∷ xs) (λ j less. h 0 
 count_up (x ∷ xs) (suc k) h lt =
     let q = get_or xs k 0 in
     let rest : length xs ≤ k + count_by (λ p. nat_le q p) xs = count_up xs k (ascends_tail x xs h) (omega arith) in
-    let one = count-cons (λ p. nat_le q p) x xs in
+    let one = count_by-cons (λ p. nat_le q p) x xs in
     subst (λ n. length (x ∷ xs) ≤ suc k + n) (sym one) (omega arith)
 
 -- of those that are at least q the first stands as far from the end as there are
@@ -182,9 +169,9 @@ count_down (x ∷ xs) q h some = by (nat_le q x) refl (count_down xs q (ascends_
         subst (λ n. q ≤ get_or (x ∷ xs) n 0) (sym first) low
     by false e rest =
         let none : cond {A = ℕ} (nat_le q x) 1 0 ≡ 0 = rw e refl in
-        let both = count-cons (λ p. nat_le q p) x xs in
+        let both = count_by-cons (λ p. nat_le q p) x xs in
         let one : count_by (λ p. nat_le q p) (x ∷ xs) ≡ count_by (λ p. nat_le q p) xs = omega arith in
-        let short = count-short (λ p. nat_le q p) xs in
+        let short = count_by-le-length (λ p. nat_le q p) xs in
         let next : length (x ∷ xs) - count_by (λ p. nat_le q p) (x ∷ xs)
         ≡ suc (length xs - count_by (λ p. nat_le q p) xs) = omega arith in
         subst (λ n. q ≤ get_or (x ∷ xs) n 0) (sym next) (rest (omega arith))

@@ -19,10 +19,10 @@ use Rattle.iloc_sched.specs.Lawful.{IsLawful}
 use Rattle.iloc_sched.specs.Laws.{LeastBoundsTheCycles}
 use Rattle.iloc_sched.proofs.Basics.Members.{from_map, in_filter, from_filter, from_range}
 use Rattle.iloc_sched.proofs.Basics.Maxima.{fold_max_reached}
-use Rattle.iloc_sched.proofs.Basics.Slots.{numbers_before, early_issued}
+use Rattle.iloc_sched.proofs.Basics.Slots.{numbers_before, early_issued, count_by-cons}
 use Rattle.iloc_sched.proofs.Bounds.PriorityBound.{priority_bound}
-use Rattle.iloc_sched.proofs.Bounds.Counting.{count-cons, count-short, count-map, count-filter, count-mono, among, in_among, among-short}
-use Rattle.std.proofs.lemmas.List.Sums.{length-filter}
+use Rattle.iloc_sched.proofs.Bounds.Counting.{count-map, count-filter, count-mono, among, in_among, among-short}
+use Rattle.std.proofs.lemmas.List.Sums.{length-filter, count_by-le-length}
 
 -- The greatest over ascending numbers
 
@@ -36,8 +36,8 @@ count-append : {X : Type 0} → (p : X → Bool) (xs ys : List X) → count_by p
 count-append p [] ys = omega arith
 count-append p (x ∷ xs) ys =
     let rest = count-append p xs ys in
-    let here = count-cons p x (xs ++ ys) in
-    let mine = count-cons p x xs in omega arith
+    let here = count_by-cons p x (xs ++ ys) in
+    let mine = count_by-cons p x xs in omega arith
 
 -- whether operation i is of such a kind
 abbrev is_kind : (Kind → Bool) → List Op → ℕ → Bool
@@ -53,13 +53,13 @@ both_slots p first second = count-append p (option_to_list first) (option_to_lis
 
 one_slot : (p : ℕ → Bool) (slot : Option ℕ) → count_by p (option_to_list slot) ≤ 1
 one_slot p None = omega arith
-one_slot p (Some i) = count-short p (i ∷ [])
+one_slot p (Some i) = count_by-le-length p (i ∷ [])
 
 no_slot : (p : ℕ → Bool) (slot : Option ℕ) → ((i : ℕ) → slot ≡ Some i → p i ≡ false)
     → count_by p (option_to_list slot) ≤ 0
 no_slot p None h = omega arith
 no_slot p (Some i) h = let none : count_by p (i ∷ []) ≡ 0 =
-    count-cons p i [] ∙ ap (λ b. cond {A = ℕ} b 1 0 + 0) (h i refl) in omega arith
+    count_by-cons p i [] ∙ ap (λ b. cond {A = ℕ} b 1 0 + 0) (h i refl) in omega arith
 
 units_parts : (a b c : Bool) → (not a && not b && not c) ≡ true → (a ≡ false) × (b ≡ false) × (c ≡ false)
 units_parts true b c h = cc

@@ -21,31 +21,25 @@ abbrev Follows : Latencies → Kind → Kind → ℕ → Type 0
 Follows lat b c d = (e : ℕ) × In (kind_delays lat b c) e × (d ≤ 1 + e)
 
 over_output : (lat : Latencies) (c : Kind) (d : ℕ) → In (kind_delays lat K.Output c) d → Follows lat K.Output c d
-over_output lat K.Load d held = absurd held
 over_output lat K.Store d (inl is) = (1, inl refl, omega arith)
 over_output lat K.Store d (inr none) = absurd none
-over_output lat K.Mult d held = absurd held
 over_output lat K.Output d (inl is) = (1, inl refl, omega arith)
 over_output lat K.Output d (inr none) = absurd none
-over_output lat K.Other d held = absurd held
+over_output lat _ d held = absurd held
 
 over_store : (lat : Latencies) (c : Kind) (d : ℕ) → In (kind_delays lat K.Store c) d → Follows lat K.Store c d
 over_store lat K.Load d (inl is) = (d, inl is, omega arith)
 over_store lat K.Load d (inr none) = absurd none
 over_store lat K.Store d (inl is) = (d, inl is, omega arith)
 over_store lat K.Store d (inr none) = absurd none
-over_store lat K.Mult d held = absurd held
 over_store lat K.Output d (inl is) = (d, inl is, omega arith)
 over_store lat K.Output d (inr none) = absurd none
-over_store lat K.Other d held = absurd held
+over_store lat _ d held = absurd held
 
 over_load : (lat : Latencies) (c : Kind) (d : ℕ) → In (kind_delays lat K.Load c) d → Follows lat K.Store c d
-over_load lat K.Load d held = absurd held
 over_load lat K.Store d (inl is) = (1, inl refl, omega arith)
 over_load lat K.Store d (inr none) = absurd none
-over_load lat K.Mult d held = absurd held
-over_load lat K.Output d held = absurd held
-over_load lat K.Other d held = absurd held
+over_load lat _ d held = absurd held
 
 -- b takes the place of a, so what a delays is delayed by way of b
 by_way : (lat : Latencies) (a b c : Kind) (d : ℕ) → (if is_output a then is_output b else is_store b) ≡ true
@@ -55,26 +49,7 @@ by_way lat K.Load K.Store c d takes held = (inl refl, over_load lat c d held)
 by_way lat K.Store K.Store c d takes held = (inl refl, over_store lat c d held)
 by_way lat K.Mult K.Store c d takes held = absurd held
 by_way lat K.Other K.Store c d takes held = absurd held
-by_way lat K.Load K.Load c d takes held = cc
-by_way lat K.Load K.Mult c d takes held = cc
-by_way lat K.Load K.Output c d takes held = cc
-by_way lat K.Load K.Other c d takes held = cc
-by_way lat K.Store K.Load c d takes held = cc
-by_way lat K.Store K.Mult c d takes held = cc
-by_way lat K.Store K.Output c d takes held = cc
-by_way lat K.Store K.Other c d takes held = cc
-by_way lat K.Mult K.Load c d takes held = cc
-by_way lat K.Mult K.Mult c d takes held = cc
-by_way lat K.Mult K.Output c d takes held = cc
-by_way lat K.Mult K.Other c d takes held = cc
-by_way lat K.Output K.Load c d takes held = cc
-by_way lat K.Output K.Store c d takes held = cc
-by_way lat K.Output K.Mult c d takes held = cc
-by_way lat K.Output K.Other c d takes held = cc
-by_way lat K.Other K.Load c d takes held = cc
-by_way lat K.Other K.Mult c d takes held = cc
-by_way lat K.Other K.Output c d takes held = cc
-by_way lat K.Other K.Other c d takes held = cc
+by_way lat _ _ c d takes held = cc
 
 -- one between that passes, or none
 passes_between : (test : ℕ → Bool) (a b : ℕ) → ((k : ℕ) × (a < k) × (k < b) × (test k ≡ true))

@@ -26,22 +26,17 @@ use Rattle.iloc_sched.proofs.Basics.LastOnes.{last_is, last_holds}
 use Rattle.iloc_sched.proofs.DelayPairs.DelayBounds.{kind_delays}
 
 before_load : (lat : Latencies) (k : Kind) (d : ℕ) → In (kind_delays lat k K.Load) d → (k ≡ K.Store) × (d ≡ lat.store)
-before_load lat K.Load d held = absurd held
 before_load lat K.Store d (inl is) = (refl, sym is)
 before_load lat K.Store d (inr none) = absurd none
-before_load lat K.Mult d held = absurd held
-before_load lat K.Output d held = absurd held
-before_load lat K.Other d held = absurd held
+before_load lat _ d held = absurd held
 
 before_output : (lat : Latencies) (k : Kind) (d : ℕ) → In (kind_delays lat k K.Output) d
     → ((k ≡ K.Store) × (d ≡ lat.store)) ⊎ ((k ≡ K.Output) × (d ≡ 1))
-before_output lat K.Load d held = absurd held
 before_output lat K.Store d (inl is) = inl (refl, sym is)
 before_output lat K.Store d (inr none) = absurd none
-before_output lat K.Mult d held = absurd held
 before_output lat K.Output d (inl is) = inr (refl, sym is)
 before_output lat K.Output d (inr none) = absurd none
-before_output lat K.Other d held = absurd held
+before_output lat _ d held = absurd held
 
 before_store : (lat : Latencies) (k : Kind) (d : ℕ) → In (kind_delays lat k K.Store) d
     → (d ≡ 1) × ((k ≡ K.Store) ⊎ ((k ≡ K.Output) ⊎ (k ≡ K.Load)))
@@ -49,10 +44,9 @@ before_store lat K.Load d (inl is) = (sym is, inr (inr refl))
 before_store lat K.Load d (inr none) = absurd none
 before_store lat K.Store d (inl is) = (sym is, inl refl)
 before_store lat K.Store d (inr none) = absurd none
-before_store lat K.Mult d held = absurd held
 before_store lat K.Output d (inl is) = (sym is, inr (inl refl))
 before_store lat K.Output d (inr none) = absurd none
-before_store lat K.Other d held = absurd held
+before_store lat _ d held = absurd held
 
 before_mult : (lat : Latencies) (k : Kind) (d : ℕ) → In (kind_delays lat k K.Mult) d → ⊥
 before_mult lat K.Load d held = absurd held
@@ -69,25 +63,16 @@ before_other lat K.Output d held = absurd held
 before_other lat K.Other d held = absurd held
 
 store_is : (k : Kind) → is_store k ≡ true → k ≡ K.Store
-store_is K.Load holds = cc
 store_is K.Store holds = refl
-store_is K.Mult holds = cc
-store_is K.Output holds = cc
-store_is K.Other holds = cc
+store_is _ holds = cc
 
 output_is : (k : Kind) → is_output k ≡ true → k ≡ K.Output
-output_is K.Load holds = cc
-output_is K.Store holds = cc
-output_is K.Mult holds = cc
 output_is K.Output holds = refl
-output_is K.Other holds = cc
+output_is _ holds = cc
 
 load_is : (k : Kind) → is_load k ≡ true → k ≡ K.Load
 load_is K.Load holds = refl
-load_is K.Store holds = cc
-load_is K.Mult holds = cc
-load_is K.Output holds = cc
-load_is K.Other holds = cc
+load_is _ holds = cc
 
 module _ (lat : Latencies) (ops : List Op) (j : ℕ) (lasts : Lasts) (is : IsLasts ops lasts j) where
   last_store : (i : ℕ) → i < j → kind (op_at ops i) ≡ K.Store → NoneBetween ops i j → lasts.store ≡ Some i

@@ -13,7 +13,7 @@ use Rattle.iloc_sched.specs.Renaming.{Source, is_source, struck, source, own_sou
 use Rattle.iloc_sched.specs.Steps.Naming.{Stands, also, also_all, numbering_with}
 use Rattle.iloc_sched.specs.Steps.Members.{In}
 use Rattle.iloc_sched.proofs.Renamed.Sources.{is_source-refl, stands_left, stands_right}
-use Rattle.iloc_sched.proofs.Renamed.SameOutcome.{same_function}
+use Rattle.std.proofs.Math.Path.{fun_ext}
 use Rattle.iloc_sched.proofs.Renamed.GivenNames.{struck_more, place_kept}
 
 pub map_same : {X Y : Type 0} (f g : X → Y) (xs : List X) → ((x : X) → In xs x → f x ≡ g x) → map f xs ≡ map g xs
@@ -38,7 +38,7 @@ mentions_kept : (done : List Op) (op : Op) (i : ℕ) → i < length done → men
 mentions_kept done op i below =
     ap (λ o. map (source (done ++ op ∷ []) i) (used o) ++ own_source i (defined o)) (op_at_kept done op i below)
     ∙ ap (λ f. map f (used (op_at done i)) ++ own_source i (defined (op_at done i)))
-    (same_function (λ r. source_kept done op i r (omega arith)))
+    (fun_ext (λ r. source_kept done op i r (omega arith)))
 
 mentions_before_kept : (done : List Op) (op : Op) (n : ℕ) → n ≤ length done → mentions_before (done ++ op ∷ []) n
     ≡ mentions_before done n
@@ -64,7 +64,7 @@ numbering_more done op =
     ∙ ap (λ o. also_all (numbering done) (map (source (done ++ op ∷ []) (length done)) (used o)
     ++ own_source (length done) (defined o))) (op_at_last done op)
     ∙ ap (λ f. also_all (numbering done) (map f (used op) ++ own_source (length done) (defined op)))
-    (same_function (λ r. source_kept done op (length done) r (omega arith)))
+    (fun_ext (λ r. source_kept done op (length done) r (omega arith)))
     ∙ also_all-append (numbering done) (map (source done (length done)) (used op))
     (own_source (length done) (defined op))
 

@@ -16,7 +16,7 @@ use Rattle.iloc_sched.specs.Steps.Naming.{Stands, also, also_all, Follows, Names
 use Rattle.iloc_sched.specs.Steps.Members.{In}
 use Rattle.iloc_sched.proofs.Basics.Members.{in_map}
 use Rattle.iloc_sched.proofs.Renamed.MentionedSources.{use_numbered, definition_numbered, length-renamed_by}
-use Rattle.iloc_sched.proofs.Renamed.SameOutcome.{same_function}
+use Rattle.std.proofs.Math.Path.{fun_ext}
 use Rattle.iloc_sched.proofs.Renamed.GivenNames.{place_new, define_new}
 use Rattle.iloc_sched.proofs.Renamed.OneMoreOperation.{map_same, op_at_kept, op_at_last, source_kept, length_more, also_all-append, numbering_more, name_also_all, used_stands}
 
@@ -80,7 +80,7 @@ uses_all done items uses names i given current past same named =
 -- the sources of registers after one more operation
 source_more : (done : List Op) (op : Op) → source (done ++ op ∷ []) (suc (length done))
     ≡ (λ r. if is_register r (defined op) then Result (length done) else source done (length done) r)
-source_more done op = same_function (λ r. rw (op_at_last done op, source_kept done op (length done) r (omega arith))
+source_more done op = fun_ext (λ r. rw (op_at_last done op, source_kept done op (length done) r (omega arith))
     refl)
 
 whole : (done : List Op) (op : Op) (given : ℕ) (current : Reg → Option ℕ)

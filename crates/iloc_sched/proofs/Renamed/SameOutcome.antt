@@ -1,13 +1,11 @@
 -- Traces with the same effects, one by one, have the same outcome; for `rename` (`outcome`).
 use Rattle.std.proofs.Common.{◌≡◌, ℕ, if◌then◌else◌, List, [], ◌∷◌, ℤ, refl, ap}
+use Rattle.std.proofs.Math.Path.{fun_ext}
 use Rattle.iloc_meaning.specs.declared.outcome.Outcome.TheVariants.{Finished, Fault}
 use Rattle.iloc_meaning.specs.Memory.{with_words}
 use Rattle.iloc_meaning.specs.Trace.{Executed, is_write_to, word_after}
 use Rattle.iloc_meaning.specs.Outcome.{has_fault, emitted, outcome_of}
 use Rattle.iloc_meaning.proofs.Cases.{by_bool}
-
-pub same_function : {A B : Type 0} {f g : A → B} → ((x : A) → f x ≡ g x) → f ≡ g
-same_function same = λ i x. same x i
 
 -- two traces from one memory end alike, whatever their registers are
 pub record SameEnd (memory : List ℤ) (trace other : List Executed) : Type 0 where
@@ -20,7 +18,7 @@ pub same_outcome : (memory : List ℤ) (trace other : List Executed) → SameEnd
 same_outcome memory trace other same =
     rw (same.faults, same.outputs)
     (ap (λ (words : ℕ → ℤ). if has_fault other then Fault else Finished (emitted other) (with_words memory words))
-    (same_function same.words))
+    (fun_ext same.words))
 
 -- each operation of the one has the effect of its fellow in the other
 abbrev pub SameEffects : List Executed → List Executed → Type 0
