@@ -9,9 +9,9 @@ use Rattle.iloc_meaning.specs.Trace.{op_at}
 use Rattle.iloc_timed.specs.declared.latencies.Latencies.{Latencies}
 use Rattle.iloc_sched.specs.Delays.{delays}
 use Rattle.iloc_sched.specs.Pairs.{rising}
-use Rattle.iloc_sched.proofs.Members.{In, contains_from, in_from}
-use Rattle.iloc_sched.proofs.ListFacts.{any_at, from_any}
-use Rattle.iloc_sched.proofs.RisingDelays.{from_rising, in_rising}
+use Rattle.iloc_sched.specs.Steps.Members.{In}
+use Rattle.iloc_sched.proofs.Basics.Members.{contains_from, in_from, any_at, from_any}
+use Rattle.iloc_sched.proofs.DelayPairs.RisingDelays.{from_rising, in_rising}
 use Rattle.iloc_explain.specs.Steps.Waits.{waits_for}
 
 has_delay : (found : Bool) (ds xs : List ℕ) (d : ℕ) → found ≡ list_any (λ y. y == d) xs → xs ≡ rising ds

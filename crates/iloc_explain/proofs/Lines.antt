@@ -5,7 +5,7 @@ use Rattle.iloc_meaning.proofs.Cases.{by_bool}
 use Rattle.iloc_text.specs.declared.op.Op.{Op}
 use Rattle.iloc_text.specs.declared.op.Op.TheVariants.{Nop}
 use Rattle.iloc_sched.specs.Renaming.{is_nop, without_nops}
-use Rattle.iloc_sched.proofs.Nops.{is_nop-true}
+use Rattle.iloc_sched.proofs.Renamed.WithoutNops.{is_nop-true}
 use Rattle.iloc_explain.specs.declared.explanation.Explained.{Explained}
 use Rattle.iloc_explain.specs.Listing.{explained_line, explained_lines}
 

@@ -16,12 +16,13 @@ use Rattle.iloc_timed.specs.Rows.{empty_row, row_at, slots, holds, issue_cycle, 
 use Rattle.iloc_timed.proofs.Issues.{issued_there, holds_zero, holds_one}
 use Rattle.iloc_timed.proofs.Counts.{any_contains}
 use Rattle.iloc_sched.specs.Delays.{delays}
-use Rattle.iloc_sched.proofs.Members.{In, contains_from}
-use Rattle.iloc_sched.proofs.ListFacts.{empty_from, from_any, from_append, from_filter}
-use Rattle.iloc_sched.proofs.DelayFacts.{delay_at_least, delay_at_most}
-use Rattle.iloc_sched.proofs.Steps.PartialGraphs.{short_latency}
+use Rattle.iloc_sched.specs.Steps.Members.{In}
+use Rattle.iloc_sched.proofs.Basics.Members.{contains_from, empty_from, from_any, from_append, from_filter}
+use Rattle.iloc_sched.proofs.DelayPairs.DelayBounds.{delay_at_least, delay_at_most}
 use Rattle.iloc_explain.specs.Waiting.{ends_at, issue_order, waited_until}
 use Rattle.iloc_explain.specs.Steps.Waits.{waits_for}
+use Rattle.iloc_timed.proofs.WholeRuns.{short_latency}
+use Rattle.iloc_timed.specs.Kinds.{kind}
 
 -- the operations of a row, unit 0 first
 abbrev in_order : Row → List ℕ
@@ -69,7 +70,7 @@ module _ (lat : Latencies) (ops : List Op) (rows : List Row) (table : IsTable op
       let delay : Contains (delays lat (op_at ops i) (op_at ops j)) one.0 = contains_from (delays lat (op_at ops i) (op_at ops j)) one.0 one.1 in
       let some : 1 ≤ one.0 = delay_at_least lat (op_at ops i) (op_at ops j) one.0 delay in
       let most : one.0 ≤ latency lat (op_at ops i) = delay_at_most lat (op_at ops i) (op_at ops j) one.0 delay in
-      let few : latency lat (op_at ops i) ≤ 16 = short_latency lat (op_at ops i) in
+      let few : latency lat (op_at ops i) ≤ 16 = short_latency lat (kind (op_at ops i)) in
       (omega arith, omega arith)
 
   -- rows of which none is issued at most 16 cycles before have nothing that ends there

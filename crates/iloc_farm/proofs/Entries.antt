@@ -9,7 +9,7 @@ use Rattle.iloc_text.specs.declared.file.Block.{Block}
 use Rattle.iloc_timed.specs.declared.latencies.Latencies.{Latencies}
 use Rattle.iloc_timed.specs.Schedule.{Table}
 use Rattle.iloc_sched.specs.Greedy.{IsGreedy}
-use Rattle.iloc_sched.proofs.OneGreedy.{greedy_same}
+use Rattle.iloc_sched.proofs.Choice.OneGreedy.{greedy_same}
 use Rattle.iloc_args.specs.declared.request.Request.{Request}
 use Rattle.iloc_board.specs.Views.{AllFit, priced}
 use Rattle.iloc_board.specs.Collecting.{NoneTwice, jobs_of}

@@ -8,7 +8,7 @@ use Rattle.iloc_text.specs.declared.file.Block.{Block}
 use Rattle.iloc_timed.specs.declared.latencies.Latencies.{Latencies}
 use Rattle.iloc_timed.specs.Schedule.{Table}
 use Rattle.iloc_sched.specs.Greedy.{IsGreedy}
-use Rattle.iloc_sched.proofs.LawfulOutcomes.{lawful_same_outcome}
+use Rattle.iloc_sched.proofs.Outcome.LawfulOutcomes.{lawful_same_outcome}
 use Rattle.iloc_board.specs.Core.{opening, played}
 use Rattle.iloc_board.specs.History.{takes}
 use Rattle.iloc_board.specs.Play.{final}

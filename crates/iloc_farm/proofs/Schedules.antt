@@ -18,13 +18,13 @@ use Rattle.iloc_timed.specs.Schedule.{Table}
 use Rattle.iloc_timed.specs.Rows.{issue_cycle}
 use Rattle.iloc_sched.specs.Renaming.{renamed, renamed_op, without_nops, numbering, is_nop}
 use Rattle.iloc_sched.specs.Greedy.{IsGreedy}
-use Rattle.iloc_sched.proofs.Bounds.{busy_bound}
-use Rattle.iloc_sched.proofs.Existing.{greedy_exists}
-use Rattle.iloc_sched.proofs.ListFacts.{from_map}
-use Rattle.iloc_sched.proofs.Maxima.{fold_max_reached}
-use Rattle.iloc_sched.proofs.RowFacts.{issue_cycle_within}
-use Rattle.iloc_sched.proofs.OneGreedy.{greedy_same}
-use Rattle.iloc_sched.proofs.LawfulOutcomes.{lawful_same_outcome}
+use Rattle.iloc_sched.proofs.Bounds.BusyCycles.{busy_bound}
+use Rattle.iloc_sched.proofs.Choice.GreedyExists.{greedy_exists}
+use Rattle.iloc_sched.proofs.Basics.Members.{from_map}
+use Rattle.iloc_sched.proofs.Basics.Maxima.{fold_max_reached}
+use Rattle.iloc_sched.proofs.Basics.IssueCycles.{issue_cycle_within}
+use Rattle.iloc_sched.proofs.Choice.OneGreedy.{greedy_same}
+use Rattle.iloc_sched.proofs.Outcome.LawfulOutcomes.{lawful_same_outcome}
 use Rattle.iloc_farm.specs.Listing.{cycles_of, total_cycles}
 use Rattle.iloc_farm.specs.Schedules.{AreGreedy, IsScheduleOf, IsWithinLimits, KeepOutcomes}
 

@@ -3,7 +3,7 @@ use Rattle.std.specs.Prelude.{ℕ, zero, suc, ◌+◌, ◌≡◌, ◌<◌, ◌==
 use Rattle.std.specs.List.{list_any, range_with_len}
 use Rattle.iloc_text.specs.declared.op.Reg.{Reg}
 use Rattle.iloc_text.specs.declared.op.Op.{Op}
-use Rattle.iloc_text.specs.declared.op.Op.TheVariants.{Load, LoadI, Store, Add, Sub, Mult, Lshift, Rshift, Output, Nop, AddI, SubI, MultI, LshiftI, RshiftI, LoadAI, StoreAI}
+use Rattle.iloc_text.specs.declared.op.Op.TheVariants.{Nop}
 use Rattle.iloc_text.specs.Registers.{used, defined, with_registers}
 use Rattle.iloc_meaning.specs.Trace.{op_at, is_register}
 
@@ -12,11 +12,11 @@ pub data Source : Type 0 where
   Start : (reg : Reg) → Source
   Result : (op : ℕ) → Source
 
+-- whether two sources are one
 abbrev pub is_source : Source → Source → Bool
 is_source (Start r) (Start s) = r.0 == s.0
-is_source (Start r) (Result j) = false
-is_source (Result i) (Start s) = false
 is_source (Result i) (Result j) = i == j
+is_source _ _ = false
 
 -- the source of register r before operation i: the latest earlier operation that defines it, or else its start
 abbrev pub source : List Op → ℕ → Reg → Source
@@ -60,28 +60,16 @@ abbrev pub renamed_op : List Op → List Source → ℕ → Op
 renamed_op ops sources i =
     with_registers (λ r. name_of sources (source ops i r)) (name_of sources (Result i)) (op_at ops i)
 
+-- all operations, renamed by a numbering
 abbrev pub renamed_by : List Op → List Source → List Op
 renamed_by ops sources = map (renamed_op ops sources) (range_with_len 0 (length ops))
 
+-- whether it is `nop`
 abbrev pub is_nop : Op → Bool
-is_nop (Load addr dest) = false
-is_nop (LoadI value dest) = false
-is_nop (Store value addr) = false
-is_nop (Add left right dest) = false
-is_nop (Sub left right dest) = false
-is_nop (Mult left right dest) = false
-is_nop (Lshift left right dest) = false
-is_nop (Rshift left right dest) = false
-is_nop (Output addr) = false
 is_nop Nop = true
-is_nop (AddI left value dest) = false
-is_nop (SubI left value dest) = false
-is_nop (MultI left value dest) = false
-is_nop (LshiftI left value dest) = false
-is_nop (RshiftI left value dest) = false
-is_nop (LoadAI addr offset dest) = false
-is_nop (StoreAI value addr offset) = false
+is_nop _ = false
 
+-- a block without its `nop`s
 abbrev pub without_nops : List Op → List Op
 without_nops ops = filter (λ op. not (is_nop op)) ops
 

@@ -9,6 +9,7 @@ use crate::class::Class;
 use crate::plan::Plan;
 use crate::queues::{Choice, Queues};
 use crate::waiting::Waiting;
+use crate::wheel::LONGEST_DELAY;
 use iloc_text::NoMemory;
 use iloc_timed::Row;
 
@@ -65,7 +66,7 @@ impl Waiting {
         beside: Option<Class>,
         cycle: u32,
     ) -> Option<Choice>
-        requires small { cycle + 17 < 2 ^ 32 }
+        requires small { cycle + LONGEST_DELAY + 1 < 2 ^ 32 }
         requires plan { IsPlan plan.now }
         requires under_way { IsUnderWay plan.now self.old queues.old (cycle + 1) }
         ensures best { IsBest queues.old beside result }
@@ -83,7 +84,7 @@ impl Waiting {
         queues: &mut Queues,
         rows: &mut Vec<Row>,
     ) -> Result<usize, NoMemory>
-        requires small { length rows.old.items + 17 < 2 ^ 32 }
+        requires small { length rows.old.items + LONGEST_DELAY + 1 < 2 ^ 32 }
         requires plan { IsPlan plan.now }
         requires so_far { IsSoFar plan.now self.old queues.old rows.old.items }
         ensures so_far { OnOk result (IsSoFar plan.now self.new queues.new rows.new.items) }

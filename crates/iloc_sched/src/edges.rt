@@ -4,6 +4,7 @@
 //! kept, since every other goes by way of an operation between: from the last store, from the last output, and to a
 //! store from each load since the last one.
 ghost use Rattle.std.specs.Prelude.{ℕ, ◌≡◌, ◌+◌, ◌*◌, ◌≤◌, ◌<◌, length, List, Some, OnOk, Contains};
+ghost use Rattle.iloc_text.specs.declared.limits.TheConstants.{MAX_OPS};
 ghost use Rattle.iloc_text.specs.declared.op.Op.{Op};
 ghost use Rattle.iloc_text.specs.Registers.{used};
 ghost use Rattle.iloc_timed.specs.declared.latencies.Latencies.{Latencies};
@@ -34,8 +35,7 @@ pub struct Edges {
     starts: Vec<u32>,
     // By operation the last edge out of it.
     heads: Vec<Option<u32>>,
-    // At most `MAX_OPS`, which a ghost field cannot name.
-    ghost short: { length heads.items ≤ 10000 },
+    ghost short: { length heads.items ≤ MAX_OPS },
     ghost few: { length edges.items ≤ 5 * length heads.items },
 }
 

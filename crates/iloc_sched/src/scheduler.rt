@@ -18,6 +18,7 @@ use crate::plan::Plan;
 use crate::queues::Queues;
 use crate::renaming::Names;
 use crate::waiting::Waiting;
+use crate::wheel::LONGEST_DELAY;
 use iloc_text::{Block, MAX_OPS, NoMemory};
 use iloc_timed::{Latencies, Row, Schedule};
 use std::alloc::Global;
@@ -74,7 +75,7 @@ impl Scheduler {
         requires { IsPlan self.old.plan }
         ensures greedy { OnOk result ((block : List Op) → self.old.plan.ops.items ≡ renamed block
             → IsGreedy self.old.plan.latencies block self.old.plan.ops.items self.new.rows.items) }
-        ensures few { OnOk result (length self.new.rows.items ≤ 16 * MAX_OPS + 1) }
+        ensures few { OnOk result (length self.new.rows.items ≤ LONGEST_DELAY * MAX_OPS + 1) }
         ensures plan { self.new.plan ≡ self.old.plan }
     {
         self.waiting.open(&self.plan.edges)?;

@@ -6,7 +6,7 @@
 ghost use Rattle.std.specs.Prelude.{ℕ, ◌≡◌, ◌≢◌, ◌+◌, ◌^◌, ◌%◌, ◌<◌, ◌≤◌, ◌∷◌, [], length, slice_set, IfNone, IfSome, OnOk};
 
 use crate::edges::Edges;
-use crate::wheel::Wheel;
+use crate::wheel::{LONGEST_DELAY, Wheel};
 use iloc_text::NoMemory;
 use std::alloc::Global;
 
@@ -86,7 +86,7 @@ impl Waiting {
         requires graph { IsGraph (graph_of edges.now) }
         requires sized { IsSized edges.now self.now }
         requires early { (k t : ℕ) → k < length edges.now.heads.items
-            → (progress_of self.now).issued k ≡ Some t → t + 16 < 2 ^ 32 }
+            → (progress_of self.now).issued k ≡ Some t → t + LONGEST_DELAY < 2 ^ 32 }
         requires start { Reaches (graph_of edges.now) (progress_of self.now).issued j
             ((progress_of self.now).watch j) ((progress_of self.now).earliest j) }
         ensures reaches { Reaches (graph_of edges.now) (progress_of self.now).issued j result.place result.earliest }
@@ -145,7 +145,7 @@ impl Waiting {
     /// Edge x is over, since its source was issued at this cycle: who watches it goes on to the next that isn't.
     /// Answers the edge before x out of the same source.
     fn pass(&mut self, edges: &Edges, x: u32, cycle: u32) -> Option<u32>
-        requires small { cycle + 17 < 2 ^ 32 }
+        requires small { cycle + LONGEST_DELAY + 1 < 2 ^ 32 }
         requires there { x < length edges.now.edges.items }
         requires graph { IsGraph (graph_of edges.now) }
         requires sized { IsSized edges.now self.old }
@@ -176,7 +176,7 @@ impl Waiting {
 
     /// Issues operation i at this cycle.
     pub fn issue(&mut self, edges: &Edges, i: usize, cycle: u32)
-        requires small { cycle + 17 < 2 ^ 32 }
+        requires small { cycle + LONGEST_DELAY + 1 < 2 ^ 32 }
         requires graph { IsGraph (graph_of edges.now) }
         requires sized { IsSized edges.now self.old }
         requires can { CanIssue (graph_of edges.now) (progress_of self.old) (cycle + 1) i }

@@ -4,8 +4,11 @@ ghost use Rattle.std.specs.Prelude.{ℕ, ◌≡◌, ◌≢◌, ◌+◌, ◌^◌,
 use iloc_text::NoMemory;
 use std::alloc::Global;
 
+/// No delay is longer, since no latency is.
+pub const LONGEST_DELAY: usize = 16;
+
 // More than the longest delay, so the operations of one bucket become ready at the same cycle.
-const BUCKETS: usize = 32;
+const BUCKETS: usize = 2 * LONGEST_DELAY;
 
 /// So many operations, of which the first is known.
 #[derive(Clone, Copy, Debug)]

@@ -32,7 +32,8 @@ pub if_ok : {X E : Type 0} (P Q : X → Type 0) (r : Result X E) → ((x : X) �
 if_ok P Q (Ok x) follows holds = follows x holds
 if_ok P Q (Err e) follows holds = tt
 
-some_latency : (lat : Latencies) (k : Kind) → 1 ≤ latency_of lat k
+-- an operation takes one cycle at least
+pub some_latency : (lat : Latencies) (k : Kind) → 1 ≤ latency_of lat k
 some_latency lat K.Load = lat.some_load
 some_latency lat K.Store = lat.some_store
 some_latency lat K.Mult = lat.some_mult
@@ -157,7 +158,8 @@ finishes memory n log machine all follows =
     let fine : has_fault (executed_in log) ≡ false = no_fault n log all in
     rw (fine, follows.outputs, words) refl
 
-short_latency : (lat : Latencies) (k : Kind) → latency_of lat k ≤ 16
+-- and 16 at most
+pub short_latency : (lat : Latencies) (k : Kind) → latency_of lat k ≤ 16
 short_latency lat K.Load = lat.short_load
 short_latency lat K.Store = lat.short_store
 short_latency lat K.Mult = lat.short_mult

@@ -6,6 +6,7 @@ use Rattle.iloc_timed.specs.declared.latencies.Latencies.{Latencies}
 use Rattle.iloc_timed.specs.Latency.{latency}
 use Rattle.iloc_sched.specs.Delays.{IsDelayPair}
 use Rattle.iloc_sched.specs.Priority.{priority}
+use Rattle.iloc_sched.specs.declared.wheel.TheConstants.{LONGEST_DELAY}
 use Rattle.iloc_sched.specs.Steps.Near.{IsNear}
 
 -- edges by number: those into operation j are the ones from `start j` up to `start (j + 1)`; of those out of
@@ -31,7 +32,7 @@ pub record IsGraph (graph : Graph) : Type 0 where
   pub into : (j x : ℕ) → j < graph.ops → graph.start j ≤ x → x < graph.start (j + 1) → graph.to x ≡ j
   pub to_there : (x : ℕ) → x < graph.count → (graph.to x < graph.ops) × (graph.start (graph.to x) ≤ x) × (x < graph.start (graph.to x + 1))
   pub earlier : (x : ℕ) → x < graph.count → graph.from x < graph.to x
-  pub delays : (x : ℕ) → x < graph.count → (1 ≤ graph.delay x) × (graph.delay x ≤ 16)
+  pub delays : (x : ℕ) → x < graph.count → (1 ≤ graph.delay x) × (graph.delay x ≤ LONGEST_DELAY)
   pub heads : (i : ℕ) → i < graph.ops → IsLast (λ x. graph.from x ≡ i) graph.count (graph.head i)
   pub previous_edges : (x : ℕ) → x < graph.count → IsLast (λ y. graph.from y ≡ graph.from x) x (graph.previous x)
 

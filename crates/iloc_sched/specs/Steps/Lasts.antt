@@ -1,5 +1,6 @@
 -- What stands last before an operation.
 use Rattle.std.specs.Prelude.{ℕ, ◌≡◌, ◌<◌, ◌≤◌, true, false, if◌then◌else◌, List, [], ◌∷◌, ◌++◌, length, Some}
+use Rattle.iloc_text.specs.declared.limits.TheConstants.{MAX_OPS}
 use Rattle.iloc_text.specs.declared.op.Reg.{Reg}
 use Rattle.iloc_text.specs.declared.op.Op.{Op}
 use Rattle.iloc_text.specs.Registers.{defined}
@@ -30,7 +31,7 @@ pub record IsLasts (ops : List Op) (lasts : Lasts) (j : ℕ) : Type 0 where
 -- operation j of these is the next, and what stands last before it is known
 pub record IsNext (ops : List Op) (lasts : Lasts) (j : ℕ) : Type 0 where
   pub renamed : IsRenamed ops
-  pub few : length ops ≤ 10000
+  pub few : length ops ≤ MAX_OPS
   pub there : j < length ops
   pub known : IsLasts ops lasts j
 
@@ -38,9 +39,8 @@ pub record IsNext (ops : List Op) (lasts : Lasts) (j : ℕ) : Type 0 where
 abbrev pub NotesKind : Kind → Lasts → Lasts → ℕ → Type 0
 NotesKind K.Load old new j = (new.store ≡ old.store) × (new.output ≡ old.output) × (new.loads.items ≡ old.loads.items ++ j ∷ [])
 NotesKind K.Store old new j = (new.store ≡ Some j) × (new.output ≡ old.output) × (new.loads.items ≡ [])
-NotesKind K.Mult old new j = (new.store ≡ old.store) × (new.output ≡ old.output) × (new.loads.items ≡ old.loads.items)
 NotesKind K.Output old new j = (new.store ≡ old.store) × (new.output ≡ Some j) × (new.loads.items ≡ old.loads.items)
-NotesKind K.Other old new j = (new.store ≡ old.store) × (new.output ≡ old.output) × (new.loads.items ≡ old.loads.items)
+NotesKind _ old new j = (new.store ≡ old.store) × (new.output ≡ old.output) × (new.loads.items ≡ old.loads.items)
 
 -- how many loads an operation of a kind waits for
 abbrev pub loads_before : Kind → Lasts → ℕ

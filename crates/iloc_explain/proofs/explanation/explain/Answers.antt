@@ -1,5 +1,5 @@
 use Rattle.std.proofs.Common.{◌≡◌, ◌<◌, ◌≤◌, length, slice_index, ap, arith}
-use Rattle.iloc_sched.proofs.PriorityFacts.{length-priorities}
+use Rattle.iloc_sched.proofs.PriorityValues.Longest.{length-priorities}
 use Rattle.iloc_timed.proofs.Arrivals.{issued_within}
 use Rattle.iloc_timed.specs.Rows.{issue_cycle, row_at}
 use Rattle.iloc_explain.proofs.Explaining.{is_explained, none_explained, noted_cycle, one_explained, read_latest}

@@ -6,9 +6,9 @@ use Rattle.std.specs.Fmt.{decimal}
 use Rattle.iloc_timed.specs.Cycles.{cycles}
 use Rattle.iloc_sched.specs.Least.{least}
 use Rattle.iloc_sched.specs.Renaming.{without_nops}
-use Rattle.iloc_sched.proofs.Numbering.{length-renamed_by}
+use Rattle.iloc_sched.proofs.Renamed.MentionedSources.{length-renamed_by}
 use Rattle.iloc_explain.specs.Listing.{explained_lines, cycles_line, chain_line}
-use Rattle.iloc_sched.proofs.RenamedBlocks.{renamed_is_renamed}
+use Rattle.iloc_sched.proofs.Renamed.RenamedBlocks.{renamed_is_renamed}
 use Rattle.iloc_explain.proofs.Lines.{nops_left_out, parts_joined}
 use Rattle.iloc_explain.proofs.listing.push_explanation.Goals as goal
 

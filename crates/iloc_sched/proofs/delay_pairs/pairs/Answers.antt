@@ -1,5 +1,5 @@
 use Rattle.std.proofs.Common.{arith}
-use Rattle.iloc_sched.proofs.PairLists.{pairs_all, pairs_exact, pairs_ordered}
+use Rattle.iloc_sched.proofs.DelayPairs.PairLists.{pairs_all, pairs_exact, pairs_ordered}
 use Rattle.iloc_sched.proofs.delay_pairs.pairs.Goals as goal
 
 pub returns-clause-exact : goal.returns-clause-exact

@@ -1,5 +1,5 @@
 use Rattle.std.proofs.Common.{◌∙◌}
-use Rattle.iloc_sched.proofs.PairLists.{pairs_more}
+use Rattle.iloc_sched.proofs.DelayPairs.PairLists.{pairs_more}
 use Rattle.iloc_sched.proofs.delay_pairs.push_pairs_to.Goals as goal
 
 pub loop-first-preserved : goal.loop-first-preserved

@@ -1,4 +1,4 @@
-use Rattle.iloc_sched.proofs.Bounds.{busy_bound}
+use Rattle.iloc_sched.proofs.Bounds.BusyCycles.{busy_bound}
 use Rattle.iloc_sched.proofs.laws.latencies_bound_the_cycles.Goals as goal
 
 pub returns : goal.returns

@@ -1,4 +1,4 @@
-use Rattle.iloc_sched.proofs.LawfulOutcomes.{lawful_same_outcome}
+use Rattle.iloc_sched.proofs.Outcome.LawfulOutcomes.{lawful_same_outcome}
 use Rattle.iloc_sched.proofs.laws.lawful_schedules_keep_the_outcome.Goals as goal
 
 pub returns : goal.returns

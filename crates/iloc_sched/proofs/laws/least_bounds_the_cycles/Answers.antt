@@ -1,4 +1,4 @@
-use Rattle.iloc_sched.proofs.Leasts.{least_bound}
+use Rattle.iloc_sched.proofs.Bounds.LeastBound.{least_bound}
 use Rattle.iloc_sched.proofs.laws.least_bounds_the_cycles.Goals as goal
 
 pub returns : goal.returns

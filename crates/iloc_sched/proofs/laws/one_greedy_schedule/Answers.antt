@@ -1,6 +1,6 @@
 use Rattle.iloc_sched.specs.Renaming.{renamed}
-use Rattle.iloc_sched.proofs.Existing.{greedy_exists}
-use Rattle.iloc_sched.proofs.OneGreedy.{greedy_same}
+use Rattle.iloc_sched.proofs.Choice.GreedyExists.{greedy_exists}
+use Rattle.iloc_sched.proofs.Choice.OneGreedy.{greedy_same}
 use Rattle.iloc_sched.proofs.laws.one_greedy_schedule.Goals as goal
 
 pub returns : goal.returns

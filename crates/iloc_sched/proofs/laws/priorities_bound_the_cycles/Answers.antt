@@ -1,4 +1,4 @@
-use Rattle.iloc_sched.proofs.Bounds.{priority_bound}
+use Rattle.iloc_sched.proofs.Bounds.PriorityBound.{priority_bound}
 use Rattle.iloc_sched.proofs.laws.priorities_bound_the_cycles.Goals as goal
 
 pub returns : goal.returns

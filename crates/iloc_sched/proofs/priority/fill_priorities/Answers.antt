@@ -3,7 +3,7 @@ use Rattle.std.proofs.lemmas.List.{get_or_read}
 use Rattle.iloc_sched.specs.declared.edges.Edge.{Edge}
 use Rattle.iloc_sched.specs.Steps.Graph.{Graph, IsRaised}
 use Rattle.iloc_sched.specs.Steps.Views.{graph_of, edge_at}
-use Rattle.iloc_sched.proofs.Steps.Raising.{raised_none, raised_more, raised_all, raised_small}
+use Rattle.iloc_sched.proofs.PriorityValues.Raised.{raised_none, raised_more, raised_all, raised_small}
 use Rattle.iloc_sched.proofs.priority.fill_priorities.Goals as goal
 
 pub loop-x-init : goal.loop-x-init

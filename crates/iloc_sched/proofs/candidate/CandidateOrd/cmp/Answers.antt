@@ -1,7 +1,7 @@
 use Rattle.std.proofs.Common.{ap, ◌∙◌}
 use Rattle.std.specs.Ordering.{nat_cmp}
 use Rattle.iloc_sched.specs.Steps.Order.{rank}
-use Rattle.iloc_sched.proofs.Steps.Ranks.{ranks_compare}
+use Rattle.iloc_sched.proofs.Choice.Ranks.{ranks_compare}
 use Rattle.iloc_sched.proofs.candidate.CandidateOrd.cmp.Goals as goal
 
 pub returns : goal.returns

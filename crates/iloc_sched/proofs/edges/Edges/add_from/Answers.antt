@@ -1,6 +1,6 @@
 use Rattle.std.proofs.lemmas.Result.{on_ok_weaker}
 use Rattle.iloc_sched.specs.Steps.Views.{graph_of}
-use Rattle.iloc_sched.proofs.Steps.Adding.{adds_some}
+use Rattle.iloc_sched.proofs.Graph.AddedEdges.{adds_some}
 use Rattle.iloc_sched.proofs.edges.Edges.add_from.Goals as goal
 
 pub returns-in-Some-clause-adds : goal.returns-in-Some-clause-adds

@@ -10,7 +10,7 @@ use Rattle.iloc_timed.specs.Kinds.{kind}
 use Rattle.iloc_sched.specs.Steps.Members.{In}
 use Rattle.iloc_sched.specs.Steps.PartialGraph.{AddsFrom}
 use Rattle.iloc_sched.specs.Steps.Views.{graph_of}
-use Rattle.iloc_sched.proofs.Steps.Adding.{memory_load, memory_output, memory_store}
+use Rattle.iloc_sched.proofs.Graph.AddedEdges.{memory_load, memory_output, memory_store}
 use Rattle.iloc_sched.proofs.edges.Edges.add_memory.Goals as goal
 
 kind_read : (ops : List Op) (j : ℕ) (k q : Kind) (d : Op) → j < length ops → k ≡ kind (get_or ops j d) → k ≡ q

@@ -7,8 +7,8 @@ use Rattle.iloc_timed.specs.Latency.{latency}
 use Rattle.iloc_sched.specs.Steps.ByRegister.{number_at}
 use Rattle.iloc_sched.specs.Steps.PartialGraph.{AddsFrom, Grows, CoversUse}
 use Rattle.iloc_sched.specs.Steps.Views.{graph_of}
-use Rattle.iloc_sched.proofs.Steps.Covering.{definer_there}
-use Rattle.iloc_sched.proofs.Steps.Adding.{adds_use}
+use Rattle.iloc_sched.proofs.Graph.NearPairs.{definer_there}
+use Rattle.iloc_sched.proofs.Graph.AddedEdges.{adds_use}
 use Rattle.iloc_sched.proofs.edges.Edges.add_use.Goals as goal
 
 abbrev Both : goal.After-add → Type 0

@@ -6,8 +6,8 @@ use Rattle.iloc_text.specs.Registers.{used}
 use Rattle.iloc_sched.specs.Steps.Members.{In}
 use Rattle.iloc_sched.specs.Steps.PartialGraph.{CoversUse}
 use Rattle.iloc_sched.specs.Steps.Views.{graph_of}
-use Rattle.iloc_sched.proofs.Steps.PartialGraphs.{grows_then}
-use Rattle.iloc_sched.proofs.Steps.Adding.{uses_more, covers_along}
+use Rattle.iloc_sched.proofs.Graph.PartialGraphs.{grows_then}
+use Rattle.iloc_sched.proofs.Graph.AddedEdges.{uses_more, covers_along}
 use Rattle.iloc_sched.proofs.edges.Edges.add_uses.Goals as goal
 
 pub loop-register-preserved : goal.loop-register-preserved

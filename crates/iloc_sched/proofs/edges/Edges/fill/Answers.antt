@@ -1,7 +1,7 @@
 use Rattle.std.proofs.Common.{◌≡◌, length, refl, subst, arith}
 use Rattle.iloc_sched.specs.Steps.PartialGraph.{IsPartialGraph}
 use Rattle.iloc_sched.specs.Steps.Views.{graph_of}
-use Rattle.iloc_sched.proofs.Steps.PartialGraphs.{kept_at_end}
+use Rattle.iloc_sched.proofs.Graph.PartialGraphs.{kept_at_end}
 use Rattle.iloc_sched.proofs.edges.Edges.fill.Goals as goal
 
 pub loop-j-init : goal.loop-j-init

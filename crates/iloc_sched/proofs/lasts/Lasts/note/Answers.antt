@@ -4,7 +4,7 @@ use Rattle.std.proofs.lemmas.List.{get_or_default}
 use Rattle.iloc_text.specs.declared.op.Op.TheVariants.{Nop}
 use Rattle.iloc_sched.specs.declared.lasts.Lasts.{Lasts}
 use Rattle.iloc_sched.specs.Steps.Lasts.{NotesKind}
-use Rattle.iloc_sched.proofs.Steps.Noting.{noted_in_turn}
+use Rattle.iloc_sched.proofs.Graph.LastsNoted.{noted_in_turn}
 use Rattle.iloc_sched.proofs.lasts.Lasts.note.Goals as goal
 
 pub returns-clause-lasts : goal.returns-clause-lasts

@@ -1,5 +1,5 @@
 use Rattle.std.specs.BinaryHeap.{heap_items}
-use Rattle.iloc_sched.proofs.Steps.Queues.{peeked}
+use Rattle.iloc_sched.proofs.Choice.CandidateHeaps.{peeked}
 use Rattle.iloc_sched.proofs.queue.Queue.first.Goals as goal
 
 pub returns : goal.returns

@@ -1,5 +1,5 @@
 use Rattle.std.specs.BinaryHeap.{heap_items, heap_len}
-use Rattle.iloc_sched.proofs.Steps.Queues.{heap_after_push, distinct_after_push, pushed_adds}
+use Rattle.iloc_sched.proofs.Choice.CandidateHeaps.{heap_after_push, distinct_after_push, pushed_adds}
 use Rattle.iloc_sched.proofs.queue.Queue.insert.Goals as goal
 
 pub invariant_of-self : goal.invariant_of-self

@@ -1,5 +1,5 @@
 use Rattle.std.specs.BinaryHeap.{heap_items, heap_len}
-use Rattle.iloc_sched.proofs.Steps.Queues.{heap_after_pop, distinct_after_pop, first_of_pop, popped_by_pop}
+use Rattle.iloc_sched.proofs.Choice.CandidateHeaps.{heap_after_pop, distinct_after_pop, first_of_pop, popped_by_pop}
 use Rattle.iloc_sched.proofs.queue.Queue.pop.Goals as goal
 
 pub invariant_of-self : goal.invariant_of-self

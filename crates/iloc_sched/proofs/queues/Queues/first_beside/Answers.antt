@@ -1,4 +1,4 @@
-use Rattle.iloc_sched.proofs.Steps.Queues.{best_of_pairs}
+use Rattle.iloc_sched.proofs.Choice.FourQueues.{best_of_pairs}
 use Rattle.iloc_sched.proofs.queues.Queues.first_beside.Goals as goal
 
 pub returns : goal.returns

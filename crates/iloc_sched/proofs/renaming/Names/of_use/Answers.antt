@@ -1,5 +1,5 @@
 use Rattle.std.proofs.Common.{ℕ, ap, sym, ◌∙◌}
-use Rattle.iloc_sched.proofs.Naming.{use_named, use_new, name_had, name_next_given}
+use Rattle.iloc_sched.proofs.Renamed.GivenNames.{use_named, use_new, name_had, name_next_given}
 use Rattle.iloc_sched.proofs.renaming.Names.of_use.Goals as goal
 
 pub returns-in-Some-clause-name : goal.returns-in-Some-clause-name

@@ -1,5 +1,5 @@
 use Rattle.std.proofs.Common.{arith, sym, ◌∙◌}
-use Rattle.iloc_sched.proofs.WalkSteps.{uses_step, uses_all, named_with, named_without, renamed_next}
+use Rattle.iloc_sched.proofs.Renamed.RenamingLoop.{uses_step, uses_all, named_with, named_without, renamed_next}
 use Rattle.iloc_sched.proofs.renaming.Names.rename.Goals as goal
 use Rattle.iloc_sched.proofs.renaming.Names.rename.Goals.{in-Some+in_ok-give, in_default}
 

@@ -4,8 +4,8 @@ use Rattle.iloc_text.specs.declared.op.Op.{Op}
 use Rattle.iloc_sched.specs.declared.plan.Plan.{Plan}
 use Rattle.iloc_sched.specs.Renaming.{renamed}
 use Rattle.iloc_sched.specs.Greedy.{IsGreedy}
-use Rattle.iloc_sched.proofs.LawfulOutcomes.{lawful_same_outcome}
-use Rattle.iloc_sched.proofs.Steps.Scheduled.{seen_greedy, greedy_only, greedy_least, greedy_most}
+use Rattle.iloc_sched.proofs.Outcome.LawfulOutcomes.{lawful_same_outcome}
+use Rattle.iloc_sched.proofs.Choice.Scheduled.{seen_greedy, greedy_only, greedy_least, greedy_most}
 use Rattle.iloc_sched.proofs.scheduler.Scheduler.schedule.Goals as goal
 
 pub of_table-requires-clause-table : goal.of_table-requires-clause-table

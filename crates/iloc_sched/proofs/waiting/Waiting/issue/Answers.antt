@@ -1,6 +1,6 @@
 use Rattle.std.proofs.Common.{length, ap, ◌∙◌}
 use Rattle.iloc_sched.specs.declared.wheel.Wheel.{Wheel}
-use Rattle.iloc_sched.proofs.Steps.Passing.{started, places_as_before}
+use Rattle.iloc_sched.proofs.Watching.WalkInTables.{started, places_as_before}
 use Rattle.iloc_sched.proofs.waiting.Waiting.issue.Goals as goal
 
 pub loop-at-init : goal.loop-at-init

@@ -1,4 +1,4 @@
-use Rattle.iloc_sched.proofs.Steps.Issued.{issues_choice}
+use Rattle.iloc_sched.proofs.Choice.IssuedChoice.{issues_choice}
 use Rattle.iloc_sched.proofs.waiting.Waiting.issue_first.Goals as goal
 
 pub returns-clause-issues : goal.returns-clause-issues

@@ -3,7 +3,7 @@ use Rattle.iloc_sched.specs.declared.waiting.State.{State}
 use Rattle.iloc_sched.specs.declared.waiting.Waiting.{Waiting}
 use Rattle.iloc_sched.specs.Steps.Opening.{IsOpening}
 use Rattle.iloc_sched.specs.Steps.Views.{progress_of}
-use Rattle.iloc_sched.proofs.Steps.Opening.{opening_kept, opening_put, roots_few, all_opened}
+use Rattle.iloc_sched.proofs.Watching.FirstStates.{opening_kept, opening_put, roots_few, all_opened}
 use Rattle.iloc_sched.proofs.waiting.Waiting.open.Goals as goal
 use Rattle.iloc_sched.proofs.waiting.Waiting.open.Goals.{then-place-end, else-place-end}
 

@@ -6,8 +6,8 @@ use Rattle.iloc_sched.specs.Steps.Members.{In}
 use Rattle.iloc_sched.specs.Steps.Wheel.{bucket_of}
 use Rattle.iloc_sched.specs.Steps.Progress.{Reaches, Waits}
 use Rattle.iloc_sched.specs.Steps.Views.{graph_of, watch_list, earliest_list, progress_of}
-use Rattle.iloc_sched.proofs.Steps.Reads.{target_read}
-use Rattle.iloc_sched.proofs.Steps.Passing.{in_none, bucket_few, after_skip, after_step, after_end}
+use Rattle.iloc_sched.proofs.Watching.TableReads.{target_read}
+use Rattle.iloc_sched.proofs.Watching.WalkInTables.{in_none, bucket_few, after_skip, after_step, after_end}
 use Rattle.iloc_sched.proofs.waiting.Waiting.pass.Goals as goal
 
 pub returns-then-state-x-clause-waits : goal.returns-then-state-x-clause-waits

@@ -2,8 +2,8 @@ use Rattle.std.proofs.Common.{◌≡◌, ◌<◌, ◌≤◌, ◌+◌, ◌^◌, m
 use Rattle.iloc_sched.specs.declared.edges.Edge.{Edge}
 use Rattle.iloc_sched.specs.Steps.Views.{graph_of, progress_of}
 use Rattle.iloc_sched.specs.Steps.Progress.{Reaches}
-use Rattle.iloc_sched.proofs.Steps.Reads.{issued_read, watch_read, earliest_read, source_there}
-use Rattle.iloc_sched.proofs.Steps.Walk.{reaches_more}
+use Rattle.iloc_sched.proofs.Watching.TableReads.{issued_read, watch_read, earliest_read, source_there}
+use Rattle.iloc_sched.proofs.Watching.EdgeWalk.{reaches_more}
 use Rattle.iloc_sched.proofs.waiting.Waiting.reach.Goals as goal
 
 pub loop-place-init : goal.loop-place-init

@@ -4,8 +4,8 @@ use Rattle.iloc_sched.specs.declared.waiting.Waiting.{Waiting}
 use Rattle.iloc_sched.specs.Steps.Changes.{HasNone}
 use Rattle.iloc_sched.specs.Steps.Queued.{candidates}
 use Rattle.iloc_sched.specs.Steps.SoFar.{IsReleasing}
-use Rattle.iloc_sched.proofs.PriorityFacts.{length-priorities}
-use Rattle.iloc_sched.proofs.Steps.Issued.{due_linked, taken_there, taken_new, releasing_more, released}
+use Rattle.iloc_sched.proofs.PriorityValues.Longest.{length-priorities}
+use Rattle.iloc_sched.proofs.Choice.IssuedChoice.{due_linked, taken_there, taken_new, releasing_more, released}
 use Rattle.iloc_sched.proofs.waiting.Waiting.release.Goals as goal
 
 pub take-requires : goal.take-requires

@@ -1,6 +1,6 @@
 use Rattle.std.proofs.Common.{refl, ◌∙◌}
 use Rattle.iloc_timed.specs.Rows.{empty_row}
-use Rattle.iloc_sched.proofs.Steps.RowsMade.{step_none, step_some, step_count}
+use Rattle.iloc_sched.proofs.Choice.NextRow.{step_none, step_some, step_count}
 use Rattle.iloc_sched.proofs.waiting.Waiting.step.Goals as goal
 
 pub returns-in_ok-push-in-None-clause-so_far : goal.returns-in_ok-push-in-None-clause-so_far

@@ -1,0 +1,138 @@
+-- Members of lists, by recursion and by `Contains`, joined, mapped, filtered and searched; for the other proofs.
+use Rattle.std.proofs.Common.{◌≡◌, ℕ, ◌<◌, zero, suc, List, [], ◌∷◌, length, ◌⊎◌, inl, inr, arith, ◌+◌, ◌≤◌, Bool, true, false, ◌++◌, map, refl, ap, sym, ◌∙◌, get_or}
+use Rattle.std.specs.Prelude.{slice_index_or, Contains, filter}
+use Rattle.std.specs.List.{list_any, list_all, range_with_len}
+use Rattle.std.proofs.lemmas.Bool.{or_cases, and_cases, true≢false, cases_eq}
+use Rattle.iloc_meaning.proofs.Cases.{by_bool}
+use Rattle.iloc_sched.specs.Steps.Members.{In, AreApart}
+
+pub contains_from : {X : Type 0} → (xs : List X) (x : X) → In xs x → Contains xs x
+contains_from [] x there = absurd there
+contains_from (y ∷ ys) x (inl here) = (0, omega arith, here)
+contains_from (y ∷ ys) x (inr there) =
+    let rest : Contains ys x = contains_from ys x there in
+    (suc rest.0, let below : rest.0 < length ys = rest.1 in omega arith, rest.2)
+
+at : {X : Type 0} → (xs : List X) (k : ℕ) (x : X) → k < length xs → slice_index_or xs k x ≡ x → In xs x
+at [] k x below is = absurd (omega arith)
+at (y ∷ ys) zero x below is = inl is
+at (y ∷ ys) (suc k) x below is = inr (at ys k x (omega arith) is)
+
+pub in_from : {X : Type 0} → (xs : List X) (x : X) → Contains xs x → In xs x
+in_from xs x there = at xs there.0 x there.1 there.2
+
+pub in_at : {X : Type 0} → (xs : List X) (k : ℕ) (d : X) → k < length xs → In xs (get_or xs k d)
+in_at [] k d below = absurd (omega arith)
+in_at (x ∷ xs) zero d below = inl refl
+in_at (x ∷ xs) (suc k) d below = inr (in_at xs k d (omega arith))
+
+pub in_left : {X : Type 0} → (xs ys : List X) (x : X) → In xs x → In (xs ++ ys) x
+in_left [] ys x there = absurd there
+in_left (y ∷ xs) ys x (inl here) = inl here
+in_left (y ∷ xs) ys x (inr there) = inr (in_left xs ys x there)
+
+pub in_right : {X : Type 0} → (xs ys : List X) (x : X) → In ys x → In (xs ++ ys) x
+in_right [] ys x there = there
+in_right (y ∷ xs) ys x there = inr (in_right xs ys x there)
+
+pub from_append : {X : Type 0} → (xs ys : List X) (x : X) → In (xs ++ ys) x → In xs x ⊎ In ys x
+from_append [] ys x there = inr there
+from_append (y ∷ xs) ys x (inl here) = inl (inl here)
+from_append (y ∷ xs) ys x (inr there) = elim (from_append xs ys x there) [ inl a ↦ inl (inr a) | inr b ↦ inr b ]
+
+pub in_map : {X Y : Type 0} → (f : X → Y) (xs : List X) (x : X) → In xs x → In (map f xs) (f x)
+in_map f [] x there = absurd there
+in_map f (y ∷ xs) x (inl here) = inl (ap f here)
+in_map f (y ∷ xs) x (inr there) = inr (in_map f xs x there)
+
+pub from_map : {X Y : Type 0} → (f : X → Y) (xs : List X) (y : Y) → In (map f xs) y → (x : X) × In xs x × (f x ≡ y)
+from_map f [] y there = absurd there
+from_map f (x ∷ xs) y (inl here) = (x, inl refl, here)
+from_map f (x ∷ xs) y (inr there) =
+    let rest : (z : _) × In xs z × (f z ≡ y) = from_map f xs y there in (rest.0, inr rest.1, rest.2)
+
+pub in_filter : {X : Type 0} → (p : X → Bool) (xs : List X) (x : X) → In xs x → p x ≡ true → In (filter p xs) x
+in_filter p [] x there passes = absurd there
+in_filter p (y ∷ xs) x (inl here) passes = let same : p y ≡ true = ap p here ∙ passes in rw same (inl here)
+in_filter p (y ∷ xs) x (inr there) passes =
+    let rest : In (filter p xs) x = in_filter p xs x there passes in
+    by_bool (p y) (λ t. rw t (inr rest)) (λ t. rw t rest)
+
+pub from_filter : {X : Type 0} → (p : X → Bool) (xs : List X) (x : X) → In (filter p xs) x → In xs x × (p x ≡ true)
+from_filter p [] x there = absurd there
+from_filter p (y ∷ xs) x there =
+    by_bool (p y)
+    (λ t. elim (rw t at there) [
+      | inl here ↦ (inl here, sym (ap p here) ∙ t)
+      | inr rest ↦
+          (inr (from_filter p xs x rest).0, (from_filter p xs x rest).1)
+    ])
+    (λ t. let rest : In (filter p xs) x = rw t at there in
+    (inr (from_filter p xs x rest).0, (from_filter p xs x rest).1))
+
+pub any_at : {X : Type 0} → (p : X → Bool) (xs : List X) (x : X) → In xs x → p x ≡ true → list_any p xs ≡ true
+any_at p [] x there passes = absurd there
+any_at p (y ∷ xs) x (inl here) passes = let same : p y ≡ true = ap p here ∙ passes in rw same refl
+any_at p (y ∷ xs) x (inr there) passes =
+    let rest : list_any p xs ≡ true = any_at p xs x there passes in
+    by_bool (p y) (λ t. rw t refl) (λ t. rw t rest)
+
+pub from_any : {X : Type 0} → (p : X → Bool) (xs : List X) → list_any p xs ≡ true → (x : X) × In xs x × (p x ≡ true)
+from_any p [] passes = absurd (true≢false (sym passes))
+from_any p (y ∷ xs) passes =
+    elim (or_cases (p y) (list_any p xs) passes) [
+      | inl here ↦ (y, inl refl, here)
+      | inr rest ↦ ((from_any p xs rest).0, inr (from_any p xs rest).1, (from_any p xs rest).2)
+    ]
+
+-- a test finds as much in one list as in another that has its members
+pub any_same : {X : Type 0} → (p : X → Bool) (xs ys : List X) → ((x : X) → In xs x → In ys x)
+    → ((x : X) → In ys x → In xs x) → list_any p xs ≡ list_any p ys
+any_same p xs ys to from =
+    by_bool (list_any p xs)
+    (λ t. let w = from_any p xs t in t ∙ sym (any_at p ys w.0 (to w.0 w.1) w.2))
+    (λ t. by_bool (list_any p ys)
+    (λ u. let w = from_any p ys u in absurd (true≢false (sym (any_at p xs w.0 (from w.0 w.1) w.2) ∙ t)))
+    (λ u. t ∙ sym u))
+
+pub all_from : {X : Type 0} → (p : X → Bool) (xs : List X) → ((x : X) → In xs x → p x ≡ true) → list_all p xs ≡ true
+all_from p [] passes = refl
+all_from p (y ∷ xs) passes = rw (passes y (inl refl)) (all_from p xs (λ x there. passes x (inr there)))
+
+pub from_all : {X : Type 0} → (p : X → Bool) (xs : List X) (x : X) → list_all p xs ≡ true → In xs x → p x ≡ true
+from_all p [] x passes there = absurd there
+from_all p (y ∷ xs) x passes there =
+    by_bool (p y)
+    (λ t. elim there [ inl here ↦ sym (ap p here) ∙ t | inr rest ↦ from_all p xs x (rw t at passes) rest ])
+    (λ t. absurd (true≢false (sym (rw t at passes))))
+
+pub not_all : {X : Type 0} → (p : X → Bool) (xs : List X) → list_all p xs ≡ false → (x : X) × In xs x × (p x ≡ false)
+not_all p [] fails = absurd (true≢false fails)
+not_all p (x ∷ xs) fails = elim (and_cases (p x) (list_all p xs) fails) [
+  | inl here ↦ (x, inl refl, here)
+  | inr rest ↦ ((not_all p xs rest).0, inr (not_all p xs rest).1, (not_all p xs rest).2)
+]
+
+pub empty_from : {X : Type 0} → (xs : List X) → ((x : X) → In xs x → ⊥) → xs ≡ []
+empty_from [] none = refl
+empty_from (x ∷ xs) none = absurd (none x (inl refl))
+
+pub in_range_from : (a n k : ℕ) → a ≤ k → k < a + n → In (range_with_len a n) k
+in_range_from a zero k above below = absurd (omega arith)
+in_range_from a (suc n) k above below =
+    elim (cases_eq a k) [
+      | inl here ↦ inl here
+      | inr apart ↦ inr (in_range_from (a + 1) n k (omega arith) (omega arith))
+    ]
+
+pub from_range : (a n k : ℕ) → In (range_with_len a n) k → (a ≤ k) × (k < a + n)
+from_range a zero k there = absurd there
+from_range a (suc n) k (inl here) = omega arith
+from_range a (suc n) k (inr there) = let rest : (a + 1 ≤ k) × (k < a + 1 + n) = from_range (a + 1) n k there in
+    omega arith
+
+-- what stands before x isn't x
+pub split_apart : (xs : List ℕ) (x : ℕ) (ys : List ℕ) → AreApart (xs ++ x ∷ ys) → In xs x → ⊥
+split_apart [] x ys apart held = held
+split_apart (z ∷ xs) x ys apart (inl same) = apart.0 (in_right xs (x ∷ ys) z (inl (sym same)))
+split_apart (z ∷ xs) x ys apart (inr held) = split_apart xs x ys apart.1 held

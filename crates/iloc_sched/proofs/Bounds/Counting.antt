@@ -1,0 +1,177 @@
+-- How many numbers pass a test, and of ascending ones how many follow; for `laws::least_bounds_the_cycles`.
+use Rattle.std.proofs.Common.{◌≡◌, ◌∙◌, ℕ, ◌+◌, ◌-◌, ◌<◌, ◌≤◌, ◌/◌, zero, suc, Bool, true, false, cond, ◌&&◌, ◌||◌, ◌==◌, List, [], ◌∷◌, length, map, filter, get_or, refl, sym, ap, ap₂, subst, subst₂, inl, inr, arith}
+use Rattle.std.specs.Prelude.{count_by, nat_le}
+use Rattle.std.specs.List.{range_with_len}
+use Rattle.std.specs.List.Sorted.{IsPermutation}
+use Rattle.std.proofs.Math.Nat.{div-mul-le_self}
+use Rattle.std.proofs.lemmas.Nat.{le-div}
+use Rattle.std.proofs.lemmas.Bool.Decides.{nat_tests}
+use Rattle.std.proofs.lemmas.List.Sums.{count_by-le-length}
+use Rattle.std.proofs.lemmas.List.Sorted.{sum_by-IsPermutation}
+use Rattle.iloc_sched.specs.Steps.Members.{In}
+use Rattle.iloc_sched.proofs.Basics.Slots.{count_by-cons}
+
+pub count-permutation : {X : Type 0} → (p : X → Bool) (xs ys : List X) → IsPermutation xs ys
+    → count_by p ys ≡ count_by p xs
+count-permutation p xs ys h = sum_by-IsPermutation (λ y. cond (p y) 1 0) xs ys h
+
+pub count-map : {X Y : Type 0} → (p : Y → Bool) (f : X → Y) (xs : List X)
+    → count_by p (map f xs) ≡ count_by (λ x. p (f x)) xs
+count-map p f [] = refl
+count-map p f (x ∷ xs) = count_by-cons p (f x) (map f xs) ∙ ap (λ n. cond (p (f x)) 1 0 + n) (count-map p f xs)
+    ∙ sym (count_by-cons (λ y. p (f y)) x xs)
+
+pub count-filter : {X : Type 0} → (p q : X → Bool) (xs : List X)
+    → count_by p (filter q xs) ≡ count_by (λ x. q x && p x) xs
+count-filter p q [] = refl
+count-filter {X} p q (x ∷ xs) = by (q x) refl (count-filter p q xs)
+  where
+    by : (b : Bool) → q x ≡ b → count_by p (filter q xs) ≡ count_by (λ y. q y && p y) xs
+        → count_by p (filter q (x ∷ xs)) ≡ count_by (λ y. q y && p y) (x ∷ xs)
+    by true e rest =
+        let here : filter q (x ∷ xs) ≡ x ∷ filter q xs = rw e refl in
+        let both : (q x && p x) ≡ p x = rw e refl in
+        ap (count_by p) here ∙ count_by-cons p x (filter q xs) ∙ ap₂ (λ b n. cond b 1 0 + n) (sym both) rest
+        ∙ sym (count_by-cons (λ y. q y && p y) x xs)
+    by false e rest =
+        let here : filter q (x ∷ xs) ≡ filter q xs = rw e refl in
+        let none : cond {A = ℕ} (q x && p x) 1 0 ≡ 0 = rw e refl in
+        let both = count_by-cons (λ y. q y && p y) x xs in
+        let same : count_by (λ y. q y && p y) (x ∷ xs) ≡ count_by (λ y. q y && p y) xs = omega arith in
+        ap (count_by p) here ∙ rest ∙ sym same
+
+-- what passes the first test passes the second
+pub count-mono : {X : Type 0} → (p q : X → Bool) (xs : List X) → ((x : X) → In xs x → p x ≡ true → q x ≡ true)
+    → count_by p xs ≤ count_by q xs
+count-mono p q [] h = omega arith
+count-mono {X} p q (x ∷ xs) h =
+    let rest : count_by p xs ≤ count_by q xs = count-mono p q xs (λ y there. h y (inr there)) in
+    let first : cond {A = ℕ} (p x) 1 0 ≤ cond (q x) 1 0 = by (p x) (q x) (h x (inl refl)) in
+    subst₂ (λ a b. a ≤ b) (sym (count_by-cons p x xs)) (sym (count_by-cons q x xs)) (omega arith)
+  where
+    by : (a b : Bool) → (a ≡ true → b ≡ true) → cond {A = ℕ} a 1 0 ≤ cond b 1 0
+    by false b h = omega arith
+    by true true h = omega arith
+    by true false h = let no = h refl in cc
+
+pub count-or : {X : Type 0} → (p q : X → Bool) (xs : List X)
+    → count_by (λ x. p x || q x) xs ≤ count_by p xs + count_by q xs
+count-or p q [] = omega arith
+count-or {X} p q (x ∷ xs) =
+    let rest : count_by (λ y. p y || q y) xs ≤ count_by p xs + count_by q xs = count-or p q xs in
+    let first : cond {A = ℕ} (p x || q x) 1 0 ≤ cond (p x) 1 0 + cond (q x) 1 0 = by (p x) (q x) in
+    let here = count_by-cons (λ y. p y || q y) x xs in
+    let mine = count_by-cons p x xs in
+    let other = count_by-cons q x xs in omega arith
+  where
+    by : (a b : Bool) → cond {A = ℕ} (a || b) 1 0 ≤ cond a 1 0 + cond b 1 0
+    by true b = omega arith
+    by false b = omega arith
+
+-- Numbers of a range that stand in a list
+
+late_none : (x a n : ℕ) → x < a → count_by (λ i. i == x) (range_with_len a n) ≡ 0
+late_none x a zero h = refl
+late_none x a (suc n) h =
+    let other : (a == x) ≡ false = grind (arith, nat_tests) in
+    count_by-cons (λ i. i == x) a (range_with_len (a + 1) n)
+    ∙ ap₂ (λ b m. cond b 1 0 + m) other (late_none x (a + 1) n (omega arith))
+
+one_at_most : (x a n : ℕ) → count_by (λ i. i == x) (range_with_len a n) ≤ 1
+one_at_most x a zero = omega arith
+one_at_most x a (suc n) = by (a == x) refl (one_at_most x (a + 1) n)
+  where
+    by : (b : Bool) → (a == x) ≡ b → count_by (λ i. i == x) (range_with_len (a + 1) n) ≤ 1
+        → count_by (λ i. i == x) (range_with_len a (suc n)) ≤ 1
+    by true e rest =
+        let same : a ≡ x = grind (arith, nat_tests) in
+        let none = late_none x (a + 1) n (omega arith) in
+        let here = count_by-cons (λ i. i == x) a (range_with_len (a + 1) n) ∙ ap (λ b. cond b 1 0
+        + count_by (λ i. i == x) (range_with_len (a + 1) n)) e in omega arith
+    by false e rest =
+        let here = count_by-cons (λ i. i == x) a (range_with_len (a + 1) n) ∙ ap (λ b. cond b 1 0
+        + count_by (λ i. i == x) (range_with_len (a + 1) n)) e in omega arith
+
+abbrev pub among : List ℕ → ℕ → Bool
+among [] i = false
+among (x ∷ xs) i = (i == x) || among xs i
+
+pub in_among : (xs : List ℕ) (i : ℕ) → In xs i → among xs i ≡ true
+in_among [] i h = absurd h
+in_among (x ∷ xs) i (inl e) = let here : (i == x) ≡ true = grind (arith, nat_tests) in rw here refl
+in_among (x ∷ xs) i (inr there) = by (i == x) (in_among xs i there)
+  where
+    by : (b : Bool) → among xs i ≡ true → (b || among xs i) ≡ true
+    by true h = refl
+    by false h = h
+
+-- a range has no number twice
+pub among-short : (xs : List ℕ) (a n : ℕ) → count_by (among xs) (range_with_len a n) ≤ length xs
+among-short [] a n = none a n
+  where
+    none : (a n : ℕ) → count_by (λ i. false) (range_with_len a n) ≤ 0
+    none a zero = omega arith
+    none a (suc n) = let rest = none (a + 1) n in
+        let here = count_by-cons (λ (i : ℕ). false) a (range_with_len (a + 1) n) in omega arith
+among-short (x ∷ xs) a n =
+    let rest = among-short xs a n in
+    let one = one_at_most x a n in
+    let both = count-or (λ i. i == x) (among xs) (range_with_len a n) in omega arith
+
+-- Quotients
+
+pub div-mono : (w a b : ℕ) → 0 < w → a ≤ b → a / w ≤ b / w
+div-mono w a b some h = le-div (a / w) b w some (let less = div-mul-le_self a w in omega arith)
+
+-- Ascending numbers
+
+-- each is at most the next
+abbrev pub Ascends : List ℕ → Type 0
+Ascends xs = (i j : ℕ) → i ≤ j → j < length xs → get_or xs i 0 ≤ get_or xs j 0
+
+ascends_tail : (x : ℕ) (xs : List ℕ) → Ascends (x ∷ xs) → Ascends xs
+ascends_tail x xs h = λ i j le lt. h (suc i) (suc j) (omega arith) (omega arith)
+
+pub all_pass : (q : ℕ) (xs : List ℕ) → ((j : ℕ) → j < length xs → q ≤ get_or xs j 0)
+    → count_by (λ p. nat_le q p) xs ≡ length xs
+all_pass q [] h = refl
+all_pass q (x ∷ xs) h =
+    let low : q ≤ x = h 0 (omega arith) in
+    let here : nat_le q x ≡ true = grind (arith, nat_tests) in
+    let rest = all_pass q xs (λ j lt. h (suc j) (omega arith)) in
+    let one = count_by-cons (λ p. nat_le q p) x xs ∙ ap (λ b. cond b 1 0 + count_by (λ p. nat_le q p) xs) here in
+    omega arith
+
+-- from a place on all numbers are at least that at the place
+pub count_up : (xs : List ℕ) (k : ℕ) → Ascends xs → k < length xs
+    → length xs ≤ k + count_by (λ p. nat_le (get_or xs k 0) p) xs
+count_up [] k h lt = absurd (omega arith)
+count_up (x ∷ xs) zero h lt = let all = all_pass x (x ∷ xs) (λ j less. h 0 j (omega arith) less) in omega arith
+count_up (x ∷ xs) (suc k) h lt =
+    let q = get_or xs k 0 in
+    let rest : length xs ≤ k + count_by (λ p. nat_le q p) xs = count_up xs k (ascends_tail x xs h) (omega arith) in
+    let one = count_by-cons (λ p. nat_le q p) x xs in
+    subst (λ n. length (x ∷ xs) ≤ suc k + n) (sym one) (omega arith)
+
+-- of those that are at least q the first stands as far from the end as there are
+pub count_down : (xs : List ℕ) (q : ℕ) → Ascends xs → 0 < count_by (λ p. nat_le q p) xs
+    → q ≤ get_or xs (length xs - count_by (λ p. nat_le q p) xs) 0
+count_down [] q h some = absurd (omega arith)
+count_down (x ∷ xs) q h some = by (nat_le q x) refl (count_down xs q (ascends_tail x xs h))
+  where
+    by : (b : Bool) → nat_le q x ≡ b
+        → (0 < count_by (λ p. nat_le q p) xs → q ≤ get_or xs (length xs - count_by (λ p. nat_le q p) xs) 0)
+        → q ≤ get_or (x ∷ xs) (length (x ∷ xs) - count_by (λ p. nat_le q p) (x ∷ xs)) 0
+    by true e rest =
+        let low : q ≤ x = grind (arith, nat_tests) in
+        let all = all_pass q (x ∷ xs) (λ j lt. let up = h 0 j (omega arith) lt in omega arith) in
+        let first : length (x ∷ xs) - count_by (λ p. nat_le q p) (x ∷ xs) ≡ 0 = omega arith in
+        subst (λ n. q ≤ get_or (x ∷ xs) n 0) (sym first) low
+    by false e rest =
+        let none : cond {A = ℕ} (nat_le q x) 1 0 ≡ 0 = rw e refl in
+        let both = count_by-cons (λ p. nat_le q p) x xs in
+        let one : count_by (λ p. nat_le q p) (x ∷ xs) ≡ count_by (λ p. nat_le q p) xs = omega arith in
+        let short = count_by-le-length (λ p. nat_le q p) xs in
+        let next : length (x ∷ xs) - count_by (λ p. nat_le q p) (x ∷ xs)
+        ≡ suc (length xs - count_by (λ p. nat_le q p) xs) = omega arith in
+        subst (λ n. q ≤ get_or (x ∷ xs) n 0) (sym next) (rest (omega arith))

@@ -1,0 +1,16 @@
+-- The choice of a cycle, row after row, up to the greedy schedule.
+pub mod Ready
+pub mod FirstOfAll
+pub mod ChosenRows
+pub mod RowAfterRow
+pub mod OneGreedy
+pub mod GreedyExists
+pub mod Ranks
+pub mod CandidateHeaps
+pub mod FourQueues
+pub mod EnteringQueues
+pub mod IssuableIsReady
+pub mod ChosenByQueues
+pub mod IssuedChoice
+pub mod NextRow
+pub mod Scheduled

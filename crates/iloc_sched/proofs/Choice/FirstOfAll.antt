@@ -1,0 +1,136 @@
+-- The first of all candidates goes before each of them; for `schedule` (`greedy`).
+use Rattle.std.proofs.Common.{◌≡◌, ℕ, ◌<◌, ◌≤◌, true, false, List, [], ◌∷◌, ◌++◌, Option, Some, None, ◌⊎◌, inl, inr, refl, ap, sym, ◌∙◌, subst, arith}
+use Rattle.std.specs.Prelude.{nat_lt, slice_index}
+use Rattle.std.proofs.lemmas.Bool.{ltb-true, ltb-false, lt-ltb, le-ltb, cases_eq}
+use Rattle.std.proofs.lemmas.Option.{none-some, same_Some}
+use Rattle.iloc_meaning.proofs.Cases.{by_bool}
+use Rattle.iloc_sched.specs.Greedy.{better, first_of_all}
+use Rattle.iloc_sched.specs.Steps.Choosing.{GoesBefore}
+use Rattle.iloc_sched.specs.Steps.Members.{In}
+use Rattle.iloc_sched.proofs.Basics.Members.{empty_from}
+use Rattle.iloc_sched.proofs.Basics.Rising.{Rises}
+
+better_of : (prios : List ℕ) (i : ℕ) (o : Option ℕ) → (better prios i o ≡ i) ⊎ (o ≡ Some (better prios i o))
+better_of prios i None = inl refl
+better_of prios i (Some j) = by_bool (nat_lt (slice_index prios i) (slice_index prios j)) (λ t. rw t (inr refl))
+    (λ t. rw t (inl refl))
+
+pub first_in : (prios xs : List ℕ) (k : ℕ) → first_of_all prios xs ≡ Some k → In xs k
+first_in prios [] k is = absurd (none-some k is)
+first_in prios (i ∷ is) k same =
+    let found : better prios i (first_of_all prios is) ≡ k = same_Some _ k same in
+    elim (better_of prios i (first_of_all prios is)) [
+      | inl here ↦ inl (sym here ∙ found)
+      | inr rest ↦ inr (first_in prios is k (rest ∙ ap Some found))
+    ]
+
+pub goes_before_self : (prios : List ℕ) (i : ℕ) → GoesBefore prios i i
+goes_before_self prios i = inr (refl, omega arith)
+
+pub goes_before_trans : (prios : List ℕ) (i j k : ℕ) → GoesBefore prios i j → GoesBefore prios j k
+    → GoesBefore prios i k
+goes_before_trans prios i j k (inl high) (inl higher) = inl (omega arith)
+goes_before_trans prios i j k (inl high) (inr level) =
+    inl (let same : slice_index prios j ≡ slice_index prios k = level.0 in omega arith)
+goes_before_trans prios i j k (inr level) (inl high) =
+    inl (let same : slice_index prios i ≡ slice_index prios j = level.0 in omega arith)
+goes_before_trans prios i j k (inr level) (inr other) =
+    inr (level.0 ∙ other.0, let one : i ≤ j = level.1 in let two : j ≤ k = other.1 in omega arith)
+
+-- two that go before each other are one
+pub goes_before_both : (prios : List ℕ) (i j : ℕ) → GoesBefore prios i j → GoesBefore prios j i → i ≡ j
+goes_before_both prios i j (inl high) (inl higher) = absurd (omega arith)
+goes_before_both prios i j (inl high) (inr level) =
+    absurd (let same : slice_index prios j ≡ slice_index prios i = level.0 in omega arith)
+goes_before_both prios i j (inr level) (inl high) =
+    absurd (let same : slice_index prios i ≡ slice_index prios j = level.0 in omega arith)
+goes_before_both prios i j (inr level) (inr other) = let one : i ≤ j = level.1 in let two : j ≤ i = other.1 in
+    omega arith
+
+-- of a lower number and a higher one, the lower goes before unless the higher has the higher priority
+better_before : (prios : List ℕ) (i m : ℕ) → i ≤ m → GoesBefore prios (better prios i (Some m)) i
+    × GoesBefore prios (better prios i (Some m)) m
+better_before prios i m low =
+    by_bool (nat_lt (slice_index prios i) (slice_index prios m))
+    (λ t. rw t (inl (ltb-true (slice_index prios i) (slice_index prios m) t), goes_before_self prios m))
+    (λ t. rw t (goes_before_self prios i, not_higher (ltb-false (slice_index prios i) (slice_index prios m) t)))
+  where
+    not_higher : slice_index prios m ≤ slice_index prios i → GoesBefore prios i m
+    not_higher above = elim (cases_eq (slice_index prios i) (slice_index prios m)) [
+      | inl same ↦
+          inr (same, low)
+      | inr apart ↦ inl (omega arith)
+    ]
+
+first_from : (prios : List ℕ) (i : ℕ) (is : List ℕ) (o : Option ℕ) → ((y : ℕ) → In is y → i < y)
+    → first_of_all prios is ≡ o
+    → ((m j : ℕ) → o ≡ Some m → In is j → GoesBefore prios m j) → (j : ℕ) → (i ≡ j) ⊎ In is j
+    → GoesBefore prios (better prios i o) j
+first_from prios i is None low found rest j (inl here) = subst (GoesBefore prios i) here (goes_before_self prios i)
+first_from prios i [] None low found rest j (inr there) = absurd there
+first_from prios i (x ∷ is) None low found rest j (inr there) = absurd (none-some _ (sym found))
+first_from prios i is (Some m) low found rest j there =
+    let above : i < m = low m (first_in prios is m found) in
+    let both = better_before prios i m (omega arith) in
+    elim there [
+      | inl here ↦ subst (GoesBefore prios (better prios i (Some m))) here both.0
+      | inr later ↦ goes_before_trans prios (better prios i (Some m)) m j both.1 (rest m j refl later)
+    ]
+
+pub first_goes_before : (prios xs : List ℕ) (k j : ℕ) → Rises xs → first_of_all prios xs ≡ Some k → In xs j
+    → GoesBefore prios k j
+first_goes_before prios [] k j rises is there = absurd there
+first_goes_before prios (i ∷ is) k j rises same there =
+    subst (λ n. GoesBefore prios n j) (same_Some _ k same)
+    (first_from prios i is (first_of_all prios is) rises.0 refl
+    (λ m l found inside. first_goes_before prios is m l rises.1 found inside) j there)
+
+pub first_some : (prios xs : List ℕ) (j : ℕ) → In xs j → (k : ℕ) × (first_of_all prios xs ≡ Some k)
+first_some prios [] j there = absurd there
+first_some prios (i ∷ is) j there = (better prios i (first_of_all prios is), refl)
+
+-- the candidate that goes before each is the first of all
+pub first_is : (prios xs : List ℕ) (k : ℕ) → Rises xs → In xs k → ((j : ℕ) → In xs j → GoesBefore prios k j)
+    → first_of_all prios xs ≡ Some k
+first_is prios xs k rises there best =
+    let found = first_some prios xs k there in
+    found.1 ∙ ap Some (goes_before_both prios found.0 k (first_goes_before prios xs found.0 k rises found.1 there)
+    (best found.0 (first_in prios xs found.0 found.1)))
+
+pub first_none : (prios xs : List ℕ) → ((j : ℕ) → In xs j → ⊥) → first_of_all prios xs ≡ None
+first_none prios xs none = ap (first_of_all prios) (empty_from xs none)
+
+-- the best of what came before and one more
+abbrev pub best_with : List ℕ → Option ℕ → ℕ → ℕ
+best_with prios None x = x
+best_with prios (Some k) x = better prios k (Some x)
+
+better_chain : (prios : List ℕ) (i m x : ℕ) → better prios i (Some (better prios m (Some x)))
+    ≡ better prios (better prios i (Some m)) (Some x)
+better_chain prios i m x =
+    by_bool (nat_lt (slice_index prios m) (slice_index prios x))
+    (λ t. by_bool (nat_lt (slice_index prios i) (slice_index prios m))
+    (λ u.
+    let one : slice_index prios m < slice_index prios x = ltb-true _ _ t in
+    let two : slice_index prios i < slice_index prios m = ltb-true _ _ u in
+    let both : nat_lt (slice_index prios i) (slice_index prios x) ≡ true = lt-ltb _ _ (omega arith) in
+    rw (t, u, both, t) refl)
+    (λ u. rw (t, u) refl))
+    (λ t. by_bool (nat_lt (slice_index prios i) (slice_index prios m))
+    (λ u. rw (t, u, t) refl)
+    (λ u.
+    let one : slice_index prios x ≤ slice_index prios m = ltb-false _ _ t in
+    let two : slice_index prios m ≤ slice_index prios i = ltb-false _ _ u in
+    let both : nat_lt (slice_index prios i) (slice_index prios x) ≡ false = le-ltb _ _ (omega arith) in
+    rw (t, u, both) refl))
+
+better_push : (prios : List ℕ) (i x : ℕ) (o : Option ℕ) → better prios i (Some (best_with prios o x))
+    ≡ better prios (better prios i o) (Some x)
+better_push prios i x None = refl
+better_push prios i x (Some m) = better_chain prios i m x
+
+pub first_push : (prios xs : List ℕ) (x : ℕ) → first_of_all prios (xs ++ x ∷ [])
+    ≡ Some (best_with prios (first_of_all prios xs) x)
+first_push prios [] x = refl
+first_push prios (i ∷ is) x = ap (λ o. Some (better prios i o)) (first_push prios is x)
+    ∙ ap Some (better_push prios i x (first_of_all prios is))

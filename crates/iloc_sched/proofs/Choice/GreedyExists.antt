@@ -1,0 +1,98 @@
+-- Each block has a greedy schedule, since choosing rows ends: `laws::one_greedy_schedule` (`exists`).
+use Rattle.std.proofs.Common.{◌≡◌, ◌≢◌, ℕ, ◌+◌, ◌<◌, ◌≤◌, zero, suc, List, [], ◌∷◌, ◌++◌, length, ◌⊎◌, inl, inr, refl, sym, subst, arith}
+use Rattle.std.specs.Prelude.{nat_lt, sum_by}
+use Rattle.std.specs.List.{list_all, range_with_len}
+use Rattle.std.proofs.lemmas.Bool.{ltb-true, ltb-false}
+use Rattle.std.proofs.lemmas.List.{length_push}
+use Rattle.iloc_text.specs.declared.op.Op.{Op}
+use Rattle.iloc_timed.specs.declared.latencies.Latencies.{Latencies}
+use Rattle.iloc_timed.specs.declared.row.Row.{Row}
+use Rattle.iloc_timed.specs.Latency.{latency}
+use Rattle.iloc_timed.specs.Rows.{row_at, slots, issue_cycle}
+use Rattle.iloc_meaning.proofs.Cases.{by_bool}
+use Rattle.iloc_sched.specs.Renaming.{renamed}
+use Rattle.iloc_sched.specs.Priority.{priorities}
+use Rattle.iloc_sched.specs.Greedy.{ready, chosen, IsGreedy}
+use Rattle.iloc_sched.specs.Steps.Choosing.{IsChosenSoFar}
+use Rattle.iloc_sched.specs.Steps.Members.{In}
+use Rattle.iloc_sched.proofs.Basics.Members.{from_all, not_all, in_range_from, from_range}
+use Rattle.iloc_sched.proofs.Basics.Slots.{stands_there}
+use Rattle.iloc_sched.proofs.Choice.RowAfterRow.{chosen_more, chosen_is_greedy}
+use Rattle.iloc_sched.proofs.Bounds.BusyCycles.{rows_bound}
+use Rattle.iloc_sched.proofs.Basics.IssueCycles.{issue_cycle_back}
+
+-- operation i is issued at cycle c or later
+record WaitsAt (ops : List Op) (rows : List Row) (c : ℕ) : Type 0 where
+  by : ℕ
+  within : by < length ops
+  waiting : c ≤ issue_cycle rows by
+
+-- rows that were chosen, the last while an operation waited
+record IsBegun (lat : Latencies) (ops : List Op) (rows : List Row) : Type 0 where
+  so_far : IsChosenSoFar lat ops rows
+  last : (c : ℕ) → length rows ≡ c + 1 → WaitsAt ops rows c
+
+-- each operation is issued in one of the rows
+abbrev AllIssued : List Op → List Row → Type 0
+AllIssued ops rows = (i : ℕ) → i < length ops → issue_cycle rows i < length rows
+
+issued_or_waits : (ops : List Op) (rows : List Row) → AllIssued ops rows ⊎ WaitsAt ops rows (length rows)
+issued_or_waits ops rows =
+    by_bool (list_all (λ i. nat_lt (issue_cycle rows i) (length rows)) (range_with_len 0 (length ops)))
+    (λ t. inl (λ i below. ltb-true (issue_cycle rows i) (length rows)
+    (from_all (λ k. nat_lt (issue_cycle rows k) (length rows)) (range_with_len 0 (length ops)) i t
+    (in_range_from 0 (length ops) i (omega arith) (omega arith)))))
+    (λ t.
+    let one = not_all (λ i. nat_lt (issue_cycle rows i) (length rows)) (range_with_len 0 (length ops)) t in
+    let place : (0 ≤ one.0) × (one.0 < 0 + length ops) = from_range 0 (length ops) one.0 one.1 in
+    inr (record { by = one.0; within = omega arith; waiting = ltb-false (issue_cycle rows one.0) (length rows) one.2 }))
+
+module _ (lat : Latencies) (ops : List Op) where
+  next_row : List Row → Row
+  next_row rows = chosen ops (priorities lat ops) (ready lat ops rows (length rows))
+
+  one_more : (rows : List Row) → IsBegun lat ops rows → WaitsAt ops rows (length rows)
+      → IsBegun lat ops (rows ++ next_row rows ∷ [])
+  unfolding next_row
+  one_more rows begun waits = record {
+    so_far = chosen_more lat ops rows (next_row rows) begun.so_far refl;
+    last = λ c is.
+        let longer : length (rows ++ next_row rows ∷ []) ≡ length rows + 1 = length_push rows (next_row rows) in
+        let back : issue_cycle (rows ++ next_row rows ∷ []) waits.by ≡ length rows + issue_cycle (next_row rows ∷ [])
+        waits.by = issue_cycle_back rows (next_row rows ∷ []) waits.by waits.waiting in
+        record { by = waits.by; within = waits.within; waiting = subst (λ n. c ≤ n) (sym back) (omega arith) };
+  }
+
+  to_the_end : (fuel : ℕ) (rows : List Row) → IsBegun lat ops rows → sum_by (latency lat) ops < length rows + fuel
+      → (all : List Row) × IsBegun lat ops all × AllIssued ops all
+  to_the_end zero rows begun enough = elim (issued_or_waits ops rows) [
+    | inl done ↦ (rows, begun, done)
+    | inr waits ↦
+        let bound : length rows ≤ sum_by (latency lat) ops =
+        rows_bound lat ops rows waits.by begun.so_far waits.within waits.waiting in
+        absurd (omega arith)
+  ]
+  to_the_end (suc fuel) rows begun enough = elim (issued_or_waits ops rows) [
+    | inl done ↦ (rows, begun, done)
+    | inr waits ↦
+        let longer : length (rows ++ next_row rows ∷ []) ≡ length rows + 1 = length_push rows (next_row rows) in
+        to_the_end fuel (rows ++ next_row rows ∷ []) (one_more rows begun waits)
+        (subst (λ n. sum_by (latency lat) ops < n + fuel) (sym longer) (omega arith))
+  ]
+
+  last_row_some : (rows : List Row) → IsBegun lat ops rows → AllIssued ops rows → (c : ℕ) → length rows ≡ c + 1
+      → slots (row_at rows c) ≢ []
+  last_row_some rows begun done c is empty =
+      let waits = begun.last c is in
+      let issued : issue_cycle rows waits.by < length rows = done waits.by waits.within in
+      let late : c ≤ issue_cycle rows waits.by = waits.waiting in
+      let at : issue_cycle rows waits.by ≡ c = omega arith in
+      subst (λ is. In is waits.by) empty (subst (λ k. In (slots (row_at rows k)) waits.by) at
+      (stands_there rows waits.by issued))
+
+pub greedy_exists : (lat : Latencies) (block : List Op) → (rows : List Row) × IsGreedy lat block (renamed block) rows
+greedy_exists lat block =
+    let ops : List Op = renamed block in
+    let end = to_the_end lat ops (sum_by (latency lat) ops + 1) []
+    (record { so_far = λ c below. absurd (omega arith); last = λ c is. absurd (omega arith) }) (omega arith) in
+    (end.0, chosen_is_greedy lat block ops end.0 refl end.1.so_far end.2 (last_row_some lat ops end.0 end.1 end.2))

@@ -1,0 +1,120 @@
+-- What the tables say can be issued is what is ready; for `Waiting::step`.
+use Rattle.std.proofs.Common.{◌≡◌, ℕ, ◌+◌, ◌<◌, ◌≤◌, List, length, None, inl, inr, sym, ◌∙◌, ap, subst, arith}
+use Rattle.iloc_text.specs.declared.op.Op.{Op}
+use Rattle.iloc_timed.specs.declared.latencies.Latencies.{Latencies}
+use Rattle.iloc_timed.specs.declared.row.Row.{Row}
+use Rattle.iloc_timed.specs.Rows.{slots, issue_cycle}
+use Rattle.iloc_sched.specs.Delays.{IsDelayPair}
+use Rattle.iloc_sched.specs.Priority.{priorities}
+use Rattle.iloc_sched.specs.Greedy.{ready}
+use Rattle.iloc_sched.specs.Steps.Choosing.{IsChosenSoFar}
+use Rattle.iloc_sched.specs.Steps.Members.{In}
+use Rattle.iloc_sched.specs.Steps.Near.{IsNear}
+use Rattle.iloc_sched.specs.Steps.Graph.{Graph, IsGraphOf}
+use Rattle.iloc_sched.specs.Steps.Progress.{Progress, Reaches, Waits, CanIssue, MatchesRows}
+use Rattle.iloc_sched.proofs.Choice.Ready.{IsReady, ready_means, ready_from}
+use Rattle.iloc_sched.proofs.Basics.Slots.{stands_there}
+use Rattle.iloc_sched.proofs.Choice.ChosenRows.{chosen_in}
+use Rattle.iloc_sched.proofs.Basics.Cases.{by_lt, none_of}
+use Rattle.iloc_sched.proofs.Watching.EdgeWalk.{within_count}
+use Rattle.iloc_sched.proofs.Graph.FarPairs.{near_is_over}
+
+-- what was issued had waited for its delays
+pub waited : (lat : Latencies) (ops : List Op) (rows : List Row) → IsChosenSoFar lat ops rows → (i h d : ℕ)
+    → IsDelayPair lat ops i h d → issue_cycle rows h < length rows → issue_cycle rows i + d ≤ issue_cycle rows h
+waited lat ops rows each i h d pair below =
+    let c : ℕ = issue_cycle rows h in
+    let there : In (ready lat ops rows c) h =
+    chosen_in ops (priorities lat ops) (ready lat ops rows c) h
+    (subst (λ row. In (slots row) h) (each c below) (stands_there rows h below)) in
+    (ready_means lat ops rows c h there).over i d pair
+
+module _ (lat : Latencies) (ops : List Op) (graph : Graph) (w : Progress) (rows : List Row)
+    (is : IsGraphOf lat ops graph) (waits : Waits graph w (length rows + 1) 0 None)
+    (matches : MatchesRows (length ops) rows w.issued) where
+  -- by size: who is an operation of the graph is one of the list
+  within_ops : (j : ℕ) → j < graph.ops → j < length ops
+  within_ops j there = subst (λ n. j < n) is.size there
+
+  near_over : (j : ℕ) → CanIssue graph w (length rows + 1) j → (h d : ℕ) → IsDelayPair lat ops h j d
+      → IsNear lat ops h j d → issue_cycle rows h + d ≤ length rows
+  near_over j can h d pair near =
+      let edge : (x : ℕ) × (x < graph.count) × (graph.to x ≡ j) × (graph.from x ≡ h) × (d ≤ graph.delay x) =
+      is.all h j d pair near in
+      let x : ℕ = edge.0 in
+      let place : (graph.to x < graph.ops) × (graph.start (graph.to x) ≤ x) × (x < graph.start (graph.to x + 1)) =
+      is.is_graph.to_there x edge.1 in
+      let first : graph.start j ≤ x = subst (λ k. graph.start k ≤ x) edge.2 place.1 in
+      let last : x < w.watch j = subst (λ a. x < a) (sym can.past_all)
+      (subst (λ k. x < graph.start (k + 1)) edge.2 place.2) in
+      let past = (waits.reach j can.there).past x first last in
+      let order : h < j = pair.order in
+      let j_within : j < length ops = within_ops j can.there in
+      let time : issue_cycle rows h ≡ past.0 =
+      (matches.done h past.0 (omega arith) (ap w.issued (sym edge.3) ∙ past.1)).0 in
+      let enough : past.0 + graph.delay x ≤ w.earliest j = past.2 in
+      let long : d ≤ graph.delay x = edge.4 in
+      let soon : w.earliest j < length rows + 1 = can.soon in
+      omega arith
+
+  pub ready_when : IsChosenSoFar lat ops rows → (j : ℕ) → CanIssue graph w (length rows + 1) j
+      → In (ready lat ops rows (length rows)) j
+  ready_when each j can =
+      ready_from lat ops rows (length rows) j (record {
+        within = within_ops j can.there;
+        waiting = matches.waiting j (within_ops j can.there) can.waiting;
+        over = near_is_over lat ops (issue_cycle rows) (length rows) j (waited lat ops rows each) (near_over j can);
+      })
+
+  pub when_ready : (j : ℕ) → In (ready lat ops rows (length rows)) j → CanIssue graph w (length rows + 1) j
+  when_ready j held =
+      let means : IsReady lat ops rows (length rows) j = ready_means lat ops rows (length rows) j held in
+      let there : j < graph.ops = subst (λ n. j < n) (sym is.size) means.within in
+      let reach : Reaches graph w.issued j (w.watch j) (w.earliest j) = waits.reach j there in
+      let most : w.watch j ≤ graph.start (j + 1) = reach.within.1 in
+      let over : (x : ℕ) → graph.start j ≤ x → x < graph.start (j + 1)
+      → (issue_cycle rows (graph.from x) + graph.delay x ≤ length rows) × (1 ≤ graph.delay x)
+      × (graph.from x < length ops) =
+      (λ x first last.
+      let count : x < graph.count = within_count graph is.is_graph j x there last in
+      let target : graph.to x ≡ j = is.is_graph.into j x there first last in
+      let earlier : graph.from x < graph.to x = is.is_graph.earlier x count in
+      let within : j < length ops = means.within in (
+        means.over (graph.from x) (graph.delay x)
+            (subst (λ k. IsDelayPair lat ops (graph.from x) k (graph.delay x)) target (is.sound x count)),
+        (is.is_graph.delays x count).0,
+        omega arith,
+      )) in
+      record {
+        there = there;
+        waiting = none_of (w.issued j) (λ t was. let time : (issue_cycle rows j ≡ t)
+            × (t < length rows) = matches.done j t means.within was in let early : t < length rows = time.1 in
+            let same : issue_cycle rows j ≡ t = time.0 in let late : length rows ≤ issue_cycle rows j = means.waiting in
+            absurd (omega arith));
+        past_all = by_lt (w.watch j) (graph.start (j + 1))
+            (λ short. elim (waits.stuck j there short) [
+              | inl none ↦
+                  let h : (issue_cycle rows (graph.from (w.watch j)) + graph.delay (w.watch j) ≤ length rows)
+                  × (1 ≤ graph.delay (w.watch j)) × (graph.from (w.watch j) < length ops) =
+                  over (w.watch j) reach.within.0 short in
+                  let late : length rows ≤ issue_cycle rows (graph.from (w.watch j)) =
+                  matches.waiting (graph.from (w.watch j)) h.2 none in
+                  let enough : issue_cycle rows (graph.from (w.watch j)) + graph.delay (w.watch j) ≤ length rows =
+                  h.0 in
+                  let long : 1 ≤ graph.delay (w.watch j) = h.1 in
+                  absurd (omega arith)
+              | inr loose ↦ absurd loose.1
+            ])
+            (λ end. omega arith);
+        soon = elim reach.reached [
+          | inl at_once ↦ omega arith
+          | inr r ↦
+              let before : r.0 < w.watch j = r.3 in
+              let h : (issue_cycle rows (graph.from r.0) + graph.delay r.0 ≤ length rows) × (1 ≤ graph.delay r.0)
+              × (graph.from r.0 < length ops) = over r.0 r.2 (omega arith) in
+              let time : issue_cycle rows (graph.from r.0) ≡ r.1 = (matches.done (graph.from r.0) r.1 h.2 r.4).0 in
+              let enough : issue_cycle rows (graph.from r.0) + graph.delay r.0 ≤ length rows = h.0 in
+              let same : w.earliest j ≡ r.1 + graph.delay r.0 = r.5 in
+              omega arith
+        ];
+      }

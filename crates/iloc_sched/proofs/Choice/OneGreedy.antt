@@ -1,0 +1,91 @@
+-- Two greedy schedules of a block are equal: `laws::one_greedy_schedule` (`same`), `schedule` (`only`).
+use Rattle.std.proofs.Common.{◌≡◌, ℕ, ◌+◌, ◌-◌, ◌<◌, ◌≤◌, zero, suc, true, false, List, [], ◌∷◌, length, ◌⊎◌, inl, inr, refl, ap, sym, ◌∙◌, subst, arith}
+use Rattle.std.proofs.lemmas.Bool.{cases_order, cases_eq}
+use Rattle.std.proofs.lemmas.List.{ext_get_or}
+use Rattle.iloc_text.specs.declared.op.Op.{Op}
+use Rattle.iloc_timed.specs.declared.latencies.Latencies.{Latencies}
+use Rattle.iloc_timed.specs.declared.row.Row.{Row}
+use Rattle.iloc_timed.specs.Rows.{empty_row, row_at, slots, holds, issue_cycle}
+use Rattle.iloc_meaning.proofs.Cases.{by_bool}
+use Rattle.iloc_sched.specs.Priority.{priorities}
+use Rattle.iloc_sched.specs.Greedy.{chosen, IsGreedy}
+use Rattle.iloc_sched.proofs.Basics.Members.{empty_from}
+use Rattle.iloc_sched.proofs.Basics.Slots.{issued_within}
+use Rattle.iloc_sched.proofs.Choice.Ready.{SameBelow, ready_same}
+use Rattle.iloc_sched.proofs.Choice.RowAfterRow.{was_ready}
+
+-- where the rows below cycle c are the same, so are the cycles of what they issue
+cycles_agree : (rows rows' : List Row) (c i : ℕ) → c ≤ length rows → c ≤ length rows'
+    → ((k : ℕ) → k < c → row_at rows k ≡ row_at rows' k) → SameBelow rows rows' c i
+cycles_agree rows rows' zero i within within' same = inr (omega arith, omega arith)
+cycles_agree [] rows' (suc c) i within within' same = absurd (omega arith)
+cycles_agree (row ∷ rows) [] (suc c) i within within' same = absurd (omega arith)
+cycles_agree (row ∷ rows) (row' ∷ rows') (suc c) i within within' same =
+    let first : row ≡ row' = same 0 (omega arith) in
+    by_bool (holds row i)
+    (λ t.
+    let also : holds row' i ≡ true = ap (λ r. holds r i) (sym first) ∙ t in
+    rw (t, also) (inl refl))
+    (λ t.
+    let also : holds row' i ≡ false = ap (λ r. holds r i) (sym first) ∙ t in
+    rw (t, also) (next (cycles_agree rows rows' c i (omega arith) (omega arith)
+    (λ k below. same (suc k) (omega arith)))))
+  where
+    next : SameBelow rows rows' c i → (issue_cycle rows i + 1 ≡ issue_cycle rows' i + 1)
+        ⊎ ((suc c ≤ issue_cycle rows i + 1) × (suc c ≤ issue_cycle rows' i + 1))
+    next (inl one) = inl (ap (λ n. n + 1) one)
+    next (inr none) = inr (
+      let first : c ≤ issue_cycle rows i = none.0 in
+          omega arith,
+      let second : c ≤ issue_cycle rows' i = none.1 in omega arith,
+    )
+
+module _ (lat : Latencies) (block ops : List Op) (rows rows' : List Row) (greedy : IsGreedy lat block ops rows)
+    (greedy' : IsGreedy lat block ops rows') where
+  rows_agree : (c : ℕ) → c ≤ length rows → c ≤ length rows' → (k : ℕ) → k < c → row_at rows k ≡ row_at rows' k
+  rows_agree zero within within' k below = absurd (omega arith)
+  rows_agree (suc c) within within' k below =
+      elim (cases_eq k c) [
+        | inl here ↦
+            subst (λ n. row_at rows n ≡ row_at rows' n) (sym here)
+            (greedy.each c (omega arith)
+            ∙ ap (chosen ops (priorities lat ops))
+            (ready_same lat ops rows rows' c (λ i. cycles_agree rows rows' c i (omega arith) (omega arith)
+            (rows_agree c (omega arith) (omega arith))))
+            ∙ sym (greedy'.each c (omega arith)))
+        | inr apart ↦ rows_agree c (omega arith) (omega arith) k (omega arith)
+      ]
+
+  -- the second is not the longer: its last row would be empty
+  not_longer : length rows < length rows' → ⊥
+  not_longer shorter =
+      greedy'.last (length rows' - 1) (omega arith)
+      (empty_from (slots (row_at rows' (length rows' - 1))) (λ i there.
+      let was = was_ready lat ops rows' greedy'.each (length rows' - 1) i there in
+      let waiting : length rows' - 1 ≤ issue_cycle rows' i = was.waiting in
+      let issued : issue_cycle rows i < length rows = issued_within ops rows greedy.lawful.table i was.within in
+      elim (cycles_agree rows rows' (length rows) i (omega arith) (omega arith)
+      (rows_agree (length rows) (omega arith) (omega arith))) [
+        | inl one ↦ omega arith
+        | inr none ↦ let far : length rows ≤ issue_cycle rows i = none.0 in omega arith
+      ]))
+
+greedy_rows : (lat : Latencies) (block ops : List Op) (rows rows' : List Row) → IsGreedy lat block ops rows
+    → IsGreedy lat block ops rows' → rows ≡ rows'
+greedy_rows lat block ops rows rows' greedy greedy' = ext_get_or empty_row rows rows' same_length (λ c below.
+    rows_agree lat block ops rows rows' greedy greedy' (length rows) (omega arith) (omega (arith, same_length)) c below)
+  where
+    same_length : length rows ≡ length rows'
+    same_length = elim (cases_order (length rows) (length rows')) [
+      | inl same ↦ same
+      | inr differs ↦ elim differs [
+        | inl shorter ↦ absurd (not_longer lat block ops rows rows' greedy greedy' shorter)
+        | inr longer ↦ absurd (not_longer lat block ops rows' rows greedy' greedy longer)
+      ]
+    ]
+
+pub greedy_same : (lat : Latencies) (block ops ops' : List Op) (rows rows' : List Row) → IsGreedy lat block ops rows
+    → IsGreedy lat block ops' rows' → (ops ≡ ops') × (rows ≡ rows')
+greedy_same lat block ops ops' rows rows' greedy greedy' =
+    let same : ops ≡ ops' = greedy.lawful.names ∙ sym greedy'.lawful.names in
+    (same, greedy_rows lat block ops rows rows' greedy (subst (λ os. IsGreedy lat block os rows') (sym same) greedy'))

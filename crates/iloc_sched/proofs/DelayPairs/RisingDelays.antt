@@ -1,0 +1,86 @@
+-- The delays of two operations in order, each once; for `pairs` (`exact`, `ordered`).
+use Rattle.std.proofs.Common.{◌≡◌, ℕ, ◌<◌, ◌⊎◌, ◌==◌, nat_lt, List, [], ◌∷◌, refl, arith, inl, inr}
+use Rattle.std.proofs.lemmas.Bool.Decides.{nat_tests}
+use Rattle.iloc_meaning.proofs.Cases.{by_bool}
+use Rattle.iloc_sched.specs.Pairs.{with_delay, rising}
+use Rattle.iloc_sched.specs.Steps.Members.{In}
+use Rattle.iloc_sched.proofs.Basics.Ordered.{Ordered}
+
+-- what stands in a list with one more delay
+from_with : (d : ℕ) (es : List ℕ) (x : ℕ) → In (with_delay d es) x → (d ≡ x) ⊎ In es x
+from_with d [] x there = there
+from_with d (e ∷ rest) x there = by_bool (nat_lt d e)
+    (λ t. rw t at there)
+    (λ f. by_bool (d == e)
+    (λ t. inr (rw (f, t) at there))
+    (λ g. later (rw (f, g) at there) (from_with d rest x)))
+  where
+    later : (e ≡ x) ⊎ In (with_delay d rest) x → (In (with_delay d rest) x → (d ≡ x) ⊎ In rest x)
+        → (d ≡ x) ⊎ ((e ≡ x) ⊎ In rest x)
+    later (inl here) go = inr (inl here)
+    later (inr there) go = elim (go there) [
+      | inl new ↦ inl new
+      | inr old ↦ inr (inr old)
+    ]
+
+with_new : (d : ℕ) (es : List ℕ) → In (with_delay d es) d
+with_new d [] = inl refl
+with_new d (e ∷ rest) = by_bool (nat_lt d e)
+    (λ t. rw t (inl refl))
+    (λ f. by_bool (d == e)
+    (λ t. rw (f, t) (inl (let same : e ≡ d = grind (arith, nat_tests) in same)))
+    (λ g. rw (f, g) (inr (with_new d rest))))
+
+with_old : (d : ℕ) (es : List ℕ) (x : ℕ) → In es x → In (with_delay d es) x
+with_old d [] x there = absurd there
+with_old d (e ∷ rest) x there = by_bool (nat_lt d e)
+    (λ t. rw t (inr there))
+    (λ f. by_bool (d == e)
+    (λ t. rw (f, t) there)
+    (λ g. rw (f, g) (elim there [
+      | inl here ↦ inl here
+      | inr behind ↦ inr (with_old d rest x behind)
+    ])))
+
+abbrev pub Below : ℕ → ℕ → Type 0
+Below a b = a < b
+
+ordered_with : (d : ℕ) (es : List ℕ) → Ordered Below es → Ordered Below (with_delay d es)
+ordered_with d [] ordered = (λ y there. absurd there, tt)
+ordered_with d (e ∷ rest) ordered = by_bool (nat_lt d e)
+    (λ t.
+    let below : d < e = grind (arith, nat_tests) in
+    rw t (
+      λ y there. elim there [
+        | inl here ↦ omega arith
+        | inr behind ↦ let more : e < y = ordered.0 y behind in omega arith
+      ],
+      ordered,
+    ))
+    (λ f. by_bool (d == e)
+    (λ t. rw (f, t) ordered)
+    (λ g.
+    let above : e < d = grind (arith, nat_tests) in
+    rw (f, g) (
+      λ y there. elim (from_with d rest y there) [
+        | inl new ↦ omega arith
+        | inr old ↦ ordered.0 y old
+      ],
+      ordered_with d rest ordered.1,
+    )))
+
+pub rising_ordered : (ds : List ℕ) → Ordered Below (rising ds)
+rising_ordered [] = tt
+rising_ordered (d ∷ ds) = ordered_with d (rising ds) (rising_ordered ds)
+
+pub from_rising : (ds : List ℕ) (x : ℕ) → In (rising ds) x → In ds x
+from_rising [] x there = absurd there
+from_rising (d ∷ ds) x there = elim (from_with d (rising ds) x there) [
+  | inl here ↦ inl here
+  | inr behind ↦ inr (from_rising ds x behind)
+]
+
+pub in_rising : (ds : List ℕ) (x : ℕ) → In ds x → In (rising ds) x
+in_rising [] x there = absurd there
+in_rising (d ∷ ds) x (inl here) = rw (← here) (with_new d (rising ds))
+in_rising (d ∷ ds) x (inr there) = with_old d (rising ds) x (in_rising ds x there)

@@ -1,0 +1,5 @@
+-- The outcome of lawful schedules: `laws::lawful_schedules_keep_the_outcome`.
+pub mod UsedEffects
+pub mod LookUps
+pub mod TimedOutcomes
+pub mod LawfulOutcomes

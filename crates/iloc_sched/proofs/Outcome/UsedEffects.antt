@@ -1,0 +1,103 @@
+-- An effect depends on the used registers, and on words only where memory is read; for `TimedOutcomes`.
+use Rattle.std.proofs.Common.{◌≡◌, ℕ, ◌+ℤ◌, ℤ, Bool, true, false, ◌||◌, [], inl, inr, refl, ap}
+use Rattle.std.proofs.lemmas.Bool.{true≢false, false≢true}
+use Rattle.iloc_text.specs.declared.op.Reg.{Reg}
+use Rattle.iloc_text.specs.declared.op.Op.{Op}
+use Rattle.iloc_text.specs.declared.op.Op.TheVariants.{Load, LoadI, Store, Add, Sub, Mult, Lshift, Rshift, Output, Nop, AddI, SubI, MultI, LshiftI, RshiftI, LoadAI, StoreAI}
+use Rattle.iloc_text.specs.Registers.{used}
+use Rattle.iloc_meaning.specs.declared.effect.Effect.TheVariants.{Gives, Writes, Emits}
+use Rattle.iloc_meaning.specs.Address.{good_address}
+use Rattle.iloc_meaning.specs.Arithmetic.{wrapped, constant}
+use Rattle.iloc_meaning.specs.Effect.{effect, at_address}
+use Rattle.iloc_meaning.specs.Trace.{is_write_to}
+use Rattle.iloc_meaning.specs.Outcome.{emitted_by}
+use Rattle.iloc_meaning.proofs.Effects.{at_address_same, at_address_cases}
+use Rattle.iloc_timed.specs.declared.kind.Kind.{Kind}
+use Rattle.iloc_timed.specs.declared.kind.Kind.TheVariants as K
+use Rattle.iloc_timed.specs.declared.latencies.Latencies.{Latencies}
+use Rattle.iloc_timed.specs.Kinds.{kind, is_load, is_store, is_output}
+use Rattle.iloc_timed.specs.Latency.{latency, latency_of}
+use Rattle.iloc_sched.specs.Steps.Members.{In}
+
+-- whether an operation of this kind reads memory
+abbrev pub reads_memory : Kind → Bool
+reads_memory k = is_load k || is_output k
+
+pub effect_used : (op : Op) (reg reg' : Reg → ℤ) (word word' : ℕ → ℤ) → ((r : Reg) → In (used op) r → reg r ≡ reg' r)
+    → (reads_memory (kind op) ≡ true → (a : ℕ) → word a ≡ word' a) → effect op reg word ≡ effect op reg' word'
+effect_used (Load addr dest) reg reg' word word' regs words =
+    rw (regs addr (inl refl)) (at_address_same (reg' addr) _ _ (λ a good. ap Gives (words refl a)))
+effect_used (LoadI value dest) reg reg' word word' regs words = refl
+effect_used (Store value addr) reg reg' word word' regs words =
+    rw (regs addr (inr (inl refl)), regs value (inl refl)) refl
+effect_used (Add left right dest) reg reg' word word' regs words =
+    rw (regs left (inl refl), regs right (inr (inl refl))) refl
+effect_used (Sub left right dest) reg reg' word word' regs words =
+    rw (regs left (inl refl), regs right (inr (inl refl))) refl
+effect_used (Mult left right dest) reg reg' word word' regs words =
+    rw (regs left (inl refl), regs right (inr (inl refl))) refl
+effect_used (Lshift left right dest) reg reg' word word' regs words =
+    rw (regs left (inl refl), regs right (inr (inl refl))) refl
+effect_used (Rshift left right dest) reg reg' word word' regs words =
+    rw (regs left (inl refl), regs right (inr (inl refl))) refl
+effect_used (Output addr) reg reg' word word' regs words =
+    at_address_same (constant addr) _ _ (λ a good. ap Emits (words refl a))
+effect_used Nop reg reg' word word' regs words = refl
+effect_used (AddI left value dest) reg reg' word word' regs words = rw (regs left (inl refl)) refl
+effect_used (SubI left value dest) reg reg' word word' regs words = rw (regs left (inl refl)) refl
+effect_used (MultI left value dest) reg reg' word word' regs words = rw (regs left (inl refl)) refl
+effect_used (LshiftI left value dest) reg reg' word word' regs words = rw (regs left (inl refl)) refl
+effect_used (RshiftI left value dest) reg reg' word word' regs words = rw (regs left (inl refl)) refl
+effect_used (LoadAI addr offset dest) reg reg' word word' regs words =
+    rw (regs addr (inl refl)) (at_address_same (wrapped (reg' addr +ℤ constant offset)) _ _
+    (λ a good. ap Gives (words refl a)))
+effect_used (StoreAI value addr offset) reg reg' word word' regs words =
+    rw (regs addr (inr (inl refl)), regs value (inl refl)) refl
+
+load_writes_not : (z : ℤ) (word : ℕ → ℤ) (a : ℕ) → is_write_to a (at_address (good_address z) (λ b. Gives (word b)))
+    ≡ false
+load_writes_not z word a = at_address_cases (λ e. is_write_to a e ≡ false) z (λ b. Gives (word b)) refl (λ b good. refl)
+
+output_writes_not : (z : ℤ) (word : ℕ → ℤ) (a : ℕ) → is_write_to a (at_address (good_address z) (λ b. Emits (word b)))
+    ≡ false
+output_writes_not z word a = at_address_cases (λ e. is_write_to a e ≡ false) z (λ b. Emits (word b)) refl
+    (λ b good. refl)
+
+-- what writes is a store
+pub only_stores_write : (op : Op) (reg : Reg → ℤ) (word : ℕ → ℤ) (a : ℕ) → is_write_to a (effect op reg word) ≡ true
+    → is_store (kind op) ≡ true
+only_stores_write (Store value addr) reg word a writes = refl
+only_stores_write (StoreAI value addr offset) reg word a writes = refl
+only_stores_write (Load addr dest) reg word a writes = let not : is_write_to a (effect (Load addr dest) reg word)
+    ≡ false = load_writes_not (reg addr) word a in absurd cc
+only_stores_write (LoadAI addr offset dest) reg word a writes =
+    let not : is_write_to a (effect (LoadAI addr offset dest) reg word) ≡ false =
+    load_writes_not (wrapped (reg addr +ℤ constant offset)) word a in absurd cc
+only_stores_write (Output addr) reg word a writes = let not : is_write_to a (effect (Output addr) reg word) ≡ false =
+    output_writes_not (constant addr) word a in absurd cc
+only_stores_write _ reg word a writes = absurd cc
+
+load_emits_not : (z : ℤ) (word : ℕ → ℤ) → emitted_by (at_address (good_address z) (λ b. Gives (word b))) ≡ []
+load_emits_not z word = at_address_cases (λ e. emitted_by e ≡ []) z (λ b. Gives (word b)) refl (λ b good. refl)
+
+store_emits_not : (z value : ℤ) → emitted_by (at_address (good_address z) (λ b. Writes b value)) ≡ []
+store_emits_not z value = at_address_cases (λ e. emitted_by e ≡ []) z (λ b. Writes b value) refl (λ b good. refl)
+
+-- what emits is an output
+pub only_outputs_emit : (op : Op) (reg : Reg → ℤ) (word : ℕ → ℤ) → is_output (kind op) ≡ false
+    → emitted_by (effect op reg word) ≡ []
+only_outputs_emit (Output addr) reg word is = absurd (true≢false is)
+only_outputs_emit (Load addr dest) reg word is = load_emits_not (reg addr) word
+only_outputs_emit (LoadAI addr offset dest) reg word is = load_emits_not (wrapped (reg addr +ℤ constant offset)) word
+only_outputs_emit (Store value addr) reg word is = store_emits_not (reg addr) (reg value)
+only_outputs_emit (StoreAI value addr offset) reg word is =
+    store_emits_not (wrapped (reg addr +ℤ constant offset)) (reg value)
+only_outputs_emit _ reg word is = refl
+
+store_kind_latency : (lat : Latencies) (k : Kind) → is_store k ≡ true → latency_of lat k ≡ lat.store
+store_kind_latency lat K.Store is = refl
+store_kind_latency lat _ is = absurd (false≢true is)
+
+-- all stores have one latency
+pub latency_of_store : (lat : Latencies) (op : Op) → is_store (kind op) ≡ true → latency lat op ≡ lat.store
+latency_of_store lat op is = store_kind_latency lat (kind op) is

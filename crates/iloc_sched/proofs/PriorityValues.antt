@@ -1,0 +1,4 @@
+-- The priorities.
+pub mod Longest
+pub mod Small
+pub mod Raised

@@ -1,0 +1,201 @@
+-- A register is named by the place of its source, use after use; for `rename` (`renamed`).
+use Rattle.std.proofs.Common.{◌≡◌, ◌≢◌, ℕ, ◌+◌, ◌<◌, ◌≤◌, ◌⊎◌, ◌==◌, ◌||◌, Bool, true, false, if◌then◌else◌, List, [], ◌∷◌, ◌++◌, length, Option, Some, None, refl, sym, ap, ◌∙◌, arith, inl, inr, length-append, append_assoc, append-nil, ne_eqb, eq-eqb}
+use Rattle.std.proofs.lemmas.Bool.{eqb-true}
+use Rattle.std.specs.List.{list_any}
+use Rattle.std.proofs.lemmas.List.Folds.{list_any-append}
+use Rattle.iloc_text.specs.declared.op.Reg.{Reg}
+use Rattle.iloc_meaning.proofs.Cases.{by_bool}
+use Rattle.iloc_sched.specs.Renaming.{Source, is_source, struck, place_of}
+use Rattle.iloc_sched.specs.Renaming.Source.{Start, Result}
+use Rattle.iloc_sched.specs.Steps.Naming.{Stands, also, also_all, number_of, Follows, NamesNext}
+use Rattle.iloc_sched.proofs.Renamed.Sources.{is_source-refl, is_source-true, is_source-false, stands_left, stands_right}
+
+regroup : (a b c : Bool) → ((a || b) || c) ≡ (b || (a || c))
+regroup true true c = refl
+regroup true false c = refl
+regroup false b c = refl
+
+abbrev unless : Bool → Source → List Source
+unless b s = if b then [] else s ∷ []
+
+struck_last : (ms stood : List Source) (s : Source)
+    → struck stood (ms ++ s ∷ []) ≡ struck stood ms
+    ++ unless (list_any (is_source s) stood || list_any (is_source s) (struck stood ms)) s
+struck_last [] stood s =
+    by_bool (list_any (is_source s) stood) (λ t. rw t refl) (λ t. rw t refl)
+struck_last (x ∷ rest) stood s =
+    by_bool (list_any (is_source x) stood)
+    (λ t. rw t (struck_last rest stood s))
+    (λ t. rw t (
+    ap (λ ys. x ∷ ys) (struck_last rest (x ∷ stood) s)
+    ∙ ap (λ b. x ∷ (struck (x ∷ stood) rest ++ unless b s))
+    (regroup (is_source s x) (list_any (is_source s) stood) (list_any (is_source s) (struck (x ∷ stood) rest)))
+    ))
+
+also_unless : (sources : List Source) (s : Source) → sources ++ unless (list_any (is_source s) sources) s
+    ≡ also sources s
+also_unless sources s =
+    by_bool (list_any (is_source s) sources) (λ t. rw t (append-nil sources)) (λ t. rw t refl)
+
+pub struck_push : (ms : List Source) (s : Source) → struck [] (ms ++ s ∷ []) ≡ also (struck [] ms) s
+struck_push ms s = struck_last ms [] s ∙ also_unless (struck [] ms) s
+
+-- a numbering is made mention by mention
+pub struck_more : (ms more : List Source) → struck [] (ms ++ more) ≡ also_all (struck [] ms) more
+struck_more ms [] = ap (struck []) (append-nil ms)
+struck_more ms (s ∷ rest) =
+    ap (struck []) (sym (append_assoc ms (s ∷ []) rest))
+    ∙ struck_more (ms ++ s ∷ []) rest
+    ∙ ap (λ sources. also_all sources rest) (struck_push ms s)
+
+-- a source that is numbered keeps its number
+pub place_kept : (sources : List Source) (s t : Source) → Stands sources t → place_of (sources ++ s ∷ []) t
+    ≡ place_of sources t
+place_kept [] s t there = absurd cc
+place_kept (x ∷ rest) s t there =
+    by_bool (is_source t x) (λ b. rw b refl) (λ b. rw b (ap (λ n. n + 1) (place_kept rest s t (rw b at there))))
+
+-- a new source gets the next number
+pub place_new : (sources : List Source) (s : Source) → list_any (is_source s) sources ≡ false
+    → place_of (sources ++ s ∷ []) s ≡ length sources
+place_new [] s new = rw (is_source-refl s) refl
+place_new (x ∷ rest) s new =
+    by_bool (is_source s x)
+    (λ b. absurd (let no : true ≡ false = rw b at new in cc))
+    (λ b. rw b (let more : place_of (rest ++ s ∷ []) s ≡ length rest = place_new rest s (rw b at new) in omega arith))
+
+number_kept : (sources : List Source) (s t : Source) → is_source t s ≡ false → number_of (sources ++ s ∷ []) t
+    ≡ number_of sources t
+number_kept sources s t apart = by_bool (list_any (is_source t) sources)
+    (λ b. rw (list_any-append (is_source t) sources (s ∷ []), b) (ap Some (place_kept sources s t b)))
+    (λ b. rw (list_any-append (is_source t) sources (s ∷ []), b, apart) refl)
+
+number_new : (sources : List Source) (s : Source) → list_any (is_source s) sources ≡ false
+    → number_of (sources ++ s ∷ []) s ≡ Some (length sources)
+number_new sources s new =
+    let stands : Stands (sources ++ s ∷ []) s =
+    rw (list_any-append (is_source s) sources (s ∷ []), new, is_source-refl s) refl in
+    rw stands (ap Some (place_new sources s new))
+
+-- a register whose source has a number keeps all as it is
+pub use_named : (n : ℕ) (sources : List Source) (now : Reg → Source) (given : ℕ) (current : Reg → Option ℕ) (r : Reg)
+    (name : ℕ) → Follows n sources now given current → current r ≡ Some name
+    → Follows n (also sources (now r)) now given current
+use_named n sources now given current r name follows is =
+    by_bool (list_any (is_source (now r)) sources)
+    (λ b. rw b follows)
+    (λ b. absurd (let none : Some name ≡ None = sym is ∙ follows.numbers r ∙ rw b refl in cc))
+
+-- a register without a number reads its start
+at_start : (n : ℕ) (sources : List Source) (now : Reg → Source) (given : ℕ) (current : Reg → Option ℕ) (r : Reg)
+    → Follows n sources now given current → list_any (is_source (now r)) sources ≡ false → now r ≡ Start r
+at_start n sources now given current r follows new = elim (follows.origin r) [
+  | inl start ↦ start
+  | inr there ↦ absurd (let no : true ≡ false = sym there ∙ new in cc)
+]
+
+same_register : (q r : Reg) → q.0 == r.0 ≡ true → q ≡ r
+same_register q r same = ap (λ (n : ℕ). record { 0 = n }) (eqb-true q.0 r.0 same)
+
+stands_either : (sources : List Source) (s t : Source) → Stands (sources ++ s ∷ []) t → Stands sources t ⊎ (t ≡ s)
+stands_either [] s t there = by_bool (is_source t s) (λ b. inr (is_source-true t s b))
+    (λ b. absurd (let no : false ≡ true = rw b at there in cc))
+stands_either (x ∷ rest) s t there =
+    by_bool (is_source t x) (λ b. inl (rw b refl)) (λ b. elim (stands_either rest s t (rw b at there)) [
+      | inl within ↦ inl (rw b within)
+      | inr last ↦ inr last
+    ])
+
+-- a source that is new takes the next number: the register r reads it from now on, and each other what it read
+pub name_next : (n m : ℕ) (sources : List Source) (now now' : Reg → Source) (given given' : ℕ) (current current' : Reg
+    → Option ℕ) (r : Reg) (s : Source) → Follows n sources now given current → NamesNext r given current given' current'
+    → n ≤ m → list_any (is_source s) sources ≡ false → ((j : ℕ) → s ≡ Result j → j < m) → now' r ≡ s
+    → ((q : Reg) → q.0 ≢ r.0 → (now' q ≡ now q) × (now q ≢ s)) → Follows m (sources ++ s ∷ []) now' given' current'
+name_next n m sources now now' given given' current current' r s follows next later new result here others = record {
+  count = next.count ∙ omega (arith, follows.count, length-append sources (s ∷ []));
+  numbers = λ q. by_bool (q.0 == r.0)
+      (λ same.
+      let is : q ≡ r = same_register q r same in
+      rw is (next.here ∙ ap Some follows.count ∙ sym (number_new sources s new)
+      ∙ ap (number_of (sources ++ s ∷ [])) (sym here)))
+      (λ differ.
+      let apart : q.0 ≢ r.0 = eqb-apart q.0 r.0 differ in
+      let kept = others q apart in
+      next.others q apart ∙ follows.numbers q ∙ sym (number_kept sources s (now q) (is_source-false (now q) s kept.1))
+      ∙ ap (number_of (sources ++ s ∷ [])) (sym kept.0));
+  origin = λ q. by_bool (q.0 == r.0)
+      (λ same.
+      let is : q ≡ r = same_register q r same in
+      inr (rw (is, here) (stands_last sources s)))
+      (λ differ.
+      let kept = others q (eqb-apart q.0 r.0 differ) in
+      elim (follows.origin q) [
+        | inl start ↦ inl (kept.0 ∙ start)
+        | inr there ↦ inr (rw kept.0 (stands_left sources (s ∷ []) (now q) there))
+      ]);
+  results = λ j there. elim (stands_either sources s (Result j) there) [
+    | inl before ↦ let below : j < n = follows.results j before in omega arith
+    | inr last ↦ result j (sym last)
+  ];
+}
+  where
+    eqb-apart : (a b : ℕ) → a == b ≡ false → a ≢ b
+    eqb-apart a b differ same = let no : true ≡ false = sym (eq-eqb a b same) ∙ differ in cc
+
+    stands_last : (ss : List Source) (t : Source) → Stands (ss ++ t ∷ []) t
+    stands_last ss t = stands_right ss (t ∷ []) t (rw (is_source-refl t) refl)
+
+-- a use of a register that has no name yet
+pub use_new : (n : ℕ) (sources : List Source) (now : Reg → Source) (given given' : ℕ) (current current' : Reg
+    → Option ℕ) (r : Reg) → Follows n sources now given current → current r ≡ None
+    → NamesNext r given current given' current' → Follows n (also sources (now r)) now given' current'
+use_new n sources now given given' current current' r follows none next =
+    by_bool (list_any (is_source (now r)) sources)
+    (λ b. absurd (let some : None ≡ Some (place_of sources (now r)) = sym none ∙ follows.numbers r ∙ rw b refl in cc))
+    (λ b.
+    let start : now r ≡ Start r = at_start n sources now given current r follows b in
+    rw b (name_next n n sources now now given given' current current' r (now r) follows next (omega arith) b
+    (λ j is. absurd (let no : Start r ≡ Result j = sym start ∙ is in cc))
+    refl
+    (λ q apart. (
+      refl,
+      λ same. elim (follows.origin q) [
+        | inl own ↦ absurd (let one : Start q ≡ Start r = sym own ∙ same ∙ start in let one_register : q ≡ r = cc in
+            apart (ap (λ (x : Reg). x.0) one_register))
+        | inr there ↦ absurd (let no : true ≡ false = sym there ∙ ap (λ t. list_any (is_source t) sources) same ∙ b in
+            cc)
+      ],
+    ))))
+
+-- the name of a register that has one
+pub name_had : (n : ℕ) (sources : List Source) (now : Reg → Source) (given : ℕ) (current : Reg → Option ℕ) (r : Reg)
+    (name : ℕ) → Follows n sources now given current → current r ≡ Some name
+    → name ≡ place_of (also sources (now r)) (now r)
+name_had n sources now given current r name follows is = by_bool (list_any (is_source (now r)) sources)
+    (λ b. rw b (let one : Some name ≡ Some (place_of sources (now r)) = sym is ∙ follows.numbers r ∙ rw b refl in cc))
+    (λ b. absurd (let none : Some name ≡ None = sym is ∙ follows.numbers r ∙ rw b refl in cc))
+
+-- the name of a register that has none yet
+pub name_next_given : (n : ℕ) (sources : List Source) (now : Reg → Source) (given : ℕ) (current : Reg → Option ℕ)
+    (r : Reg) → Follows n sources now given current → current r ≡ None → given ≡ place_of (also sources (now r)) (now r)
+name_next_given n sources now given current r follows none = by_bool (list_any (is_source (now r)) sources)
+    (λ b. absurd (let some : None ≡ Some (place_of sources (now r)) = sym none ∙ follows.numbers r ∙ rw b refl in cc))
+    (λ b. rw b (follows.count ∙ sym (place_new sources (now r) b)))
+
+-- the definition of operation n
+pub define_new : (n : ℕ) (sources : List Source) (now : Reg → Source) (given given' : ℕ) (current current' : Reg
+    → Option ℕ) (r : Reg) → Follows n sources now given current → NamesNext r given current given' current'
+    → Follows (n + 1) (sources ++ Result n ∷ []) (λ q. if q.0 == r.0 then Result n else now q) given' current'
+define_new n sources now given given' current current' r follows next =
+    name_next n (n + 1) sources now _ given given' current current' r (Result n) follows next (omega arith)
+    (by_bool (list_any (is_source (Result n)) sources) (λ b. absurd (let below : n < n = follows.results n b in
+    omega arith)) (λ b. b))
+    (λ j is. let same : n ≡ j = cc in omega arith)
+    (rw (eq-eqb r.0 r.0 refl) refl)
+    (λ q apart. (
+      rw (ne_eqb q.0 r.0 apart) refl,
+      λ same. elim (follows.origin q) [
+        | inl own ↦ absurd (let no : Start q ≡ Result n = sym own ∙ same in cc)
+        | inr there ↦ absurd (let below : n < n = follows.results n (rw same at there) in omega arith)
+      ],
+    ))

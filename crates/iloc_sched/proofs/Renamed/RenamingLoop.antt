@@ -1,0 +1,222 @@
+-- The loop that renames: a use, a definition, an operation, the block; for `rename` (`renamed`, `size`).
+use Rattle.std.proofs.Common.{◌≡◌, ℕ, zero, suc, ◌+◌, ◌<◌, ◌≤◌, true, false, if◌then◌else◌, List, [], ◌∷◌, ◌++◌, length, map, take, get_or, not, cond, Option, Some, None, option_map, refl, sym, ap, subst, ◌∙◌, arith, inl, inr, append-nil}
+use Rattle.std.proofs.lemmas.List.{map-append, take_all, take_more}
+use Rattle.std.specs.List.{list_any, range_with_len}
+use Rattle.std.proofs.lemmas.List.Elements.{filter_more}
+use Rattle.std.proofs.lemmas.List.FromFn.{map-range_with_len_more}
+use Rattle.iloc_text.specs.declared.op.Reg.{Reg}
+use Rattle.iloc_text.specs.declared.op.Op.{Op}
+use Rattle.iloc_text.specs.Registers.{used, defined, with_registers}
+use Rattle.iloc_text.proofs.Renaming.{with_registers-same}
+use Rattle.iloc_meaning.specs.Trace.{op_at, is_register}
+use Rattle.iloc_meaning.proofs.Cases.{by_bool}
+use Rattle.iloc_sched.specs.Renaming.{Source, is_source, source, own_source, numbering, name_of, renamed_op, renamed_by, is_nop, without_nops, renamed}
+use Rattle.iloc_sched.specs.Renaming.Source.{Result}
+use Rattle.iloc_sched.specs.Steps.Naming.{Stands, also, also_all, Follows, NamesNext, Named, numbering_with, UsesNamed, next_renamed}
+use Rattle.iloc_sched.specs.Steps.Members.{In}
+use Rattle.iloc_sched.proofs.Basics.Members.{in_map}
+use Rattle.iloc_sched.proofs.Renamed.MentionedSources.{use_numbered, definition_numbered, length-renamed_by}
+use Rattle.std.proofs.Math.Path.{fun_ext}
+use Rattle.iloc_sched.proofs.Renamed.GivenNames.{place_new, define_new}
+use Rattle.iloc_sched.proofs.Renamed.OneMoreOperation.{map_same, op_at_kept, op_at_last, source_kept, length_more, also_all-append, numbering_more, name_also_all, used_stands}
+
+-- before the uses of the next operation
+pub uses_begin : (done : List Op) (given : ℕ) (current : Reg → Option ℕ) → Named done given current
+    → UsesNamed done [] [] given current
+uses_begin done given current named = record { follows = named; names = refl }
+
+use_stands : (done : List Op) (uses : List Reg) (r : Reg) → In uses r
+    → Stands (numbering_with done uses) (source done (length done) r)
+use_stands done uses r there =
+    used_stands (numbering done) (map (source done (length done)) uses) (source done (length done) r)
+    (in_map (source done (length done)) uses r there)
+
+with_more : (done : List Op) (uses : List Reg) (r : Reg) → numbering_with done (uses ++ r ∷ [])
+    ≡ also (numbering_with done uses) (source done (length done) r)
+with_more done uses r =
+    ap (also_all (numbering done)) (map-append (source done (length done)) uses (r ∷ []))
+    ∙ also_all-append (numbering done) (map (source done (length done)) uses) (source done (length done) r ∷ [])
+
+-- one more use
+pub uses_more : (done : List Op) (uses names : List Reg) (given given' : ℕ) (current current' : Reg → Option ℕ)
+    (r name : Reg) → UsesNamed done uses names given current
+    → Follows (length done) (also (numbering_with done uses) (source done (length done) r)) (source done (length done))
+    given' current' → name ≡ name_of (also (numbering_with done uses) (source done (length done) r))
+    (source done (length done) r) → UsesNamed done (uses ++ r ∷ []) (names ++ name ∷ []) given' current'
+uses_more done uses names given given' current current' r name named follows is = record {
+  follows = rw (with_more done uses r) follows;
+  names = rw (with_more done uses r, named.names, is) (
+      ap (λ ns. ns ++ name_of next (now r) ∷ []) (map_same (λ q. name_of (numbering_with done uses) (now q))
+      (λ q. name_of next (now q)) uses
+      (λ q there. sym (name_also_all (numbering_with done uses) (now r ∷ []) (now q) (use_stands done uses q there))))
+      ∙ sym (map-append (λ q. name_of next (now q)) uses (r ∷ []))
+      );
+}
+  where
+    now : Reg → Source
+    now = source done (length done)
+
+    next : List Source
+    next = also (numbering_with done uses) (source done (length done) r)
+
+-- the same in a loop over the registers that are used
+pub uses_step : (done : List Op) (items names names' : List Reg) (i : ℕ) (other name : Reg) (given given' : ℕ)
+    (current current' : Reg → Option ℕ) → i < length items → UsesNamed done (take i items) names given current
+    → ((n : ℕ) (sources : List Source) (now : Reg → Source) → Follows n sources now given current
+    → Follows n (also sources (now (get_or items i other))) now given' current'
+    × (name ≡ name_of (also sources (now (get_or items i other))) (now (get_or items i other))))
+    → names' ≡ names ++ name ∷ [] → UsesNamed done (take (i + 1) items) names' given' current'
+uses_step done items names names' i other name given given' current current' below named step pushed =
+    let next = step (length done) (numbering_with done (take i items)) (source done (length done)) named.follows in
+    rw (take_more items i other below, pushed)
+    (uses_more done (take i items) names given given' current current' (get_or items i other) name named next.0 next.1)
+
+pub uses_all : (done : List Op) (items uses names : List Reg) (i : ℕ) (given : ℕ) (current : Reg → Option ℕ)
+    → length items ≤ i → items ≡ uses → UsesNamed done (take i items) names given current
+    → UsesNamed done uses names given current
+uses_all done items uses names i given current past same named =
+    subst (λ us. UsesNamed done us names given current) (take_all i items past ∙ same) named
+
+-- the sources of registers after one more operation
+source_more : (done : List Op) (op : Op) → source (done ++ op ∷ []) (suc (length done))
+    ≡ (λ r. if is_register r (defined op) then Result (length done) else source done (length done) r)
+source_more done op = fun_ext (λ r. rw (op_at_last done op, source_kept done op (length done) r (omega arith))
+    refl)
+
+whole : (done : List Op) (op : Op) (given : ℕ) (current : Reg → Option ℕ)
+    → Follows (suc (length done)) (also_all (numbering_with done (used op)) (own_source (length done) (defined op)))
+    (λ r. if is_register r (defined op) then Result (length done) else source done (length done) r) given current
+    → Named (done ++ op ∷ []) given current
+whole done op given current follows =
+    rw (numbering_more done op, length_more done op, source_more done op) follows
+
+-- an operation that defines nothing
+pub named_without : (done : List Op) (op : Op) (names : List Reg) (given : ℕ) (current : Reg → Option ℕ)
+    → UsesNamed done (used op) names given current → defined op ≡ None → Named (done ++ op ∷ []) given current
+named_without done op names given current named none =
+    whole done op given current (rw none record {
+      count = named.follows.count;
+      numbers = named.follows.numbers;
+      origin = named.follows.origin;
+      results = λ j there. let below : j < length done = named.follows.results j there in omega arith;
+    })
+
+own_is_new : (n : ℕ) (sources : List Source) (now : Reg → Source) (given : ℕ) (current : Reg → Option ℕ)
+    → Follows n sources now given current → list_any (is_source (Result n)) sources ≡ false
+own_is_new n sources now given current follows =
+    by_bool (list_any (is_source (Result n)) sources) (λ b. absurd (let below : n < n = follows.results n b in
+    omega arith)) (λ b. b)
+
+-- an operation that defines a register
+pub named_with : (done : List Op) (op : Op) (names : List Reg) (given given' : ℕ) (current current' : Reg → Option ℕ)
+    (r : Reg) → UsesNamed done (used op) names given current → defined op ≡ Some r
+    → NamesNext r given current given' current' → Named (done ++ op ∷ []) given' current'
+named_with done op names given given' current current' r named is next =
+    let new : list_any (is_source (Result (length done))) (numbering_with done (used op)) ≡ false =
+    own_is_new _ _ _ _ _ named.follows in
+    let count : length done + 1 ≡ suc (length done) = omega arith in
+    whole done op given' current' (rw (is, new, ← count)
+    (define_new (length done) (numbering_with done (used op)) (source done (length done)) given given' current
+    current' r named.follows next))
+
+own_same : (d : Option Reg) (own own' : Reg) → ((r : Reg) → d ≡ Some r → own ≡ own')
+    → option_map (λ r. own) d ≡ option_map (λ r. own') d
+own_same None own own' same = refl
+own_same (Some r) own own' same = ap Some (same r refl)
+
+-- the renamed operation
+pub renamed_next : (done : List Op) (op : Op) (names : List Reg) (given : ℕ) (current : Reg → Option ℕ)
+    → UsesNamed done (used op) names given current
+    → with_registers (λ r. name_of (numbering_with done (used op)) (source done (length done) r)) (record { 0 = given })
+    op ≡ next_renamed done op
+renamed_next done op names given current named =
+    with_registers-same _ (λ r. name_of (numbering (done ++ op ∷ [])) (source (done ++ op ∷ []) (length done) r)) _
+    (name_of (numbering (done ++ op ∷ [])) (Result (length done))) op
+    (map_same _ _ (used op) (λ r there.
+    rw (numbering_more done op, source_kept done op (length done) r (omega arith))
+    (sym (name_also_all (numbering_with done (used op)) (own_source (length done) (defined op))
+    (source done (length done) r) (use_stands done (used op) r there)))))
+    (own_same (defined op) _ _ (λ r is.
+    let new : list_any (is_source (Result (length done))) (numbering_with done (used op)) ≡ false =
+    own_is_new _ _ _ _ _ named.follows in
+    rw (numbering_more done op, is, new) (ap (λ (n : ℕ). record { 0 = n }) (named.follows.count
+    ∙ sym (place_new (numbering_with done (used op)) (Result (length done)) new)))))
+    ∙ ap (with_registers _ _) (sym (op_at_last done op))
+
+name_more : (done : List Op) (op : Op) (s : Source) → Stands (numbering done) s
+    → name_of (numbering (done ++ op ∷ [])) s ≡ name_of (numbering done) s
+name_more done op s there =
+    ap (λ sources. name_of sources s) (numbering_more done op
+    ∙ sym (also_all-append (numbering done) (map (source done (length done)) (used op))
+    (own_source (length done) (defined op))))
+    ∙ name_also_all (numbering done) (map (source done (length done)) (used op) ++ own_source (length done)
+    (defined op)) s there
+
+-- the operations before stay as they were renamed
+renamed_op_kept : (done : List Op) (op : Op) (i : ℕ) → i < length done
+    → renamed_op (done ++ op ∷ []) (numbering (done ++ op ∷ [])) i ≡ renamed_op done (numbering done) i
+renamed_op_kept done op i below =
+    ap (with_registers _ _) (op_at_kept done op i below)
+    ∙ with_registers-same _ _ _ _ (op_at done i)
+    (map_same _ _ (used (op_at done i)) (λ r there.
+    ap (name_of (numbering (done ++ op ∷ []))) (source_kept done op i r (omega arith))
+    ∙ name_more done op (source done i r) (use_numbered done i r below there)))
+    (own_same (defined (op_at done i)) _ _
+    (λ r is. name_more done op (Result i) (definition_numbered done i r below is)))
+
+in_range : (a n i : ℕ) → In (range_with_len a n) i → i < a + n
+in_range a zero i there = absurd there
+in_range a (suc n) i (inl here) = omega arith
+in_range a (suc n) i (inr there) = let below = in_range (a + 1) n i there in omega arith
+
+renamed_more : (done : List Op) (op : Op) → renamed_by (done ++ op ∷ []) (numbering (done ++ op ∷ []))
+    ≡ renamed_by done (numbering done) ++ next_renamed done op ∷ []
+renamed_more done op =
+    let count : length (done ++ op ∷ []) ≡ length done + 1 = omega (arith, length_more done op) in
+    ap (λ n. map (renamed_op (done ++ op ∷ []) (numbering (done ++ op ∷ []))) (range_with_len 0 n)) count
+    ∙ map-range_with_len_more (renamed_op (done ++ op ∷ []) (numbering (done ++ op ∷ []))) 0 (length done) (length done)
+    (omega arith)
+    ∙ ap (λ ops. ops ++ next_renamed done op ∷ [])
+    (map_same _ _ (range_with_len 0 (length done))
+    (λ i there. let below : i < 0 + length done = in_range 0 (length done) i there in
+    renamed_op_kept done op i (omega arith)))
+
+pub next_pushed : (done ops more : List Op) (op next : Op) → ops ≡ renamed_by done (numbering done)
+    → next ≡ next_renamed done op → more ≡ ops ++ next ∷ []
+    → more ≡ renamed_by (done ++ op ∷ []) (numbering (done ++ op ∷ []))
+next_pushed done ops more op next before is pushed = rw (pushed, before, is) (sym (renamed_more done op))
+
+-- a loop over a block passes a `nop`
+pub nop_passed : (block : List Op) (i : ℕ) (other : Op) → i < length block → is_nop (get_or block i other) ≡ true
+    → without_nops (take (i + 1) block) ≡ without_nops (take i block)
+nop_passed block i other below is =
+    filter_more (λ op. not (is_nop op)) block i other below
+    ∙ ap (λ b. without_nops (take i block) ++ cond (not b) (get_or block i other ∷ []) []) is
+    ∙ append-nil (without_nops (take i block))
+
+-- and takes each other operation
+pub op_taken : (block : List Op) (i : ℕ) (other : Op) → i < length block → is_nop (get_or block i other) ≡ false
+    → without_nops (take (i + 1) block) ≡ without_nops (take i block) ++ get_or block i other ∷ []
+op_taken block i other below is_not =
+    filter_more (λ op. not (is_nop op)) block i other below
+    ∙ ap (λ b. without_nops (take i block) ++ cond (not b) (get_or block i other ∷ []) []) is_not
+
+-- all of a block is renamed
+pub all_renamed : (block items : List Op) (i : ℕ) (ops : List Op) → length items ≤ i → items ≡ block
+    → ops ≡ renamed_by (without_nops (take i items)) (numbering (without_nops (take i items))) → ops ≡ renamed block
+all_renamed block items i ops past same are =
+    are ∙ ap renamed (take_all i items past ∙ same)
+
+shorter : (block : List Op) → length (without_nops block) ≤ length block
+shorter [] = omega arith
+shorter (op ∷ rest) =
+    let less : length (without_nops rest) ≤ length rest = shorter rest in
+    by_bool (is_nop op) (λ t. rw t (omega arith)) (λ t. rw t (omega arith))
+
+-- no operation is added
+pub renamed_fits : (block : List Op) → length (renamed block) ≤ length block
+renamed_fits block = omega (
+  arith,
+  length-renamed_by (without_nops block) (numbering (without_nops block)),
+  shorter block,
+)

@@ -1,0 +1,8 @@
+-- What waits while a schedule is made: watched edges, and the buckets of what becomes ready.
+pub mod EdgeWalk
+pub mod WalkInTables
+pub mod TableReads
+pub mod LinkedBuckets
+pub mod BucketOfCycle
+pub mod FirstStates
+pub mod StillIssuable

@@ -1,0 +1,193 @@
+-- The states and buckets with which a schedule begins; for `Waiting::open`.
+use Rattle.std.proofs.Common.{◌≡◌, ◌≢◌, ℕ, zero, suc, ◌+◌, ◌%◌, ◌<◌, ◌≤◌, List, [], ◌∷◌, ◌++◌, length, map, take, get_or, Option, None, inl, inr, refl, sym, ◌∙◌, ap, subst, arith, cond}
+use Rattle.std.specs.Prelude.{replicate, count_by, is_none}
+use Rattle.std.proofs.lemmas.List.{length-map, length-replicate, replicate_more, take_more}
+use Rattle.std.proofs.lemmas.List.Sums.{sum_by-cons}
+use Rattle.iloc_sched.specs.declared.edges.Edges.{Edges}
+use Rattle.iloc_sched.specs.declared.plan.Plan.{Plan}
+use Rattle.iloc_sched.specs.declared.queues.Queues.{Queues}
+use Rattle.iloc_sched.specs.declared.class.Class.{Class}
+use Rattle.iloc_sched.specs.declared.waiting.State.{State}
+use Rattle.iloc_sched.specs.declared.waiting.Waiting.{Waiting}
+use Rattle.iloc_sched.specs.declared.wheel.Wheel.{Wheel}
+use Rattle.iloc_sched.specs.Steps.Members.{In, AreApart}
+use Rattle.iloc_sched.specs.Steps.Graph.{Graph, IsGraph}
+use Rattle.iloc_sched.specs.Steps.Progress.{Progress, Waits}
+use Rattle.iloc_sched.specs.Steps.Wheel.{bucket_of}
+use Rattle.iloc_sched.specs.Steps.Views.{graph_of, issued_in, watched_in, earliest_in, issued_list, watch_list, earliest_list, progress_of, IsSized}
+use Rattle.iloc_sched.specs.Steps.Queued.{candidates}
+use Rattle.iloc_sched.specs.Steps.SoFar.{IsSoFar, waiting_count}
+use Rattle.iloc_sched.specs.Steps.Opening.{AreRoots, not_issued, IsOpening}
+use Rattle.iloc_sched.proofs.Basics.Cases.{by_eq, not_both}
+use Rattle.iloc_sched.proofs.Watching.LinkedBuckets.{apart_few, read_replicate}
+
+pub no_roots : (graph : Graph) → AreRoots graph [] 0
+no_roots graph = record { all = λ j below. absurd (omega arith); only = λ j held. absurd held; apart = tt }
+
+pub root_put : (graph : Graph) (js : List ℕ) (n : ℕ) → AreRoots graph js n → graph.start n ≡ graph.start (n + 1)
+    → AreRoots graph (n ∷ js) (n + 1)
+root_put graph js n roots free = record {
+  all = λ j below none. by_eq j n (λ same. inl (sym same)) (λ apart. inr (roots.all j (omega arith) none));
+  only = λ j held. elim held [
+    | inl is ↦ (omega arith, subst (λ k. graph.start k ≡ graph.start (k + 1)) is free)
+    | inr old ↦ let h : (j < n) × (graph.start j ≡ graph.start (j + 1)) = roots.only j old in
+        (let below : j < n = h.0 in omega arith, h.1)
+  ];
+  apart = (λ held. let h : n < n = (roots.only n held).0 in absurd (omega arith), roots.apart);
+}
+
+pub roots_kept : (graph : Graph) (js : List ℕ) (n : ℕ) → AreRoots graph js n → graph.start n ≢ graph.start (n + 1)
+    → AreRoots graph js (n + 1)
+roots_kept graph js n roots free = record {
+  all = λ j below none. by_eq j n (λ same. absurd (free (subst (λ k. graph.start k ≡ graph.start (k + 1)) same none)))
+      (λ apart. roots.all j (omega arith) none);
+  only = λ j held. let h : (j < n) × (graph.start j ≡ graph.start (j + 1)) = roots.only j held in
+      (let below : j < n = h.0 in omega arith, h.1);
+  apart = roots.apart;
+}
+
+pub read_take : (n : ℕ) (xs : List ℕ) (k : ℕ) → k < n → get_or (take n xs) k 0 ≡ get_or xs k 0
+read_take zero xs k below = absurd (omega arith)
+read_take (suc n) [] k below = refl
+read_take (suc n) (x ∷ xs) zero below = refl
+read_take (suc n) (x ∷ xs) (suc k) below = read_take n xs k (omega arith)
+
+pub count_replicate : (n : ℕ) → count_by is_none (replicate n not_issued) ≡ n
+count_replicate zero = refl
+count_replicate (suc n) =
+    let rest : count_by is_none (replicate n not_issued) ≡ n = count_replicate n in
+    let step : count_by is_none (not_issued ∷ replicate n not_issued) ≡ 1 + count_by is_none (replicate n not_issued) =
+    sum_by-cons (λ (o : Option ℕ). cond (is_none o) 1 0) not_issued (replicate n not_issued) in
+    omega arith
+
+pushed : {Y : Type 0} → (f : State → Y) (xs : List State) (s : State) → map f (xs ++ s ∷ []) ≡ map f xs ++ f s ∷ []
+pushed f [] s = refl
+pushed f (x ∷ xs) s = ap (λ ys. f x ∷ ys) (pushed f xs s)
+
+-- the states of one more operation
+module _ (e : Edges) (w v : Waiting) (n : ℕ) (state : State) (below : n < length e.starts.items)
+    (so_far : IsOpening e w n) (states : v.states.items ≡ w.states.items ++ state ∷ []) (fresh : state.issued ≡ None)
+    (place : state.reach.place ≡ (graph_of e).start n) (soon : state.reach.earliest ≡ 0) where
+  issued_more : issued_list v ≡ replicate (n + 1) not_issued
+  issued_more = ap issued_in states ∙ pushed (λ (s : State). s.issued) w.states.items state
+      ∙ ap (λ o. issued_list w ++ o ∷ []) fresh ∙ ap (λ xs. xs ++ not_issued ∷ []) so_far.issued
+      ∙ replicate_more n not_issued
+
+  watched_more : watch_list v ≡ take (n + 1) e.starts.items
+  watched_more = ap watched_in states ∙ pushed (λ (s : State). s.reach.place) w.states.items state
+      ∙ ap (λ x. watch_list w ++ x ∷ []) place ∙ ap (λ xs. xs ++ (graph_of e).start n ∷ []) so_far.watch
+      ∙ sym (take_more e.starts.items n 0 below)
+
+  earliest_more : earliest_list v ≡ replicate (n + 1) 0
+  earliest_more = ap earliest_in states ∙ pushed (λ (s : State). s.reach.earliest) w.states.items state
+      ∙ ap (λ x. earliest_list w ++ x ∷ []) soon ∙ ap (λ xs. xs ++ 0 ∷ []) so_far.earliest
+      ∙ replicate_more n 0
+
+  -- it has an edge to wait for
+  pub opening_kept : v.wheel ≡ w.wheel → (graph_of e).start n ≢ (graph_of e).start (n + 1) → IsOpening e v (n + 1)
+  opening_kept same free = record {
+    issued = issued_more;
+    watch = watched_more;
+    earliest = earliest_more;
+    links = ap (λ (wheel : Wheel). length wheel.behind.items) same ∙ so_far.links;
+    roots = subst (λ (wheel : Wheel). AreRoots (graph_of e) (bucket_of wheel 0) (n + 1)) (sym same)
+        (roots_kept (graph_of e) ((progress_of w).bucket 0) n so_far.roots free);
+    others = λ b small apart. ap (λ (wheel : Wheel). bucket_of wheel b) same ∙ so_far.others b small apart;
+  }
+
+  -- it has none, and goes into the first bucket
+  pub opening_put : (progress_of v).bucket 0 ≡ n ∷ (progress_of w).bucket 0
+      → ((b : ℕ) → b < 32 → b ≢ 0 → (progress_of v).bucket b ≡ (progress_of w).bucket b)
+      → length v.wheel.behind.items ≡ length w.wheel.behind.items
+      → (graph_of e).start n ≡ (graph_of e).start (n + 1) → IsOpening e v (n + 1)
+  opening_put put others links free = record {
+    issued = issued_more;
+    watch = watched_more;
+    earliest = earliest_more;
+    links = links ∙ so_far.links;
+    roots = subst (λ js. AreRoots (graph_of e) js (n + 1)) (sym put)
+        (root_put (graph_of e) ((progress_of w).bucket 0) n so_far.roots free);
+    others = λ b small apart. others b small apart ∙ so_far.others b small apart;
+  }
+
+-- the next operation is in no bucket
+pub next_in_none : (e : Edges) (w : Waiting) (n : ℕ) → IsOpening e w n → (b : ℕ) → b < 32
+    → In ((progress_of w).bucket b) n → ⊥
+next_in_none e w n so_far b small held = by_eq b 0
+    (λ same. let h : n < n =
+    (so_far.roots.only n (subst (λ a. In ((progress_of w).bucket a) n) same held)).0 in absurd (omega arith))
+    (λ apart. subst (λ js. In js n) (so_far.others b small apart) held)
+
+pub roots_few : (e : Edges) (w : Waiting) (n : ℕ) → IsOpening e w n → length ((progress_of w).bucket 0) ≤ n
+roots_few e w n so_far =
+    apart_few ((progress_of w).bucket 0) n so_far.roots.apart (λ j held. (so_far.roots.only j held).0)
+
+-- nothing is issued yet
+pub opened : (graph : Graph) (w : Progress) → IsGraph graph → ((j : ℕ) → w.issued j ≡ None)
+    → ((j : ℕ) → j < graph.ops → w.watch j ≡ graph.start j) → ((j : ℕ) → w.earliest j ≡ 0)
+    → AreRoots graph (w.bucket 0) graph.ops → ((b : ℕ) → b < 32 → b ≢ 0 → w.bucket b ≡ []) → Waits graph w 0 0 None
+opened graph w is none watch earliest roots others = record {
+  reach = λ j there.
+      let at : w.watch j ≡ graph.start j = watch j there in
+      let up : graph.start j ≤ graph.start (j + 1) = is.rises j (j + 1) (omega arith) (omega arith) in
+      record {
+        within = (omega arith, omega arith);
+        past = λ x after before. absurd (omega arith);
+        reached = inl (earliest j);
+      };
+  stuck = λ j there left. inl (none (graph.from (w.watch j)));
+  complete = λ j t there was. not_both (w.issued j) t (none j) was;
+  times = λ j t there was. not_both (w.issued j) t (none j) was;
+  waits = λ j there waiting all late. subst (λ b. In (w.bucket b) j) (sym (ap (λ e. e % 32) (earliest j)))
+      (roots.all j there (sym (watch j there) ∙ all));
+  only = λ b j small held. by_eq b 0
+      (λ same.
+      let h : (j < graph.ops) × (graph.start j ≡ graph.start (j + 1)) =
+      roots.only j (subst (λ a. In (w.bucket a) j) same held) in
+      (h.0, none j, watch j h.0 ∙ h.1, omega arith, ap (λ e. e % 32) (earliest j) ∙ sym same))
+      (λ apart. absurd (subst (λ js. In js j) (others b small apart) held));
+  apart = λ b small. by_eq b 0 (λ same. subst (λ a. AreApart (w.bucket a)) (sym same) roots.apart)
+      (λ apart. subst AreApart (sym (others b small apart)) tt);
+}
+
+-- all states are made
+module _ (e : Edges) (w : Waiting) (is : IsGraph (graph_of e)) (made : IsOpening e w (length e.heads.items)) where
+  pub none_issued : (j : ℕ) → (progress_of w).issued j ≡ None
+  none_issued j = ap (λ xs. get_or xs j None) made.issued ∙ read_replicate (length e.heads.items) not_issued j
+
+  pub all_opened : Waits (graph_of e) (progress_of w) 0 0 None
+  all_opened = opened (graph_of e) (progress_of w) is none_issued
+      (λ j there. ap (λ xs. get_or xs j 0) made.watch ∙ read_take (length e.heads.items) e.starts.items j there)
+      (λ j. ap (λ xs. get_or xs j 0) made.earliest ∙ read_replicate (length e.heads.items) 0 j)
+      made.roots made.others
+
+  pub all_wait : waiting_count w ≡ length e.heads.items
+  all_wait = ap (count_by is_none) made.issued ∙ count_replicate (length e.heads.items)
+
+  pub all_sized : length e.starts.items ≡ length e.heads.items + 1 → IsSized e w
+  all_sized starts = record {
+    starts = starts;
+    states = sym (length-map w.states.items (λ (s : State). s.issued)) ∙ ap (length {A = Option ℕ}) made.issued
+        ∙ length-replicate (length e.heads.items) not_issued;
+    links = made.links;
+  }
+
+-- no row yet
+pub so_far_opened : (p : Plan) (w : Waiting) (q : Queues) → Waits (graph_of p.edges) (progress_of w) 0 0 None
+    → IsSized p.edges w → ((j : ℕ) → (progress_of w).issued j ≡ None) → ((k : Class) → candidates q k ≡ [])
+    → IsSoFar p w q []
+so_far_opened p w q waits sized none empty = record {
+  under_way = record {
+    sized = sized;
+    waits = waits;
+    queued = record {
+      has = λ j can. let soon : (progress_of w).earliest j < 0 = can.soon in absurd (omega arith);
+      only = λ k c held. absurd (subst (λ cs. In cs c) (empty k) held);
+    };
+  };
+  matches = record {
+    done = λ j t below was. not_both ((progress_of w).issued j) t (none j) was;
+    waiting = λ j below waits. omega arith;
+  };
+  each = λ c below. absurd (omega arith);
+}
