@@ -6,13 +6,10 @@ ghost use Rattle.iloc_farm.specs.Steps.Entries.{IsEntry};
 
 use crate::listing::{Detail, push_schedule, push_total};
 use crate::pieces::Pieces;
-use iloc_sched::schedule;
+use iloc_sched::Scheduler;
 use iloc_text::{Block, NoMemory};
 use iloc_timed::{Latencies, MAX_ROWS, cycles};
 use std::alloc::Global;
-
-/// An entry gets so many bytes of room at first, enough for most that list cycles alone.
-const FIRST_ROOM: usize = 64;
 
 /// What is listed of one block.
 #[derive(Drop)]
@@ -22,35 +19,52 @@ pub struct Entry {
     pub cycles: u32,
 }
 
-/// The entry of the block with this number, counted from 1, in so much detail. The schedule is let go.
-pub(crate) fn entry_of(
-    alloc: Global,
-    number: usize,
-    block: &Block,
-    latencies: &Latencies,
-    detail: Detail,
-) -> Result<Entry, NoMemory>
-    requires short { length block.now.ops ≤ 10000 }
-    requires number { number < 2 ^ 63 }
-    ensures { IfOk result (IsEntry detail latencies.now number block.now) }
-{
-    let schedule = schedule(alloc, block, latencies)?;
-    prove!(schedule.rows().len() <= MAX_ROWS);
-    let cycles = cycles(&schedule, latencies);
-    let mut text = Vec::with_capacity(alloc, FIRST_ROOM)?;
-    push_schedule(
-        &mut text,
-        number,
-        block.name.as_ref(),
-        &schedule,
-        cycles,
-        detail,
-    )?;
-    text.shrink_to_fit();
-    Ok(Entry {
-        text,
-        cycles: cycles as u32,
-    })
+/// Where entries are made, one after another. The room that one took is kept for those after it.
+#[derive(Drop)]
+pub struct Desk {
+    scheduler: Scheduler,
+    text: Vec<u8>,
+}
+
+impl Desk {
+    /// A desk without room yet.
+    pub(crate) fn new(alloc: Global) -> Desk {
+        Desk {
+            scheduler: Scheduler::new(alloc),
+            text: Vec::new(alloc),
+        }
+    }
+
+    /// The entry of the block with this number, counted from 1, in so much detail. The schedule is let go.
+    pub(crate) fn entry(
+        &mut self,
+        alloc: Global,
+        number: usize,
+        block: &Block,
+        latencies: &Latencies,
+        detail: Detail,
+    ) -> Result<Entry, NoMemory>
+        requires short { length block.now.ops ≤ 10000 }
+        requires number { number < 2 ^ 63 }
+        ensures { IfOk result (IsEntry detail latencies.now number block.now) }
+    {
+        let schedule = self.scheduler.schedule(block, latencies)?;
+        prove!(schedule.rows().len() <= MAX_ROWS);
+        let cycles = cycles(&schedule, latencies);
+        self.text.clear();
+        push_schedule(
+            &mut self.text,
+            number,
+            block.name.as_ref(),
+            &schedule,
+            cycles,
+            detail,
+        )?;
+        Ok(Entry {
+            text: Vec::from_slice(alloc, &self.text)?,
+            cycles: cycles as u32,
+        })
+    }
 }
 
 /// The listing of these entries: their texts, and at the end the cycles of all.

@@ -2,7 +2,8 @@
 ghost use Rattle.std.specs.Prelude.{◌≤◌, length};
 ghost use Rattle.std.specs.List.{All};
 
-use crate::entry::{Entry, entry_of};
+use crate::desks::Desks;
+use crate::entry::Entry;
 use crate::listing::Detail;
 use iloc_board::{Jobs, NoMemory};
 use iloc_text::Block;
@@ -15,6 +16,7 @@ pub struct EntryJobs<'f> {
     /// At most 65,535 blocks, each of at most 10,000 operations.
     pub blocks: &'f [Block],
     pub latencies: Latencies,
+    pub desks: &'f Desks,
     pub detail: Detail,
     ghost few: { length blocks.now ≤ 65535 },
     ghost short: { All (λ b. length b.ops ≤ 10000) blocks.now },
@@ -42,6 +44,8 @@ impl<'f> Jobs for EntryJobs<'f> {
     fn answer(&self, alloc: Global, i: u32) -> Result<Entry, NoMemory> {
         let number = i as usize + 1;
         let block = &self.blocks[i as usize];
-        entry_of(alloc, number, block, &self.latencies, self.detail).map_err(|_| NoMemory)
+        self.desks
+            .entry(alloc, number, block, &self.latencies, self.detail)
+            .map_err(|_| NoMemory)
     }
 }

@@ -6,6 +6,7 @@ ghost use Rattle.iloc_farm.specs.Steps.Detailed.{listing_with};
 ghost use Rattle.iloc_farm.specs.Steps.Entries.{AreEntries};
 
 use crate::answering::answer_all;
+use crate::desks::Desks;
 use crate::entry::{Entry, entries_text};
 use crate::entry_jobs::EntryJobs;
 use crate::fault::FarmFault;
@@ -30,9 +31,11 @@ fn entries_of<R: Threads + Wait + Sync>(
     requires { IsWithinLimits file.now.blocks }
     ensures { IfOk result (λ entries. AreEntries detail request.now file.now.blocks entries.items) }
 {
+    let desks = Desks::new(alloc, request.workers)?;
     let jobs = EntryJobs {
         blocks: file.blocks.as_slice(),
         latencies: request.latencies,
+        desks: &desks,
         detail,
     };
     let collected = answer_all(rt, alloc, &jobs, request.workers, &FreeGate)?;

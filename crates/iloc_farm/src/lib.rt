@@ -4,6 +4,7 @@
 mod answering;
 mod block_jobs;
 mod crew;
+mod desks;
 mod device;
 mod end_to_end;
 mod entry;

@@ -1,7 +1,7 @@
 use Rattle.std.proofs.Common.{◌≤◌, ◌+◌, length, arith}
 use Rattle.iloc_timed.specs.Cycles.{cycles}
 use Rattle.iloc_farm.proofs.Schedules.{cycles_within}
-use Rattle.iloc_farm.proofs.entry.entry_of.Goals as goal
+use Rattle.iloc_farm.proofs.entry.Desk.entry.Goals as goal
 
 pub push_schedule-requires-clause-cycles : goal.push_schedule-requires-clause-cycles
 push_schedule-requires-clause-cycles c =
