@@ -2,10 +2,12 @@
 use Rattle.std.proofs.Common.{◌≡◌, ◌∙◌, [], true, refl, sym, ap, subst, inl, inr}
 use Rattle.clap.proofs.OnLiterals.{clap_on_literals}
 use Rattle.clap.specs.Kinds.{HasKind, IsAmong}
-use Rattle.clap.specs.Words.{App, Text, fault_of, is_simple_and_free, kind_of}
+use Rattle.clap.specs.Words.{App, HasMatchesOf, Text, fault_of, is_simple, is_simple_and_free, kind_of, subcommand_of}
+use Rattle.clap.specs.Words.{subcommand_rows_of}
 use Rattle.clap.specs.declared.error.Error.{Error}
 use Rattle.clap.specs.declared.error.kind.ErrorKind.{ErrorKind}
 use Rattle.clap.specs.declared.error.kind.ErrorKind.TheVariants.{OutOfMemory}
+use Rattle.clap.specs.declared.parser.matches.ArgMatches.{ArgMatches}
 use Rattle.std.specs.Prelude.{List}
 use Rattle.iloc_args.specs.Asked.{Asked}
 use Rattle.iloc_args.specs.Command.{farm_app}
@@ -17,6 +19,16 @@ use Rattle.iloc_args.specs.declared.fault.LineFault.TheVariants.{Help, Refused, 
 farm_is_free : is_simple_and_free farm_app ≡ true
 unfolding clap_on_literals
 farm_is_free = refl
+
+farm_is_simple : is_simple farm_app ≡ true
+unfolding clap_on_literals
+farm_is_simple = refl
+
+-- the matches of the command that the words name are those of the definition
+pub met_rows : (a : App) (words : List Text) (m : ArgMatches) → a ≡ farm_app → HasMatchesOf a words m
+    → subcommand_rows_of m ≡ subcommand_of farm_app words
+met_rows a words m is h =
+    (h (ap is_simple is ∙ farm_is_simple)).1 ∙ ap (λ (b : App). subcommand_of b words) is
 
 -- the parser takes only words in which it finds no fault
 pub taken_words : (a : App) (words : List Text) → a ≡ farm_app

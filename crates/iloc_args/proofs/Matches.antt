@@ -178,7 +178,7 @@ explain_fit = record {
 }
 
 all_fit : AllByRecursion (λ e. IsFit (built_of e).rules) entries
-all_fit = (run_fit, (simulate_fit, (schedule_fit, (schedule_fit, (explain_fit, tt)))))
+all_fit = (run_fit, (simulate_fit, (schedule_fit, (schedule_fit, (explain_fit, (simulate_fit, tt))))))
 
 -- ---- the whole command line
 

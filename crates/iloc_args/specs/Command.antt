@@ -6,7 +6,7 @@ use Rattle.clap.specs.Lexer.{usize_max}
 use Rattle.clap.specs.Words.{App, Rule, Shape, Text, new_rule}
 use Rattle.clap.specs.Simple.{new_shape}
 use Rattle.iloc_args.specs.declared.request.Task.{Task}
-use Rattle.iloc_args.specs.declared.request.Task.TheVariants.{Run, Simulate, Schedule, Counts, Explain}
+use Rattle.iloc_args.specs.declared.request.Task.TheVariants.{Run, Simulate, Schedule, Counts, Explain, Check}
 
 -- `--NAME N`, a number within these bounds, and this one where it is not given
 abbrev pub number_rule : Text → Text → ℕ → ℕ → Rule
@@ -70,9 +70,13 @@ counts_entry = record { name = codes "counts"; task = Counts; rules = workers_ru
 abbrev pub explain_entry : Entry
 explain_entry = record { name = codes "explain"; task = Explain; rules = latency_rules }
 
+-- `check [--at N] [WORD].. [--load N] [--store N] [--mult N]`
+abbrev pub check_entry : Entry
+check_entry = record { name = codes "check"; task = Check; rules = at_rule ∷ words_rule ∷ latency_rules }
+
 -- the commands that there are
 abbrev pub entries : List Entry
-entries = run_entry ∷ simulate_entry ∷ schedule_entry ∷ counts_entry ∷ explain_entry ∷ []
+entries = run_entry ∷ simulate_entry ∷ schedule_entry ∷ counts_entry ∷ explain_entry ∷ check_entry ∷ []
 
 -- a command as the parser has it
 abbrev pub shape : Entry → Shape

@@ -1,6 +1,6 @@
 //! The program's command line, as the parser reads it.
 ghost use Rattle.std.specs.Prelude.{IfOk, codes};
-ghost use Rattle.iloc_args.specs.Command.{at_rule, counts_entry};
+ghost use Rattle.iloc_args.specs.Command.{at_rule, check_entry, counts_entry};
 ghost use Rattle.iloc_args.specs.Command.{explain_entry, farm_app, latency_rule, run_entry};
 ghost use Rattle.iloc_args.specs.Command.{schedule_entry, simulate_entry, top_shape, words_rule};
 ghost use Rattle.iloc_args.specs.Command.{workers_rule};
@@ -23,6 +23,7 @@ Exit status:
   2  a mistake in the command line
   3  no memory, or a worker could not be started
   4  reading or writing failed
+  5  check: not every block is the same
 
 Manual:
   man ilocfarm; in the repository man/ilocfarm.1 and docs/LANGUAGE.md";
@@ -190,6 +191,20 @@ fn explain_command<'a>(alloc: Global) -> Result<Command<'a>, AllocError>
         .arg(mult_arg(alloc))
 }
 
+/// `check [--at N] [WORD]... [--load N] [--store N] [--mult N]`
+fn check_command<'a>(alloc: Global) -> Result<Command<'a>, AllocError>
+    ensures { IfOk result (HasApp (app check_entry)) }
+{
+    memory_command(
+        alloc,
+        "check",
+        "Judge schedules of the blocks that stand behind them",
+    )?
+    .arg(load_arg(alloc))?
+    .arg(store_arg(alloc))?
+    .arg(mult_arg(alloc))
+}
+
 /// The program without its commands.
 fn top_command<'a>(alloc: Global) -> Result<Command<'a>, AllocError>
     ensures { IfOk result (HasApp (alone top_shape)) }
@@ -216,5 +231,6 @@ pub(crate) fn farm_command<'a>(alloc: Global) -> Result<Command<'a>, AllocError>
         .subcommand(simulate_command(alloc)?)?
         .subcommand(schedule_command(alloc)?)?
         .subcommand(counts_command(alloc)?)?
-        .subcommand(explain_command(alloc)?)
+        .subcommand(explain_command(alloc)?)?
+        .subcommand(check_command(alloc)?)
 }

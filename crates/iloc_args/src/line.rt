@@ -55,6 +55,7 @@ fn task_of(name: &str) -> Task
         "schedule" => Task::Schedule,
         "counts" => Task::Counts,
         "explain" => Task::Explain,
+        "check" => Task::Check,
         _ => unreachable!(),
     }
 }

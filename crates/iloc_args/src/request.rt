@@ -16,6 +16,8 @@ pub enum Task {
     Counts,
     /// Schedule it, and list why the schedule takes its cycles.
     Explain,
+    /// Judge the rows that stand behind the blocks.
+    Check,
 }
 
 /// A command with its options; an option that the command does not take has its default.

@@ -11,4 +11,6 @@ returns c =
     c.in_ok-subcommand-3.ensures in
     let four = more_command _ _ _ _ c.in_ok-subcommand-4.field-0 three c.in_ok-counts_command.ensures
     c.in_ok-subcommand-4.ensures in
-    if_more_command _ _ _ _ c.subcommand-5.result four c.in_ok-explain_command.ensures c.subcommand-5.ensures
+    let five = more_command _ _ _ _ c.in_ok-subcommand-5.field-0 four c.in_ok-explain_command.ensures
+    c.in_ok-subcommand-5.ensures in
+    if_more_command _ _ _ _ c.subcommand-6.result five c.in_ok-check_command.ensures c.subcommand-6.ensures

@@ -1,5 +1,9 @@
-use Rattle.iloc_args.proofs.Faults.{taken_words, refused_words}
+use Rattle.iloc_args.proofs.Faults.{met_rows, taken_words, refused_words}
 use Rattle.iloc_args.proofs.line.matches_of.Goals as goal
+
+pub returns-in-Ok-clause-rows : goal.returns-in-Ok-clause-rows
+returns-in-Ok-clause-rows g c =
+    met_rows _ _ _ c.in_ok-farm_command.ensures.app c.in-Ok.ensures.matches
 
 pub returns-in-Ok-clause-taken : goal.returns-in-Ok-clause-taken
 returns-in-Ok-clause-taken g c =

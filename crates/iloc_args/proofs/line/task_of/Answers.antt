@@ -19,4 +19,5 @@ unreachable-requires c =
     let schedule = apart (codes "schedule") c.args.name.now c.in_default.not-schedule in
     let counts = apart (codes "counts") c.args.name.now c.in_default.not-counts in
     let explain = apart (codes "explain") c.args.name.now c.in_default.not-explain in
-    false≢true (rw (run, simulate, schedule, counts, explain) at c.requires)
+    let check = apart (codes "check") c.args.name.now c.in_default.not-check in
+    false≢true (rw (run, simulate, schedule, counts, explain, check) at c.requires)
