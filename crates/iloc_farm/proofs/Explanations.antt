@@ -23,7 +23,7 @@ parts_joined text head line entry = simp append_assoc
 total_joined : (text head number line : List ℕ) → ((text ++ head) ++ number) ++ line ≡ text ++ ((head ++ number) ++ line)
 total_joined text head number line = simp append_assoc
 
-greedy_more : (lat : Latencies) (blocks : List Block) (schedules : List Table) (b : Block) (s : Table)
+pub greedy_more : (lat : Latencies) (blocks : List Block) (schedules : List Table) (b : Block) (s : Table)
     → AreGreedy lat blocks schedules → IsGreedy lat b.ops s.ops s.rows
     → AreGreedy lat (blocks ++ b ∷ []) (schedules ++ s ∷ [])
 greedy_more lat [] [] b s are is = (is, tt)

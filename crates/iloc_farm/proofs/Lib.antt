@@ -3,6 +3,8 @@ pub mod Words
 pub mod Written
 pub mod Tasks
 pub mod Explanations
+pub mod Checks
+pub mod Status
 pub mod Gathered
 pub mod Schedules
 pub mod Simulated

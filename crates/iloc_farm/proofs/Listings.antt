@@ -9,10 +9,12 @@ use Rattle.iloc_args.specs.declared.request.Task.{Task}
 use Rattle.iloc_args.specs.declared.request.Task.TheVariants as task
 use Rattle.iloc_meaning.specs.Memory.{words_from}
 use Rattle.iloc_farm.specs.Initial.{memory_of}
-use Rattle.iloc_farm.specs.Laws.{AskAlike, GreedySchedulesCanBeListed, ListingsIgnoreWorkers}
+use Rattle.iloc_farm.specs.Laws.{AskAlike, ChecksIgnoreWorkers, GreedySchedulesCanBeListed, ListingsIgnoreWorkers}
+use Rattle.iloc_farm.specs.declared.finding.Finding.{Finding}
+use Rattle.iloc_farm.specs.Checking.{ListsChecked}
 use Rattle.iloc_farm.specs.Explaining.{ListsExplained}
 use Rattle.iloc_farm.specs.Listing.{counts_listing, schedules_listing}
-use Rattle.iloc_farm.specs.Run.{IsListing, IsListingFor, ListsGreedy, run_listing}
+use Rattle.iloc_farm.specs.Run.{IsListing, IsListingFor, ListsFor, ListsGreedy, ListsSubmission, run_listing}
 use Rattle.iloc_farm.proofs.Explanations.{explained_same}
 use Rattle.iloc_farm.proofs.Schedules.{greedy_all_same, greedy_long, total_small}
 
@@ -50,6 +52,7 @@ of_one_task task.Counts r q alike blocks text text' lists lists' =
 of_one_task task.Explain r q alike blocks text text' lists lists' =
     let P : Latencies → Type 0 = λ lat. ListsExplained lat blocks text' in
     explained_same r.latencies blocks text text' lists (subst P (sym alike.latencies) lists')
+of_one_task task.Check r q alike blocks text text' lists lists' = absurd lists
 
 pub ignore_workers : ListingsIgnoreWorkers
 ignore_workers r q alike input blocks blocks' denotes denotes' text text' lists lists' =
@@ -57,6 +60,25 @@ ignore_workers r q alike input blocks blocks' denotes denotes' text text' lists 
     let Q : Task → Type 0 = λ t. IsListingFor t q blocks text' in
     let own : IsListing q blocks text' = subst P (sym (one_answer.file input blocks blocks' denotes denotes')) lists' in
     of_one_task r.task r q alike blocks text text' lists (subst Q (sym alike.task) own)
+
+-- a check of the one request is one of the other
+submission_alike : (r q : Request) → AskAlike r q → (input : List ℕ) (finding : Finding) (text : List ℕ)
+    → ListsSubmission r input finding text → ListsSubmission q input finding text
+submission_alike r q alike input finding text lists =
+    let P : Latencies → Type 0 = λ lat. ListsChecked lat (memory_of r) lists.blocks lists.proposals finding text in
+    let Q : List ℤ → Type 0 = λ memory. ListsChecked q.latencies memory lists.blocks lists.proposals finding text in
+    record {
+      blocks = lists.blocks;
+      proposals = lists.proposals;
+      denoted = lists.denoted;
+      checked = subst Q (one_memory r q alike) (subst P alike.latencies lists.checked);
+    }
+
+pub checks_ignore_workers : ChecksIgnoreWorkers
+checks_ignore_workers r q alike is input finding text lists =
+    let P : Task → Type 0 = λ t. ListsFor t r input finding text in
+    let Q : Task → Type 0 = λ t. ListsFor t q input finding text in
+    subst Q (sym is ∙ alike.task) (submission_alike r q alike input finding text (subst P is lists))
 
 pub can_be_listed : GreedySchedulesCanBeListed
 can_be_listed lat blocks schedules limits greedy =

@@ -15,7 +15,7 @@ use Rattle.iloc_args.specs.declared.request.Request.{Request}
 use Rattle.iloc_farm.specs.Program.{Args, AskFor, IsHelp, IsStopped, MakeNone}
 use Rattle.iloc_farm.specs.Run.{EndsRun}
 use Rattle.iloc_farm.specs.declared.fault.RunFault.{RunFault}
-use Rattle.iloc_farm.specs.declared.fault.RunFault.TheVariants.{ReadFailed, Text, Farm, WriteFailed}
+use Rattle.iloc_farm.specs.declared.fault.RunFault.TheVariants.{ReadFailed, Text, Rows, Farm, WriteFailed}
 use Rattle.iloc_farm.specs.declared.program.Fault.TheVariants.{Run}
 
 -- what the words behind the name ask for is what the words do
@@ -47,13 +47,16 @@ run_stopped words request read_old read_new written_old written_new ReadFailed a
     record { request = request; asked = asked; ended = ended }
 run_stopped words request read_old read_new written_old written_new (Text fault) asked ended =
     record { request = request; asked = asked; ended = ended }
+run_stopped words request read_old read_new written_old written_new (Rows fault) asked ended =
+    record { request = request; asked = asked; ended = ended }
 run_stopped words request read_old read_new written_old written_new (Farm fault) asked ended =
     record { request = request; asked = asked; ended = ended }
 run_stopped words request read_old read_new written_old written_new WriteFailed asked ended =
     record {
-      text = ended.0;
-      asked = inr (record { request = request; asked = asked; listed = ended.1 });
-      written = ended.2;
+      finding = ended.0;
+      text = ended.1;
+      asked = inr (record { request = request; asked = asked; listed = ended.2 });
+      written = ended.3;
     }
 
 -- what holds of the error that is made holds of the error that is returned

@@ -3,12 +3,15 @@ use Rattle.std.specs.Prelude.{ℕ, List, codes}
 use Rattle.iloc_text.specs.Fault.{fault_text}
 use Rattle.iloc_text.specs.declared.fault.ReadFault.{ReadFault}
 use Rattle.iloc_text.specs.declared.fault.ReadFault.TheVariants as text
+use Rattle.iloc_rows.specs.Fault.{rows_fault_text}
+use Rattle.iloc_rows.specs.declared.fault.RowsFault.{RowsFault}
+use Rattle.iloc_rows.specs.declared.fault.RowsFault.TheVariants as rows
 use Rattle.iloc_farm.specs.declared.device.InputFault.{InputFault}
 use Rattle.iloc_farm.specs.declared.device.InputFault.TheVariants as input
 use Rattle.iloc_farm.specs.declared.fault.FarmFault.{FarmFault}
 use Rattle.iloc_farm.specs.declared.fault.FarmFault.TheVariants as farm
 use Rattle.iloc_farm.specs.declared.fault.RunFault.{RunFault}
-use Rattle.iloc_farm.specs.declared.fault.RunFault.TheVariants.{ReadFailed, Text, Farm, WriteFailed}
+use Rattle.iloc_farm.specs.declared.fault.RunFault.TheVariants.{ReadFailed, Text, Rows, Farm, WriteFailed}
 
 -- 1 for a fault in the text, 3 for want of memory
 abbrev pub text_status : ReadFault → ℕ
@@ -19,10 +22,16 @@ text_status (text.TooManyBlocks n) = 1
 text_status (text.TooManyOperations n) = 1
 text_status text.NoMemory = 3
 
+-- the same of a text with rows
+abbrev pub rows_status : RowsFault → ℕ
+rows_status (rows.Read fault) = text_status fault
+rows_status (rows.NoSuchBlock n) = 1
+
 -- 1 for a fault in the text, 3 for want of memory or of a thread, 4 for a device that failed
 abbrev pub run_status_of : RunFault → ℕ
 run_status_of ReadFailed = 4
 run_status_of (Text fault) = text_status fault
+run_status_of (Rows fault) = rows_status fault
 run_status_of (Farm fault) = 3
 run_status_of WriteFailed = 4
 
@@ -35,6 +44,7 @@ farm_text farm.NoMemory = codes "out of memory"
 abbrev pub run_text : RunFault → List ℕ
 run_text ReadFailed = codes "reading failed"
 run_text (Text fault) = fault_text fault
+run_text (Rows fault) = rows_fault_text fault
 run_text (Farm fault) = farm_text fault
 run_text WriteFailed = codes "writing failed"
 
@@ -55,3 +65,13 @@ fault_of_text (text.NumberTooLarge n) = Text (text.NumberTooLarge n)
 fault_of_text (text.TooManyBlocks n) = Text (text.TooManyBlocks n)
 fault_of_text (text.TooManyOperations n) = Text (text.TooManyOperations n)
 fault_of_text text.NoMemory = no_memory
+
+-- the fault of a check whose input is no blocks with rows
+abbrev pub fault_of_rows : RowsFault → RunFault
+fault_of_rows (rows.Read text.InputTooLong) = Rows (rows.Read text.InputTooLong)
+fault_of_rows (rows.Read (text.BadLine n)) = Rows (rows.Read (text.BadLine n))
+fault_of_rows (rows.Read (text.NumberTooLarge n)) = Rows (rows.Read (text.NumberTooLarge n))
+fault_of_rows (rows.Read (text.TooManyBlocks n)) = Rows (rows.Read (text.TooManyBlocks n))
+fault_of_rows (rows.Read (text.TooManyOperations n)) = Rows (rows.Read (text.TooManyOperations n))
+fault_of_rows (rows.Read text.NoMemory) = no_memory
+fault_of_rows (rows.NoSuchBlock n) = Rows (rows.NoSuchBlock n)

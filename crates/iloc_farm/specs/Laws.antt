@@ -1,12 +1,25 @@
 -- What holds of listings as a whole.
-use Rattle.std.specs.Prelude.{◌≡◌, ℕ, ◌<◌, ◌^◌, List, length}
+use Rattle.std.specs.Prelude.{◌≡◌, ℕ, ℤ, ◌<◌, ◌^◌, List, length, Option, Result}
+use Rattle.std.specs.List.{AllZip}
+use Rattle.std.specs.declared.io.Error.{Error}
 use Rattle.iloc_text.specs.declared.file.Block.{Block}
 use Rattle.iloc_text.specs.Files.{Denotes}
 use Rattle.iloc_timed.specs.declared.latencies.Latencies.{Latencies}
 use Rattle.iloc_timed.specs.Schedule.{Table}
+use Rattle.iloc_rows.specs.declared.proposal.Proposal.{Proposal}
+use Rattle.iloc_check.specs.Checked.{DoTheSame}
+use Rattle.iloc_rows.specs.Submissions as submissions
+use Rattle.iloc_args.specs.Asked.{Asked}
 use Rattle.iloc_args.specs.declared.request.Request.{Request}
+use Rattle.iloc_args.specs.declared.request.Task.TheVariants as task
+use Rattle.iloc_farm.specs.declared.finding.Finding.{Finding}
+use Rattle.iloc_farm.specs.declared.finding.Finding.TheVariants.{Passed}
+use Rattle.iloc_farm.specs.declared.program.Ending.{Ending}
+use Rattle.iloc_farm.specs.Checking.{ListsChecked}
+use Rattle.iloc_farm.specs.Device.{ReadsInput}
 use Rattle.iloc_farm.specs.Listing.{total_cycles}
-use Rattle.iloc_farm.specs.Run.{IsListing}
+use Rattle.iloc_farm.specs.Program.{Args, AskFor, Ends}
+use Rattle.iloc_farm.specs.Run.{IsListing, ListsInput}
 use Rattle.iloc_farm.specs.Schedules.{AreGreedy, IsWithinLimits}
 
 -- the requests ask for the same, but maybe of other workers
@@ -16,11 +29,46 @@ pub record AskAlike (r q : Request) : Type 0 where
   pub words : r.words.items ≡ q.words.items
   pub latencies : r.latencies ≡ q.latencies
 
--- what such requests list of one input is one text
+-- What such requests list of one file is one text. A check lists no file: which of two right verdicts it gives is not
+-- settled, so of one input it may list more than one text.
 abbrev pub ListingsIgnoreWorkers : Type 0
 ListingsIgnoreWorkers = (r q : Request) → AskAlike r q → (input : List ℕ) (blocks blocks' : List Block)
     → Denotes input blocks → Denotes input blocks'
     → (text text' : List ℕ) → IsListing r blocks text → IsListing q blocks' text' → text ≡ text'
+
+-- what one of such requests may list of an input as a check, so may the other
+abbrev pub ChecksIgnoreWorkers : Type 0
+ChecksIgnoreWorkers = (r q : Request) → AskAlike r q → r.task ≡ task.Check
+    → (input : List ℕ) (finding : Finding) (text : List ℕ) → ListsInput r input finding text
+    → ListsInput q input finding text
+
+-- where a check passed, the rows that are proposed for each block keep the rules of the units and have its outcome on
+-- every memory
+abbrev pub PassedChecksKeepOutcomes : Type 0
+PassedChecksKeepOutcomes = (lat : Latencies) (memory : List ℤ) (blocks : List Block) (proposals : List Proposal)
+    (text : List ℕ) → ListsChecked lat memory blocks proposals Passed text
+    → AllZip (λ (b : Block) (p : Proposal). DoTheSame lat b.ops p.ops p.rows) blocks proposals
+
+-- What was read is blocks and rows that are proposed for them. With the latencies that are asked for, the rows for each
+-- block keep the rules of the units and have its outcome on every memory.
+pub record ReadsTheSame (asked : Asked) (old new : Option (List ℕ)) : Type 0 where
+  pub input : List ℕ
+  pub read : ReadsInput old new input
+  pub blocks : List Block
+  pub proposals : List Proposal
+  pub denoted : submissions.Denotes input blocks proposals
+  pub latencies : Latencies
+  pub load : latencies.load ≡ asked.load
+  pub store : latencies.store ≡ asked.store
+  pub mult : latencies.mult ≡ asked.mult
+  pub same : AllZip (λ (b : Block) (p : Proposal). DoTheSame latencies b.ops p.ops p.rows) blocks proposals
+
+-- so it is where the program ends with status 0 and its words ask for a check
+abbrev pub Status0MeansTheSame : Type 0
+Status0MeansTheSame = (words : Result Args Error)
+    (read_old read_new written_old written_new said_old said_new : Option (List ℕ)) (ending : Ending)
+    → Ends words read_old read_new written_old written_new said_old said_new ending → ending.status ≡ 0
+    → (asked : Asked) → AskFor words asked → asked.task ≡ task.Check → ReadsTheSame asked read_old read_new
 
 -- The greedy schedules of blocks within the limits are as many as the blocks, and their cycles together are below 2^63,
 -- as the listings of schedules want.

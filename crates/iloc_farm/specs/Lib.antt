@@ -1,6 +1,8 @@
+pub mod Checking
 pub mod Device
 pub mod Explaining
 pub mod Fault
+pub mod Finding
 pub mod Headline
 pub mod Initial
 pub mod Laws

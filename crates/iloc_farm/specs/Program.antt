@@ -17,6 +17,7 @@ use Rattle.iloc_args.specs.declared.fault.LineFault.TheVariants.{Help, Refused, 
 use Rattle.iloc_args.specs.declared.request.Request.{Request}
 use Rattle.iloc_farm.specs.Device.{WritesFront}
 use Rattle.iloc_farm.specs.Fault.{run_status_of, run_text}
+use Rattle.iloc_farm.specs.Finding.{status_of_finding}
 use Rattle.iloc_farm.specs.Run.{EndsRun, Lists}
 use Rattle.iloc_farm.specs.declared.device.WriteFailed.{WriteFailed}
 use Rattle.iloc_farm.specs.declared.program.Fault.{Fault}
@@ -24,6 +25,8 @@ use Rattle.iloc_farm.specs.declared.program.Fault.TheVariants.{Line, Run}
 use Rattle.iloc_farm.specs.declared.fault.RunFault.{RunFault}
 use Rattle.iloc_farm.specs.declared.fault.RunFault.TheVariants.{WriteFailed as write_failed}
 use Rattle.iloc_farm.specs.declared.program.Ending.{Ending}
+use Rattle.iloc_farm.specs.declared.finding.Finding.{Finding}
+use Rattle.iloc_farm.specs.declared.finding.Finding.TheVariants.{Passed}
 
 -- ---- the words
 
@@ -72,27 +75,28 @@ module _ (words : Result Args Error) (read_old read_new : Option (List ℕ)) whe
     pub whole : text ≡ string_bytes help
     pub unread : Keeps read_old read_new
 
-  -- the words make a request, which lists this text of the input
-  pub record IsListed (text : List ℕ) : Type 0 where
+  -- the words make a request, which lists this text of the input, with this finding
+  pub record IsListed (finding : Finding) (text : List ℕ) : Type 0 where
     pub request : Request
     pub asked : AskFor words (asked_in request)
-    pub listed : Lists request read_old read_new text
+    pub listed : Lists request read_old read_new finding text
 
-  -- the text is the one that the words ask for
-  abbrev pub IsAskedFor : List ℕ → Type 0
-  IsAskedFor text = IsHelp text ⊎ IsListed text
+  -- the text is the one that the words ask for, with this finding; help judges nothing
+  abbrev pub IsAskedFor : Finding → List ℕ → Type 0
+  IsAskedFor finding text = (IsHelp text × (finding ≡ Passed)) ⊎ IsListed finding text
 
   module _ (written_old written_new : Option (List ℕ)) where
-    -- the text that the words ask for is written
-    pub record IsDone : Type 0 where
+    -- the text that the words ask for is written, with this finding
+    pub record IsDone (finding : Finding) : Type 0 where
       pub text : List ℕ
-      pub asked : IsAskedFor text
+      pub asked : IsAskedFor finding text
       pub written : Appends written_old written_new text
 
     -- a front of the text that the words ask for is written
     pub record IsCut : Type 0 where
+      pub finding : Finding
       pub text : List ℕ
-      pub asked : IsAskedFor text
+      pub asked : IsAskedFor finding text
       pub written : WritesFront written_old written_new text
 
     -- the words make no request, and nothing is read or written
@@ -138,10 +142,11 @@ abbrev pub Says : {T : Type 0} → Option (List ℕ) → Option (List ℕ) → R
 Says old new told text = MatchResult told (λ _. Appends old new text) (λ _. WritesFront old new text)
 
 module _ (words : Result Args Error) (read_old read_new written_old written_new said_old said_new : Option (List ℕ)) where
-  -- the program does what the words ask for: status 0, and nothing is said
+  -- the program does what the words ask for: the status tells the finding, 0 or 5, and nothing is said
   pub record EndsWell (ending : Ending) : Type 0 where
-    pub done : IsDone words read_old read_new written_old written_new
-    pub status : ending.status ≡ 0
+    pub finding : Finding
+    pub done : IsDone words read_old read_new written_old written_new finding
+    pub status : ending.status ≡ status_of_finding finding
     pub told : ending.told ≡ Ok tt
     pub unsaid : Keeps said_old said_new
 

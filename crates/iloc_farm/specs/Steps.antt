@@ -5,3 +5,4 @@ pub mod Entries
 pub mod Runner
 pub mod OfInput
 pub mod Explaining
+pub mod Checking

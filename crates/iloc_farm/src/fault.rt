@@ -3,6 +3,7 @@ ghost use Rattle.std.specs.Prelude.{◌≡◌};
 ghost use Rattle.iloc_farm.specs.Fault.{run_status_of};
 
 use crate::device::{InputFault, WriteFailed};
+use iloc_rows::RowsFault;
 use iloc_text::{NoMemory, ReadFault};
 use std::alloc::{AllocError, AllocFailed};
 use std::error::Error;
@@ -40,6 +41,8 @@ pub enum RunFault {
     ReadFailed,
     /// The input is no file. Want of memory is never told here.
     Text(ReadFault),
+    /// The input of a check is no blocks with rows. Want of memory is never told here.
+    Rows(RowsFault),
     /// The work failed, or memory was wanting, also while the input was read.
     Farm(FarmFault),
     /// A write or the flush failed.
@@ -56,6 +59,7 @@ impl Display for RunFault {
         match self {
             RunFault::ReadFailed => f.write_str("reading failed"),
             RunFault::Text(fault) => write!(f, "{fault}"),
+            RunFault::Rows(fault) => write!(f, "{fault}"),
             RunFault::Farm(fault) => write!(f, "{fault}"),
             RunFault::WriteFailed => f.write_str("writing failed"),
         }
@@ -69,8 +73,10 @@ pub fn run_status(fault: &RunFault) -> u8
     ensures { result ≡ run_status_of fault.now }
 {
     match fault {
-        RunFault::Farm(_) | RunFault::Text(ReadFault::NoMemory) => 3,
-        RunFault::Text(_) => 1,
+        RunFault::Farm(_)
+        | RunFault::Text(ReadFault::NoMemory)
+        | RunFault::Rows(RowsFault::Read(ReadFault::NoMemory)) => 3,
+        RunFault::Text(_) | RunFault::Rows(_) => 1,
         RunFault::ReadFailed | RunFault::WriteFailed => 4,
     }
 }
@@ -97,6 +103,19 @@ impl From<ReadFault> for RunFault {
         match fault {
             ReadFault::NoMemory => RunFault::Farm(FarmFault::NoMemory),
             fault => RunFault::Text(fault),
+        }
+    }
+}
+
+impl From<RowsFault> for RunFault {
+    ghost use Rattle.iloc_farm.specs.Fault.{fault_of_rows};
+
+    ghost from_gives = { λ fault given. given ≡ fault_of_rows fault };
+
+    fn from(fault: RowsFault) -> RunFault {
+        match fault {
+            RowsFault::Read(ReadFault::NoMemory) => RunFault::Farm(FarmFault::NoMemory),
+            fault => RunFault::Rows(fault),
         }
     }
 }

@@ -1,9 +1,28 @@
 //! Laws of listings, as contracts of functions that do nothing.
-ghost use Rattle.iloc_farm.specs.Laws.{GreedySchedulesCanBeListed, ListingsIgnoreWorkers};
+ghost use Rattle.iloc_farm.specs.Laws.{ChecksIgnoreWorkers, GreedySchedulesCanBeListed};
+ghost use Rattle.iloc_farm.specs.Laws.{ListingsIgnoreWorkers, PassedChecksKeepOutcomes};
+ghost use Rattle.iloc_farm.specs.Laws.{Status0MeansTheSame};
 
-/// Requests that are equal but for their workers list one text of one input.
+/// Requests that are equal but for their workers list one text of one file.
 pub fn listings_ignore_workers()
     ensures { ListingsIgnoreWorkers }
+{}
+
+/// What a check may list of an input does not depend on its workers.
+pub fn checks_ignore_workers()
+    ensures { ChecksIgnoreWorkers }
+{}
+
+/// Where a check passed, the rows that are proposed for each block keep the rules of the units and have its outcome on
+/// every memory of 16,384 words of 32 bits.
+pub fn passed_checks_keep_outcomes()
+    ensures { PassedChecksKeepOutcomes }
+{}
+
+/// So it is where the program ends with status 0 and its words ask for a check: with the latencies that they ask for, of
+/// the blocks and rows that were read.
+pub fn status_0_means_the_same()
+    ensures { Status0MeansTheSame }
 {}
 
 /// The greedy schedules of blocks within the limits are as many as the blocks, and their cycles

@@ -3,6 +3,7 @@
 
 mod answering;
 mod block_jobs;
+mod checked;
 mod crew;
 mod desks;
 mod device;
@@ -13,6 +14,7 @@ mod explained;
 mod farm;
 mod farmed;
 mod fault;
+mod finding;
 mod initial;
 pub mod laws;
 mod listing;
@@ -22,12 +24,15 @@ mod program;
 mod runner;
 mod shift;
 mod task;
+mod totals;
 
+pub use checked::{CheckedText, checked_text};
 pub use device::{InputFault, MOST_READ, WriteFailed, read_input, write_text};
 pub use end_to_end::run;
 pub use explained::explained_text;
 pub use farm::schedule_all;
 pub use fault::{FarmFault, RunFault, run_status};
+pub use finding::Finding;
 pub use initial::initial_memory;
 pub use listing::{counts_text, outcomes_text, schedules_text};
 pub use program::{Ending, run_program};

@@ -8,6 +8,7 @@ ghost use Rattle.iloc_farm.specs.Program.{named_line, words_line};
 use crate::device::{WriteFailed, write_text};
 use crate::end_to_end::run;
 use crate::fault::{RunFault, run_status};
+use crate::finding::Finding;
 use arrayvec::ArrayString;
 use iloc_args::{LineFault, Request, line_status, parse_line};
 use std::alloc::{AllocError, Global};
@@ -87,7 +88,8 @@ impl From<WriteFailed> for Fault {
 }
 
 /// Runs the program on its words, the first of which is its own name: writes what they ask for to
-/// `writer`, or what stopped it to `faults`.
+/// `writer`, or what stopped it to `faults`. Where it wrote what they ask for, its status is 0, or 5
+/// where a check failed.
 ///
 /// An error in place of the words means that one of them is no text, or want of memory.
 pub fn run_program<H: Threads + Wait + Sync, R: Read, W: Write, F: Write>(
@@ -103,8 +105,8 @@ pub fn run_program<H: Threads + Wait + Sync, R: Read, W: Write, F: Write>(
         (F.contents faults.old) (F.contents faults.new) result }
 {
     match serve(rt, alloc, words, reader, writer) {
-        Ok(()) => Ending {
-            status: 0,
+        Ok(finding) => Ending {
+            status: finding.status(),
             told: Ok(()),
         },
         Err(fault) => Ending {
@@ -114,22 +116,25 @@ pub fn run_program<H: Threads + Wait + Sync, R: Read, W: Write, F: Write>(
     }
 }
 
-/// Does what the words ask for.
+/// Does what the words ask for, and answers what was found.
 fn serve<H: Threads + Wait + Sync, R: Read, W: Write>(
     rt: &H,
     alloc: Global,
     words: io::Result<Args>,
     reader: &mut R,
     writer: &mut W,
-) -> Result<(), Fault>
-    ensures ok { OnOk result (IsDone words (R.remaining reader.old) (R.remaining reader.new)
+) -> Result<Finding, Fault>
+    ensures ok { IfOk result (IsDone words (R.remaining reader.old) (R.remaining reader.new)
         (W.contents writer.old) (W.contents writer.new)) }
     ensures err { IfErr result (IsStopped words (R.remaining reader.old) (R.remaining reader.new)
         (W.contents writer.old) (W.contents writer.new)) }
 {
     match request_of(alloc, words) {
         Ok(request) => Ok(run(rt, alloc, reader, writer, &request)?),
-        Err(LineFault::Help(text)) => Ok(write_text(writer, text.as_bytes())?),
+        Err(LineFault::Help(text)) => {
+            write_text(writer, text.as_bytes())?;
+            Ok(Finding::Passed)
+        }
         Err(fault) => Err(Fault::Line(fault)),
     }
 }

@@ -1,7 +1,7 @@
 use super::fakes::{Sink, Source, giving, taking_all};
 use super::sample::{GIVES_7, STORES_7, TWO_OUTPUTS};
 use iloc_args::parse_line;
-use iloc_farm::{Ending, RunFault, WriteFailed, run, run_program};
+use iloc_farm::{Ending, Finding, RunFault, WriteFailed, run, run_program};
 use std::alloc::Global;
 use std::env::Args;
 use std::io::ErrorKind;
@@ -12,7 +12,7 @@ type Reading<'a> = (
     &'a [u8],
     usize,
     Option<ErrorKind>,
-    Result<(), RunFault>,
+    Result<Finding, RunFault>,
     usize,
     &'a [u8],
 );
@@ -23,10 +23,13 @@ const BROKEN: Option<ErrorKind> = Some(ErrorKind::BrokenPipe);
 
 const INTERRUPTED: Option<ErrorKind> = Some(ErrorKind::Interrupted);
 
-const UNREAD: Result<(), RunFault> = Err(RunFault::ReadFailed);
+/// Nothing is judged.
+const DONE: Result<Finding, RunFault> = Ok(Finding::Passed);
+
+const UNREAD: Result<Finding, RunFault> = Err(RunFault::ReadFailed);
 
 const READINGS: &[Reading] = &[
-    (STORES_7, 1, None, Ok(()), 58 + 1, GIVES_7),
+    (STORES_7, 1, None, DONE, 58 + 1, GIVES_7),
     (STORES_7, ALL, BROKEN, UNREAD, 2, b""),
     (STORES_7, ALL, INTERRUPTED, UNREAD, 2, b""),
     (b"nop", ALL, BROKEN, UNREAD, 2, b""),
@@ -69,18 +72,18 @@ type Writing<'a> = (
     &'a str,
     &'a [u8],
     (usize, usize, bool),
-    Result<(), RunFault>,
+    Result<Finding, RunFault>,
     &'a [u8],
     Option<usize>,
 );
 
-const UNWRITTEN: Result<(), RunFault> = Err(RunFault::WriteFailed);
+const UNWRITTEN: Result<Finding, RunFault> = Err(RunFault::WriteFailed);
 
 const WRITINGS: &[Writing] = &[
-    ("run", STORES_7, (ALL, ALL, true), Ok(()), GIVES_7, Some(12)),
-    ("run", STORES_7, (1, ALL, true), Ok(()), GIVES_7, Some(12)),
-    ("run", b"", (ALL, ALL, true), Ok(()), b"", Some(0)),
-    ("run", b"", (ALL, 0, true), Ok(()), b"", Some(0)),
+    ("run", STORES_7, (ALL, ALL, true), DONE, GIVES_7, Some(12)),
+    ("run", STORES_7, (1, ALL, true), DONE, GIVES_7, Some(12)),
+    ("run", b"", (ALL, ALL, true), DONE, b"", Some(0)),
+    ("run", b"", (ALL, 0, true), DONE, b"", Some(0)),
     ("run", b"", (ALL, 0, false), UNWRITTEN, b"", None),
     ("run", STORES_7, (0, ALL, true), UNWRITTEN, b"", None),
     ("run", STORES_7, (ALL, 0, true), UNWRITTEN, b"", None),

@@ -2,7 +2,7 @@
 //! second try ends well. To be run with each growth refused in turn: each test ends with the refusal.
 use super::fakes::{Sink, giving, taking_all};
 use iloc_args::{Request, parse_line};
-use iloc_farm::{FarmFault, RunFault, run};
+use iloc_farm::{FarmFault, Finding, RunFault, run};
 use iloc_text::push_number;
 use std::alloc::Global;
 use std::process::Abort;
@@ -28,7 +28,7 @@ fn listed<H: Abort + AllocGlobal + Threads + Wait + Sync>(
     rt: &H,
     request: &Request,
     input: &[u8],
-) -> Result<(Vec<u8>, Result<(), RunFault>), Fail> {
+) -> Result<(Vec<u8>, Result<Finding, RunFault>), Fail> {
     let alloc = rt.alloc();
     let mut writer = roomy(alloc)?;
     let first = run(rt, alloc, &mut giving(input), &mut writer, request);
@@ -87,6 +87,24 @@ const CASES: &[Case] = &[
 #[test]
 fn lists_a_small_file(rt: HostRuntime) -> Result<(), Fail> {
     assert_listed(&rt, CASES, SMALL)
+}
+
+const PROPOSED: &[u8] = b"loadI 4 => r1
+B: output 4
+block 1 -
+block 2 B
+[ output 4 ; nop ]
+cycles 2
+";
+
+const CHECKED: &[u8] = b"block 1 - same cycles 0 ours 1 least 1
+block 2 B same cycles 1 ours 1 least 1 claimed 2
+total 1 ours 2 least 2
+";
+
+#[test]
+fn judges_small_rows(rt: HostRuntime) -> Result<(), Fail> {
+    assert_listed(&rt, &[(&["check", "--at", "4", "9"], CHECKED)], PROPOSED)
 }
 
 /// The cycles of 40 such blocks, and their sum.

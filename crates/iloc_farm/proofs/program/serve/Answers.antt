@@ -1,5 +1,6 @@
-use Rattle.std.proofs.Common.{inl, inr}
+use Rattle.std.proofs.Common.{inl, inr, refl}
 use Rattle.iloc_farm.proofs.Words.{is_help, made_err, run_stopped}
+use Rattle.iloc_farm.specs.declared.finding.Finding.TheVariants.{Passed}
 use Rattle.iloc_farm.proofs.program.serve.Goals as goal
 
 pub returns-in_err-run-in-Ok-clause-err : goal.returns-in_err-run-in-Ok-clause-err
@@ -14,7 +15,12 @@ returns-in_err-write_text-in-Err-Help-clause-err g c =
     c.in-Err-Help.ensures.err c.in-Err-Help.field-0-is c.in-Err-Help.text-is c.as_bytes.ensures.value in
     made_err c.from_residual-in_err-write_text-in-Err-Help.result _ _
     c.from_residual-in_err-write_text-in-Err-Help.ensures.1
-    (record { text = c.as_bytes.result.now; asked = inl help; written = c.in_err-write_text-in-Err-Help.ensures.err })
+    (record {
+      finding = Passed;
+      text = c.as_bytes.result.now;
+      asked = inl (help, refl);
+      written = c.in_err-write_text-in-Err-Help.ensures.err;
+    })
 
 pub returns-in_ok-run-in-Ok-clause-ok : goal.returns-in_ok-run-in-Ok-clause-ok
 returns-in_ok-run-in-Ok-clause-ok g c = let done = c.in_ok-run-in-Ok.ensures.ok in record {
@@ -27,4 +33,8 @@ pub returns-in_ok-write_text-in-Err-Help-clause-ok : goal.returns-in_ok-write_te
 returns-in_ok-write_text-in-Err-Help-clause-ok g c =
     let help = is_help c.args.words (g.R.Read.remaining c.args.reader.now) c.in-Err-Help.field-0 c.in-Err-Help.text _ _
     c.in-Err-Help.ensures.err c.in-Err-Help.field-0-is c.in-Err-Help.text-is c.as_bytes.ensures.value in
-    record { text = c.as_bytes.result.now; asked = inl help; written = c.in_ok-write_text-in-Err-Help.ensures.ok }
+    record {
+      text = c.as_bytes.result.now;
+      asked = inl (help, refl);
+      written = c.in_ok-write_text-in-Err-Help.ensures.ok;
+    }

@@ -1,0 +1,232 @@
+-- The listing of checks, block by block.
+use Rattle.std.proofs.Common.{◌≡◌, ◌<◌, ◌≤◌, ℕ, ◌+◌, Bool, true, false, ◌&&◌, List, [], ◌∷◌, ◌++◌, length, map, take, get_or, sum_by, arith, refl, sym, ap, ap₂, ◌∙◌, subst, append_assoc, append-nil}
+use Rattle.std.specs.Prelude.{ℤ}
+use Rattle.std.specs.List.{All, AllByRecursion, AllZip, list_all}
+use Rattle.std.proofs.Math.Bool.{and-true}
+use Rattle.std.proofs.lemmas.List.{length-append, length-map, map-append, take_all, take_more}
+use Rattle.std.proofs.lemmas.List.Elements.{All-nil, All-push, All-head, All-tail}
+use Rattle.std.proofs.lemmas.List.Folds.{list_all-append}
+use Rattle.std.proofs.lemmas.List.Sums.{sum_by-append, sum_by-cons}
+use Rattle.iloc_text.specs.declared.op.Op.{Op}
+use Rattle.iloc_text.specs.declared.file.Block.{Block}
+use Rattle.iloc_timed.specs.declared.latencies.Latencies.{Latencies}
+use Rattle.iloc_timed.specs.Cycles.{cycles}
+use Rattle.iloc_timed.specs.Schedule.{Table}
+use Rattle.iloc_rows.specs.declared.proposal.Proposal.{Proposal}
+use Rattle.iloc_sched.specs.Greedy.{IsGreedy}
+use Rattle.iloc_sched.specs.Least.{least}
+use Rattle.iloc_sched.proofs.Leasts.{least_bound}
+use Rattle.iloc_check.specs.Checked.{DoTheSame, IsCheck}
+use Rattle.iloc_check.specs.declared.checked.Checked.{Checked}
+use Rattle.iloc_check.proofs.Sameness.{same_rows_do_the_same}
+use Rattle.iloc_farm.specs.Checking.{IsJudged, Judged, ListsChecked, judged_entries}
+use Rattle.iloc_farm.specs.Finding.{finding_of}
+use Rattle.iloc_farm.specs.Listing.{block_head}
+use Rattle.iloc_farm.specs.Schedules.{AreGreedy}
+use Rattle.iloc_farm.specs.Steps.Checking.{IsCheckedTo, IsSmall, totals_of, totals_text, with_checked}
+use Rattle.iloc_farm.specs.declared.finding.Finding.TheVariants.{Passed}
+use Rattle.iloc_farm.specs.declared.totals.Totals.{Totals}
+use Rattle.iloc_farm.proofs.Explanations.{greedy_more, short_at}
+use Rattle.iloc_farm.proofs.Schedules.{cycles_few, cycles_within, greedy_all_same}
+
+-- What is found of one proposal
+
+-- its numbers are small
+pub small_check : (lat : Latencies) (memory : List ℤ) (block : List Op) (s : Table) (p : Proposal) (c : Checked)
+    (entry : List ℕ) → IsCheck lat memory block s p c entry → IsGreedy lat block s.ops s.rows → length block ≤ 10000
+    → length p.rows ≤ 4000000000 → IsSmall c
+small_check lat memory block s p c entry check greedy short few =
+    let theirs : c.cycles ≡ cycles lat p.ops p.rows = ap (λ (x : Checked). x.cycles) check.is_found in
+    let ours : c.ours ≡ cycles lat s.ops s.rows = ap (λ (x : Checked). x.ours) check.is_found in
+    let most : c.least ≡ least lat block = ap (λ (x : Checked). x.least) check.is_found in
+    let within : cycles lat p.ops p.rows ≤ length p.rows + 16 = cycles_within lat p.ops p.rows in
+    let short_ours : cycles lat s.ops s.rows ≤ 160000 = cycles_few lat block s greedy short in
+    let bound : least lat block ≤ cycles lat s.ops s.rows = least_bound lat block s.ops s.rows greedy.lawful in
+    record { cycles = omega arith; ours = omega arith; least = omega arith }
+
+-- Sums
+
+sum_more : {X : Type 0} (f : X → ℕ) (xs : List X) (x : X) → sum_by f (xs ++ x ∷ []) ≡ sum_by f xs + f x
+sum_more f xs x =
+    let both : sum_by f (xs ++ x ∷ []) ≡ sum_by f xs + sum_by f (x ∷ []) = sum_by-append f xs (x ∷ []) in
+    let one : sum_by f (x ∷ []) ≡ f x + sum_by f [] = sum_by-cons f x [] in
+    let none : sum_by f [] ≡ 0 = refl in
+    omega arith
+
+all_more : {X : Type 0} (p : X → Bool) (xs : List X) (x : X) → list_all p (xs ++ x ∷ []) ≡ (list_all p xs && p x)
+all_more p xs x = list_all-append p xs (x ∷ []) ∙ ap (λ b. list_all p xs && b) (and-true (p x))
+
+totals_more : (js : List Judged) (j : Judged) → with_checked (totals_of js) j.checked ≡ totals_of (js ++ j ∷ [])
+totals_more js j =
+    let blocks : length js + 1 ≡ length (js ++ j ∷ []) = omega (arith, length-append js (j ∷ [])) in
+    let theirs = sym (sum_more (λ (x : Judged). x.checked.cycles) js j) in
+    let ours = sym (sum_more (λ (x : Judged). x.checked.ours) js j) in
+    let most = sym (sum_more (λ (x : Judged). x.checked.least) js j) in
+    let same = sym (all_more (λ (x : Judged). x.checked.is_same) js j) in
+    λ i. record { blocks = blocks i; cycles = theirs i; ours = ours i; least = most i; all_same = same i }
+
+-- Entries
+
+entries_more : (k n : ℕ) (js : List Judged) (j : Judged) → k + length js ≡ n
+    → judged_entries k (js ++ j ∷ []) ≡ judged_entries k js ++ (block_head n j.block.name ++ j.text)
+entries_more k n [] j at =
+    append-nil (block_head k j.block.name ++ j.text)
+    ∙ ap (λ m. block_head m j.block.name ++ j.text) (let same : k ≡ n = omega arith in same)
+entries_more k n (i ∷ js) j at =
+    ap (λ rest. block_head k i.block.name ++ i.text ++ rest) (entries_more (k + 1) n js j (omega arith))
+    ∙ sym (append_assoc (block_head k i.block.name ++ i.text) (judged_entries (k + 1) js)
+    (block_head n j.block.name ++ j.text))
+
+-- What is left
+
+middle : {X : Type 0} (P : X → Type 0) (xs ys : List X) (x : X) → AllByRecursion P (xs ++ x ∷ ys) → P x
+middle P [] ys x all = all.0
+middle P (z ∷ xs) ys x all = middle P xs ys x all.1
+
+module _ (lat : Latencies) (memory : List ℤ) (blocks : List Block) (proposals : List Proposal) where
+  module _ (left rest : List Proposal) (p : Proposal) (text : List ℕ) (totals : Totals) (next : left ≡ p ∷ rest)
+      (so_far : IsCheckedTo lat memory blocks proposals left text totals) where
+    -- the next proposal is one of all
+    whole : map (λ j. j.proposal) so_far.judged ++ p ∷ rest ≡ proposals
+    whole = ap (λ ps. map (λ (j : Judged). j.proposal) so_far.judged ++ ps) (sym next) ∙ so_far.of_proposals
+
+    pub holds_of_next : (P : Proposal → Type 0) → AllByRecursion P proposals → P p
+    holds_of_next P all =
+        middle P (map (λ (j : Judged). j.proposal) so_far.judged) rest p (subst (AllByRecursion P) (sym whole) all)
+
+    -- and there is a block for it
+    pub block_of_next : length proposals ≡ length blocks → totals.blocks < length blocks
+    block_of_next as_many =
+        let many : length (map (λ (j : Judged). j.proposal) so_far.judged ++ p ∷ rest) ≡ length proposals =
+        ap length whole in
+        let both = length-append (map (λ (j : Judged). j.proposal) so_far.judged) (p ∷ rest) in
+        let judged : length (map (λ (j : Judged). j.proposal) so_far.judged) ≡ length so_far.judged =
+        length-map so_far.judged (λ (j : Judged). j.proposal) in
+        let count : totals.blocks ≡ length so_far.judged = ap (λ (t : Totals). t.blocks) so_far.sums in
+        omega arith
+
+    pub short_next : length proposals ≡ length blocks → AllByRecursion (λ (a : Block). length a.ops ≤ 10000) blocks
+        → (b : Block) → b ≡ get_or blocks totals.blocks b → length b.ops ≤ 10000
+    short_next as_many short b read = short_at blocks totals.blocks b short (block_of_next as_many) read
+
+    -- one block more
+    pub one_checked : (b : Block) (s : Table) (c : Checked) (more entry : List ℕ) (sums : Totals)
+        → totals.blocks < length blocks → b ≡ get_or blocks totals.blocks b
+        → IsGreedy lat b.ops s.ops s.rows → IsCheck lat memory b.ops s p c entry → IsSmall c
+        → more ≡ (text ++ block_head (totals.blocks + 1) b.name) ++ entry → sums ≡ with_checked totals c
+        → IsCheckedTo lat memory blocks proposals rest more sums
+    one_checked b s c more entry sums within read greedy check small pushed added =
+        let js : List Judged = so_far.judged in
+        let j : Judged = record { block = b; ours = s; proposal = p; checked = c; text = entry } in
+        let count : totals.blocks ≡ length js = ap (λ (t : Totals). t.blocks) so_far.sums in
+        let at : length js < length blocks = omega arith in
+        let here : b ≡ get_or blocks (length js) b = subst (λ (n : ℕ). b ≡ get_or blocks n b) count read in
+        let long : length (js ++ j ∷ []) ≡ length js + 1 = omega (arith, length-append js (j ∷ [])) in
+        let front : take (length (js ++ j ∷ [])) blocks ≡ take (length js) blocks ++ b ∷ [] =
+        ap (λ n. take n blocks) long ∙ (take_more blocks (length js) b at
+        ∙ ap (λ x. take (length js) blocks ++ x ∷ []) (sym here)) in
+        record {
+          judged = js ++ j ∷ [];
+          sums = added ∙ (ap (λ t. with_checked t c) so_far.sums ∙ totals_more js j);
+          few = let few = so_far.few in
+              let cycles = ap (λ (t : Totals). t.cycles) added in
+              let ours = ap (λ (t : Totals). t.ours) added in
+              let most = ap (λ (t : Totals). t.least) added in
+              let blocks = ap (λ (t : Totals). t.blocks) added in
+              record { cycles = omega arith; ours = omega arith; least = omega arith };
+          of_blocks = map-append (λ (x : Judged). x.block) js (j ∷ [])
+              ∙ (ap (λ bs. bs ++ b ∷ []) so_far.of_blocks ∙ sym front);
+          of_proposals = ap (λ ps. ps ++ rest) (map-append (λ (x : Judged). x.proposal) js (j ∷ []))
+              ∙ (append_assoc (map (λ (x : Judged). x.proposal) js) (p ∷ []) rest ∙ whole);
+          greedy =
+              let P : List Block → List Table → Type 0 = λ bs ss. AreGreedy lat bs ss in
+              rw (front, map-append (λ (x : Judged). x.ours) js (j ∷ []))
+              (greedy_more lat (take (length js) blocks) (map (λ (x : Judged). x.ours) js) b s so_far.greedy greedy);
+          right = All-push (IsJudged lat memory) js j so_far.right check;
+          listed = pushed ∙ (append_assoc text (block_head (totals.blocks + 1) b.name) entry
+              ∙ (ap₂ (λ xs n. xs ++ (block_head n b.name ++ entry)) so_far.listed
+              (let same : totals.blocks + 1 ≡ 1 + length js = omega arith in same)
+              ∙ sym (entries_more 1 (1 + length js) js j refl)));
+        }
+
+  -- no block yet
+  pub none_checked : (left : List Proposal) (text : List ℕ) (totals : Totals) → left ≡ proposals → text ≡ []
+      → totals ≡ totals_of [] → IsCheckedTo lat memory blocks proposals left text totals
+  none_checked left text totals all empty none = record {
+    judged = [];
+    sums = none;
+    few =
+        let cycles = ap (λ (t : Totals). t.cycles) none in
+        let ours = ap (λ (t : Totals). t.ours) none in
+        let most = ap (λ (t : Totals). t.least) none in
+        record { cycles = omega arith; ours = omega arith; least = omega arith };
+    of_blocks = refl;
+    of_proposals = all;
+    greedy = tt;
+    right = All-nil (IsJudged lat memory);
+    listed = empty;
+  }
+
+  -- all blocks, and the line with what was found of all
+  pub all_checked : (left : List Proposal) (text more : List ℕ) (totals : Totals) → length left ≡ 0
+      → length proposals ≡ length blocks → IsCheckedTo lat memory blocks proposals left text totals
+      → more ≡ text ++ totals_text totals
+      → ListsChecked lat memory blocks proposals (finding_of totals.all_same) more
+  all_checked (p ∷ left) text more totals none as_many so_far pushed = absurd (omega arith)
+  all_checked [] text more totals none as_many so_far pushed =
+      let js : List Judged = so_far.judged in
+      let theirs : map (λ (j : Judged). j.proposal) js ≡ proposals =
+      sym (append-nil (map (λ (j : Judged). j.proposal) js)) ∙ so_far.of_proposals in
+      let many : length js ≡ length blocks =
+      sym (length-map js (λ (j : Judged). j.proposal)) ∙ (ap length theirs ∙ as_many) in
+      let every : take (length js) blocks ≡ blocks = take_all (length js) blocks (omega arith) in
+      let greedy : AreGreedy lat blocks (map (λ (j : Judged). j.ours) js) = rw every at so_far.greedy in
+      record {
+        judged = js;
+        of_blocks = so_far.of_blocks ∙ every;
+        of_proposals = theirs;
+        greedy = greedy;
+        only = λ others are. greedy_all_same lat blocks (map (λ (j : Judged). j.ours) js) others greedy are;
+        right = so_far.right;
+        found = ap (λ (t : Totals). finding_of t.all_same) so_far.sums;
+        listed = pushed ∙ ap₂ (λ xs t. xs ++ totals_text t) so_far.listed so_far.sums;
+      }
+
+-- What passed
+
+all_are_same : (b : Bool) → Passed ≡ finding_of b → b ≡ true
+all_are_same true is = refl
+all_are_same false is = absurd (cc)
+
+first_same : (a b : Bool) → (a && b) ≡ true → a ≡ true
+first_same true b is = refl
+first_same false b is = absurd (cc)
+
+rest_same : (a b : Bool) → (a && b) ≡ true → b ≡ true
+rest_same true b is = is
+rest_same false b is = absurd (cc)
+
+do_the_same : (lat : Latencies) (memory : List ℤ) (js : List Judged) → list_all (λ j. j.checked.is_same) js ≡ true
+    → All (IsJudged lat memory) js
+    → AllZip (λ (b : Block) (p : Proposal). DoTheSame lat b.ops p.ops p.rows) (map (λ j. j.block) js)
+    (map (λ j. j.proposal) js)
+do_the_same lat memory [] same right = tt
+do_the_same lat memory (j ∷ js) same right = (
+  same_rows_do_the_same lat memory j.block.ops j.ours j.proposal j.checked j.text
+      (All-head (IsJudged lat memory) j js right)
+      (first_same j.checked.is_same (list_all (λ (x : Judged). x.checked.is_same) js) same),
+  do_the_same lat memory js (rest_same j.checked.is_same (list_all (λ (x : Judged). x.checked.is_same) js) same)
+      (All-tail (IsJudged lat memory) j js right),
+)
+
+pub passed_keep_outcomes : (lat : Latencies) (memory : List ℤ) (blocks : List Block) (proposals : List Proposal)
+    (text : List ℕ) → ListsChecked lat memory blocks proposals Passed text
+    → AllZip (λ (b : Block) (p : Proposal). DoTheSame lat b.ops p.ops p.rows) blocks proposals
+passed_keep_outcomes lat memory blocks proposals text lists =
+    let P : List Block → Type 0 =
+    λ bs. AllZip (λ (b : Block) (p : Proposal). DoTheSame lat b.ops p.ops p.rows) bs proposals in
+    let Q : List Proposal → Type 0 =
+    λ ps. AllZip (λ (b : Block) (p : Proposal). DoTheSame lat b.ops p.ops p.rows) (map (λ (j : Judged). j.block) lists.judged)
+    ps in
+    subst P lists.of_blocks (subst Q lists.of_proposals (do_the_same lat memory lists.judged
+    (all_are_same (list_all (λ (j : Judged). j.checked.is_same) lists.judged) lists.found) lists.right))

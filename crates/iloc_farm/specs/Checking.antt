@@ -1,0 +1,51 @@
+-- The listing of what is said of the schedules that others proposed for a file's blocks.
+use Rattle.std.specs.Prelude.{ℕ, ◌+◌, ◌≡◌, ℤ, List, [], ◌∷◌, ◌++◌, map, sum_by, codes}
+use Rattle.std.specs.List.{All, list_all}
+use Rattle.std.specs.Fmt.{decimal}
+use Rattle.iloc_text.specs.declared.file.Block.{Block}
+use Rattle.iloc_timed.specs.declared.latencies.Latencies.{Latencies}
+use Rattle.iloc_timed.specs.Schedule.{Table}
+use Rattle.iloc_rows.specs.declared.proposal.Proposal.{Proposal}
+use Rattle.iloc_check.specs.declared.checked.Checked.{Checked}
+use Rattle.iloc_check.specs.Checked.{IsCheck}
+use Rattle.iloc_farm.specs.Finding.{finding_of}
+use Rattle.iloc_farm.specs.Listing.{block_head}
+use Rattle.iloc_farm.specs.Schedules.{AreGreedy, AreTheOnlyGreedy}
+use Rattle.iloc_farm.specs.declared.finding.Finding.{Finding}
+
+-- a block, our schedule of it, what is proposed for it, what was found of that, and what is said of it
+pub record Judged : Type 0 where
+  pub block : Block
+  pub ours : Table
+  pub proposal : Proposal
+  pub checked : Checked
+  pub text : List ℕ
+
+-- what is said of the proposal is right
+abbrev pub IsJudged : Latencies → List ℤ → Judged → Type 0
+IsJudged lat memory j = IsCheck lat memory j.block.ops j.ours j.proposal j.checked j.text
+
+-- the head of each block and what is said of its proposal, numbered from k on
+abbrev pub judged_entries : ℕ → List Judged → List ℕ
+judged_entries k [] = []
+judged_entries k (j ∷ js) = block_head k j.block.name ++ j.text ++ judged_entries (k + 1) js
+
+-- `total C ours O least L`: the cycles that are proposed, those of our schedules and the least, each together
+abbrev pub totals_line : List Judged → List ℕ
+totals_line js =
+    codes "total " ++ decimal (sum_by (λ j. j.checked.cycles) js)
+    ++ codes " ours " ++ decimal (sum_by (λ j. j.checked.ours) js)
+    ++ codes " least " ++ decimal (sum_by (λ j. j.checked.least) js) ++ codes "\n"
+
+-- The text says of each proposal, beside the greedy schedule of its block, what is right, and ends with their cycles
+-- together. They passed exactly where each is found to be the same.
+pub record ListsChecked (lat : Latencies) (memory : List ℤ) (blocks : List Block) (proposals : List Proposal)
+    (finding : Finding) (text : List ℕ) : Type 0 where
+  pub judged : List Judged
+  pub of_blocks : map (λ j. j.block) judged ≡ blocks
+  pub of_proposals : map (λ j. j.proposal) judged ≡ proposals
+  pub greedy : AreGreedy lat blocks (map (λ j. j.ours) judged)
+  pub only : AreTheOnlyGreedy lat blocks (map (λ j. j.ours) judged)
+  pub right : All (IsJudged lat memory) judged
+  pub found : finding ≡ finding_of (list_all (λ j. j.checked.is_same) judged)
+  pub listed : text ≡ judged_entries 1 judged ++ totals_line judged

@@ -1,0 +1,61 @@
+-- What was found of several proposals together, and the listing of checks as far as the blocks were gone through.
+use Rattle.std.specs.Prelude.{ℕ, ◌+◌, ◌*◌, ◌≡◌, ◌≤◌, ◌&&◌, ℤ, List, ◌++◌, map, take, length, sum_by, codes}
+use Rattle.std.specs.List.{All, list_all}
+use Rattle.std.specs.Fmt.{decimal}
+use Rattle.iloc_text.specs.declared.file.Block.{Block}
+use Rattle.iloc_timed.specs.declared.latencies.Latencies.{Latencies}
+use Rattle.iloc_rows.specs.declared.proposal.Proposal.{Proposal}
+use Rattle.iloc_check.specs.declared.checked.Checked.{Checked}
+use Rattle.iloc_farm.specs.declared.totals.Totals.{Totals}
+use Rattle.iloc_farm.specs.Checking.{IsJudged, Judged, judged_entries}
+use Rattle.iloc_farm.specs.Schedules.{AreGreedy}
+
+-- what was found of these together
+abbrev pub totals_of : List Judged → Totals
+totals_of js = record {
+  blocks = length js;
+  cycles = sum_by (λ j. j.checked.cycles) js;
+  ours = sum_by (λ j. j.checked.ours) js;
+  least = sum_by (λ j. j.checked.least) js;
+  all_same = list_all (λ j. j.checked.is_same) js;
+}
+
+-- with one more
+abbrev pub with_checked : Totals → Checked → Totals
+with_checked t c = record {
+  blocks = t.blocks + 1;
+  cycles = t.cycles + c.cycles;
+  ours = t.ours + c.ours;
+  least = t.least + c.least;
+  all_same = t.all_same && c.is_same;
+}
+
+-- the line of the totals
+abbrev pub totals_text : Totals → List ℕ
+totals_text t =
+    codes "total " ++ decimal t.cycles ++ codes " ours " ++ decimal t.ours ++ codes " least " ++ decimal t.least
+    ++ codes "\n"
+
+-- the numbers of one proposal are small
+pub record IsSmall (c : Checked) : Type 0 where
+  pub cycles : c.cycles ≤ 4000000016
+  pub ours : c.ours ≤ 160000
+  pub least : c.least ≤ 160000
+
+-- so many blocks take few cycles together
+pub record AreFew (t : Totals) : Type 0 where
+  pub cycles : t.cycles ≤ 4000000016 * t.blocks
+  pub ours : t.ours ≤ 160000 * t.blocks
+  pub least : t.least ≤ 160000 * t.blocks
+
+-- the text has the entries of the first blocks, for which this was found, and these proposals are left
+pub record IsCheckedTo (lat : Latencies) (memory : List ℤ) (blocks : List Block) (proposals left : List Proposal)
+    (text : List ℕ) (totals : Totals) : Type 0 where
+  pub judged : List Judged
+  pub sums : totals ≡ totals_of judged
+  pub few : AreFew totals
+  pub of_blocks : map (λ j. j.block) judged ≡ take (length judged) blocks
+  pub of_proposals : map (λ j. j.proposal) judged ++ left ≡ proposals
+  pub greedy : AreGreedy lat (take (length judged) blocks) (map (λ j. j.ours) judged)
+  pub right : All (IsJudged lat memory) judged
+  pub listed : text ≡ judged_entries 1 judged
