@@ -2,6 +2,7 @@
 //! `bench/run` measures ilocfarm against. Its one argument is the command.
 
 mod digits;
+mod explain;
 mod fault;
 mod graph;
 mod listing;
@@ -29,7 +30,7 @@ fn run(command: Command) -> Result<(), Fault> {
 
 fn main() -> ExitCode {
     let Some(command) = std::env::args().nth(1).and_then(|word| Command::named(&word)) else {
-        eprintln!("usage: baseline run|simulate|schedule|counts");
+        eprintln!("usage: baseline run|simulate|schedule|counts|explain");
         return ExitCode::from(2);
     };
     match run(command) {
