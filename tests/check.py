@@ -12,7 +12,7 @@ sys.path.append(os.path.join(os.path.dirname(HERE), "bench"))
 import measure  # noqa: E402  (it stands in bench/)
 
 SECONDS = 60
-COMMANDS = ("run", "simulate", "schedule", "counts")
+COMMANDS = ("run", "simulate", "schedule", "counts", "explain")
 
 
 class Missing(Exception):

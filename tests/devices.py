@@ -8,7 +8,8 @@ from dataclasses import dataclass
 from typing import Optional
 
 from case import Case, listed, refused
-from stored import CASES, COMMANDS
+from check import COMMANDS
+from stored import CASES
 
 
 def stored(name):

@@ -141,6 +141,7 @@ def middling():
 def runs(name, given):
     yield Run(["run", "--at", "0", "5", "6"], name, given)
     yield Run(["simulate"], name, given)
+    yield Run(["explain"], name, given)
     for command in ("schedule", "counts"):
         for workers in (1, 8):
             yield Run([command, "--workers", str(workers)], name, given, workers)

@@ -32,8 +32,8 @@ class Input:
     starts: dict    # by command: how the output starts, or standard error where the text is refused
 
 
-def taken(name, make, run, schedule, counts):
-    starts = {"run": run, "simulate": run, "schedule": schedule, "counts": counts}
+def taken(name, make, run, schedule, counts, explain):
+    starts = {"run": run, "simulate": run, "schedule": schedule, "counts": counts, "explain": explain}
     return Input(name, make, 0, {command: start.encode() for command, start in starts.items()})
 
 
@@ -56,13 +56,13 @@ def even():
     return filled(b"".join(inputs.block(draw, f"L{k}", 60 + draw.below(81), registers) for k in range(1, 501)))
 
 
-EVEN = taken("even", even, "block 1 L1\n", "block 1 L1\n[ ", "block 1 L1 cycles ")
+EVEN = taken("even", even, "block 1 L1\n", "block 1 L1\n[ ", "block 1 L1 cycles ", "block 1 L1\n0 cycle ")
 
 
 def plain_inputs():
     """Texts of one thing alone, and one more than is allowed."""
-    nothing = ("", "total 0\n", "total 0\n")
-    long_name = "block 1 AAAAAAAAAAAA"
+    nothing = ("", *["total 0\n"] * 3)
+    long_name = ["block 1 AAAAAAAAAAAA"] * 4
     loads = b"load r1 => r1\n"
     many_loads = f"line {MOST_OPERATIONS + 1}: more than 10000 operations in a block"
     many_blocks = f"line {MOST_BLOCKS + 1}: more than 65535 blocks"
@@ -72,43 +72,53 @@ def plain_inputs():
     yield taken("slashes", lambda: b"/" * LONGEST, *nothing)
     yield refused("digits", lambda: b"7" * LONGEST, bad)
     yield refused("a word", lambda: b"A" * LONGEST, bad)
-    yield taken("a name", lambda: b"A" * (LONGEST - 1) + b":", long_name, long_name, long_name)
+    yield taken("a name", lambda: b"A" * (LONGEST - 1) + b":", *long_name)
     yield taken("a number", lambda: b"loadI " + b"0" * (LONGEST - 14) + b"8 => r1\n", "block 1 -\n",
-                "block 1 -\n[ loadI 8 => r0 ; nop ]\ncycles 1\n", "block 1 - cycles 1\n")
+                "block 1 -\n[ loadI 8 => r0 ; nop ]\ncycles 1\n", "block 1 - cycles 1\n",
+                "block 1 -\n0 cycle 0 unit 0 ready 0 after - priority 1 loadI 8 => r1 ; loadI 8 => r0\n")
     yield refused("labels", lambda: filled(b"A:\n"), many_blocks)
     yield refused("nops", lambda: filled(b"nop\n"), many_loads)
     yield refused("loads", lambda: filled(loads), many_loads)
     yield taken("65,535 labels", lambda: b"A:\n" * MOST_BLOCKS, "block 1 A\nblock 2 A\n",
-                "block 1 A\ncycles 0\nblock 2 A\n", "block 1 A cycles 0\nblock 2 A cycles 0\n")
+                "block 1 A\ncycles 0\nblock 2 A\n", "block 1 A cycles 0\nblock 2 A cycles 0\n",
+                "block 1 A\ncycles 0 least 0\nchain -\nblock 2 A\n")
     yield refused("65,536 labels", lambda: b"A:\n" * (MOST_BLOCKS + 1), many_blocks)
     yield taken("10,000 operations", lambda: loads * MOST_OPERATIONS, "block 1 -\n",
-                "block 1 -\n[ load r0 => r1 ; nop ]\n[ nop ; nop ]\n", "block 1 - cycles 50000\ntotal 50000\n")
+                "block 1 -\n[ load r0 => r1 ; nop ]\n[ nop ; nop ]\n", "block 1 - cycles 50000\ntotal 50000\n",
+                "block 1 -\n0 cycle 0 unit 0 ready 0 after - priority 50000 load r1 => r1 ; load r0 => r1\n")
     yield refused("10,001 operations", lambda: loads * (MOST_OPERATIONS + 1), many_loads)
 
 
 def full_inputs():
     """Texts that are taken, each meant to make one part of the program work hard."""
-    head, chained = "block 1 A\n", "block 1 A\n[ load r0 => r1 ; nop ]\n[ nop ; nop ]\n"
+    head = "block 1 A\n"
+
+    def full(name, make, row, cycles, priority, pair):
+        first = f"0 cycle 0 unit {int(row.startswith('[ nop'))} ready 0 after - priority {priority} {pair}\n"
+        return taken(name, make, head, f"{head}{row}\n", f"block 1 A cycles {cycles}\n", head + first)
+
     yield taken("tiny blocks", lambda: b"A:output 0\n" * MOST_BLOCKS, "block 1 A\n0\n",
-                "block 1 A\n[ output 0 ; nop ]\n", "block 1 A cycles 1\n")
-    yield taken("long names", lambda: (b"A" * 254 + b":\n") * MOST_BLOCKS, "block 1 AAA", "block 1 AAA", "block 1 AAA")
+                "block 1 A\n[ output 0 ; nop ]\n", "block 1 A cycles 1\n",
+                "block 1 A\n0 cycle 0 unit 0 ready 0 after - priority 1 output 0 ; output 0\n")
+    yield taken("long names", lambda: (b"A" * 254 + b":\n") * MOST_BLOCKS, *["block 1 AAA"] * 4)
     yield taken("blocks of nops", lambda: (b"A:\n" + b"nop\n" * 63) * MOST_BLOCKS, head, "block 1 A\ncycles 0\n",
-                "block 1 A cycles 0\n")
-    yield taken("outputs", lambda: blocks_of(b"output 0\n"), "block 1 A\n0\n0\n", "block 1 A\n[ output 0 ; nop ]\n",
-                "block 1 A cycles 10000\n")
-    yield taken("chained loads", chained_loads, head, chained, "block 1 A cycles 50000\n")
-    yield taken("chained products", lambda: blocks_of(b"mult r0,r0=>r0\n"), head,
-                "block 1 A\n[ nop ; mult r0, r0 => r1 ]\n", "block 1 A cycles 30000\n")
-    yield taken("constants", lambda: blocks_of(b"loadI 0=>r0\n"), head,
-                "block 1 A\n[ loadI 0 => r0 ; loadI 0 => r1 ]\n", "block 1 A cycles 5000\n")
-    yield taken("stores", lambda: blocks_of(b"store r0=>r0\n"), head, "block 1 A\n[ store r0 => r0 ; nop ]\n",
-                "block 1 A cycles 10004\n")
-    yield taken("stores and loads", lambda: blocks_of(b"store r1=>r0\n", b"load r0=>r2\n"), head,
-                "block 1 A\n[ store r0 => r1 ; nop ]\n", "block 1 A cycles 30004\n")
-    yield taken("uses of one load", lambda: filled(b"A:\nload r0=>r1\n" + b"add r1,r1=>r2\n" * (MOST_OPERATIONS - 1)),
-                head, chained, "block 1 A cycles 5005\n")
-    yield taken("registers anywhere", registers_anywhere, head, "block 1 A\n[ loadI 0 => r0 ; loadI 0 => r1 ]\n",
-                "block 1 A cycles 5000\n")
+                "block 1 A cycles 0\n", "block 1 A\ncycles 0 least 0\nchain -\n")
+    yield full("outputs", lambda: blocks_of(b"output 0\n"), "[ output 0 ; nop ]", 10_000, 10_000,
+               "output 0 ; output 0")
+    yield full("chained loads", chained_loads, "[ load r0 => r1 ; nop ]\n[ nop ; nop ]", 50_000, 50_000,
+               "load r0 => r0 ; load r0 => r1")
+    yield full("chained products", lambda: blocks_of(b"mult r0,r0=>r0\n"), "[ nop ; mult r0, r0 => r1 ]", 30_000,
+               30_000, "mult r0, r0 => r0 ; mult r0, r0 => r1")
+    yield full("constants", lambda: blocks_of(b"loadI 0=>r0\n"), "[ loadI 0 => r0 ; loadI 0 => r1 ]", 5000, 1,
+               "loadI 0 => r0 ; loadI 0 => r0")
+    yield full("stores", lambda: blocks_of(b"store r0=>r0\n"), "[ store r0 => r0 ; nop ]", 10_004, 10_004,
+               "store r0 => r0 ; store r0 => r0")
+    yield full("stores and loads", lambda: blocks_of(b"store r1=>r0\n", b"load r0=>r2\n"), "[ store r0 => r1 ; nop ]",
+               30_004, 30_004, "store r1 => r0 ; store r0 => r1")
+    yield full("uses of one load", lambda: filled(b"A:\nload r0=>r1\n" + b"add r1,r1=>r2\n" * (MOST_OPERATIONS - 1)),
+               "[ load r0 => r1 ; nop ]\n[ nop ; nop ]", 5005, 6, "load r0 => r1 ; load r0 => r1")
+    yield full("registers anywhere", registers_anywhere, "[ loadI 0 => r0 ; loadI 0 => r1 ]", 5000, 1,
+               "loadI 0 => r0 ; loadI 0 => r0")
 
 
 def chained_loads():
@@ -181,11 +191,21 @@ def slow_listing(command, blocks):
     empty = b"[ nop ; nop ]\n" * (SLOWEST - 1)
     rows = empty.join(b"[ load r%d => r%d ; nop ]\n" % (k, k + 1) for k in range(MOST_OPERATIONS))
     entry = {"simulate": b"\n", "counts": b" cycles %d\n" % cycles,
-             "schedule": b"\n" + rows + b"cycles %d\n" % cycles}[command]
+             "schedule": b"\n" + rows + b"cycles %d\n" % cycles,
+             "explain": b"\n" + b"".join(map(slow_reason, range(MOST_OPERATIONS)))
+             + b"cycles %d least %d\nchain " % (cycles, cycles) + b" ".join(b"%d" % k for k in range(MOST_OPERATIONS))
+             + b"\n"}[command]
     for number in range(1, blocks + 1):
         yield b"block %d A" % number + entry
     if command != "simulate":
         yield b"total %d\n" % (blocks * cycles)
+
+
+def slow_reason(number):
+    """The line of one of `slow_loads`, which waits for the one before it."""
+    cycle, before = SLOWEST * number, b"%d" % (number - 1) if number else b"-"
+    return (b"%d cycle %d unit 0 ready %d after %s priority %d load r0 => r0 ; load r%d => r%d\n"
+            % (number, cycle, cycle, before, SLOWEST * MOST_OPERATIONS - cycle, number, number + 1))
 
 
 def in_little_memory(place):

@@ -14,10 +14,10 @@ From these follow more cases, since a rule of the program says so:
 import os
 
 from case import Case
+from check import COMMANDS
 
 HERE = os.path.dirname(os.path.abspath(__file__))
 CASES = os.path.join(HERE, "cases")
-COMMANDS = ("run", "simulate", "schedule", "counts", "explain")
 
 
 def read(path, otherwise):

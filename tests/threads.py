@@ -21,7 +21,7 @@ def thread_checks(place):
         yield Check(f"threads/as_many_as_asked/{command}", lambda command=command: as_many_as_asked(place, command))
         yield Check(f"threads/one_processor/{command}", lambda command=command: one_processor(place, command))
         yield Check(f"threads/none_to_be_had/{command}", lambda command=command: none_to_be_had(place, command))
-    for command in ("run", "simulate"):
+    for command in ("run", "simulate", "explain"):
         yield Check(f"threads/none_needed/{command}", lambda command=command: none_needed(place, command))
     for command in COMMANDS:
         yield Check(f"threads/little_stack/{command}", lambda command=command: little_stack(place, command))
