@@ -54,10 +54,13 @@ def given_blocks(seed, latencies, count=BLOCKS):
 
 def handed_in(chance, blocks, givens, kind):
     """A file of these blocks with somebody's rows and claims behind it, and our rows where the kind has none."""
-    rows = (kind(chance, given) for given in givens)
-    rows = [ours(chance, given) if it is None else it for it, given in zip(rows, givens)]
-    claims = (chance.choice([None, cycles(it, given.latencies), chance.randrange(99)]) for it, given in zip(rows, givens))
-    return text_of(blocks) + b"".join(proposed(k, f"B{k}", *it) for k, it in enumerate(zip(rows, claims), 1))
+    text = text_of(blocks)
+    for k, given in enumerate(givens, 1):
+        rows = kind(chance, given)
+        rows = ours(chance, given) if rows is None else rows
+        claim = chance.choice([None, cycles(rows, given.latencies), chance.randrange(99)])
+        text += proposed(k, f"B{k}", rows, claim)
+    return text
 
 
 def judging_cases():

@@ -10,8 +10,11 @@ from typing import Callable
 import inputs
 import measure
 from check import COMMANDS, Check, told
+from judging import TOO_MANY
 from made import LONGEST, MOST_BLOCKS, MOST_OPERATIONS
+from measure import contents
 from refusals import NO_MEMORY
+from verdicts import NOT_SAME
 
 TIMES = 3
 # At the usual latencies, for processor time and for memory held. The first holds on slow machines too.
@@ -37,8 +40,8 @@ def taken(name, make, run, schedule, counts, explain):
     return Input(name, make, 0, {command: start.encode() for command, start in starts.items()})
 
 
-def refused(name, make, line):
-    return Input(name, make, 1, dict.fromkeys(COMMANDS, f"ilocfarm: {line}\n".encode()))
+def refused(name, make, line, commands=COMMANDS):
+    return Input(name, make, 1, dict.fromkeys(commands, f"ilocfarm: {line}\n".encode()))
 
 
 def filled(part):
@@ -121,6 +124,43 @@ def full_inputs():
                "loadI 0 => r0 ; loadI 0 => r0")
 
 
+def judged(name, make, start):
+    return Input(name, make, NOT_SAME if b" same " not in start else 0, {"check": start})
+
+
+def judged_texts(place):
+    """Blocks with rows: our own, those of one form alone, and one more than is allowed."""
+    def own(blocks):
+        path = place.stored("blocks", blocks)
+        return blocks + contents(measure.run([place.baseline, "schedule"], path, place.path("listing")).output)
+
+    def rows(*parts):
+        return b"A:\n" + b"".join(parts)
+
+    empty, same, load = b"[ nop ; nop ]\n", b"block 1 A same ", b"[ load r0 => r1 ; nop ]\n"
+    free = b"[ loadI 0 => r1 ; addI r2, 1 => r3 ]\n"
+    yield judged("own rows, even", lambda: own(even()[:4_000_000].rsplit(b"L", 1)[0]), b"block 1 L1 same ")
+    yield judged("own rows, loads", lambda: own(blocks_of(b"load r0=>r0\n")[:1_100_000].rsplit(b"A", 1)[0]), same)
+    yield judged("own rows, stores and loads", lambda: own(blocks_of(b"store r1=>r0\n", b"load r0=>r0\n")[:1_800_000]
+                                                           .rsplit(b"A", 1)[0]), same)
+    yield judged("own rows, sums", lambda: own(b"A:\n" + b"add r0, r1 => r0\nmult r0, r0 => r1\n" * 5000), same)
+    yield judged("empty rows", lambda: rows(empty * ((LONGEST - 3) // len(empty))), same)
+    yield judged("65,535 heads", lambda: b"A:\n" * MOST_BLOCKS + b"".join(
+        b"block %d A\n" % k for k in range(1, MOST_BLOCKS + 1)), same)
+    yield judged("most claims", lambda: rows(b"cycles 7\n" * ((LONGEST - 3) // 9)),
+                 same + b"cycles 0 ours 0 least 0 claimed 7")
+    yield judged("a load on the wrong unit", lambda: rows(load * 5000, b"[ nop ; load r0 => r1 ]\n", load * 4999),
+                 b"block 1 A units cycles 10004 ours 0 least 0\n  row 5001: [ nop ; load r0 => r1 ]\n")
+    yield judged("useless operations", lambda: rows(free * 5000), b"block 1 A same cycles 5000 ours 0 least 0\n")
+    yield refused("10,001 operations in rows", lambda: rows(free * 5000, load), f"line 5002: {TOO_MANY.decode()}",
+                  ["check"])
+    yield refused("65,535 heads of one block", lambda: rows(b"block 1 A\n" * MOST_BLOCKS), "line 3: no such block",
+                  ["check"])
+    yield refused("a row without an end", lambda: b"A:\n[" + b" " * (LONGEST - 4), "line 2: not understood", ["check"])
+    yield refused("a long number", lambda: b"A:\ncycles " + b"9" * (LONGEST - 10), "line 2: number above 2147483647",
+                  ["check"])
+
+
 def chained_loads():
     return blocks_of(b"load r0=>r0\n")
 
@@ -139,6 +179,8 @@ def size_checks(place):
     if not place.is_short:
         yield Check("sizes/slow loads", table.slow_loads)
         yield Check("sizes/slow loads in little memory", lambda: in_little_memory(place))
+    for it in judged_texts(place):
+        yield Check(f"sizes/check/{it.name}", lambda it=it: table.judged_row(it))
 
 
 class Table:
@@ -158,6 +200,13 @@ class Table:
                 self.even[command] = got
             yield from differences(command, got, due)
             yield from misfits(command, got, given)
+
+    def judged_row(self, given):
+        """Prints the row of an input of `check`, and gives what is wrong. Its even input is its first."""
+        got = self.least(["check"], self.place.stored("given", given.make()))
+        self.even.setdefault("check", got)
+        self.show("check", given.name, got)
+        yield from misfits("check", got, given)
 
     def least(self, words, path):
         """The run with the least processor time."""

@@ -78,7 +78,7 @@ def as_simulated(case):
 
 def refused_by_all(case):
     if case.words[:1] == ["run"] and case.status == 1:
-        for command in COMMANDS[1:]:
+        for command in (*COMMANDS[1:], "check"):
             yield again(case, command, [command])
 
 
