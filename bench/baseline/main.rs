@@ -20,7 +20,7 @@ use fault::{Fault, MAX_BYTES};
 use listing::Command;
 
 fn run(command: Command) -> Result<(), Fault> {
-    let mut bytes = Vec::new();
+    let mut bytes = Vec::with_capacity(MAX_BYTES + 1);
     let mut input = io::stdin().lock().take(MAX_BYTES as u64 + 1);
     input.read_to_end(&mut bytes).map_err(|_| Fault::ReadFailed)?;
     let listing = listing::of(command, &bytes)?;
