@@ -1,5 +1,6 @@
 """Schedules handed in to `check`: our own, students' right and wrong ones, and texts that are refused."""
 import random
+from functools import cache
 
 import stored
 from blocks import ODD, USUAL, text_of, words_for
@@ -45,15 +46,18 @@ TOO_MANY = b"more than 10000 operations in a block"
 TWO = b"a: output 0\nb: output 4\n"
 
 
-def given_blocks(seed, latencies, count=BLOCKS):
-    """Blocks, each with our schedule of it, and a source of chance."""
+@cache
+def given_blocks(seed, name, count=BLOCKS):
+    """Blocks, and each with our schedule of it for the latencies of this name."""
     chance = random.Random(seed)
     blocks = [lab_block(chance) for _ in range(count)]
-    return chance, blocks, [Given(Explained(ops, latencies)) for ops in blocks]
+    return blocks, [Given(Explained(ops, EACH_LATENCIES[name])) for ops in blocks]
 
 
-def handed_in(chance, blocks, givens, kind):
-    """A file of these blocks with somebody's rows and claims behind it, and our rows where the kind has none."""
+def handed_in(seed, name, kind):
+    """A file of blocks with somebody's rows and claims behind it, and our rows where the kind has none."""
+    chance = random.Random(f"{seed} {kind.__name__}")
+    blocks, givens = given_blocks(seed, name)
     text = text_of(blocks)
     for k, given in enumerate(givens, 1):
         rows = kind(chance, given)
@@ -65,7 +69,7 @@ def handed_in(chance, blocks, givens, kind):
 
 def judging_cases():
     for seed, (name, latencies) in enumerate(EACH_LATENCIES.items()):
-        text = handed_in(*given_blocks(seed, latencies), ours)
+        text = handed_in(seed, name, ours)
         yield listed(f"judging/ours_{name}", text, latencies, lambda entry: entry.text("same"))
     for kind in WRONG:
         yield from settled(kind)
@@ -84,7 +88,8 @@ def listed(name, text, latencies, entry_text, words=()):
 
 def settled(kind):
     """A case of all blocks whose verdict the units or the words of memory decide, if there are some."""
-    chance, blocks, givens = given_blocks(7, USUAL, 40)
+    chance = random.Random(kind.__name__)
+    blocks, givens = given_blocks(7, "usual", 40)
     rows = [kind(chance, given) for given in givens]
     files = [text_of([ops]) + proposed(1, "B1", it) for ops, it in zip(blocks, rows) if it is not None]
     for number, text in enumerate(files):
@@ -232,8 +237,8 @@ def own_listings(place, texts):
 def of_kind(place, kind):
     """Files with schedules of one kind."""
     for seed in range(SEEDS if place.is_short else ALL_SEEDS):
-        latencies = [*EACH_LATENCIES.values()][seed % len(EACH_LATENCIES)]
-        text = handed_in(*given_blocks(seed, latencies), kind)
+        name, latencies = [*EACH_LATENCIES.items()][seed % len(EACH_LATENCIES)]
+        text = handed_in(seed, name, kind)
         for words in ((), WORDS):
             ending = place.ending(request(latencies, words), text)
             yield from wrong_ending(ending, text, latencies, words, is_right=kind in RIGHT)

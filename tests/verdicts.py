@@ -19,7 +19,7 @@ MEMORIES = 24
 NOT_SAME = 5
 ENTRY = re.compile(rb"block (\d+) (\S+) (same|agrees|differs|units) cycles (\d+) ours (\d+) least (\d+)"
                    rb"(?: claimed (\d+))?\n(?:  ([^\n]*)\n)?")
-MADE_UP = re.compile(r"(.*) with --at (\d+)((?: \d+)+)")
+MADE_UP = re.compile(r"(.*) with --at (\d+)((?: \d+)*)")
 
 
 def request(latencies, words=()):
