@@ -128,7 +128,7 @@ def judged(name, make, start):
     return Input(name, make, NOT_SAME if b" same " not in start else 0, {"check": start})
 
 
-def judged_texts(place):
+def judged_inputs(place):
     """Blocks with rows: our own, those of one form alone, and one more than is allowed."""
     def own(blocks):
         path = place.stored("blocks", blocks)
@@ -179,7 +179,7 @@ def size_checks(place):
     if not place.is_short:
         yield Check("sizes/slow loads", table.slow_loads)
         yield Check("sizes/slow loads in little memory", lambda: in_little_memory(place))
-    for it in judged_texts(place):
+    for it in judged_inputs(place):
         yield Check(f"sizes/check/{it.name}", lambda it=it: table.judged_row(it))
 
 
