@@ -74,6 +74,9 @@ def judging_cases():
     for kind in WRONG:
         yield from settled(kind)
     yield from small_cases()
+    yield refused("judging/bad_start", TWO, b"--at is not a multiple of 4", 2, ["check", "--at", "2"])
+    for words in (["--workers", "2"], ["--load", "0"], ["--store", "17"], ["4294967296"]):
+        yield Case(f"judging/refused_words_{'_'.join(words)}", ["check", *words], TWO, b"", None, 2)
     for name, text, line, fault in refused_texts():
         yield refused(f"judging/{name}", text, b"line %d: " % line + fault, 1, ["check"])
 

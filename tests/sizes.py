@@ -287,7 +287,7 @@ def differences(command, got, due):
 
 def misfits(command, got, given):
     """Where a run ended otherwise than is said here, or used too much."""
-    start = front(got.output if given.status == 0 else got.output + ".err")
+    start = front(got.output if given.status in (0, NOT_SAME) else got.output + ".err")
     if got.status != given.status or not start.startswith(given.starts[command]):
         yield f"{command}: status {got.status}, {start[:60]!r}"
     if got.processor_ms > MOST_MS:
