@@ -144,6 +144,10 @@ def judged_inputs(place):
     yield judged("own rows, stores and loads", lambda: own(blocks_of(b"store r1=>r0\n", b"load r0=>r0\n")[:1_800_000]
                                                            .rsplit(b"A", 1)[0]), same)
     yield judged("own rows, sums", lambda: own(b"A:\n" + b"add r0, r1 => r0\nmult r0, r0 => r1\n" * 5000), same)
+    yield judged("own rows, pointers", lambda: own(
+        b"A:\nload r0 => r1\n" + b"store r1 => r1\nload r1 => r1\n" * 4999), same)
+    yield judged("own rows, a table", lambda: own(b"A:\nload r0 => r1\n" + b"".join(
+        b"storeAI r1 => r1, %d\nloadAI r1, %d => r2\n" % (4 * k, 4 * (k - k % 7)) for k in range(4999))), same)
     yield judged("empty rows", lambda: rows(empty * ((LONGEST - 3) // len(empty))), same)
     yield judged("65,535 heads", lambda: b"A:\n" * MOST_BLOCKS + b"".join(
         b"block %d A\n" % k for k in range(1, MOST_BLOCKS + 1)), same)
