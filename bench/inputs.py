@@ -164,6 +164,11 @@ def sums(_):
     return b"".join(b"addI r0, %d => r%d\n" % (number, number + 1) for number in range(MAX_OPERATIONS))
 
 
+def front(text, most):
+    """The first blocks of an input, in at most so many bytes."""
+    return text if len(text) <= most else text[:text.rfind(b"\nL", 0, most) + 1]
+
+
 MAKERS = [one_block, many_blocks, middling_blocks, long_blocks, least_blocks, one_store_a_block, many_outputs,
           high_registers, highest_registers, comments_and_blanks, long_comments, long_number,
           loads, stores, stores_and_loads, sums]

@@ -12,7 +12,7 @@ sys.path.append(os.path.join(os.path.dirname(HERE), "bench"))
 import measure  # noqa: E402  (it stands in bench/)
 
 SECONDS = 60
-COMMANDS = ("run", "simulate", "schedule", "counts")
+COMMANDS = ("run", "simulate", "schedule", "counts", "explain")
 
 
 class Missing(Exception):
@@ -26,7 +26,7 @@ class Check:
 
 
 class Place:
-    """The program, a folder to work in, and whether to be done within a minute."""
+    """The program, a folder to work in, and whether to be done in a few minutes."""
 
     def __init__(self, program, folder, is_short):
         self.program, self.folder, self.is_short = os.path.abspath(program), folder, is_short

@@ -8,7 +8,8 @@ from dataclasses import dataclass
 from typing import Optional
 
 from case import Case, listed, refused
-from stored import CASES, COMMANDS
+from check import COMMANDS
+from stored import CASES
 
 
 def stored(name):
@@ -17,6 +18,9 @@ def stored(name):
 
 
 FIRST = stored("first.in")
+ROWS = (b"[ loadI 1024 => r0 ; loadI 7 => r1 ]\n[ store r1 => r0 ; nop ]\n" + b"[ nop ; nop ]\n" * 4
+        + b"[ output 1024 ; nop ]\n")
+SAME = b"block 1 - same cycles 7 ours 7 least 7\ntotal 7 ours 7 least 7\n"
 BAD = b"nop\nnop nop\n"
 # What is listed of it fills a pipe, whatever the command.
 LONG = b"A:\n" * 10_000
@@ -27,7 +31,7 @@ MOST_KIB = 64 * 1024
 
 
 def device_cases():
-    for command in COMMANDS:
+    for command in (*COMMANDS, "check"):
         yield from inputs(command)
         yield from outputs(command)
     yield Files.of(refused("device/line_comes_before_input", None, b"--at is not a multiple of 4", 2,
@@ -45,8 +49,9 @@ def inputs(command):
     def unread(name):
         return refused(f"device/{name}/{command}", None, UNREAD, 4, [command])
 
-    out = "first.out" if command in ("run", "simulate") else f"first.{command}.out"
-    first = listed(f"device/one_byte_at_a_time/{command}", FIRST, stored(out), [command])
+    name = "first.out" if command in ("run", "simulate") else f"first.{command}.out"
+    given, out = (FIRST + ROWS, SAME) if command == "check" else (FIRST, stored(name))
+    first = listed(f"device/one_byte_at_a_time/{command}", given, out, [command])
     endless = refused(f"device/input_without_end/{command}", None, b"input longer than 16777216 bytes", 1, [command])
     yield Bytewise.of(first)
     yield Files.of(endless, stdin="/dev/zero")

@@ -1,68 +1,8 @@
 """What `explain` must print of made blocks: each definition worked out anew, operation by operation, over all pairs."""
 import random
-import re
 
+from blocks import FORMS, ODD, ROLES, USUAL, Op, beside, delays, renamed, text_of, words_for
 from case import Case
-
-USUAL = {"load": 5, "store": 5, "mult": 3}
-ODD = {"load": 1, "store": 2, "mult": 16}
-# By opcode how it is written: u a register that is used, d the one that is defined, c a constant.
-FORMS = {
-    "load": "u => d", "loadI": "c => d", "store": "u => u", "add": "u, u => d", "sub": "u, u => d", "mult": "u, u => d",
-    "lshift": "u, u => d", "rshift": "u, u => d", "output": "c", "nop": "", "addI": "u, c => d", "subI": "u, c => d",
-    "multI": "u, c => d", "lshiftI": "u, c => d", "rshiftI": "u, c => d", "loadAI": "u, c => d", "storeAI": "u => u, c",
-}
-
-
-class Op:
-    def __init__(self, opcode, numbers):
-        self.opcode, self.numbers = opcode, numbers
-        self.roles = re.findall("[udc]", FORMS[opcode])
-        self.used = [n for n, role in zip(numbers, self.roles) if role == "u"]
-        self.defined = [n for n, role in zip(numbers, self.roles) if role == "d"]
-        self.kind = {"loadAI": "load", "storeAI": "store", "multI": "mult"}.get(opcode, opcode)
-
-    def latency(self, latencies):
-        return latencies.get(self.kind, 1)
-
-    def __str__(self):
-        left = iter(self.numbers)
-        spelled = re.sub("[udc]", lambda role: ("" if role[0] == "c" else "r") + str(next(left)), FORMS[self.opcode])
-        return f"{self.opcode} {spelled}".strip()
-
-
-def renamed(ops):
-    names, made, given = {}, [], 0
-    for op in ops:
-        numbers = []
-        for number, role in zip(op.numbers, op.roles):
-            if role == "u":
-                if number not in names:
-                    names[number], given = given, given + 1
-                number = names[number]
-            numbers.append(number)
-        if op.defined:
-            names[op.defined[0]], given = given, given + 1
-            numbers[op.roles.index("d")] = given - 1
-        made.append(Op(op.opcode, numbers))
-    return made
-
-
-def delays(first, second, latencies):
-    found = set()
-    if set(first.defined) & set(second.used):
-        found.add(first.latency(latencies))
-    kinds = (first.kind, second.kind)
-    if kinds in {("store", "load"), ("store", "output")}:
-        found.add(first.latency(latencies))
-    if kinds in {("load", "store"), ("store", "store"), ("output", "store"), ("output", "output")}:
-        found.add(1)
-    return found
-
-
-def beside(a, b):
-    kinds = {a.kind, b.kind}
-    return not (kinds <= {"load", "store"} or kinds == {"mult"} or kinds == {"output"})
 
 
 class Explained:
@@ -74,6 +14,7 @@ class Explained:
         self.ops = renamed(self.originals)
         self.pairs = [(i, j, d) for j in range(len(self.ops)) for i in range(j)
                       for d in delays(self.ops[i], self.ops[j], latencies)]
+        self.before = [[(i, d) for i, k, d in self.pairs if k == j] for j in range(len(self.ops))]
         self.priorities = [op.latency(latencies) for op in self.ops]
         for i, j, d in sorted(self.pairs, reverse=True):
             self.priorities[i] = max(self.priorities[i], d + self.priorities[j])
@@ -83,11 +24,11 @@ class Explained:
             self.rows.append(self.row(len(self.rows)))
 
     def ready(self, j):
-        return max([0, *(self.places[i][0] + d for i, k, d in self.pairs if k == j)])
+        return max([0, *(self.places[i][0] + d for i, d in self.before[j])])
 
     def row(self, cycle):
         waiting = [j for j in range(len(self.ops)) if j not in self.places
-                   and all(i in self.places for i, k, _ in self.pairs if k == j) and self.ready(j) <= cycle]
+                   and all(i in self.places for i, _ in self.before[j]) and self.ready(j) <= cycle]
         waiting.sort(key=lambda j: (-self.priorities[j], j))
         chosen = waiting[:1]
         chosen += [j for j in waiting[1:] if beside(self.ops[chosen[0]], self.ops[j])][:1]
@@ -100,7 +41,7 @@ class Explained:
         return chosen
 
     def after(self, j, ready):
-        ended = {i for i, k, d in self.pairs if k == j and self.places[i][0] + d == ready}
+        ended = {i for i, d in self.before[j] if self.places[i][0] + d == ready}
         return ",".join(map(str, sorted(ended, key=lambda i: self.places[i]))) or "-"
 
     def chain(self):
@@ -121,7 +62,8 @@ class Explained:
         """The greatest over the shares of a row: of operations by falling priority, row and priority together."""
         bounds = [0]
         for share, width in (({"load", "store"}, 1), ({"mult"}, 1), ({"output"}, 1), (None, 2)):
-            shared = sorted((p for op, p in zip(self.ops, self.priorities) if not share or op.kind in share), reverse=True)
+            of_share = (p for op, p in zip(self.ops, self.priorities) if not share or op.kind in share)
+            shared = sorted(of_share, reverse=True)
             bounds += [j // width + p for j, p in enumerate(shared)]
         return max(bounds)
 
@@ -149,8 +91,8 @@ def made_block(chance):
     ops = []
     for _ in range(chance.randrange(25)):
         opcode = chance.choice(sorted(FORMS))
-        roles = re.findall("[udc]", FORMS[opcode])
-        ops.append(Op(opcode, [chance.randrange(64) * 4 if role == "c" else chance.randrange(registers) for role in roles]))
+        numbers = [chance.randrange(64) * 4 if role == "c" else chance.randrange(registers) for role in ROLES[opcode]]
+        ops.append(Op(opcode, numbers))
     return ops
 
 
@@ -158,7 +100,6 @@ def explained_cases():
     for seed in range(20):
         chance = random.Random(seed)
         blocks = [made_block(chance) for _ in range(5)]
-        text = "".join(f"B{k}:\n" + "".join(f"{op}\n" for op in ops) for k, ops in enumerate(blocks, 1)).encode()
         for name, latencies in (("usual", USUAL), ("odd", ODD)):
-            words = [word for it, n in latencies.items() for word in (f"--{it}", str(n))]
-            yield Case(f"explained/{name}_{seed}", ["explain", *words], text, listing(blocks, latencies), b"", 0)
+            yield Case(f"explained/{name}_{seed}", ["explain", *words_for(latencies)], text_of(blocks),
+                       listing(blocks, latencies), b"", 0)

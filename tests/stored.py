@@ -14,10 +14,10 @@ From these follow more cases, since a rule of the program says so:
 import os
 
 from case import Case
+from check import COMMANDS
 
 HERE = os.path.dirname(os.path.abspath(__file__))
 CASES = os.path.join(HERE, "cases")
-COMMANDS = ("run", "simulate", "schedule", "counts", "explain")
 
 
 def read(path, otherwise):
@@ -78,7 +78,7 @@ def as_simulated(case):
 
 def refused_by_all(case):
     if case.words[:1] == ["run"] and case.status == 1:
-        for command in COMMANDS[1:]:
+        for command in (*COMMANDS[1:], "check"):
             yield again(case, command, [command])
 
 

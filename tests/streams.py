@@ -16,7 +16,7 @@ WORDS_ALONE = [(0, ["--help"]), (2, ["jump"]), (2, ["run", "--at", "2"]), (2, ["
 
 
 def stream_checks(place):
-    for command in COMMANDS:
+    for command in (*COMMANDS, "check"):
         yield Check(f"streams/room/{command}", lambda command=command: room(place, [command], b"block 1 -"))
         yield Check(f"streams/input_fails/{command}", lambda command=command: input_fails(place, command))
     yield Check("streams/room/help", lambda: room(place, ["--help"], HELP_BEGINS))
@@ -109,7 +109,8 @@ def reads_one_byte_too_many(place):
 
 def longest_fault(place):
     given = b"\n" * 16_000_000 + b"nop\n" * 10_001
-    yield from differs(place.ending(["run"], given), (1, b"", TOO_MANY))
+    for command in ("run", "check"):
+        yield from differs(place.ending([command], given), (1, b"", TOO_MANY))
 
 
 def words_are_no_text(place):

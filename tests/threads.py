@@ -21,9 +21,10 @@ def thread_checks(place):
         yield Check(f"threads/as_many_as_asked/{command}", lambda command=command: as_many_as_asked(place, command))
         yield Check(f"threads/one_processor/{command}", lambda command=command: one_processor(place, command))
         yield Check(f"threads/none_to_be_had/{command}", lambda command=command: none_to_be_had(place, command))
-    for command in ("run", "simulate"):
+    for command in ("run", "simulate", "explain"):
         yield Check(f"threads/none_needed/{command}", lambda command=command: none_needed(place, command))
-    for command in COMMANDS:
+    yield Check("threads/none_needed/check", lambda: none_needed(place, "check", handed_in(place, TINY)))
+    for command in (*COMMANDS, "check"):
         yield Check(f"threads/little_stack/{command}", lambda command=command: little_stack(place, command))
 
 
@@ -72,12 +73,12 @@ def may_start_none():
     resource.setrlimit(resource.RLIMIT_NPROC, (1, 1))
 
 
-def alone(place, words):
+def alone(place, words, given=TINY):
     """How the program ends where it may start no thread. The copy is one that anybody may run."""
     copy = shutil.copy2(place.program, place.path("copy"))
     for path in (place.folder, copy):
         os.chmod(path, 0o755)
-    return place.ending(words, TINY, copy, preexec_fn=may_start_none)
+    return place.ending(words, given, copy, preexec_fn=may_start_none)
 
 
 def none_to_be_had(place, command):
@@ -87,8 +88,13 @@ def none_to_be_had(place, command):
             yield f"{workers} workers: {told(got)}"
 
 
-def none_needed(place, command):
-    got, due = alone(place, [command]), place.ending([command], TINY)
+def handed_in(place, text):
+    """The text with our schedules of its blocks behind it."""
+    return text + place.ending(["schedule"], text)[1]
+
+
+def none_needed(place, command, given=TINY):
+    got, due = alone(place, [command], given), place.ending([command], given)
     if got != due or due[0] != 0:
         yield f"{told(got)} in place of {told(due)}"
 
@@ -98,6 +104,7 @@ def little_stack(place, command):
     chained = b"load r0 => r0\n" * inputs.MAX_OPERATIONS
     loose = b"".join(b"addI r%d, 1 => r%d\n" % (k, 7 * k) for k in range(inputs.MAX_OPERATIONS))
     for block in (chained, loose):
+        block = handed_in(place, block) if command == "check" else block
         due = place.ending([command], block)
         got = place.ending([command], block,
                            preexec_fn=lambda: resource.setrlimit(resource.RLIMIT_STACK, (STACK, STACK)))

@@ -1,6 +1,7 @@
 //! What each command lists.
 
 use crate::digits;
+use crate::explain::Explainer;
 use crate::fault::Fault;
 use crate::machine::Machine;
 use crate::operation::Operation;
@@ -15,6 +16,7 @@ pub enum Command {
     Simulate,
     Schedule,
     Counts,
+    Explain,
 }
 
 impl Command {
@@ -24,12 +26,13 @@ impl Command {
             "simulate" => Some(Command::Simulate),
             "schedule" => Some(Command::Schedule),
             "counts" => Some(Command::Counts),
+            "explain" => Some(Command::Explain),
             _ => None,
         }
     }
 
     fn has_total(self) -> bool {
-        matches!(self, Command::Schedule | Command::Counts)
+        matches!(self, Command::Schedule | Command::Counts | Command::Explain)
     }
 }
 
@@ -38,6 +41,7 @@ struct Lister {
     command: Command,
     machine: Machine,
     scheduler: Scheduler,
+    explainer: Explainer,
     listing: Vec<u8>,
     blocks: u64,
     total: u64,
@@ -49,6 +53,7 @@ impl Lister {
             command,
             machine: Machine::new(),
             scheduler: Scheduler::new(),
+            explainer: Explainer::default(),
             listing: Vec::new(),
             blocks: 0,
             total: 0,
@@ -78,6 +83,10 @@ impl Lister {
                 push_rows(&schedule, &mut self.listing);
                 push_line(&mut self.listing, b"cycles ", u64::from(schedule.cycles));
             }
+            Command::Explain => {
+                self.listing.push(b'\n');
+                self.explainer.list(operations, &schedule, &mut self.listing);
+            }
             Command::Run | Command::Simulate => {
                 self.listing.push(b'\n');
                 self.machine.simulate(&schedule, &USUAL, &mut self.listing);
@@ -100,7 +109,7 @@ fn push_slot(schedule: &Schedule<'_>, slot: u32, listing: &mut Vec<u8>) {
     if slot == NONE {
         Operation::Nop.spell(listing);
     } else {
-        schedule.operations[slot as usize].spell(listing);
+        schedule.graph.operations[slot as usize].spell(listing);
     }
 }
 

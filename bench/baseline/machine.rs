@@ -118,7 +118,7 @@ impl Machine {
         for (cycle, row) in schedule.rows.iter().enumerate() {
             self.arrive(cycle);
             for number in row.numbers() {
-                let operation = &schedule.operations[number as usize];
+                let operation = &schedule.graph.operations[number as usize];
                 match self.effect(operation)? {
                     Effect::Emits(word) => push_word(listing, word),
                     Effect::Nothing => {}

@@ -2,6 +2,7 @@
 //! `bench/run` measures ilocfarm against. Its one argument is the command.
 
 mod digits;
+mod explain;
 mod fault;
 mod graph;
 mod listing;
@@ -19,7 +20,7 @@ use fault::{Fault, MAX_BYTES};
 use listing::Command;
 
 fn run(command: Command) -> Result<(), Fault> {
-    let mut bytes = Vec::new();
+    let mut bytes = Vec::with_capacity(MAX_BYTES + 1);
     let mut input = io::stdin().lock().take(MAX_BYTES as u64 + 1);
     input.read_to_end(&mut bytes).map_err(|_| Fault::ReadFailed)?;
     let listing = listing::of(command, &bytes)?;
@@ -29,7 +30,7 @@ fn run(command: Command) -> Result<(), Fault> {
 
 fn main() -> ExitCode {
     let Some(command) = std::env::args().nth(1).and_then(|word| Command::named(&word)) else {
-        eprintln!("usage: baseline run|simulate|schedule|counts");
+        eprintln!("usage: baseline run|simulate|schedule|counts|explain");
         return ExitCode::from(2);
     };
     match run(command) {

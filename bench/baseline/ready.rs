@@ -40,22 +40,28 @@ fn number_of(key: u64) -> u32 {
 #[derive(Default)]
 pub struct Ready {
     heaps: [BinaryHeap<u64>; 4],
+    count: usize,
 }
 
 impl Ready {
     #[inline]
     pub fn add(&mut self, class: Class, priority: u32, number: u32) {
         self.heaps[class as usize].push(key(priority, number));
+        self.count += 1;
     }
 
     /// Takes the first of all, but for those of one class.
     #[inline]
     pub fn take(&mut self, barred: Option<Class>) -> Option<(u32, Class)> {
+        if self.count == 0 {
+            return None;
+        }
         let firsts = Class::ALL.into_iter().filter(|class| Some(*class) != barred);
         let (_, best) = firsts
             .filter_map(|class| Some((*self.heaps[class as usize].peek()?, class)))
             .max_by_key(|(key, _)| *key)?;
         let key = self.heaps[best as usize].pop()?;
+        self.count -= 1;
         Some((number_of(key), best))
     }
 }

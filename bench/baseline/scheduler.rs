@@ -37,11 +37,16 @@ impl Row {
     pub fn numbers(self) -> impl Iterator<Item = u32> {
         self.0.into_iter().filter(|number| *number != NONE)
     }
+
+    /// The units that have an operation, and its number.
+    pub fn slots(self) -> impl Iterator<Item = (u32, u32)> {
+        (0..).zip(self.0).filter(|(_, number)| *number != NONE)
+    }
 }
 
 /// A block's renamed operations, in rows.
 pub struct Schedule<'a> {
-    pub operations: &'a [Operation],
+    pub graph: &'a Graph,
     pub rows: &'a [Row],
     pub cycles: u32,
 }
@@ -124,6 +129,6 @@ impl Scheduler {
             }
             self.rows.push(row);
         }
-        Schedule { operations: &self.graph.operations, rows: &self.rows, cycles }
+        Schedule { graph: &self.graph, rows: &self.rows, cycles }
     }
 }

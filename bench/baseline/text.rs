@@ -2,19 +2,37 @@
 
 use std::io::BufRead;
 
+use crate::digits;
 use crate::fault::{Fault, MAX_BLOCKS, MAX_BYTES, MAX_NUMBER, MAX_OPERATIONS};
 use crate::operation::{Operation, Operator};
 
-/// Whether a byte may stand in a name or an opcode.
-const IS_OF_WORD: [bool; 256] = {
-    let mut is_of_word = [false; 256];
-    let mut byte = 0;
-    while byte < 256 {
-        is_of_word[byte] = (byte as u8).is_ascii_alphanumeric() || byte as u8 == b'_';
-        byte += 1;
+/// The bytes of a word as a number; 0 for one that is too long for an opcode.
+const fn key(word: &[u8]) -> u64 {
+    let mut key = 0;
+    let mut place = word.len();
+    while place > 0 && word.len() <= 8 {
+        place -= 1;
+        key = key << 8 | word[place] as u64;
     }
-    is_of_word
-};
+    key
+}
+
+const LOAD: u64 = key(b"load");
+const LOAD_I: u64 = key(b"loadI");
+const LOAD_AI: u64 = key(b"loadAI");
+const STORE: u64 = key(b"store");
+const STORE_AI: u64 = key(b"storeAI");
+const ADD: u64 = key(b"add");
+const ADD_I: u64 = key(b"addI");
+const SUB: u64 = key(b"sub");
+const SUB_I: u64 = key(b"subI");
+const MULT: u64 = key(b"mult");
+const MULT_I: u64 = key(b"multI");
+const LSHIFT: u64 = key(b"lshift");
+const LSHIFT_I: u64 = key(b"lshiftI");
+const RSHIFT: u64 = key(b"rshift");
+const RSHIFT_I: u64 = key(b"rshiftI");
+const OUTPUT: u64 = key(b"output");
 
 /// A line: the name of the block that it starts, and its operation.
 struct Line<'a> {
@@ -22,26 +40,24 @@ struct Line<'a> {
     operation: Option<Operation>,
 }
 
-/// A place in the input. Each reading call moves it behind what it read, or gives None where that isn't there.
+/// The rest of the input. Each reading call takes what it read from its front, or gives None where that isn't there.
 struct Reader<'a> {
-    bytes: &'a [u8],
-    at: usize,
+    rest: &'a [u8],
     has_large_number: bool,
 }
 
 impl<'a> Reader<'a> {
     #[inline]
     fn peek(&self) -> Option<u8> {
-        self.bytes.get(self.at).copied()
+        self.rest.first().copied()
     }
 
     #[inline]
     fn skip_while(&mut self, is_wanted: impl Fn(u8) -> bool) -> &'a [u8] {
-        let start = self.at;
-        while self.peek().is_some_and(&is_wanted) {
-            self.at += 1;
-        }
-        &self.bytes[start..self.at]
+        let count = self.rest.iter().position(|byte| !is_wanted(*byte)).unwrap_or(self.rest.len());
+        let (front, rest) = self.rest.split_at(count);
+        self.rest = rest;
+        front
     }
 
     #[inline]
@@ -51,28 +67,32 @@ impl<'a> Reader<'a> {
 
     #[inline]
     fn word(&mut self) -> &'a [u8] {
-        self.skip_while(|byte| IS_OF_WORD[usize::from(byte)])
+        self.skip_while(|byte| byte.is_ascii_alphanumeric() || byte == b'_')
     }
 
-    #[inline]
+    #[inline(always)]
     fn number(&mut self) -> Option<u32> {
-        let start = self.at;
+        if let Some((value, count)) = self.rest.first_chunk().and_then(|front| digits::value_of(*front)) {
+            self.rest = &self.rest[count..];
+            return Some(value);
+        }
+        self.long_number()
+    }
+
+    fn long_number(&mut self) -> Option<u32> {
+        let start = self.rest.len();
         self.skip_while(|byte| byte == b'0');
         let mut value = 0u32;
-        while let Some(digit @ b'0'..=b'9') = self.peek() {
+        for digit in self.skip_while(|byte| byte.is_ascii_digit()) {
             value = value.saturating_mul(10).saturating_add(u32::from(digit - b'0'));
-            self.at += 1;
         }
         self.has_large_number |= value > MAX_NUMBER;
-        (self.at > start).then_some(value)
+        (self.rest.len() < start).then_some(value)
     }
 
     #[inline]
     fn token<const N: usize>(&mut self, token: &[u8; N]) -> Option<()> {
-        if self.bytes[self.at..].first_chunk() != Some(token) {
-            return None;
-        }
-        self.at += N;
+        self.rest = self.rest.strip_prefix(token)?;
         Some(())
     }
 
@@ -92,6 +112,9 @@ impl<'a> Reader<'a> {
 
     #[inline]
     fn target(&mut self) -> Option<u32> {
+        if self.token(b" => r").is_some() {
+            return self.number();
+        }
         self.spaced_token(b"=>")?;
         self.register()
     }
@@ -131,24 +154,25 @@ impl<'a> Reader<'a> {
         Some(Operation::StoreAI { source, base: self.register_and_comma()?, offset: self.number()? })
     }
 
-    fn operation(&mut self, opcode: &[u8]) -> Option<Operation> {
+    /// The operands of the opcode with this key, behind its blanks.
+    fn operation(&mut self, opcode: u64) -> Option<Operation> {
         match opcode {
-            b"load" => Some(Operation::Load { address: self.register()?, target: self.target()? }),
-            b"loadI" => Some(Operation::LoadI { constant: self.number()?, target: self.target()? }),
-            b"store" => Some(Operation::Store { source: self.register()?, address: self.target()? }),
-            b"add" => self.binary(Operator::Add),
-            b"sub" => self.binary(Operator::Sub),
-            b"mult" => self.binary(Operator::Mult),
-            b"lshift" => self.binary(Operator::ShiftLeft),
-            b"rshift" => self.binary(Operator::ShiftRight),
-            b"output" => Some(Operation::Output { address: self.number()? }),
-            b"addI" => self.immediate(Operator::Add),
-            b"subI" => self.immediate(Operator::Sub),
-            b"multI" => self.immediate(Operator::Mult),
-            b"lshiftI" => self.immediate(Operator::ShiftLeft),
-            b"rshiftI" => self.immediate(Operator::ShiftRight),
-            b"loadAI" => self.load_with_offset(),
-            b"storeAI" => self.store_with_offset(),
+            LOAD => Some(Operation::Load { address: self.register()?, target: self.target()? }),
+            LOAD_I => Some(Operation::LoadI { constant: self.number()?, target: self.target()? }),
+            STORE => Some(Operation::Store { source: self.register()?, address: self.target()? }),
+            ADD => self.binary(Operator::Add),
+            SUB => self.binary(Operator::Sub),
+            MULT => self.binary(Operator::Mult),
+            LSHIFT => self.binary(Operator::ShiftLeft),
+            RSHIFT => self.binary(Operator::ShiftRight),
+            OUTPUT => Some(Operation::Output { address: self.number()? }),
+            ADD_I => self.immediate(Operator::Add),
+            SUB_I => self.immediate(Operator::Sub),
+            MULT_I => self.immediate(Operator::Mult),
+            LSHIFT_I => self.immediate(Operator::ShiftLeft),
+            RSHIFT_I => self.immediate(Operator::ShiftRight),
+            LOAD_AI => self.load_with_offset(),
+            STORE_AI => self.store_with_offset(),
             _ => None,
         }
     }
@@ -156,20 +180,52 @@ impl<'a> Reader<'a> {
     /// Moves behind the line end, or to the end of the input.
     fn comment(&mut self) -> Option<()> {
         self.token(b"//")?;
-        let mut rest = &self.bytes[self.at..];
-        self.at += rest.skip_until(b'\n').ok()?;
+        self.rest.skip_until(b'\n').ok()?;
         Some(())
     }
 
     /// Skips blanks, a comment and the line end.
     #[inline]
     fn end_of_line(&mut self) -> Option<()> {
+        if self.token(b"\n").is_some() {
+            return Some(());
+        }
         self.skip_blanks();
         match self.peek() {
             None => Some(()),
             Some(b'/') => self.comment(),
             Some(_) => self.token(b"\n"),
         }
+    }
+
+    /// A line behind its first blanks that has an operation with operands and no label. None where that isn't so at
+    /// a first look, and then `line` has to look.
+    #[inline]
+    fn plain_line(&mut self) -> Option<Operation> {
+        let front = u64::from_le_bytes(*self.rest.first_chunk()?);
+        // Each letter has this bit, and no blank or digit has it.
+        let others = !front & 0x4040_4040_4040_4040;
+        let count = others.trailing_zeros() / 8;
+        self.rest = self.rest.get(count as usize..)?;
+        if count == 8 || self.skip_blanks().is_empty() {
+            return None;
+        }
+        let operation = self.operation(front & !(u64::MAX << (8 * count)))?;
+        self.end_of_line()?;
+        Some(operation)
+    }
+
+    /// A line behind its first blanks, of whatever form.
+    #[inline]
+    fn any_line(&mut self) -> Option<Line<'a>> {
+        let start = self.rest;
+        let operation = self.plain_line();
+        if operation.is_some() {
+            return Some(Line { label: None, operation });
+        }
+        self.rest = start;
+        self.has_large_number = false;
+        self.line()
     }
 
     /// A line behind its first blanks.
@@ -187,7 +243,7 @@ impl<'a> Reader<'a> {
             b"" => None,
             b"nop" => Some(Operation::Nop),
             _ if blanks.is_empty() => return None,
-            opcode => Some(self.operation(opcode)?),
+            opcode => Some(self.operation(key(opcode))?),
         };
         self.end_of_line()?;
         Some(Line { label, operation })
@@ -236,16 +292,16 @@ pub fn for_each_block<'a>(bytes: &'a [u8], mut visit: impl FnMut(&'a [u8], &[Ope
     if bytes.len() > MAX_BYTES {
         return Err(Fault::InputTooLong);
     }
-    let mut reader = Reader { bytes, at: 0, has_large_number: false };
+    let mut reader = Reader { rest: bytes, has_large_number: false };
     let mut block = Block { name: None, operations: Vec::new(), count: 0 };
     let mut number = 0;
-    while reader.at < bytes.len() {
+    while !reader.rest.is_empty() {
         number += 1;
         reader.skip_blanks();
         if reader.token(b"\n").is_some() {
             continue;
         }
-        let line = reader.line().ok_or(Fault::BadLine(number))?;
+        let line = reader.any_line().ok_or(Fault::BadLine(number))?;
         if reader.has_large_number {
             return Err(Fault::NumberTooLarge(number));
         }

@@ -15,7 +15,7 @@ use Rattle.iloc_timed.specs.Schedule.{Table}
 use Rattle.iloc_rows.specs.declared.proposal.Proposal.{Proposal}
 use Rattle.iloc_sched.specs.Greedy.{IsGreedy}
 use Rattle.iloc_sched.specs.Least.{least}
-use Rattle.iloc_sched.proofs.Leasts.{least_bound}
+use Rattle.iloc_sched.proofs.Bounds.LeastBound.{least_bound}
 use Rattle.iloc_check.specs.Checked.{DoTheSame, IsCheck}
 use Rattle.iloc_check.specs.declared.checked.Checked.{Checked}
 use Rattle.iloc_check.proofs.Sameness.{same_rows_do_the_same}

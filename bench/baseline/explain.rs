@@ -1,0 +1,132 @@
+//! Why each operation of a schedule is issued when it is, and why no schedule of the block could be much shorter.
+
+use crate::digits;
+use crate::graph::Graph;
+use crate::operation::Operation;
+use crate::ready::Class;
+use crate::scheduler::{Schedule, NONE};
+
+/// Explains one block at a time, and keeps its tables from block to block.
+#[derive(Default)]
+pub struct Explainer {
+    /// By number: two times the cycle, and the unit.
+    places: Vec<u32>,
+    /// The operations for which one waited.
+    waited: Vec<u32>,
+    /// By class, and at the end of all operations: priorities.
+    priorities: [Vec<u32>; 5],
+}
+
+impl Explainer {
+    /// Lists the reasons of a schedule of these operations.
+    pub fn list(&mut self, operations: &[Operation], schedule: &Schedule<'_>, listing: &mut Vec<u8>) {
+        self.place(schedule);
+        let mut edges = 0;
+        let originals = operations.iter().filter(|operation| !matches!(operation, Operation::Nop));
+        for (number, original) in originals.enumerate() {
+            edges = self.find_waited(schedule.graph, number, edges);
+            self.push_operation(schedule.graph, number, listing);
+            original.spell(listing);
+            listing.extend_from_slice(b" ; ");
+            schedule.graph.operations[number].spell(listing);
+            listing.push(b'\n');
+        }
+        push(listing, b"cycles ", schedule.cycles);
+        push(listing, b" least ", self.least(schedule.graph));
+        push_chain(schedule.graph, listing);
+    }
+
+    fn place(&mut self, schedule: &Schedule<'_>) {
+        self.places.clear();
+        self.places.resize(schedule.graph.nodes.len(), 0);
+        for (cycle, row) in schedule.rows.iter().enumerate() {
+            for (unit, number) in row.slots() {
+                self.places[number as usize] = 2 * cycle as u32 + unit;
+            }
+        }
+    }
+
+    /// Keeps the operations whose delays ended just when this one was ready. Its edges begin with the one numbered
+    /// `edges`; gives the number behind them.
+    fn find_waited(&mut self, graph: &Graph, number: usize, mut edges: usize) -> usize {
+        self.waited.clear();
+        let ready = graph.nodes[number].earliest;
+        while let Some(edge) = graph.edges.get(edges).filter(|edge| edge.to as usize == number) {
+            if self.places[edge.from as usize] / 2 + edge.delay == ready {
+                self.waited.push(edge.from);
+            }
+            edges += 1;
+        }
+        self.waited.sort_unstable_by_key(|from| self.places[*from as usize]);
+        self.waited.dedup();
+        edges
+    }
+
+    fn push_operation(&self, graph: &Graph, number: usize, listing: &mut Vec<u8>) {
+        let node = &graph.nodes[number];
+        push(listing, b"", number as u32);
+        push(listing, b" cycle ", self.places[number] / 2);
+        push(listing, b" unit ", self.places[number] % 2);
+        push(listing, b" ready ", node.earliest);
+        let mut before: &[u8] = b" after ";
+        for from in &self.waited {
+            push(listing, before, *from);
+            before = b",";
+        }
+        listing.extend_from_slice(if self.waited.is_empty() { b" after -" } else { b"" });
+        push(listing, b" priority ", node.priority);
+        listing.push(b' ');
+    }
+
+    /// The greatest sum of the row that an operation's rank gives it and its priority, in each class and in all.
+    fn least(&mut self, graph: &Graph) -> u32 {
+        self.priorities.iter_mut().for_each(Vec::clear);
+        for node in &graph.nodes {
+            self.priorities[Class::of(node.kind) as usize].push(node.priority);
+            self.priorities[4].push(node.priority);
+        }
+        let widths = [1, 1, 1, 2, 2];
+        let bounds = self.priorities.iter_mut().zip(widths).map(|(priorities, width)| bound(priorities, width));
+        bounds.max().unwrap_or(0)
+    }
+}
+
+fn bound(priorities: &mut [u32], width: u32) -> u32 {
+    priorities.sort_unstable_by(|a, b| b.cmp(a));
+    (0..).zip(priorities).map(|(rank, priority): (u32, _)| rank / width + *priority).max().unwrap_or(0)
+}
+
+/// Lists a longest chain of delays: the first operation of the greatest priority, and each time the first one that
+/// goes on with the rest of it.
+fn push_chain(graph: &Graph, listing: &mut Vec<u8>) {
+    listing.extend_from_slice(b"\nchain");
+    let most = graph.nodes.iter().map(|node| node.priority).max();
+    let mut next =
+        most.and_then(|most| (0..).zip(&graph.nodes).find(|(_, node)| node.priority == most).map(|it| it.0));
+    listing.extend_from_slice(if next.is_none() { b" -" } else { b"" });
+    while let Some(number) = next {
+        push(listing, b" ", number);
+        next = goes_on(graph, number);
+    }
+    listing.push(b'\n');
+}
+
+fn goes_on(graph: &Graph, number: u32) -> Option<u32> {
+    let node = &graph.nodes[number as usize];
+    let mut first = None;
+    let mut at = node.head;
+    while at != NONE {
+        let edge = &graph.edges[at as usize];
+        if edge.delay + graph.nodes[edge.to as usize].priority == node.priority {
+            // The edges out of an operation are linked from the last to the first.
+            first = Some(edge.to);
+        }
+        at = edge.next;
+    }
+    first
+}
+
+fn push(listing: &mut Vec<u8>, before: &[u8], number: u32) {
+    listing.extend_from_slice(before);
+    digits::push(listing, u64::from(number));
+}
