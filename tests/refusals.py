@@ -31,6 +31,7 @@ NOTHING, GROWTH, GROWTH_OF_A_START, THREAD = range(4)
 DOES_WITHOUT = {
     "iloc_farm::program::serve": "the words behind the program's name",
     "iloc_sched::priority::priorities": "the priorities that are answered",
+    "iloc_judge::refutation::refute": "the words of a memory that is made up",
 }
 # A text that gives back the room that it has left over: where that is refused, it keeps the room. So what is refused
 # here may never be a piece with more room than there was before.
