@@ -33,11 +33,6 @@ DOES_WITHOUT = {
     "iloc_sched::priority::priorities": "the priorities that are answered",
     "iloc_judge::refutation::refute": "the words of a memory that is made up",
 }
-# A text that gives back the room that it has left over: where that is refused, it keeps the room. So what is refused
-# here may never be a piece with more room than there was before.
-GIVES_BACK = {
-    "core::scope::entry": "the room that a listed entry's text gives back, built into the work of a thread",
-}
 GROWS = re.compile(r"rattle_(?:re)?alloc|std_alloc::vec::Vec::grow_amortized")
 # As soon as so many runs in a row asked for no growth of the number, none asks for one any more.
 UNTOUCHED = 20
@@ -65,28 +60,19 @@ class Run:
 @dataclass
 class Report:
     """What refuse.c wrote."""
-    FORM = "=10q"
+    FORM = "=9q"
     growths: int
     threads: int
     started: int
     refused: int
     by_worker: int
     started_before: int
-    gives_back: int
     calls: list     # that led to the growth, innermost first, 0 for none
 
     @classmethod
     def of(cls, data):
         *numbers, inner, middle, outer = struct.unpack(cls.FORM, data)
         return cls(*numbers, [inner, middle, outer])
-
-
-@dataclass(frozen=True)
-class Asker:
-    """A function, how far behind its start it asks, and whether it asks for no more room than there is."""
-    name: str
-    place: int
-    gives_back: bool
 
 
 class Symbols:
@@ -105,8 +91,7 @@ class Symbols:
     def asker(self, report):
         """Who asked for the growth that was refused: the innermost call that isn't a list's own."""
         places = [self.place(address) for address in report.calls if address]
-        name, place = next((it for it in places if not GROWS.match(it[0])), ("nobody known", 0))
-        return Asker(name, place, bool(report.gives_back))
+        return next((it for it in places if not GROWS.match(it[0])), ("nobody known", 0))
 
 
 @dataclass
@@ -147,12 +132,12 @@ class Tally:
 
 def tried_again(unneeded):
     """What is wrong with who asked for growths that were refused, after which all ended as always."""
-    for name in sorted({it.name for it in unneeded}):
-        askers = [it for it in unneeded if it.name == name]
-        if name not in DOES_WITHOUT and not (name in GIVES_BACK and all(it.gives_back for it in askers)):
+    for name in sorted({name for name, _ in unneeded}):
+        places = [place for other, place in unneeded if other == name]
+        if name not in DOES_WITHOUT:
             yield f"{name} does without a growth that was refused"
-        elif len(askers) > 1:
-            yield f"{name} does without growths at {len(askers)} places"
+        elif len(places) > 1:
+            yield f"{name} does without growths at {len(places)} places"
 
 
 def middling():

@@ -13,7 +13,6 @@
 #include <errno.h>
 #include <fcntl.h>
 #include <link.h>
-#include <malloc.h>
 #include <pthread.h>
 #include <stdatomic.h>
 #include <stddef.h>
@@ -32,7 +31,6 @@ struct report {
     atomic_long refused;        /* what was refused first */
     long by_worker;             /* whether another thread than the first asked for it */
     long started_before;        /* how many starts had come back then */
-    long gives_back;            /* whether it was of a piece that had so much room already */
     long calls[CALLS];          /* return addresses from where the program was loaded, 0 for none */
 };
 
@@ -78,21 +76,20 @@ static void tell_calls(const uintptr_t *stack) {
         if (stack[i] > code && stack[i] < code_end) report->calls[found++] = stack[i] - loaded;
 }
 
-static void tell(long what, const uintptr_t *stack, int gives_back) {
+static void tell(long what, const uintptr_t *stack) {
     long none = NOTHING;
     if (atomic_compare_exchange_strong(&report->refused, &none, what)) {
         report->by_worker = gettid() != process;
         report->started_before = report->started;
-        report->gives_back = gives_back;
         if (stack) tell_calls(stack);
     }
 }
 
-static int is_refused(const uintptr_t *stack, int gives_back) {
+static int is_refused(const uintptr_t *stack) {
     if (!report) return 0;
     long number = ++report->growths;
     if (!growth || number < growth || (number > growth && !goes_on)) return 0;
-    tell(is_starting ? GROWTH_OF_A_START : GROWTH, stack, gives_back);
+    tell(is_starting ? GROWTH_OF_A_START : GROWTH, stack);
     errno = ENOMEM;
     return 1;
 }
@@ -106,27 +103,26 @@ static void *next(const char *name) {
 void *malloc(size_t size) {
     static void *(*real)(size_t);
     if (!real) real = next("malloc");
-    return is_refused(__builtin_frame_address(0), 0) ? NULL : real(size);
+    return is_refused(__builtin_frame_address(0)) ? NULL : real(size);
 }
 
 void *calloc(size_t count, size_t size) {
     static void *(*real)(size_t, size_t);
     if (!real) real = next("calloc");
-    return is_refused(__builtin_frame_address(0), 0) ? NULL : real(count, size);
+    return is_refused(__builtin_frame_address(0)) ? NULL : real(count, size);
 }
 
 void *realloc(void *old, size_t size) {
     static void *(*real)(void *, size_t);
     if (!real) real = next("realloc");
-    int gives_back = old && size <= malloc_usable_size(old);
-    return is_refused(__builtin_frame_address(0), gives_back) ? NULL : real(old, size);
+    return is_refused(__builtin_frame_address(0)) ? NULL : real(old, size);
 }
 
 int pthread_create(pthread_t *made, const pthread_attr_t *how, void *(*run)(void *), void *with) {
     static int (*real)(pthread_t *, const pthread_attr_t *, void *(*)(void *), void *);
     if (!real) real = next("pthread_create");
     if (++report->threads == thread) {
-        tell(THREAD, NULL, 0);
+        tell(THREAD, NULL);
         return EAGAIN;
     }
     is_starting = 1;
