@@ -11,6 +11,7 @@ TOP = os.path.dirname(os.path.dirname(os.path.abspath(__file__)))
 TOOLS = "sh cat chmod cmp find mkdir python3 readlink sed sleep".split()
 UNBUILT = 125
 PROGRAMS_STATUS = 7
+ENDING = (signal.SIGHUP, signal.SIGINT, signal.SIGTERM)
 
 # It is run in a crate's folder. A library waits while there is a file hold.NAME, and tells first what says.NAME has.
 # The program tells its build's number, its words and its input.
@@ -55,6 +56,12 @@ beside_all: low
 LINES = {"ilocfarm": 1, "side": 10, "low": 30, "mid": 5, "left": 20, "right": 10, "beside_all": 99}
 
 
+def end_by_signals():
+    """Has signals end the process, also where what runs the tests ignores them (nohup, a shell's background)."""
+    for it in ENDING:
+        signal.signal(it, signal.SIG_DFL)
+
+
 class Place:
     """A folder with a repository of few crates and our launcher, the tools that it needs, and the toolchain."""
 
@@ -94,7 +101,7 @@ class Place:
         given = {"PATH": ":".join(path), "TEST": self.folder, "RT_JOBS": str(jobs)}
         streams = {"stdin": subprocess.PIPE, "stdout": subprocess.PIPE, "stderr": subprocess.PIPE, **streams}
         started = subprocess.Popen([by or f"{self.top}/ilocfarm", *words], cwd=within or self.folder, env=given,
-                                   text=True, start_new_session=True, **streams)
+                                   text=True, start_new_session=True, preexec_fn=end_by_signals, **streams)
         self.started.append(started)
         return started
 
