@@ -48,7 +48,7 @@ impl Desk {
         requires number { number < 2 ^ 63 }
         ensures { IfOk result (IsEntry detail latencies.now number block.now) }
     {
-        let schedule = self.scheduler.schedule(block, latencies)?;
+        let schedule = self.scheduler.lend(block, latencies)?;
         prove!(schedule.rows().len() <= MAX_ROWS);
         let cycles = cycles(&schedule, latencies);
         self.text.clear();
@@ -60,6 +60,7 @@ impl Desk {
             cycles,
             detail,
         )?;
+        self.scheduler.take_back(schedule);
         Ok(Entry {
             text: Vec::from_slice(alloc, &self.text)?,
             cycles: cycles as u32,

@@ -59,8 +59,9 @@ impl Runner {
                 simulator,
                 latencies,
             } => {
-                let schedule = scheduler.schedule(block, latencies)?;
+                let schedule = scheduler.lend(block, latencies)?;
                 simulator.run(&schedule, latencies)?;
+                scheduler.take_back(schedule);
             }
         }
         Ok(())

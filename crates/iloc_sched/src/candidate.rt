@@ -19,7 +19,7 @@ impl Candidate {
     ghost use Rattle.iloc_sched.specs.Steps.Order.{rank};
 
     /// The place of a candidate among all, as one number.
-    fn rank(&self) -> u64
+    pub fn rank(&self) -> u64
         ensures rank { result ≡ rank self.now }
         ensures small { self.now.number < 2 ^ 32 }
     {

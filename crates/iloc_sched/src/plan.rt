@@ -10,7 +10,6 @@ use crate::priority::fill_priorities;
 use iloc_text::{MAX_OPS, NoMemory, Op};
 use iloc_timed::{Kind, Latencies};
 use std::alloc::Global;
-use std::mem;
 
 /// A block's renamed operations with what their choice goes by.
 #[derive(Debug, Drop)]
@@ -37,30 +36,17 @@ impl Plan {
         }
     }
 
-    /// Becomes the plan of these renamed operations.
-    pub fn fill(
-        &mut self,
-        lasts: &mut Lasts,
-        ops: Vec<Op>,
-        latencies: &Latencies,
-    ) -> Result<(), NoMemory>
-        requires renamed { IsRenamed ops.items }
-        requires few { length ops.items ≤ MAX_OPS }
+    /// Becomes the plan of its operations, which are renamed.
+    pub fn fill(&mut self, lasts: &mut Lasts, latencies: &Latencies) -> Result<(), NoMemory>
+        requires renamed { IsRenamed self.old.ops.items }
+        requires few { length self.old.ops.items ≤ MAX_OPS }
         ensures plan { OnOk result (IsPlan self.new) }
-        ensures ops { OnOk result (self.new.ops ≡ ops) }
+        ensures ops { OnOk result (self.new.ops ≡ self.old.ops) }
         ensures latencies { OnOk result (self.new.latencies ≡ latencies.now) }
     {
-        self.ops = ops;
         self.latencies = *latencies;
         self.edges.fill(lasts, &self.ops, latencies)?;
         fill_priorities(&mut self.priorities, &self.edges, &self.ops, latencies)
-    }
-
-    /// Gives back the operations.
-    pub fn take_ops(&mut self, alloc: Global) -> Vec<Op>
-        ensures { result ≡ self.old.ops }
-    {
-        mem::replace(&mut self.ops, Vec::new(alloc))
     }
 
     /// The class of an operation.

@@ -1,9 +1,9 @@
 //! The ready operations of one class.
-ghost use Rattle.std.specs.Prelude.{◌≡◌, [], OnOk};
+ghost use Rattle.std.specs.Prelude.{◌≡◌, ◌-◌, ◌<◌, ◌^◌, [], OnOk};
 ghost use Rattle.std.specs.List.{IsDistinct};
 ghost use Rattle.std.specs.BinaryHeap.{IsHeap, heap_items};
 ghost use Rattle.std.proofs.Props.{props};
-ghost use Rattle.iloc_sched.specs.Steps.Order.{candidate_cmp, same_number};
+ghost use Rattle.iloc_sched.specs.Steps.Order.{AreRanked, candidate_cmp, same_number};
 
 use crate::candidate::Candidate;
 use iloc_text::NoMemory;
@@ -16,10 +16,13 @@ pub struct Queue {
     pub heap: BinaryHeap<Candidate>,
     pub ghost ordered: { IsHeap candidate_cmp (heap_items heap) } by { Prim.hlevel props },
     pub ghost distinct: { IsDistinct same_number (heap_items heap) } by { Prim.hlevel props },
+    pub ghost ranked: { AreRanked (heap_items heap) } by { Prim.hlevel props },
 }
 
 impl Queue {
     ghost use Rattle.iloc_sched.specs.Steps.Changes.{IsFirstOf, HasNone, Adds, Popped};
+    ghost use Rattle.iloc_sched.specs.Steps.Members.{In};
+    ghost use Rattle.iloc_sched.specs.Steps.Order.{IsGreatestRank};
 
     /// No operation.
     pub fn new(alloc: Global) -> Queue
@@ -37,16 +40,20 @@ impl Queue {
         self.heap.clear();
     }
 
-    /// The first, which stays.
-    pub fn first(&self) -> Option<Candidate>
-        ensures { IsFirstOf (heap_items self.now.heap) result }
+    /// The rank of the first, 0 where there is none.
+    pub fn top(&self) -> u64
+        ensures { IsGreatestRank (In (heap_items self.now.heap)) result }
     {
-        self.heap.peek().copied()
+        match self.heap.peek() {
+            Some(first) => first.rank(),
+            None => 0,
+        }
     }
 
     /// Adds an operation.
     pub fn insert(&mut self, candidate: Candidate) -> Result<(), NoMemory>
-        requires { HasNone (heap_items self.old.heap) candidate.number }
+        requires new { HasNone (heap_items self.old.heap) candidate.number }
+        requires small { candidate.number < 2 ^ 32 - 1 }
         ensures { OnOk result (Adds (heap_items self.old.heap) (heap_items self.new.heap) candidate) }
     {
         self.heap.push(candidate)?;

@@ -1,5 +1,5 @@
 //! The ready operations by class.
-ghost use Rattle.std.specs.Prelude.{◌≡◌, ◌⊎◌, Some, IfSome, IfNone, OnOk};
+ghost use Rattle.std.specs.Prelude.{◌≡◌, ◌-◌, ◌<◌, ◌^◌, IfSome, IfNone, OnOk};
 
 use crate::candidate::Candidate;
 use crate::class::Class;
@@ -23,27 +23,11 @@ pub struct Choice {
     pub class: Class,
 }
 
-impl Choice {
-    ghost use Rattle.iloc_sched.specs.Steps.Queued.{IsNoLater};
-
-    /// The one that comes first.
-    fn sooner(a: Option<Choice>, b: Option<Choice>) -> Option<Choice>
-        ensures one { (result ≡ a) ⊎ (result ≡ b) }
-        ensures left { IsNoLater result a }
-        ensures right { IsNoLater result b }
-    {
-        match (a, b) {
-            (Some(x), Some(y)) => Some(if x.candidate < y.candidate { y } else { x }),
-            (Some(x), None) => Some(x),
-            (None, y) => y,
-        }
-    }
-}
-
 impl Queues {
     ghost use Rattle.std.specs.Prelude.{◌∷◌, []};
     ghost use Rattle.iloc_sched.specs.Steps.Changes.{IsFirstOf, HasNone, Popped, Adds};
-    ghost use Rattle.iloc_sched.specs.Steps.Queued.{candidates, KeepsOthers, IsOffer, IsBest, Takes, AddsTo};
+    ghost use Rattle.iloc_sched.specs.Steps.Order.{IsGreatestRank};
+    ghost use Rattle.iloc_sched.specs.Steps.Queued.{candidates, KeepsOthers, IsOpen, IsBestClass, IsBest, Takes, AddsTo};
 
     /// No operation.
     pub fn new(alloc: Global) -> Queues
@@ -67,18 +51,6 @@ impl Queues {
         self.rest.clear();
     }
 
-    /// The first of a class.
-    fn first_of(&self, class: Class) -> Option<Candidate>
-        ensures { IsFirstOf (candidates self.now class) result }
-    {
-        match class {
-            Class::Memory => self.memory.first(),
-            Class::Product => self.product.first(),
-            Class::Output => self.output.first(),
-            Class::Rest => self.rest.first(),
-        }
-    }
-
     /// Takes the first of a class.
     fn pop(&mut self, class: Class) -> Option<Candidate>
         ensures first { IsFirstOf (candidates self.old class) result }
@@ -95,7 +67,8 @@ impl Queues {
 
     /// Adds an operation to its class.
     fn push(&mut self, class: Class, candidate: Candidate) -> Result<(), NoMemory>
-        requires { HasNone (candidates self.old class) candidate.number }
+        requires new { HasNone (candidates self.old class) candidate.number }
+        requires small { candidate.number < 2 ^ 32 - 1 }
         ensures added { OnOk result (Adds (candidates self.old class) (candidates self.new class) candidate) }
         ensures others { OnOk result (KeepsOthers self.old self.new class) }
     {
@@ -107,29 +80,41 @@ impl Queues {
         }
     }
 
-    /// The first of a class, unless that is kept out.
-    fn offer(&self, class: Class, beside: Option<Class>) -> Option<Choice>
-        ensures { IsOffer self.now beside class result }
+    /// The rank of the first of a class, 0 where there is none or the class is kept out.
+    fn offer(&self, class: Class, beside: Option<Class>) -> u64
+        ensures { IsGreatestRank (IsOpen self.now beside class) result }
     {
         if beside.is_some_and(|a| a.excludes(class)) {
-            return None;
+            return 0;
         }
-        let candidate = self.first_of(class)?;
-        Some(Choice { candidate, class })
+        match class {
+            Class::Memory => self.memory.top(),
+            Class::Product => self.product.top(),
+            Class::Output => self.output.top(),
+            Class::Rest => self.rest.top(),
+        }
     }
 
-    /// The first of all that can go beside an operation of a class.
-    fn first_beside(&self, beside: Option<Class>) -> Option<Choice>
-        ensures { IsBest self.now beside result }
+    /// The class with the first of all that can go beside an operation of a class.
+    fn best_class(&self, beside: Option<Class>) -> Option<Class>
+        ensures { IsBestClass self.now beside result }
     {
         let memory = self.offer(Class::Memory, beside);
         let product = self.offer(Class::Product, beside);
         let output = self.offer(Class::Output, beside);
         let rest = self.offer(Class::Rest, beside);
-        Choice::sooner(
-            Choice::sooner(memory, product),
-            Choice::sooner(output, rest),
-        )
+        let best = memory.max(product).max(output.max(rest));
+        if best == 0 {
+            None
+        } else if best == rest {
+            Some(Class::Rest)
+        } else if best == memory {
+            Some(Class::Memory)
+        } else if best == product {
+            Some(Class::Product)
+        } else {
+            Some(Class::Output)
+        }
     }
 
     /// Takes the first of all that can go beside an operation of a class.
@@ -138,14 +123,15 @@ impl Queues {
         ensures takes { IfSome result (λ choice. Takes self.old self.new choice) }
         ensures none { IfNone result (self.new ≡ self.old) }
     {
-        let class = self.first_beside(beside)?.class;
+        let class = self.best_class(beside)?;
         let candidate = self.pop(class)?;
         Some(Choice { candidate, class })
     }
 
     /// Adds an operation to its class, which doesn't have it.
     pub fn insert(&mut self, class: Class, candidate: Candidate) -> Result<(), NoMemory>
-        requires { HasNone (candidates self.old class) candidate.number }
+        requires new { HasNone (candidates self.old class) candidate.number }
+        requires small { candidate.number < 2 ^ 32 - 1 }
         ensures { OnOk result (AddsTo self.old self.new class candidate) }
     {
         self.push(class, candidate)

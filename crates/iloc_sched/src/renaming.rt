@@ -99,23 +99,25 @@ impl Names {
         }
         Ok(with_registers(op, names.as_slice(), own))
     }
-    /// The operations of a block, as `rename` has them.
-    pub(crate) fn rename_block(&mut self, alloc: Global, block: &Block) -> Result<Vec<Op>, NoMemory>
+
+    /// Fills a list with the operations of a block, as `rename` has them.
+    pub(crate) fn rename_block(&mut self, ops: &mut Vec<Op>, block: &Block) -> Result<(), NoMemory>
         requires { length block.now.ops ≤ MAX_OPS }
-        ensures renamed { IfOk result (λ ops. ops.items ≡ renamed block.now.ops) }
-        ensures size { IfOk result (λ ops. length ops.items ≤ length block.now.ops) }
-        ensures once { IfOk result (λ ops. IsRenamed ops.items) }
-        ensures outcome { IfOk result (λ ops. (memory : List ℤ) →
-            outcome ops.items memory ≡ outcome block.now.ops memory) }
+        ensures renamed { OnOk result (ops.new.items ≡ renamed block.now.ops) }
+        ensures size { OnOk result (length ops.new.items ≤ length block.now.ops) }
+        ensures once { OnOk result (IsRenamed ops.new.items) }
+        ensures outcome { OnOk result ((memory : List ℤ) →
+            outcome ops.new.items memory ≡ outcome block.now.ops memory) }
     {
         self.clear(block.ops.len())?;
-        let mut renamed = Vec::with_capacity(alloc, block.ops.len())?;
+        ops.clear();
+        ops.reserve(block.ops.len())?;
         for op in block.ops.as_slice() {
             if !is_nop(op) {
-                renamed.push(self.rename(op)?)?;
+                ops.push(self.rename(op)?)?;
             }
         }
-        Ok(renamed)
+        Ok(())
     }
 }
 
@@ -136,5 +138,7 @@ pub fn rename(alloc: Global, block: &Block) -> Result<Vec<Op>, NoMemory>
     ensures outcome { IfOk result (λ ops. (memory : List ℤ) →
         outcome ops.items memory ≡ outcome block.now.ops memory) }
 {
-    Names::new(alloc).rename_block(alloc, block)
+    let mut ops = Vec::new(alloc);
+    Names::new(alloc).rename_block(&mut ops, block)?;
+    Ok(ops)
 }

@@ -22,6 +22,7 @@ use crate::wheel::LONGEST_DELAY;
 use iloc_text::{Block, MAX_OPS, NoMemory};
 use iloc_timed::{Latencies, Row, Schedule};
 use std::alloc::Global;
+use std::mem;
 
 /// Schedules blocks, one after another. The room that one block took is kept for those after it.
 #[derive(Drop)]
@@ -63,11 +64,36 @@ impl Scheduler {
             issue_cycle s.rows i + priority latencies.now s.ops i ≤ cycles latencies.now s.ops s.rows) }
         ensures most { IfOk result (λ s. cycles latencies.now s.ops s.rows ≤ sum_by (latency latencies.now) s.ops) }
     {
-        let ops = self.names.rename_block(self.alloc, block)?;
-        self.plan.fill(&mut self.lasts, ops, latencies)?;
+        let own = self.lend(block, latencies)?;
+        let schedule = own.clone()?;
+        self.take_back(own);
+        Ok(schedule)
+    }
+
+    /// The greedy schedule of a block, as `schedule` has it, in the scheduler's own room, which `take_back` takes back.
+    pub fn lend(&mut self, block: &Block, latencies: &Latencies) -> Result<Schedule, NoMemory>
+        requires { length block.now.ops ≤ MAX_OPS }
+        ensures greedy { IfOk result (λ s. IsGreedy latencies.now block.now.ops s.ops s.rows) }
+        ensures only { IfOk result (λ s. (ops : List Op) (rows : List Row) →
+            IsGreedy latencies.now block.now.ops ops rows → (ops ≡ s.ops) × (rows ≡ s.rows)) }
+        ensures outcome { OnOk result ((ops : List Op) (rows : List Row) (memory : List ℤ) →
+            IsLawful latencies.now block.now.ops ops rows
+            → timed_outcome latencies.now ops rows memory ≡ outcome block.now.ops memory) }
+        ensures least { IfOk result (λ s. (i : ℕ) → i < length s.ops →
+            issue_cycle s.rows i + priority latencies.now s.ops i ≤ cycles latencies.now s.ops s.rows) }
+        ensures most { IfOk result (λ s. cycles latencies.now s.ops s.rows ≤ sum_by (latency latencies.now) s.ops) }
+    {
+        self.names.rename_block(&mut self.plan.ops, block)?;
+        self.plan.fill(&mut self.lasts, latencies)?;
         self.fill_rows()?;
-        let rows = Vec::from_slice(self.alloc, &self.rows)?;
-        Ok(Schedule::of_table(self.plan.take_ops(self.alloc), rows))
+        let ops = mem::replace(&mut self.plan.ops, Vec::new(self.alloc));
+        let rows = mem::replace(&mut self.rows, Vec::new(self.alloc));
+        Ok(Schedule::of_table(ops, rows))
+    }
+
+    /// Takes back the room of a schedule, for the next block.
+    pub fn take_back(&mut self, schedule: Schedule) {
+        (self.plan.ops, self.rows) = schedule.into_parts();
     }
 
     /// Makes the rows of the greedy schedule of the plan.

@@ -1,4 +1,4 @@
--- The candidates of one heap before and after a push, a look and a pop; for `Queue::insert`, `first`, `pop`.
+-- The candidates of one heap before and after a push, a look and a pop; for `Queue::insert`, `top`, `pop`.
 use Rattle.std.proofs.Common.{◌≡◌, ◌≢◌, ℕ, ◌<◌, ◌≤◌, true, false, List, [], ◌∷◌, length, Option, Some, None, inl, inr, refl, sym, ◌∙◌, ap, subst, arith}
 use Rattle.std.proofs.lemmas.Bool.Decides.{nat_tests}
 use Rattle.std.proofs.lemmas.List.Sorted.{Contains-permutation, IsPermutation-sym}
@@ -8,10 +8,9 @@ use Rattle.std.specs.List.Sorted.{IsPermutation}
 use Rattle.std.specs.Ordering.{is_lt}
 use Rattle.std.specs.Prelude.{slice_index_or, IsSome, IfSome, IfNone, OnOk, OnErr, ◌↔◌, option_map, Result, Ok, Err}
 use Rattle.std.specs.BinaryHeap.{IsHeap, KeepsHeap, PopsGreatest, IsUpperBound}
-use denote.Ref.{Bor}
 use Rattle.iloc_sched.specs.declared.candidate.Candidate.{Candidate}
 use Rattle.iloc_sched.specs.Steps.Members.{In}
-use Rattle.iloc_sched.specs.Steps.Order.{candidate_cmp, same_number, IsFirst}
+use Rattle.iloc_sched.specs.Steps.Order.{candidate_cmp, rank, same_number, AreRanked, IsFirst, IsGreatestRank}
 use Rattle.iloc_sched.specs.Steps.Changes.{IsFirstOf, HasNone, Adds, Removes, Popped}
 use Rattle.iloc_sched.proofs.Basics.Members.{contains_from, in_from}
 
@@ -101,19 +100,51 @@ in_some : (xs : List Candidate) (c : Candidate) → In xs c → 0 < length xs
 in_some [] c held = absurd held
 in_some (x ∷ xs) c held = omega arith
 
-pub peeked : (xs : List Candidate) (n : ℕ) (p : Option (Bor Candidate)) (r : Option Candidate) → n ≡ length xs
-    → (IsSome p ↔ (0 < n)) → IfSome p (λ x. x.now ≡ slice_index_or xs 0 x.now)
-    → IfSome p (λ x. IsHeap candidate_cmp xs → IsUpperBound candidate_cmp x.now xs)
-    → IsHeap candidate_cmp xs → r ≡ option_map (λ (x : Bor Candidate). x.now) p → IsFirstOf xs r
-peeked xs n None r size variant top greatest heap is =
-    subst (λ o. IsFirstOf xs o) (sym is) (λ c held. let some : 0 < length xs = in_some xs c held in
-    let bad : IsSome {T = Bor Candidate} None = variant.1 (omega arith) in cc)
-peeked xs n (Some x) r size variant top greatest heap is =
-    let some : 0 < n = variant.0 refl in
-    subst (λ o. IsFirstOf xs o) (sym is) (
-      in_from xs x.now (0, omega arith, sym top),
-      top_is_first xs x.now (greatest heap),
-    )
+-- of the ranks in a heap that of its top is the greatest
+pub rank_of_first : (c d : Candidate) → IsFirst d c → c.number < 4294967295 → d.number < 4294967295 → rank c ≤ rank d
+rank_of_first c d (inl above) small_c small_d = omega arith
+rank_of_first c d (inr same) small_c small_d =
+    let e : d.priority ≡ c.priority = same.0 in
+    let n : d.number ≤ c.number = same.1 in omega arith
+
+pub no_top : (xs : List Candidate) (n : ℕ) → n ≡ length xs → (0 < n → ⊥) → IsGreatestRank (In xs) 0
+no_top xs n size none = record {
+  above = λ c held. let some : 0 < length xs = in_some xs c held in absurd (none (omega arith));
+  one = inl refl;
+}
+
+pub top_rank : (xs : List Candidate) (n top : ℕ) (x : Candidate) → n ≡ length xs → 0 < n
+    → x ≡ slice_index_or xs 0 x → (IsHeap candidate_cmp xs → IsUpperBound candidate_cmp x xs)
+    → IsHeap candidate_cmp xs → AreRanked xs → top ≡ rank x → IsGreatestRank (In xs) top
+top_rank xs n top x size some is greatest heap ranked same =
+    let held : In xs x = in_from xs x (0, omega arith, sym is) in
+    let small : (c : Candidate) → In xs c → c.number < 4294967295 =
+    λ c there. all_in (λ (d : Candidate). d.number < 4294967295) xs c ranked there in
+    record {
+      above = λ c there. (
+        subst (λ t. rank c ≤ t) (sym same)
+            (rank_of_first c x (top_is_first xs x (greatest heap) c there) (small c there) (small x held)),
+        small c there,
+      );
+      one = inr (x, held, sym same);
+    }
+
+pub ranked_after_push : {T E : Type 0} (r : Result T E) (xs ys : List Candidate) (n m : ℕ) (x : Candidate)
+    → OnOk r (IsPermutation (x ∷ xs) ys) → OnErr r ((ys ≡ xs) × (m ≡ n)) → x.number < 4294967295
+    → AreRanked xs → AreRanked ys
+ranked_after_push (Ok t) xs ys n m x moved same small ranked =
+    all_from (λ (c : Candidate). c.number < 4294967295) ys (λ c there.
+    all_in (λ (c : Candidate). c.number < 4294967295) (x ∷ xs) c (small, ranked)
+    (in_permutation ys (x ∷ xs) c (IsPermutation-sym (x ∷ xs) ys moved) there))
+ranked_after_push (Err e) xs ys n m x moved same small ranked = subst (λ zs. AreRanked zs) (sym same.0) ranked
+
+pub ranked_after_pop : (r : Option Candidate) (xs ys : List Candidate) (n m : ℕ)
+    → IfSome r (λ x. IsPermutation xs (x ∷ ys)) → IfNone r ((ys ≡ xs) × (m ≡ n)) → AreRanked xs → AreRanked ys
+ranked_after_pop None xs ys n m moved same ranked = subst (λ zs. AreRanked zs) (sym same.0) ranked
+ranked_after_pop (Some x) xs ys n m moved same ranked =
+    all_from (λ (c : Candidate). c.number < 4294967295) ys (λ c there.
+    all_in (λ (c : Candidate). c.number < 4294967295) xs c ranked
+    (in_permutation (x ∷ ys) xs c (IsPermutation-sym xs (x ∷ ys) moved) (inr there)))
 
 pub heap_after_push : {T E : Type 0} (r : Result T E) (xs ys : List Candidate) (n m : ℕ)
     → OnOk r (KeepsHeap candidate_cmp xs ys) → OnErr r ((ys ≡ xs) × (m ≡ n)) → IsHeap candidate_cmp xs

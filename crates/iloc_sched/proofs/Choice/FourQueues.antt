@@ -1,5 +1,6 @@
--- The best of the firsts of four queues is the first of all that may stand there; for `Queues::first_beside`.
-use Rattle.std.proofs.Common.{◌≡◌, ◌≢◌, Option, Some, None, ◌⊎◌, inl, inr, refl, sym, ◌∙◌, ap, subst}
+-- The best of the firsts of four queues is the first of all that may stand there; for `Queues::best_class`.
+use Rattle.std.proofs.Common.{ℕ, ◌<◌, ◌≤◌, true, false, arith, ◌≡◌, ◌≢◌, Option, Some, None, ◌⊎◌, inl, inr, refl, sym, ◌∙◌, ap, subst}
+use Rattle.std.proofs.lemmas.Bool.Decides.{nat_tests}
 use Rattle.std.specs.BinaryHeap.{heap_items}
 use Rattle.iloc_sched.specs.declared.candidate.Candidate.{Candidate}
 use Rattle.iloc_sched.specs.declared.class.Class.{Class}
@@ -7,87 +8,67 @@ use Rattle.iloc_sched.specs.declared.class.Class.TheVariants as C
 use Rattle.iloc_sched.specs.declared.queue.Queue.{Queue}
 use Rattle.iloc_sched.specs.declared.queues.Queues.{Queues}
 use Rattle.iloc_sched.specs.declared.queues.Choice.{Choice}
+use Rattle.iloc_sched.specs.Steps.Classes.{is_excluded}
 use Rattle.iloc_sched.specs.Steps.Members.{In}
-use Rattle.iloc_sched.specs.Steps.Order.{IsFirst}
+use Rattle.iloc_sched.specs.Steps.Order.{rank, IsFirst, IsGreatestRank}
 use Rattle.iloc_sched.specs.Steps.Changes.{IsFirstOf, Adds, Removes}
-use Rattle.iloc_sched.specs.Steps.Queued.{candidates, KeepsOthers, IsOpen, IsOffer, IsNoLater, IsBest, Takes, AddsTo}
+use Rattle.iloc_sched.specs.Steps.Queued.{candidates, KeepsOthers, IsOpen, IsBest, IsBestClass, Takes, AddsTo}
 use Rattle.iloc_sched.proofs.Choice.CandidateHeaps.{first_trans}
 
-no_later_trans : (a b c : Option Choice) → IsNoLater a b → IsNoLater b c → IsNoLater a c
-no_later_trans a b None first second = tt
-no_later_trans a None (Some c) first second = absurd second
-no_later_trans None (Some b) (Some c) first second = absurd first
-no_later_trans (Some a) (Some b) (Some c) first second = first_trans a.candidate b.candidate c.candidate first second
+-- what isn't kept out, of the candidates of a class
+pub kept_in : (q : Queues) (beside : Option Class) (k : Class) (top : ℕ) → is_excluded beside k ≡ false
+    → IsGreatestRank (In (candidates q k)) top → IsGreatestRank (IsOpen q beside k) top
+kept_in q beside k top may is = record {
+  above = λ c held. is.above c held.1;
+  one = elim is.one [ inl none ↦ inl none | inr some ↦ inr (some.0, (may, some.1), some.2) ];
+}
 
--- what comes no later than an offer and is one of its class
-covered : (q : Queues) (beside : Option Class) (k : Class) (offer : Option Choice) (best : Choice)
-    → IsOffer q beside k offer → IsNoLater (Some best) offer → (c : Candidate) → IsOpen q beside k c
-    → IsFirst best.candidate c
-covered q beside k None best is later c held = absurd (is c held)
-covered q beside k (Some offer) best is later c held = first_trans best.candidate offer.candidate c later (is.2 c held)
+pub kept_out : (q : Queues) (beside : Option Class) (k : Class) → is_excluded beside k ≡ true
+    → IsGreatestRank (IsOpen q beside k) 0
+kept_out q beside k out = record {
+  above = λ c held. let may : is_excluded beside k ≡ false = held.0 in cc;
+  one = inl refl;
+}
 
-none_open : (q : Queues) (beside : Option Class) (k : Class) (offer : Option Choice) → IsOffer q beside k offer
-    → IsNoLater None offer → (c : Candidate) → IsOpen q beside k c → ⊥
-none_open q beside k None is later = is
-none_open q beside k (Some offer) is later = absurd later
+-- of two ranks the greater is that of what comes first
+first_by_rank : (c d : Candidate) → rank d ≤ rank c → c.number < 4294967295 → d.number < 4294967295 → IsFirst c d
+first_by_rank c d most small_c small_d = grind (arith, nat_tests)
 
-offered : (q : Queues) (beside : Option Class) (k : Class) (offer : Option Choice) (best : Choice)
-    → IsOffer q beside k offer → Some best ≡ offer → IsOpen q beside best.class best.candidate
-offered q beside k None best is same = cc
-offered q beside k (Some offer) best is same =
-    let e : best ≡ offer = cc in
-    subst (λ (b : Choice). IsOpen q beside b.class b.candidate) (sym e)
-    (subst (λ a. IsOpen q beside a offer.candidate) (sym is.0) is.1)
+-- the class whose offer is the greatest of four
+module _ (q : Queues) (beside : Option Class) (memory product output rest best : ℕ)
+    (is_memory : IsGreatestRank (IsOpen q beside C.Memory) memory)
+    (is_product : IsGreatestRank (IsOpen q beside C.Product) product)
+    (is_output : IsGreatestRank (IsOpen q beside C.Output) output)
+    (is_rest : IsGreatestRank (IsOpen q beside C.Rest) rest)
+    (over_memory : memory ≤ best) (over_product : product ≤ best) (over_output : output ≤ best)
+    (over_rest : rest ≤ best) where
+  no_higher : (k : Class) (c : Candidate) → IsOpen q beside k c → (rank c ≤ best) × (c.number < 4294967295)
+  no_higher C.Memory c held = let a = is_memory.above c held in (let l : rank c ≤ memory = a.0 in omega arith, a.1)
+  no_higher C.Product c held = let a = is_product.above c held in (let l : rank c ≤ product = a.0 in omega arith, a.1)
+  no_higher C.Output c held = let a = is_output.above c held in (let l : rank c ≤ output = a.0 in omega arith, a.1)
+  no_higher C.Rest c held = let a = is_rest.above c held in (let l : rank c ≤ rest = a.0 in omega arith, a.1)
 
--- the best of four offers
-module _ (q : Queues) (beside : Option Class) (memory product output rest : Option Choice)
-    (is_memory : IsOffer q beside C.Memory memory) (is_product : IsOffer q beside C.Product product)
-    (is_output : IsOffer q beside C.Output output) (is_rest : IsOffer q beside C.Rest rest) where
-  pub best_of_offers : (best : Option Choice) → ((best ≡ memory) ⊎ (best ≡ product)) ⊎ ((best ≡ output) ⊎ (best ≡ rest))
-      → IsNoLater best memory → IsNoLater best product → IsNoLater best output → IsNoLater best rest
-      → IsBest q beside best
-  best_of_offers None one m p o r = λ k c. elim k as (λ k. IsOpen q beside k c → ⊥) [
-    | C.Memory ↦ none_open q beside C.Memory memory is_memory m c
-    | C.Product ↦ none_open q beside C.Product product is_product p c
-    | C.Output ↦ none_open q beside C.Output output is_output o c
-    | C.Rest ↦ none_open q beside C.Rest rest is_rest r c
+  pub none_best : best ≡ 0 → IsBest q beside None
+  none_best zero k c held =
+      let a : (rank c ≤ best) × (c.number < 4294967295) = no_higher k c held in
+      let l : rank c ≤ best = a.0 in
+      let m : c.number < 4294967295 = a.1 in omega arith
+
+  pub some_best : (k : Class) (top : ℕ) → IsGreatestRank (IsOpen q beside k) top → best ≡ top → best ≢ 0
+      → IsBestClass q beside (Some k)
+  some_best k top is same some = elim is.one [
+    | inl none ↦ absurd (some (same ∙ none))
+    | inr found ↦ (
+      found.0,
+      (
+        found.1,
+        λ j d held. let a : (rank d ≤ best) × (d.number < 4294967295) = no_higher j d held in
+            let equal : rank found.0 ≡ top = found.2 in
+            let l : rank d ≤ best = a.0 in
+            first_by_rank found.0 d (omega arith) (no_higher k found.0 found.1).1 a.1,
+      ),
+    )
   ]
-  best_of_offers (Some best) one m p o r = (
-    elim one [
-      | inl front ↦ elim front [
-        | inl is ↦ offered q beside C.Memory memory best is_memory is
-        | inr is ↦
-            offered q beside C.Product product best is_product is
-      ]
-      | inr back ↦ elim back [
-        | inl is ↦ offered q beside C.Output output best is_output is
-        | inr is ↦
-            offered q beside C.Rest rest best is_rest is
-      ]
-    ],
-    λ k c. elim k as (λ k. IsOpen q beside k c → IsFirst best.candidate c) [
-      | C.Memory ↦ covered q beside C.Memory memory best is_memory m c
-      | C.Product ↦ covered q beside C.Product product best is_product p c
-      | C.Output ↦ covered q beside C.Output output best is_output o c
-      | C.Rest ↦ covered q beside C.Rest rest best is_rest r c
-    ],
-  )
-
-pub best_of_pairs : (q : Queues) (beside : Option Class) (memory product output rest front back best : Option Choice)
-    → IsOffer q beside C.Memory memory → IsOffer q beside C.Product product → IsOffer q beside C.Output output
-    → IsOffer q beside C.Rest rest
-    → (front ≡ memory) ⊎ (front ≡ product) → IsNoLater front memory → IsNoLater front product
-    → (back ≡ output) ⊎ (back ≡ rest) → IsNoLater back output → IsNoLater back rest
-    → (best ≡ front) ⊎ (best ≡ back) → IsNoLater best front → IsNoLater best back → IsBest q beside best
-best_of_pairs q beside memory product output rest front back best is_memory is_product is_output is_rest one_front fm fp
-    one_back bo br one bf bb =
-    best_of_offers q beside memory product output rest is_memory is_product is_output is_rest best
-    (elim one [
-      | inl is ↦ inl (elim one_front [ inl e ↦ inl (is ∙ e) | inr e ↦ inr (is ∙ e) ])
-      | inr is ↦ inr (elim one_back [ inl e ↦ inl (is ∙ e) | inr e ↦ inr (is ∙ e) ])
-    ])
-    (no_later_trans best front memory bf fm) (no_later_trans best front product bf fp)
-    (no_later_trans best back output bb bo) (no_later_trans best back rest bb br)
 
 -- the first of a class that has the best is the best
 pub popped_best : (q : Queues) (beside : Option Class) (best : Choice) (c : Candidate) → IsBest q beside (Some best)

@@ -28,21 +28,15 @@ KeepsOthers q q' C.Rest = (q'.memory ≡ q.memory) × (q'.product ≡ q.product)
 abbrev pub IsOpen : Queues → Option Class → Class → Candidate → Type 0
 IsOpen q beside k c = (is_excluded beside k ≡ false) × In (candidates q k) c
 
--- the first of one class, unless that is kept out
-abbrev pub IsOffer : Queues → Option Class → Class → Option Choice → Type 0
-IsOffer q beside k None = (c : Candidate) → IsOpen q beside k c → ⊥
-IsOffer q beside k (Some choice) = (choice.class ≡ k) × IsOpen q beside k choice.candidate × ((c : Candidate) → IsOpen q beside k c → IsFirst choice.candidate c)
-
--- the first choice comes first
-abbrev pub IsNoLater : Option Choice → Option Choice → Type 0
-IsNoLater a None = Unit {0}
-IsNoLater None (Some b) = ⊥
-IsNoLater (Some a) (Some b) = IsFirst a.candidate b.candidate
-
 -- the first of all whose classes aren't kept out
 abbrev pub IsBest : Queues → Option Class → Option Choice → Type 0
 IsBest q beside None = (k : Class) (c : Candidate) → IsOpen q beside k c → ⊥
 IsBest q beside (Some choice) = IsOpen q beside choice.class choice.candidate × ((k : Class) (c : Candidate) → IsOpen q beside k c → IsFirst choice.candidate c)
+
+-- the class that has the first of all whose classes aren't kept out
+abbrev pub IsBestClass : Queues → Option Class → Option Class → Type 0
+IsBestClass q beside None = IsBest q beside None
+IsBestClass q beside (Some k) = (c : Candidate) × IsBest q beside (Some (record { candidate = c; class = k }))
 
 -- the choice is gone, and all else is as it was
 pub record Takes (q q' : Queues) (choice : Choice) : Type 0 where

@@ -1,5 +1,5 @@
 use Rattle.std.specs.BinaryHeap.{heap_items, heap_len}
-use Rattle.iloc_sched.proofs.Choice.CandidateHeaps.{heap_after_pop, distinct_after_pop, first_of_pop, popped_by_pop}
+use Rattle.iloc_sched.proofs.Choice.CandidateHeaps.{heap_after_pop, distinct_after_pop, first_of_pop, popped_by_pop, ranked_after_pop}
 use Rattle.iloc_sched.proofs.queue.Queue.pop.Goals as goal
 
 pub invariant_of-self : goal.invariant_of-self
@@ -10,6 +10,8 @@ invariant_of-self c =
           (heap_len c.pop.new.self) c.pop.ensures.heap_order c.pop.ensures.unchanged q.ordered;
       distinct = distinct_after_pop c.pop.result (heap_items q.heap) (heap_items c.pop.new.self) (heap_len q.heap)
           (heap_len c.pop.new.self) c.pop.ensures.permutation c.pop.ensures.unchanged q.distinct;
+      ranked = ranked_after_pop c.pop.result (heap_items q.heap) (heap_items c.pop.new.self) (heap_len q.heap)
+          (heap_len c.pop.new.self) c.pop.ensures.permutation c.pop.ensures.unchanged q.ranked;
     }
 
 pub returns-clause-first : goal.returns-clause-first

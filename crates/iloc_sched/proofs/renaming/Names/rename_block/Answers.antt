@@ -10,7 +10,7 @@ loop-op-preserved c = elim c.if-not-is_nop.branch [
       let next = w.in_ok-rename.ensures.next _ c.loop-op.invariant.1 in
       rw (
         w.self-is,
-        w.renamed-is,
+        w.ops-is,
         op_taken _ c.loop-op.op-index _ c.loop-op-test.true (sym c.is_nop.ensures
             ∙ w.if-not-is_nop.true),
       ) (
@@ -21,7 +21,7 @@ loop-op-preserved c = elim c.if-not-is_nop.branch [
   | else-not-is_nop w ↦
       rw (
         w.self-is,
-        w.renamed-is,
+        w.ops-is,
         nop_passed _ c.loop-op.op-index _ c.loop-op-test.true (sym c.is_nop.ensures
             ∙ w.if-not-is_nop.false),
       ) (

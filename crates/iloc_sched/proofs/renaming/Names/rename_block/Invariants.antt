@@ -8,5 +8,5 @@ abbrev pub invariant-loop-op : goal.invariant-loop-op
 invariant-loop-op l =
     (l.self.given ≤ 3 * l.op-index)
     × Named (without_nops (take l.op-index l.op-items)) l.self.given (current_of l.self)
-    × (l.renamed.items ≡ renamed_by (without_nops (take l.op-index l.op-items))
+    × (l.ops.items ≡ renamed_by (without_nops (take l.op-index l.op-items))
     (numbering (without_nops (take l.op-index l.op-items))))

@@ -1,4 +1,4 @@
-use Rattle.std.proofs.Common.{◌≡◌, ◌<◌, length, ap, sym, subst, ◌∙◌, arith}
+use Rattle.std.proofs.Common.{◌≡◌, ◌<◌, ◌≤◌, length, ap, sym, subst, ◌∙◌, arith}
 use Rattle.iloc_sched.specs.declared.candidate.Candidate.{Candidate}
 use Rattle.iloc_sched.specs.declared.waiting.Waiting.{Waiting}
 use Rattle.iloc_sched.specs.Steps.Changes.{HasNone}
@@ -30,11 +30,22 @@ candidate-candidate-requires c =
 
 pub insert-requires : goal.insert-requires
 insert-requires c =
-    subst (λ (d : Candidate). HasNone (candidates c.loop-j.queues c.class_of-class.result) d.number)
-    (sym c.candidate-candidate.ensures)
-    (taken_new c.args.plan.now c.args.self.now c.loop-j.self c.args.queues.now c.loop-j.queues c.args.cycle
-    c.requires.plan c.requires.under_way c.loop-j.invariant c.take.new.self c.in-Some.j c.in-Some.ensures.taken
-    c.class_of-class.result)
+    let p = c.args.plan.now in
+    let there : c.in-Some.j < length p.ops.items =
+    taken_there p c.args.self.now c.loop-j.self c.args.queues.now c.loop-j.queues c.args.cycle
+    c.requires.plan c.requires.under_way c.loop-j.invariant c.take.new.self c.in-Some.j c.in-Some.ensures.taken in
+    let size : length p.edges.heads.items ≡ length p.ops.items = c.requires.plan.graph.size in
+    let few : length p.edges.heads.items ≤ 10000 = p.edges.short in
+    let is : c.candidate-candidate.result.number ≡ c.in-Some.j =
+    ap (λ (d : Candidate). d.number) c.candidate-candidate.ensures in
+    record {
+      new = subst (λ (d : Candidate). HasNone (candidates c.loop-j.queues c.class_of-class.result) d.number)
+          (sym c.candidate-candidate.ensures)
+          (taken_new p c.args.self.now c.loop-j.self c.args.queues.now c.loop-j.queues c.args.cycle
+          c.requires.plan c.requires.under_way c.loop-j.invariant c.take.new.self c.in-Some.j c.in-Some.ensures.taken
+          c.class_of-class.result);
+      small = omega arith;
+    }
 
 pub loop-j-preserved : goal.loop-j-preserved
 loop-j-preserved c =

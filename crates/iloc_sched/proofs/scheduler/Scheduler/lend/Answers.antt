@@ -1,21 +1,22 @@
 use Rattle.std.proofs.Common.{◌≡◌, ap, ◌∙◌}
 use Rattle.std.specs.Global.{Vec}
 use Rattle.iloc_text.specs.declared.op.Op.{Op}
+use Rattle.iloc_timed.specs.declared.row.Row.{Row}
 use Rattle.iloc_sched.specs.declared.plan.Plan.{Plan}
 use Rattle.iloc_sched.specs.Renaming.{renamed}
 use Rattle.iloc_sched.specs.Greedy.{IsGreedy}
 use Rattle.iloc_sched.proofs.Outcome.LawfulOutcomes.{lawful_same_outcome}
 use Rattle.iloc_sched.proofs.Choice.Scheduled.{seen_greedy, greedy_only, greedy_least, greedy_most}
-use Rattle.iloc_sched.proofs.scheduler.Scheduler.schedule.Goals as goal
+use Rattle.iloc_sched.proofs.scheduler.Scheduler.lend.Goals as goal
 
 pub of_table-requires-clause-table : goal.of_table-requires-clause-table
 of_table-requires-clause-table c =
     let is : c.fill.new.self.ops.items ≡ renamed c.args.block.now.ops =
-    ap (λ (v : Vec Op). v.items) c.in_ok-fill.ensures.ops ∙ c.in_ok-ops.ensures.renamed in
+    ap (λ (v : Vec Op). v.items) c.in_ok-fill.ensures.ops ∙ c.in_ok-rename_block.ensures.renamed in
     (seen_greedy c.fill.new.self.latencies c.args.latencies.now c.args.block.now.ops c.fill.new.self.ops.items
-    c.take_ops.result.items c.fill_rows.new.self.rows.items c.in_ok-rows.rows.items c.in_ok-fill.ensures.latencies
-    (ap (λ (v : Vec Op). v.items) (c.take_ops.ensures ∙ ap (λ (p : Plan). p.ops) c.fill_rows.ensures.plan))
-    (c.in_ok-rows.ensures.items ∙ c.deref.ensures.value)
+    c.replace-ops.result.items c.fill_rows.new.self.rows.items c.replace-rows.result.items c.in_ok-fill.ensures.latencies
+    (ap (λ (v : Vec Op). v.items) (c.replace-ops.ensures.value ∙ ap (λ (p : Plan). p.ops) c.fill_rows.ensures.plan))
+    (ap (λ (v : Vec Row). v.items) c.replace-rows.ensures.value)
     (c.in_ok-fill_rows.ensures.greedy c.args.block.now.ops is)).lawful.table
 
 -- what is answered is the greedy schedule
@@ -23,12 +24,12 @@ answered : (c : goal.After-of_table) → IsGreedy c.args.latencies.now c.args.bl
     c.of_table.result.rows
 answered c =
     let is : c.fill.new.self.ops.items ≡ renamed c.args.block.now.ops =
-    ap (λ (v : Vec Op). v.items) c.in_ok-fill.ensures.ops ∙ c.in_ok-ops.ensures.renamed in
+    ap (λ (v : Vec Op). v.items) c.in_ok-fill.ensures.ops ∙ c.in_ok-rename_block.ensures.renamed in
     seen_greedy c.fill.new.self.latencies c.args.latencies.now c.args.block.now.ops c.fill.new.self.ops.items
     c.of_table.result.ops c.fill_rows.new.self.rows.items c.of_table.result.rows c.in_ok-fill.ensures.latencies
     (c.of_table.ensures.ops
-    ∙ ap (λ (v : Vec Op). v.items) (c.take_ops.ensures ∙ ap (λ (p : Plan). p.ops) c.fill_rows.ensures.plan))
-    (c.of_table.ensures.rows ∙ c.in_ok-rows.ensures.items ∙ c.deref.ensures.value)
+    ∙ ap (λ (v : Vec Op). v.items) (c.replace-ops.ensures.value ∙ ap (λ (p : Plan). p.ops) c.fill_rows.ensures.plan))
+    (c.of_table.ensures.rows ∙ ap (λ (v : Vec Row). v.items) c.replace-rows.ensures.value)
     (c.in_ok-fill_rows.ensures.greedy c.args.block.now.ops is)
 
 pub returns-clause-greedy : goal.returns-clause-greedy
