@@ -4,6 +4,7 @@ use Rattle.std.specs.Prelude.{ℤ, slice_get, map}
 use Rattle.std.proofs.lemmas.Bool.{cases_lt}
 use Rattle.std.proofs.lemmas.List.{length-map}
 use Rattle.std.proofs.lemmas.Option.{slice_get_past}
+use Rattle.iloc_text.specs.declared.limits.TheConstants.{MAX_OPS}
 use Rattle.iloc_text.specs.declared.op.Op.{Op}
 use Rattle.iloc_meaning.specs.declared.effect.Effect.{Effect}
 use Rattle.iloc_meaning.specs.declared.effect.Effect.TheVariants.{Faults, Gives, Writes, Emits, Nothing}
@@ -12,6 +13,7 @@ use Rattle.iloc_meaning.specs.declared.outcome.Outcome.TheVariants as O
 use Rattle.iloc_meaning.specs.Outcome.{outcome, has_fault, emitted, emitted_by}
 use Rattle.iloc_meaning.specs.Trace.{Executed, before, op_at}
 use Rattle.iloc_meaning.proofs.Cases.{by_bool}
+use Rattle.iloc_timed.specs.declared.schedule.TheConstants.{MAX_ROWS}
 use Rattle.iloc_timed.specs.declared.latencies.Latencies.{Latencies}
 use Rattle.iloc_timed.specs.declared.row.Row.{Row}
 use Rattle.iloc_timed.specs.Rows.{row_at, slots}
@@ -111,14 +113,14 @@ few_counted n m (O.Finished outputs memory) (O.Finished wanteds end) Fault small
 few_counted n m (O.Finished outputs memory) (O.Finished wanteds end) NoFault small few fewer is = tt
 
 place_counted : (lat : Latencies) (block ops : List Op) (rows : List Row) (memory : List ℤ) (place : Place)
-    → length block ≤ 10000 → length rows ≤ 4000000000
+    → length block ≤ MAX_OPS → length rows ≤ MAX_ROWS
     → IsPlace (timed_outcome lat ops rows memory) (outcome block memory) place → IsCounted place
 place_counted lat block ops rows memory place short few is =
     few_counted (2 * length rows) (length block) (timed_outcome lat ops rows memory) (outcome block memory) place
     (omega arith) (rows_emit lat ops rows memory) (block_emits block memory) is
 
 pub verdict_listed : (lat : Latencies) (memory : List ℤ) (block ops : List Op) (rows : List Row) (verdict : Verdict)
-    → length block ≤ 10000 → length rows ≤ 4000000000 → IsVerdict lat block ops rows memory verdict
+    → length block ≤ MAX_OPS → length rows ≤ MAX_ROWS → IsVerdict lat block ops rows memory verdict
     → CanBeListed rows verdict
 verdict_listed lat memory block ops rows (Units c) short few is = is.within
 verdict_listed lat memory block ops rows Same short few is = tt

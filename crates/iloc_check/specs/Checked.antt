@@ -9,7 +9,7 @@ use Rattle.iloc_timed.specs.Schedule.{Table}
 use Rattle.iloc_rows.specs.declared.proposal.Proposal.{Proposal}
 use Rattle.iloc_sched.specs.Least.{least}
 use Rattle.iloc_judge.specs.declared.verdict.Verdict.{Verdict}
-use Rattle.iloc_judge.specs.declared.verdict.Verdict.TheVariants.{Units, Same, Agrees, Differs, DiffersOn}
+use Rattle.iloc_judge.specs.declared.verdict.Verdict.TheVariants.{Same}
 use Rattle.iloc_judge.specs.Memory.{IsMemory}
 use Rattle.iloc_judge.specs.Verdict.{AgreesOn, IsVerdict}
 use Rattle.iloc_check.specs.declared.checked.Checked.{Checked}
@@ -18,10 +18,7 @@ use Rattle.iloc_check.specs.Listing.{verdict_line, detail}
 -- whether the verdict is `Same`
 abbrev pub is_same : Verdict → Bool
 is_same Same = true
-is_same (Units c) = false
-is_same Agrees = false
-is_same (Differs place) = false
-is_same (DiffersOn probe place) = false
+is_same verdict = false
 
 -- what goes with a verdict: the cycles of what is proposed, those of our schedule, and the least
 abbrev pub found : Latencies → List Op → Table → Proposal → Verdict → Checked

@@ -3,6 +3,7 @@ use Rattle.std.specs.Prelude.{ℕ, ℤ, ◌+◌, ◌==◌, if◌then◌else◌, 
 use Rattle.std.specs.List.{flat_map}
 use Rattle.std.specs.Fmt.{decimal, signed_decimal}
 use Rattle.iloc_text.specs.declared.op.Op.{Op}
+use Rattle.iloc_text.specs.Columns.{column}
 use Rattle.iloc_timed.specs.declared.row.Row.{Row}
 use Rattle.iloc_timed.specs.Rows.{row_at}
 use Rattle.iloc_timed.specs.Spelling.{row_line}
@@ -14,10 +15,6 @@ use Rattle.iloc_judge.specs.declared.verdict.Verdict.TheVariants.{Units, Same, A
 use Rattle.iloc_check.specs.declared.checked.Checked.{Checked}
 
 -- The line of the verdict
-
--- ` NAME N`
-abbrev pub column : List ℕ → ℕ → List ℕ
-column name n = codes " " ++ name ++ codes " " ++ decimal n
 
 abbrev pub verdict_word : Verdict → List ℕ
 verdict_word (Units c) = codes "units"

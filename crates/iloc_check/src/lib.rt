@@ -3,7 +3,6 @@
 #![tactic(auto)]
 
 mod checked;
-mod column;
 mod detail;
 pub mod laws;
 mod verdict_line;

@@ -3,9 +3,8 @@ ghost use Rattle.std.specs.Prelude.{◌≡◌, ◌++◌, OnOk};
 ghost use Rattle.iloc_check.specs.Listing as listed;
 
 use crate::checked::Checked;
-use crate::column::push_column;
 use iloc_judge::Verdict;
-use iloc_text::NoMemory;
+use iloc_text::{NoMemory, push_column};
 
 /// The word for a verdict.
 fn verdict_word(verdict: &Verdict) -> &'static str

@@ -1,4 +1,4 @@
--- What an operation waited for stands in the rows of the 16 cycles before.
+-- What an operation waited for stands in the rows of the cycles before, as many as the longest delay has.
 use Rattle.std.proofs.Common.{◌≡◌, ◌<◌, ◌≤◌, ℕ, suc, ◌+◌, ◌-◌, ◌==◌, ◌&&◌, Bool, true, nat_lt, List, [], ◌∷◌, ◌++◌, length, take, drop, filter, min, append_assoc, append-nil, Option, Some, None, option_to_list, arith, refl, sym, ap, ◌∙◌, inl, inr}
 use Rattle.std.specs.Prelude.{Contains}
 use Rattle.std.specs.List.{list_any}
@@ -15,6 +15,7 @@ use Rattle.iloc_timed.specs.Latency.{latency}
 use Rattle.iloc_timed.specs.Rows.{empty_row, row_at, slots, holds, issue_cycle, IsTable}
 use Rattle.iloc_timed.proofs.Issues.{issued_there, holds_zero, holds_one}
 use Rattle.iloc_timed.proofs.Counts.{any_contains}
+use Rattle.iloc_sched.specs.declared.wheel.TheConstants.{LONGEST_DELAY}
 use Rattle.iloc_sched.specs.Delays.{delays}
 use Rattle.iloc_sched.specs.Steps.Members.{In}
 use Rattle.iloc_sched.proofs.Basics.Members.{contains_from, empty_from, from_any, from_append, from_filter}
@@ -60,8 +61,8 @@ module _ (lat : Latencies) (ops : List Op) (rows : List Row) (table : IsTable op
       let known : i < length ops = table.in_range c i (any_contains (slots (row_at rows c)) i held) in
       issued_there rows c i (table.once i known) within held
 
-  -- what ends at the cycle was issued at most 16 cycles before, and at least one
-  ends_near : (c i : ℕ) → issue_cycle rows i ≡ c → ends_at lat ops rows j ready i ≡ true → (c < ready) × (ready ≤ c + 16)
+  -- what ends at the cycle was issued at most the longest delay before, and at least one cycle
+  ends_near : (c i : ℕ) → issue_cycle rows i ≡ c → ends_at lat ops rows j ready i ≡ true → (c < ready) × (ready ≤ c + LONGEST_DELAY)
   ends_near c i at does =
       let both = and_parts (nat_lt i j)
       (list_any (λ d. issue_cycle rows i + d == ready) (delays lat (op_at ops i) (op_at ops j))) does in
@@ -70,13 +71,13 @@ module _ (lat : Latencies) (ops : List Op) (rows : List Row) (table : IsTable op
       let delay : Contains (delays lat (op_at ops i) (op_at ops j)) one.0 = contains_from (delays lat (op_at ops i) (op_at ops j)) one.0 one.1 in
       let some : 1 ≤ one.0 = delay_at_least lat (op_at ops i) (op_at ops j) one.0 delay in
       let most : one.0 ≤ latency lat (op_at ops i) = delay_at_most lat (op_at ops i) (op_at ops j) one.0 delay in
-      let few : latency lat (op_at ops i) ≤ 16 = short_latency lat (kind (op_at ops i)) in
+      let few : latency lat (op_at ops i) ≤ LONGEST_DELAY = short_latency lat (kind (op_at ops i)) in
       (omega arith, omega arith)
 
-  -- rows of which none is issued at most 16 cycles before have nothing that ends there
+  -- rows of which none is issued at most the longest delay before have nothing that ends there
   none_in : (some : List Row) (at : ℕ → ℕ) → ((c : ℕ) → c < length some → at c < length rows)
       → ((c : ℕ) → c < length some → row_at some c ≡ row_at rows (at c))
-      → ((c : ℕ) → c < length some → at c < ready → ready ≤ at c + 16 → ⊥)
+      → ((c : ℕ) → c < length some → at c < ready → ready ≤ at c + LONGEST_DELAY → ⊥)
       → filter (ends_at lat ops rows j ready) (issue_order some) ≡ []
   none_in some at inside same far = empty_from _ (λ i there.
       let found = from_filter (ends_at lat ops rows j ready) (issue_order some) i there in
@@ -85,7 +86,7 @@ module _ (lat : Latencies) (ops : List Op) (rows : List Row) (table : IsTable op
       let near = ends_near (at one.0) i issued found.1 in
       far one.0 one.1 near.0 near.1)
 
-  pub none_before : (n : ℕ) → n ≤ length rows → n ≤ ready - 16
+  pub none_before : (n : ℕ) → n ≤ length rows → n ≤ ready - LONGEST_DELAY
       → [] ≡ filter (ends_at lat ops rows j ready) (issue_order (take n rows))
   none_before n few early =
       let size : length (take n rows) ≡ n = length-take n rows ∙ omega arith in

@@ -4,6 +4,7 @@ use Rattle.std.specs.List.{flat_map}
 use Rattle.std.specs.Fmt.{decimal}
 use Rattle.iloc_text.specs.declared.op.Op.{Op}
 use Rattle.iloc_text.specs.Spelling.{spelling}
+use Rattle.iloc_text.specs.Columns.{column}
 use Rattle.iloc_timed.specs.declared.latencies.Latencies.{Latencies}
 use Rattle.iloc_timed.specs.declared.row.Row.{Row}
 use Rattle.iloc_timed.specs.Cycles.{cycles}
@@ -14,10 +15,6 @@ use Rattle.iloc_explain.specs.declared.explanation.Unit.{Unit as unit_type}
 use Rattle.iloc_explain.specs.declared.explanation.Unit.TheVariants as unit
 use Rattle.iloc_explain.specs.Chain.{IsLongestChain}
 use Rattle.iloc_explain.specs.Explained.{AreExplained}
-
--- ` NAME N`
-abbrev pub column : List ℕ → ℕ → List ℕ
-column name n = codes " " ++ name ++ codes " " ++ decimal n
 
 -- numbers with commas between them, `-` where there are none
 abbrev pub comma_separated : List ℕ → List ℕ

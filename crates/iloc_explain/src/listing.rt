@@ -9,28 +9,9 @@ ghost use Rattle.iloc_explain.specs.Listing.{IsExplanation};
 use crate::chain::longest_chain;
 use crate::explanation::{Explained, Unit, explain};
 use iloc_sched::{least, priorities};
-use iloc_text::{Block, MAX_OPS, NoMemory, Op, push_op};
+use iloc_text::{Block, MAX_OPS, NoMemory, Op, push_column, push_decimal, push_op};
 use iloc_timed::{Latencies, Schedule, cycles};
-use itoa::Buffer;
 use std::alloc::Global;
-
-/// Appends a number.
-fn push_decimal(text: &mut Vec<u8>, number: u64) -> Result<(), NoMemory>
-    ensures { OnOk result (text.new.items ≡ text.old.items ++ decimal number) }
-{
-    let mut buffer = Buffer::new();
-    Ok(text.extend_from_slice(buffer.format(number).as_bytes())?)
-}
-
-/// Appends ` NAME N`.
-fn push_column(text: &mut Vec<u8>, name: &str, number: u64) -> Result<(), NoMemory>
-    ensures { OnOk result (text.new.items ≡ text.old.items ++ listed.column name.now number) }
-{
-    text.extend_from_slice(b" ")?;
-    text.extend_from_slice(name.as_bytes())?;
-    text.extend_from_slice(b" ")?;
-    push_decimal(text, number)
-}
 
 /// Appends each number behind this mark.
 fn push_marked(text: &mut Vec<u8>, mark: &[u8], numbers: &[usize]) -> Result<(), NoMemory>

@@ -5,13 +5,10 @@ ghost use Rattle.iloc_sched.specs.Delays.{delays as all_delays};
 ghost use Rattle.iloc_explain.specs.Waiting.{waited_until};
 ghost use Rattle.iloc_explain.specs.Steps.Waits.{waits_for};
 
-use iloc_sched::delays;
+use iloc_sched::{LONGEST_DELAY, delays};
 use iloc_text::{NoMemory, Op};
 use iloc_timed::{Latencies, Schedule};
 use std::alloc::Global;
-
-/// The most cycles that an operation waits for another.
-const LONGEST_DELAY: usize = 16;
 
 /// Whether operation i puts this delay on operation j.
 pub(crate) fn has_delay(ops: &[Op], latencies: &Latencies, i: usize, j: usize, delay: u64) -> bool
@@ -53,8 +50,8 @@ fn push_waited(
     }
 }
 
-/// The operations for which operation j waited until a cycle, in the order of their issue. No delay is longer than 16
-/// cycles, so it looks at the 16 rows before that cycle alone.
+/// The operations for which operation j waited until a cycle, in the order of their issue. No delay is longer than
+/// `LONGEST_DELAY`, so it looks at so many rows before that cycle alone.
 pub(crate) fn waited_until(
     alloc: Global,
     schedule: &Schedule,

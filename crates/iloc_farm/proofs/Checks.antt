@@ -7,12 +7,15 @@ use Rattle.std.proofs.lemmas.List.{length-append, length-map, map-append, take_a
 use Rattle.std.proofs.lemmas.List.Elements.{All-nil, All-push, All-head, All-tail}
 use Rattle.std.proofs.lemmas.List.Folds.{list_all-append}
 use Rattle.std.proofs.lemmas.List.Sums.{sum_by-append, sum_by-cons}
+use Rattle.iloc_text.specs.declared.limits.TheConstants.{MAX_OPS}
 use Rattle.iloc_text.specs.declared.op.Op.{Op}
 use Rattle.iloc_text.specs.declared.file.Block.{Block}
+use Rattle.iloc_timed.specs.declared.schedule.TheConstants.{MAX_ROWS}
 use Rattle.iloc_timed.specs.declared.latencies.Latencies.{Latencies}
 use Rattle.iloc_timed.specs.Cycles.{cycles}
 use Rattle.iloc_timed.specs.Schedule.{Table}
 use Rattle.iloc_rows.specs.declared.proposal.Proposal.{Proposal}
+use Rattle.iloc_sched.specs.declared.wheel.TheConstants.{LONGEST_DELAY}
 use Rattle.iloc_sched.specs.Greedy.{IsGreedy}
 use Rattle.iloc_sched.specs.Least.{least}
 use Rattle.iloc_sched.proofs.Bounds.LeastBound.{least_bound}
@@ -23,6 +26,7 @@ use Rattle.iloc_farm.specs.Checking.{IsJudged, Judged, ListsChecked, judged_entr
 use Rattle.iloc_farm.specs.Finding.{finding_of}
 use Rattle.iloc_farm.specs.Listing.{block_head}
 use Rattle.iloc_farm.specs.Schedules.{AreGreedy}
+use Rattle.iloc_farm.specs.Steps.Limits.{most_cycles}
 use Rattle.iloc_farm.specs.Steps.Checking.{IsCheckedTo, IsSmall, totals_of, totals_text, with_checked}
 use Rattle.iloc_farm.specs.declared.finding.Finding.TheVariants.{Passed}
 use Rattle.iloc_farm.specs.declared.totals.Totals.{Totals}
@@ -33,14 +37,14 @@ use Rattle.iloc_farm.proofs.Schedules.{cycles_few, cycles_within, greedy_all_sam
 
 -- its numbers are small
 pub small_check : (lat : Latencies) (memory : List ℤ) (block : List Op) (s : Table) (p : Proposal) (c : Checked)
-    (entry : List ℕ) → IsCheck lat memory block s p c entry → IsGreedy lat block s.ops s.rows → length block ≤ 10000
-    → length p.rows ≤ 4000000000 → IsSmall c
+    (entry : List ℕ) → IsCheck lat memory block s p c entry → IsGreedy lat block s.ops s.rows → length block ≤ MAX_OPS
+    → length p.rows ≤ MAX_ROWS → IsSmall c
 small_check lat memory block s p c entry check greedy short few =
     let theirs : c.cycles ≡ cycles lat p.ops p.rows = ap (λ (x : Checked). x.cycles) check.is_found in
     let ours : c.ours ≡ cycles lat s.ops s.rows = ap (λ (x : Checked). x.ours) check.is_found in
     let most : c.least ≡ least lat block = ap (λ (x : Checked). x.least) check.is_found in
-    let within : cycles lat p.ops p.rows ≤ length p.rows + 16 = cycles_within lat p.ops p.rows in
-    let short_ours : cycles lat s.ops s.rows ≤ 160000 = cycles_few lat block s greedy short in
+    let within : cycles lat p.ops p.rows ≤ length p.rows + LONGEST_DELAY = cycles_within lat p.ops p.rows in
+    let short_ours : cycles lat s.ops s.rows ≤ most_cycles = cycles_few lat block s greedy short in
     let bound : least lat block ≤ cycles lat s.ops s.rows = least_bound lat block s.ops s.rows greedy.lawful in
     record { cycles = omega arith; ours = omega arith; least = omega arith }
 
@@ -105,8 +109,8 @@ module _ (lat : Latencies) (memory : List ℤ) (blocks : List Block) (proposals 
         let count : totals.blocks ≡ length so_far.judged = ap (λ (t : Totals). t.blocks) so_far.sums in
         omega arith
 
-    pub short_next : length proposals ≡ length blocks → AllByRecursion (λ (a : Block). length a.ops ≤ 10000) blocks
-        → (b : Block) → b ≡ get_or blocks totals.blocks b → length b.ops ≤ 10000
+    pub short_next : length proposals ≡ length blocks → AllByRecursion (λ (a : Block). length a.ops ≤ MAX_OPS) blocks
+        → (b : Block) → b ≡ get_or blocks totals.blocks b → length b.ops ≤ MAX_OPS
     short_next as_many short b read = short_at blocks totals.blocks b short (block_of_next as_many) read
 
     -- one block more

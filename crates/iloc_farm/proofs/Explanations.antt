@@ -5,6 +5,7 @@ use Rattle.std.specs.Fmt.{decimal}
 use Rattle.std.specs.List.{AllByRecursion}
 use Rattle.std.proofs.lemmas.List.{length-take-le, take_all, take_more}
 use Rattle.std.proofs.lemmas.List.Sums.{sum_by-append, sum_by-cons}
+use Rattle.iloc_text.specs.declared.limits.TheConstants.{MAX_OPS}
 use Rattle.iloc_text.specs.declared.file.Block.{Block}
 use Rattle.iloc_timed.specs.declared.latencies.Latencies.{Latencies}
 use Rattle.iloc_timed.specs.Schedule.{Table}
@@ -15,6 +16,7 @@ use Rattle.iloc_farm.specs.Explaining.{AreExplainedEntries, IsExplainedEntry, Li
 use Rattle.iloc_farm.specs.Listing.{block_head, cycles_of, total_cycles, total_line}
 use Rattle.iloc_farm.specs.Schedules.{AreGreedy}
 use Rattle.iloc_farm.specs.Steps.Explaining.{IsExplainedTo}
+use Rattle.iloc_farm.specs.Steps.Limits.{most_cycles}
 use Rattle.iloc_farm.proofs.Schedules.{cycles_few, greedy_all_same}
 
 parts_joined : (text head line entry : List ℕ) → ((text ++ head) ++ line) ++ entry ≡ text ++ ((head ++ line) ++ entry)
@@ -60,15 +62,15 @@ none_explained lat blocks text empty = record {
 
 -- one block more
 pub one_explained : (lat : Latencies) (blocks : List Block) (n : ℕ) (b : Block) (s : Table) (text more entry : List ℕ)
-    (total next : ℕ) → n < length blocks → b ≡ get_or blocks n b → length b.ops ≤ 10000 → IsGreedy lat b.ops s.ops s.rows
+    (total next : ℕ) → n < length blocks → b ≡ get_or blocks n b → length b.ops ≤ MAX_OPS → IsGreedy lat b.ops s.ops s.rows
     → IsExplainedTo lat blocks n text total → IsExplanation lat b.ops s.ops s.rows entry
     → more ≡ ((text ++ block_head (n + 1) b.name) ++ codes "\n") ++ entry → next ≡ total + cycles_of lat s
     → IsExplainedTo lat blocks (n + 1) more next
 one_explained lat blocks n b s text more entry total next within read short greedy so_far explains pushed sum =
     let front : take (n + 1) blocks ≡ take n blocks ++ b ∷ [] =
     take_more blocks n b within ∙ ap (λ x. take n blocks ++ x ∷ []) (sym read) in
-    let few : cycles_of lat s ≤ 160000 = cycles_few lat b.ops s greedy short in
-    let small : total ≤ 160000 * n = so_far.small in
+    let few : cycles_of lat s ≤ most_cycles = cycles_few lat b.ops s greedy short in
+    let small : total ≤ most_cycles * n = so_far.small in
     let size : length (take n blocks) ≡ n = length-take-le n blocks (omega arith) in
     let long : 1 + length (take n blocks) ≡ n + 1 = omega arith in
     let whole : List ℕ = (block_head (n + 1) b.name ++ codes "\n") ++ entry in
@@ -136,8 +138,8 @@ explained_same lat blocks text text' lists also =
     lists.listed ∙ (ap₂ (λ es schedules. es ++ total_line lat schedules) entries (sym same) ∙ sym also.listed)
 
 -- the block that was read is short
-pub short_at : (blocks : List Block) (n : ℕ) (b : Block) → AllByRecursion (λ (a : Block). length a.ops ≤ 10000) blocks
-    → n < length blocks → b ≡ get_or blocks n b → length b.ops ≤ 10000
+pub short_at : (blocks : List Block) (n : ℕ) (b : Block) → AllByRecursion (λ (a : Block). length a.ops ≤ MAX_OPS) blocks
+    → n < length blocks → b ≡ get_or blocks n b → length b.ops ≤ MAX_OPS
 short_at [] n b short within read = absurd (omega arith)
 short_at (a ∷ blocks) zero b short within read = rw read short.0
 short_at (a ∷ blocks) (suc n) b short within read = short_at blocks n b short.1 (omega arith) read

@@ -1,7 +1,7 @@
 pub mod Said
 pub mod Words
 pub mod Written
-pub mod Tasks
+pub mod Routines
 pub mod Explanations
 pub mod Checks
 pub mod Status

@@ -8,7 +8,7 @@ use Rattle.iloc_args.specs.declared.request.Request.{Request}
 use Rattle.iloc_args.specs.declared.request.Task.{Task}
 use Rattle.iloc_args.specs.declared.request.Task.TheVariants as task
 use Rattle.iloc_meaning.specs.Memory.{words_from}
-use Rattle.iloc_farm.specs.Initial.{memory_of}
+use Rattle.iloc_farm.specs.Initial.{initial_memory}
 use Rattle.iloc_farm.specs.Laws.{AskAlike, ChecksIgnoreWorkers, GreedySchedulesCanBeListed, ListingsIgnoreWorkers}
 use Rattle.iloc_farm.specs.declared.finding.Finding.{Finding}
 use Rattle.iloc_farm.specs.Checking.{ListsChecked}
@@ -35,15 +35,15 @@ one_run : (memory memory' : List ℤ) (blocks : List Block) (text text' : List �
 one_run memory memory' blocks text text' same runs runs' =
     runs ∙ (ap (λ m. run_listing m blocks) same ∙ sym runs')
 
-one_memory : (r q : Request) → AskAlike r q → memory_of r ≡ memory_of q
+one_memory : (r q : Request) → AskAlike r q → initial_memory r ≡ initial_memory q
 one_memory r q alike = ap (λ at. words_from at r.words.items) alike.at ∙ ap (λ ws. words_from q.at ws) alike.words
 
 of_one_task : (t : Task) (r q : Request) → AskAlike r q → (blocks : List Block) (text text' : List ℕ)
     → IsListingFor t r blocks text → IsListingFor t q blocks text' → text ≡ text'
 of_one_task task.Run r q alike blocks text text' lists lists' =
-    one_run (memory_of r) (memory_of q) blocks text text' (one_memory r q alike) lists lists'
+    one_run (initial_memory r) (initial_memory q) blocks text text' (one_memory r q alike) lists lists'
 of_one_task task.Simulate r q alike blocks text text' lists lists' =
-    one_run (memory_of r) (memory_of q) blocks text text' (one_memory r q alike) lists.1 lists'.1
+    one_run (initial_memory r) (initial_memory q) blocks text text' (one_memory r q alike) lists.1 lists'.1
 of_one_task task.Schedule r q alike blocks text text' lists lists' =
     one_listing r.latencies q.latencies blocks (λ lat. schedules_listing lat blocks) text text' alike.latencies
     lists lists'
@@ -65,7 +65,7 @@ ignore_workers r q alike input blocks blocks' denotes denotes' text text' lists 
 submission_alike : (r q : Request) → AskAlike r q → (input : List ℕ) (finding : Finding) (text : List ℕ)
     → ListsSubmission r input finding text → ListsSubmission q input finding text
 submission_alike r q alike input finding text lists =
-    let P : Latencies → Type 0 = λ lat. ListsChecked lat (memory_of r) lists.blocks lists.proposals finding text in
+    let P : Latencies → Type 0 = λ lat. ListsChecked lat (initial_memory r) lists.blocks lists.proposals finding text in
     let Q : List ℤ → Type 0 = λ memory. ListsChecked q.latencies memory lists.blocks lists.proposals finding text in
     record {
       blocks = lists.blocks;

@@ -4,18 +4,19 @@ use Rattle.std.specs.Prelude.{slice_get}
 use Rattle.std.specs.List.{AllByRecursion, range_with_len}
 use Rattle.std.proofs.lemmas.List.Sums.{sum_by-cons, length-filter, count_by-le-length}
 use Rattle.std.proofs.lemmas.List.FromFn.{length-map-range_with_len}
+use Rattle.iloc_text.specs.declared.limits.TheConstants.{MAX_BLOCKS, MAX_OPS}
 use Rattle.iloc_text.specs.declared.op.Op.{Op}
 use Rattle.iloc_text.specs.declared.file.Block.{Block}
 use Rattle.iloc_meaning.specs.Trace.{op_at}
-use Rattle.iloc_timed.specs.declared.kind.Kind.{Kind}
-use Rattle.iloc_timed.specs.declared.kind.Kind.TheVariants as K
 use Rattle.iloc_timed.specs.declared.latencies.Latencies.{Latencies}
 use Rattle.iloc_timed.specs.declared.row.Row.{Row}
 use Rattle.iloc_timed.specs.Kinds.{kind}
-use Rattle.iloc_timed.specs.Latency.{latency, latency_of}
+use Rattle.iloc_timed.specs.Latency.{latency}
 use Rattle.iloc_timed.specs.Cycles.{cycles}
 use Rattle.iloc_timed.specs.Schedule.{Table}
 use Rattle.iloc_timed.specs.Rows.{issue_cycle}
+use Rattle.iloc_timed.proofs.WholeRuns.{short_latency}
+use Rattle.iloc_sched.specs.declared.wheel.TheConstants.{LONGEST_DELAY}
 use Rattle.iloc_sched.specs.Renaming.{renamed, renamed_op, without_nops, numbering, is_nop}
 use Rattle.iloc_sched.specs.Greedy.{IsGreedy}
 use Rattle.iloc_sched.proofs.Bounds.BusyCycles.{busy_bound}
@@ -27,6 +28,7 @@ use Rattle.iloc_sched.proofs.Choice.OneGreedy.{greedy_same}
 use Rattle.iloc_sched.proofs.Outcome.LawfulOutcomes.{lawful_same_outcome}
 use Rattle.iloc_farm.specs.Listing.{cycles_of, total_cycles}
 use Rattle.iloc_farm.specs.Schedules.{AreGreedy, IsScheduleOf, IsWithinLimits, KeepOutcomes}
+use Rattle.iloc_farm.specs.Steps.Limits.{most_cycles}
 
 -- One list
 
@@ -62,17 +64,11 @@ keep_outcomes lat (b ∷ blocks) (s ∷ schedules) greedy memory =
 
 -- Cycles
 
-latency_of_at_most : (lat : Latencies) (k : Kind) → latency_of lat k ≤ 16
-latency_of_at_most lat K.Load = lat.short_load
-latency_of_at_most lat K.Store = lat.short_store
-latency_of_at_most lat K.Mult = lat.short_mult
-latency_of_at_most lat _ = omega arith
-
-pub latencies_at_most : (lat : Latencies) (ops : List Op) → sum_by (latency lat) ops ≤ 16 * length ops
+pub latencies_at_most : (lat : Latencies) (ops : List Op) → sum_by (latency lat) ops ≤ LONGEST_DELAY * length ops
 latencies_at_most lat [] = omega arith
 latencies_at_most lat (op ∷ ops) =
-    let head : latency lat op ≤ 16 = latency_of_at_most lat (kind op) in
-    let tail : sum_by (latency lat) ops ≤ 16 * length ops = latencies_at_most lat ops in
+    let head : latency lat op ≤ LONGEST_DELAY = short_latency lat (kind op) in
+    let tail : sum_by (latency lat) ops ≤ LONGEST_DELAY * length ops = latencies_at_most lat ops in
     rw (sum_by-cons (latency lat) op ops) (omega arith)
 
 pub renamed_no_longer : (block : List Op) → length (renamed block) ≤ length block
@@ -83,32 +79,32 @@ renamed_no_longer block =
     (length (without_nops block))) kept
 
 pub cycles_few : (lat : Latencies) (block : List Op) (s : Table) → IsGreedy lat block s.ops s.rows
-    → length block ≤ 10000 → cycles_of lat s ≤ 160000
+    → length block ≤ MAX_OPS → cycles_of lat s ≤ most_cycles
 cycles_few lat block s greedy short =
     let busy : cycles lat s.ops s.rows ≤ sum_by (latency lat) s.ops = busy_bound lat block s.ops s.rows greedy in
-    let most : sum_by (latency lat) s.ops ≤ 16 * length s.ops = latencies_at_most lat s.ops in
+    let most : sum_by (latency lat) s.ops ≤ LONGEST_DELAY * length s.ops = latencies_at_most lat s.ops in
     let longest : length s.ops ≤ length block = rw greedy.lawful.names (renamed_no_longer block) in
     omega arith
 
 pub total_few : (lat : Latencies) (blocks : List Block) (schedules : List Table) → AreGreedy lat blocks schedules
-    → AllByRecursion (λ b. length b.ops ≤ 10000) blocks → total_cycles lat schedules ≤ 160000 * length blocks
+    → AllByRecursion (λ b. length b.ops ≤ MAX_OPS) blocks → total_cycles lat schedules ≤ most_cycles * length blocks
 total_few lat [] [] greedy short = omega arith
 total_few lat [] (s ∷ schedules) greedy short = absurd greedy
 total_few lat (b ∷ blocks) [] greedy short = absurd greedy
 total_few lat (b ∷ blocks) (s ∷ schedules) greedy short =
-    let head : cycles_of lat s ≤ 160000 = cycles_few lat b.ops s greedy.0 short.0 in
-    let tail : total_cycles lat schedules ≤ 160000 * length blocks = total_few lat blocks schedules greedy.1 short.1 in
+    let head : cycles_of lat s ≤ most_cycles = cycles_few lat b.ops s greedy.0 short.0 in
+    let tail : total_cycles lat schedules ≤ most_cycles * length blocks = total_few lat blocks schedules greedy.1 short.1 in
     rw (sum_by-cons (cycles_of lat) s schedules) (omega arith)
 
 -- any schedule ends within the longest latency behind its rows
-pub cycles_within : (lat : Latencies) (ops : List Op) (rows : List Row) → cycles lat ops rows ≤ length rows + 16
+pub cycles_within : (lat : Latencies) (ops : List Op) (rows : List Row) → cycles lat ops rows ≤ length rows + LONGEST_DELAY
 cycles_within lat ops rows = elim (fold_max_reached 0 (map ends (range_with_len 0 (length ops)))) [
   | inl none ↦ let is : cycles lat ops rows ≡ 0 = none in omega arith
   | inr there ↦
       let found = from_map ends (range_with_len 0 (length ops)) (cycles lat ops rows) there in
       let is : ends found.0 ≡ cycles lat ops rows = found.2 in
       let issued : issue_cycle rows found.0 ≤ length rows = issue_cycle_within rows found.0 in
-      let short : latency lat (op_at ops found.0) ≤ 16 = latency_of_at_most lat (kind (op_at ops found.0)) in
+      let short : latency lat (op_at ops found.0) ≤ LONGEST_DELAY = short_latency lat (kind (op_at ops found.0)) in
       omega arith
 ]
   where
@@ -149,6 +145,6 @@ greedy_all_exist lat (b ∷ blocks) =
 pub total_small : (lat : Latencies) (blocks : List Block) (schedules : List Table) → AreGreedy lat blocks schedules
     → IsWithinLimits blocks → total_cycles lat schedules < 2 ^ 63
 total_small lat blocks schedules greedy limits =
-    let few : total_cycles lat schedules ≤ 160000 * length blocks =
+    let few : total_cycles lat schedules ≤ most_cycles * length blocks =
     total_few lat blocks schedules greedy limits.short_blocks in
-    let most : length blocks ≤ 65535 = limits.few_blocks in omega arith
+    let most : length blocks ≤ MAX_BLOCKS = limits.few_blocks in omega arith

@@ -20,7 +20,7 @@ use Rattle.iloc_farm.specs.declared.program.Fault.TheVariants.{Line, Run}
 use Rattle.iloc_farm.specs.Checking.{ListsChecked}
 use Rattle.iloc_farm.specs.Fault.{text_status, rows_status}
 use Rattle.iloc_farm.specs.Finding.{status_of_finding}
-use Rattle.iloc_farm.specs.Initial.{memory_of}
+use Rattle.iloc_farm.specs.Initial.{initial_memory}
 use Rattle.iloc_farm.specs.Laws.{ReadsTheSame, Status0MeansTheSame}
 use Rattle.iloc_farm.specs.Program.{Args, AskFor, IsListed, IsStopped, MakeNone, status_of}
 use Rattle.iloc_farm.specs.Run.{ListsFor, ListsSubmission}
@@ -80,7 +80,7 @@ listed_same words read_old read_new finding text a listed passed asks check =
     let P : Task → Type 0 = λ t. ListsFor t request listed.listed.input finding text in
     let lists : ListsSubmission request listed.listed.input finding text = subst P is listed.listed.listed in
     let Q : Finding → Type 0 =
-    λ f. ListsChecked request.latencies (memory_of request) lists.blocks lists.proposals f text in
+    λ f. ListsChecked request.latencies (initial_memory request) lists.blocks lists.proposals f text in
     record {
       input = listed.listed.input;
       read = listed.listed.read;
@@ -91,7 +91,7 @@ listed_same words read_old read_new finding text a listed passed asks check =
       load = ap (λ (x : Asked). x.load) same;
       store = ap (λ (x : Asked). x.store) same;
       mult = ap (λ (x : Asked). x.mult) same;
-      same = passed_keep_outcomes request.latencies (memory_of request) lists.blocks lists.proposals text
+      same = passed_keep_outcomes request.latencies (initial_memory request) lists.blocks lists.proposals text
           (subst Q passed lists.checked);
     }
 

@@ -4,5 +4,5 @@ use Rattle.iloc_meaning.specs.Memory.{words_from}
 use Rattle.iloc_args.specs.declared.request.Request.{Request}
 
 -- the memory that a request has each block start with
-abbrev pub memory_of : Request → List ℤ
-memory_of request = words_from request.at request.words.items
+abbrev pub initial_memory : Request → List ℤ
+initial_memory request = words_from request.at request.words.items

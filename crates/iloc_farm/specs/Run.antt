@@ -18,7 +18,7 @@ use Rattle.iloc_farm.specs.Checking.{ListsChecked}
 use Rattle.iloc_farm.specs.Device.{ReadsInput, WritesFront}
 use Rattle.iloc_farm.specs.Explaining.{ListsExplained}
 use Rattle.iloc_farm.specs.Headline.{Headline}
-use Rattle.iloc_farm.specs.Initial.{memory_of}
+use Rattle.iloc_farm.specs.Initial.{initial_memory}
 use Rattle.iloc_farm.specs.Listing.{outcomes_listing, schedules_listing, counts_listing}
 use Rattle.iloc_farm.specs.Schedules.{AreGreedy, AreTheOnlyGreedy, plain_outcomes, timed_outcomes}
 
@@ -40,10 +40,10 @@ simulate_listing lat memory blocks schedules = outcomes_listing blocks (timed_ou
 -- The text is what a request with this task lists of a file's blocks: what comes of each, run plainly or by its greedy
 -- schedule, which is the same; or the greedy schedules, or their cycles, or why they take these. A check lists no file.
 abbrev pub IsListingFor : Task → Request → List Block → List ℕ → Type 0
-IsListingFor task.Run request blocks text = text ≡ run_listing (memory_of request) blocks
+IsListingFor task.Run request blocks text = text ≡ run_listing (initial_memory request) blocks
 IsListingFor task.Simulate request blocks text =
-    ListsGreedy request.latencies blocks (simulate_listing request.latencies (memory_of request) blocks) text
-    × (text ≡ run_listing (memory_of request) blocks)
+    ListsGreedy request.latencies blocks (simulate_listing request.latencies (initial_memory request) blocks) text
+    × (text ≡ run_listing (initial_memory request) blocks)
 IsListingFor task.Schedule request blocks text =
     ListsGreedy request.latencies blocks (schedules_listing request.latencies blocks) text
 IsListingFor task.Counts request blocks text =
@@ -90,7 +90,7 @@ pub record ListsSubmission (request : Request) (input : List ℕ) (finding : Fin
   pub blocks : List Block
   pub proposals : List Proposal
   pub denoted : submissions.Denotes input blocks proposals
-  pub checked : ListsChecked request.latencies (memory_of request) blocks proposals finding text
+  pub checked : ListsChecked request.latencies (initial_memory request) blocks proposals finding text
 
 -- what a request with this task lists of an input and what it finds: of a file it judges nothing
 abbrev pub ListsFor : Task → Request → List ℕ → Finding → List ℕ → Type 0

@@ -1,6 +1,7 @@
 -- The schedules of a file's blocks.
 use Rattle.std.specs.Prelude.{◌≡◌, ℕ, ◌≤◌, ℤ, List, length, [], ◌∷◌, map, slice_get, IfSome}
 use Rattle.std.specs.List.{AllByRecursion}
+use Rattle.iloc_text.specs.declared.limits.TheConstants.{MAX_BLOCKS, MAX_OPS}
 use Rattle.iloc_text.specs.declared.file.Block.{Block}
 use Rattle.iloc_meaning.specs.declared.outcome.Outcome.{Outcome}
 use Rattle.iloc_meaning.specs.Outcome.{outcome}
@@ -9,10 +10,10 @@ use Rattle.iloc_timed.specs.Schedule.{Table}
 use Rattle.iloc_timed.specs.Timed.{timed_outcome}
 use Rattle.iloc_sched.specs.Greedy.{IsGreedy}
 
--- at most 65535 blocks, each of at most 10000 operations, as each file has
+-- at most 65,535 blocks, each of at most 10,000 operations, as each file has
 pub record IsWithinLimits (blocks : List Block) : Type 0 where
-  pub few_blocks : length blocks ≤ 65535
-  pub short_blocks : AllByRecursion (λ (b : Block). length b.ops ≤ 10000) blocks
+  pub few_blocks : length blocks ≤ MAX_BLOCKS
+  pub short_blocks : AllByRecursion (λ (b : Block). length b.ops ≤ MAX_OPS) blocks
 
 -- the schedules are the greedy ones of the blocks, one by one
 abbrev pub AreGreedy : Latencies → List Block → List Table → Type 0

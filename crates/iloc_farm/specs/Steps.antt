@@ -4,5 +4,6 @@ pub mod Detailed
 pub mod Entries
 pub mod Runner
 pub mod OfInput
+pub mod Limits
 pub mod Explaining
 pub mod Checking

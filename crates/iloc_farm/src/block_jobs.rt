@@ -1,6 +1,7 @@
 //! The blocks of a file as the jobs of a board.
 ghost use Rattle.std.specs.Prelude.{◌≤◌, length};
 ghost use Rattle.std.specs.List.{All};
+ghost use Rattle.iloc_text.specs.declared.limits.TheConstants.{MAX_BLOCKS, MAX_OPS};
 
 use iloc_board::{Jobs, NoMemory};
 use iloc_sched::schedule;
@@ -14,8 +15,8 @@ pub struct BlockJobs<'f> {
     /// At most 65,535 blocks, each of at most 10,000 operations.
     pub blocks: &'f [Block],
     pub latencies: Latencies,
-    ghost few: { length blocks.now ≤ 65535 },
-    ghost short: { All (λ b. length b.ops ≤ 10000) blocks.now },
+    ghost few: { length blocks.now ≤ MAX_BLOCKS },
+    ghost short: { All (λ b. length b.ops ≤ MAX_OPS) blocks.now },
 }
 
 impl<'f> Jobs for BlockJobs<'f> {

@@ -1,6 +1,6 @@
 //! The memory that each block starts with.
 ghost use Rattle.std.specs.Prelude.{◌≡◌, IfOk};
-ghost use Rattle.iloc_farm.specs.Initial.{memory_of};
+ghost use Rattle.iloc_farm.specs.Initial.{initial_memory};
 
 use iloc_args::Request;
 use iloc_meaning::Memory;
@@ -9,7 +9,7 @@ use std::alloc::Global;
 
 /// The memory that a request has each block start with: its words from its start on, and else 0.
 pub fn initial_memory(alloc: Global, request: &Request) -> Result<Memory, NoMemory>
-    ensures { IfOk result (λ memory. memory ≡ memory_of request.now) }
+    ensures { IfOk result (λ memory. memory ≡ initial_memory request.now) }
 {
     Memory::with_words(alloc, request.at, &request.words)
 }

@@ -21,9 +21,9 @@ mod listing;
 mod outcomes;
 mod pieces;
 mod program;
+mod routine;
 mod runner;
 mod shift;
-mod task;
 mod totals;
 
 pub use checked::{CheckedText, checked_text};

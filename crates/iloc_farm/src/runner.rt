@@ -6,7 +6,7 @@ ghost use Rattle.iloc_farm.specs.Steps.Runner.{runs};
 
 use iloc_meaning::{Interpreter, Memory};
 use iloc_sched::Scheduler;
-use iloc_text::{Block, NoMemory};
+use iloc_text::{Block, MAX_OPS, NoMemory};
 use iloc_timed::{Latencies, Simulator};
 use std::alloc::Global;
 
@@ -48,7 +48,7 @@ impl Runner {
 
     /// Runs a block. The outcome is the same either way.
     pub(crate) fn run(&mut self, block: &Block) -> Result<(), NoMemory>
-        requires { length block.now.ops ≤ 10000 }
+        requires { length block.now.ops ≤ MAX_OPS }
         ensures memory { OnOk result ((runs self.new).memory ≡ (runs self.old).memory) }
         ensures outcome { OnOk result ((runs self.new).last ≡ outcome block.now.ops (runs self.old).memory) }
     {

@@ -1,10 +1,10 @@
-//! A worker's share of the work, as a task.
+//! A worker's share of the work, as a routine.
 ghost use Rattle.std.specs.Prelude.{◌≡◌, OnOk};
 ghost use Rattle.iloc_board.specs.declared.state.State.TheVariants as about;
 ghost use Rattle.iloc_board.specs.Views.{state};
 ghost use Rattle.iloc_board.specs.Working.{IsDone};
 
-use crate::task::Task;
+use crate::routine::Routine;
 use iloc_board::{Board, Gate, Jobs, NoMemory, Pass, work};
 
 /// A pass that is to work at a board.
@@ -22,7 +22,7 @@ pub struct Worked<'a, J: Jobs> {
     pub done: Result<(), NoMemory>,
 }
 
-impl<'s, 'a, J: Jobs, G: Gate> Task for Shift<'s, 'a, J, G> {
+impl<'s, 'a, J: Jobs, G: Gate> Routine for Shift<'s, 'a, J, G> {
     type Output = Worked<'a, J>;
 
     ghost can_run = { λ s. (s.pass.board ≡ s.board.now) × (state s.pass ≡ about.Free) };

@@ -1,6 +1,5 @@
 -- Terms that name earlier ones alone have a meaning on every memory.
 use Rattle.std.proofs.Common.{◌≡◌, ◌<◌, ◌≤◌, ℕ, zero, suc, ◌+◌, ◌*◌, ◌^◌, ◌%◌, ◌/◌, ◌==◌, ◌&&◌, nat_lt, true, false, if◌then◌else◌, List, length, Option, Some, None, IfSome, unwrap_or, ℤ, pos, negsuc, ◌+ℤ◌, ◌*ℤ◌, All, FitsSigned, w32, arith, rules, refl, sym, ap, ◌∙◌, inl, inr, eq-eqb, ne_eqb}
-use Rattle.std.specs.Prelude.{◌-ℤ◌}
 use Rattle.std.specs.Int.{int_shl, int_shr, cast_unsigned}
 use Rattle.std.proofs.Math.Facts.{sfits_to_z}
 use Rattle.std.specs.Int.Signed.{mag_shr}
@@ -14,7 +13,7 @@ use Rattle.iloc_meaning.specs.Arithmetic.{wrapped, shift_of}
 use Rattle.iloc_meaning.specs.Memory.{word_at}
 use Rattle.iloc_meaning.proofs.Cases.{by_bool}
 use Rattle.iloc_judge.specs.declared.node.Binary.{Binary}
-use Rattle.iloc_judge.specs.declared.node.Binary.TheVariants.{Sum, Difference, Product, ShiftLeft, ShiftRight}
+use Rattle.iloc_judge.specs.declared.node.Binary.TheVariants.{Sum, Product, ShiftLeft, ShiftRight}
 use Rattle.iloc_judge.specs.declared.node.Node.{Node}
 use Rattle.iloc_judge.specs.declared.node.Node.TheVariants.{Known, Offset, Scaled, Combined, Word, Start, Epoch, Empty, Leaf, Fork}
 use Rattle.iloc_judge.specs.Memory.{IsMemory}
@@ -195,7 +194,6 @@ shl_fits z k = sfits_to_z {w = w32} {n = (cast_unsigned w32 z * 2 ^ k) % 2 ^ 32}
 
 computed_fits : (by : Binary) (x y : ℤ) → FitsSigned w32 x → FitsSigned w32 (computed by x y)
 computed_fits Sum x y fits = SFits-int_wrap w32 (x +ℤ y)
-computed_fits Difference x y fits = SFits-int_wrap w32 (x -ℤ y)
 computed_fits Product x y fits = SFits-int_wrap w32 (x *ℤ y)
 computed_fits ShiftLeft x y fits = shl_fits x (shift_of y)
 computed_fits ShiftRight x y fits = shr_fits x (shift_of y) fits

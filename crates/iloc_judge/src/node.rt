@@ -6,8 +6,6 @@ ghost use Rattle.std.specs.Prelude.{◌≡◌};
 pub(crate) enum Binary {
     /// The sum, wrapped to 32 bits.
     Sum,
-    /// The first less the second, wrapped to 32 bits.
-    Difference,
     /// The product, wrapped to 32 bits.
     Product,
     /// The first shifted left by the second modulo 32.
@@ -89,10 +87,9 @@ impl Binary {
     fn key(self) -> u32 {
         match self {
             Binary::Sum => 0,
-            Binary::Difference => 1,
-            Binary::Product => 2,
-            Binary::ShiftLeft => 3,
-            Binary::ShiftRight => 4,
+            Binary::Product => 1,
+            Binary::ShiftLeft => 2,
+            Binary::ShiftRight => 3,
         }
     }
 }

@@ -1,6 +1,7 @@
 -- A text has one answer.
 use Rattle.std.proofs.Common.{◌≡◌, ◌∙◌, ℕ, ◌+◌, ◌<◌, ◌≤◌, List, [], ◌∷◌, ◌++◌, length, refl, sym, ap, ap₂, subst, subst₂, ◌⊎◌, inl, inr, append_assoc, append-nil, arith}
 use Rattle.std.specs.List.{join_with_byte}
+use Rattle.iloc_text.specs.declared.limits.TheConstants.{MAX_INPUT}
 use Rattle.iloc_text.specs.declared.file.Block.{Block}
 use Rattle.iloc_text.specs.declared.fault.ReadFault.{ReadFault}
 use Rattle.iloc_text.specs.declared.fault.ReadFault.TheVariants.{InputTooLong, BadLine, NumberTooLarge, TooManyBlocks, TooManyOperations, NoMemory}
@@ -211,7 +212,7 @@ faulty_of {blocks} {n} {lines} {fault} f =
 -- Texts
 
 abbrev Refusal : List ℕ → RowsFault → Type 0
-Refusal input fault = ((fault ≡ Read InputTooLong) × (16777216 < length input))
+Refusal input fault = ((fault ≡ Read InputTooLong) × (MAX_INPUT < length input))
     ⊎ (((g : ReadFault) × (fault ≡ Read g) × BlocksAreRefused input g) ⊎ RowsAreRefused input fault)
 
 refusal_is : (input : List ℕ) (fault : RowsFault) → IsRefused input fault → Refusal input fault
@@ -226,7 +227,7 @@ refusal_is input (Read (TooManyOperations n)) (inr r) = inr (inr r)
 refusal_is input (Read NoMemory) h = absurd h
 refusal_is input (NoSuchBlock n) h = inr (inr h)
 
-long_and_short : (n : ℕ) → 16777216 < n → n ≤ 16777216 → ⊥
+long_and_short : (n : ℕ) → MAX_INPUT < n → n ≤ MAX_INPUT → ⊥
 long_and_short n h k = omega arith
 
 abbrev front_text : List (List ℕ) → List ℕ

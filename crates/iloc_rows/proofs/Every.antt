@@ -2,6 +2,7 @@
 use Rattle.std.proofs.Common.{◌≡◌, ◌∙◌, ℕ, ◌+◌, ◌<◌, ◌≤◌, nat_lt, Bool, true, false, List, [], ◌∷◌, ◌++◌, length, refl, sym, ap, subst, Option, Some, None, ◌⊎◌, inl, inr, append_assoc, append-nil, arith}
 use Rattle.std.specs.List.{join_with_byte}
 use Rattle.std.proofs.lemmas.Bool.Decides.{nat_tests}
+use Rattle.iloc_text.specs.declared.limits.TheConstants.{MAX_INPUT, MAX_OPS}
 use Rattle.iloc_text.specs.declared.file.Block.{Block}
 use Rattle.iloc_text.specs.declared.fault.ReadFault.TheVariants.{InputTooLong, BadLine, NumberTooLarge, TooManyOperations}
 use Rattle.iloc_text.specs.Files as files
@@ -82,7 +83,7 @@ not_above : (a b : ℕ) → nat_lt a b ≡ false → b ≤ a
 not_above a b h = grind (arith, nat_tests)
 
 by_fit : (blocks : List Block) (said : List Said) (line : List ℕ) (n : ℕ) (s : Said) → Says line s
-    → (there many : Bool) → is_of_block blocks said s ≡ there → nat_lt 10000 (op_count said s) ≡ many
+    → (there many : Bool) → is_of_block blocks said s ≡ there → nat_lt MAX_OPS (op_count said s) ≡ many
     → Judged blocks said line n
 by_fit blocks said line n s says false many t m =
     inl (NoSuchBlock n, (refl, record { said = s; says = says; of_none = t }))
@@ -148,7 +149,7 @@ abbrev Answered : List ℕ → Type 0
 Answered input = ((blocks : List Block) × (proposals : List Proposal) × Denotes input blocks proposals)
     ⊎ ((fault : RowsFault) × IsRefused input fault)
 
-by_rows : (input : List ℕ) → length input ≤ 16777216 → (c : AreCut (lines_of input)) (blocks : List Block)
+by_rows : (input : List ℕ) → length input ≤ MAX_INPUT → (c : AreCut (lines_of input)) (blocks : List Block)
     → files.Denotes (join_with_byte 10 c.before) blocks → Answered input
 by_rows input short c blocks file =
     elim (from_here blocks (length c.before) c.after [] c.after [] refl tt tt) as (λ _. Answered input) [
@@ -180,7 +181,7 @@ by_rows input short c blocks file =
       )
     ]
 
-by_blocks : (input : List ℕ) → length input ≤ 16777216 → (c : AreCut (lines_of input)) → Answered input
+by_blocks : (input : List ℕ) → length input ≤ MAX_INPUT → (c : AreCut (lines_of input)) → Answered input
 by_blocks input short c = elim (files_every.an_answer (join_with_byte 10 c.before)) as (λ _. Answered input) [
   | inl good ↦ by_rows input short c good.0 good.1
   | inr bad ↦ inr (
@@ -196,7 +197,7 @@ by_blocks input short c = elim (files_every.an_answer (join_with_byte 10 c.befor
   )
 ]
 
-by_length : (input : List ℕ) (long : Bool) → nat_lt 16777216 (length input) ≡ long → Answered input
+by_length : (input : List ℕ) (long : Bool) → nat_lt MAX_INPUT (length input) ≡ long → Answered input
 by_length input true e = inr (Read InputTooLong, above _ _ e)
 by_length input false e = by_blocks input (not_above _ _ e) (cut (lines_of input))
 

@@ -8,6 +8,7 @@ use Rattle.iloc_text.specs.declared.file.Block.{Block}
 use Rattle.iloc_text.specs.declared.fault.ReadFault.TheVariants.{InputTooLong, BadLine, NumberTooLarge, TooManyBlocks, TooManyOperations, NoMemory}
 use Rattle.iloc_text.specs.ScheduleLines.{Said}
 use Rattle.iloc_text.specs.ScheduleLines.Said.{nothing, row, head, cycles, total}
+use Rattle.iloc_timed.specs.declared.schedule.TheConstants.{MAX_ROWS}
 use Rattle.iloc_rows.specs.declared.fault.RowsFault.{RowsFault}
 use Rattle.iloc_rows.specs.declared.fault.RowsFault.TheVariants.{Read, NoSuchBlock}
 use Rattle.iloc_rows.specs.declared.proposal.Proposal.{Proposal}
@@ -206,9 +207,9 @@ total_adds {blocks} {ss} {old} t n h = (
 -- Room
 
 pub rows_few : {blocks : List Block} {ss : List Said} {old : Proposing} → HasProposed blocks ss old
-    → length ss < 4000000000 → (i : ℕ) → length (at_place old.proposals.items i).rows < 4000000000
+    → length ss < MAX_ROWS → (i : ℕ) → length (at_place old.proposals.items i).rows < MAX_ROWS
 rows_few {blocks} {ss} {old} h few i =
-    let P : List Proposal → Type 0 = λ ps. length (at_place ps i).rows < 4000000000 in
+    let P : List Proposal → Type 0 = λ ps. length (at_place ps i).rows < MAX_ROWS in
     subst P (sym h.proposals) (elim (split i (length blocks)) [
       | inl lt ↦ (let same = ap (λ p. length p.rows) (at-proposals (length blocks) ss i lt) in
           omega (arith, proposal-short ss (1 + i)))

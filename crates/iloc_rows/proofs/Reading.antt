@@ -1,6 +1,7 @@
 -- What the reader has read of schedule lines, from line to line.
 use Rattle.std.proofs.Common.{◌≡◌, ◌≢◌, ◌∙◌, ℕ, suc, ◌+◌, ◌<◌, ◌≤◌, List, [], ◌∷◌, ◌++◌, length, refl, sym, ap, subst, Option, Some, None, Result, Err, IfErr, append_assoc, append-nil, length-append, Bor, inl, inr, arith}
 use Rattle.std.specs.List.{join_with_byte}
+use Rattle.iloc_text.specs.declared.limits.TheConstants.{MAX_INPUT}
 use Rattle.iloc_text.specs.declared.file.Block.{Block}
 use Rattle.iloc_text.specs.declared.fault.ReadFault.{ReadFault}
 use Rattle.iloc_text.specs.declared.fault.ReadFault.TheVariants.{InputTooLong, BadLine, NumberTooLarge, TooManyBlocks, TooManyOperations, NoMemory}
@@ -9,6 +10,7 @@ use Rattle.iloc_text.specs.Files.{AreLines}
 use Rattle.iloc_text.specs.ScheduleLines.{Said, Says}
 use Rattle.iloc_text.specs.Steps.Lines.{lines_of, lines_left}
 use Rattle.iloc_text.proofs.Splitting.{lines_are, lines_few}
+use Rattle.iloc_timed.specs.declared.schedule.TheConstants.{MAX_ROWS}
 use Rattle.iloc_rows.specs.declared.fault.RowsFault.{RowsFault}
 use Rattle.iloc_rows.specs.declared.fault.RowsFault.TheVariants.{Read, NoSuchBlock}
 use Rattle.iloc_rows.specs.declared.blocks_end.Parts.{Parts}
@@ -91,7 +93,7 @@ progress_number {blocks} {lines} {all} {state} {number} {rest} p =
 
 pub progress_room : {blocks : List Block} {lines : ℕ} {all : List (List ℕ)} {state : Proposing} {number : ℕ}
     {rest : Option (Bor (List ℕ))} (p : Progress blocks lines all state number rest)
-    → lines + length all ≤ 16777217 → length p.said < 4000000000
+    → lines + length all ≤ MAX_INPUT + 1 → length p.said < MAX_ROWS
 progress_room {blocks} {lines} {all} {state} {number} {rest} p few =
     omega (arith, length-SayAll p.before p.said p.say, ap length p.whole, length-append p.before (lines_left rest))
 
@@ -149,7 +151,7 @@ parts_number {input} {parts} a =
     omega (arith, a.count, lines_few input, ap length a.lines, length-append a.before (lines_left parts.rows))
 
 pub denoted : {input : List ℕ} {parts : Parts} (a : ArePartsOf input parts) (blocks : List Block)
-    (proposals : List Proposal) → length input ≤ 16777216 → files.Denotes parts.blocks.now blocks
+    (proposals : List Proposal) → length input ≤ MAX_INPUT → files.Denotes parts.blocks.now blocks
     → Propose blocks (lines_left parts.rows) proposals → Denotes input blocks proposals
 denoted {input} {parts} a blocks proposals short file propose = record {
   short = short;
@@ -195,7 +197,7 @@ rows_refuse input (Read NoMemory) r = absurd r.first.faulty
 rows_refuse input (NoSuchBlock n) r = r
 
 pub blocks_refused : {input : List ℕ} {parts : Parts} (a : ArePartsOf input parts) (fault : ReadFault)
-    → length input ≤ 16777216 → files.IsRefused parts.blocks.now fault → IsRefused input (Read fault)
+    → length input ≤ MAX_INPUT → files.IsRefused parts.blocks.now fault → IsRefused input (Read fault)
 blocks_refused {input} {parts} a fault short h = blocks_refuse input fault (record {
   short = short;
   before = a.before;
@@ -206,7 +208,7 @@ blocks_refused {input} {parts} a fault short h = blocks_refuse input fault (reco
 })
 
 pub rows_refused : {input : List ℕ} {parts : Parts} (a : ArePartsOf input parts) (blocks : List Block)
-    (fault : RowsFault) → length input ≤ 16777216 → files.Denotes parts.blocks.now blocks
+    (fault : RowsFault) → length input ≤ MAX_INPUT → files.Denotes parts.blocks.now blocks
     → HaveFirstFault blocks parts.lines (lines_left parts.rows) fault → IsRefused input fault
 rows_refused {input} {parts} a blocks fault short file h = rows_refuse input fault (record {
   short = short;

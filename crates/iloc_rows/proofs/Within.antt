@@ -2,6 +2,7 @@
 use Rattle.std.proofs.Common.{◌≡◌, ◌∙◌, ℕ, ◌≤◌, inl, inr, List, [], ◌∷◌, ◌++◌, length, map, refl, sym, ap, subst, append_assoc, append-nil, arith}
 use Rattle.std.specs.List.{AllByRecursion, range_with_len}
 use Rattle.std.proofs.lemmas.Bool.{cases_eq}
+use Rattle.iloc_text.specs.declared.limits.TheConstants.{MAX_OPS}
 use Rattle.iloc_text.specs.declared.op.Op.{Op}
 use Rattle.iloc_text.specs.declared.file.Block.{Block}
 use Rattle.iloc_text.specs.ScheduleLines.{Said}
@@ -19,9 +20,9 @@ use Rattle.iloc_rows.proofs.Slots.{numbered_once, numbered_in_range}
 
 -- the rows of each block have at most 10,000 operations
 abbrev AreFew : List Said → Type 0
-AreFew ss = (k : ℕ) → length (ops_in (rows_of k ss)) ≤ 10000
+AreFew ss = (k : ℕ) → length (ops_in (rows_of k ss)) ≤ MAX_OPS
 
-few_rows : (rows rows' : List (Op × Op)) → rows ≡ rows' → length (ops_in rows') ≤ 10000 → length (ops_in rows) ≤ 10000
+few_rows : (rows rows' : List (Op × Op)) → rows ≡ rows' → length (ops_in rows') ≤ MAX_OPS → length (ops_in rows) ≤ MAX_OPS
 few_rows rows rows' e h = omega (arith, ap (λ rs. length (ops_in rs)) e)
 
 few-row : (blocks : List Block) (ss : List Said) (one two : Op) → Fits blocks ss (row one two) → AreFew ss
@@ -70,7 +71,7 @@ submissions_within input blocks proposals d =
       few_blocks = file.0;
       short_blocks = file.1;
       as_many = as_many input blocks proposals d;
-      short_proposals = all_proposed (λ p. length p.ops ≤ 10000) (length blocks) said proposals d.propose.are
+      short_proposals = all_proposed (λ p. length p.ops ≤ MAX_OPS) (length blocks) said proposals d.propose.are
           (few-lines blocks [] said d.propose.fit few-none);
       once = all_proposed _ (length blocks) said proposals d.propose.are (λ k. numbered_once (rows_of k said));
       in_range = all_proposed _ (length blocks) said proposals d.propose.are (λ k. numbered_in_range (rows_of k said));

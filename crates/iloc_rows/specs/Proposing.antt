@@ -3,6 +3,7 @@ use Rattle.std.specs.Prelude.{◌≡◌, ℕ, ◌+◌, ◌-◌, ◌≤◌, max, 
 use Rattle.std.specs.List.{filter_map, flat_map, range_with_len}
 use Rattle.std.specs.Option.{option_map_or}
 use Rattle.std.specs.Str.{bytes_eq}
+use Rattle.iloc_text.specs.declared.limits.TheConstants.{MAX_OPS}
 use Rattle.iloc_text.specs.declared.op.Op.{Op}
 use Rattle.iloc_text.specs.declared.op.Op.TheVariants.{Nop}
 use Rattle.iloc_text.specs.declared.file.Block.{Block}
@@ -141,10 +142,10 @@ op_count lines (head k name) = 0
 op_count lines (cycles c) = 0
 op_count lines (total t) = 0
 
--- the line speaks of a block that is there, and its row makes no more than 10000 operations
+-- the line speaks of a block that is there, and its row makes no more than 10,000 operations
 pub record Fits (blocks : List Block) (lines : List Said) (line : Said) : Type 0 where
   pub of_block : is_of_block blocks lines line ≡ true
-  pub few : op_count lines line ≤ 10000
+  pub few : op_count lines line ≤ MAX_OPS
 
 -- so does each further line
 abbrev pub AllFit : List Block → List Said → List Said → Type 0

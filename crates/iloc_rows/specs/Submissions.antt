@@ -1,6 +1,7 @@
 -- Which blocks and proposals a text denotes, and which refusal.
 use Rattle.std.specs.Prelude.{◌≡◌, ℕ, ◌+◌, ◌≤◌, ◌<◌, false, true, List, [], ◌∷◌, ◌++◌, length, ◌⊎◌}
 use Rattle.std.specs.List.{AllByRecursion, join_with_byte}
+use Rattle.iloc_text.specs.declared.limits.TheConstants.{MAX_INPUT, MAX_OPS}
 use Rattle.iloc_text.specs.declared.file.Block.{Block}
 use Rattle.iloc_text.specs.declared.fault.ReadFault.{ReadFault}
 use Rattle.iloc_text.specs.declared.fault.ReadFault.TheVariants.{InputTooLong, BadLine, NumberTooLarge, TooManyBlocks, TooManyOperations, NoMemory}
@@ -39,7 +40,7 @@ pub record Propose (blocks : List Block) (lines : List (List ℕ)) (proposals : 
 
 -- the bytes denote the blocks and what is proposed for them
 pub record Denotes (input : List ℕ) (blocks : List Block) (proposals : List Proposal) : Type 0 where
-  pub short : length input ≤ 16777216
+  pub short : length input ≤ MAX_INPUT
   pub before : List (List ℕ)
   pub after : List (List ℕ)
   pub are_lines : AreLines input (before ++ after)
@@ -59,7 +60,7 @@ pub record HoldsTooManyOperations (blocks : List Block) (lines : List Said) (lin
   pub said : Said
   pub says : Says line said
   pub of_block : is_of_block blocks lines said ≡ true
-  pub many : 10000 < op_count lines said
+  pub many : MAX_OPS < op_count lines said
 
 -- line n, behind schedule lines that say this, has this fault
 abbrev pub IsFaulty : List Block → List Said → List ℕ → ℕ → RowsFault → Type 0
@@ -85,7 +86,7 @@ pub record HaveFirstFault (blocks : List Block) (n : ℕ) (lines : List (List �
 
 -- the text is refused in its blocks
 pub record BlocksAreRefused (input : List ℕ) (fault : ReadFault) : Type 0 where
-  pub short : length input ≤ 16777216
+  pub short : length input ≤ MAX_INPUT
   pub before : List (List ℕ)
   pub after : List (List ℕ)
   pub are_lines : AreLines input (before ++ after)
@@ -94,7 +95,7 @@ pub record BlocksAreRefused (input : List ℕ) (fault : ReadFault) : Type 0 wher
 
 -- the text is refused behind its blocks
 pub record RowsAreRefused (input : List ℕ) (fault : RowsFault) : Type 0 where
-  pub short : length input ≤ 16777216
+  pub short : length input ≤ MAX_INPUT
   pub before : List (List ℕ)
   pub after : List (List ℕ)
   pub are_lines : AreLines input (before ++ after)
@@ -105,7 +106,7 @@ pub record RowsAreRefused (input : List ℕ) (fault : RowsFault) : Type 0 where
 
 -- the refusal that the bytes denote
 abbrev pub IsRefused : List ℕ → RowsFault → Type 0
-IsRefused input (Read InputTooLong) = 16777216 < length input
+IsRefused input (Read InputTooLong) = MAX_INPUT < length input
 IsRefused input (Read (BadLine n)) = BlocksAreRefused input (BadLine n) ⊎ RowsAreRefused input (Read (BadLine n))
 IsRefused input (Read (NumberTooLarge n)) =
     BlocksAreRefused input (NumberTooLarge n) ⊎ RowsAreRefused input (Read (NumberTooLarge n))

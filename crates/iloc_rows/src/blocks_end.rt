@@ -4,7 +4,7 @@ ghost use Rattle.iloc_text.specs.ScheduleLines.{IsScheduleLine, said_of};
 ghost use Rattle.iloc_rows.specs.Steps.Ends.{is_nothing, ArePartsOf};
 
 use crate::line_ends::split_line;
-use iloc_text::{LineFault, ScheduleLine, read_schedule_line};
+use iloc_text::{LineFault, MAX_INPUT, ScheduleLine, read_schedule_line};
 
 /// A text, cut before its first schedule line.
 #[derive(Clone, Copy)]
@@ -37,7 +37,7 @@ fn is_schedule_line(line: &[u8]) -> bool
 
 /// Cuts the text before its first schedule line.
 pub fn parts_of(input: &[u8]) -> Parts<'_>
-    requires { length input.now ≤ 16777216 }
+    requires { length input.now ≤ MAX_INPUT }
     ensures { ArePartsOf input.now result }
 {
     let mut lines = 0;

@@ -9,7 +9,7 @@ use crate::fault::RowsFault;
 use crate::proposal::{Proposal, Rows};
 use crate::proposing::Proposing;
 use iloc_text::{Block, MAX_OPS, Name, NoMemory, Op, Ops, ReadFault, ScheduleLine};
-use iloc_timed::Row;
+use iloc_timed::{MAX_ROWS, Row};
 use std::alloc::Global;
 
 /// A `nop` stands for an empty slot.
@@ -68,7 +68,7 @@ impl Proposal {
 
     /// Adds a row.
     fn push_row(&mut self, zero: Op, one: Op) -> Result<(), NoMemory>
-        requires { length self.old.rows < 4000000000 }
+        requires { length self.old.rows < MAX_ROWS }
         ensures { OnOk result (self.new ≡ with_row self.old zero one) }
     {
         let zero = self.push_slot(zero)?;
@@ -108,7 +108,7 @@ impl Proposing {
     /// Adds a row to what is proposed for the block at this place.
     fn push_row(&mut self, i: usize, zero: Op, one: Op) -> Result<(), NoMemory>
         requires within { i < vec_len self.old.proposals }
-        requires room { length (at_place self.old.proposals.items i).rows < 4000000000 }
+        requires room { length (at_place self.old.proposals.items i).rows < MAX_ROWS }
         ensures proposals { OnOk result (self.new.proposals.items
             ≡ slice_set self.old.proposals.items i (with_row (at_place self.old.proposals.items i) zero one)) }
         ensures last { self.new.last ≡ self.old.last }
@@ -129,7 +129,7 @@ impl Proposing {
 
     /// Adds a row on the line with this number.
     fn add_row(&mut self, zero: Op, one: Op, number: u32) -> Result<(), RowsFault>
-        requires { (i : ℕ) → length (at_place self.old.proposals.items i).rows < 4000000000 }
+        requires { (i : ℕ) → length (at_place self.old.proposals.items i).rows < MAX_ROWS }
         ensures { RowAdds self.old zero one number self.new result }
     {
         let Some(i) = self.place() else {
@@ -178,7 +178,7 @@ impl Proposing {
         line: ScheduleLine<'_>,
         number: u32,
     ) -> Result<(), RowsFault>
-        requires { (lines : List Said) × HasProposed blocks.now lines self.old × (length lines < 4000000000) }
+        requires { (lines : List Said) × HasProposed blocks.now lines self.old × (length lines < MAX_ROWS) }
         ensures { (lines : List Said) → HasProposed blocks.now lines self.old →
             Adds blocks.now lines (said_of line.entry) number self.new result }
     {

@@ -29,7 +29,7 @@ fn read_proposals(
     rows: Option<&[u8]>,
     lines: u32,
 ) -> Result<Proposals, RowsFault>
-    requires { lines + length (lines_left rows) ≤ 16777217 }
+    requires { lines + length (lines_left rows) ≤ MAX_INPUT + 1 }
     ensures ok { IfOk result (Propose blocks.now (lines_left rows.entry)) }
     ensures err { IfErr result (λ fault. fault ≢ read no_memory →
         HaveFirstFault blocks.now lines (lines_left rows.entry) fault) }

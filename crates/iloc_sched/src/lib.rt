@@ -24,3 +24,4 @@ pub use lower_bound::least;
 pub use priority::priorities;
 pub use renaming::rename;
 pub use scheduler::{Scheduler, schedule};
+pub use wheel::LONGEST_DELAY;

@@ -1,6 +1,7 @@
 pub mod Forms
 pub mod Registers
 pub mod Spelling
+pub mod Columns
 pub mod Grammar
 pub mod Fault
 pub mod Files

@@ -1,6 +1,7 @@
 //! The text of ILOC: its operations and files, how they are read, and how they are spelled.
 #![tactic(auto)]
 
+mod column;
 mod copies;
 mod fault;
 mod file;
@@ -20,6 +21,7 @@ mod schedule_line;
 mod spelling;
 mod taker;
 
+pub use column::{push_column, push_decimal};
 pub use fault::{NoMemory, ReadFault};
 pub use file::{Block, Blocks, IlocFile, Name, Ops};
 pub use limits::{MAX_BLOCKS, MAX_INPUT, MAX_NUMBER, MAX_OPS};

@@ -9,6 +9,7 @@ use Rattle.iloc_check.specs.declared.checked.Checked.{Checked}
 use Rattle.iloc_farm.specs.declared.totals.Totals.{Totals}
 use Rattle.iloc_farm.specs.Checking.{IsJudged, Judged, judged_entries}
 use Rattle.iloc_farm.specs.Schedules.{AreGreedy}
+use Rattle.iloc_farm.specs.Steps.Limits.{most_cycles, most_proposed_cycles}
 
 -- what was found of these together
 abbrev pub totals_of : List Judged → Totals
@@ -38,15 +39,15 @@ totals_text t =
 
 -- the numbers of one proposal are small
 pub record IsSmall (c : Checked) : Type 0 where
-  pub cycles : c.cycles ≤ 4000000016
-  pub ours : c.ours ≤ 160000
-  pub least : c.least ≤ 160000
+  pub cycles : c.cycles ≤ most_proposed_cycles
+  pub ours : c.ours ≤ most_cycles
+  pub least : c.least ≤ most_cycles
 
 -- so many blocks take few cycles together
 pub record AreFew (t : Totals) : Type 0 where
-  pub cycles : t.cycles ≤ 4000000016 * t.blocks
-  pub ours : t.ours ≤ 160000 * t.blocks
-  pub least : t.least ≤ 160000 * t.blocks
+  pub cycles : t.cycles ≤ most_proposed_cycles * t.blocks
+  pub ours : t.ours ≤ most_cycles * t.blocks
+  pub least : t.least ≤ most_cycles * t.blocks
 
 -- the text has the entries of the first blocks, for which this was found, and these proposals are left
 pub record IsCheckedTo (lat : Latencies) (memory : List ℤ) (blocks : List Block) (proposals left : List Proposal)

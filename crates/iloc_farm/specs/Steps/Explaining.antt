@@ -6,6 +6,7 @@ use Rattle.iloc_timed.specs.Schedule.{Table}
 use Rattle.iloc_farm.specs.Explaining.{AreExplainedEntries}
 use Rattle.iloc_farm.specs.Listing.{total_cycles}
 use Rattle.iloc_farm.specs.Schedules.{AreGreedy}
+use Rattle.iloc_farm.specs.Steps.Limits.{most_cycles}
 
 -- the text has the entries of the first n blocks, whose schedules take so many cycles together
 pub record IsExplainedTo (lat : Latencies) (blocks : List Block) (n : ℕ) (text : List ℕ) (total : ℕ) : Type 0 where
@@ -13,4 +14,4 @@ pub record IsExplainedTo (lat : Latencies) (blocks : List Block) (n : ℕ) (text
   pub greedy : AreGreedy lat (take n blocks) schedules
   pub explained : AreExplainedEntries lat 1 (take n blocks) schedules text
   pub sum : total ≡ total_cycles lat schedules
-  pub small : total ≤ 160000 * n
+  pub small : total ≤ most_cycles * n

@@ -6,7 +6,7 @@ use Rattle.iloc_meaning.specs.Address.{good_address}
 use Rattle.iloc_meaning.specs.Arithmetic.{wrapped, shifted_left, shifted_right}
 use Rattle.iloc_meaning.specs.Memory.{word_at}
 use Rattle.iloc_judge.specs.declared.node.Binary.{Binary}
-use Rattle.iloc_judge.specs.declared.node.Binary.TheVariants.{Sum, Difference, Product, ShiftLeft, ShiftRight}
+use Rattle.iloc_judge.specs.declared.node.Binary.TheVariants.{Sum, Product, ShiftLeft, ShiftRight}
 use Rattle.iloc_judge.specs.declared.tries.Found.{Found}
 use Rattle.iloc_judge.specs.declared.tries.Found.TheVariants.{Term, Nothing, Untold}
 use Rattle.iloc_judge.specs.declared.memories.Seen.{Seen}
@@ -31,7 +31,6 @@ key_of base z = cast_unsigned w32 (wrapped (z -ℤ base))
 
 abbrev pub computed : Binary → ℤ → ℤ → ℤ
 computed Sum x y = wrapped (x +ℤ y)
-computed Difference x y = wrapped (x -ℤ y)
 computed Product x y = wrapped (x *ℤ y)
 computed ShiftLeft x y = shifted_left x y
 computed ShiftRight x y = shifted_right x y

@@ -1,5 +1,6 @@
 -- How what is proposed grows by one line.
 use Rattle.std.specs.Prelude.{◌≡◌, ℕ, ◌+◌, ◌-◌, ◌≤◌, ◌<◌, nat_lt, ◌==◌, ◌&&◌, true, false, if◌then◌else◌, Option, Some, None, Result, Ok, Err, List, [], ◌∷◌, ◌++◌, length, slice_index_or, slice_set}
+use Rattle.iloc_text.specs.declared.limits.TheConstants.{MAX_OPS}
 use Rattle.iloc_text.specs.declared.op.Op.{Op}
 use Rattle.iloc_text.specs.declared.file.Block.{Block}
 use Rattle.iloc_text.specs.declared.fault.ReadFault.TheVariants.{InputTooLong, BadLine, NumberTooLarge, TooManyBlocks, TooManyOperations, NoMemory}
@@ -46,7 +47,7 @@ Adds blocks lines said number state (Err (Read (BadLine n))) = ⊥
 Adds blocks lines said number state (Err (Read (NumberTooLarge n))) = ⊥
 Adds blocks lines said number state (Err (Read (TooManyBlocks n))) = ⊥
 Adds blocks lines said number state (Err (Read (TooManyOperations n))) =
-    (n ≡ number) × (is_of_block blocks lines said ≡ true) × (10000 < op_count lines said)
+    (n ≡ number) × (is_of_block blocks lines said ≡ true) × (MAX_OPS < op_count lines said)
 Adds blocks lines said number state (Err (Read NoMemory)) = Unit {0}
 Adds blocks lines said number state (Err (NoSuchBlock n)) = (n ≡ number) × (is_of_block blocks lines said ≡ false)
 
@@ -55,14 +56,14 @@ abbrev pub RowAdds : Proposing → Op → Op → ℕ → Proposing → Result (U
 RowAdds old zero one number new (Ok done) =
     (i : ℕ) × (place old.last (length old.proposals.items) ≡ Some i)
     × (new.proposals.items ≡ slice_set old.proposals.items i (with_row (at_place old.proposals.items i) zero one))
-    × (new.last ≡ old.last) × (length (with_row (at_place old.proposals.items i) zero one).ops ≤ 10000)
+    × (new.last ≡ old.last) × (length (with_row (at_place old.proposals.items i) zero one).ops ≤ MAX_OPS)
 RowAdds old zero one number new (Err (Read InputTooLong)) = ⊥
 RowAdds old zero one number new (Err (Read (BadLine n))) = ⊥
 RowAdds old zero one number new (Err (Read (NumberTooLarge n))) = ⊥
 RowAdds old zero one number new (Err (Read (TooManyBlocks n))) = ⊥
 RowAdds old zero one number new (Err (Read (TooManyOperations n))) =
     (n ≡ number) × (i : ℕ) × (place old.last (length old.proposals.items) ≡ Some i)
-    × (10000 < length (with_row (at_place old.proposals.items i) zero one).ops)
+    × (MAX_OPS < length (with_row (at_place old.proposals.items i) zero one).ops)
 RowAdds old zero one number new (Err (Read NoMemory)) = Unit {0}
 RowAdds old zero one number new (Err (NoSuchBlock n)) =
     (n ≡ number) × (place old.last (length old.proposals.items) ≡ None)

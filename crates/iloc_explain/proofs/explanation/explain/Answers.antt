@@ -1,4 +1,5 @@
 use Rattle.std.proofs.Common.{◌≡◌, ◌<◌, ◌≤◌, length, slice_index, ap, arith}
+use Rattle.iloc_sched.specs.declared.wheel.TheConstants.{LONGEST_DELAY}
 use Rattle.iloc_sched.proofs.PriorityValues.Longest.{length-priorities}
 use Rattle.iloc_timed.proofs.Arrivals.{issued_within}
 use Rattle.iloc_timed.specs.Rows.{issue_cycle, row_at}
@@ -39,7 +40,7 @@ overflow_add-cycle c =
     noted_cycle _ _ _ _ _ c.index-cycle.ensures c.in_ok-cycles.ensures.size known c.in_ok-cycles.ensures.each in
     let within : issue_cycle c.args.schedule.now.rows c.loop-j.j < length c.args.schedule.now.rows =
     issued_within c.args.schedule.now.ops c.args.schedule.now.rows c.loop-j.j known c.ops-ops.ensures.table in
-    let short : c.latency.result ≤ 16 = c.latency.ensures.within.1 in
+    let short : c.latency.result ≤ LONGEST_DELAY = c.latency.ensures.within.1 in
     omega (arith, c.rows-rows.ensures.few)
 
 pub note-requires : goal.note-requires

@@ -5,7 +5,7 @@ use Rattle.iloc_board.specs.Views.{state}
 use Rattle.iloc_board.specs.Working.{IsDone}
 use Rattle.iloc_farm.specs.declared.shift.Shift.{Shift}
 use Rattle.iloc_farm.specs.declared.shift.Worked.{Worked}
-use Rattle.iloc_farm.proofs.Tasks as rows
+use Rattle.iloc_farm.proofs.Routines as routines
 use Rattle.iloc_farm.proofs.Gathered as wholes
 use Rattle.iloc_farm.proofs.answering.answer_all.Goals as goal
 
@@ -15,12 +15,12 @@ gather_all-requires-clause-each g c =
     × (s.board.now ≡ c.in_ok-board.board) × (state s.pass ≡ about.Free) in
     let done = λ (w : Worked g.row.J.Denot g.row.J-Answer.Denot). (w.pass.board ≡ c.in_ok-board.board)
     × OnOk w.done (IsDone w.pass.journal) in
-    rows.All-zip _ ready done (λ s w r p. (r.0 ∙ p.1, r.2)) _ _ c.in_ok-worked.ensures c.in_ok-shifts.ensures.ready
+    routines.All-zip _ ready done (λ s w r p. (r.0 ∙ p.1, r.2)) _ _ c.in_ok-worked.ensures c.in_ok-shifts.ensures.ready
 
 pub finish-requires-clause-whole : goal.finish-requires-clause-whole
 finish-requires-clause-whole g c =
     let made : c.gather_all.new.root.made ≡ c.shifts.new.root.made = c.gather_all.ensures.made in
-    let workers = rows.map-zip _ (λ (s : Shift g.row.J.Denot g.row.G.Denot g.row.J-Answer.Denot). s.pass.journal.worker)
+    let workers = routines.map-zip _ (λ (s : Shift g.row.J.Denot g.row.G.Denot g.row.J-Answer.Denot). s.pass.journal.worker)
     (λ (w : Worked g.row.J.Denot g.row.J-Answer.Denot). w.pass.journal.worker) (λ s w r. r.1) _ _
     c.in_ok-worked.ensures in
     let gathered = c.in_ok-gather_all.ensures.gathered

@@ -3,7 +3,7 @@ use Rattle.std.proofs.lemmas.List.Elements.{All-rest, All-same}
 use Rattle.std.proofs.lemmas.Result.{on_ok_weaker}
 use Rattle.iloc_board.specs.Working.{IsDone}
 use Rattle.iloc_farm.specs.declared.shift.Worked.{Worked}
-use Rattle.iloc_farm.proofs.Tasks as rows
+use Rattle.iloc_farm.proofs.Routines as routines
 use Rattle.iloc_farm.proofs.answering.gather_all.Goals as goal
 
 pub loop-shift-init : goal.loop-shift-init
@@ -42,9 +42,9 @@ loop-shift-preserved g c =
       own = c.in_default.ensures.own;
       made = c.in_default.ensures.made ∙ c.loop-shift.invariant.made;
       each = All-rest ready _ _ _ c.in-Some.ensures.steps.0 c.loop-shift.invariant.each;
-      gathered = on_ok_weaker c.loop-shift.all (λ h. rows.gathered_more (λ w. w.pass.journal) _ _ _ _ _ _ h
+      gathered = on_ok_weaker c.loop-shift.all (λ h. routines.gathered_more (λ w. w.pass.journal) _ _ _ _ _ _ h
           c.in_default.ensures.ok.0 c.in-Some.ensures.steps.0) c.loop-shift.invariant.gathered;
-      done = on_ok_weaker c.loop-shift.all (λ h. rows.done_more done _ _ _ _ h c.in_default.ensures.ok.1
+      done = on_ok_weaker c.loop-shift.all (λ h. routines.done_more done _ _ _ _ h c.in_default.ensures.ok.1
           c.in-Some.ensures.steps.0) c.loop-shift.invariant.done;
     }
 
@@ -53,4 +53,4 @@ returns-clause-done g c =
     let done = λ (w : Worked g.row.J.Denot g.row.J-Answer.Denot). IsDone w.pass.journal in
     let rest = c.loop-shift.shift-iterator.rest in
     let none : length rest.items ≡ 0 = sym rest.ok.0 ∙ c.in-None.ensures.steps.0 in
-    on_ok_weaker c.loop-shift.all (rows.done_all done rest.items _ none) c.loop-shift.invariant.done
+    on_ok_weaker c.loop-shift.all (routines.done_all done rest.items _ none) c.loop-shift.invariant.done

@@ -2,7 +2,7 @@ use Rattle.std.proofs.Common.{◌≡◌, ◌≤◌, ap, ◌∙◌, refl, arith}
 use Rattle.iloc_board.specs.declared.state.State.TheVariants as about
 use Rattle.iloc_board.specs.Views.{state}
 use Rattle.iloc_farm.specs.declared.shift.Shift.{Shift}
-use Rattle.iloc_farm.proofs.Tasks as rows
+use Rattle.iloc_farm.proofs.Routines as routines
 use Rattle.iloc_farm.proofs.answering.shifts.Goals as goal
 
 pub loop-made-preserved : goal.loop-made-preserved
@@ -17,11 +17,11 @@ loop-made-preserved g c =
       workers = workers ∙ c.loop-made.invariant.workers;
       within = within;
       gathered = ap (λ r. r.gathered) c.pass-pass.ensures.root ∙ c.loop-made.invariant.gathered;
-      ready = rows.all_more ready _ _ _ c.in_ok-push.ensures.items c.loop-made.invariant.ready (
+      ready = routines.all_more ready _ _ _ c.in_ok-push.ensures.items c.loop-made.invariant.ready (
         ap (λ p. p.board) c.pass-pass.ensures.pass ∙ c.loop-made.invariant.own,
         refl,
         ap state c.pass-pass.ensures.pass,
       );
-      numbered = rows.numbered_more (λ s. s.pass.journal.worker) _ _ _ _ _ c.in_ok-push.ensures.items
+      numbered = routines.numbered_more (λ s. s.pass.journal.worker) _ _ _ _ _ c.in_ok-push.ensures.items
           c.loop-made.invariant.numbered (ap (λ p. p.journal.worker) c.pass-pass.ensures.pass) made;
     }

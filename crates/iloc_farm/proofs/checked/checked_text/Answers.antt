@@ -1,4 +1,5 @@
 use Rattle.std.proofs.Common.{arith, ◌≡◌, ◌<◌, ◌≤◌, ◌+◌, ◌++◌, length, get_or, ap, sym, ◌∙◌, subst}
+use Rattle.iloc_text.specs.declared.limits.TheConstants.{MAX_BLOCKS, MAX_OPS}
 use Rattle.iloc_timed.specs.Schedule.{AreInRange, AreOnce}
 use Rattle.iloc_rows.specs.declared.proposal.Proposal.{Proposal}
 use Rattle.iloc_farm.specs.Checking.{ListsChecked}
@@ -57,7 +58,7 @@ add-requires c =
     let block = c.index-as_slice-totals.result in
     let read : block ≡ get_or c.args.submission.blocks c.loop-proposal.totals.blocks block =
     rw c.as_slice.ensures at c.index-as_slice-totals.is in
-    let short : length block.ops ≤ 10000 =
+    let short : length block.ops ≤ MAX_OPS =
     short_next c.args.latencies.now c.args.memory.now c.args.submission.blocks c.args.submission.proposals
     c.loop-proposal.proposal-iterator.rest.items c.next.new.self.rest.items c.in-Some.proposal c.loop-proposal.text.items
     c.loop-proposal.totals c.in-Some.ensures.steps.0 c.loop-proposal.invariant c.requires.as_many c.requires.short_blocks
@@ -69,7 +70,7 @@ add-requires c =
     short
     c.as_slice-in-loop-proposal.ensures.few in
     let few = c.loop-proposal.invariant.few in
-    let most : length c.args.submission.blocks ≤ 65535 = c.requires.few_blocks in
+    let most : length c.args.submission.blocks ≤ MAX_BLOCKS = c.requires.few_blocks in
     record { blocks = omega arith; cycles = omega arith; ours = omega arith; least = omega arith }
 
 pub loop-proposal-preserved : goal.loop-proposal-preserved
@@ -81,7 +82,7 @@ loop-proposal-preserved c =
     let block = c.index-as_slice-totals.result in
     let read : block ≡ get_or c.args.submission.blocks c.loop-proposal.totals.blocks block =
     rw c.as_slice.ensures at c.index-as_slice-totals.is in
-    let short : length block.ops ≤ 10000 =
+    let short : length block.ops ≤ MAX_OPS =
     short_next c.args.latencies.now c.args.memory.now c.args.submission.blocks c.args.submission.proposals
     c.loop-proposal.proposal-iterator.rest.items c.next.new.self.rest.items c.in-Some.proposal c.loop-proposal.text.items
     c.loop-proposal.totals c.in-Some.ensures.steps.0 c.loop-proposal.invariant c.requires.as_many c.requires.short_blocks

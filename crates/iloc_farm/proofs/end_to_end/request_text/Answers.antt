@@ -1,7 +1,7 @@
 use Rattle.std.proofs.Common.{◌≡◌, ◌∙◌, ap, subst, sym}
 use Rattle.iloc_text.specs.Files.{Denotes}
 use Rattle.iloc_args.specs.declared.request.Task.{Task}
-use Rattle.iloc_farm.specs.Initial.{memory_of}
+use Rattle.iloc_farm.specs.Initial.{initial_memory}
 use Rattle.iloc_farm.specs.Run.{ListsFor, run_listing}
 use Rattle.iloc_farm.specs.declared.end_to_end.Listed.{Listed}
 use Rattle.iloc_farm.proofs.Simulated.{simulated}
@@ -13,7 +13,7 @@ returns-in_ok-text-in-Simulate-clause-ok g c =
     let listed = c.in_ok-text-in-Simulate.ensures.ok in
     let blocks = listed.0 in
     let made = c.of_file-in-Simulate.result in
-    let whole : made.text ≡ run_listing (memory_of request) blocks =
+    let whole : made.text ≡ run_listing (initial_memory request) blocks =
     ap (λ (l : Listed). l.text) c.of_file-in-Simulate.ensures ∙ c.new-in-Simulate.ensures ∙ listed.2
     ∙ ap (λ memory. run_listing memory blocks) (c.in_ok-runner-in-Simulate.ensures
     ∙ c.in_ok-memory-in-Simulate.ensures) in
@@ -23,7 +23,7 @@ returns-in_ok-text-in-Simulate-clause-ok g c =
         blocks = blocks;
         denoted = subst (λ input. Denotes input blocks) c.deref-in-Simulate.ensures.value listed.1;
         listed = rw c.in-Simulate.is (
-          simulated request.latencies (memory_of request) blocks made.text whole,
+          simulated request.latencies (initial_memory request) blocks made.text whole,
           whole,
         );
         farmed = rw c.in-Simulate.is tt;

@@ -2,6 +2,7 @@ use Rattle.std.proofs.Common.{rules, arith, ◌≡◌, ◌<◌, ◌≤◌, ◌+�
 use Rattle.std.specs.Prelude.{codes}
 use Rattle.std.specs.Fmt.{decimal}
 use Rattle.iloc_farm.specs.Listing.{block_head, cycles_of}
+use Rattle.iloc_farm.specs.Steps.Limits.{most_cycles}
 use Rattle.iloc_farm.proofs.Explanations.{all_explained, none_explained, one_explained, short_at}
 use Rattle.iloc_farm.proofs.Schedules.{cycles_few}
 use Rattle.iloc_farm.proofs.explained.explained_text.Goals as goal
@@ -15,7 +16,7 @@ overflow_add-total c =
     let read : c.block-item.result ≡ get_or c.args.file.now.blocks c.loop-index.index c.block-item.result =
     rw c.as_slice-block-items.ensures at c.block-item.is in
     let short = short_at c.args.file.now.blocks c.loop-index.index c.block-item.result c.requires.short_blocks within read in
-    let few : cycles_of c.args.latencies.now c.in_ok-schedule.schedule ≤ 160000 =
+    let few : cycles_of c.args.latencies.now c.in_ok-schedule.schedule ≤ most_cycles =
     cycles_few c.args.latencies.now c.block-item.result.ops c.in_ok-schedule.schedule c.in_ok-schedule.ensures.greedy short in
     rw c.cycles-total.ensures (omega (arith, c.loop-index.invariant.small, c.requires.few_blocks))
 

@@ -1,4 +1,4 @@
--- Lists of tasks, of what they gave, and of journals.
+-- Lists of routines, of what they gave, and of journals.
 use Rattle.std.proofs.Common.{◌≡◌, ℕ, zero, suc, ◌+◌, ◌<◌, List, [], ◌∷◌, ◌++◌, map, length, refl, ap, sym, ◌∙◌, subst, arith}
 use Rattle.std.specs.Prelude.{slice_index_or}
 use Rattle.std.proofs.lemmas.List.{append_assoc, map-append}
@@ -12,7 +12,7 @@ range-more a (suc n) = ap (λ t. a ∷ t) (range-more (a + 1) n
     ∙ ap (λ m. range_with_len (a + 1) n ++ m ∷ []) (let e : a + 1 + n ≡ a + suc n = omega arith in e))
 
 module _ {S W : Type 0} (R : S → W → Type 0) where
-  -- what holds of each task tells of what it gave
+  -- what holds of each routine tells of what it gave
   pub All-zip : (P : S → Type 0) (Q : W → Type 0) → ((s : S) (w : W) → R s w → P s → Q w) → (ss : List S) (ws : List W)
       → AllZip R ss ws → All P ss → All Q ws
   All-zip P Q f [] [] z h = All-nil Q

@@ -1,0 +1,13 @@
+-- How many cycles schedules take at most.
+use Rattle.std.specs.Prelude.{ℕ, ◌+◌, ◌*◌}
+use Rattle.iloc_text.specs.declared.limits.TheConstants.{MAX_OPS}
+use Rattle.iloc_timed.specs.declared.schedule.TheConstants.{MAX_ROWS}
+use Rattle.iloc_sched.specs.declared.wheel.TheConstants.{LONGEST_DELAY}
+
+-- the greedy schedule of a block: the longest latency for each operation
+abbrev pub most_cycles : ℕ
+most_cycles = LONGEST_DELAY * MAX_OPS
+
+-- any schedule: it ends within the longest latency behind its rows
+abbrev pub most_proposed_cycles : ℕ
+most_proposed_cycles = MAX_ROWS + LONGEST_DELAY
