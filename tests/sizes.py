@@ -19,10 +19,11 @@ from verdicts import NOT_SAME
 TIMES = 3
 # At the usual latencies, for processor time and for memory held. The first holds on slow machines too.
 MOST_MS = 10_000
-MOST_MIB = 512
-# The greatest latency, and an address space that its longest schedules don't fit into.
+MOST_MIB = 286    # 300 MB
+# The greatest latency, and an address space that the listing of its longest schedules doesn't fit into, though their
+# rows are counted there.
 SLOWEST = 16
-LITTLE = 256 * 1024 * 1024
+LITTLE = 80 * 1024 * 1024
 HEAD = "command   input                         status        ms  x even      MiB  x even  first bytes"
 ROW = "{:9} {:28} {:>7} {:>9.0f} {:>7.2f} {:>8.1f} {:>7.2f}  {}"
 
@@ -236,6 +237,7 @@ class Table:
             self.show(command, "chained loads, 16 cycles", got)
             if got.status != 0 or not is_made_of(got.output, slow_listing(command, text.count(b":"))):
                 yield f"{command}: status {got.status}, or another listing"
+            yield from excess(command, got)
 
 
 def slow_listing(command, blocks):
@@ -294,6 +296,11 @@ def misfits(command, got, given):
     start = front(got.output if given.status in (0, NOT_SAME) else got.output + ".err")
     if got.status != given.status or not start.startswith(given.starts[command]):
         yield f"{command}: status {got.status}, {start[:60]!r}"
+    yield from excess(command, got)
+
+
+def excess(command, got):
+    """Where a run used too much."""
     if got.processor_ms > MOST_MS:
         yield f"{command}: {got.processor_ms:.0f} ms"
     if got.mebibytes > MOST_MIB:

@@ -13,3 +13,4 @@ pub mod Idle
 pub mod Headline
 pub mod Listings
 pub mod Entries
+pub mod Unfolded

@@ -2,6 +2,7 @@
 pub mod Answered
 pub mod Detailed
 pub mod Entries
+pub mod Folded
 pub mod Runner
 pub mod OfInput
 pub mod Limits

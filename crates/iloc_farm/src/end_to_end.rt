@@ -149,6 +149,7 @@ pub fn run<H: Threads + Wait + Sync, R: Read, W: Write>(
 {
     let input = read_input(alloc, reader)?;
     let listed = request_text(rt, alloc, input, request)?;
-    listed.text.write_to(writer)?;
-    Ok(listed.finding)
+    let Listed { text, finding } = listed;
+    text.write_to(writer)?;
+    Ok(finding)
 }

@@ -4,19 +4,25 @@ ghost use Rattle.std.specs.List.{flat_map};
 ghost use Rattle.iloc_farm.specs.Listing.{total_of};
 ghost use Rattle.iloc_farm.specs.Steps.Entries.{IsEntry};
 
+use crate::folded::Folded;
 use crate::listing::{Detail, push_schedule, push_total};
 use crate::pieces::Pieces;
 use iloc_sched::Scheduler;
 use iloc_text::{Block, NoMemory};
-use iloc_timed::{Latencies, MAX_ROWS, cycles};
+use iloc_timed::{Latencies, MAX_ROWS, Schedule, cycles};
 use std::alloc::Global;
 
 /// What is listed of one block.
 #[derive(Drop)]
 pub struct Entry {
-    pub text: Vec<u8>,
+    pub text: Folded,
     /// The cycles of the block's schedule.
     pub cycles: u32,
+}
+
+/// Whether most rows of a schedule are empty, so that its listing takes far less room when they are folded.
+fn is_mostly_empty(schedule: &Schedule) -> bool {
+    schedule.rows().len() / 4 > schedule.ops().len()
 }
 
 /// Where entries are made, one after another. The room that one took is kept for those after it.
@@ -60,18 +66,30 @@ impl Desk {
             cycles,
             detail,
         )?;
+        let folds = detail == Detail::Rows && is_mostly_empty(&schedule);
         self.scheduler.take_back(schedule);
         Ok(Entry {
-            text: Vec::from_slice(alloc, &self.text)?,
+            text: self.kept(alloc, folds)?,
             cycles: cycles as u32,
         })
+    }
+
+    /// The text of the desk, to be kept.
+    fn kept(&self, alloc: Global, folds: bool) -> Result<Folded, NoMemory>
+        ensures { IfOk result (λ kept. kept ≡ self.now.text.items) }
+    {
+        if folds {
+            Folded::of(alloc, &self.text)
+        } else {
+            Ok(Folded::plain(alloc, Vec::from_slice(alloc, &self.text)?))
+        }
     }
 }
 
 /// The listing of these entries: their texts, and at the end the cycles of all.
 pub(crate) fn entries_text(alloc: Global, entries: Vec<Entry>) -> Result<Pieces, NoMemory>
     requires { sum_by (λ e. e.cycles) entries.items < 2 ^ 63 }
-    ensures { IfOk result (λ text. text ≡ flat_map (λ e. e.text.items) entries.items
+    ensures { IfOk result (λ text. text ≡ flat_map (λ e. e.text) entries.items
         ++ total_of (sum_by (λ e. e.cycles) entries.items)) }
 {
     let mut text = Pieces::new(alloc, Vec::new(alloc));
@@ -82,6 +100,6 @@ pub(crate) fn entries_text(alloc: Global, entries: Vec<Entry>) -> Result<Pieces,
     }
     let mut line = Vec::new(alloc);
     push_total(&mut line, total)?;
-    text.push(line)?;
+    text.push(Folded::plain(alloc, line))?;
     Ok(text)
 }

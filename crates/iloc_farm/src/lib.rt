@@ -15,6 +15,7 @@ mod farm;
 mod farmed;
 mod fault;
 mod finding;
+mod folded;
 mod initial;
 pub mod laws;
 mod listing;

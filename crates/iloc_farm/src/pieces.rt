@@ -3,7 +3,8 @@ ghost use Rattle.std.specs.Prelude.{◌≡◌, ◌++◌, IfOk, OnErr, OnOk};
 ghost use Rattle.std.specs.Io.KnownBytes.{Appends};
 ghost use Rattle.iloc_farm.specs.Device.{WritesFront};
 
-use crate::device::{WriteFailed, write_bytes, write_text};
+use crate::device::{WriteFailed, write_text};
+use crate::folded::Folded;
 use iloc_text::NoMemory;
 use std::alloc::Global;
 use std::io::Write;
@@ -16,9 +17,11 @@ const MOST_JOINED: usize = 65536;
 #[derive(Drop)]
 pub(crate) struct Pieces {
     /// The first pieces, in order.
-    earlier: Vec<Vec<u8>>,
+    earlier: Vec<Folded>,
     /// The last piece, which short ones join.
     last: Vec<u8>,
+    /// Room for any of the first pieces.
+    room: Vec<u8>,
 }
 
 impl Model for Pieces {
@@ -27,7 +30,7 @@ impl Model for Pieces {
 
     ghost Value = { List ℕ };
 
-    ghost view = { λ p. flat_map (λ piece. piece.items) p.earlier.items ++ p.last.items };
+    ghost view = { λ p. flat_map (λ piece. piece) p.earlier.items ++ p.last.items };
 }
 
 impl Pieces {
@@ -38,30 +41,36 @@ impl Pieces {
         Pieces {
             earlier: Vec::new(alloc),
             last: text,
+            room: Vec::new(alloc),
         }
     }
 
-    /// Appends a piece. A long one is kept as it is.
-    pub(crate) fn push(&mut self, piece: Vec<u8>) -> Result<(), NoMemory>
-        ensures { OnOk result (self.new ≡ self.old ++ piece.items) }
+    /// Appends a piece. One that is long or folded is kept as it is.
+    pub(crate) fn push(&mut self, piece: Folded) -> Result<(), NoMemory>
+        ensures { OnOk result (self.new ≡ self.old ++ piece) }
     {
-        if self.last.len() + piece.len() <= MOST_JOINED {
-            self.last.extend_from_slice(&piece)?;
-        } else {
-            let full = std::mem::replace(&mut self.last, piece);
-            self.earlier.push(full)?;
+        if let Some(text) = piece.as_plain()
+            && self.last.len() + text.len() <= MOST_JOINED
+        {
+            self.last.extend_from_slice(text)?;
+            return Ok(());
         }
+        let alloc = *self.last.allocator();
+        self.room.reserve(piece.size())?;
+        let joined = std::mem::replace(&mut self.last, Vec::new(alloc));
+        self.earlier.push(Folded::plain(alloc, joined))?;
+        self.earlier.push(piece)?;
         Ok(())
     }
 
     /// Writes the whole text, then flushes. After a failure a front of the text was written.
-    pub(crate) fn write_to<W: Write>(&self, writer: &mut W) -> Result<(), WriteFailed>
-        ensures ok { OnOk result (Appends (W.contents writer.old) (W.contents writer.new) self.now) }
-        ensures err { OnErr result
-            (WritesFront (W.contents writer.old) (W.contents writer.new) self.now) }
+    pub(crate) fn write_to<W: Write>(self, writer: &mut W) -> Result<(), WriteFailed>
+        ensures ok { OnOk result (Appends (W.contents writer.old) (W.contents writer.new) self) }
+        ensures err { OnErr result (WritesFront (W.contents writer.old) (W.contents writer.new) self) }
     {
+        let mut room = self.room;
         for piece in &self.earlier {
-            write_bytes(writer, piece)?;
+            piece.write_to(&mut room, writer)?;
         }
         write_text(writer, &self.last)
     }

@@ -16,12 +16,8 @@ pub fn latency(op: &Op, latencies: &Latencies) -> u64
     ensures latency { result ≡ latency latencies.now op.now }
     ensures within { IsLatency result }
 {
-    match Kind::of(op) {
-        Kind::Load => u64::from(latencies.load),
-        Kind::Store => u64::from(latencies.store),
-        Kind::Mult => u64::from(latencies.mult),
-        Kind::Output | Kind::Other => 1,
-    }
+    let by_kind = [latencies.load, latencies.store, latencies.mult, 1, 1];
+    u64::from(by_kind[Kind::of(op) as usize])
 }
 
 /// When the result of what is issued in a slot arrives; 0 for an empty slot.

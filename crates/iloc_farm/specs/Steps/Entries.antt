@@ -17,7 +17,7 @@ use Rattle.iloc_farm.specs.declared.listing.Detail.{Detail}
 pub record IsEntry (detail : Detail) (lat : Latencies) (number : ℕ) (b : Block) (e : Entry) : Type 0 where
   pub schedule : Table
   pub greedy : IsGreedy lat b.ops schedule.ops schedule.rows
-  pub text : e.text.items ≡ entry_with detail lat number b.name schedule
+  pub text : e.text ≡ entry_with detail lat number b.name schedule
   pub cycles : e.cycles ≡ cycles_of lat schedule
 
 -- the entry is that of block i; past the last block there is none
@@ -30,6 +30,6 @@ pub record AreEntries (detail : Detail) (request : Request) (blocks : List Block
   pub headline : Headline request.latencies blocks request.workers schedules
   pub greedy : AreGreedy request.latencies blocks schedules
   pub only : AreTheOnlyGreedy request.latencies blocks schedules
-  pub texts : flat_map (λ (e : Entry). e.text.items) made
+  pub texts : flat_map (λ (e : Entry). e.text) made
       ≡ entries (entry_with detail request.latencies) 1 blocks schedules
   pub total : sum_by (λ (e : Entry). e.cycles) made ≡ total_cycles request.latencies schedules

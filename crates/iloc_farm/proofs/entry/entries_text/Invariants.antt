@@ -4,7 +4,7 @@ use Rattle.iloc_farm.proofs.entry.entries_text.Given as goal
 
 abbrev pub invariant-loop-entry : goal.invariant-loop-entry
 invariant-loop-entry l = record {
-  listed : l.text ++ flat_map (λ e. e.text.items) l.entry-iterator.rest.items
-      ≡ flat_map (λ e. e.text.items) l.fn.entries.items;
+  listed : l.text ++ flat_map (λ e. e.text) l.entry-iterator.rest.items
+      ≡ flat_map (λ e. e.text) l.fn.entries.items;
   counted : l.total + sum_by (λ e. e.cycles) l.entry-iterator.rest.items ≡ sum_by (λ e. e.cycles) l.fn.entries.items;
 }

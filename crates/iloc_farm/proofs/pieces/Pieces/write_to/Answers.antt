@@ -13,35 +13,32 @@ loop-piece-init g c = Appends-nil (g.W.Write.contents c.args.writer.now)
 pub loop-piece-preserved : goal.loop-piece-preserved
 loop-piece-preserved g c =
     let pieces = c.deref-piece-items.result.now in
-    let before = flat_map (λ p. p.items) (take c.loop-piece.piece-index pieces) in
     let within : c.loop-piece.piece-index < length pieces = omega arith in
-    let more = ap (λ t. before ++ t) c.deref.ensures.value
-    ∙ pieces_more (λ p. p.items) pieces c.loop-piece.piece-index c.piece-item.result c.piece-item.is within in
-    subst (Appends (g.W.Write.contents c.args.writer.now) (g.W.Write.contents c.write_bytes.new.writer)) more
-    (Appends-trans _ _ _ _ _ c.loop-piece.invariant c.in_ok-write_bytes.ensures.ok)
+    subst (Appends (g.W.Write.contents c.args.writer.now) (g.W.Write.contents c.write_to.new.writer))
+    (pieces_more (λ p. p) pieces c.loop-piece.piece-index c.piece-item.result c.piece-item.is within)
+    (Appends-trans _ _ _ _ _ c.loop-piece.invariant c.in_ok-write_to.ensures.ok)
 
-pub returns-in_err-write_bytes-clause-err : goal.returns-in_err-write_bytes-clause-err
-returns-in_err-write_bytes-clause-err g c =
+pub returns-in_err-write_to-clause-err : goal.returns-in_err-write_to-clause-err
+returns-in_err-write_to-clause-err g c =
     let pieces = c.deref-piece-items.result.now in
     let i = c.loop-piece.piece-index in
     let piece = c.piece-item.result in
-    let rest = flat_map (λ p. p.items) (drop (i + 1) pieces) ++ c.self.inside.last.items in
+    let rest = flat_map (λ p. p) (drop (i + 1) pieces) ++ c.self.inside.last.items in
     let within : i < length pieces = omega arith in
-    let whole = ap (λ t. flat_map (λ p. p.items) (take i pieces) ++ (t ++ rest)) c.deref.ensures.value
-    ∙ (pieces_split (λ p. p.items) pieces i piece c.piece-item.is within c.self.inside.last.items
-    ∙ (ap (λ ps. flat_map (λ p. p.items) ps ++ c.self.inside.last.items) c.deref-piece-items.ensures.value
-    ∙ c.self.view_is)) in
+    let whole = pieces_split (λ p. p) pieces i piece c.piece-item.is within c.self.inside.last.items
+    ∙ (ap (λ ps. flat_map (λ p. p) ps ++ c.self.inside.last.items) c.deref-piece-items.ensures.value
+    ∙ c.self.view_is) in
     on_err c.from_residual.result
-    (front_behind _ _ _ _ _ rest _ c.loop-piece.invariant c.in_err-write_bytes.ensures.err whole)
+    (front_behind _ _ _ _ _ rest _ c.loop-piece.invariant c.in_err-write_to.ensures.err whole)
 
 pub returns-clause-ok : goal.returns-clause-ok
 returns-clause-ok g c =
     let pieces = c.deref-piece-items.result.now in
     let i = c.loop-piece.piece-index in
     let all : take i pieces ≡ pieces = take_all i pieces (omega arith) in
-    let whole = ap (λ ps. flat_map (λ p. p.items) ps ++ c.deref-2.result.now)
+    let whole = ap (λ ps. flat_map (λ p. p) ps ++ c.deref.result.now)
     (all ∙ c.deref-piece-items.ensures.value)
-    ∙ (ap (λ t. flat_map (λ p. p.items) c.self.inside.earlier.items ++ t) c.deref-2.ensures.value ∙ c.self.view_is) in
+    ∙ (ap (λ t. flat_map (λ p. p) c.self.inside.earlier.items ++ t) c.deref.ensures.value ∙ c.self.view_is) in
     on_ok_weaker c.write_text.result (λ wrote. subst
     (Appends (g.W.Write.contents c.args.writer.now) (g.W.Write.contents c.write_text.new.writer)) whole
     (Appends-trans _ _ _ _ _ c.loop-piece.invariant wrote)) c.write_text.ensures.ok
@@ -51,8 +48,8 @@ returns-clause-err g c =
     let pieces = c.deref-piece-items.result.now in
     let i = c.loop-piece.piece-index in
     let all : take i pieces ≡ pieces = take_all i pieces (omega arith) in
-    let whole = ap (λ t. flat_map (λ p. p.items) (take i pieces) ++ t) (append-nil c.deref-2.result.now)
-    ∙ (ap (λ ps. flat_map (λ p. p.items) ps ++ c.deref-2.result.now) (all ∙ c.deref-piece-items.ensures.value)
-    ∙ (ap (λ t. flat_map (λ p. p.items) c.self.inside.earlier.items ++ t) c.deref-2.ensures.value ∙ c.self.view_is)) in
+    let whole = ap (λ t. flat_map (λ p. p) (take i pieces) ++ t) (append-nil c.deref.result.now)
+    ∙ (ap (λ ps. flat_map (λ p. p) ps ++ c.deref.result.now) (all ∙ c.deref-piece-items.ensures.value)
+    ∙ (ap (λ t. flat_map (λ p. p) c.self.inside.earlier.items ++ t) c.deref.ensures.value ∙ c.self.view_is)) in
     on_err_weaker c.write_text.result
     (λ wrote. front_behind _ _ _ _ _ [] _ c.loop-piece.invariant wrote whole) c.write_text.ensures.err

@@ -6,4 +6,4 @@ use Rattle.iloc_farm.proofs.pieces.Pieces.write_to.Given as goal
 abbrev pub invariant-loop-piece : goal.invariant-loop-piece
 invariant-loop-piece g l =
     Appends (g.W.Write.contents l.fn.writer) (g.W.Write.contents l.writer)
-    (flat_map (λ piece. piece.items) (take l.piece-index l.piece-items))
+    (flat_map (λ piece. piece) (take l.piece-index l.piece-items))

@@ -1,0 +1,65 @@
+-- What a folded text says as it grows, and as it is gone through; for `Folded::of` and `Folded::push_to`.
+use Rattle.std.proofs.Common.{◌≡◌, ◌∙◌, ℕ, zero, suc, ◌+◌, ◌≤◌, List, [], ◌∷◌, ◌++◌, length, take, drop, refl, sym, ap, arith, append_assoc, append-nil, length-drop}
+use Rattle.std.specs.Prelude.{codes}
+use Rattle.std.proofs.lemmas.List.{take-append-le, drop-append-le, drop_all, take_all}
+use Rattle.std.proofs.lemmas.List.Sums.{sum_by-append, sum_by-cons}
+use Rattle.iloc_farm.specs.declared.folded.Run.{Run}
+use Rattle.iloc_farm.specs.Steps.Folded.{bytes_before, empty_rows, unfolded}
+
+-- one more row in front is one more behind
+pub empty_rows_more : (n : ℕ) → empty_rows n ++ codes "[ nop ; nop ]\n" ≡ empty_rows (suc n)
+empty_rows_more zero = refl
+empty_rows_more (suc n) =
+    append_assoc (codes "[ nop ; nop ]\n") (empty_rows n) (codes "[ nop ; nop ]\n")
+    ∙ ap (λ t. codes "[ nop ; nop ]\n" ++ t) (empty_rows_more n)
+
+-- more bytes stand behind the last run
+pub bytes_more : (runs : List Run) (bytes more : List ℕ) → bytes_before runs ≤ length bytes
+    → unfolded runs (bytes ++ more) ≡ unfolded runs bytes ++ more
+bytes_more [] bytes more within = refl
+bytes_more (run ∷ runs) bytes more within =
+    let parts : bytes_before (run ∷ runs) ≡ run.bytes + bytes_before runs = sum_by-cons (λ (r : Run). r.bytes) run runs in
+    let fits : run.bytes ≤ length bytes = omega arith in
+    let rest = bytes_more runs (drop run.bytes bytes) more (omega (arith, length-drop run.bytes bytes)) in
+    rw (take-append-le run.bytes bytes more fits, drop-append-le run.bytes bytes more fits, rest)
+    (ap (λ t. take run.bytes bytes ++ t) (sym (append_assoc (empty_rows run.rows) (unfolded runs (drop run.bytes bytes)) more))
+    ∙ sym (append_assoc (take run.bytes bytes) (empty_rows run.rows ++ unfolded runs (drop run.bytes bytes)) more))
+
+-- a run stands behind all bytes
+pub run_more : (runs : List Run) (bytes : List ℕ) (run : Run) → bytes_before runs + run.bytes ≡ length bytes
+    → unfolded (runs ++ run ∷ []) bytes ≡ unfolded runs bytes ++ empty_rows run.rows
+run_more [] bytes run all =
+    let size : run.bytes ≡ length bytes = omega arith in
+    rw (take_all run.bytes bytes (omega arith), drop_all run.bytes bytes (omega arith))
+    (ap (λ t. bytes ++ t) (append-nil (empty_rows run.rows)))
+run_more (first ∷ runs) bytes run all =
+    let parts : bytes_before (first ∷ runs) ≡ first.bytes + bytes_before runs = sum_by-cons (λ (r : Run). r.bytes) first runs in
+    let rest = run_more runs (drop first.bytes bytes) run (omega (arith, length-drop first.bytes bytes)) in
+    rw rest
+    (ap (λ t. take first.bytes bytes ++ t) (sym (append_assoc (empty_rows first.rows) (unfolded runs (drop first.bytes bytes)) (empty_rows run.rows)))
+    ∙ sym (append_assoc (take first.bytes bytes) (empty_rows first.rows ++ unfolded runs (drop first.bytes bytes)) (empty_rows run.rows)))
+
+pub before_more : (runs : List Run) (run : Run) → bytes_before (runs ++ run ∷ []) ≡ bytes_before runs + run.bytes
+before_more runs run =
+    omega (arith, sum_by-append (λ (r : Run). r.bytes) runs (run ∷ []), sum_by-cons (λ (r : Run). r.bytes) run [])
+
+-- a text that is folded up to here, and the rows and the line that come next
+module _ (runs : List Run) (bytes rest behind line after : List ℕ) (text : List ℕ) (rows : ℕ)
+    (so_far : text ≡ unfolded runs bytes ++ rest) (parts : rest ≡ empty_rows rows ++ behind)
+    (parted : behind ≡ line ++ after) (within : bytes_before runs ≤ length bytes) where
+  pub grown_line : rows ≡ 0 → text ≡ unfolded runs (bytes ++ line) ++ after
+  grown_line none =
+      so_far ∙ (ap (λ t. unfolded runs bytes ++ t)
+      (parts ∙ (ap (λ n. empty_rows n ++ behind) none ∙ parted))
+      ∙ (sym (append_assoc (unfolded runs bytes) line after)
+      ∙ ap (λ t. t ++ after) (sym (bytes_more runs bytes line within))))
+
+  pub grown_run : (run : Run) → run.rows ≡ rows → bytes_before runs + run.bytes ≡ length bytes
+      → text ≡ unfolded (runs ++ run ∷ []) (bytes ++ line) ++ after
+  grown_run run same all =
+      so_far ∙ (ap (λ t. unfolded runs bytes ++ t)
+      (parts ∙ (ap (λ n. empty_rows n ++ behind) (sym same) ∙ ap (λ t. empty_rows run.rows ++ t) parted))
+      ∙ (sym (append_assoc (unfolded runs bytes) (empty_rows run.rows) (line ++ after))
+      ∙ (ap (λ t. t ++ (line ++ after)) (sym (run_more runs bytes run all))
+      ∙ (sym (append_assoc (unfolded (runs ++ run ∷ []) bytes) line after)
+      ∙ ap (λ t. t ++ after) (sym (bytes_more (runs ++ run ∷ []) bytes line (omega (arith, before_more runs run))))))))
