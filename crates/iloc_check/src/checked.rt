@@ -38,8 +38,8 @@ fn is_same(verdict: &Verdict) -> bool
 /// Judges what is proposed for a block, and appends what is listed of it behind the block's head: the verdict with the
 /// cycles of the rows, ours and the least, and a line that tells where the rows go wrong, if they do.
 ///
-/// Our schedule, which has the block's outcome on every memory, is what they are compared with. After a refusal a part of
-/// it may stand behind the text.
+/// Our schedule, which has the block's outcome on every memory, is what they are compared with, and is the same as itself.
+/// After a refusal a part of it may stand behind the text.
 pub fn push_check(
     alloc: Global,
     text: &mut Vec<u8>,
@@ -59,6 +59,8 @@ pub fn push_check(
         × (text.new.items ≡ text.old.items ++ entry)) }
     ensures same { IfOk result (λ checked. checked.is_same ≡ true
         → DoTheSame latencies.now block.now.ops proposal.ops proposal.rows) }
+    ensures own { IfOk result (λ checked.
+        ours.now.ops ≡ proposal.ops → ours.now.rows ≡ proposal.rows → checked.is_same ≡ true) }
 {
     let ops = proposal.ops.as_slice();
     let rows = proposal.rows.as_slice();

@@ -9,3 +9,4 @@ pub mod Marks
 pub mod Meanings
 pub mod Ending
 pub mod Places
+pub mod SameLists

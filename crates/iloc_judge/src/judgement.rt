@@ -1,5 +1,6 @@
 //! Whether two schedules do the same on every memory.
-ghost use Rattle.std.specs.Prelude.{◌≡◌, true, List, ℤ, IfOk, Option, None};
+ghost use Rattle.std.specs.Prelude.{◌≡◌, ◌↔◌, true, List, ℤ, IfOk, IsTrue, Option, None};
+ghost use Rattle.iloc_timed.specs.Rows.{IsTable};
 ghost use Rattle.iloc_timed.specs.Timed.{timed_outcome};
 ghost use Rattle.iloc_judge.specs.Memory.{IsMemory};
 
@@ -7,8 +8,8 @@ use crate::agreement::agree;
 use crate::clues::Clues;
 use crate::symbols::Symbols;
 use crate::table::Table;
-use iloc_text::NoMemory;
-use iloc_timed::{Latencies, Schedule};
+use iloc_text::{NoMemory, Op};
+use iloc_timed::{Latencies, Row, Schedule};
 use std::alloc::Global;
 
 /// Nothing where two schedules are seen to do the same: their timed outcomes are equal on every memory of
@@ -32,17 +33,30 @@ pub(crate) fn clues(
     Ok(Some(Clues::of(alloc, &table, &one.addresses, &other.addresses)?))
 }
 
+/// Whether a schedule has just these operations and these rows.
+pub(crate) fn has_lists(schedule: &Schedule, ops: &[Op], rows: &[Row]) -> bool
+    ensures lists { IsTrue result ↔ ((schedule.now.ops ≡ ops.now) × (schedule.now.rows ≡ rows.now)) }
+    ensures table { result ≡ true → IsTable ops.now rows.now }
+{
+    schedule.ops() == ops && schedule.rows() == rows
+}
+
 /// Whether two schedules are seen to do the same: where it answers `true`, their timed outcomes are equal
-/// on every memory of 16,384 words of 32 bits. Of `false` nothing follows.
+/// on every memory of 16,384 words of 32 bits. Of `false` nothing follows but that they aren't one schedule.
 pub fn same(
     alloc: Global,
     ours: &Schedule,
     theirs: &Schedule,
     latencies: &Latencies,
 ) -> Result<bool, NoMemory>
-    ensures { IfOk result (λ yes. yes ≡ true → (memory : List ℤ) → IsMemory memory
+    ensures sound { IfOk result (λ yes. yes ≡ true → (memory : List ℤ) → IsMemory memory
         → timed_outcome latencies.now ours.now.ops ours.now.rows memory
         ≡ timed_outcome latencies.now theirs.now.ops theirs.now.rows memory) }
+    ensures itself { IfOk result (λ yes.
+        ours.now.ops ≡ theirs.now.ops → ours.now.rows ≡ theirs.now.rows → yes ≡ true) }
 {
+    if has_lists(ours, theirs.ops(), theirs.rows()) {
+        return Ok(true);
+    }
     Ok(clues(alloc, ours, theirs, latencies)?.is_none())
 }

@@ -5,7 +5,7 @@ ghost use Rattle.iloc_timed.specs.Schedule.{AreOnce};
 ghost use Rattle.iloc_timed.specs.Timed.{timed_outcome};
 ghost use Rattle.iloc_judge.specs.Verdict.{IsVerdict};
 
-use crate::judgement::clues;
+use crate::judgement::{clues, has_lists};
 use crate::place::Place;
 use crate::probe::Probe;
 use crate::refutation::{Refutation, difference_on, refute};
@@ -33,7 +33,7 @@ pub enum Verdict {
 /// Judges somebody's operations and rows for a block, each operation in a slot of its own. Our schedule of
 /// the block, which has the block's outcome on every memory, is what they are compared with. Where that
 /// doesn't show them right, they are run on the memory handed in, and then on a few that are made up. That
-/// no difference was found doesn't mean that there is none: only `Verdict::Same` does.
+/// no difference was found doesn't mean that there is none: only `Verdict::Same` does. Our own are the same.
 pub fn judge(
     alloc: Global,
     block: &Block,
@@ -47,8 +47,13 @@ pub fn judge(
     requires once { AreOnce (length ops.items) rows.items }
     requires kept { (words : List ℤ) → timed_outcome latencies.now ours.now.ops ours.now.rows words
         ≡ outcome block.now.ops words }
-    ensures { IfOk result (IsVerdict latencies.now block.now.ops ops.items rows.items memory.now) }
+    ensures right { IfOk result (IsVerdict latencies.now block.now.ops ops.items rows.items memory.now) }
+    ensures own { IfOk result (λ verdict.
+        ours.now.ops ≡ ops.items → ours.now.rows ≡ rows.items → verdict ≡ Verdict.Same) }
 {
+    if has_lists(ours, &ops, &rows) {
+        return Ok(Verdict::Same);
+    }
     let theirs = match Schedule::new(alloc, ops, rows) {
         Ok(theirs) => theirs,
         Err(BuildFault::BadRow(row)) => return Ok(Verdict::Units(row)),

@@ -1,6 +1,7 @@
-use Rattle.std.proofs.Common.{◌++◌, sym, ◌∙◌, append_assoc, refl}
+use Rattle.std.proofs.Common.{◌++◌, sym, ap, ◌∙◌, append_assoc, refl}
 use Rattle.iloc_timed.proofs.Standing.{numbered_from}
 use Rattle.iloc_check.specs.declared.checked.Checked.{Checked}
+use Rattle.iloc_check.specs.Checked.{is_same}
 use Rattle.iloc_check.specs.Listing.{verdict_line, detail}
 use Rattle.iloc_check.proofs.Places.{verdict_listed}
 use Rattle.iloc_check.proofs.Sameness.{same_is_right}
@@ -17,7 +18,7 @@ push_detail-requires c =
     let rows = c.in_ok-their_rows.ensures.items ∙ c.as_slice-rows.ensures.rows in
     rw c.as_slice-rows.ensures.rows (verdict_listed c.args.latencies.now c.args.memory.now c.args.block.now.ops
     c.args.proposal.ops c.args.proposal.rows c.in_ok-verdict.verdict c.requires.few c.as_slice-rows.ensures.few
-    (rw (ops, rows) at c.in_ok-verdict.ensures))
+    (rw (ops, rows) at c.in_ok-verdict.ensures.right))
 
 pub returns-clause-listed : goal.returns-clause-listed
 returns-clause-listed c =
@@ -33,7 +34,7 @@ returns-clause-listed c =
           ++ detail c.args.proposal.ops c.args.proposal.rows c.in_ok-verdict.verdict,
       record {
         verdict = c.in_ok-verdict.verdict;
-        right = rw (ops, rows) at c.in_ok-verdict.ensures;
+        right = rw (ops, rows) at c.in_ok-verdict.ensures.right;
         is_found =
             rw (
               c.is_same.ensures,
@@ -55,4 +56,10 @@ returns-clause-same c same =
     let ops = c.in_ok-their_ops.ensures.items ∙ c.as_slice-ops.ensures in
     let rows = c.in_ok-their_rows.ensures.items ∙ c.as_slice-rows.ensures.rows in
     same_is_right c.args.latencies.now c.args.memory.now c.args.block.now.ops c.args.proposal.ops c.args.proposal.rows
-    c.in_ok-verdict.verdict (rw (ops, rows) at c.in_ok-verdict.ensures) (sym c.is_same.ensures ∙ same)
+    c.in_ok-verdict.verdict (rw (ops, rows) at c.in_ok-verdict.ensures.right) (sym c.is_same.ensures ∙ same)
+
+pub returns-clause-own : goal.returns-clause-own
+returns-clause-own c same_ops same_rows =
+    let ops = c.in_ok-their_ops.ensures.items ∙ c.as_slice-ops.ensures in
+    let rows = c.in_ok-their_rows.ensures.items ∙ c.as_slice-rows.ensures.rows in
+    c.is_same.ensures ∙ ap is_same (c.in_ok-verdict.ensures.own (same_ops ∙ sym ops) (same_rows ∙ sym rows))
