@@ -1,10 +1,11 @@
 """Runs the program where it is what the sources and the toolchain make, and else proves and builds it first.
 
-    start.py KIT TOLD WORD..
+    start.py KIT TOLD INPUT WORD..
 
 KIT is the file with the toolchain's name, or empty where there is no rt; TOLD is what is said before the program runs,
-if it isn't empty. ilocfarm starts this where it can't tell by itself that the program is current. The status is the
-program's, or 125 where there is no program to run.
+if it isn't empty; INPUT is the number under which the program's standard input is open, or empty where it is closed.
+ilocfarm starts this where it can't tell by itself that the program is current. The status is the program's, or 125
+where there is no program to run.
 """
 import contextlib
 import fcntl
@@ -155,14 +156,22 @@ def use_default_signals():
         signal.signal(signal.SIGINT, signal.SIG_DFL)
 
 
+def hand_on(number):
+    """Gives the program its standard input."""
+    if number:
+        os.dup2(int(number), 0)
+        os.close(int(number))
+
+
 def main():
-    kit, told, *words = sys.argv[1:]
+    kit, told, number, *words = sys.argv[1:]
     use_default_signals()
     try:
         if not (is_current(kit) or build_alone(kit)):
             return NO_PROGRAM
         if told:
             say(told)
+        hand_on(number)
         os.execv(PROGRAM, [PROGRAM, *words])
     except (OSError, ValueError) as why:
         say(why)

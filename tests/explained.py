@@ -3,6 +3,31 @@ import random
 
 from blocks import FORMS, ODD, ROLES, USUAL, Op, beside, delays, renamed, text_of, words_for
 from case import Case
+from reading import read
+
+SHORT = {"load": 1, "store": 1, "mult": 1}
+STORES_7 = "loadI 1024 => r0\nloadI 7 => r1\nstore r1 => r0\noutput 1024\n"
+# All but the first two wait for others.
+SEVEN_OPERATIONS = ("loadI 4 => r1\nloadI 8 => r2\nmult r1, r2 => r3\nload r1 => r4\nadd r3, r4 => r5\n"
+                    "store r5 => r2\noutput 8\n")
+PRODUCTS_BESIDE_A_LOAD = "add r1, r1 => r2\nmult r2, r2 => r3\nmult r3, r3 => r4\nload r1 => r5\n"
+IMMEDIATE_FORMS = ("loadI 1024 => r0\nloadI 7 => r1\nstoreAI r1 => r0, 8\nloadAI r0, 8 => r2\nmultI r2, 6 => r3\n"
+                   "subI r3, 2 => r4\nstoreAI r4 => r0, 12\noutput 1032\noutput 1036\n")
+# Blocks, latencies, and the priorities of the operations.
+PRIORITIES = [
+    (STORES_7, USUAL, [7, 7, 6, 1]), (SEVEN_OPERATIONS, USUAL, [13, 11, 10, 12, 7, 6, 1]),
+    (SEVEN_OPERATIONS, SHORT, [5, 5, 4, 4, 3, 2, 1]), (PRODUCTS_BESIDE_A_LOAD, USUAL, [7, 6, 3, 5]),
+    (IMMEDIATE_FORMS, USUAL, [22, 22, 21, 16, 11, 8, 7, 2, 1]),
+]
+FOUR_CONSTANTS = "loadI 1 => r1\nloadI 2 => r2\nloadI 3 => r3\nloadI 4 => r4\n"
+# Blocks, latencies, and the lower bound: by the longest way, and by what a row can hold.
+LEAST = [
+    (SEVEN_OPERATIONS, USUAL, 13), (SEVEN_OPERATIONS, SHORT, 5), ("A:", USUAL, 0), ("nop", USUAL, 0),
+    (FOUR_CONSTANTS, USUAL, 2), (FOUR_CONSTANTS + "loadI 5 => r5", USUAL, 3),
+    ("output 0\noutput 0\noutput 0", USUAL, 3), ("load r0 => r1\nloadAI r0, 4 => r2\nload r0 => r3", USUAL, 7),
+    ("mult r0, r0 => r1\nmultI r0, 3 => r2", USUAL, 4), ("store r0 => r1\nstoreAI r0 => r1, 4", USUAL, 6),
+    ("load r0 => r1\nmult r0, r0 => r2\noutput 0", USUAL, 5),
+]
 
 
 class Explained:
@@ -101,5 +126,29 @@ def explained_cases():
         chance = random.Random(seed)
         blocks = [made_block(chance) for _ in range(5)]
         for name, latencies in (("usual", USUAL), ("odd", ODD)):
-            yield Case(f"explained/{name}_{seed}", ["explain", *words_for(latencies)], text_of(blocks),
-                       listing(blocks, latencies), b"", 0)
+            yield made(f"{name}_{seed}", blocks, latencies)
+    for seed in range(50):
+        chance = random.Random(f"latencies {seed}")
+        latencies = {name: chance.randint(1, most) for name, most in (("load", 3), ("store", 16), ("mult", 16))}
+        yield made(f"drawn_{seed}", [made_block(chance) for _ in range(20)], latencies)
+    for number, (text, latencies, priorities) in enumerate(PRIORITIES):
+        yield known(f"priorities_{number}", text, latencies, priorities=priorities)
+    for number, (text, latencies, least) in enumerate(LEAST):
+        yield known(f"least_{number}", text, latencies, least=lambda least=least: least)
+
+
+def explaining(name, latencies, given, out):
+    return Case(f"explained/{name}", ["explain", *words_for(latencies)], given, out, b"", 0)
+
+
+def made(name, blocks, latencies):
+    return explaining(name, latencies, text_of(blocks), listing(blocks, latencies))
+
+
+def known(name, text, latencies, **told):
+    """A case of one block of which this is known, in place of what is worked out."""
+    block, = read(text.encode())
+    explained = Explained(block.ops, latencies)
+    vars(explained).update(told)
+    lines = [f"block 1 {block.name}", *explained.lines(), f"total {explained.cycles()}", ""]
+    return explaining(name, latencies, text.encode(), "\n".join(lines).encode())

@@ -74,7 +74,8 @@ def judging_cases():
     for kind in WRONG:
         yield from settled(kind)
     yield from small_cases()
-    yield refused("judging/bad_start", TWO, b"--at is not a multiple of 4", 2, ["check", "--at", "2"])
+    for words in (["--at", "2"], ["--at", "6", "--mult", "2"]):
+        yield refused(f"judging/bad_start_{words[1]}", TWO, b"--at is not a multiple of 4", 2, ["check", *words])
     for words in (["--workers", "2"], ["--load", "0"], ["--store", "17"], ["4294967296"]):
         yield Case(f"judging/refused_words_{'_'.join(words)}", ["check", *words], TWO, b"", None, 2)
     for name, text, line, fault in refused_texts():
@@ -102,8 +103,9 @@ def settled(kind):
 
 
 def small_cases():
-    def same(name, text, *lines, status=0):
-        return Case(f"judging/{name}", ["check"], text, "".join(f"{it}\n" for it in lines).encode(), b"", status)
+    def same(name, text, *lines, status=0, words=()):
+        out = "".join(f"{it}\n" for it in lines).encode()
+        return Case(f"judging/{name}", ["check", *words], text, out, b"", status)
     yield same("no_block", b"", "total 0 ours 0 least 0")
     yield same("no_block_and_a_total", b"// nothing\ntotal 7\n", "total 0 ours 0 least 0")
     yield same("empty_blocks", b"a:\nb: nop\n", "block 1 a same cycles 0 ours 0 least 0",
@@ -123,6 +125,12 @@ def small_cases():
                "total 1 ours 1 least 1", status=5)
     yield same("no_fault", b"output 2\n[ output 0 ; nop ]\n", "block 1 - differs cycles 1 ours 1 least 1", "  no fault",
                "total 1 ours 1 least 1", status=5)
+    row = b"[ output 1024 ; nop ]\n"
+    yield same("row_of_one_block", b"output 1024\n" + row + b"cycles 1\n", "block 1 - same cycles 1 ours 1 least 1",
+               "total 1 ours 1 least 1", words=("5", "7"))
+    yield same("row_of_another_block", b"A: output 1024\nB: output 1028\nblock 1 A\n" + row + b"block 2 B\n" + row,
+               "block 1 A same cycles 1 ours 1 least 1", "block 2 B differs cycles 1 ours 1 least 1",
+               "  output 1: 5 for 7", "total 2 ours 2 least 2", status=5, words=("5", "7"))
     yield same("output_too_many", b"output 0\n[ output 0 ; nop ]\n[ output 4 ; nop ]\n",
                "block 1 - differs cycles 2 ours 1 least 1", "  output 2: 0 for none", "total 2 ours 1 least 1",
                status=5)
@@ -144,6 +152,7 @@ def refused_texts():
     yield "no_name_for_a_named_block", TWO + b"block 1 -\n", 3, NO_BLOCK
     yield "name_for_an_unnamed_block", b"output 0\nblock 1 a\n", 2, NO_BLOCK
     yield "head_without_a_block", b"block 1 -\n", 1, NO_BLOCK
+    yield "head_behind_an_empty_block", b"nop\nblock 2 -\n", 2, NO_BLOCK
     for name, line in bad_lines():
         yield name, b"a: output 0\nblock 1 a\n" + row + line + b"\n", 4, NOT_UNDERSTOOD
         if not line.startswith((b"output", b"c:", b"nop")):

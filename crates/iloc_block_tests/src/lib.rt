@@ -4,10 +4,6 @@
 #![tactic(auto)]
 
 #[cfg(test)]
-mod check;
-#[cfg(test)]
-mod judge;
-#[cfg(test)]
 mod meaning;
 #[cfg(test)]
 mod sched;

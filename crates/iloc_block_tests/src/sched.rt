@@ -1,5 +1,2 @@
 mod delay_pairs;
-mod lower_bound;
-mod priority;
 mod refusals;
-mod scheduler;

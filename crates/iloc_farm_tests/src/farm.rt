@@ -1,4 +1,3 @@
-mod checks;
 mod end_to_end;
 mod fakes;
 mod listings;

@@ -1,5 +1,5 @@
-//! Requests and faults of command lines. What `clap` says is seen of the built program.
-use iloc_args::{LineFault, Task, line_status, parse_line};
+//! Requests of command lines. How faults are told is seen of the built program.
+use iloc_args::{Task, parse_line};
 use std::test::Fail;
 
 /// Words, with the task, the workers, the start, the words of memory, and the latencies of loads, stores and products.
@@ -71,45 +71,6 @@ fn words_ask_for_a_task_with_its_options(rt: HostRuntime) -> Result<(), Fail> {
         assert_eq!(rt; (request.workers, request.at), (*workers, *at));
         assert_eq!(rt; request.words.as_slice(), *memory);
         assert_eq!(rt; (latencies.load, latencies.store, latencies.mult), *times);
-    }
-    Ok(())
-}
-
-/// Words, with the start that is off a word, or none where there are too many words, and how that is said.
-const WRONG: &[(&[&str], Option<u32>, &str)] = &[
-    (
-        &["run", "--at", "2"],
-        Some(2),
-        "--at is not a multiple of 4",
-    ),
-    (
-        &["run", "--at", "65530", "1", "2", "3"],
-        Some(65_530),
-        "--at is not a multiple of 4",
-    ),
-    (
-        &["check", "--at", "6", "--mult", "2"],
-        Some(6),
-        "--at is not a multiple of 4",
-    ),
-    (
-        &["run", "--at", "65532", "1", "2"],
-        None,
-        "the words do not fit into memory",
-    ),
-];
-
-#[test]
-fn a_start_off_a_word_is_named_first(rt: HostRuntime) -> Result<(), Fail> {
-    for (words, start, text) in WRONG {
-        let fault = parse_line(rt.alloc(), words).err().ok_or("a request")?;
-        let wanted = match *start {
-            Some(at) => LineFault::BadStart(at),
-            None => LineFault::TooManyWords,
-        };
-        assert!(rt; fault == wanted);
-        assert_eq!(rt; fault.to_string(rt.alloc())?.as_str(), *text);
-        assert_eq!(rt; line_status(&fault), 2);
     }
     Ok(())
 }

@@ -93,12 +93,12 @@ const PROPOSED: &[u8] = b"loadI 4 => r1
 B: output 4
 block 1 -
 block 2 B
-[ output 4 ; nop ]
-cycles 2
+[ output 4 ; loadI 4 => r1 ]
+cycles 7
 ";
 
 const CHECKED: &[u8] = b"block 1 - same cycles 0 ours 1 least 1
-block 2 B same cycles 1 ours 1 least 1 claimed 2
+block 2 B same cycles 1 ours 1 least 1 claimed 7
 total 1 ours 2 least 2
 ";
 

@@ -1,0 +1,64 @@
+"""An edit that makes the body of a function wrong, so that the prover has to refuse that function."""
+import os
+import re
+from dataclasses import dataclass, field
+
+# The names of the lines; what follows a name is the line's text, blanks and all.
+LINE = re.compile(r"(only|gate|file|old|new):(?: (.*))?")
+FILE = re.compile(r"src/[\w/]+\.rt")
+
+
+class BadEdit(Exception):
+    """Says why an edit can't be tried."""
+
+
+@dataclass
+class Edit:
+    crate: str
+    name: str
+    only: str = ""              # the function whose contract refuses it, by its path below the crate
+    is_gates: bool = False
+    changes: list = field(default_factory=list)     # file, old text, new text
+
+    def texts(self, folder):
+        """The files that it changes, as it makes them, of the crate in this folder."""
+        made = {}
+        for name, old, new in self.changes:
+            if name not in made:
+                made[name] = read(f"{folder}/{name}")
+            if made[name].count(old) != 1:
+                raise BadEdit(f"an old text stands {made[name].count(old)} times in {name}, and not once")
+            made[name] = made[name].replace(old, new)
+        return made
+
+
+def read(path):
+    try:
+        with open(path, encoding="utf-8") as file:
+            return file.read()
+    except (OSError, UnicodeDecodeError) as why:
+        raise BadEdit(f"{path} can't be read: {why}") from why
+
+
+def read_edit(path, crate):
+    """The edit that a file has."""
+    edit, name, old = Edit(crate, os.path.basename(path).removesuffix(".edit")), "", ""
+    for line in read(path).splitlines():
+        found = LINE.fullmatch(line)
+        key, text = found.groups("") if found else ("", "")
+        if key == "only":
+            edit.only = text
+        elif key == "gate":
+            edit.is_gates = True
+        elif key == "file" and FILE.fullmatch(text):
+            name = text
+        elif key == "old" and name and text:
+            old = text
+        elif key == "new" and old:
+            edit.changes.append((name, old, text))
+            old = ""
+        else:
+            raise BadEdit(f"a line of another form: {line}")
+    if not edit.only or not edit.changes or old:
+        raise BadEdit("it wants a line 'only:', and a line 'old:' with a line 'new:' behind it")
+    return edit
