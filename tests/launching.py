@@ -94,7 +94,7 @@ class Place:
         """Puts the repository's crates in place of the few."""
         shutil.rmtree(f"{self.top}/crates")
         shutil.copy2(f"{TOP}/crates.txt", self.top)
-        shutil.copytree(f"{TOP}/crates", f"{self.top}/crates", ignore=shutil.ignore_patterns("out", "must-fail"))
+        shutil.copytree(f"{TOP}/crates", f"{self.top}/crates", ignore=shutil.ignore_patterns("out"))
 
     def start(self, *words, by=None, within=None, with_rt=True, jobs=3, **streams):
         path = [f"{self.folder}/bin"] * with_rt + [f"{self.folder}/tools"]

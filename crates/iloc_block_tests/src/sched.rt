@@ -1,2 +1,3 @@
 mod delay_pairs;
+mod priority;
 mod refusals;
