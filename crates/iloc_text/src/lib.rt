@@ -12,6 +12,7 @@ mod line_ends;
 mod one_pass;
 mod op;
 mod open_block;
+mod operand;
 mod operation;
 mod reader;
 mod registers;

@@ -77,7 +77,8 @@ fn line_at(bytes: &[u8]) -> Option<Line<'_>>
 }
 
 /// No number was capped.
-fn are_within_limit(numbers: &[u32]) -> bool
+#[inline(always)]
+pub fn are_within_limit(numbers: &[u32]) -> bool
     ensures { result ≡ list_all (λ n. nat_lt n ABOVE_LIMIT) numbers.now }
 {
     numbers.iter().all(|number| *number < ABOVE_LIMIT)

@@ -11,12 +11,13 @@ use crate::file::{Blocks, IlocFile};
 use crate::limits::MAX_INPUT;
 use crate::line::{Line, LineFault, read_line};
 use crate::line_ends::split_line;
-use crate::one_pass::usual_line;
+use crate::one_pass::{usual_line, usual_operation};
 use crate::open_block::OpenBlock;
 use crate::taker::TakeBlocks;
 use std::alloc::Global;
 
 /// The first line of the text and what stands behind its line end, if it has one; or why it has no reading.
+#[inline(never)]
 fn first_line(text: &[u8]) -> Result<(Line<'_>, Option<&[u8]>), LineFault>
     ensures { FirstLine text.now result }
 {
@@ -52,6 +53,11 @@ pub fn read_blocks<T: TakeBlocks>(
     let mut rest = Some(input);
     while let Some(text) = rest {
         number += 1;
+        if let Some((op, after)) = usual_operation(text) {
+            open.add_op(alloc, taker, Some(op), number)?;
+            rest = after;
+            continue;
+        }
         let (line, after) = match first_line(text) {
             Ok(found) => found,
             Err(LineFault::Bad) => return Err(ReadFault::BadLine(number)),
