@@ -24,7 +24,7 @@ mod taker;
 pub use fault::{NoMemory, ReadFault};
 pub use file::{Block, Blocks, IlocFile, Name, Ops};
 pub use limits::{MAX_BLOCKS, MAX_INPUT, MAX_NUMBER, MAX_OPS};
-pub use line::LineFault;
+pub use line::ParseFault;
 pub use op::{Op, Reg};
 pub use reader::{read_blocks, read_file};
 pub use registers::{defines, uses, with_registers};

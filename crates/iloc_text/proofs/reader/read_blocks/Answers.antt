@@ -1,6 +1,6 @@
 use Rattle.std.proofs.Common.{◌∙◌, ◌+◌, [], Some, None, Ok, Err, length, refl, ap, arith}
 use Rattle.std.proofs.lemmas.Result.{err_from_is_err_and}
-use Rattle.iloc_text.specs.declared.line.LineFault.TheVariants.{Bad, NumberTooLarge}
+use Rattle.iloc_text.specs.declared.line.ParseFault.TheVariants.{Bad, NumberTooLarge}
 use Rattle.iloc_text.specs.declared.fault.ReadFault.TheVariants as faults
 use Rattle.iloc_text.specs.Steps.LineReads.{label_of, FirstLine}
 use Rattle.iloc_text.specs.Steps.Growth.{with_line}
