@@ -5,7 +5,7 @@ use Rattle.iloc_text.specs.declared.op.Op.{Op}
 use Rattle.iloc_text.specs.declared.op.Op.TheVariants.{Load, Store, Output, Nop, LoadAI, StoreAI}
 use Rattle.iloc_text.specs.Registers.{used, defined, with_registers}
 use Rattle.iloc_meaning.specs.declared.effect.Effect.{Effect}
-use Rattle.iloc_meaning.specs.declared.effect.Effect.TheVariants.{Faults, Gives, Writes, Emits, Nothing}
+use Rattle.iloc_meaning.specs.declared.effect.Effect.TheVariants.{Faults, Gives, Writes, Emits}
 use Rattle.iloc_meaning.specs.Address.{is_good, good_address}
 use Rattle.iloc_meaning.specs.Arithmetic.{wrapped, constant}
 use Rattle.iloc_meaning.specs.Effect.{effect, at_address}

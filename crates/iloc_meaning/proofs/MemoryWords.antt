@@ -3,6 +3,7 @@ use Rattle.std.proofs.Common.{◌≡◌, ◌≢◌, ℕ, ◌*◌, ◌/◌, ◌<�
 use Rattle.std.proofs.lemmas.Bool.Decides.{nat_tests}
 use Rattle.std.proofs.lemmas.Bool.{cases_eq}
 use Rattle.std.proofs.lemmas.List.FromFn.{get_or-map-range_with_len, length-map-range_with_len, fill_by_all}
+use Rattle.iloc_meaning.specs.declared.memory.TheConstants.{WORDS}
 use Rattle.iloc_meaning.specs.Address.{is_good}
 use Rattle.iloc_meaning.specs.Memory.{word_at, with_words}
 
@@ -10,10 +11,10 @@ use Rattle.iloc_meaning.specs.Memory.{word_at, with_words}
 pub four_times : (a : ℕ) → is_good (pos a) ≡ true → 4 * (a / 4) ≡ a
 four_times a good = grind (arith, nat_tests)
 
-pub word_number : (a n : ℕ) → is_good (pos a) ≡ true → n ≡ 16384 → a / 4 < n
+pub word_number : (a n : ℕ) → is_good (pos a) ≡ true → n ≡ WORDS → a / 4 < n
 word_number a n good size = grind (arith, nat_tests)
 
-pub word_at-with_words : (memory : List ℤ) (word : ℕ → ℤ) (a : ℕ) → length memory ≡ 16384 → is_good (pos a) ≡ true
+pub word_at-with_words : (memory : List ℤ) (word : ℕ → ℤ) (a : ℕ) → length memory ≡ WORDS → is_good (pos a) ≡ true
     → word_at (with_words memory word) a ≡ word a
 word_at-with_words memory word a size good =
     get_or-map-range_with_len (λ k. word (4 * k)) 0 (length memory) (a / 4) (a / 4) (pos 0) (word_number a _ good size)
@@ -21,7 +22,7 @@ word_at-with_words memory word a size good =
     ∙ ap word (four_times a good)
 
 -- a write at a good address changes the one word
-pub set-with_words : (memory : List ℤ) (word next : ℕ → ℤ) (a : ℕ) (w : ℤ) → length memory ≡ 16384
+pub set-with_words : (memory : List ℤ) (word next : ℕ → ℤ) (a : ℕ) (w : ℤ) → length memory ≡ WORDS
     → is_good (pos a) ≡ true → next a ≡ w → ((b : ℕ) → b ≢ a → next b ≡ word b) → set (with_words memory word) (a / 4) w
     ≡ with_words memory next
 set-with_words memory word next a w size good at others =

@@ -2,14 +2,15 @@
 use Rattle.std.proofs.Common.{◌≡◌, ℕ, ◌+◌, ◌-◌, ◌/◌, ◌<◌, ◌≤◌, List, [], ◌∷◌, ◌++◌, length, map, replicate, set, take, get_or, ℤ, pos, arith, refl, ap, sym, ◌∙◌, add-one, append_assoc, append-nil, length-append, length-take-le}
 use Rattle.std.specs.Int.{w32, cast_signed}
 use Rattle.std.proofs.lemmas.List.{length-map, length-replicate, replicate-append-replicate, set_at, map_more}
+use Rattle.iloc_meaning.specs.declared.memory.TheConstants.{WORDS}
 use Rattle.iloc_meaning.specs.Memory.{words_from, zeros}
 
 -- without words there are zeros alone
 pub placed_none : (at : ℕ) → at ≤ 65532 → zeros ≡ words_from at []
 unfolding zeros
 placed_none at within =
-    let size : at / 4 + (16384 - (at / 4 + 0)) ≡ 16384 = omega arith in
-    rw append-nil (sym (replicate-append-replicate (at / 4) (16384 - (at / 4 + 0)) (pos 0)
+    let size : at / 4 + (WORDS - (at / 4 + 0)) ≡ WORDS = omega arith in
+    rw append-nil (sym (replicate-append-replicate (at / 4) (WORDS - (at / 4 + 0)) (pos 0)
     ∙ ap (λ n. replicate n (pos 0)) size))
 
 -- a word in place of the first of the zeros behind others
@@ -19,7 +20,7 @@ set_first_zero front longer n m k word here more next =
     rw (next, add-one, more, append_assoc) (set_at front (pos 0) (replicate m (pos 0)) word n here)
 
 -- the next word stands where the zeros behind the others begin
-pub placed_more : (at : ℕ) (words : List ℕ) (i d : ℕ) → i < length words → at / 4 + length words ≤ 16384
+pub placed_more : (at : ℕ) (words : List ℕ) (i d : ℕ) → i < length words → at / 4 + length words ≤ WORDS
     → set (words_from at (take i words)) (at / 4 + i) (cast_signed w32 (get_or words i d))
     ≡ words_from at (take (i + 1) words)
 placed_more at words i d within fits =

@@ -2,6 +2,7 @@
 use Rattle.std.proofs.Common.{◌≡◌, ℕ, zero, suc, ◌+◌, ◌*◌, ◌/◌, ◌<◌, ◌||◌, Bool, true, false, List, [], length, get_or, ℤ, pos, arith, refl, ap, sym, ◌∙◌, add-one, add-zero, add-suc, ◌-◌}
 use Rattle.std.proofs.lemmas.List.FromFn.{fill_by_all}
 use Rattle.std.proofs.lemmas.List.{get_or_default}
+use Rattle.iloc_meaning.specs.declared.memory.TheConstants.{WORDS}
 use Rattle.iloc_text.specs.declared.op.Reg.{Reg}
 use Rattle.iloc_text.specs.declared.op.Op.{Op}
 use Rattle.iloc_text.specs.declared.op.Op.TheVariants.{Nop}
@@ -19,7 +20,7 @@ with_words_same memory =
     (λ k below. let same : 4 * k / 4 ≡ k = omega arith in ap (λ j. get_or memory j (pos 0)) (sym same))
 
 -- a block begins with all registers 0, the memory handed in and no output
-pub begins : (state : State) (memory : List ℤ) → length memory ≡ 16384
+pub begins : (state : State) (memory : List ℤ) → length memory ≡ WORDS
     → ((r : Reg) → value_of state.registers r ≡ pos 0) → state.memory ≡ record { first = memory; words = memory }
     → state.outputs.items ≡ [] → Follows memory [] state
 begins state memory size registers words outputs = record {

@@ -35,6 +35,7 @@ impl Effect {
     ghost use Rattle.iloc_meaning.specs.Registers.{value_of};
 
     /// What an operation does with these registers and this memory.
+    #[inline(always)]
     pub fn of(op: &Op, registers: &Registers, memory: &Memory) -> Effect
         ensures { result ≡ effect op.now (value_of registers.now) (word_at memory.now) }
     {

@@ -53,6 +53,7 @@ impl Registers {
     }
 
     /// The value of a register.
+    #[inline(always)]
     pub fn get(&self, register: Reg) -> i32
         ensures { result ≡ value_of self.now register }
     {
@@ -63,6 +64,7 @@ impl Registers {
     }
 
     /// Gives a register a value. After a refusal each register keeps its own.
+    #[inline(always)]
     pub fn set(&mut self, register: Reg, value: i32) -> Result<(), NoMemory>
         ensures ok { OnOk result (ChangesOnly self.old self.new register value) }
         ensures err { OnErr result ((r : Register) → value_of self.new r ≡ value_of self.old r) }

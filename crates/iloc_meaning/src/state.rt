@@ -60,6 +60,7 @@ impl State {
     }
 
     /// Takes one operation. Answers whether the run goes on: it ends at a fault.
+    #[inline(always)]
     fn step(&mut self, op: &Op) -> Result<bool, NoMemory>
         ensures first { self.new.memory.first ≡ self.old.memory.first }
         ensures after { IfOk result (λ goes_on. (memory : List ℤ) (trace : List Executed) →

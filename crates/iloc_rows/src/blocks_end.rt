@@ -4,7 +4,7 @@ ghost use Rattle.iloc_text.specs.ScheduleLines.{IsScheduleLine, said_of};
 ghost use Rattle.iloc_rows.specs.Steps.Ends.{is_nothing, ArePartsOf};
 
 use crate::line_ends::split_line;
-use iloc_text::{LineFault, MAX_INPUT, ScheduleLine, read_schedule_line};
+use iloc_text::{MAX_INPUT, ParseFault, ScheduleLine, read_schedule_line};
 
 /// A text, cut before its first schedule line.
 #[derive(Clone, Copy)]
@@ -30,8 +30,8 @@ fn is_schedule_line(line: &[u8]) -> bool
 {
     match read_schedule_line(line) {
         Ok(found) => !is_nothing(&found),
-        Err(LineFault::Bad) => false,
-        Err(LineFault::NumberTooLarge) => true,
+        Err(ParseFault::Bad) => false,
+        Err(ParseFault::NumberTooLarge) => true,
     }
 }
 

@@ -10,7 +10,7 @@ use crate::fault::RowsFault;
 use crate::line_ends::split_line;
 use crate::proposal::Proposals;
 use crate::proposing::Proposing;
-use iloc_text::{Block, Blocks, LineFault, MAX_INPUT, ReadFault, read_file, read_schedule_line};
+use iloc_text::{Block, Blocks, MAX_INPUT, ParseFault, ReadFault, read_file, read_schedule_line};
 use std::alloc::Global;
 
 /// Blocks, and what is proposed for each.
@@ -42,8 +42,8 @@ fn read_proposals(
         let (bytes, after) = split_line(text);
         let line = match read_schedule_line(bytes) {
             Ok(line) => line,
-            Err(LineFault::Bad) => return Err(RowsFault::Read(ReadFault::BadLine(number))),
-            Err(LineFault::NumberTooLarge) => {
+            Err(ParseFault::Bad) => return Err(RowsFault::Read(ReadFault::BadLine(number))),
+            Err(ParseFault::NumberTooLarge) => {
                 return Err(RowsFault::Read(ReadFault::NumberTooLarge(number)));
             }
         };

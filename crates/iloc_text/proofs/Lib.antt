@@ -15,6 +15,7 @@ pub mod BlockOps
 pub mod BlockLists
 pub mod Growing
 pub mod InLines
+pub mod Zeros
 pub mod OnePass
 pub mod Splitting
 pub mod Reading

@@ -6,7 +6,7 @@ use Rattle.iloc_text.specs.declared.forms.Opcode.{Opcode}
 use Rattle.iloc_text.specs.declared.forms.Opcode.TheVariants as O
 use Rattle.iloc_text.specs.Forms.{opcode, operands, opcode_text, numbers, op_of}
 use Rattle.iloc_text.specs.Steps.Opcodes.{opcode_of, operands_of}
-use Rattle.iloc_text.specs.Steps.Scan.{capped, value_then, operands_at}
+use Rattle.iloc_text.specs.Steps.Scan.{capped, operand_then, operands_at}
 use Rattle.iloc_text.proofs.Operands.{filled}
 
 -- the operation with each number capped
@@ -19,7 +19,7 @@ opcode_found _ = refl
 
 pub opcode_called : (op : Op) (bytes : List ℕ) → operands_at (operands_of (opcode op)) bytes
     ≡ operands_at (operands op) bytes
-unfolding value_then
+unfolding operand_then
 opcode_called Nop bytes = refl
 opcode_called _ bytes = refl
 

@@ -1,16 +1,21 @@
 -- What one pass finds is the first line of the text.
-use Rattle.std.proofs.Common.{◌≡◌, ◌∙◌, ℕ, Bool, true, false, List, [], ◌∷◌, ◌++◌, refl, sym, ap, subst, Option, Some, None, option_map, arith}
-use Rattle.std.specs.List.{onto_first}
+use Rattle.std.proofs.Common.{◌≡◌, ◌∙◌, ℕ, Bool, true, false, List, [], ◌∷◌, ◌++◌, refl, sym, ap, subst, Option, Some, None, option_map, nat_lt, arith}
+use Rattle.std.specs.Borrow.{Bor}
+use Rattle.std.specs.List.{onto_first, list_all}
 use Rattle.std.proofs.lemmas.Bool.Decides.{nat_tests}
 use Rattle.iloc_text.specs.declared.op.Op.{Op}
+use Rattle.iloc_text.specs.declared.scan.TheConstants.{ABOVE_LIMIT}
+use Rattle.iloc_text.specs.declared.forms.Opcode.{Opcode}
+use Rattle.iloc_text.specs.Forms.{opcode_text, op_of}
 use Rattle.iloc_text.specs.Grammar.{◌⋅◌, Blanks, OptionalLabel, OptionalOperation, OptionalComment, ReadsWidely, Reads}
 use Rattle.iloc_text.specs.Files.{HasNoLineEnd}
-use Rattle.iloc_text.specs.Steps.Lines.{is_line_end, lines_of}
-use Rattle.iloc_text.specs.Steps.Scan.{after_blanks, is_end, is_within}
-use Rattle.iloc_text.specs.Steps.OnePass.{OperationAt, label_if, WordsAt}
+use Rattle.iloc_text.specs.Steps.Lines.{is_line_end, lines_of, lines_left}
+use Rattle.iloc_text.specs.Steps.Scan.{after_blanks, called_at, is_end, is_within}
+use Rattle.iloc_text.specs.Steps.OnePass.{OperationAt, label_if, WordsAt, EndsAt}
 use Rattle.iloc_text.proofs.Parts.{Before, Before-join, Before-split, Before-all, all-Before}
-use Rattle.iloc_text.proofs.Tokens.{blanks_read}
+use Rattle.iloc_text.proofs.Tokens.{blanks_read, blanks_none, blanks_starts}
 use Rattle.iloc_text.proofs.Names.{capped_op}
+use Rattle.iloc_text.proofs.Zeros.{within_op_of}
 use Rattle.iloc_text.proofs.Operations.{called_finds}
 use Rattle.iloc_text.proofs.Bodies.{FindsOptional, nothing_first, slashes, end_read}
 use Rattle.iloc_text.proofs.Labels.{no_label, label_read}
@@ -86,6 +91,17 @@ usual_reads text label op rest comment more w e end within =
       reads_found line label found.0 op (ended label found.0 before.front comment before.first (end_read comment end))
           found.2 within,
     )
+
+-- a line that says an operation and has no label
+pub operation_reads : (text start behind rest : List ℕ) (after : Option (Bor (List ℕ))) (o : Opcode) (ns : List ℕ)
+    → start ≡ after_blanks text → start ≡ opcode_text o ++ behind → Some (op_of o ns, rest) ≡ called_at o behind
+    → EndsAt rest after → list_all (λ n. nat_lt n ABOVE_LIMIT) ns ≡ true
+    → (line : List ℕ) × (lines_of text ≡ line ∷ lines_left after) × Reads line None (Some (op_of o ns))
+operation_reads text start behind rest after o ns e begins called ends small =
+    let again : after_blanks (after_blanks text) ≡ opcode_text o ++ behind =
+    blanks_none (after_blanks text) (blanks_starts text) ∙ sym e ∙ begins in
+    usual_reads text None (Some (op_of o ns)) rest ends.0 (lines_left after)
+    (false, refl, (o, behind, again, sym called)) ends.1 ends.2 (within_op_of o ns small)
 
 is_no_line_end : (c : ℕ) → c ≡ 47 → is_line_end c ≡ false
 is_no_line_end c e = grind (arith, nat_tests)

@@ -5,9 +5,9 @@ use Rattle.iloc_text.specs.Forms.{Lead, Value, Operand, ◌▹◌, number_in, nu
 use Rattle.iloc_text.specs.Forms.Lead.{space, comma, arrow}
 use Rattle.iloc_text.specs.Forms.Value.{Use, Definition, Constant}
 use Rattle.iloc_text.specs.Grammar.{is_blank, LeadText, ValueText, OperandsText}
-use Rattle.iloc_text.specs.Steps.Scan.{capped, register_at, lead_at, value_at, value_then, operands_at}
+use Rattle.iloc_text.specs.Steps.Scan.{capped, register_at, lead_at, value_at, operand_at, operand_then, operands_at}
 use Rattle.iloc_text.proofs.Parts.{Before, Before-join, Before-split, starts}
-use Rattle.iloc_text.proofs.Tokens.{number_read, number_again, register_read, register_again, some_blanks_read, some_blanks_again, arrow_read, arrow_again, comma_read, comma_again}
+use Rattle.iloc_text.proofs.Tokens.{some_map, number_read, number_again, register_read, register_again, some_blanks_read, some_blanks_again, arrow_read, arrow_again, comma_read, comma_again}
 use Rattle.iloc_text.proofs.Opcodes.{bind_each}
 use Rattle.iloc_text.proofs.Starts.{blank_is_no_digit, digit_is_no_blank, value_fails, operands_fail}
 
@@ -33,18 +33,24 @@ FindsValue value bytes found = (n : ℕ) × Before (ValueText (with_number value
     × (found.0 ≡ capped (number_in (with_number value n)))
 
 value_read : (value : Value) (bytes : List ℕ) → IfSome (value_at value bytes) (FindsValue value bytes)
-value_read (Use r) bytes = bind_each (FindsValue (Use r) bytes) (register_at bytes) _
-    (register_read bytes) (λ found f. (f.0.0, f.1, ap (λ r. r.0) f.2))
-value_read (Definition r) bytes = bind_each (FindsValue (Definition r) bytes) (register_at bytes) _
-    (register_read bytes) (λ found f. (f.0.0, f.1, ap (λ r. r.0) f.2))
+value_read (Use r) bytes = some_map (λ found f. (f.0.0, f.1, f.2)) (register_at bytes) (register_read bytes)
+value_read (Definition r) bytes = some_map (λ found f. (f.0.0, f.1, f.2)) (register_at bytes) (register_read bytes)
 value_read (Constant n) bytes = number_read bytes
 
 value_again : (value : Value) (rest bytes : List ℕ) → Before (ValueText value) rest bytes
     → starts is_ascii_digit rest ≡ false
     → value_at value bytes ≡ Some (capped (number_in value), rest)
-value_again (Use r) rest bytes b s = rw (register_again r rest bytes b s) refl
-value_again (Definition r) rest bytes b s = rw (register_again r rest bytes b s) refl
+value_again (Use r) rest bytes b s = register_again r rest bytes b s
+value_again (Definition r) rest bytes b s = register_again r rest bytes b s
 value_again (Constant n) rest bytes b s = number_again n rest bytes b s
+
+abbrev FindsOperand : Operand → List ℕ → ℕ × List ℕ → Type 0
+FindsOperand o bytes found = (start : List ℕ) × Before (LeadText o.lead) start bytes
+    × FindsValue o.value start found
+
+operand_read : (o : Operand) (bytes : List ℕ) → IfSome (operand_at o bytes) (FindsOperand o bytes)
+operand_read o bytes = bind_each (FindsOperand o bytes) (lead_at o.lead bytes) _ (lead_read o.lead bytes)
+    (λ start l. some_map (λ found v. (start, l, v)) (value_at o.value start) (value_read o.value start))
 
 -- the operands of these kinds with these numbers
 abbrev pub filled : List Operand → List ℕ → List Operand
@@ -57,20 +63,21 @@ FindsOperands operands bytes found = (ns : List ℕ) × Before (OperandsText (fi
 
 pub operands_read : (operands : List Operand) (bytes : List ℕ)
     → IfSome (operands_at operands bytes) (FindsOperands operands bytes)
-unfolding value_then
+unfolding operand_then
 operands_read [] bytes = ([], record { front = []; first = refl; whole = refl }, refl)
 operands_read (o ∷ more) bytes =
-    bind_each (FindsOperands (o ∷ more) bytes) (lead_at o.lead bytes) _ (lead_read o.lead bytes) (λ start l.
-    bind_each (FindsOperands (o ∷ more) bytes) (value_at o.value start) _ (value_read o.value start)
-    (λ found v.
+    bind_each (FindsOperands (o ∷ more) bytes) (operand_at o bytes) _ (operand_read o bytes) (λ found f.
     bind_each (FindsOperands (o ∷ more) bytes) (operands_at more found.1) _ (operands_read more found.1)
-    (λ others more_read.
-    (v.0 ∷ more_read.0, Before-join l (Before-join v.1 more_read.1), ap₂ (λ n ns. n ∷ ns) v.2 more_read.2))))
+    (λ others more_read. (
+      f.2.0 ∷ more_read.0,
+      Before-join f.1 (Before-join f.2.1 more_read.1),
+      ap₂ (λ n ns. n ∷ ns) f.2.2 more_read.2,
+    )))
 
 pub operands_again : (operands : List Operand) (rest bytes : List ℕ) → Before (OperandsText operands) rest bytes
     → starts is_ascii_digit rest ≡ false
     → operands_at operands bytes ≡ Some (map capped (map number_of operands), rest)
-unfolding value_then
+unfolding operand_then
 operands_again [] rest bytes b s = ap (λ t. Some ([], t)) (b.whole ∙ ap (λ f. f ++ rest) b.first)
 operands_again (o ∷ more) rest bytes b s =
     let first = Before-split b in

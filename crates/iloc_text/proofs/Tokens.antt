@@ -7,7 +7,7 @@ use Rattle.std.specs.Str.Parse.{AllDigits, digits_value_after}
 use Rattle.std.proofs.lemmas.Bool.Decides.{nat_tests}
 use Rattle.iloc_text.specs.declared.op.Reg.{Reg}
 use Rattle.iloc_text.specs.Grammar.{is_word_byte, ◌⋅◌, Text, is_blank, Blanks, SomeBlanks, Number, Register, Arrow, Comma}
-use Rattle.iloc_text.specs.Steps.Scan.{after_blanks, some_blanks_at, capped, digits_after, number_at, register_at, arrow_at, arrow_from, comma_at, comma_from, after_word, word_of, ◌>>=◌}
+use Rattle.iloc_text.specs.Steps.Scan.{after_blanks, some_blanks_at, capped, digits_after, number_at, register_at, arrow_at, arrow_from, comma_at, comma_from, after_word, word_of}
 use Rattle.iloc_text.proofs.Parts.{Before, Before-join, Before-split, starts}
 
 -- Blanks
@@ -162,8 +162,8 @@ some_map f (Some x) h = f x h
 
 -- Registers
 
-abbrev pub FindsRegister : List ℕ → Reg × List ℕ → Type 0
-FindsRegister bytes found = (r : Reg) × Before (Register r) found.1 bytes × (found.0 ≡ record { 0 = capped r.0 })
+abbrev pub FindsRegister : List ℕ → ℕ × List ℕ → Type 0
+FindsRegister bytes found = (r : Reg) × Before (Register r) found.1 bytes × (found.0 ≡ capped r.0)
 
 letter_r : (c : ℕ) → (c == 114) ≡ true → c ≡ 114
 letter_r c h = grind (arith, nat_tests)
@@ -173,21 +173,20 @@ register_read [] = tt
 register_read (c ∷ cs) = by (c == 114) refl (number_at cs) (number_read cs)
   where
     by : (b : Bool) → (c == 114) ≡ b → (found : Option (ℕ × List ℕ)) → IfSome found (FindsNumber cs)
-        → IfSome (cond b (found >>= (λ f. Some (record { 0 = f.0 }, f.1))) None) (FindsRegister (c ∷ cs))
+        → IfSome (cond b found None) (FindsRegister (c ∷ cs))
     by false e found h = tt
     by true e None h = tt
     by true e (Some found) h = (
       record { 0 = h.0 },
       Before-join (record { front = c ∷ []; first = ap (λ d. d ∷ []) (letter_r c e); whole = refl }) h.1,
-      ap (λ n. record { 0 = n }) h.2,
+      h.2,
     )
 
 pub register_again : (r : Reg) (rest bytes : List ℕ) → Before (Register r) rest bytes
-    → starts is_ascii_digit rest ≡ false → register_at bytes ≡ Some (record { 0 = capped r.0 }, rest)
+    → starts is_ascii_digit rest ≡ false → register_at bytes ≡ Some (capped r.0, rest)
 register_again r rest bytes b s =
     let parts = Before-split b in
-    ap register_at (parts.1.whole ∙ ap (λ t. t ++ parts.0) parts.1.first)
-    ∙ ap (λ found. found >>= (λ f. Some (record { 0 = f.0 }, f.1))) (number_again r.0 rest parts.0 parts.2 s)
+    ap register_at (parts.1.whole ∙ ap (λ t. t ++ parts.0) parts.1.first) ∙ number_again r.0 rest parts.0 parts.2 s
 
 -- `=>` and `,`
 

@@ -3,8 +3,8 @@ use Rattle.std.specs.Prelude.{◌≢◌, ℕ, ◌≤◌, Option, Some, None, opt
 use Rattle.std.specs.List.{AllByRecursion}
 use Rattle.iloc_text.specs.declared.limits.TheConstants.{MAX_NUMBER}
 use Rattle.iloc_text.specs.declared.op.Op.{Op}
-use Rattle.iloc_text.specs.declared.line.LineFault.{LineFault}
-use Rattle.iloc_text.specs.declared.line.LineFault.TheVariants.{Bad, NumberTooLarge}
+use Rattle.iloc_text.specs.declared.line.ParseFault.{ParseFault}
+use Rattle.iloc_text.specs.declared.line.ParseFault.TheVariants.{Bad, NumberTooLarge}
 use Rattle.iloc_text.specs.declared.schedule_line.ScheduleLine.{ScheduleLine}
 use Rattle.iloc_text.specs.declared.schedule_line.ScheduleLine.TheVariants.{Empty, Row, Head, Cycles, Total}
 use Rattle.iloc_text.specs.Forms.{numbers}
@@ -72,7 +72,7 @@ said_of (Cycles number) = cycles number
 said_of (Total number) = total number
 
 -- what the line says, or why it says nothing that is understood
-abbrev pub IsSaidBy : List ℕ → Result ScheduleLine LineFault → Type 0
+abbrev pub IsSaidBy : List ℕ → Result ScheduleLine ParseFault → Type 0
 IsSaidBy line (Ok found) = Says line (said_of found)
 IsSaidBy line (Err Bad) = SaysSomethingWidely line → ⊥
 IsSaidBy line (Err NumberTooLarge) = SaysSomethingWidely line × (SaysSomething line → ⊥)

@@ -21,7 +21,7 @@ pub struct Line<'a> {
 
 /// Why a line has no reading.
 #[derive(Clone, Copy, PartialEq, Eq)]
-pub enum LineFault {
+pub enum ParseFault {
     /// It would have none if numbers had no limit either.
     Bad,
     /// It would have one if numbers had no limit.
@@ -77,7 +77,8 @@ fn line_at(bytes: &[u8]) -> Option<Line<'_>>
 }
 
 /// No number was capped.
-fn are_within_limit(numbers: &[u32]) -> bool
+#[inline(always)]
+pub fn are_within_limit(numbers: &[u32]) -> bool
     ensures { result ≡ list_all (λ n. nat_lt n ABOVE_LIMIT) numbers.now }
 {
     numbers.iter().all(|number| *number < ABOVE_LIMIT)
@@ -110,15 +111,15 @@ pub fn is_within(op: &Option<Op>) -> bool
 }
 
 /// What the line reads as, or why it has no reading.
-pub fn read_line(bytes: &[u8]) -> Result<Line<'_>, LineFault>
+pub fn read_line(bytes: &[u8]) -> Result<Line<'_>, ParseFault>
     ensures { LineReads bytes.now result }
 {
     let Some(line) = line_at(bytes) else {
-        return Err(LineFault::Bad);
+        return Err(ParseFault::Bad);
     };
     if is_within(&line.op) {
         Ok(line)
     } else {
-        Err(LineFault::NumberTooLarge)
+        Err(ParseFault::NumberTooLarge)
     }
 }

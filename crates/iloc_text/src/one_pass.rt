@@ -1,13 +1,13 @@
 //! Lines that read, found in one pass over their bytes. Where nothing is found, a line may still read.
-ghost use Rattle.std.specs.Prelude.{IfSome};
+ghost use Rattle.std.specs.Prelude.{None, Some, IfSome};
 ghost use Rattle.iloc_text.specs.Steps.LineReads.{label_of, FirstLineReads};
 ghost use Rattle.iloc_text.specs.Steps.OnePass.{OperationAt, WordsAt, EndsAt};
 
-use crate::forms::opcode_at;
-use crate::line::{Line, is_end, is_within, optional_label_at};
+use crate::forms::{op_of, opcode_at};
+use crate::line::{Line, are_within_limit, is_end, is_within, optional_label_at};
 use crate::line_ends::split_line;
 use crate::op::Op;
-use crate::operation::called_at;
+use crate::operation::{called_at, numbers_at};
 use crate::scan::after_blanks;
 
 /// An operation and what stands behind it, or all bytes where none is found.
@@ -63,7 +63,7 @@ fn behind_line_end(bytes: &[u8]) -> Option<Option<&[u8]>>
 }
 
 /// What the first line of the text reads as, and what stands behind its line end, if it has one.
-#[inline(always)]
+#[inline(never)]
 pub fn usual_line(text: &[u8]) -> Option<(Line<'_>, Option<&[u8]>)>
     ensures { IfSome result (λ found. FirstLineReads text.now found.0 found.1) }
 {
@@ -71,6 +71,23 @@ pub fn usual_line(text: &[u8]) -> Option<(Line<'_>, Option<&[u8]>)>
     let after = behind_line_end(rest)?;
     if is_within(&line.op) {
         Some((line, after))
+    } else {
+        None
+    }
+}
+
+/// The operation that the first line of the text says, where it has no label, and what stands behind its line
+/// end, if it has one. This is what most lines are.
+#[inline(always)]
+pub fn usual_operation(text: &[u8]) -> Option<(Op, Option<&[u8]>)>
+    ensures { IfSome result (λ found.
+        FirstLineReads text.now (record { label = None; op = Some found.0 }) found.1) }
+{
+    let (opcode, behind) = opcode_at(after_blanks(text))?;
+    let (numbers, rest) = numbers_at(opcode, behind)?;
+    let after = behind_line_end(rest)?;
+    if are_within_limit(&numbers) {
+        Some((op_of(opcode, &numbers), after))
     } else {
         None
     }

@@ -109,7 +109,7 @@ impl OpenBlock {
     }
 
     /// Adds the operation, if there is one, to the open block, or to an unnamed block where none is open yet.
-    fn add_op<T: TakeBlocks>(
+    pub fn add_op<T: TakeBlocks>(
         &mut self,
         alloc: Global,
         taker: &mut T,

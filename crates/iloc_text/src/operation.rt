@@ -1,75 +1,66 @@
 //! The operation of a line, scanned with numbers that count as `ABOVE_LIMIT` where they are above the limit.
-ghost use Rattle.std.specs.Prelude.{◌≡◌, [], ◌∷◌, option_map};
-ghost use Rattle.iloc_text.specs.Forms.Lead.{arrow};
-ghost use Rattle.iloc_text.specs.Forms.{◌▹◌};
-ghost use Rattle.iloc_text.specs.Forms.Value.{Use, Constant};
-ghost use Rattle.iloc_text.specs.Steps.Scan.{value_then, operands_at, called_at, operation_at, optional_operation_at};
+ghost use Rattle.std.specs.Prelude.{◌≡◌, option_map};
+ghost use Rattle.iloc_text.specs.Forms.{op_of};
+ghost use Rattle.iloc_text.specs.Steps.Scan.{called_at, operation_at, optional_operation_at};
 
 use crate::forms::{Opcode, Operands, op_of, opcode_of, shape_of};
-use crate::op::{Op, Reg};
-use crate::scan::{
-    arrow_at, comma_at, is_word_byte, number_at, register_at, some_blanks_at, word_at,
+use crate::op::Op;
+use crate::operand::{
+    digits_behind_arrow, digits_behind_blank, digits_behind_comma, number_behind_blank,
+    number_behind_comma,
 };
+use crate::scan::{is_word_byte, number_at, word_at};
 
-/// `number => register`.
+/// The numbers behind an opcode by their places, with 0 in each that it has no place for.
 #[inline(always)]
-#[tactic(auto, unfolding(crate::specs::Steps::Scan::value_then))]
-fn number_to_register_at(bytes: &[u8]) -> Option<(u32, Reg, &[u8])>
-    ensures { option_map (λ found. (found.0 ∷ found.1.0 ∷ [], found.2.now)) result
-        ≡ value_then (Constant 0) (operands_at (arrow ▹ Use (record { 0 = 0 }) ∷ [])) bytes.now }
+#[tactic(auto, using(crate::proofs::Zeros::zero_stands_for_none, crate::proofs::Zeros::zeros_stand_for_none, crate::proofs::Zeros::all_zeros_stand_for_none), unfolding(crate::specs::Steps::Scan::called_at, crate::specs::Steps::Scan::operand_then))]
+pub fn numbers_at(opcode: Opcode, bytes: &[u8]) -> Option<([u32; 3], &[u8])>
+    ensures { option_map (λ found. (op_of opcode found.0, found.1.now)) result ≡ called_at opcode bytes.now }
 {
-    let (value, rest) = number_at(bytes)?;
-    let (dest, rest) = register_at(arrow_at(rest)?)?;
-    Some((value, dest, rest))
+    match shape_of(opcode) {
+        Operands::Nothing => Some(([0, 0, 0], bytes)),
+        Operands::Constant(_) => {
+            let (value, rest) = number_behind_blank(bytes)?;
+            Some(([value, 0, 0], rest))
+        }
+        Operands::Immediate(..) => {
+            let (value, rest) = number_behind_blank(bytes)?;
+            let (dest, rest) = number_at(digits_behind_arrow(rest))?;
+            Some(([value, dest, 0], rest))
+        }
+        Operands::Copied(..) | Operands::Stored(..) => {
+            let (source, rest) = number_at(digits_behind_blank(bytes))?;
+            let (target, rest) = number_at(digits_behind_arrow(rest))?;
+            Some(([source, target, 0], rest))
+        }
+        Operands::Sources(..) => {
+            let (left, rest) = number_at(digits_behind_blank(bytes))?;
+            let (right, rest) = number_at(digits_behind_comma(rest))?;
+            let (dest, rest) = number_at(digits_behind_arrow(rest))?;
+            Some(([left, right, dest], rest))
+        }
+        Operands::WithConstant(..) => {
+            let (left, rest) = number_at(digits_behind_blank(bytes))?;
+            let (value, rest) = number_behind_comma(rest)?;
+            let (dest, rest) = number_at(digits_behind_arrow(rest))?;
+            Some(([left, value, dest], rest))
+        }
+        Operands::StoredAt(..) => {
+            let (value, rest) = number_at(digits_behind_blank(bytes))?;
+            let (addr, rest) = number_at(digits_behind_arrow(rest))?;
+            let (offset, rest) = number_behind_comma(rest)?;
+            Some(([value, addr, offset], rest))
+        }
+    }
 }
 
-/// `register => register`.
-#[inline(always)]
-#[tactic(auto, unfolding(crate::specs::Steps::Scan::value_then))]
-fn register_to_register_at(bytes: &[u8]) -> Option<(Reg, Reg, &[u8])>
-    ensures { option_map (λ found. (found.0.0 ∷ found.1.0 ∷ [], found.2.now)) result
-        ≡ value_then (Use (record { 0 = 0 })) (operands_at (arrow ▹ Use (record { 0 = 0 }) ∷ [])) bytes.now }
-{
-    let (source, rest) = register_at(bytes)?;
-    let (target, rest) = register_at(arrow_at(rest)?)?;
-    Some((source, target, rest))
-}
-
-/// What stands behind an opcode: the operands that belong there, by their shape.
-#[tactic(auto, unfolding(crate::specs::Steps::Scan::called_at, crate::specs::Steps::Scan::value_then))]
+/// What stands behind an opcode: the operands that belong there.
+#[inline(never)]
 pub fn called_at(opcode: Opcode, bytes: &[u8]) -> Option<(Op, &[u8])>
     ensures { option_map (λ found. (found.0, found.1.now)) result ≡ called_at opcode bytes.now }
 {
-    match shape_of(opcode) {
-        Operands::Nothing => Some((op_of(opcode, &[]), bytes)),
-        Operands::Constant(_) => {
-            let (value, rest) = number_at(some_blanks_at(bytes)?)?;
-            Some((op_of(opcode, &[value]), rest))
-        }
-        Operands::Immediate(..) => {
-            let (value, dest, rest) = number_to_register_at(some_blanks_at(bytes)?)?;
-            Some((op_of(opcode, &[value, dest.0]), rest))
-        }
-        Operands::Copied(..) | Operands::Stored(..) => {
-            let (source, target, rest) = register_to_register_at(some_blanks_at(bytes)?)?;
-            Some((op_of(opcode, &[source.0, target.0]), rest))
-        }
-        Operands::Sources(..) => {
-            let (left, rest) = register_at(some_blanks_at(bytes)?)?;
-            let (right, dest, rest) = register_to_register_at(comma_at(rest)?)?;
-            Some((op_of(opcode, &[left.0, right.0, dest.0]), rest))
-        }
-        Operands::WithConstant(..) => {
-            let (left, rest) = register_at(some_blanks_at(bytes)?)?;
-            let (value, dest, rest) = number_to_register_at(comma_at(rest)?)?;
-            Some((op_of(opcode, &[left.0, value, dest.0]), rest))
-        }
-        Operands::StoredAt(..) => {
-            let (value, addr, rest) = register_to_register_at(some_blanks_at(bytes)?)?;
-            let (offset, rest) = number_at(comma_at(rest)?)?;
-            Some((op_of(opcode, &[value.0, addr.0, offset]), rest))
-        }
-    }
+    let (numbers, rest) = numbers_at(opcode, bytes)?;
+    Some((op_of(opcode, &numbers), rest))
 }
 
 /// An opcode and what belongs behind it.

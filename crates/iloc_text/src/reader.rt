@@ -9,15 +9,16 @@ use crate::copies::Copies;
 use crate::fault::ReadFault;
 use crate::file::{Blocks, IlocFile};
 use crate::limits::MAX_INPUT;
-use crate::line::{Line, LineFault, read_line};
+use crate::line::{Line, ParseFault, read_line};
 use crate::line_ends::split_line;
-use crate::one_pass::usual_line;
+use crate::one_pass::{usual_line, usual_operation};
 use crate::open_block::OpenBlock;
 use crate::taker::TakeBlocks;
 use std::alloc::Global;
 
 /// The first line of the text and what stands behind its line end, if it has one; or why it has no reading.
-fn first_line(text: &[u8]) -> Result<(Line<'_>, Option<&[u8]>), LineFault>
+#[inline(never)]
+fn first_line(text: &[u8]) -> Result<(Line<'_>, Option<&[u8]>), ParseFault>
     ensures { FirstLine text.now result }
 {
     if let Some(found) = usual_line(text) {
@@ -52,10 +53,15 @@ pub fn read_blocks<T: TakeBlocks>(
     let mut rest = Some(input);
     while let Some(text) = rest {
         number += 1;
+        if let Some((op, after)) = usual_operation(text) {
+            open.add_op(alloc, taker, Some(op), number)?;
+            rest = after;
+            continue;
+        }
         let (line, after) = match first_line(text) {
             Ok(found) => found,
-            Err(LineFault::Bad) => return Err(ReadFault::BadLine(number)),
-            Err(LineFault::NumberTooLarge) => return Err(ReadFault::NumberTooLarge(number)),
+            Err(ParseFault::Bad) => return Err(ReadFault::BadLine(number)),
+            Err(ParseFault::NumberTooLarge) => return Err(ReadFault::NumberTooLarge(number)),
         };
         open.add_line(alloc, taker, line, number)?;
         rest = after;

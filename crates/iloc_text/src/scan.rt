@@ -1,10 +1,9 @@
 //! The tokens of a line. Each function reads one at the front of the bytes and gives what stands behind it.
 ghost use Rattle.std.specs.Prelude.{◌≡◌, ◌≤◌, ◌<◌, ◌-◌, ◌+◌, ◌*◌, option_map, length};
 ghost use Rattle.iloc_text.specs.Grammar.{is_blank, is_word_byte};
-ghost use Rattle.iloc_text.specs.Steps.Scan.{after_blanks, some_blanks_at, capped, digits_after, number_at, register_at, arrow_at, comma_at, after_word, word_of};
+ghost use Rattle.iloc_text.specs.Steps.Scan.{after_blanks, some_blanks_at, capped, digits_after, number_at, arrow_at, comma_at, after_word, word_of};
 
 use crate::limits::MAX_NUMBER;
-use crate::op::Reg;
 
 /// The least number above the limit. While a line is scanned it stands for every such number.
 pub const ABOVE_LIMIT: u32 = MAX_NUMBER + 1;
@@ -41,25 +40,14 @@ pub fn some_blanks_at(bytes: &[u8]) -> Option<&[u8]>
 }
 
 /// The number that `digit` makes when it is written behind `value`, as far as the limit goes.
-#[inline(always)]
+#[cold]
+#[inline(never)]
 fn with_digit(value: u32, digit: u8) -> u32
     requires { (48 ≤ digit) × (digit ≤ 57) }
     ensures { result ≡ capped (value * 10 + (digit - 48)) }
 {
     let wide = u64::from(value) * 10 + u64::from(digit - b'0');
     wide.min(u64::from(ABOVE_LIMIT)) as u32
-}
-
-/// The bytes behind the zeros at the front, which count for nothing in a number.
-#[inline(always)]
-fn after_zeros(bytes: &[u8]) -> &[u8]
-    ensures { digits_after 0 result.now ≡ digits_after 0 bytes.now }
-{
-    let mut rest = bytes;
-    while let [b'0', after @ ..] = rest {
-        rest = after;
-    }
-    rest
 }
 
 /// A number, which counts as `ABOVE_LIMIT` where it is greater.
@@ -73,43 +61,25 @@ pub fn number_at(bytes: &[u8]) -> Option<(u32, &[u8])>
     if !first.is_ascii_digit() {
         return None;
     }
-    let mut value = with_digit(0, *first);
-    let mut rest = if value == 0 {
-        after_zeros(after)
-    } else {
-        after
-    };
+    let mut value = u32::from(*first - b'0');
+    let mut rest = after;
     while let [digit, after @ ..] = rest
         && digit.is_ascii_digit()
     {
-        value = with_digit(value, *digit);
+        value = if value < MAX_NUMBER / 10 {
+            value * 10 + u32::from(*digit - b'0')
+        } else {
+            with_digit(value, *digit)
+        };
         rest = after;
     }
     Some((value, rest))
 }
 
-/// `r` and a number.
-#[inline(always)]
-pub fn register_at(bytes: &[u8]) -> Option<(Reg, &[u8])>
-    ensures { option_map (λ found. (found.0, found.1.now)) result ≡ register_at bytes.now }
-{
-    match bytes {
-        [b'r', after @ ..] => {
-            let (number, rest) = number_at(after)?;
-            Some((Reg(number), rest))
-        }
-        _ => None,
-    }
-}
-
 /// `=>` with any blanks on both sides.
-#[inline(always)]
 pub fn arrow_at(bytes: &[u8]) -> Option<&[u8]>
     ensures { option_map (λ rest. rest.now) result ≡ arrow_at bytes.now }
 {
-    if let [b' ', b'=', b'>', b' ', after @ ..] = bytes {
-        return Some(after_blanks(after));
-    }
     match after_blanks(bytes) {
         [b'=', b'>', after @ ..] => Some(after_blanks(after)),
         _ => None,

@@ -3,7 +3,7 @@ ghost use Rattle.std.specs.Prelude.{◌≡◌, option_map};
 ghost use Rattle.iloc_text.specs.ScheduleLines.{IsSaidBy, said_of};
 ghost use Rattle.iloc_text.specs.Steps.ScheduleScan.{slot_at, behind_byte, row_at, number_behind, block_name_at, head_at, cycles_at, total_at, worded_at, said_at, schedule_line_at, is_said_within};
 
-use crate::line::{LineFault, is_end, is_within};
+use crate::line::{ParseFault, is_end, is_within};
 use crate::op::Op;
 use crate::operation::operation_at;
 use crate::scan::{ABOVE_LIMIT, after_blanks, is_word_byte, number_at, some_blanks_at, word_at};
@@ -146,15 +146,15 @@ fn is_said_within(line: &ScheduleLine<'_>) -> bool
 }
 
 /// What a line of a schedule says, or why it isn't understood. The line has no line end.
-pub fn read_schedule_line(line: &[u8]) -> Result<ScheduleLine<'_>, LineFault>
+pub fn read_schedule_line(line: &[u8]) -> Result<ScheduleLine<'_>, ParseFault>
     ensures { IsSaidBy line.now result }
 {
     let Some(found) = schedule_line_at(line) else {
-        return Err(LineFault::Bad);
+        return Err(ParseFault::Bad);
     };
     if is_said_within(&found) {
         Ok(found)
     } else {
-        Err(LineFault::NumberTooLarge)
+        Err(ParseFault::NumberTooLarge)
     }
 }

@@ -2,8 +2,8 @@
 use Rattle.std.specs.Prelude.{◌≡◌, ℕ, List, ◌∷◌, Option, option_map, Result, Ok, Err}
 use Rattle.std.specs.Borrow.{Bor}
 use Rattle.iloc_text.specs.declared.line.Line.{Line}
-use Rattle.iloc_text.specs.declared.line.LineFault.{LineFault}
-use Rattle.iloc_text.specs.declared.line.LineFault.TheVariants.{Bad, NumberTooLarge}
+use Rattle.iloc_text.specs.declared.line.ParseFault.{ParseFault}
+use Rattle.iloc_text.specs.declared.line.ParseFault.TheVariants.{Bad, NumberTooLarge}
 use Rattle.iloc_text.specs.Grammar.{Reads, HasReading, HasWideReading}
 use Rattle.iloc_text.specs.Steps.Lines.{lines_of, lines_left}
 
@@ -11,7 +11,7 @@ abbrev pub label_of : Line → Option (List ℕ)
 label_of line = option_map (λ name. name.now) line.label
 
 -- a label and an operation that the line reads as, or why it has no reading
-abbrev pub LineReads : List ℕ → Result Line LineFault → Type 0
+abbrev pub LineReads : List ℕ → Result Line ParseFault → Type 0
 LineReads line (Ok found) = Reads line (label_of found) found.op
 LineReads line (Err Bad) = HasWideReading line → ⊥
 LineReads line (Err NumberTooLarge) = HasWideReading line × (HasReading line → ⊥)
@@ -21,7 +21,7 @@ abbrev pub FirstLineReads : List ℕ → Line → Option (Bor (List ℕ)) → Ty
 FirstLineReads text found after = (line : List ℕ) × (lines_of text ≡ line ∷ lines_left after) × LineReads line (Ok found)
 
 -- so it is, or why the first line has no reading
-abbrev pub FirstLine : List ℕ → Result (Line × Option (Bor (List ℕ))) LineFault → Type 0
+abbrev pub FirstLine : List ℕ → Result (Line × Option (Bor (List ℕ))) ParseFault → Type 0
 FirstLine text (Ok found) = FirstLineReads text found.0 found.1
 FirstLine text (Err fault) =
     (line : List ℕ) × (after : Option (Bor (List ℕ))) × (lines_of text ≡ line ∷ lines_left after) × LineReads line (Err fault)

@@ -3,7 +3,6 @@ use Rattle.std.specs.Prelude.{ℕ, ◌+◌, ◌-◌, ◌*◌, min, nat_lt, Bool,
 use Rattle.std.specs.List.{list_all}
 use Rattle.std.specs.Char.{is_ascii_digit, is_ascii_alphabetic}
 use Rattle.iloc_text.specs.declared.scan.TheConstants.{ABOVE_LIMIT}
-use Rattle.iloc_text.specs.declared.op.Reg.{Reg}
 use Rattle.iloc_text.specs.declared.op.Op.{Op}
 use Rattle.iloc_text.specs.declared.forms.Opcode.{Opcode}
 use Rattle.iloc_text.specs.Forms.{Lead, Value, Operand, operands, number_of, op_of}
@@ -38,9 +37,10 @@ abbrev pub number_at : List ℕ → Option (ℕ × List ℕ)
 number_at [] = None
 number_at (c ∷ cs) = if is_ascii_digit c then Some (digits_after 0 (c ∷ cs)) else None
 
-abbrev pub register_at : List ℕ → Option (Reg × List ℕ)
+-- the number of a register
+abbrev pub register_at : List ℕ → Option (ℕ × List ℕ)
 register_at [] = None
-register_at (c ∷ cs) = if c == 114 then number_at cs >>= (λ found. Some (record { 0 = found.0 }, found.1)) else None
+register_at (c ∷ cs) = if c == 114 then number_at cs else None
 
 abbrev pub arrow_from : List ℕ → Option (List ℕ)
 arrow_from [] = None
@@ -73,19 +73,23 @@ lead_at arrow bytes = arrow_at bytes
 -- the number of a value of this kind
 abbrev pub value_at : Value → List ℕ → Option (ℕ × List ℕ)
 value_at (Constant n) bytes = number_at bytes
-value_at _ bytes = register_at bytes >>= (λ found. Some (found.0.0, found.1))
+value_at _ bytes = register_at bytes
 
--- the number of a value of this kind, and the numbers behind it
-unfoldable pub value_then : Value → (List ℕ → Option (List ℕ × List ℕ)) → List ℕ → Option (List ℕ × List ℕ)
-value_then value more bytes = do
-  found ← value_at value bytes
+-- the number of an operand of this kind
+abbrev pub operand_at : Operand → List ℕ → Option (ℕ × List ℕ)
+operand_at o bytes = lead_at o.lead bytes >>= value_at o.value
+
+-- the number of an operand of this kind, and the numbers behind it
+unfoldable pub operand_then : Operand → (List ℕ → Option (List ℕ × List ℕ)) → List ℕ → Option (List ℕ × List ℕ)
+operand_then o more bytes = do
+  found ← operand_at o bytes
   others ← more found.1
   Some (found.0 ∷ others.0, others.1)
 
 -- the numbers of operands that are as these but for their numbers
 abbrev pub operands_at : List Operand → List ℕ → Option (List ℕ × List ℕ)
 operands_at [] bytes = Some ([], bytes)
-operands_at (o ∷ more) bytes = lead_at o.lead bytes >>= value_then o.value (operands_at more)
+operands_at (o ∷ more) bytes = operand_then o (operands_at more) bytes
 
 -- an operation of which the opcode was read
 unfoldable pub called_at : Opcode → List ℕ → Option (Op × List ℕ)

@@ -1,6 +1,6 @@
 use Rattle.std.proofs.Common.{◌∙◌, ◌+◌, [], Some, None, Ok, Err, length, refl, ap, arith}
 use Rattle.std.proofs.lemmas.Result.{err_from_is_err_and}
-use Rattle.iloc_text.specs.declared.line.LineFault.TheVariants.{Bad, NumberTooLarge}
+use Rattle.iloc_text.specs.declared.line.ParseFault.TheVariants.{Bad, NumberTooLarge}
 use Rattle.iloc_text.specs.declared.fault.ReadFault.TheVariants as faults
 use Rattle.iloc_text.specs.Steps.LineReads.{label_of, FirstLine}
 use Rattle.iloc_text.specs.Steps.Growth.{with_line}
@@ -38,6 +38,32 @@ returns-in-Err-NumberTooLarge-clause-err g c = λ memory.
     fault_here here large.0 large.1 (faults.NumberTooLarge (c.loop-rest.number + 1))
     c.if-input-gt-MAX_INPUT.false large.2 memory (λ e. cc) (refl, large.3.0, large.3.1)
 
+pub returns-in_err-add_op-clause-err : goal.returns-in_err-add_op-clause-err
+returns-in_err-add_op-clause-err g c =
+    let here : Progress c.args.input.now c.loop-rest.invariant.read c.loop-rest.number (Some c.in-Some.text) =
+    rw c.in-Some.is at c.loop-rest.invariant.progress in
+    let first = c.in-Some-usual_operation.ensures in
+    let exit = err_from_is_err_and c.from_residual.result c.from_residual.ensures.1 in
+    err_is_refused c.args.input.now c.from_residual.result c.in_err-add_op.field-0.0 (exit.1 ∙ ap (λ e. Err e) exit.2)
+    (λ memory. grown_here here first.0 c.in-Some-usual_operation.after c.in_err-add_op.field-0.0 None
+    (Some c.in-Some-usual_operation.op)
+    (HasTaken g.T.TakeBlocks.took c.args.taker.now c.add_op.new.taker c.add_op.new.self)
+    c.if-input-gt-MAX_INPUT.false first.1 first.2
+    (c.in_err-add_op.ensures c.args.taker.now c.loop-rest.invariant.read c.loop-rest.invariant.taken) memory)
+
+pub loop-rest-preserved-in-Some-usual_operation : goal.loop-rest-preserved-in-Some-usual_operation
+loop-rest-preserved-in-Some-usual_operation g c =
+    let here : Progress c.args.input.now c.loop-rest.invariant.read c.loop-rest.number (Some c.in-Some.text) =
+    rw c.in-Some.is at c.loop-rest.invariant.progress in
+    let first = c.in-Some-usual_operation.ensures in
+    let taken = c.in_ok-add_op.ensures c.args.taker.now c.loop-rest.invariant.read c.loop-rest.invariant.taken in
+    record {
+      read = with_line None (Some c.in-Some-usual_operation.op) c.loop-rest.invariant.read;
+      taken = taken;
+      progress = progress_step here first.0 c.in-Some-usual_operation.after None
+          (Some c.in-Some-usual_operation.op) first.1 first.2 (so_far_within taken.0 _ c.add_op.new.self taken.2);
+    }
+
 pub add_line-requires : goal.add_line-requires
 add_line-requires g c =
     let first : FirstLine c.in-Some.text.now (Ok c.in-Ok.found) = rw c.in-Ok.is at c.first_line.ensures in
@@ -48,8 +74,8 @@ returns-in_err-add_line-clause-err g c =
     let here : Progress c.args.input.now c.loop-rest.invariant.read c.loop-rest.number (Some c.in-Some.text) =
     rw c.in-Some.is at c.loop-rest.invariant.progress in
     let first : FirstLine c.in-Some.text.now (Ok c.in-Ok.found) = rw c.in-Ok.is at c.first_line.ensures in
-    let exit = err_from_is_err_and c.from_residual.result c.from_residual.ensures.1 in
-    err_is_refused c.args.input.now c.from_residual.result c.in_err-add_line.field-0.0 (exit.1 ∙ ap (λ e. Err e) exit.2)
+    let exit = err_from_is_err_and c.from_residual-in_err-add_line.result c.from_residual-in_err-add_line.ensures.1 in
+    err_is_refused c.args.input.now c.from_residual-in_err-add_line.result c.in_err-add_line.field-0.0 (exit.1 ∙ ap (λ e. Err e) exit.2)
     (λ memory. grown_here here first.0 c.in-Ok.found.1 c.in_err-add_line.field-0.0 (label_of c.in-Ok.found.0)
     c.in-Ok.found.0.op
     (HasTaken g.T.TakeBlocks.took c.args.taker.now c.add_line.new.taker c.add_line.new.self)
