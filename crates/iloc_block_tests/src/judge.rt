@@ -364,3 +364,24 @@ fn refutes_on_made_up_memories(rt: HostRuntime) -> Result<(), Fail> {
     assert_eq!(rt; verdict(alloc, sum, other, true)?, Verdict::Agrees);
     Ok(())
 }
+
+/// Run with each allocation failing in turn, this has a refusal at each step of two runs in terms.
+#[test]
+fn comparing_tells_want_of_memory(rt: HostRuntime) -> Result<(), Fail> {
+    let alloc = rt.alloc();
+    assert_same(&rt, alloc, LOADS_AND_STORES, LOADS_AND_STORES, true)?;
+    assert_same(&rt, alloc, SQUARE, b"output 4\n", false)
+}
+
+/// Run with each allocation failing in turn, this has a refusal at each step of judging, up to a memory that is made up.
+#[test]
+fn judging_tells_want_of_memory(rt: HostRuntime) -> Result<(), Fail> {
+    let alloc = rt.alloc();
+    assert_eq!(rt; verdict(alloc, SQUARE, SQUARE, false)?, Verdict::Units(12));
+    let (block, theirs, _, place) = REFUTED[0];
+    let Verdict::DiffersOn(_, found) = verdict(alloc, block, theirs, true)? else {
+        return Err(Fail::from("not refuted"));
+    };
+    assert_eq!(rt; found, place);
+    Ok(())
+}
