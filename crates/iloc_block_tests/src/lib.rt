@@ -4,6 +4,8 @@
 #![tactic(auto)]
 
 #[cfg(test)]
+mod judge;
+#[cfg(test)]
 mod meaning;
 #[cfg(test)]
 mod sched;
