@@ -1,9 +1,9 @@
 -- An effect depends on the used registers, and on words only where memory is read; for `TimedOutcomes`.
-use Rattle.std.proofs.Common.{◌≡◌, ℕ, ◌+ℤ◌, ℤ, Bool, true, false, ◌||◌, [], inl, inr, refl, ap}
+use Rattle.std.proofs.Common.{◌≡◌, ℕ, ◌+ℤ◌, ℤ, Bool, true, false, ◌||◌, [], inl, inr, refl, ap, ◌∙◌}
 use Rattle.std.proofs.lemmas.Bool.{true≢false, false≢true}
 use Rattle.iloc_text.specs.declared.op.Reg.{Reg}
 use Rattle.iloc_text.specs.declared.op.Op.{Op}
-use Rattle.iloc_text.specs.declared.op.Op.TheVariants.{Load, LoadI, Store, Add, Sub, Mult, Lshift, Rshift, Output, Nop, AddI, SubI, MultI, LshiftI, RshiftI, LoadAI, StoreAI}
+use Rattle.iloc_text.specs.declared.op.Op.TheVariants.{Load, Store, Output, LoadAI, StoreAI}
 use Rattle.iloc_text.specs.Registers.{used}
 use Rattle.iloc_meaning.specs.declared.effect.Effect.TheVariants.{Gives, Writes, Emits}
 use Rattle.iloc_meaning.specs.Address.{good_address}
@@ -11,48 +11,35 @@ use Rattle.iloc_meaning.specs.Arithmetic.{wrapped, constant}
 use Rattle.iloc_meaning.specs.Effect.{effect, at_address}
 use Rattle.iloc_meaning.specs.Trace.{is_write_to}
 use Rattle.iloc_meaning.specs.Outcome.{emitted_by}
-use Rattle.iloc_meaning.proofs.Effects.{at_address_same, at_address_cases}
+use Rattle.iloc_meaning.proofs.Effects.{at_address_same, at_address_cases, effect_same}
 use Rattle.iloc_timed.specs.declared.kind.Kind.{Kind}
 use Rattle.iloc_timed.specs.declared.kind.Kind.TheVariants as K
 use Rattle.iloc_timed.specs.declared.latencies.Latencies.{Latencies}
 use Rattle.iloc_timed.specs.Kinds.{kind, is_load, is_store, is_output}
 use Rattle.iloc_timed.specs.Latency.{latency, latency_of}
 use Rattle.iloc_sched.specs.Steps.Members.{In}
+use Rattle.iloc_sched.proofs.Basics.Members.{in_from}
 
 -- whether an operation of this kind reads memory
 abbrev pub reads_memory : Kind → Bool
 reads_memory k = is_load k || is_output k
 
+-- words are looked at only where memory is read
+words_unread : (op : Op) (reg : Reg → ℤ) (word word' : ℕ → ℤ) → (reads_memory (kind op) ≡ true → (a : ℕ) → word a ≡ word' a)
+    → effect op reg word ≡ effect op reg word'
+words_unread (Load addr dest) reg word word' words =
+    at_address_same (reg addr) _ _ (λ a good. ap Gives (words refl a))
+words_unread (LoadAI addr offset dest) reg word word' words =
+    at_address_same (wrapped (reg addr +ℤ constant offset)) _ _ (λ a good. ap Gives (words refl a))
+words_unread (Output addr) reg word word' words =
+    at_address_same (constant addr) _ _ (λ a good. ap Emits (words refl a))
+words_unread _ reg word word' words = refl
+
 pub effect_used : (op : Op) (reg reg' : Reg → ℤ) (word word' : ℕ → ℤ) → ((r : Reg) → In (used op) r → reg r ≡ reg' r)
     → (reads_memory (kind op) ≡ true → (a : ℕ) → word a ≡ word' a) → effect op reg word ≡ effect op reg' word'
-effect_used (Load addr dest) reg reg' word word' regs words =
-    rw (regs addr (inl refl)) (at_address_same (reg' addr) _ _ (λ a good. ap Gives (words refl a)))
-effect_used (LoadI value dest) reg reg' word word' regs words = refl
-effect_used (Store value addr) reg reg' word word' regs words =
-    rw (regs addr (inr (inl refl)), regs value (inl refl)) refl
-effect_used (Add left right dest) reg reg' word word' regs words =
-    rw (regs left (inl refl), regs right (inr (inl refl))) refl
-effect_used (Sub left right dest) reg reg' word word' regs words =
-    rw (regs left (inl refl), regs right (inr (inl refl))) refl
-effect_used (Mult left right dest) reg reg' word word' regs words =
-    rw (regs left (inl refl), regs right (inr (inl refl))) refl
-effect_used (Lshift left right dest) reg reg' word word' regs words =
-    rw (regs left (inl refl), regs right (inr (inl refl))) refl
-effect_used (Rshift left right dest) reg reg' word word' regs words =
-    rw (regs left (inl refl), regs right (inr (inl refl))) refl
-effect_used (Output addr) reg reg' word word' regs words =
-    at_address_same (constant addr) _ _ (λ a good. ap Emits (words refl a))
-effect_used Nop reg reg' word word' regs words = refl
-effect_used (AddI left value dest) reg reg' word word' regs words = rw (regs left (inl refl)) refl
-effect_used (SubI left value dest) reg reg' word word' regs words = rw (regs left (inl refl)) refl
-effect_used (MultI left value dest) reg reg' word word' regs words = rw (regs left (inl refl)) refl
-effect_used (LshiftI left value dest) reg reg' word word' regs words = rw (regs left (inl refl)) refl
-effect_used (RshiftI left value dest) reg reg' word word' regs words = rw (regs left (inl refl)) refl
-effect_used (LoadAI addr offset dest) reg reg' word word' regs words =
-    rw (regs addr (inl refl)) (at_address_same (wrapped (reg' addr +ℤ constant offset)) _ _
-    (λ a good. ap Gives (words refl a)))
-effect_used (StoreAI value addr offset) reg reg' word word' regs words =
-    rw (regs addr (inr (inl refl)), regs value (inl refl)) refl
+effect_used op reg reg' word word' regs words =
+    effect_same op reg reg' word word (λ r there. regs r (in_from (used op) r there)) (λ a good. refl)
+    ∙ words_unread op reg' word word' words
 
 load_writes_not : (z : ℤ) (word : ℕ → ℤ) (a : ℕ) → is_write_to a (at_address (good_address z) (λ b. Gives (word b)))
     ≡ false
