@@ -1,5 +1,5 @@
 //! Listed texts in which rows without an operation take little room.
-ghost use Rattle.std.specs.Prelude.{◌≡◌, ◌<◌, ◌≤◌, ◌+◌, ◌++◌, length, IfOk, IfSome, OnErr, OnOk};
+ghost use Rattle.std.specs.Prelude.{◌≡◌, ◌<◌, ◌≤◌, ◌+◌, ◌++◌, length, IfErr, IfOk, IfSome, OnErr, OnOk};
 ghost use Rattle.std.specs.Io.KnownBytes.{Appends};
 ghost use Rattle.iloc_farm.specs.Device.{WritesFront};
 ghost use Rattle.iloc_farm.specs.Steps.Folded.{empty_rows};
@@ -49,9 +49,9 @@ fn split_rows(text: &[u8]) -> (usize, &[u8])
 {
     let mut rows = 0;
     let mut rest = text;
-    while let Some(behind) = rest.strip_prefix(EMPTY_ROW) {
+    while rest.starts_with(EMPTY_ROW) {
         rows += 1;
-        rest = behind;
+        rest = &rest[EMPTY_ROW.len()..];
     }
     (rows, rest)
 }
@@ -132,6 +132,18 @@ impl Folded {
             Some(self.bytes.as_slice())
         } else {
             None
+        }
+    }
+
+    /// The text where it is kept as it is, else all of it.
+    pub(crate) fn into_plain(self) -> Result<Vec<u8>, Folded>
+        ensures ok { IfOk result (λ text. text.items ≡ self) }
+        ensures err { IfErr result (λ folded. folded ≡ self) }
+    {
+        if self.runs.is_empty() {
+            Ok(self.bytes)
+        } else {
+            Err(self)
         }
     }
 

@@ -49,17 +49,22 @@ impl Pieces {
     pub(crate) fn push(&mut self, piece: Folded) -> Result<(), NoMemory>
         ensures { OnOk result (self.new ≡ self.old ++ piece) }
     {
-        if let Some(text) = piece.as_plain()
-            && self.last.len() + text.len() <= MOST_JOINED
-        {
-            self.last.extend_from_slice(text)?;
-            return Ok(());
-        }
         let alloc = *self.last.allocator();
-        self.room.reserve(piece.size())?;
-        let joined = std::mem::replace(&mut self.last, Vec::new(alloc));
-        self.earlier.push(Folded::plain(alloc, joined))?;
-        self.earlier.push(piece)?;
+        match piece.into_plain() {
+            Ok(text) if self.last.len() + text.len() <= MOST_JOINED => {
+                self.last.extend_from_slice(&text)?;
+            }
+            Ok(text) => {
+                let full = std::mem::replace(&mut self.last, text);
+                self.earlier.push(Folded::plain(alloc, full))?;
+            }
+            Err(folded) => {
+                self.room.reserve(folded.size())?;
+                let full = std::mem::replace(&mut self.last, Vec::new(alloc));
+                self.earlier.push(Folded::plain(alloc, full))?;
+                self.earlier.push(folded)?;
+            }
+        }
         Ok(())
     }
 
