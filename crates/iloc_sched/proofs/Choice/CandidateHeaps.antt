@@ -6,7 +6,7 @@ use Rattle.std.proofs.lemmas.Map.Keys.{IsDistinct-IsPermutation, IsDistinct-cons
 use Rattle.std.specs.List.{IsDistinct, AllByRecursion}
 use Rattle.std.specs.List.Sorted.{IsPermutation}
 use Rattle.std.specs.Ordering.{is_lt}
-use Rattle.std.specs.Prelude.{slice_index_or, IsSome, IfSome, IfNone, OnOk, OnErr, ◌↔◌, option_map, Result, Ok, Err}
+use Rattle.std.specs.Prelude.{slice_index_or, IfSome, IfNone, OnOk, OnErr, Result, Ok, Err}
 use Rattle.std.specs.BinaryHeap.{IsHeap, KeepsHeap, PopsGreatest, IsUpperBound}
 use Rattle.iloc_sched.specs.declared.candidate.Candidate.{Candidate}
 use Rattle.iloc_sched.specs.Steps.Members.{In}

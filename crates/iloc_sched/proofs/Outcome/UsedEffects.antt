@@ -1,5 +1,5 @@
 -- An effect depends on the used registers, and on words only where memory is read; for `TimedOutcomes`.
-use Rattle.std.proofs.Common.{◌≡◌, ℕ, ◌+ℤ◌, ℤ, Bool, true, false, ◌||◌, [], inl, inr, refl, ap, ◌∙◌}
+use Rattle.std.proofs.Common.{◌≡◌, ℕ, ◌+ℤ◌, ℤ, Bool, true, false, ◌||◌, [], refl, ap, ◌∙◌}
 use Rattle.std.proofs.lemmas.Bool.{true≢false, false≢true}
 use Rattle.iloc_text.specs.declared.op.Reg.{Reg}
 use Rattle.iloc_text.specs.declared.op.Op.{Op}
