@@ -20,16 +20,13 @@ class Edit:
     is_gates: bool = False
     changes: list = field(default_factory=list)     # file, old text, new text
 
-    def texts(self, folder):
-        """The files that it changes, as it makes them, of the crate in this folder."""
-        made = {}
+    def change(self, texts, folder):
+        """Adds the files that it changes, of the crate in this folder, as it makes them of these texts and the others."""
         for name, old, new in self.changes:
-            if name not in made:
-                made[name] = read(f"{folder}/{name}")
-            if made[name].count(old) != 1:
-                raise BadEdit(f"an old text stands {made[name].count(old)} times in {name}, and not once")
-            made[name] = made[name].replace(old, new)
-        return made
+            text = texts.get(name) or read(f"{folder}/{name}")
+            if text.count(old) != 1:
+                raise BadEdit(f"an old text stands {text.count(old)} times in {name}, and not once")
+            texts[name] = text.replace(old, new)
 
 
 def read(path):
