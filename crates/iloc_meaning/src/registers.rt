@@ -7,7 +7,7 @@ use std::collections::BTreeMap;
 use std::marker::Model;
 
 /// How many registers have a place in the table: those with numbers below this.
-const TABLED: usize = 4_096;
+const TABLED: usize = 16_384;
 
 /// The values of the registers of a block, by their numbers.
 #[derive(Debug, Drop)]
