@@ -55,6 +55,7 @@ UNLIKE = {
     "fault_left_out": (FAULTS_FIRST, "output 8\n"),
     "outputs_exchanged": (TWO_OUTPUTS, "output 8\noutput 4\n"),
     "output_left_out": (TWO_OUTPUTS, "output 4\n"),
+    "all_left_out_but_the_output": (LOADS_AND_STORES, "output 1032\n"),
     "stored_elsewhere": (LOADS_AND_STORES, LOADS_AND_STORES.replace("r1, 8", "r1, 12")),
 }
 

@@ -4,13 +4,11 @@
 #![tactic(auto)]
 
 #[cfg(test)]
-mod judge;
+mod asserted;
 #[cfg(test)]
 mod meaning;
 #[cfg(test)]
 mod sched;
-#[cfg(test)]
-mod submissions;
 #[cfg(test)]
 mod text;
 #[cfg(test)]

@@ -2,7 +2,7 @@
 //! reference that a function makes.
 ghost use Rattle.std.specs.Prelude.{◌≤◌, length, IfOk};
 
-use iloc_text::{Block, MAX_OPS, Op, Reg, read_file};
+use iloc_text::{Block, MAX_OPS, Op, read_file};
 use iloc_timed::{BuildFault, Latencies, MAX_ROWS, Row, Schedule};
 use std::alloc::{AllocError, Global};
 use std::test::Fail;
@@ -23,18 +23,8 @@ pub(crate) fn block_of(alloc: Global, text: &[u8]) -> Result<Block, Fail>
     Ok(block)
 }
 
-/// `loadI value => dest`
-pub(crate) fn set(dest: Reg, value: u32) -> Op {
-    Op::LoadI { value, dest }
-}
-
-/// `output addr`
-pub(crate) fn output(addr: u32) -> Op {
-    Op::Output { addr }
-}
-
 /// A row in which nothing is issued.
-pub(crate) const EMPTY: Row = Row {
+const EMPTY: Row = Row {
     zero: None,
     one: None,
 };
@@ -44,14 +34,6 @@ pub(crate) fn alone(zero: usize) -> Row {
     Row {
         zero: Some(zero),
         one: None,
-    }
-}
-
-/// Two operations, on unit 0 and on unit 1.
-pub(crate) fn both(zero: usize, one: usize) -> Row {
-    Row {
-        zero: Some(zero),
-        one: Some(one),
     }
 }
 

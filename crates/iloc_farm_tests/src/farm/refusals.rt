@@ -1,6 +1,7 @@
 //! The run of each task, where a growth is refused: it answers want of memory or of a thread, nothing is written, and a
 //! second try ends well. To be run with each growth refused in turn: each test ends with the refusal.
 use super::fakes::{Sink, giving, taking_all};
+use crate::asserted::assert_list;
 use iloc_args::{Request, parse_line};
 use iloc_farm::{FarmFault, Finding, RunFault, run};
 use iloc_text::push_number;
@@ -57,7 +58,7 @@ fn assert_listed<H: Abort + AllocGlobal + Threads + Wait + Sync>(
     for (words, listing) in cases {
         let request = parse_line(rt.alloc(), words)?;
         let (found, first) = listed(rt, &request, input)?;
-        assert_eq!(rt; found.as_slice(), *listing);
+        assert_list(rt, &found, listing);
         first?;
     }
     Ok(())
@@ -89,22 +90,77 @@ fn lists_a_small_file(rt: HostRuntime) -> Result<(), Fail> {
     assert_listed(&rt, CASES, SMALL)
 }
 
+/// Blocks, and what somebody proposes for them: nothing, more than there is, all words in one register in place of
+/// three, nothing but the output, an output too many, and nothing for blocks that are nothing.
 const PROPOSED: &[u8] = b"loadI 4 => r1
 B: output 4
+C: loadI 1024 => r1
+loadAI r1, 4 => r2
+mult r2, r2 => r3
+storeAI r3 => r1, 8
+output 1032
+D: loadI 1024 => r1
+loadAI r1, 4 => r2
+mult r2, r2 => r3
+storeAI r3 => r1, 8
+output 1032
+a: loadI 4 => r1
+load r1 => r2
+output 4
+b:
+c: nop
 block 1 -
 block 2 B
 [ output 4 ; loadI 4 => r1 ]
 cycles 7
+block 3 C
+[ loadI 1028 => r1 ; nop ]
+[ load r1 => r1 ; nop ]
+[ nop ; nop ]
+[ nop ; nop ]
+[ nop ; nop ]
+[ nop ; nop ]
+[ loadI 1032 => r2 ; mult r1, r1 => r1 ]
+[ nop ; nop ]
+[ nop ; nop ]
+[ store r1 => r2 ; nop ]
+[ nop ; nop ]
+[ nop ; nop ]
+[ nop ; nop ]
+[ nop ; nop ]
+[ output 1032 ; nop ]
+cycles 15
+block 4 D
+[ output 1032 ; nop ]
+block 5 a
+[ loadI 4 => r0 ; nop ]
+[ load r0 => r1 ; output 8 ]
+[ nop ; nop ]
+[ nop ; output 4 ]
+cycles 6
+block 6 b
+cycles 0
+block 7 c
+[ nop ; nop ]
+cycles 3
+total 6
 ";
 
 const CHECKED: &[u8] = b"block 1 - same cycles 0 ours 1 least 1
 block 2 B same cycles 1 ours 1 least 1 claimed 7
-total 1 ours 2 least 2
+block 3 C same cycles 15 ours 15 least 15
+block 4 D differs cycles 1 ours 15 least 15
+  output 1: 0 for 81
+block 5 a differs cycles 6 ours 6 least 6
+  output 2: 0 for none
+block 6 b same cycles 0 ours 0 least 0
+block 7 c same cycles 0 ours 0 least 0 claimed 3
+total 23 ours 38 least 38
 ";
 
 #[test]
 fn judges_small_rows(rt: HostRuntime) -> Result<(), Fail> {
-    assert_listed(&rt, &[(&["check", "--at", "4", "9"], CHECKED)], PROPOSED)
+    assert_listed(&rt, &[(&["check", "--at", "1028", "9"], CHECKED)], PROPOSED)
 }
 
 /// The cycles of 40 such blocks, and their sum.
