@@ -1,4 +1,5 @@
 //! Requests of command lines. How faults are told is seen of the built program.
+use crate::asserted::assert_list;
 use iloc_args::{Task, parse_line};
 use std::test::Fail;
 
@@ -67,10 +68,9 @@ fn words_ask_for_a_task_with_its_options(rt: HostRuntime) -> Result<(), Fail> {
     for (words, task, workers, at, memory, times) in ASKED {
         let request = parse_line(rt.alloc(), words)?;
         let latencies = request.latencies;
-        assert!(rt; request.task == *task);
-        assert_eq!(rt; (request.workers, request.at), (*workers, *at));
-        assert_eq!(rt; request.words.as_slice(), *memory);
-        assert_eq!(rt; (latencies.load, latencies.store, latencies.mult), *times);
+        assert!(rt; (request.task, request.workers, request.at) == (*task, *workers, *at));
+        assert!(rt; (latencies.load, latencies.store, latencies.mult) == *times);
+        assert_list(&rt, &request.words, memory);
     }
     Ok(())
 }

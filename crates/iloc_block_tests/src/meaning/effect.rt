@@ -1,28 +1,46 @@
 use iloc_meaning::{Effect, Memory, Registers};
-use iloc_text::{Op, Reg};
+use iloc_text::{NoMemory, Op, Reg};
+use std::alloc::Global;
 use std::test::Fail;
+
+const ADDRESS: Reg = Reg(1);
+
+const LOAD: Op = Op::Load {
+    addr: ADDRESS,
+    dest: Reg(2),
+};
+
+const STORE: Op = Op::Store {
+    value: Reg(2),
+    addr: ADDRESS,
+};
+
+const WRITTEN: Effect = Effect::Writes {
+    address: 8,
+    word: 0,
+};
+
+/// An operation, the value of its address, and its effect.
+const CASES: &[(Op, i32, Effect)] = &[
+    (LOAD, 8, Effect::Gives(-5)),
+    (STORE, 8, WRITTEN),
+    (LOAD, -4, Effect::Faults),
+];
+
+/// The value of the address once it is set, and the effect of the operation where -5 stands at 8.
+fn effect_at(alloc: Global, op: &Op, address: i32) -> Result<(i32, Effect), NoMemory> {
+    let mut memory = Memory::zero(alloc)?;
+    memory.set(8, -5);
+    let mut registers = Registers::new(alloc)?;
+    registers.set(ADDRESS, address)?;
+    let effect = Effect::of(op, &registers, &memory);
+    Ok((registers.get(ADDRESS), effect))
+}
 
 #[test]
 fn reads_registers_and_memory(rt: HostRuntime) -> Result<(), Fail> {
-    let (addr, other) = (Reg(1), Reg(2));
-    let mut registers = Registers::new(rt.alloc())?;
-    let mut memory = Memory::zero(rt.alloc())?;
-    memory.set(8, -5);
-    let load = Op::Load { addr, dest: other };
-    let store = Op::Store { value: other, addr };
-    let written = Effect::Writes {
-        address: 8,
-        word: 0,
-    };
-    let cases = [
-        (load, 8, Effect::Gives(-5)),
-        (store, 8, written),
-        (load, -4, Effect::Faults),
-    ];
-    for (op, address, effect) in cases {
-        registers.set(addr, address)?;
-        assert_eq!(rt; registers.get(addr), address);
-        assert_eq!(rt; Effect::of(&op, &registers, &memory), effect);
+    for (op, address, effect) in CASES {
+        assert_eq!(rt; effect_at(rt.alloc(), op, *address)?, (*address, *effect));
     }
     Ok(())
 }

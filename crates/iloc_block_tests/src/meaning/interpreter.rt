@@ -1,6 +1,7 @@
+use crate::asserted::assert_emitted;
 use crate::written::block_of;
 use iloc_meaning::{Interpreter, Memory, Outcome, Words};
-use iloc_text::NoMemory;
+use iloc_text::{Block, NoMemory};
 use std::alloc::Global;
 use std::process::Abort;
 use std::test::Fail;
@@ -17,7 +18,7 @@ fn assert_runs(
 ) -> Result<(), Fail> {
     for (text, outputs) in runs {
         interpreter.run(&block_of(alloc, text)?)?;
-        assert!(rt; interpreter.outputs() == *outputs, "{text:?}");
+        assert_emitted(rt, text, interpreter.outputs(), *outputs);
     }
     Ok(())
 }
@@ -27,6 +28,11 @@ fn memory(alloc: Global) -> Result<Memory, NoMemory> {
     let mut memory = Memory::zero(alloc)?;
     memory.set(8, 7);
     Ok(memory)
+}
+
+/// On that memory.
+fn interpreter(alloc: Global) -> Result<Interpreter, NoMemory> {
+    Interpreter::new(alloc, memory(alloc)?)
 }
 
 const READ: &[u8] = b"output 8\noutput 12\n";
@@ -54,7 +60,7 @@ fn written(alloc: Global) -> Result<Outcome, NoMemory> {
 
 /// What is left of these runs.
 fn outcome_of(rt: &impl Abort, alloc: Global, runs: &[Run]) -> Result<Outcome, Fail> {
-    let mut interpreter = Interpreter::new(alloc, memory(alloc)?)?;
+    let mut interpreter = interpreter(alloc)?;
     assert_runs(rt, alloc, &mut interpreter, runs)?;
     Ok(interpreter.into_outcome())
 }
@@ -69,12 +75,23 @@ fn the_outcome_is_that_of_the_last_block(rt: HostRuntime) -> Result<(), Fail> {
 
 const AGAIN: &[Run] = &[(READ, Some(&[7, 0])), (FAR_REGISTER, Some(&[7, 9]))];
 
+/// How the run of a block ended, behind which these were run.
+fn run_before(
+    rt: &impl Abort,
+    alloc: Global,
+    interpreter: &mut Interpreter,
+    block: &Block,
+    runs: &[Run],
+) -> Result<(), Fail> {
+    let first = interpreter.run(block);
+    assert_runs(rt, alloc, interpreter, runs)?;
+    Ok(first?)
+}
+
 /// To be run with each growth refused in turn, those in mid-run among them. It ends with the refusal.
 #[test]
 fn a_refused_run_can_be_repeated(rt: HostRuntime) -> Result<(), Fail> {
     let block = block_of(rt.alloc(), FAR_REGISTER)?;
-    let mut interpreter = Interpreter::new(rt.alloc(), memory(rt.alloc())?)?;
-    let first = interpreter.run(&block);
-    assert_runs(&rt, rt.alloc(), &mut interpreter, AGAIN)?;
-    Ok(first?)
+    let mut interpreter = interpreter(rt.alloc())?;
+    run_before(&rt, rt.alloc(), &mut interpreter, &block, AGAIN)
 }

@@ -1,18 +1,16 @@
+use crate::asserted::assert_list;
 use iloc_meaning::{Memory, Outcome, run_block};
 use iloc_text::{Block, NoMemory, Op, Ops, Reg};
 use std::alloc::Global;
 use std::test::Fail;
 
-/// What these operations emit on zero memory, or nothing where they fault.
-fn emitted(alloc: Global, ops: &[Op]) -> Result<Option<Vec<i32>>, NoMemory> {
+/// What comes of these operations on zero memory.
+fn outcome_of(alloc: Global, ops: &[Op]) -> Result<Outcome, NoMemory> {
     let block = Block {
         name: None,
         ops: Ops::new(Vec::from_slice(alloc, ops)?),
     };
-    match run_block(alloc, &block, Memory::zero(alloc)?)? {
-        Outcome::Finished { outputs, .. } => Ok(Some(outputs.into_vec())),
-        Outcome::Fault => Ok(None),
-    }
+    run_block(alloc, &block, Memory::zero(alloc)?)
 }
 
 const ZERO: Reg = Reg(0);
@@ -76,8 +74,8 @@ const CASES: &[(&[Op], Option<&[i32]>)] = &[
 #[test]
 fn takes_constants_for_their_patterns(rt: HostRuntime) -> Result<(), Fail> {
     for (ops, expected) in CASES {
-        let found = emitted(rt.alloc(), ops)?;
-        assert!(rt; found.as_deref() == *expected, "{ops:?}");
+        let outcome = outcome_of(rt.alloc(), ops)?;
+        assert!(rt; outcome.outputs() == *expected, "{ops:?}");
     }
     Ok(())
 }
@@ -87,9 +85,8 @@ fn keeps_a_copy_apart(rt: HostRuntime) -> Result<(), Fail> {
     let zero = Memory::zero(rt.alloc())?;
     let mut memory = zero.copy()?;
     memory.set(65_532, -5);
-    assert_eq!(rt; memory.get(65_532), -5);
-    assert_eq!(rt; memory.get(65_528), 0);
-    assert_eq!(rt; zero.get(65_532), 0);
-    assert_eq!(rt; memory.word_count(), 16_384);
+    let words = [memory.get(65_532), memory.get(65_528), zero.get(65_532)];
+    assert_list(&rt, &words, &[-5, 0, 0]);
+    assert!(rt; memory.word_count() == 16_384);
     Ok(())
 }

@@ -1,19 +1,27 @@
 use crate::written::{SEVEN_OPERATIONS, Times, USUAL, block_of, latencies};
-use iloc_sched::{pairs, rename};
+use iloc_sched::{Pair, pairs, rename};
 use std::alloc::Global;
+use std::process::Abort;
 use std::test::Fail;
 
-/// The delay pairs of the one block of a text: first, second and delay.
-fn pairs_of(alloc: Global, text: &[u8], times: Times) -> Result<Vec<(usize, usize, u64)>, Fail> {
+/// First, second and delay of a pair.
+type Told = (usize, usize, u64);
+
+/// The delay pairs of the one block of a text.
+fn pairs_of(alloc: Global, text: &[u8], times: Times) -> Result<Vec<Pair>, Fail> {
     let ops = rename(alloc, &block_of(alloc, text)?)?;
-    let mut found = Vec::new(alloc);
-    for pair in pairs(alloc, ops.as_slice(), &latencies(times)?)?.as_slice() {
-        found.push((pair.first, pair.second, pair.delay))?;
-    }
-    Ok(found)
+    Ok(pairs(alloc, &ops, &latencies(times)?)?)
 }
 
-const SEVEN_PAIRS: &[(usize, usize, u64)] = &[
+/// Asserts that these pairs were found.
+pub(crate) fn assert_pairs(rt: &impl Abort, found: &[Pair], wanted: &[Told]) {
+    assert!(rt; found.len() == wanted.len());
+    for (pair, told) in found.iter().zip(wanted) {
+        assert!(rt; (pair.first, pair.second, pair.delay) == *told, "{pair:?}");
+    }
+}
+
+const SEVEN_PAIRS: &[Told] = &[
     (0, 2, 1),
     (1, 2, 1),
     (0, 3, 1),
@@ -28,7 +36,7 @@ const SEVEN_PAIRS: &[(usize, usize, u64)] = &[
 const READ_AND_WRITE: &[u8] = b"load r0 => r1\nstore r1 => r0\n";
 
 /// A block, the latencies, and its delay pairs.
-type Case<'a> = (&'a [u8], Times, &'a [(usize, usize, u64)]);
+type Case<'a> = (&'a [u8], Times, &'a [Told]);
 
 const CASES: &[Case] = &[
     (SEVEN_OPERATIONS, USUAL, SEVEN_PAIRS),
@@ -40,7 +48,7 @@ const CASES: &[Case] = &[
 #[test]
 fn lists_what_waits_for_what(rt: HostRuntime) -> Result<(), Fail> {
     for (text, times, expected) in CASES {
-        assert_eq!(rt; pairs_of(rt.alloc(), text, *times)?.as_slice(), *expected);
+        assert_pairs(&rt, &pairs_of(rt.alloc(), text, *times)?, expected);
     }
     Ok(())
 }

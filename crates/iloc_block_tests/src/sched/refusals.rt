@@ -1,6 +1,7 @@
 //! Each call that takes memory, on a small block and on a middling one: to be run with each growth refused in turn.
 ghost use Rattle.std.specs.Prelude.{◌≤◌, length, IfOk};
 
+use crate::asserted::assert_list;
 use crate::written::alone;
 use iloc_sched::{Pair, pairs, priorities, rename, schedule};
 use iloc_text::{Block, MAX_OPS, Op, Ops, Reg};
@@ -25,22 +26,28 @@ fn chain(alloc: Global, count: usize) -> Result<Block, Fail>
     })
 }
 
+/// Asserts that each operation of a chain has to wait for the one before.
+fn assert_pairs(rt: &impl Abort, count: usize, pairs: &[Pair]) {
+    assert!(rt; pairs.len().wrapping_add(1) == count);
+    for (i, pair) in pairs.iter().enumerate() {
+        let told = (pair.first, pair.second, pair.delay);
+        assert!(rt; told == (i, i.wrapping_add(1), 1));
+    }
+}
+
+/// Asserts that each operation of a chain has as many to follow as there are.
+fn assert_priorities(rt: &impl Abort, count: usize, prios: &[u64]) {
+    assert!(rt; prios.len() == count);
+    for (i, priority) in prios.iter().enumerate() {
+        assert!(rt; (count as u64).checked_sub(i as u64) == Some(*priority));
+    }
+}
+
 /// Asserts that each operation stands alone in its row, one cycle behind the one before.
-fn assert_each_waits(rt: &impl Abort, rows: &[Row], prios: &[u64], pairs: &[Pair]) {
-    assert_eq!(rt; prios.len(), rows.len());
-    assert_eq!(rt; pairs.len().wrapping_add(1), rows.len());
+fn assert_rows(rt: &impl Abort, count: usize, rows: &[Row]) {
+    assert!(rt; rows.len() == count);
     for (i, row) in rows.iter().enumerate() {
         assert!(rt; *row == alone(i));
-        assert_eq!(rt;
-            prios.get(i).copied(),
-            (rows.len() as u64).checked_sub(i as u64)
-        );
-        if let Some(pair) = pairs.get(i) {
-            assert_eq!(rt;
-                (pair.first, pair.second, pair.delay),
-                (i, i.wrapping_add(1), 1)
-            );
-        }
     }
 }
 
@@ -50,12 +57,11 @@ fn assert_chained(rt: &impl Abort, alloc: Global, block: &Block) -> Result<(), F
 {
     let usual = Latencies::usual();
     let ops = rename(alloc, block)?;
-    let prios = priorities(alloc, &ops, &usual)?;
-    let pairs = pairs(alloc, &ops, &usual)?;
+    assert_pairs(rt, block.ops.len(), &pairs(alloc, &ops, &usual)?);
+    assert_priorities(rt, block.ops.len(), &priorities(alloc, &ops, &usual)?);
     let schedule = schedule(alloc, block, &usual)?;
-    assert_eq!(rt; schedule.ops(), ops.as_slice());
-    assert_eq!(rt; schedule.rows().len(), block.ops.len());
-    assert_each_waits(rt, schedule.rows(), &prios, &pairs);
+    assert_list(rt, schedule.ops(), &ops);
+    assert_rows(rt, block.ops.len(), schedule.rows());
     Ok(())
 }
 

@@ -1,3 +1,4 @@
+use crate::asserted::assert_list;
 use iloc_text::{Block, Blocks, Name, Op, Ops};
 use std::test::Fail;
 
@@ -5,8 +6,8 @@ use std::test::Fail;
 fn gives_a_name_back(rt: HostRuntime) -> Result<(), Fail> {
     let mut name = Name::new(String::from_str(rt.alloc(), "L")?);
     name.set("loop")?;
-    assert_eq!(rt; name.as_str(), "loop");
-    assert_eq!(rt; name.into_string().as_str(), "loop");
+    assert!(rt; name.as_str() == "loop");
+    assert!(rt; name.into_string().as_str() == "loop");
     Ok(())
 }
 
@@ -20,6 +21,6 @@ fn gives_operations_back(rt: HostRuntime) -> Result<(), Fail> {
     let block = Block { name: None, ops };
     let mut blocks = Blocks::new(vec![in rt.alloc(); block]?).into_vec();
     let last = blocks.pop().ok_or("no block")?;
-    assert_eq!(rt; last.ops.into_vec().as_slice(), [Op::Nop].as_slice());
+    assert_list(&rt, &last.ops.into_vec(), &[Op::Nop]);
     Ok(())
 }

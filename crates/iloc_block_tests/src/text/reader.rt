@@ -1,3 +1,4 @@
+use crate::asserted::assert_list;
 use iloc_text::{
     Block, NoMemory, ReadFault, TakeBlocks, push_number, push_op, read_blocks, read_file,
 };
@@ -33,6 +34,14 @@ impl Diary {
             push_op(&mut self.lines, op)?;
         }
         self.lines.push(b'\n')?;
+        Ok(())
+    }
+
+    /// Writes these down.
+    fn write_all(&mut self, blocks: &[Block]) -> Result<(), NoMemory> {
+        for block in blocks {
+            self.write(block)?;
+        }
         Ok(())
     }
 }
@@ -99,8 +108,8 @@ fn hands_nothing_over_behind_a_refusal(rt: HostRuntime) {
     for (room, text, fault, asked, lines) in CASES {
         let mut diary = Diary::new(rt.alloc(), *room);
         assert!(rt; read_blocks(rt.alloc(), text, &mut diary) == Err(*fault));
-        assert_eq!(rt; diary.asked, *asked);
-        assert_eq!(rt; diary.lines.as_slice(), *lines);
+        assert!(rt; diary.asked == *asked);
+        assert_list(&rt, &diary.lines, lines);
     }
 }
 
@@ -110,21 +119,17 @@ const LINES: &[u8] = b"1 -; output 0; output 4\n2 longer; nop\n3 b\n4 c; output 
 fn hands_each_block_over_once(rt: HostRuntime) -> Result<(), Fail> {
     let mut diary = Diary::new(rt.alloc(), 4);
     read_blocks(rt.alloc(), MIXED, &mut diary)?;
-    assert_eq!(rt; diary.asked, 4);
-    assert_eq!(rt; diary.lines.as_slice(), LINES);
+    assert!(rt; diary.asked == 4);
+    assert_list(&rt, &diary.lines, LINES);
     Ok(())
 }
 
 #[test]
 fn reads_blocks_into_a_file(rt: HostRuntime) -> Result<(), Fail> {
     let text = b"// c\r\n\tloadI\t7=>r01//x\r\nL1: nop\nL2:";
+    let file = read_file(rt.alloc(), text)?;
     let mut diary = Diary::new(rt.alloc(), 3);
-    for block in read_file(rt.alloc(), text)?.blocks.as_slice() {
-        diary.write(block)?;
-    }
-    assert_eq!(rt;
-        diary.lines.as_slice(),
-        b"-; loadI 7 => r1\nL1; nop\nL2\n".as_slice()
-    );
+    diary.write_all(file.blocks.as_slice())?;
+    assert_list(&rt, &diary.lines, b"-; loadI 7 => r1\nL1; nop\nL2\n");
     Ok(())
 }

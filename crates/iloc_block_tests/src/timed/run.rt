@@ -3,6 +3,7 @@ use iloc_meaning::{Memory, Outcome};
 use iloc_text::NoMemory;
 use iloc_timed::{Latencies, Schedule, cycles, run_schedule};
 use std::alloc::Global;
+use std::process::Abort;
 use std::test::Fail;
 
 /// A memory with 3 at 0 and 9 at 4.
@@ -13,16 +14,33 @@ fn start(alloc: Global) -> Result<Memory, NoMemory> {
     Ok(memory)
 }
 
-/// What a schedule emits, and the word that it leaves at 0, or nothing where it faults.
-fn run(
+/// The words that were emitted, and the word at 0, or none of a fault.
+fn left(outcome: &Outcome) -> Option<(&[i32], i32)> {
+    match outcome {
+        Outcome::Finished { outputs, memory } => Some((outputs.as_slice(), memory.get(0))),
+        Outcome::Fault => None,
+    }
+}
+
+/// The schedule of a text's one block with these issues.
+fn issued(alloc: Global, text: &[u8], issues: &[Issue]) -> Result<Schedule, Fail> {
+    let block = block_of(alloc, text)?;
+    Ok(build(alloc, block.ops.as_slice(), issues)?)
+}
+
+/// Asserts how many cycles a schedule takes and what comes of it.
+fn assert_run(
+    rt: &impl Abort,
     alloc: Global,
     schedule: &Schedule,
     latencies: &Latencies,
-) -> Result<Option<(Vec<i32>, i32)>, NoMemory> {
-    match run_schedule(alloc, schedule, latencies, start(alloc)?)? {
-        Outcome::Finished { outputs, memory } => Ok(Some((outputs.into_vec(), memory.get(0)))),
-        Outcome::Fault => Ok(None),
-    }
+    taken: u64,
+    expected: Option<(&[i32], i32)>,
+) -> Result<(), NoMemory> {
+    assert!(rt; cycles(schedule, latencies) == taken, "{schedule:?}");
+    let outcome = run_schedule(alloc, schedule, latencies, start(alloc)?)?;
+    assert!(rt; left(&outcome) == expected, "{schedule:?}");
+    Ok(())
 }
 
 /// A block, its rows, the latencies, and what comes of it: the cycles that it takes, and the words that it emits with
@@ -144,16 +162,10 @@ const CASES: &[Case] = &[
 
 #[test]
 fn emits_what_has_arrived_in_order_of_issue(rt: HostRuntime) -> Result<(), Fail> {
-    for (text, issues, times, taken, left) in CASES {
+    for (text, issues, times, taken, expected) in CASES {
         let latencies = latencies(*times)?;
-        let block = block_of(rt.alloc(), text)?;
-        let schedule = build(rt.alloc(), block.ops.as_slice(), issues)?;
-        assert_eq!(rt; cycles(&schedule, &latencies), *taken, "{issues:?}");
-        let found = run(rt.alloc(), &schedule, &latencies)?;
-        let found = found
-            .as_ref()
-            .map(|(words, last)| (words.as_slice(), *last));
-        assert!(rt; found == *left, "{issues:?}");
+        let schedule = issued(rt.alloc(), text, issues)?;
+        assert_run(&rt, rt.alloc(), &schedule, &latencies, *taken, *expected)?;
     }
     Ok(())
 }

@@ -1,3 +1,4 @@
+use crate::asserted::assert_list;
 use crate::written::{Issue, build, rows_of};
 use iloc_text::{Op, Reg};
 use iloc_timed::BuildFault::{self, BadRow, NoMemory, NotOnce};
@@ -42,9 +43,8 @@ const KEPT: &[(&[Op], &[Issue])] = &[
 fn takes_what_keeps_the_rules(rt: HostRuntime) -> Result<(), Fail> {
     for (ops, issues) in KEPT {
         let schedule = build(rt.alloc(), ops, issues)?;
-        assert_eq!(rt; schedule.ops(), *ops);
-        let rows = rows_of(rt.alloc(), issues)?;
-        assert_eq!(rt; schedule.rows(), rows.as_slice());
+        assert_list(&rt, schedule.ops(), ops);
+        assert_list(&rt, schedule.rows(), &rows_of(rt.alloc(), issues)?);
     }
     Ok(())
 }
@@ -75,7 +75,10 @@ const BROKEN: &[(&[Op], &[Issue], BuildFault)] = &[
 #[test]
 fn names_the_first_row_or_operation_that_breaks_a_rule(rt: HostRuntime) {
     for (ops, issues, fault) in BROKEN {
-        assert_eq!(rt; build(rt.alloc(), ops, issues).err(), Some(*fault));
+        assert!(rt;
+            build(rt.alloc(), ops, issues).err() == Some(*fault),
+            "{fault:?}"
+        );
     }
 }
 
@@ -91,7 +94,7 @@ const SAID: &[(BuildFault, &str)] = &[
 #[test]
 fn says_what_is_wrong(rt: HostRuntime) -> Result<(), Fail> {
     for (fault, text) in SAID {
-        assert_eq!(rt; fault.to_string(rt.alloc())?.as_str(), *text);
+        assert!(rt; fault.to_string(rt.alloc())?.as_str() == *text, "{fault:?}");
     }
     Ok(())
 }

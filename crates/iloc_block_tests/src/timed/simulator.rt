@@ -1,19 +1,29 @@
-use crate::written::{Times, USUAL, block_of, build, latencies};
+use crate::asserted::assert_emitted;
+use crate::written::{Issue, Times, USUAL, block_of, build, latencies};
 use iloc_meaning::{Memory, Outcome, Words};
 use iloc_text::NoMemory;
 use iloc_timed::{Latencies, Schedule, Simulator};
-use std::alloc::Global;
+use std::alloc::{AllocError, Global};
 use std::process::Abort;
 use std::test::Fail;
+
+/// So many operations on unit 0, one every five rows.
+fn every_fifth(alloc: Global, count: usize) -> Result<Vec<Issue>, AllocError> {
+    let mut issues = Vec::new(alloc);
+    for i in 0..count {
+        issues.push((i.saturating_mul(5), Some(i), None))?;
+    }
+    Ok(issues)
+}
 
 /// The operations of a text on unit 0, one every five rows, so that each has the results of the one before.
 fn spaced(alloc: Global, text: &[u8]) -> Result<Schedule, Fail> {
     let block = block_of(alloc, text)?;
-    let mut issues = Vec::new(alloc);
-    for i in 0..block.ops.len() {
-        issues.push((5 * i, Some(i), None))?;
-    }
-    Ok(build(alloc, block.ops.as_slice(), &issues)?)
+    Ok(build(
+        alloc,
+        block.ops.as_slice(),
+        &every_fifth(alloc, block.ops.len())?,
+    )?)
 }
 
 /// A text, the latencies with which its schedule is run, and what it emits, or nothing where it faults.
@@ -28,7 +38,7 @@ fn assert_runs(
 ) -> Result<(), Fail> {
     for (text, times, outputs) in runs {
         simulator.run(&spaced(alloc, text)?, &latencies(*times)?)?;
-        assert!(rt; simulator.outputs() == *outputs, "{text:?}");
+        assert_emitted(rt, text, simulator.outputs(), *outputs);
     }
     Ok(())
 }
@@ -38,6 +48,18 @@ fn memory(alloc: Global) -> Result<Memory, NoMemory> {
     let mut memory = Memory::zero(alloc)?;
     memory.set(8, 7);
     Ok(memory)
+}
+
+/// On that memory.
+fn simulator(alloc: Global) -> Result<Simulator, NoMemory> {
+    Simulator::new(alloc, memory(alloc)?)
+}
+
+/// What is left of these runs.
+fn outcome_of(rt: &impl Abort, alloc: Global, runs: &[Run]) -> Result<Outcome, Fail> {
+    let mut simulator = simulator(alloc)?;
+    assert_runs(rt, alloc, &mut simulator, runs)?;
+    Ok(simulator.into_outcome())
 }
 
 const LONG: Times = (16, 16, 3);
@@ -62,9 +84,7 @@ const FAULTS: &[Run] = &[
 
 #[test]
 fn what_is_under_way_at_a_fault_never_arrives(rt: HostRuntime) -> Result<(), Fail> {
-    let mut simulator = Simulator::new(rt.alloc(), memory(rt.alloc())?)?;
-    assert_runs(&rt, rt.alloc(), &mut simulator, FAULTS)?;
-    assert!(rt; simulator.into_outcome() == Outcome::Fault);
+    assert!(rt; outcome_of(&rt, rt.alloc(), FAULTS)? == Outcome::Fault);
     Ok(())
 }
 
@@ -75,9 +95,7 @@ const WRITES: &[Run] = &[
 
 #[test]
 fn the_outcome_is_that_of_the_last_schedule(rt: HostRuntime) -> Result<(), Fail> {
-    let mut simulator = Simulator::new(rt.alloc(), memory(rt.alloc())?)?;
-    assert_runs(&rt, rt.alloc(), &mut simulator, WRITES)?;
-    assert!(rt; simulator.into_outcome() == written(rt.alloc())?);
+    assert!(rt; outcome_of(&rt, rt.alloc(), WRITES)? == written(rt.alloc())?);
     Ok(())
 }
 
@@ -96,12 +114,23 @@ const AGAIN: &[Run] = &[
     (FAR_REGISTER, USUAL, Some(&[7, 9])),
 ];
 
+/// How the run of a schedule ended, behind which these were run.
+fn run_before(
+    rt: &impl Abort,
+    alloc: Global,
+    simulator: &mut Simulator,
+    schedule: &Schedule,
+    runs: &[Run],
+) -> Result<(), Fail> {
+    let first = simulator.run(schedule, &Latencies::usual());
+    assert_runs(rt, alloc, simulator, runs)?;
+    Ok(first?)
+}
+
 /// To be run with each growth refused in turn, those in mid-run among them. It ends with the refusal.
 #[test]
 fn a_refused_run_can_be_repeated(rt: HostRuntime) -> Result<(), Fail> {
     let schedule = spaced(rt.alloc(), FAR_REGISTER)?;
-    let mut simulator = Simulator::new(rt.alloc(), memory(rt.alloc())?)?;
-    let first = simulator.run(&schedule, &Latencies::usual());
-    assert_runs(&rt, rt.alloc(), &mut simulator, AGAIN)?;
-    Ok(first?)
+    let mut simulator = simulator(rt.alloc())?;
+    run_before(&rt, rt.alloc(), &mut simulator, &schedule, AGAIN)
 }

@@ -1,3 +1,4 @@
+use crate::asserted::assert_list;
 use iloc_board::Reply::{Block, Handed, NoneLeft, NotNow, Stale, Took};
 use iloc_board::Step::{Hand, Look, Try};
 use iloc_board::{Reply, Step, play};
@@ -97,9 +98,9 @@ const CASES: &[Case] = &[
 fn answers_step_by_step(rt: HostRuntime) -> Result<(), Fail> {
     for (count, steps, replies, next, costs) in CASES {
         let played = play(rt.alloc(), *count, steps)?;
-        assert_eq!(rt; played.replies.as_slice(), *replies);
-        assert_eq!(rt; played.next, *next);
-        assert_eq!(rt; played.costs.as_slice(), *costs);
+        assert_list(&rt, &played.replies, replies);
+        assert_list(&rt, &played.costs, costs);
+        assert!(rt; played.next == *next);
     }
     Ok(())
 }

@@ -1,6 +1,6 @@
 ghost use Rattle.std.specs.Prelude.{◌≡◌};
 
-use super::steps::{Act, act_all, assert_collected, collect_both, collect_with};
+use super::steps::{Act, act_all, assert_collected, collect_both, collect_with, pass_that_did};
 use super::tens::Refusing;
 use iloc_board::Seen::{Block, NoneLeft};
 use iloc_board::State::{Free, Holding};
@@ -15,6 +15,8 @@ use std::test::Fail;
 type Case<'a> = (u32, Option<u32>, &'a [&'a [Act]], Result<&'a [u32], u32>);
 
 const TAKE_0: &[Act] = &[Act::Look(Block(0)), Act::Try(Took(0))];
+
+const ANSWER_0: &[Act] = &[Act::Look(Block(0)), Act::Try(Took(0)), Act::HandBack];
 
 const HAND_BACK: &[Act] = &[Act::HandBack];
 
@@ -126,22 +128,17 @@ fn a_job_that_was_not_taken_is_missing(rt: HostRuntime) -> Result<(), Fail> {
 fn a_later_pass_starts_where_the_gathered_got_to(rt: HostRuntime) -> Result<(), Fail> {
     let jobs = Refusing::new(1, None);
     let (board, mut root) = Board::new(rt.alloc(), &jobs, 2)?;
-    let mut first = board.pass(&mut root);
-    act_all(&rt, &board, &mut first, WORK)?;
+    let first = pass_that_did(&rt, &board, &mut root, WORK)?;
     assert!(rt; board.gather(&mut root, first).is_ok());
-    let mut second = board.pass(&mut root);
-    act_all(&rt, &board, &mut second, &[Act::Look(NoneLeft)])
+    pass_that_did(&rt, &board, &mut root, &[Act::Look(NoneLeft)])?;
+    Ok(())
 }
 
 #[test]
 fn the_answers_of_a_dropped_pass_are_missing(rt: HostRuntime) -> Result<(), Fail> {
     let jobs = Refusing::new(3, None);
     let (board, mut root) = Board::new(rt.alloc(), &jobs, 2)?;
-    let mut lost = board.pass(&mut root);
-    act_all(&rt, &board, &mut lost, TAKE_0)?;
-    act_all(&rt, &board, &mut lost, HAND_BACK)?;
-    drop(lost);
-    let mut second = board.pass(&mut root);
-    act_all(&rt, &board, &mut second, WORK)?;
+    drop(pass_that_did(&rt, &board, &mut root, ANSWER_0)?);
+    let second = pass_that_did(&rt, &board, &mut root, WORK)?;
     assert_collected(&rt, collect_with(board, root, second), Err(0))
 }

@@ -1,7 +1,8 @@
 //! Steps that tests take with a pass, written down.
-ghost use Rattle.std.specs.Prelude.{◌≡◌};
+ghost use Rattle.std.specs.Prelude.{◌≡◌, IfOk};
 
 use super::tens::Refusing;
+use crate::asserted::assert_list;
 use iloc_board::{
     Board, CollectFault, Collected, FreeGate, Jobs, NoMemory, Pass, Root, Seen, State, Tried, work,
 };
@@ -30,16 +31,15 @@ fn carry_out<'a>(
     requires { pass.old.board ≡ board.now }
     ensures { pass.new.board ≡ board.now }
 {
-    match (act, pass.state()) {
-        (Act::Look(seen), State::Free | State::Looked(_)) => assert!(rt; board.look(pass) == seen),
-        (Act::Try(tried), State::Looked(_)) => assert!(rt; board.try_take(pass) == tried),
-        (Act::HandBack, State::Holding(job)) => {
-            assert!(rt; board.hand_back(pass, 10 + job).is_ok());
-        }
-        (Act::Work(done), State::Free) => assert!(rt; work(board, pass, &FreeGate) == done),
-        (Act::Is(worker, about), state) => assert!(rt; pass.worker() == worker && state == about),
+    let is_so = match (act, pass.state()) {
+        (Act::Look(seen), State::Free | State::Looked(_)) => board.look(pass) == seen,
+        (Act::Try(tried), State::Looked(_)) => board.try_take(pass) == tried,
+        (Act::HandBack, State::Holding(job)) => board.hand_back(pass, 10 + job).is_ok(),
+        (Act::Work(done), State::Free) => work(board, pass, &FreeGate) == done,
+        (Act::Is(worker, about), state) => (pass.worker(), state) == (worker, about),
         _ => return Err(Fail::from("the state forbids the step")),
-    }
+    };
+    assert!(rt; is_so);
     Ok(())
 }
 
@@ -91,6 +91,33 @@ pub(crate) fn collect_both<'a, J: Jobs>(
     collect_with(board, root, second)
 }
 
+/// A new pass that has done all this, where another may be made.
+pub(crate) fn pass_that_did<'a>(
+    rt: &impl Abort,
+    board: &Board<'a, Refusing>,
+    root: &mut Root<'a, Refusing>,
+    acts: &[Act],
+) -> Result<Pass<'a, Refusing>, Fail>
+    requires { root.old.board ≡ board.now }
+    ensures root { root.new.board ≡ board.now }
+    ensures pass { IfOk result (λ pass. pass.board ≡ board.now) }
+{
+    if root.made() >= root.workers() {
+        return Err(Fail::from("no further pass"));
+    }
+    let mut pass = board.pass(root);
+    act_all(rt, board, &mut pass, acts)?;
+    Ok(pass)
+}
+
+/// Asserts that each answer has its cost, which is the same number.
+fn assert_costs(rt: &impl Abort, answers: &[u32], costs: &[u64]) {
+    assert!(rt; costs.len() == answers.len());
+    for (answer, cost) in answers.iter().zip(costs) {
+        assert!(rt; u64::from(*answer) == *cost);
+    }
+}
+
 /// Asserts that the answers are these, each at its cost, or that this job is missing.
 pub(crate) fn assert_collected(
     rt: &impl Abort,
@@ -99,15 +126,9 @@ pub(crate) fn assert_collected(
 ) -> Result<(), Fail> {
     match wanted {
         Ok(answers) => {
-            let Collected {
-                answers: found,
-                costs,
-            } = collected?;
-            assert_eq!(rt; found.as_slice(), answers);
-            assert_eq!(rt; costs.len(), answers.len());
-            for (i, cost) in costs.iter().enumerate() {
-                assert!(rt; found.get(i).copied().map(u64::from) == Some(*cost));
-            }
+            let found = collected?;
+            assert_list(rt, &found.answers, answers);
+            assert_costs(rt, answers, &found.costs);
         }
         Err(job) => assert!(rt; collected.err() == Some(CollectFault::Missing(job))),
     }

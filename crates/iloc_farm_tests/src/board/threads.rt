@@ -6,6 +6,7 @@ ghost use Rattle.iloc_board.specs.Views.{state};
 use super::tens::Tens;
 use iloc_board::{Board, FreeGate, Pass, Root, work};
 use std::alloc::{AllocError, Global};
+use std::process::Abort;
 use std::test::*;
 use std::thread;
 use std::thread::Threads;
@@ -62,6 +63,14 @@ fn gather_all<'a>(
     true
 }
 
+/// Asserts that these are the answers to so many jobs.
+fn assert_tens(rt: &impl Abort, answers: &[u32], count: usize) {
+    assert!(rt; answers.len() == count);
+    for (i, answer) in answers.iter().enumerate() {
+        assert!(rt; (*answer as usize).checked_sub(i) == Some(10));
+    }
+}
+
 #[test]
 fn four_threads_answer_each_job_once(rt: HostRuntime) -> Result<(), Fail> {
     let jobs = Tens { count: 10_000 };
@@ -69,10 +78,6 @@ fn four_threads_answer_each_job_once(rt: HostRuntime) -> Result<(), Fail> {
     let free = passes(rt.alloc(), &board, &mut root)?;
     let worked = crew(&rt, &board, free)?;
     assert!(rt; gather_all(&board, &mut root, worked));
-    let collected = board.collect(root)?;
-    assert_eq!(rt; collected.answers.len(), 10_000);
-    for (i, answer) in collected.answers.iter().enumerate() {
-        assert_eq!(rt; *answer as usize, i + 10);
-    }
+    assert_tens(&rt, &board.collect(root)?.answers, 10_000);
     Ok(())
 }

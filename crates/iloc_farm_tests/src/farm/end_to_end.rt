@@ -1,7 +1,8 @@
 use super::fakes::{Sink, Source, giving, taking_all};
 use super::sample::{GIVES_7, STORES_7, TWO_OUTPUTS};
+use crate::asserted::assert_list;
 use iloc_args::parse_line;
-use iloc_farm::{Ending, Finding, RunFault, WriteFailed, run, run_program};
+use iloc_farm::{Finding, RunFault, WriteFailed, run, run_program};
 use std::alloc::Global;
 use std::env::Args;
 use std::io::ErrorKind;
@@ -48,9 +49,8 @@ fn reads_to_the_end_or_to_a_fault(rt: HostRuntime) -> Result<(), Fail> {
         };
         let mut writer = taking_all(rt.alloc());
         let found = run(&rt, rt.alloc(), &mut reader, &mut writer, &request);
-        assert!(rt; found == *answer);
-        assert_eq!(rt; reader.turns, *turns);
-        assert_eq!(rt; writer.taken.as_slice(), *written);
+        assert!(rt; (found, reader.turns) == (*answer, *turns));
+        assert_list(&rt, &writer.taken, written);
     }
     Ok(())
 }
@@ -62,7 +62,7 @@ fn reads_no_further_than_the_end(rt: HostRuntime) -> Result<(), Fail> {
     let mut reader = giving(&input);
     let mut writer = taking_all(rt.alloc());
     run(&rt, rt.alloc(), &mut reader, &mut writer, &request)?;
-    assert_eq!(rt; reader.turns, 4);
+    assert!(rt; reader.turns == 4);
     Ok(())
 }
 
@@ -110,9 +110,8 @@ fn writes_and_flushes_or_tells_what_failed(rt: HostRuntime) -> Result<(), Fail> 
             ..taking_all(rt.alloc())
         };
         let found = run(&rt, rt.alloc(), &mut giving(input), &mut writer, &request);
-        assert!(rt; found == *answer);
-        assert_eq!(rt; writer.taken.as_slice(), *written);
-        assert_eq!(rt; writer.flushed, *flushed);
+        assert!(rt; (found, writer.flushed) == (*answer, *flushed));
+        assert_list(&rt, &writer.taken, written);
     }
     Ok(())
 }
@@ -149,14 +148,8 @@ fn keeps_the_status_where_a_fault_cannot_be_told(rt: HostRuntime) -> Result<(), 
             &mut writer,
             &mut faults,
         );
-        assert!(rt;
-            ending
-                == Ending {
-                    status: 1,
-                    told: *told
-                }
-        );
-        assert_eq!(rt; faults.taken.as_slice(), *said);
+        assert!(rt; (ending.status, ending.told) == (1, *told));
+        assert_list(&rt, &faults.taken, said);
         assert!(rt; writer.taken.is_empty());
     }
     Ok(())

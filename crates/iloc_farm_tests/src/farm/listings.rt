@@ -1,8 +1,9 @@
 //! Listings of what is there already: to be run with each growth refused in turn.
 use super::sample::TWO_OUTPUTS;
-use iloc_args::parse_line;
+use crate::asserted::assert_list;
+use iloc_args::{Request, parse_line};
 use iloc_farm::{counts_text, initial_memory, outcomes_text, schedules_text};
-use iloc_meaning::run_block;
+use iloc_meaning::{Outcome, run_block};
 use iloc_text::{IlocFile, NoMemory, read_file};
 use iloc_timed::{Latencies, Row, Schedule, cycles};
 use std::alloc::Global;
@@ -37,27 +38,42 @@ fn listed(alloc: Global, file: &IlocFile, schedule: Schedule) -> Result<(Vec<u8>
     ))
 }
 
-#[test]
-fn lists_schedules_that_are_there(rt: HostRuntime) -> Result<(), Fail> {
-    let alloc = rt.alloc();
-    let file = read_file(alloc, TWO_OUTPUTS)?;
+/// The schedule with these rows of a file's first block.
+fn apart(alloc: Global, file: &IlocFile) -> Result<Schedule, Fail> {
     let block = file.blocks.as_slice().first().ok_or("no block")?;
     let ops = Vec::from_slice(alloc, block.ops.as_slice())?;
-    let schedule = Schedule::new(alloc, ops, Vec::from_slice(alloc, &APART)?)?;
-    let (rows, counts) = listed(alloc, &file, schedule)?;
-    let wanted = b"block 1 -
+    Ok(Schedule::new(alloc, ops, Vec::from_slice(alloc, &APART)?)?)
+}
+
+const ROWS: &[u8] = b"block 1 -
 [ nop ; output 0 ]
 [ nop ; nop ]
 [ nop ; output 4 ]
 cycles 3
 total 3
 ";
-    assert_eq!(rt; rows.as_slice(), wanted.as_slice());
-    assert_eq!(rt;
-        counts.as_slice(),
-        b"block 1 - cycles 3\ntotal 3\n".as_slice()
-    );
+
+#[test]
+fn lists_schedules_that_are_there(rt: HostRuntime) -> Result<(), Fail> {
+    let alloc = rt.alloc();
+    let file = read_file(alloc, TWO_OUTPUTS)?;
+    let (rows, counts) = listed(alloc, &file, apart(alloc, &file)?)?;
+    assert_list(&rt, &rows, ROWS);
+    assert_list(&rt, &counts, b"block 1 - cycles 3\ntotal 3\n");
     Ok(())
+}
+
+/// What comes of each block on the memory that is asked for.
+fn outcomes_of(
+    alloc: Global,
+    request: &Request,
+    file: &IlocFile,
+) -> Result<Vec<Outcome>, NoMemory> {
+    let mut outcomes = Vec::new(alloc);
+    for block in file.blocks.as_slice() {
+        outcomes.push(run_block(alloc, block, initial_memory(alloc, request)?)?)?;
+    }
+    Ok(outcomes)
 }
 
 #[test]
@@ -65,15 +81,9 @@ fn lists_outcomes_that_are_there(rt: HostRuntime) -> Result<(), Fail> {
     let alloc = rt.alloc();
     let request = parse_line(alloc, &["run", "--at", "4", "5"])?;
     let file = read_file(alloc, b"output 0\noutput 4\nB: output 2\n")?;
-    let mut outcomes = Vec::new(alloc);
-    for block in file.blocks.as_slice() {
-        outcomes.push(run_block(alloc, block, initial_memory(alloc, &request)?)?)?;
-    }
-    assert_eq!(rt; outcomes.len(), file.blocks.as_slice().len());
+    let outcomes = outcomes_of(alloc, &request, &file)?;
+    assert!(rt; outcomes.len() == file.blocks.as_slice().len());
     let text = outcomes_text(alloc, &file, &outcomes)?;
-    assert_eq!(rt;
-        text.as_slice(),
-        b"block 1 -\n0\n5\nblock 2 B\nfault\n".as_slice()
-    );
+    assert_list(&rt, &text, b"block 1 -\n0\n5\nblock 2 B\nfault\n");
     Ok(())
 }

@@ -7,6 +7,7 @@ use iloc_text::laws::files_are_within_limits;
 use iloc_text::read_file;
 use iloc_timed::{Latencies, Schedule};
 use std::alloc::Global;
+use std::process::Abort;
 use std::sync::Wait;
 use std::sync::atomic::{AtomicU64, Ordering};
 use std::test::Fail;
@@ -118,6 +119,13 @@ fn stairs(alloc: Global, count: u32) -> Result<Vec<u8>, Fail> {
     Ok(text)
 }
 
+/// Asserts that these are the schedules of such blocks.
+fn assert_stairs(rt: &impl Abort, schedules: &[Schedule]) {
+    for (k, schedule) in schedules.iter().enumerate() {
+        assert!(rt; (schedule.ops().len(), schedule.rows().len()) == (k + 1, k + 1));
+    }
+}
+
 #[test]
 fn workers_take_a_block_each_at_once(rt: HostRuntime) -> Result<(), Fail> {
     for workers in 2..9 {
@@ -125,12 +133,9 @@ fn workers_take_a_block_each_at_once(rt: HostRuntime) -> Result<(), Fail> {
         let text = stairs(rt.alloc(), workers)?;
         let found = schedules(&rt, rt.alloc(), &text, workers, &gate)?;
         assert!(rt; gate.looks.have_met() && gate.takes.have_met());
-        assert_eq!(rt; gate.taken.load(Ordering::SeqCst), u64::from(workers));
-        assert_eq!(rt; found.len(), workers as usize);
-        for (k, schedule) in found.iter().enumerate() {
-            assert_eq!(rt; schedule.ops().len(), k + 1);
-            assert_eq!(rt; schedule.rows().len(), k + 1);
-        }
+        assert!(rt; gate.taken.load(Ordering::SeqCst) == u64::from(workers));
+        assert!(rt; found.len() == workers as usize);
+        assert_stairs(&rt, &found);
     }
     Ok(())
 }
@@ -139,8 +144,8 @@ fn workers_take_a_block_each_at_once(rt: HostRuntime) -> Result<(), Fail> {
 fn no_block_is_no_work(rt: HostRuntime) -> Result<(), Fail> {
     let gate = Meetings::new(8);
     assert!(rt; schedules(&rt, rt.alloc(), b"", 8, &gate)?.is_empty());
-    assert_eq!(rt; gate.taken.load(Ordering::SeqCst), 0);
-    assert_eq!(rt; gate.looks.marks.load(Ordering::SeqCst), 0);
+    assert!(rt; gate.taken.load(Ordering::SeqCst) == 0);
+    assert!(rt; gate.looks.marks.load(Ordering::SeqCst) == 0);
     Ok(())
 }
 
@@ -184,11 +189,11 @@ fn leaves_no_thread_behind(rt: HostRuntime) -> Result<(), Fail> {
     let file = read_file(rt.alloc(), b"A:\nA:\nA:\nA:\nA:\nA:\nA:\nA:\n")?;
     let gate = Crowd::new();
     let found = schedule_all(&rt, rt.alloc(), &file, &Latencies::usual(), 8, &gate);
-    assert_eq!(rt; gate.inside.load(Ordering::SeqCst), 0);
+    assert!(rt; gate.inside.load(Ordering::SeqCst) == 0);
     let looks = gate.looks.load(Ordering::SeqCst);
     stay(10_000);
-    assert_eq!(rt; gate.looks.load(Ordering::SeqCst), looks);
-    assert_eq!(rt; found?.len(), 8);
+    assert!(rt; gate.looks.load(Ordering::SeqCst) == looks);
+    assert!(rt; found?.len() == 8);
     assert!(rt; looks >= 8);
     Ok(())
 }
