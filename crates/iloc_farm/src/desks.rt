@@ -1,5 +1,6 @@
 //! The desks at which workers make entries.
 ghost use Rattle.std.specs.Prelude.{◌≤◌, ◌<◌, ◌^◌, length, IfOk};
+ghost use Rattle.iloc_text.specs.declared.limits.TheConstants.{MAX_OPS};
 ghost use Rattle.iloc_farm.specs.Steps.Entries.{IsEntry};
 
 use crate::entry::{Desk, Entry};
@@ -33,7 +34,7 @@ impl Desks {
         latencies: &Latencies,
         detail: Detail,
     ) -> Result<Entry, NoMemory>
-        requires short { length block.now.ops ≤ 10000 }
+        requires short { length block.now.ops ≤ MAX_OPS }
         requires number { number < 2 ^ 63 }
         ensures { IfOk result (IsEntry detail latencies.now number block.now) }
     {

@@ -1,6 +1,7 @@
 //! The entries of a file's blocks in a listing of schedules as the jobs of a board.
 ghost use Rattle.std.specs.Prelude.{◌≤◌, length};
 ghost use Rattle.std.specs.List.{All};
+ghost use Rattle.iloc_text.specs.declared.limits.TheConstants.{MAX_BLOCKS, MAX_OPS};
 
 use crate::desks::Desks;
 use crate::entry::Entry;
@@ -18,8 +19,8 @@ pub struct EntryJobs<'f> {
     pub latencies: Latencies,
     pub desks: &'f Desks,
     pub detail: Detail,
-    ghost few: { length blocks.now ≤ 65535 },
-    ghost short: { All (λ b. length b.ops ≤ 10000) blocks.now },
+    ghost few: { length blocks.now ≤ MAX_BLOCKS },
+    ghost short: { All (λ b. length b.ops ≤ MAX_OPS) blocks.now },
 }
 
 impl<'f> Jobs for EntryJobs<'f> {
