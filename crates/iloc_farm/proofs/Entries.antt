@@ -19,6 +19,7 @@ use Rattle.iloc_farm.specs.Schedules.{AreGreedy, IsScheduleOf}
 use Rattle.iloc_farm.specs.Steps.Answered.{AreAnswered}
 use Rattle.iloc_farm.specs.Steps.Detailed.{entry_with}
 use Rattle.iloc_farm.specs.Steps.Entries.{AreEntries, IsEntry, IsEntryOf}
+use Rattle.iloc_farm.specs.Steps.Pieces.{spelled}
 use Rattle.iloc_farm.specs.declared.entry.Entry.{Entry}
 use Rattle.iloc_farm.specs.declared.listing.Detail.{Detail}
 use Rattle.iloc_farm.proofs.Headline.{at_place, headline}
@@ -115,7 +116,7 @@ module _ (detail : Detail) (lat : Latencies) where
       → AreGreedy lat blocks schedules → length made ≡ length blocks
       → ((i : ℕ) (e : Entry) → slice_get made i ≡ Some e
       → MatchOption (slice_get blocks i) ⊥ (λ (b : Block). IsEntry detail lat (i + number) b e))
-      → (flat_map (λ (e : Entry). e.text) made ≡ entries (entry_with detail lat) number blocks schedules)
+      → (flat_map (λ (e : Entry). spelled e.text) made ≡ entries (entry_with detail lat) number blocks schedules)
       × (sum_by (λ (e : Entry). e.cycles) made ≡ total_cycles lat schedules)
   same_listing number [] [] [] greedy long each = (refl, refl)
   same_listing number [] [] (e ∷ made) greedy long each = absurd (omega arith)
@@ -130,10 +131,10 @@ module _ (detail : Detail) (lat : Latencies) where
       let Q : ℕ → Type 0 =
       λ n. MatchOption (slice_get blocks i) ⊥ (λ (block : Block). IsEntry detail lat n block x) in
       subst Q (omega arith) (each (suc i) x at)) in
-      let text : e.text ≡ entry_with detail lat number b.name s =
+      let text : spelled e.text ≡ entry_with detail lat number b.name s =
       first.text ∙ ap (entry_with detail lat number b.name) is in
       let cycles : e.cycles ≡ cycles_of lat s = first.cycles ∙ ap (cycles_of lat) is in (
-        flat_map-cons (λ (x : Entry). x.text) e made
+        flat_map-cons (λ (x : Entry). spelled x.text) e made
             ∙ (λ i. text i ++ rest.0 i),
         sum_by-cons (λ (x : Entry). x.cycles) e made
             ∙ ((λ i. cycles i + rest.1 i) ∙ sym (sum_by-cons (cycles_of lat) s schedules)),

@@ -3,7 +3,7 @@ use Rattle.std.proofs.Common.{◌≡◌, ◌∙◌, ℕ, zero, suc, ◌+◌, ◌
 use Rattle.std.specs.Prelude.{codes}
 use Rattle.std.proofs.lemmas.List.{take-append-le, drop-append-le, drop_all, take_all}
 use Rattle.std.proofs.lemmas.List.Sums.{sum_by-append, sum_by-cons}
-use Rattle.iloc_farm.specs.declared.folded.Run.{Run}
+use Rattle.iloc_farm.specs.declared.folded.EmptyRows.{EmptyRows}
 use Rattle.iloc_farm.specs.Steps.Folded.{bytes_before, empty_rows, unfolded}
 
 -- one more row in front is one more behind
@@ -14,11 +14,11 @@ empty_rows_more (suc n) =
     ∙ ap (λ t. codes "[ nop ; nop ]\n" ++ t) (empty_rows_more n)
 
 -- more bytes stand behind the last run
-pub bytes_more : (runs : List Run) (bytes more : List ℕ) → bytes_before runs ≤ length bytes
+pub bytes_more : (runs : List EmptyRows) (bytes more : List ℕ) → bytes_before runs ≤ length bytes
     → unfolded runs (bytes ++ more) ≡ unfolded runs bytes ++ more
 bytes_more [] bytes more within = refl
 bytes_more (run ∷ runs) bytes more within =
-    let parts : bytes_before (run ∷ runs) ≡ run.bytes + bytes_before runs = sum_by-cons (λ (r : Run). r.bytes) run runs in
+    let parts : bytes_before (run ∷ runs) ≡ run.bytes + bytes_before runs = sum_by-cons (λ (r : EmptyRows). r.bytes) run runs in
     let fits : run.bytes ≤ length bytes = omega arith in
     let rest = bytes_more runs (drop run.bytes bytes) more (omega (arith, length-drop run.bytes bytes)) in
     rw (take-append-le run.bytes bytes more fits, drop-append-le run.bytes bytes more fits, rest)
@@ -26,25 +26,25 @@ bytes_more (run ∷ runs) bytes more within =
     ∙ sym (append_assoc (take run.bytes bytes) (empty_rows run.rows ++ unfolded runs (drop run.bytes bytes)) more))
 
 -- a run stands behind all bytes
-pub run_more : (runs : List Run) (bytes : List ℕ) (run : Run) → bytes_before runs + run.bytes ≡ length bytes
+pub run_more : (runs : List EmptyRows) (bytes : List ℕ) (run : EmptyRows) → bytes_before runs + run.bytes ≡ length bytes
     → unfolded (runs ++ run ∷ []) bytes ≡ unfolded runs bytes ++ empty_rows run.rows
 run_more [] bytes run all =
     let size : run.bytes ≡ length bytes = omega arith in
     rw (take_all run.bytes bytes (omega arith), drop_all run.bytes bytes (omega arith))
     (ap (λ t. bytes ++ t) (append-nil (empty_rows run.rows)))
 run_more (first ∷ runs) bytes run all =
-    let parts : bytes_before (first ∷ runs) ≡ first.bytes + bytes_before runs = sum_by-cons (λ (r : Run). r.bytes) first runs in
+    let parts : bytes_before (first ∷ runs) ≡ first.bytes + bytes_before runs = sum_by-cons (λ (r : EmptyRows). r.bytes) first runs in
     let rest = run_more runs (drop first.bytes bytes) run (omega (arith, length-drop first.bytes bytes)) in
     rw rest
     (ap (λ t. take first.bytes bytes ++ t) (sym (append_assoc (empty_rows first.rows) (unfolded runs (drop first.bytes bytes)) (empty_rows run.rows)))
     ∙ sym (append_assoc (take first.bytes bytes) (empty_rows first.rows ++ unfolded runs (drop first.bytes bytes)) (empty_rows run.rows)))
 
-pub before_more : (runs : List Run) (run : Run) → bytes_before (runs ++ run ∷ []) ≡ bytes_before runs + run.bytes
+pub before_more : (runs : List EmptyRows) (run : EmptyRows) → bytes_before (runs ++ run ∷ []) ≡ bytes_before runs + run.bytes
 before_more runs run =
-    omega (arith, sum_by-append (λ (r : Run). r.bytes) runs (run ∷ []), sum_by-cons (λ (r : Run). r.bytes) run [])
+    omega (arith, sum_by-append (λ (r : EmptyRows). r.bytes) runs (run ∷ []), sum_by-cons (λ (r : EmptyRows). r.bytes) run [])
 
 -- a text that is folded up to here, and the rows and the line that come next
-module _ (runs : List Run) (bytes rest behind line after : List ℕ) (text : List ℕ) (rows : ℕ)
+module _ (runs : List EmptyRows) (bytes rest behind line after : List ℕ) (text : List ℕ) (rows : ℕ)
     (so_far : text ≡ unfolded runs bytes ++ rest) (parts : rest ≡ empty_rows rows ++ behind)
     (parted : behind ≡ line ++ after) (within : bytes_before runs ≤ length bytes) where
   pub grown_line : rows ≡ 0 → text ≡ unfolded runs (bytes ++ line) ++ after
@@ -54,7 +54,7 @@ module _ (runs : List Run) (bytes rest behind line after : List ℕ) (text : Lis
       ∙ (sym (append_assoc (unfolded runs bytes) line after)
       ∙ ap (λ t. t ++ after) (sym (bytes_more runs bytes line within))))
 
-  pub grown_run : (run : Run) → run.rows ≡ rows → bytes_before runs + run.bytes ≡ length bytes
+  pub grown_run : (run : EmptyRows) → run.rows ≡ rows → bytes_before runs + run.bytes ≡ length bytes
       → text ≡ unfolded (runs ++ run ∷ []) (bytes ++ line) ++ after
   grown_run run same all =
       so_far ∙ (ap (λ t. unfolded runs bytes ++ t)

@@ -3,6 +3,7 @@ pub mod Answered
 pub mod Detailed
 pub mod Entries
 pub mod Folded
+pub mod Pieces
 pub mod Runner
 pub mod OfInput
 pub mod Limits

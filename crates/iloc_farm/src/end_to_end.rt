@@ -109,12 +109,12 @@ fn request_text<R: Threads + Wait + Sync>(
         }
         Task::Schedule => {
             let file = file_of(alloc, input)?;
-            let text = farmed_text(rt, alloc, &file, request, Detail::Rows)?;
+            let text = farmed_text(rt, alloc, file, request, Detail::Rows)?;
             Ok(Listed::of_file(text))
         }
         Task::Counts => {
             let file = file_of(alloc, input)?;
-            let text = farmed_text(rt, alloc, &file, request, Detail::Cycles)?;
+            let text = farmed_text(rt, alloc, file, request, Detail::Cycles)?;
             Ok(Listed::of_file(text))
         }
         Task::Explain => {

@@ -1,11 +1,14 @@
 //! What is listed of one block's schedule, made apart from the others, and the listing of all.
-ghost use Rattle.std.specs.Prelude.{◌≡◌, ◌≤◌, ◌<◌, ◌^◌, ◌++◌, length, sum_by, IfOk};
+ghost use Rattle.std.specs.Prelude.{◌≡◌, ◌↔◌, ◌≤◌, ◌<◌, ◌+◌, ◌*◌, ◌^◌, ◌++◌, length, sum_by, IfOk, IsTrue};
 ghost use Rattle.std.specs.List.{flat_map};
+ghost use Rattle.iloc_text.specs.declared.limits.TheConstants.{MAX_OPS};
 ghost use Rattle.iloc_farm.specs.Listing.{total_of};
 ghost use Rattle.iloc_farm.specs.Steps.Entries.{IsEntry};
+ghost use Rattle.iloc_farm.specs.Steps.Pieces.{spelled};
 
 use crate::folded::Folded;
 use crate::listing::{Detail, push_schedule, push_total};
+use crate::piece::Piece;
 use crate::pieces::Pieces;
 use iloc_sched::Scheduler;
 use iloc_text::{Block, NoMemory};
@@ -15,13 +18,15 @@ use std::alloc::Global;
 /// What is listed of one block.
 #[derive(Drop)]
 pub struct Entry {
-    pub text: Folded,
+    pub text: Piece,
     /// The cycles of the block's schedule.
     pub cycles: u32,
 }
 
 /// Whether most rows of a schedule are empty, so that its listing takes far less room when they are folded.
-fn is_mostly_empty(schedule: &Schedule) -> bool {
+fn is_mostly_empty(schedule: &Schedule) -> bool
+    ensures { IsTrue result ↔ 4 * (length schedule.now.ops + 1) ≤ length schedule.now.rows }
+{
     schedule.rows().len() / 4 > schedule.ops().len()
 }
 
@@ -50,7 +55,7 @@ impl Desk {
         latencies: &Latencies,
         detail: Detail,
     ) -> Result<Entry, NoMemory>
-        requires short { length block.now.ops ≤ 10000 }
+        requires short { length block.now.ops ≤ MAX_OPS }
         requires number { number < 2 ^ 63 }
         ensures { IfOk result (IsEntry detail latencies.now number block.now) }
     {
@@ -75,13 +80,14 @@ impl Desk {
     }
 
     /// The text of the desk, to be kept.
-    fn kept(&self, alloc: Global, folds: bool) -> Result<Folded, NoMemory>
-        ensures { IfOk result (λ kept. kept ≡ self.now.text.items) }
+    fn kept(&self, alloc: Global, folds: bool) -> Result<Piece, NoMemory>
+        ensures { IfOk result (λ kept. spelled kept ≡ self.now.text.items) }
     {
         if folds {
-            Folded::of(alloc, &self.text)
+            let folded = Folded::of(alloc, &self.text)?;
+            Ok(Piece::Folded(Box::new(alloc, folded)?))
         } else {
-            Ok(Folded::plain(alloc, Vec::from_slice(alloc, &self.text)?))
+            Ok(Piece::Plain(Vec::from_slice(alloc, &self.text)?))
         }
     }
 }
@@ -89,7 +95,7 @@ impl Desk {
 /// The listing of these entries: their texts, and at the end the cycles of all.
 pub(crate) fn entries_text(alloc: Global, entries: Vec<Entry>) -> Result<Pieces, NoMemory>
     requires { sum_by (λ e. e.cycles) entries.items < 2 ^ 63 }
-    ensures { IfOk result (λ text. text ≡ flat_map (λ e. e.text) entries.items
+    ensures { IfOk result (λ text. text ≡ flat_map (λ e. spelled e.text) entries.items
         ++ total_of (sum_by (λ e. e.cycles) entries.items)) }
 {
     let mut text = Pieces::new(alloc, Vec::new(alloc));
@@ -100,6 +106,6 @@ pub(crate) fn entries_text(alloc: Global, entries: Vec<Entry>) -> Result<Pieces,
     }
     let mut line = Vec::new(alloc);
     push_total(&mut line, total)?;
-    text.push(Folded::plain(alloc, line))?;
+    text.push(Piece::Plain(line))?;
     Ok(text)
 }

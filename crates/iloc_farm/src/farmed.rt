@@ -20,16 +20,16 @@ use std::alloc::Global;
 use std::sync::Wait;
 use std::thread::Threads;
 
-/// The entries of the blocks' greedy schedules, for the request's latencies and by its workers.
+/// The entries of the blocks' greedy schedules, for the request's latencies and by its workers. The blocks are let go.
 fn entries_of<R: Threads + Wait + Sync>(
     rt: &R,
     alloc: Global,
-    file: &IlocFile,
+    file: IlocFile,
     request: &Request,
     detail: Detail,
 ) -> Result<Vec<Entry>, FarmFault>
-    requires { IsWithinLimits file.now.blocks }
-    ensures { IfOk result (λ entries. AreEntries detail request.now file.now.blocks entries.items) }
+    requires { IsWithinLimits file.blocks }
+    ensures { IfOk result (λ entries. AreEntries detail request.now file.blocks entries.items) }
 {
     let desks = Desks::new(alloc, request.workers)?;
     let jobs = EntryJobs {
@@ -43,18 +43,18 @@ fn entries_of<R: Threads + Wait + Sync>(
 }
 
 /// The listing of the blocks' greedy schedules, in so much detail, for the request's latencies and
-/// by its workers.
+/// by its workers. The blocks are let go as soon as their entries are made.
 pub(crate) fn farmed_text<R: Threads + Wait + Sync>(
     rt: &R,
     alloc: Global,
-    file: &IlocFile,
+    file: IlocFile,
     request: &Request,
     detail: Detail,
 ) -> Result<Pieces, FarmFault>
-    requires { IsWithinLimits file.now.blocks }
-    ensures greedy { let blocks = file.now.blocks in let latencies = request.now.latencies in
+    requires { IsWithinLimits file.blocks }
+    ensures greedy { let blocks = file.blocks in let latencies = request.now.latencies in
         IfOk result (ListsGreedy latencies blocks (listing_with detail latencies blocks)) }
-    ensures farmed { let blocks = file.now.blocks in
+    ensures farmed { let blocks = file.blocks in
         IfOk result (ListsFarmed request.now blocks (listing_with detail request.now.latencies blocks)) }
 {
     greedy_schedules_can_be_listed();

@@ -1,5 +1,5 @@
 //! Listed texts in which rows without an operation take little room.
-ghost use Rattle.std.specs.Prelude.{◌≡◌, ◌<◌, ◌≤◌, ◌+◌, ◌++◌, length, IfErr, IfOk, IfSome, OnErr, OnOk};
+ghost use Rattle.std.specs.Prelude.{◌≡◌, ◌<◌, ◌≤◌, ◌+◌, ◌++◌, length, IfOk, OnErr, OnOk};
 ghost use Rattle.std.specs.Io.KnownBytes.{Appends};
 ghost use Rattle.iloc_farm.specs.Device.{WritesFront};
 ghost use Rattle.iloc_farm.specs.Steps.Folded.{empty_rows};
@@ -15,31 +15,32 @@ const EMPTY_ROW: &[u8] = b"[ nop ; nop ]\n";
 
 /// Rows without an operation that follow one another.
 #[derive(Clone, Copy, Debug, Drop)]
-struct Run {
-    /// How many bytes stand between the run before and this one.
+struct EmptyRows {
+    /// How many bytes stand between the empty rows before and these.
     bytes: usize,
     rows: usize,
 }
 
-/// A text. Rows without an operation may be kept as their number.
+/// A text whose rows without an operation are kept as their number.
 #[derive(Drop)]
 pub struct Folded {
-    /// All bytes but those of the runs.
+    /// All bytes but those of the empty rows.
     bytes: Vec<u8>,
-    runs: Vec<Run>,
+    runs: Vec<EmptyRows>,
     /// How many bytes the whole text takes.
     size: usize,
 }
 
 impl Model for Folded {
-    ghost use Rattle.std.specs.Prelude.{ℕ, ◌≤◌, List, length};
+    ghost use Rattle.std.specs.Prelude.{ℕ, ◌≡◌, ◌≤◌, List, length};
     ghost use Rattle.iloc_farm.specs.Steps.Folded.{bytes_before, unfolded};
 
     ghost Value = { List ℕ };
 
     ghost view = { λ f. unfolded f.runs.items f.bytes.items };
 
-    ghost invariant = { λ f. bytes_before f.runs.items ≤ length f.bytes.items };
+    ghost invariant = { λ f. (bytes_before f.runs.items ≤ length f.bytes.items)
+        × (f.size ≡ length (unfolded f.runs.items f.bytes.items)) };
 }
 
 /// How many empty rows stand at the front, and what stands behind them.
@@ -56,40 +57,27 @@ fn split_rows(text: &[u8]) -> (usize, &[u8])
     (rows, rest)
 }
 
-/// The first line with its end, or all where there is none, and what stands behind it.
-fn split_line(text: &[u8]) -> (&[u8], &[u8])
-    ensures parts { text.now ≡ result.0.now ++ result.1.now }
-    ensures shorter { 0 < length text.now → length result.1.now < length text.now }
+/// How many bytes the first line takes with its end, or all where it has none.
+fn line_size(text: &[u8]) -> usize
+    ensures within { result ≤ length text.now }
+    ensures some { 0 < length text.now → 0 < result }
 {
     let end = text.iter().position(|byte| *byte == b'\n');
-    text.split_at(end.map_or(text.len(), |end| end + 1))
+    end.map_or(text.len(), |end| end + 1)
 }
 
 /// Appends so many empty rows.
 fn push_empty_rows(text: &mut Vec<u8>, rows: usize) -> Result<(), NoMemory>
     ensures { OnOk result (text.new.items ≡ text.old.items ++ empty_rows rows) }
 {
-    for i in 0..rows {
-        let _row = i;
+    for _row in 0..rows {
         text.extend_from_slice(EMPTY_ROW)?;
     }
     Ok(())
 }
 
 impl Folded {
-    /// This text as it is.
-    pub(crate) fn plain(alloc: Global, text: Vec<u8>) -> Folded
-        ensures { result ≡ text.items }
-    {
-        let size = text.len();
-        Folded {
-            bytes: text,
-            runs: Vec::new(alloc),
-            size,
-        }
-    }
-
-    /// This text, its empty rows as their number.
+    /// This text.
     pub(crate) fn of(alloc: Global, text: &[u8]) -> Result<Folded, NoMemory>
         ensures { IfOk result (λ folded. folded ≡ text.now) }
     {
@@ -99,9 +87,9 @@ impl Folded {
         let mut rest = text;
         while !rest.is_empty() {
             let (rows, behind) = split_rows(rest);
-            let (line, behind) = split_line(behind);
+            let (line, behind) = behind.split_at(line_size(behind));
             if rows > 0 {
-                runs.push(Run {
+                runs.push(EmptyRows {
                     bytes: bytes.len() - before,
                     rows,
                 })?;
@@ -120,31 +108,10 @@ impl Folded {
     }
 
     /// How many bytes the whole text takes.
-    pub(crate) fn size(&self) -> usize {
+    pub(crate) fn size(&self) -> usize
+        ensures { result ≡ length self.now }
+    {
         self.size
-    }
-
-    /// The text where it is kept as it is.
-    pub(crate) fn as_plain(&self) -> Option<&[u8]>
-        ensures { IfSome result (λ text. text.now ≡ self.now) }
-    {
-        if self.runs.is_empty() {
-            Some(self.bytes.as_slice())
-        } else {
-            None
-        }
-    }
-
-    /// The text where it is kept as it is, else all of it.
-    pub(crate) fn into_plain(self) -> Result<Vec<u8>, Folded>
-        ensures ok { IfOk result (λ text. text.items ≡ self) }
-        ensures err { IfErr result (λ folded. folded ≡ self) }
-    {
-        if self.runs.is_empty() {
-            Ok(self.bytes)
-        } else {
-            Err(self)
-        }
     }
 
     /// Appends the text to another.
@@ -171,9 +138,6 @@ impl Folded {
         ensures ok { OnOk result (Appends (W.contents writer.old) (W.contents writer.new) self.now) }
         ensures err { OnErr result (WritesFront (W.contents writer.old) (W.contents writer.new) self.now) }
     {
-        if let Some(text) = self.as_plain() {
-            return write_bytes(writer, text);
-        }
         room.clear();
         if self.push_to(room).is_err() {
             return Err(WriteFailed);

@@ -20,6 +20,7 @@ mod initial;
 pub mod laws;
 mod listing;
 mod outcomes;
+mod piece;
 mod pieces;
 mod program;
 mod routine;

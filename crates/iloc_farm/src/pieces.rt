@@ -1,10 +1,11 @@
 //! A text in pieces, as several workers made it.
-ghost use Rattle.std.specs.Prelude.{◌≡◌, ◌++◌, IfOk, OnErr, OnOk};
+ghost use Rattle.std.specs.Prelude.{◌≡◌, ◌++◌, OnErr, OnOk};
 ghost use Rattle.std.specs.Io.KnownBytes.{Appends};
 ghost use Rattle.iloc_farm.specs.Device.{WritesFront};
+ghost use Rattle.iloc_farm.specs.Steps.Pieces.{spelled};
 
 use crate::device::{WriteFailed, write_text};
-use crate::folded::Folded;
+use crate::piece::Piece;
 use iloc_text::NoMemory;
 use std::alloc::Global;
 use std::io::Write;
@@ -17,20 +18,21 @@ const MOST_JOINED: usize = 65536;
 #[derive(Drop)]
 pub(crate) struct Pieces {
     /// The first pieces, in order.
-    earlier: Vec<Folded>,
+    earlier: Vec<Piece>,
     /// The last piece, which short ones join.
     last: Vec<u8>,
-    /// Room for any of the first pieces.
+    /// Room for the text of any folded piece.
     room: Vec<u8>,
 }
 
 impl Model for Pieces {
     ghost use Rattle.std.specs.Prelude.{ℕ, List, ◌++◌};
     ghost use Rattle.std.specs.List.{flat_map};
+    ghost use Rattle.iloc_farm.specs.Steps.Pieces.{spelled};
 
     ghost Value = { List ℕ };
 
-    ghost view = { λ p. flat_map (λ piece. piece) p.earlier.items ++ p.last.items };
+    ghost view = { λ p. flat_map spelled p.earlier.items ++ p.last.items };
 }
 
 impl Pieces {
@@ -45,26 +47,30 @@ impl Pieces {
         }
     }
 
-    /// Appends a piece. One that is long or folded is kept as it is.
-    pub(crate) fn push(&mut self, piece: Folded) -> Result<(), NoMemory>
-        ensures { OnOk result (self.new ≡ self.old ++ piece) }
+    /// Appends a piece. Its room is let go where it joins the last one.
+    pub(crate) fn push(&mut self, piece: Piece) -> Result<(), NoMemory>
+        ensures { OnOk result (self.new ≡ self.old ++ spelled piece) }
     {
-        let alloc = *self.last.allocator();
-        match piece.into_plain() {
-            Ok(text) if self.last.len() + text.len() <= MOST_JOINED => {
-                self.last.extend_from_slice(&text)?;
+        match &piece {
+            Piece::Plain(text) if self.last.len() + text.len() <= MOST_JOINED => {
+                Ok(self.last.extend_from_slice(text)?)
             }
-            Ok(text) => {
-                let full = std::mem::replace(&mut self.last, text);
-                self.earlier.push(Folded::plain(alloc, full))?;
-            }
-            Err(folded) => {
-                self.room.reserve(folded.size())?;
-                let full = std::mem::replace(&mut self.last, Vec::new(alloc));
-                self.earlier.push(Folded::plain(alloc, full))?;
-                self.earlier.push(folded)?;
-            }
+            _ => self.push_apart(piece),
         }
+    }
+
+    /// Appends a piece that is long or folded, and kept as it is.
+    fn push_apart(&mut self, piece: Piece) -> Result<(), NoMemory>
+        ensures { OnOk result (self.new ≡ self.old ++ spelled piece) }
+    {
+        if let Piece::Folded(folded) = &piece {
+            self.room.reserve(folded.size())?;
+        }
+        let alloc = *self.last.allocator();
+        let mut full = std::mem::replace(&mut self.last, Vec::new(alloc));
+        full.shrink_to_fit();
+        self.earlier.push(Piece::Plain(full))?;
+        self.earlier.push(piece)?;
         Ok(())
     }
 

@@ -10,6 +10,7 @@ use Rattle.iloc_farm.specs.Headline.{Headline}
 use Rattle.iloc_farm.specs.Listing.{cycles_of, entries, total_cycles}
 use Rattle.iloc_farm.specs.Schedules.{AreGreedy, AreTheOnlyGreedy}
 use Rattle.iloc_farm.specs.Steps.Detailed.{entry_with}
+use Rattle.iloc_farm.specs.Steps.Pieces.{spelled}
 use Rattle.iloc_farm.specs.declared.entry.Entry.{Entry}
 use Rattle.iloc_farm.specs.declared.listing.Detail.{Detail}
 
@@ -17,7 +18,7 @@ use Rattle.iloc_farm.specs.declared.listing.Detail.{Detail}
 pub record IsEntry (detail : Detail) (lat : Latencies) (number : ℕ) (b : Block) (e : Entry) : Type 0 where
   pub schedule : Table
   pub greedy : IsGreedy lat b.ops schedule.ops schedule.rows
-  pub text : e.text ≡ entry_with detail lat number b.name schedule
+  pub text : spelled e.text ≡ entry_with detail lat number b.name schedule
   pub cycles : e.cycles ≡ cycles_of lat schedule
 
 -- the entry is that of block i; past the last block there is none
@@ -30,6 +31,6 @@ pub record AreEntries (detail : Detail) (request : Request) (blocks : List Block
   pub headline : Headline request.latencies blocks request.workers schedules
   pub greedy : AreGreedy request.latencies blocks schedules
   pub only : AreTheOnlyGreedy request.latencies blocks schedules
-  pub texts : flat_map (λ (e : Entry). e.text) made
+  pub texts : flat_map (λ (e : Entry). spelled e.text) made
       ≡ entries (entry_with detail request.latencies) 1 blocks schedules
   pub total : sum_by (λ (e : Entry). e.cycles) made ≡ total_cycles request.latencies schedules
