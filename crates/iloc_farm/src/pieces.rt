@@ -1,5 +1,5 @@
 //! A text in pieces, as several workers made it.
-ghost use Rattle.std.specs.Prelude.{◌≡◌, ◌++◌, OnErr, OnOk};
+ghost use Rattle.std.specs.Prelude.{◌≡◌, [], ◌++◌, OnErr, OnOk};
 ghost use Rattle.std.specs.Io.KnownBytes.{Appends};
 ghost use Rattle.iloc_farm.specs.Device.{WritesFront};
 ghost use Rattle.iloc_farm.specs.Steps.Pieces.{spelled};
@@ -35,6 +35,17 @@ impl Model for Pieces {
     ghost view = { λ p. flat_map spelled p.earlier.items ++ p.last.items };
 }
 
+/// The text of a piece that ends, in just the room that it needs. The next one begins empty.
+fn ended(last: &mut Vec<u8>) -> Vec<u8>
+    ensures text { result.items ≡ last.old.items }
+    ensures next { last.new.items ≡ [] }
+{
+    let alloc = *last.allocator();
+    let mut text = std::mem::replace(last, Vec::new(alloc));
+    text.shrink_to_fit();
+    text
+}
+
 impl Pieces {
     /// This text, in one piece.
     pub(crate) fn new(alloc: Global, text: Vec<u8>) -> Pieces
@@ -52,11 +63,23 @@ impl Pieces {
         ensures { OnOk result (self.new ≡ self.old ++ spelled piece) }
     {
         match &piece {
-            Piece::Plain(text) if self.last.len() + text.len() <= MOST_JOINED => {
-                Ok(self.last.extend_from_slice(text)?)
-            }
+            Piece::Plain(text) if text.len() <= MOST_JOINED => self.join(text),
             _ => self.push_apart(piece),
         }
+    }
+
+    /// Appends a short text to the last piece, or begins the next one with it.
+    fn join(&mut self, text: &[u8]) -> Result<(), NoMemory>
+        ensures { OnOk result (self.new ≡ self.old ++ text.now) }
+    {
+        if self.last.len() + text.len() > MOST_JOINED {
+            self.earlier.push(Piece::Plain(ended(&mut self.last)))?;
+        }
+        if self.last.is_empty() {
+            self.last.reserve(MOST_JOINED)?;
+        }
+        self.last.extend_from_slice(text)?;
+        Ok(())
     }
 
     /// Appends a piece that is long or folded, and kept as it is.
@@ -66,10 +89,7 @@ impl Pieces {
         if let Piece::Folded(folded) = &piece {
             self.room.reserve(folded.size())?;
         }
-        let alloc = *self.last.allocator();
-        let mut full = std::mem::replace(&mut self.last, Vec::new(alloc));
-        full.shrink_to_fit();
-        self.earlier.push(Piece::Plain(full))?;
+        self.earlier.push(Piece::Plain(ended(&mut self.last)))?;
         self.earlier.push(piece)?;
         Ok(())
     }
