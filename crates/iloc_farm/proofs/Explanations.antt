@@ -1,7 +1,6 @@
 -- The listing of explanations, block by block.
 use Rattle.std.proofs.Common.{◌≡◌, ◌<◌, ◌≤◌, ℕ, zero, suc, ◌+◌, ◌*◌, List, [], ◌∷◌, ◌++◌, length, take, get_or, arith, refl, sym, ap, ap₂, ◌∙◌, subst, append_assoc, append-nil}
 use Rattle.std.specs.Prelude.{codes}
-use Rattle.std.specs.Fmt.{decimal}
 use Rattle.std.specs.List.{AllByRecursion}
 use Rattle.std.proofs.lemmas.List.{length-take-le, take_all, take_more}
 use Rattle.std.proofs.lemmas.List.Sums.{sum_by-append, sum_by-cons}
@@ -13,17 +12,14 @@ use Rattle.iloc_sched.specs.Greedy.{IsGreedy}
 use Rattle.iloc_explain.specs.Listing.{IsExplanation}
 use Rattle.iloc_explain.proofs.OneText.{one_explanation}
 use Rattle.iloc_farm.specs.Explaining.{AreExplainedEntries, IsExplainedEntry, ListsExplained}
-use Rattle.iloc_farm.specs.Listing.{block_head, cycles_of, total_cycles, total_line}
+use Rattle.iloc_farm.specs.Listing.{block_head, cycles_of, total_cycles, total_line, total_of}
 use Rattle.iloc_farm.specs.Schedules.{AreGreedy}
-use Rattle.iloc_farm.specs.Steps.Explaining.{IsExplainedTo}
+use Rattle.iloc_farm.specs.Steps.Explaining.{Explains, IsExplainedTo}
 use Rattle.iloc_farm.specs.Steps.Limits.{most_cycles}
 use Rattle.iloc_farm.proofs.Schedules.{cycles_few, greedy_all_same}
 
 parts_joined : (text head line entry : List ℕ) → ((text ++ head) ++ line) ++ entry ≡ text ++ ((head ++ line) ++ entry)
 parts_joined text head line entry = simp append_assoc
-
-total_joined : (text head number line : List ℕ) → ((text ++ head) ++ number) ++ line ≡ text ++ ((head ++ number) ++ line)
-total_joined text head number line = simp append_assoc
 
 pub greedy_more : (lat : Latencies) (blocks : List Block) (schedules : List Table) (b : Block) (s : Table)
     → AreGreedy lat blocks schedules → IsGreedy lat b.ops s.ops s.rows
@@ -60,29 +56,46 @@ none_explained lat blocks text empty = record {
   small = omega arith;
 }
 
+-- what was appended explains the block
+pub explains : (lat : Latencies) (number : ℕ) (b : Block) (s : Table) (text more entry : List ℕ) (cycles : ℕ)
+    → IsGreedy lat b.ops s.ops s.rows → IsExplanation lat b.ops s.ops s.rows entry
+    → more ≡ ((text ++ block_head number b.name) ++ codes "\n") ++ entry → cycles ≡ cycles_of lat s
+    → Explains lat number b text more cycles
+explains lat number b s text more entry cycles greedy are pushed taken = record {
+  schedule = s;
+  greedy = greedy;
+  entry = (block_head number b.name ++ codes "\n") ++ entry;
+  explained = record { text = entry; explains = are; listed = refl };
+  listed = pushed ∙ parts_joined text (block_head number b.name) (codes "\n") entry;
+  taken = taken;
+}
+
+pub few_explained : (lat : Latencies) (number : ℕ) (b : Block) (text more : List ℕ) (cycles : ℕ)
+    → Explains lat number b text more cycles → length b.ops ≤ MAX_OPS → cycles ≤ most_cycles
+few_explained lat number b text more cycles it short =
+    let few : cycles_of lat it.schedule ≤ most_cycles = cycles_few lat b.ops it.schedule it.greedy short in
+    rw it.taken few
+
 -- one block more
-pub one_explained : (lat : Latencies) (blocks : List Block) (n : ℕ) (b : Block) (s : Table) (text more entry : List ℕ)
-    (total next : ℕ) → n < length blocks → b ≡ get_or blocks n b → length b.ops ≤ MAX_OPS → IsGreedy lat b.ops s.ops s.rows
-    → IsExplainedTo lat blocks n text total → IsExplanation lat b.ops s.ops s.rows entry
-    → more ≡ ((text ++ block_head (n + 1) b.name) ++ codes "\n") ++ entry → next ≡ total + cycles_of lat s
+pub one_explained : (lat : Latencies) (blocks : List Block) (n : ℕ) (b : Block) (text more : List ℕ)
+    (total next cycles : ℕ) → n < length blocks → b ≡ get_or blocks n b → length b.ops ≤ MAX_OPS
+    → IsExplainedTo lat blocks n text total → Explains lat (n + 1) b text more cycles → next ≡ total + cycles
     → IsExplainedTo lat blocks (n + 1) more next
-one_explained lat blocks n b s text more entry total next within read short greedy so_far explains pushed sum =
+one_explained lat blocks n b text more total next cycles within read short so_far it sum =
+    let s : Table = it.schedule in
     let front : take (n + 1) blocks ≡ take n blocks ++ b ∷ [] =
     take_more blocks n b within ∙ ap (λ x. take n blocks ++ x ∷ []) (sym read) in
-    let few : cycles_of lat s ≤ most_cycles = cycles_few lat b.ops s greedy short in
+    let few : cycles ≤ most_cycles = few_explained lat (n + 1) b text more cycles it short in
     let small : total ≤ most_cycles * n = so_far.small in
     let size : length (take n blocks) ≡ n = length-take-le n blocks (omega arith) in
     let long : 1 + length (take n blocks) ≡ n + 1 = omega arith in
-    let whole : List ℕ = (block_head (n + 1) b.name ++ codes "\n") ++ entry in
     record {
       schedules = so_far.schedules ++ s ∷ [];
-      greedy = rw front (greedy_more lat (take n blocks) so_far.schedules b s so_far.greedy greedy);
+      greedy = rw front (greedy_more lat (take n blocks) so_far.schedules b s so_far.greedy it.greedy);
       explained =
-          let joined : more ≡ text ++ whole =
-          pushed ∙ parts_joined text (block_head (n + 1) b.name) (codes "\n") entry in
           let P : List ℕ → Type 0 = λ xs. AreExplainedEntries lat 1 (take (n + 1) blocks) (so_far.schedules ++ s ∷ []) xs in
-          subst P (sym joined) (rw front (entries_more lat 1 (n + 1) (take n blocks) so_far.schedules b s text whole long
-          so_far.explained record { text = entry; explains = explains; listed = refl }));
+          subst P (sym it.listed) (rw front (entries_more lat 1 (n + 1) (take n blocks) so_far.schedules b s text it.entry long
+          so_far.explained it.explained));
       sum =
           let before : total ≡ total_cycles lat so_far.schedules = so_far.sum in
           let both : total_cycles lat (so_far.schedules ++ s ∷ [])
@@ -90,6 +103,7 @@ one_explained lat blocks n b s text more entry total next within read short gree
           sum_by-append (cycles_of lat) so_far.schedules (s ∷ []) in
           let one : total_cycles lat (s ∷ []) ≡ cycles_of lat s + total_cycles lat [] = sum_by-cons (cycles_of lat) s [] in
           let none : total_cycles lat [] ≡ 0 = refl in
+          let taken : cycles ≡ cycles_of lat s = it.taken in
           omega arith;
       small = omega arith;
     }
@@ -97,7 +111,7 @@ one_explained lat blocks n b s text more entry total next within read short gree
 -- all blocks, and the line with their cycles together
 pub all_explained : (lat : Latencies) (blocks : List Block) (n : ℕ) (text whole : List ℕ) (total : ℕ)
     → IsExplainedTo lat blocks n text total → length blocks ≤ n
-    → whole ≡ ((text ++ codes "total ") ++ decimal total) ++ codes "\n" → ListsExplained lat blocks whole
+    → whole ≡ text ++ total_of total → ListsExplained lat blocks whole
 all_explained lat blocks n text whole total so_far all pushed =
     let every : take n blocks ≡ blocks = take_all n blocks all in
     let greedy : AreGreedy lat blocks so_far.schedules = rw every at so_far.greedy in
@@ -108,9 +122,7 @@ all_explained lat blocks n text whole total so_far all pushed =
       only = λ others are. greedy_all_same lat blocks so_far.schedules others greedy are;
       entries = text;
       explained = rw every at so_far.explained;
-      listed =
-          pushed ∙ (ap (λ t. ((text ++ codes "total ") ++ decimal t) ++ codes "\n") sum
-          ∙ total_joined text (codes "total ") (decimal (total_cycles lat so_far.schedules)) (codes "\n"));
+      listed = pushed ∙ ap (λ t. text ++ total_of t) sum;
     }
 
 entries_same : (lat : Latencies) (k : ℕ) (blocks : List Block) (schedules : List Table) (text text' : List ℕ)

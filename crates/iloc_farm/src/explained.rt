@@ -1,14 +1,36 @@
 //! The listing of why the schedules of a file's blocks take their cycles.
-ghost use Rattle.std.specs.Prelude.{IfOk};
+ghost use Rattle.std.specs.Prelude.{◌≤◌, ◌<◌, ◌^◌, length, IfOk};
+ghost use Rattle.iloc_text.specs.declared.limits.TheConstants.{MAX_OPS};
 ghost use Rattle.iloc_farm.specs.Explaining.{ListsExplained};
 ghost use Rattle.iloc_farm.specs.Schedules.{IsWithinLimits};
+ghost use Rattle.iloc_farm.specs.Steps.Explaining.{Explains};
 
-use crate::listing::push_block_head;
+use crate::listing::{push_block_head, push_total};
 use iloc_explain::push_explanation;
 use iloc_sched::Scheduler;
-use iloc_text::{IlocFile, NoMemory, push_number};
+use iloc_text::{Block, IlocFile, NoMemory};
 use iloc_timed::{Latencies, cycles};
 use std::alloc::Global;
+
+/// Appends why the greedy schedule of the block with this number, counted from 1, takes its cycles, and answers those.
+fn push_explained(
+    alloc: Global,
+    text: &mut Vec<u8>,
+    scheduler: &mut Scheduler,
+    number: usize,
+    block: &Block,
+    latencies: &Latencies,
+) -> Result<u64, NoMemory>
+    requires short { length block.now.ops ≤ MAX_OPS }
+    requires number { number < 2 ^ 63 }
+    ensures { IfOk result (Explains latencies.now number block.now text.old.items text.new.items) }
+{
+    let schedule = scheduler.schedule(block, latencies)?;
+    push_block_head(text, number, block.name.as_ref())?;
+    text.push(b'\n')?;
+    push_explanation(alloc, text, block, &schedule, latencies)?;
+    Ok(cycles(&schedule, latencies))
+}
 
 /// The listing of the blocks' greedy schedules explained: for each block a line for each operation, the cycles and a
 /// longest chain of delays, and at the end the cycles of all. A schedule is let go as soon as it is explained.
@@ -24,14 +46,15 @@ pub fn explained_text(
     let mut text = Vec::new(alloc);
     let mut total = 0;
     for (index, block) in file.blocks.as_slice().iter().enumerate() {
-        let schedule = scheduler.schedule(block, latencies)?;
-        push_block_head(&mut text, index + 1, block.name.as_ref())?;
-        text.push(b'\n')?;
-        push_explanation(alloc, &mut text, block, &schedule, latencies)?;
-        total += cycles(&schedule, latencies);
+        total += push_explained(
+            alloc,
+            &mut text,
+            &mut scheduler,
+            index + 1,
+            block,
+            latencies,
+        )?;
     }
-    text.extend_from_slice(b"total ")?;
-    push_number(&mut text, total as i64)?;
-    text.push(b'\n')?;
+    push_total(&mut text, total)?;
     Ok(text)
 }

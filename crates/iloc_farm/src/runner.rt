@@ -23,6 +23,23 @@ pub(crate) enum Runner {
     },
 }
 
+/// Runs the block's greedy schedule for these latencies.
+fn run_timed(
+    scheduler: &mut Scheduler,
+    simulator: &mut Simulator,
+    latencies: &Latencies,
+    block: &Block,
+) -> Result<(), NoMemory>
+    requires { length block.now.ops ≤ MAX_OPS }
+    ensures memory { OnOk result (simulator.new.memory ≡ simulator.old.memory) }
+    ensures outcome { OnOk result (simulator.new.last ≡ outcome block.now.ops simulator.old.memory) }
+{
+    let schedule = scheduler.lend(block, latencies)?;
+    simulator.run(&schedule, latencies)?;
+    scheduler.take_back(schedule);
+    Ok(())
+}
+
 impl Runner {
     /// Runs blocks plainly, each with this memory.
     pub(crate) fn plain(alloc: Global, memory: Memory) -> Result<Runner, NoMemory>
@@ -53,18 +70,13 @@ impl Runner {
         ensures outcome { OnOk result ((runs self.new).last ≡ outcome block.now.ops (runs self.old).memory) }
     {
         match self {
-            Runner::Plain(interpreter) => interpreter.run(block)?,
+            Runner::Plain(interpreter) => interpreter.run(block),
             Runner::Timed {
                 scheduler,
                 simulator,
                 latencies,
-            } => {
-                let schedule = scheduler.lend(block, latencies)?;
-                simulator.run(&schedule, latencies)?;
-                scheduler.take_back(schedule);
-            }
+            } => run_timed(scheduler, simulator, latencies, block),
         }
-        Ok(())
     }
 
     /// The words that the last block emitted, in order; none where it faulted.
