@@ -3,4 +3,5 @@ pub mod PartialGraphs
 pub mod NearPairs
 pub mod FarPairs
 pub mod AddedEdges
+pub mod ListedKinds
 pub mod LastsNoted

@@ -3,7 +3,7 @@
 //! Every result that is used gives an edge from its definition. By memory and outputs only the nearest pairs are
 //! kept, since every other goes by way of an operation between: from the last store, from the last output, and to a
 //! store from each load since the last one.
-ghost use Rattle.std.specs.Prelude.{ℕ, ◌≡◌, ◌+◌, ◌*◌, ◌≤◌, ◌<◌, length, List, Some, OnOk, Contains};
+ghost use Rattle.std.specs.Prelude.{ℕ, ◌≡◌, ◌+◌, ◌*◌, ◌≤◌, ◌<◌, length, map, List, Some, OnOk, Contains};
 ghost use Rattle.iloc_text.specs.declared.limits.TheConstants.{MAX_OPS};
 ghost use Rattle.iloc_text.specs.declared.op.Op.{Op};
 ghost use Rattle.iloc_text.specs.Registers.{used};
@@ -12,9 +12,10 @@ ghost use Rattle.iloc_timed.specs.Kinds.{kind};
 ghost use Rattle.iloc_meaning.specs.Trace.{op_at};
 ghost use Rattle.iloc_sched.specs.Renaming.{IsRenamed};
 
+use crate::kinds::{Operations, latency_of};
 use crate::lasts::Lasts;
-use iloc_text::{MAX_OPS, NoMemory, Op, Reg, uses};
-use iloc_timed::{Kind, Latencies, latency};
+use iloc_text::{MAX_OPS, NoMemory, Reg, uses};
+use iloc_timed::{Kind, Latencies};
 use std::alloc::Global;
 
 /// A delay pair that is kept: the operation `to` may be issued `delay` cycles after `from`.
@@ -163,23 +164,23 @@ impl Edges {
     /// Adds the edge into operation j for a register that it uses.
     fn add_use(
         &mut self,
-        ops: &[Op],
+        operations: &Operations,
         latencies: &Latencies,
         lasts: &Lasts,
         register: Reg,
         j: usize,
     ) -> Result<(), NoMemory>
-        requires next { IsNext ops.now lasts.now j }
-        requires used { Contains (used (op_at ops.now j)) register }
+        requires next { IsNext operations.now.ops.now operations.now.kinds.now lasts.now j }
+        requires used { Contains (used (op_at operations.now.ops.now j)) register }
         requires room { length self.old.edges.items < 5 * length self.old.heads.items }
-        requires partial { IsPartialGraph latencies.now ops.now (graph_of self.old) j }
-        ensures grows { OnOk result (Grows latencies.now ops.now (graph_of self.old) (graph_of self.new) j) }
-        ensures covers { OnOk result (CoversUse latencies.now ops.now (graph_of self.new) j register) }
+        requires partial { IsPartialGraph latencies.now operations.now.ops.now (graph_of self.old) j }
+        ensures grows { OnOk result (Grows latencies.now operations.now.ops.now (graph_of self.old) (graph_of self.new) j) }
+        ensures covers { OnOk result (CoversUse latencies.now operations.now.ops.now (graph_of self.new) j register) }
         ensures count { OnOk result (length self.new.edges.items ≤ length self.old.edges.items + 1) }
         ensures frame { KeepsFrame self.old self.new }
     {
         match lasts.definers.get(register) {
-            Some(i) => self.add(i, j as u32, latency(&ops[i as usize], latencies) as u32),
+            Some(i) => self.add(i, j as u32, latency_of(operations.kinds[i as usize], latencies)),
             None => Ok(()),
         }
     }
@@ -187,22 +188,22 @@ impl Edges {
     /// Adds the edges into operation j for the registers that it uses.
     fn add_uses(
         &mut self,
-        ops: &[Op],
+        operations: &Operations,
         latencies: &Latencies,
         lasts: &Lasts,
         j: usize,
     ) -> Result<(), NoMemory>
-        requires next { IsNext ops.now lasts.now j }
+        requires next { IsNext operations.now.ops.now operations.now.kinds.now lasts.now j }
         requires room { length self.old.edges.items + 2 ≤ 5 * length self.old.heads.items }
-        requires partial { IsPartialGraph latencies.now ops.now (graph_of self.old) j }
-        ensures grows { OnOk result (Grows latencies.now ops.now (graph_of self.old) (graph_of self.new) j) }
-        ensures covers { OnOk result (CoversUses latencies.now ops.now (graph_of self.new) j) }
+        requires partial { IsPartialGraph latencies.now operations.now.ops.now (graph_of self.old) j }
+        ensures grows { OnOk result (Grows latencies.now operations.now.ops.now (graph_of self.old) (graph_of self.new) j) }
+        ensures covers { OnOk result (CoversUses latencies.now operations.now.ops.now (graph_of self.new) j) }
         ensures count { OnOk result (length self.new.edges.items ≤ length self.old.edges.items + 2) }
         ensures frame { KeepsFrame self.old self.new }
     {
-        let registers = uses(&ops[j]);
+        let registers = uses(&operations.ops[j]);
         for register in registers.as_slice() {
-            self.add_use(ops, latencies, lasts, *register, j)?;
+            self.add_use(operations, latencies, lasts, *register, j)?;
         }
         Ok(())
     }
@@ -210,22 +211,22 @@ impl Edges {
     /// Adds the edges into operation j by memory and outputs.
     fn add_memory(
         &mut self,
-        ops: &[Op],
+        operations: &Operations,
         latencies: &Latencies,
         lasts: &Lasts,
         j: usize,
     ) -> Result<(), NoMemory>
-        requires next { IsNext ops.now lasts.now j }
+        requires next { IsNext operations.now.ops.now operations.now.kinds.now lasts.now j }
         requires room { length self.old.edges.items + 2 + length lasts.now.loads.items ≤ 5 * length self.old.heads.items }
-        requires partial { IsPartialGraph latencies.now ops.now (graph_of self.old) j }
-        ensures grows { OnOk result (Grows latencies.now ops.now (graph_of self.old) (graph_of self.new) j) }
-        ensures covers { OnOk result (CoversMemory latencies.now ops.now (graph_of self.new) j) }
+        requires partial { IsPartialGraph latencies.now operations.now.ops.now (graph_of self.old) j }
+        ensures grows { OnOk result (Grows latencies.now operations.now.ops.now (graph_of self.old) (graph_of self.new) j) }
+        ensures covers { OnOk result (CoversMemory latencies.now operations.now.ops.now (graph_of self.new) j) }
         ensures count { OnOk result (length self.new.edges.items ≤ length self.old.edges.items + 2
-            + loads_before (kind (op_at ops.now j)) lasts.now) }
+            + loads_before (kind (op_at operations.now.ops.now j)) lasts.now) }
         ensures frame { KeepsFrame self.old self.new }
     {
         let to = j as u32;
-        match Kind::of(&ops[j]) {
+        match operations.kinds[j] {
             Kind::Load => self.add_from(lasts.store, to, latencies.store),
             Kind::Output => {
                 self.add_from(lasts.store, to, latencies.store)?;
@@ -243,43 +244,45 @@ impl Edges {
     /// Adds all edges into operation j.
     fn add_all(
         &mut self,
-        ops: &[Op],
+        operations: &Operations,
         latencies: &Latencies,
         lasts: &Lasts,
         j: usize,
     ) -> Result<(), NoMemory>
-        requires next { IsNext ops.now lasts.now j }
+        requires next { IsNext operations.now.ops.now operations.now.kinds.now lasts.now j }
         requires room { length self.old.edges.items + 4 + length lasts.now.loads.items ≤ 5 * length self.old.heads.items }
         requires starts { length self.old.starts.items ≡ j + 1 }
-        requires partial { IsPartialGraph latencies.now ops.now (graph_of self.old) j }
-        ensures partial { OnOk result (IsPartialGraph latencies.now ops.now (graph_of self.new) (j + 1)) }
+        requires partial { IsPartialGraph latencies.now operations.now.ops.now (graph_of self.old) j }
+        ensures partial { OnOk result (IsPartialGraph latencies.now operations.now.ops.now (graph_of self.new) (j + 1)) }
         ensures count { OnOk result (length self.new.edges.items ≤ length self.old.edges.items + 4
-            + loads_before (kind (op_at ops.now j)) lasts.now) }
+            + loads_before (kind (op_at operations.now.ops.now j)) lasts.now) }
         ensures starts { OnOk result (length self.new.starts.items ≡ j + 2) }
     {
-        self.add_uses(ops, latencies, lasts, j)?;
-        self.add_memory(ops, latencies, lasts, j)?;
+        self.add_uses(operations, latencies, lasts, j)?;
+        self.add_memory(operations, latencies, lasts, j)?;
         self.starts.push(self.edges.len() as u32)?;
         Ok(())
     }
 
-    /// The kept edges of renamed operations.
+    /// The kept edges of renamed operations, found fastest where their registers are below the limit.
     pub fn fill(
         &mut self,
         lasts: &mut Lasts,
-        ops: &[Op],
+        operations: &Operations,
+        registers: usize,
         latencies: &Latencies,
     ) -> Result<(), NoMemory>
-        requires few { length ops.now ≤ MAX_OPS }
-        requires renamed { IsRenamed ops.now }
-        ensures graph { OnOk result (IsGraphOf latencies.now ops.now (graph_of self.new)) }
+        requires few { length operations.now.ops.now ≤ MAX_OPS }
+        requires renamed { IsRenamed operations.now.ops.now }
+        requires kinds { operations.now.kinds.now ≡ map kind operations.now.ops.now }
+        ensures graph { OnOk result (IsGraphOf latencies.now operations.now.ops.now (graph_of self.new)) }
         ensures starts { OnOk result (length self.new.starts.items ≡ length self.new.heads.items + 1) }
     {
-        self.clear(ops.len())?;
-        lasts.clear(ops.len())?;
-        for j in 0..ops.len() {
-            self.add_all(ops, latencies, lasts, j)?;
-            lasts.note(ops, j)?;
+        self.clear(operations.ops.len())?;
+        lasts.clear(registers)?;
+        for j in 0..operations.ops.len() {
+            self.add_all(operations, latencies, lasts, j)?;
+            lasts.note(operations, j)?;
         }
         Ok(())
     }

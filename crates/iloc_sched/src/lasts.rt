@@ -1,10 +1,11 @@
 //! The earlier operations that a later one may have to wait for.
-ghost use Rattle.std.specs.Prelude.{◌≡◌, ◌≤◌, ◌<◌, ◌+◌, length, List, OnOk};
+ghost use Rattle.std.specs.Prelude.{◌≡◌, ◌≤◌, ◌<◌, ◌+◌, length, map, List, OnOk};
 ghost use Rattle.iloc_text.specs.declared.op.Op.{Op};
 ghost use Rattle.iloc_meaning.specs.Trace.{op_at};
 ghost use Rattle.iloc_timed.specs.Kinds.{kind};
 
 use crate::by_register::ByRegister;
+use crate::kinds::Operations;
 use iloc_text::{MAX_OPS, NoMemory, Op, defines};
 use iloc_timed::Kind;
 use std::alloc::Global;
@@ -37,16 +38,15 @@ impl Lasts {
         }
     }
 
-    /// Before the first of so many operations.
-    pub fn clear(&mut self, count: usize) -> Result<(), NoMemory>
-        requires { count ≤ MAX_OPS }
+    /// Before the first operation of a list. From now on registers below the limit are looked up fastest.
+    pub fn clear(&mut self, registers: usize) -> Result<(), NoMemory>
         ensures lasts { OnOk result ((ops : List Op) → IsLasts ops self.new 0) }
         ensures loads { length self.new.loads.items ≡ 0 }
     {
         self.store = None;
         self.output = None;
         self.loads.clear();
-        self.definers.clear(3 * count)
+        self.definers.clear(registers)
     }
 
     /// Notes what operation j defines.
@@ -78,15 +78,16 @@ impl Lasts {
     }
 
     /// Operation j is one of the earlier ones from now on.
-    pub fn note(&mut self, ops: &[Op], j: usize) -> Result<(), NoMemory>
-        requires few { length ops.now ≤ MAX_OPS }
-        requires there { j < length ops.now }
-        requires lasts { IsLasts ops.now self.old j }
-        ensures lasts { OnOk result (IsLasts ops.now self.new (j + 1)) }
-        ensures loads { OnOk result (length self.new.loads.items + loads_before (kind (op_at ops.now j)) self.old
+    pub fn note(&mut self, operations: &Operations, j: usize) -> Result<(), NoMemory>
+        requires few { length operations.now.ops.now ≤ MAX_OPS }
+        requires there { j < length operations.now.ops.now }
+        requires kinds { operations.now.kinds.now ≡ map kind operations.now.ops.now }
+        requires lasts { IsLasts operations.now.ops.now self.old j }
+        ensures lasts { OnOk result (IsLasts operations.now.ops.now self.new (j + 1)) }
+        ensures loads { OnOk result (length self.new.loads.items + loads_before (kind (op_at operations.now.ops.now j)) self.old
             ≤ length self.old.loads.items + 1) }
     {
-        self.note_definition(&ops[j], j as u32)?;
-        self.note_kind(Kind::of(&ops[j]), j as u32)
+        self.note_definition(&operations.ops[j], j as u32)?;
+        self.note_kind(operations.kinds[j], j as u32)
     }
 }

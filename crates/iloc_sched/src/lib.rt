@@ -7,6 +7,7 @@ mod class;
 mod cycle;
 mod delay_pairs;
 mod edges;
+mod kinds;
 mod lasts;
 pub mod laws;
 mod lower_bound;

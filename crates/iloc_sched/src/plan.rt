@@ -1,10 +1,12 @@
 //! What is fixed while a block is scheduled.
-ghost use Rattle.std.specs.Prelude.{◌≡◌, ◌<◌, ◌≤◌, [], length, OnOk};
+ghost use Rattle.std.specs.Prelude.{◌≡◌, ◌<◌, ◌≤◌, [], length, map, OnOk};
+ghost use Rattle.iloc_timed.specs.Kinds.{kind};
 ghost use Rattle.iloc_sched.specs.Renaming.{IsRenamed};
 
 use crate::candidate::Candidate;
 use crate::class::Class;
 use crate::edges::Edges;
+use crate::kinds::{Operations, fill_kinds};
 use crate::lasts::Lasts;
 use crate::priority::fill_priorities;
 use iloc_text::{MAX_OPS, NoMemory, Op};
@@ -15,6 +17,7 @@ use std::alloc::Global;
 #[derive(Debug, Drop)]
 pub struct Plan {
     pub ops: Vec<Op>,
+    pub kinds: Vec<Kind>,
     pub latencies: Latencies,
     pub edges: Edges,
     pub priorities: Vec<u32>,
@@ -30,14 +33,20 @@ impl Plan {
     {
         Plan {
             ops: Vec::new(alloc),
+            kinds: Vec::new(alloc),
             latencies: Latencies::usual(),
             edges: Edges::new(alloc),
             priorities: Vec::new(alloc),
         }
     }
 
-    /// Becomes the plan of its operations, which are renamed.
-    pub fn fill(&mut self, lasts: &mut Lasts, latencies: &Latencies) -> Result<(), NoMemory>
+    /// Becomes the plan of its operations, which are renamed, fastest where their registers are below the limit.
+    pub fn fill(
+        &mut self,
+        lasts: &mut Lasts,
+        registers: usize,
+        latencies: &Latencies,
+    ) -> Result<(), NoMemory>
         requires renamed { IsRenamed self.old.ops.items }
         requires few { length self.old.ops.items ≤ MAX_OPS }
         ensures plan { OnOk result (IsPlan self.new) }
@@ -45,16 +54,22 @@ impl Plan {
         ensures latencies { OnOk result (self.new.latencies ≡ latencies.now) }
     {
         self.latencies = *latencies;
-        self.edges.fill(lasts, &self.ops, latencies)?;
-        fill_priorities(&mut self.priorities, &self.edges, &self.ops, latencies)
+        fill_kinds(&mut self.kinds, &self.ops)?;
+        let operations = Operations {
+            ops: &self.ops,
+            kinds: &self.kinds,
+        };
+        self.edges.fill(lasts, &operations, registers, latencies)?;
+        fill_priorities(&mut self.priorities, &self.edges, &operations, latencies)
     }
 
     /// The class of an operation.
     pub fn class_of(&self, i: u32) -> Class
-        requires { i < length self.now.ops.items }
+        requires there { i < length self.now.ops.items }
+        requires kinds { self.now.kinds.items ≡ map kind self.now.ops.items }
         ensures { result ≡ class_at self.now.ops.items i }
     {
-        Class::of(Kind::of(&self.ops[i as usize]))
+        Class::of(self.kinds[i as usize])
     }
 
     /// An operation as a candidate.

@@ -1,25 +1,31 @@
 //! The priorities of operations.
 ghost use Rattle.std.specs.Prelude.{◌≡◌, ◌≤◌, length, map, IfOk, OnOk};
-ghost use Rattle.iloc_timed.specs.Latency.{latency};
+ghost use Rattle.iloc_timed.specs.Kinds.{kind};
+ghost use Rattle.iloc_timed.specs.Latency.{latency_of};
 ghost use Rattle.iloc_sched.specs.Priority.{priorities};
 ghost use Rattle.iloc_sched.specs.Renaming.{IsRenamed};
 ghost use Rattle.iloc_sched.specs.Steps.Graph.{IsGraphOf};
 ghost use Rattle.iloc_sched.specs.Steps.Views.{graph_of};
 
 use crate::edges::Edges;
+use crate::kinds::{Operations, fill_kinds, latency_of};
 use crate::lasts::Lasts;
 use iloc_text::{MAX_OPS, NoMemory, Op};
-use iloc_timed::{Latencies, latency};
+use iloc_timed::{Kind, Latencies};
 use std::alloc::Global;
 
-/// Fills a list with the latency of each operation.
-fn fill_latencies(own: &mut Vec<u32>, ops: &[Op], latencies: &Latencies) -> Result<(), NoMemory>
-    ensures { OnOk result (own.new.items ≡ map (latency latencies.now) ops.now) }
+/// Fills a list with the latency of each operation, by their kinds.
+fn fill_latencies(
+    own: &mut Vec<u32>,
+    kinds: &[Kind],
+    latencies: &Latencies,
+) -> Result<(), NoMemory>
+    ensures { OnOk result (own.new.items ≡ map (latency_of latencies.now) kinds.now) }
 {
     own.clear();
-    own.reserve(ops.len())?;
-    for op in ops {
-        own.push(latency(op, latencies) as u32)?;
+    own.reserve(kinds.len())?;
+    for kind in kinds {
+        own.push(latency_of(*kind, latencies))?;
     }
     Ok(())
 }
@@ -29,13 +35,14 @@ fn fill_latencies(own: &mut Vec<u32>, ops: &[Op], latencies: &Latencies) -> Resu
 pub(crate) fn fill_priorities(
     prios: &mut Vec<u32>,
     edges: &Edges,
-    ops: &[Op],
+    operations: &Operations,
     latencies: &Latencies,
 ) -> Result<(), NoMemory>
-    requires graph { IsGraphOf latencies.now ops.now (graph_of edges.now) }
-    ensures { OnOk result (prios.new.items ≡ priorities latencies.now ops.now) }
+    requires graph { IsGraphOf latencies.now operations.now.ops.now (graph_of edges.now) }
+    requires kinds { operations.now.kinds.now ≡ map kind operations.now.ops.now }
+    ensures { OnOk result (prios.new.items ≡ priorities latencies.now operations.now.ops.now) }
 {
-    fill_latencies(prios, ops, latencies)?;
+    fill_latencies(prios, operations.kinds, latencies)?;
     for x in (0..edges.edge_count()).rev() {
         let edge = edges.get(x);
         let through = edge.delay + prios[edge.to as usize];
@@ -55,9 +62,17 @@ pub fn priorities(alloc: Global, ops: &[Op], latencies: &Latencies) -> Result<Ve
     requires few { length ops.now ≤ MAX_OPS }
     ensures { IfOk result (λ prios. prios.items ≡ priorities latencies.now ops.now) }
 {
+    let mut kinds = Vec::new(alloc);
+    fill_kinds(&mut kinds, ops)?;
+    let operations = Operations { ops, kinds: &kinds };
     let mut edges = Edges::new(alloc);
-    edges.fill(&mut Lasts::new(alloc), ops, latencies)?;
+    edges.fill(
+        &mut Lasts::new(alloc),
+        &operations,
+        3 * ops.len(),
+        latencies,
+    )?;
     let mut prios = Vec::new(alloc);
-    fill_priorities(&mut prios, &edges, ops, latencies)?;
+    fill_priorities(&mut prios, &edges, &operations, latencies)?;
     Ok(prios.iter().map(|prio| u64::from(*prio)).collect(alloc)?)
 }

@@ -39,6 +39,13 @@ impl Names {
         }
     }
 
+    /// How many names were given in the last block, which are the registers below that number.
+    pub(crate) fn count(&self) -> usize
+        ensures { result ≡ self.now.given }
+    {
+        self.given as usize
+    }
+
     /// No register has a name, as a block of so many operations begins.
     fn clear(&mut self, ops: usize) -> Result<(), NoMemory>
         requires { ops ≤ MAX_OPS }

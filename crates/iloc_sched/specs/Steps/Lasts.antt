@@ -1,5 +1,5 @@
 -- What stands last before an operation.
-use Rattle.std.specs.Prelude.{ℕ, ◌≡◌, ◌<◌, ◌≤◌, true, false, if◌then◌else◌, List, [], ◌∷◌, ◌++◌, length, Some}
+use Rattle.std.specs.Prelude.{ℕ, ◌≡◌, ◌<◌, ◌≤◌, true, false, if◌then◌else◌, List, [], ◌∷◌, ◌++◌, length, map, Some}
 use Rattle.iloc_text.specs.declared.limits.TheConstants.{MAX_OPS}
 use Rattle.iloc_text.specs.declared.op.Reg.{Reg}
 use Rattle.iloc_text.specs.declared.op.Op.{Op}
@@ -28,8 +28,9 @@ pub record IsLasts (ops : List Op) (lasts : Lasts) (j : ℕ) : Type 0 where
   pub loads : (i : ℕ) → In lasts.loads.items i → (i < j) × (is_load (kind (op_at ops i)) ≡ true)
   pub all_loads : (i : ℕ) → i < j → is_load (kind (op_at ops i)) ≡ true → ((k : ℕ) → i < k → k < j → is_store (kind (op_at ops k)) ≡ false) → In lasts.loads.items i
 
--- operation j of these is the next, and what stands last before it is known
-pub record IsNext (ops : List Op) (lasts : Lasts) (j : ℕ) : Type 0 where
+-- operation j of these is the next, and their kinds and what stands last before it are known
+pub record IsNext (ops : List Op) (kinds : List Kind) (lasts : Lasts) (j : ℕ) : Type 0 where
+  pub kinds_known : kinds ≡ map kind ops
   pub renamed : IsRenamed ops
   pub few : length ops ≤ MAX_OPS
   pub there : j < length ops

@@ -1,5 +1,5 @@
 -- What holds of a schedule that is being made.
-use Rattle.std.specs.Prelude.{ℕ, ◌+◌, ◌%◌, ◌≡◌, ◌≢◌, ◌<◌, ◌++◌, ◌⊎◌, ◌||◌, List, length, slice_index_or, slice_set, count_by, is_none, Option, Some, None, Bool, false, if◌then◌else◌}
+use Rattle.std.specs.Prelude.{ℕ, ◌+◌, ◌%◌, ◌≡◌, ◌≢◌, ◌<◌, ◌++◌, ◌⊎◌, ◌||◌, List, length, map, slice_index_or, slice_set, count_by, is_none, Option, Some, None, Bool, false, if◌then◌else◌}
 use Rattle.iloc_meaning.specs.Trace.{op_at}
 use Rattle.iloc_text.specs.declared.op.Op.{Op}
 use Rattle.iloc_timed.specs.declared.row.Row.{Row}
@@ -24,8 +24,9 @@ use Rattle.iloc_sched.specs.Steps.Views.{graph_of, issued_list, progress_of, IsS
 abbrev pub class_at : List Op → ℕ → Class
 class_at ops i = class_of (kind (op_at ops i))
 
--- a plan has the edges and the priorities of its operations
+-- a plan has the kinds, the edges and the priorities of its operations
 pub record IsPlan (p : Plan) : Type 0 where
+  pub kinds : p.kinds.items ≡ map kind p.ops.items
   pub graph : IsGraphOf p.latencies p.ops.items (graph_of p.edges)
   pub priorities : p.priorities.items ≡ priorities p.latencies p.ops.items
   pub starts : length p.edges.starts.items ≡ length p.edges.heads.items + 1

@@ -10,7 +10,7 @@ use Rattle.iloc_sched.proofs.edges.Edges.add_all.Goals as goal
 pub returns-clause-partial : goal.returns-clause-partial
 returns-clause-partial c =
     let lat = c.args.latencies.now in
-    let ops = c.args.ops.now in
+    let ops = c.args.operations.now.ops.now in
     let j : ℕ = c.args.j in
     let graph = graph_of c.add_memory.new.self in
     let grows = c.in_ok-add_memory.ensures.grows in

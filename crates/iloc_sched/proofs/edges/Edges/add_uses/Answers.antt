@@ -17,12 +17,12 @@ loop-register-preserved c =
     let below : k < length xs = omega arith in
     let zero : Reg = record { 0 = 0 } in
     record {
-      grows = grows_then c.args.latencies.now c.args.ops.now (graph_of c.args.self.now) (graph_of c.loop-register.self)
+      grows = grows_then c.args.latencies.now c.args.operations.now.ops.now (graph_of c.args.self.now) (graph_of c.loop-register.self)
           (graph_of c.add_use.new.self) c.args.j c.loop-register.invariant.grows c.in_ok-add_use.ensures.grows;
       covers = subst (λ ys. (r : Reg) → In ys r
-          → CoversUse c.args.latencies.now c.args.ops.now (graph_of c.add_use.new.self) c.args.j r)
+          → CoversUse c.args.latencies.now c.args.operations.now.ops.now (graph_of c.add_use.new.self) c.args.j r)
           (sym (take_more xs k zero below))
-          (uses_more c.args.latencies.now c.args.ops.now (graph_of c.loop-register.self) (graph_of c.add_use.new.self)
+          (uses_more c.args.latencies.now c.args.operations.now.ops.now (graph_of c.loop-register.self) (graph_of c.add_use.new.self)
           c.args.j (take k xs) _ c.in_ok-add_use.ensures.grows c.loop-register.invariant.covers
           c.in_ok-add_use.ensures.covers);
       count = omega (arith, c.in_ok-add_use.ensures.count);
@@ -31,9 +31,9 @@ loop-register-preserved c =
 
 pub returns-clause-covers : goal.returns-clause-covers
 returns-clause-covers c =
-    covers_along c.args.latencies.now c.args.ops.now (graph_of c.loop-register.self) c.args.j _
+    covers_along c.args.latencies.now c.args.operations.now.ops.now (graph_of c.loop-register.self) c.args.j _
     c.as_slice-register-items.result.now
     (take_all c.loop-register.register-index c.as_slice-register-items.result.now (omega arith))
     (c.as_slice-register-items.ensures.value ∙ c.uses-registers.ensures
-    ∙ ap used (get_or_default c.args.ops.now c.args.j _ Nop c.requires.next.there))
+    ∙ ap used (get_or_default c.args.operations.now.ops.now c.args.j _ Nop c.requires.next.there))
     c.loop-register.invariant.covers

@@ -6,15 +6,15 @@ use Rattle.iloc_sched.proofs.edges.Edges.fill.Goals as goal
 
 pub loop-j-init : goal.loop-j-init
 loop-j-init c = record {
-  partial = c.in_ok-clear.ensures.partial c.args.latencies.now c.args.ops.now refl;
-  lasts = c.in_ok-clear-2.ensures.lasts c.args.ops.now;
+  partial = c.in_ok-clear.ensures.partial c.args.latencies.now c.args.operations.now.ops.now refl;
+  lasts = c.in_ok-clear-2.ensures.lasts c.args.operations.now.ops.now;
   starts = c.in_ok-clear.ensures.starts;
   count = omega (arith, c.in_ok-clear.ensures.edges, c.in_ok-clear-2.ensures.loads);
 }
 
 pub returns-clause-graph : goal.returns-clause-graph
 returns-clause-graph c =
-    let at_end : c.loop-j.j ≡ length c.args.ops.now = omega arith in
-    kept_at_end c.args.latencies.now c.args.ops.now (graph_of c.loop-j.self)
-    (subst (λ n. IsPartialGraph c.args.latencies.now c.args.ops.now (graph_of c.loop-j.self) n) at_end
+    let at_end : c.loop-j.j ≡ length c.args.operations.now.ops.now = omega arith in
+    kept_at_end c.args.latencies.now c.args.operations.now.ops.now (graph_of c.loop-j.self)
+    (subst (λ n. IsPartialGraph c.args.latencies.now c.args.operations.now.ops.now (graph_of c.loop-j.self) n) at_end
     c.loop-j.invariant.partial)

@@ -6,8 +6,8 @@ use Rattle.iloc_sched.proofs.edges.Edges.fill.Given as goal
 
 abbrev pub invariant-loop-j : goal.invariant-loop-j
 invariant-loop-j l = record {
-  partial : IsPartialGraph l.latencies l.ops (graph_of l.self) l.j;
-  lasts : IsLasts l.ops l.lasts l.j;
+  partial : IsPartialGraph l.latencies l.operations.ops.now (graph_of l.self) l.j;
+  lasts : IsLasts l.operations.ops.now l.lasts l.j;
   starts : length l.self.starts.items ≡ l.j + 1;
   count : length l.self.edges.items + length l.lasts.loads.items ≤ 5 * l.j;
 }

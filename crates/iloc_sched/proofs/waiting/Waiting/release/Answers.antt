@@ -14,9 +14,11 @@ take-requires c =
     c.requires.plan c.requires.under_way c.loop-j.invariant
 
 pub class_of-class-requires : goal.class_of-class-requires
-class_of-class-requires c =
-    taken_there c.args.plan.now c.args.self.now c.loop-j.self c.args.queues.now c.loop-j.queues c.args.cycle
-    c.requires.plan c.requires.under_way c.loop-j.invariant c.take.new.self c.in-Some.j c.in-Some.ensures.taken
+class_of-class-requires c = record {
+  there = taken_there c.args.plan.now c.args.self.now c.loop-j.self c.args.queues.now c.loop-j.queues c.args.cycle
+      c.requires.plan c.requires.under_way c.loop-j.invariant c.take.new.self c.in-Some.j c.in-Some.ensures.taken;
+  kinds = c.requires.plan.kinds;
+}
 
 pub candidate-candidate-requires : goal.candidate-candidate-requires
 candidate-candidate-requires c =

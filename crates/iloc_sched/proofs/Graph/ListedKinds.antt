@@ -1,0 +1,24 @@
+-- The kinds of operations, read from their list.
+use Rattle.std.proofs.Common.{ℕ, ◌≡◌, ◌<◌, List, [], ◌∷◌, length, map, get_or, refl, sym, ◌∙◌, ap}
+use Rattle.std.proofs.lemmas.List.{get_or-map}
+use Rattle.iloc_text.specs.declared.op.Op.{Op}
+use Rattle.iloc_text.specs.declared.op.Op.TheVariants.{Nop}
+use Rattle.iloc_meaning.specs.Trace.{op_at}
+use Rattle.iloc_timed.specs.declared.kind.Kind.{Kind}
+use Rattle.iloc_timed.specs.declared.latencies.Latencies.{Latencies}
+use Rattle.iloc_timed.specs.Kinds.{kind}
+use Rattle.iloc_timed.specs.Latency.{latency, latency_of}
+
+-- place j of the list has the kind of operation j
+pub kind_listed : (ops : List Op) (kinds : List Kind) (j : ℕ) (d : Kind) → kinds ≡ map kind ops → j < length ops
+    → get_or kinds j d ≡ kind (op_at ops j)
+kind_listed ops kinds j d is there = ap (λ ks. get_or ks j d) is ∙ get_or-map kind ops j Nop d there
+
+pub kind_read : (ops : List Op) (kinds : List Kind) (j : ℕ) (q d : Kind) → kinds ≡ map kind ops → j < length ops
+    → get_or kinds j d ≡ q → kind (op_at ops j) ≡ q
+kind_read ops kinds j q d is there read = sym (kind_listed ops kinds j d is there) ∙ read
+
+-- latencies by the list of kinds are those of the operations
+pub latencies_by_kinds : (lat : Latencies) (ops : List Op) → map (latency_of lat) (map kind ops) ≡ map (latency lat) ops
+latencies_by_kinds lat [] = refl
+latencies_by_kinds lat (op ∷ ops) = ap (λ rest. latency lat op ∷ rest) (latencies_by_kinds lat ops)
