@@ -17,5 +17,5 @@ pub mod Opening
 pub mod ByRegister
 pub mod Lasts
 pub mod PartialGraph
-pub mod Naming
-pub mod Names
+pub mod NamingWalk
+pub mod CurrentNames

@@ -26,8 +26,8 @@ impl Names {
     ghost use Rattle.std.specs.Prelude.{None};
     ghost use Rattle.iloc_text.specs.declared.op.Reg.{Reg};
     ghost use Rattle.iloc_sched.specs.Renaming.{Source, name_of};
-    ghost use Rattle.iloc_sched.specs.Steps.Naming.{also, Follows, NamesNext, Named, next_renamed};
-    ghost use Rattle.iloc_sched.specs.Steps.Names.{current_of};
+    ghost use Rattle.iloc_sched.specs.Steps.NamingWalk.{also, Follows, NamesNext, Named, next_renamed};
+    ghost use Rattle.iloc_sched.specs.Steps.CurrentNames.{current_of};
 
     /// Names for blocks, one after another.
     pub(crate) fn new(alloc: Global) -> Names

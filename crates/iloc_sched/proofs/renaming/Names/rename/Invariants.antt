@@ -1,7 +1,7 @@
 use Rattle.std.proofs.Common.{◌≡◌, ◌+◌, ◌≤◌, List, length, take}
 use Rattle.iloc_text.specs.declared.op.Op.{Op}
-use Rattle.iloc_sched.specs.Steps.Naming.{Named, UsesNamed}
-use Rattle.iloc_sched.specs.Steps.Names.{current_of}
+use Rattle.iloc_sched.specs.Steps.NamingWalk.{Named, UsesNamed}
+use Rattle.iloc_sched.specs.Steps.CurrentNames.{current_of}
 use Rattle.iloc_sched.proofs.renaming.Names.rename.Given as goal
 
 abbrev pub invariant-loop-register : goal.invariant-loop-register
