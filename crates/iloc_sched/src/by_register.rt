@@ -1,5 +1,5 @@
 //! Numbers by register.
-ghost use Rattle.std.specs.Prelude.{ℕ, ◌≡◌, None, OnOk};
+ghost use Rattle.std.specs.Prelude.{ℕ, ◌≡◌, ◌≤◌, length, None, OnOk};
 
 use iloc_text::{NoMemory, Reg};
 use std::alloc::Global;
@@ -56,6 +56,15 @@ impl ByRegister {
             self.table[place] = Some(number);
             return Ok(());
         }
+        self.set_other(register, number)
+    }
+
+    /// The same for a register that isn't below the limit.
+    #[cold]
+    fn set_other(&mut self, register: Reg, number: u32) -> Result<(), NoMemory>
+        requires { length self.old.table.items ≤ register.0 }
+        ensures { OnOk result (Sets self.old self.new register.0 number) }
+    {
         self.others.insert(register.0, number)?;
         Ok(())
     }
