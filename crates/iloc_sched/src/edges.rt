@@ -180,7 +180,11 @@ impl Edges {
         ensures frame { KeepsFrame self.old self.new }
     {
         match lasts.definers.get(register) {
-            Some(i) => self.add(i, j as u32, latency_of(operations.kinds[i as usize], latencies)),
+            Some(i) => self.add(
+                i,
+                j as u32,
+                latency_of(operations.kinds[i as usize], latencies),
+            ),
             None => Ok(()),
         }
     }

@@ -80,24 +80,22 @@ impl Waiting {
         Ok(())
     }
 
-    /// How far the edges into operation j are over by now.
-    fn reach(&self, edges: &Edges, j: usize) -> Reach
+    /// How far the edges into operation j are over by now, of which it is known how far they are at least.
+    fn reach(&self, edges: &Edges, j: usize, known: Reach) -> Reach
         requires there { j < length edges.now.heads.items }
         requires graph { IsGraph (graph_of edges.now) }
         requires sized { IsSized edges.now self.now }
         requires early { (k t : ℕ) → k < length edges.now.heads.items
             → (progress_of self.now).issued k ≡ Some t → t + LONGEST_DELAY < 2 ^ 32 }
-        requires start { Reaches (graph_of edges.now) (progress_of self.now).issued j
-            ((progress_of self.now).watch j) ((progress_of self.now).earliest j) }
+        requires known { Reaches (graph_of edges.now) (progress_of self.now).issued j known.place known.earliest }
         ensures reaches { Reaches (graph_of edges.now) (progress_of self.now).issued j result.place result.earliest }
-        ensures on { (progress_of self.now).watch j ≤ result.place }
+        ensures on { known.place ≤ result.place }
         ensures stuck { result.place < (graph_of edges.now).start (j + 1)
             → (progress_of self.now).issued ((graph_of edges.now).from result.place) ≡ None }
     {
         let end = edges.start(j + 1);
-        let state = self.states[j];
-        let mut place = state.reach.place;
-        let mut earliest = state.reach.earliest;
+        let mut place = known.place;
+        let mut earliest = known.earliest;
         while place < end {
             let edge = edges.get(place as usize);
             let source = self.states[edge.from as usize];
@@ -165,7 +163,11 @@ impl Waiting {
         if state.reach.place != x {
             return edge.previous;
         }
-        let reach = self.reach(edges, target);
+        let known = Reach {
+            place: x + 1,
+            earliest: state.reach.earliest.max(cycle + edge.delay),
+        };
+        let reach = self.reach(edges, target, known);
         self.watch(target, reach);
         if reach.place < edges.start(target + 1) {
             return edge.previous;

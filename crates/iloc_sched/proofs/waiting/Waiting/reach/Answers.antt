@@ -2,27 +2,18 @@ use Rattle.std.proofs.Common.{◌≡◌, ◌<◌, ◌≤◌, ◌+◌, ◌^◌, m
 use Rattle.iloc_sched.specs.declared.edges.Edge.{Edge}
 use Rattle.iloc_sched.specs.Steps.Views.{graph_of, progress_of}
 use Rattle.iloc_sched.specs.Steps.Progress.{Reaches}
-use Rattle.iloc_sched.proofs.Watching.TableReads.{issued_read, watch_read, earliest_read, source_there}
+use Rattle.iloc_sched.proofs.Watching.TableReads.{issued_read, source_there}
 use Rattle.iloc_sched.proofs.Watching.EdgeWalk.{reaches_more}
 use Rattle.iloc_sched.proofs.waiting.Waiting.reach.Goals as goal
 
 pub loop-place-init : goal.loop-place-init
 loop-place-init c =
-    let w = c.args.self.now in
     let e = c.args.edges.now in
-    let size : length w.states.items ≡ length e.heads.items = c.requires.sized.states in
-    let place : c.index-state.result.now.reach.place ≡ (progress_of w).watch c.args.j =
-    watch_read w c.args.j c.index-state.result.now (omega arith) c.index-state.ensures in
-    let earliest : c.index-state.result.now.reach.earliest ≡ (progress_of w).earliest c.args.j =
-    earliest_read w c.args.j c.index-state.result.now (omega arith) c.index-state.ensures in
     let last : (graph_of e).start (c.args.j + 1) ≤ (graph_of e).start (graph_of e).ops =
     c.requires.graph.rises (c.args.j + 1) (graph_of e).ops (omega arith) (omega arith) in
     let all : (graph_of e).start (graph_of e).ops ≡ (graph_of e).count = c.requires.graph.last in
     record {
-      reaches = subst (λ p. Reaches (graph_of e) (progress_of w).issued c.args.j p c.index-state.result.now.reach.earliest)
-          (sym place)
-          (subst (λ t. Reaches (graph_of e) (progress_of w).issued c.args.j ((progress_of w).watch c.args.j) t)
-          (sym earliest) c.requires.start);
+      reaches = c.requires.known;
       on = omega arith;
       end = omega (arith, c.start-end.ensures);
     }

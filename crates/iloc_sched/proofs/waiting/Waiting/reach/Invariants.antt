@@ -6,7 +6,7 @@ use Rattle.iloc_sched.proofs.waiting.Waiting.reach.Given as goal
 abbrev pub invariant-loop-place : goal.invariant-loop-place
 invariant-loop-place l = record {
   reaches : Reaches (graph_of l.edges) (progress_of l.self).issued l.j l.place l.earliest;
-  on : (progress_of l.self).watch l.j ≤ l.place;
+  on : l.fn.known.place ≤ l.place;
   end : l.end ≤ (graph_of l.edges).count;
 }
 
