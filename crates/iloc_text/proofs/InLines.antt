@@ -73,7 +73,7 @@ opcode_inside : (o : Opcode) → IsInside (Text (opcode_text o))
 opcode_inside Nop = text_inside (codes "nop") refl
 opcode_inside o = text_inside (opcode_text o) refl
 
-operation_inside : (op : Op) → IsInside (Operation op)
+pub operation_inside : (op : Op) → IsInside (Operation op)
 operation_inside op = join_inside (opcode_inside (opcode op)) (operands_inside (operands op))
 
 pub optional_operation_inside : (op : Option Op) → IsInside (OptionalOperation op)

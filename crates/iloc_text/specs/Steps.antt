@@ -6,6 +6,5 @@ pub mod Operands
 pub mod Placed
 pub mod Scan
 pub mod ScheduleScan
-pub mod OnePass
 pub mod Growth
 pub mod Open

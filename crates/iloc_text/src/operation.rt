@@ -56,7 +56,7 @@ pub fn numbers_at(opcode: Opcode, bytes: &[u8]) -> Option<([u32; 3], &[u8])>
 
 /// What stands behind an opcode: the operands that belong there.
 #[inline(never)]
-pub fn called_at(opcode: Opcode, bytes: &[u8]) -> Option<(Op, &[u8])>
+fn called_at(opcode: Opcode, bytes: &[u8]) -> Option<(Op, &[u8])>
     ensures { option_map (λ found. (found.0, found.1.now)) result ≡ called_at opcode bytes.now }
 {
     let (numbers, rest) = numbers_at(opcode, bytes)?;

@@ -11,8 +11,9 @@ use crate::file::{Blocks, IlocFile};
 use crate::limits::MAX_INPUT;
 use crate::line::{Line, ParseFault, read_line};
 use crate::line_ends::split_line;
-use crate::one_pass::{usual_line, usual_operation};
+use crate::one_pass::{usual_body, usual_line};
 use crate::open_block::OpenBlock;
+use crate::scan::after_blanks;
 use crate::taker::TakeBlocks;
 use std::alloc::Global;
 
@@ -53,8 +54,8 @@ pub fn read_blocks<T: TakeBlocks>(
     let mut rest = Some(input);
     while let Some(text) = rest {
         number += 1;
-        if let Some((op, after)) = usual_operation(text) {
-            open.add_op(alloc, taker, Some(op), number)?;
+        if let Some((op, after)) = usual_body(after_blanks(text)) {
+            open.add_op(alloc, taker, op, number)?;
             rest = after;
             continue;
         }

@@ -1,12 +1,17 @@
-use Rattle.std.proofs.Common.{◌∙◌, sym}
-use Rattle.iloc_text.specs.Steps.LineReads.{label_of}
-use Rattle.iloc_text.specs.Steps.Lines.{lines_left}
-use Rattle.iloc_text.proofs.OnePass.{usual_reads}
+use Rattle.std.proofs.Common.{sym, subst}
+use Rattle.iloc_text.specs.Grammar.{OptionalLabel}
+use Rattle.iloc_text.proofs.Parts.{Before}
+use Rattle.iloc_text.proofs.Tokens.{blanks_read}
+use Rattle.iloc_text.proofs.Labels.{label_read}
+use Rattle.iloc_text.proofs.OnePass.{line_first}
 use Rattle.iloc_text.proofs.one_pass.usual_line.Goals as goal
 
-pub returns-then-is_within : goal.returns-then-is_within
-returns-then-is_within c =
-    let ends = c.in_ok-after.ensures in
-    usual_reads c.args.text.now (label_of c.words_at.result.0) c.words_at.result.0.op c.words_at.result.1.now ends.0
-    (lines_left c.in_ok-after.after)
-    c.words_at.ensures ends.1 ends.2 (sym c.is_within.ensures ∙ c.if-is_within.true)
+pub returns : goal.returns
+returns c =
+    let text = c.args.text.now in
+    let start = c.after_blanks.result.now in
+    let found = c.optional_label_at.ensures in
+    line_first _ _ (rw c.after_blanks.ensures (blanks_read text))
+    (subst (λ p. Before (OptionalLabel p.0) p.1 start) (sym found) (label_read start))
+    (rw c.after_blanks-2.ensures (blanks_read c.optional_label_at.result.1.now))
+    c.in_ok-op.ensures
