@@ -1,5 +1,6 @@
--- Every text has an answer: line by line, each is read or faulty.
-use Rattle.std.proofs.Common.{◌≡◌, ℕ, ◌+◌, ◌<◌, ◌≤◌, nat_lt, Bool, true, false, List, [], ◌∷◌, ◌++◌, length, refl, sym, subst, Option, Some, None, ◌⊎◌, inl, inr, append_assoc, append-nil, arith}
+-- Every text has an answer, and the answer is what it denotes: line by line, each is read or faulty.
+use Rattle.std.proofs.Common.{◌≡◌, ℕ, ◌+◌, ◌<◌, ◌≤◌, nat_lt, Bool, true, false, cond, List, [], ◌∷◌, ◌++◌, length, refl, sym, subst, subst₂, Option, Some, None, Result, Ok, Err, ◌⊎◌, inl, inr, append_assoc, append-nil, length-append, arith}
+use Rattle.std.specs.List.{AllByRecursion}
 use Rattle.std.proofs.lemmas.Bool.Decides.{nat_tests}
 use Rattle.iloc_text.specs.declared.limits.TheConstants.{MAX_INPUT, MAX_BLOCKS, MAX_OPS}
 use Rattle.iloc_text.specs.declared.op.Op.{Op}
@@ -7,24 +8,29 @@ use Rattle.iloc_text.specs.declared.file.Block.{Block}
 use Rattle.iloc_text.specs.declared.fault.ReadFault.{ReadFault}
 use Rattle.iloc_text.specs.declared.fault.ReadFault.TheVariants.{InputTooLong, BadLine, NumberTooLarge, TooManyBlocks, TooManyOperations, NoMemory}
 use Rattle.iloc_text.specs.Grammar.{Reads}
-use Rattle.iloc_text.specs.Files.{AreLines, Reading, ReadAs, block_count, ops_of, file_of, IsWithin, NoneFaulty, Denotes, IsFaulty, HasFirstFault, IsRefused}
+use Rattle.iloc_text.specs.Files.{AreLines, Reading, ReadAs, fronts, file_of, IsWithin, NoneFaulty, Denotes, IsFaulty, HasFirstFault, IsRefused}
 use Rattle.iloc_text.specs.Laws.{TextsHaveAnAnswer}
 use Rattle.iloc_text.specs.Steps.Scan.{line_at, is_within}
 use Rattle.iloc_text.specs.Steps.Lines.{lines_of}
+use Rattle.iloc_text.specs.Steps.Growth.{with_line, last_ops, limited}
 use Rattle.iloc_text.proofs.Lines.{line_bad, line_good, line_large}
 use Rattle.iloc_text.proofs.Splitting.{lines_are}
-use Rattle.iloc_text.proofs.Reading.{NoneFaulty-snoc, ReadAs-snoc}
+use Rattle.iloc_text.proofs.Counts.{fronts-snoc}
+use Rattle.iloc_text.proofs.BlockLists.{length-file, last-file, file-snoc}
+use Rattle.iloc_text.proofs.Answer.{verdict_on, verdict, answer_from, on_verdict, answer}
 
 -- One line
 
 -- the line reads, and nothing is too much behind the lines with these readings
-record IsRead (rs : List Reading) (line : List ℕ) : Type 0 where
+record IsRead (rs : List Reading) (line : List ℕ) (grown : List Block) : Type 0 where
   reading : Reading
   reads : Reads line reading.label reading.op
   within : IsWithin (rs ++ reading ∷ [])
+  file : grown ≡ file_of (rs ++ reading ∷ [])
 
-abbrev Judged : List Reading → List ℕ → ℕ → Type 0
-Judged rs line n = ((fault : ReadFault) × IsFaulty rs line n fault) ⊎ IsRead rs line
+abbrev Judged : List Reading → List ℕ → ℕ → Result (List Block) ReadFault → Type 0
+Judged rs line n (Ok grown) = IsRead rs line grown
+Judged rs line n (Err fault) = IsFaulty rs line n fault
 
 above : (a b : ℕ) → nat_lt a b ≡ true → a < b
 above a b h = grind (arith, nat_tests)
@@ -34,47 +40,64 @@ not_above a b h = grind (arith, nat_tests)
 
 by_limits : (rs : List Reading) (line : List ℕ) (n : ℕ) (r : Reading) → Reads line r.label r.op
     → (blocks operations : Bool)
-    → nat_lt MAX_BLOCKS (block_count (rs ++ r ∷ [])) ≡ blocks
-    → nat_lt MAX_OPS (length (ops_of (block_count (rs ++ r ∷ [])) (rs ++ r ∷ []))) ≡ operations
-    → Judged rs line n
+    → nat_lt MAX_BLOCKS (length (file_of (rs ++ r ∷ []))) ≡ blocks
+    → nat_lt MAX_OPS (length (last_ops (file_of (rs ++ r ∷ [])))) ≡ operations
+    → Judged rs line n (cond blocks (Err (TooManyBlocks n)) (cond operations (Err (TooManyOperations n))
+    (Ok (file_of (rs ++ r ∷ [])))))
 by_limits rs line n r reads true operations b o =
-    inl (TooManyBlocks n, (refl, record { reading = r; read = reads; blocks = above _ _ b }))
-by_limits rs line n r reads false true b o =
-    inl (
-      TooManyOperations n,
-      (
-        refl,
-        record {
-          reading = r;
-          read = reads;
-          blocks = not_above _ _ b;
-          operations = above _ _ o;
-        },
-      ),
-    )
-by_limits rs line n r reads false false b o =
-    inr (record {
-      reading = r;
-      reads = reads;
-      within = record { blocks = not_above _ _ b; operations = not_above _ _ o };
-    })
+    (refl, record { reading = r; read = reads; blocks = subst (λ c. MAX_BLOCKS < c) (length-file _) (above _ _ b) })
+by_limits rs line n r reads false true b o = (
+  refl,
+  record {
+    reading = r;
+    read = reads;
+    blocks = subst (λ c. c ≤ MAX_BLOCKS) (length-file _) (not_above _ _ b);
+    operations = subst (λ ops. MAX_OPS < length ops) (last-file _) (above _ _ o);
+  },
+)
+by_limits rs line n r reads false false b o = record {
+  reading = r;
+  reads = reads;
+  within = record {
+    blocks = subst (λ c. c ≤ MAX_BLOCKS) (length-file _) (not_above _ _ b);
+    operations = subst (λ ops. length ops ≤ MAX_OPS) (last-file _) (not_above _ _ o);
+  };
+  file = refl;
+}
 
 by_numbers : (rs : List Reading) (line : List ℕ) (n : ℕ) (r : Reading) → line_at line ≡ Some (r.label, r.op)
-    → (within : Bool) → is_within r.op ≡ within → Judged rs line n
-by_numbers rs line n r found true w = by_limits rs line n r (line_good line r.label r.op found w) _ _ refl refl
-by_numbers rs line n r found false w =
-    let large = line_large line r.label r.op found w in
-    inl (NumberTooLarge n, (refl, large.0, large.1))
+    → (within : Bool) → is_within r.op ≡ within
+    → Judged rs line n (cond within (limited (with_line r.label r.op (file_of rs)) n) (Err (NumberTooLarge n)))
+by_numbers rs line n r found true w = subst (λ bs. Judged rs line n (limited bs n)) (file-snoc rs r)
+    (by_limits rs line n r (line_good line r.label r.op found w) _ _ refl refl)
+by_numbers rs line n r found false w = let large = line_large line r.label r.op found w in (refl, large.0, large.1)
 
-by_scan : (rs : List Reading) (line : List ℕ) (n : ℕ) (found : Option (Option (List ℕ) × Option Op))
-    → line_at line ≡ found → Judged rs line n
-by_scan rs line n None e = inl (BadLine n, (refl, line_bad line e))
-by_scan rs line n (Some found) e = by_numbers rs line n (record { label = found.0; op = found.1 }) e _ refl
-
-judged : (rs : List Reading) (line : List ℕ) (n : ℕ) → Judged rs line n
-judged rs line n = by_scan rs line n (line_at line) refl
+judged : (rs : List Reading) (line : List ℕ) (n : ℕ) → Judged rs line n (verdict (file_of rs) line n)
+judged rs line n = by (line_at line) refl
+  where
+    by : (found : Option (Option (List ℕ) × Option Op)) → line_at line ≡ found
+        → Judged rs line n (verdict_on found (file_of rs) n)
+    by None e = (refl, line_bad line e)
+    by (Some found) e = by_numbers rs line n (record { label = found.0; op = found.1 }) e _ refl
 
 -- All lines
+
+pub all-snoc : {A : Type 0} (P : A → Type 0) (xs : List A) (x : A) → AllByRecursion P xs → P x
+    → AllByRecursion P (xs ++ x ∷ [])
+all-snoc P [] x h p = (p, tt)
+all-snoc P (y ∷ ys) x h p = (h.0, all-snoc P ys x h.1 p)
+
+NoneFaulty-snoc : (rs : List Reading) (r : Reading) → NoneFaulty rs → IsWithin (rs ++ r ∷ [])
+    → NoneFaulty (rs ++ r ∷ [])
+NoneFaulty-snoc rs r h w = subst (AllByRecursion IsWithin) (sym (fronts-snoc rs r))
+    (all-snoc IsWithin (fronts rs) (rs ++ r ∷ []) h w)
+
+ReadAs-snoc : (lines : List (List ℕ)) (rs : List Reading) (line : List ℕ) (r : Reading)
+    → ReadAs lines rs → Reads line r.label r.op → ReadAs (lines ++ line ∷ []) (rs ++ r ∷ [])
+ReadAs-snoc [] [] line r h reads = (reads, tt)
+ReadAs-snoc [] (x ∷ xs) line r h reads = absurd h
+ReadAs-snoc (l ∷ ls) [] line r h reads = absurd h
+ReadAs-snoc (l ∷ ls) (x ∷ xs) line r h reads = (h.0, ReadAs-snoc ls xs line r h.1 reads)
 
 first_refused : (input : List ℕ) (fault : ReadFault) → HasFirstFault input fault → IsRefused input fault
 first_refused input InputTooLong h = absurd h.faulty
@@ -84,49 +107,58 @@ first_refused input (TooManyBlocks n) h = h
 first_refused input (TooManyOperations n) h = h
 first_refused input NoMemory h = absurd h.faulty
 
-abbrev Answered : List ℕ → Type 0
-Answered input = ((blocks : List Block) × Denotes input blocks) ⊎ ((fault : ReadFault) × IsRefused input fault)
+-- the text denotes these blocks, or this refusal
+abbrev pub Answers : List ℕ → Result (List Block) ReadFault → Type 0
+Answers input (Ok blocks) = Denotes input blocks
+Answers input (Err fault) = IsRefused input fault
 
 -- where the lines before have these readings, and none of them is faulty
 from_here : (input : List ℕ) → length input ≤ MAX_INPUT → (before lines : List (List ℕ)) (rs : List Reading)
-    → AreLines input (before ++ lines) → ReadAs before rs → NoneFaulty rs → Answered input
-from_here input short before [] rs are read none_faulty = inl (
-  file_of rs,
-  record {
-    short = short;
-    lines = before;
-    are_lines = subst (AreLines input) (append-nil before) are;
-    readings = rs;
-    read = read;
-    none_faulty = none_faulty;
-    file = refl;
-  },
-)
+    → AreLines input (before ++ lines) → ReadAs before rs → NoneFaulty rs
+    → Answers input (answer_from (file_of rs) (length before + 1) lines)
+from_here input short before [] rs are read none_faulty = record {
+  short = short;
+  lines = before;
+  are_lines = subst (AreLines input) (append-nil before) are;
+  readings = rs;
+  read = read;
+  none_faulty = none_faulty;
+  file = refl;
+}
 from_here input short before (line ∷ lines) rs are read none_faulty =
-    elim (judged rs line (length before + 1)) as (λ _. Answered input) [
-      | inl bad ↦ inr (
-        bad.0,
-        first_refused input bad.0 (record {
-          short = short;
-          before = before;
-          line = line;
-          after = lines;
-          are_lines = are;
-          readings = rs;
-          read = read;
-          none_faulty = none_faulty;
-          faulty = bad.1;
-        }),
-      )
-      | inr good ↦ from_here input short (before ++ line ∷ []) lines (rs ++ good.reading ∷ [])
+    (elim (verdict (file_of rs) line (length before + 1))
+    as (λ v. Judged rs line (length before + 1) v → Answers input (on_verdict (length before + 1) lines v)) [
+      | Err fault ↦ λ bad. first_refused input fault (record {
+        short = short;
+        before = before;
+        line = line;
+        after = lines;
+        are_lines = are;
+        readings = rs;
+        read = read;
+        none_faulty = none_faulty;
+        faulty = bad;
+      })
+      | Ok grown ↦ λ good. subst₂ (λ bs n. Answers input (answer_from bs (n + 1) lines)) (sym good.file)
+          (length-append before (line ∷ []))
+          (from_here input short (before ++ line ∷ []) lines (rs ++ good.reading ∷ [])
           (subst (AreLines input) (sym (append_assoc before (line ∷ []) lines)) are)
           (ReadAs-snoc before rs line good.reading read good.reads)
-          (NoneFaulty-snoc rs good.reading none_faulty good.within)
-    ]
+          (NoneFaulty-snoc rs good.reading none_faulty good.within))
+    ]) (judged rs line (length before + 1))
 
-by_length : (input : List ℕ) (long : Bool) → nat_lt MAX_INPUT (length input) ≡ long → Answered input
-by_length input true e = inr (InputTooLong, above _ _ e)
-by_length input false e = from_here input (not_above _ _ e) [] (lines_of input) [] (lines_are input) tt tt
+pub answers : (input : List ℕ) → Answers input (answer input)
+answers input = by (nat_lt MAX_INPUT (length input)) refl
+  where
+    by : (long : Bool) → nat_lt MAX_INPUT (length input) ≡ long
+        → Answers input (cond long (Err InputTooLong) (answer_from (file_of []) 1 (lines_of input)))
+    by true e = above _ _ e
+    by false e = from_here input (not_above _ _ e) [] (lines_of input) [] (lines_are input) tt tt
 
 pub an_answer : TextsHaveAnAnswer
-an_answer input = by_length input _ refl
+an_answer input = (elim (answer input)
+    as (λ r. Answers input r
+    → ((blocks : List Block) × Denotes input blocks) ⊎ ((fault : ReadFault) × IsRefused input fault)) [
+      | Ok blocks ↦ λ denotes. inl (blocks, denotes)
+      | Err fault ↦ λ refused. inr (fault, refused)
+    ]) (answers input)

@@ -1,8 +1,7 @@
 -- What one pass finds is the first line of the text.
-use Rattle.std.proofs.Common.{◌≡◌, ◌∙◌, ◌≤◌, ◌-◌, ℕ, true, false, List, [], ◌∷◌, ◌++◌, length, take, drop, get_or, refl, sym, ap, subst, Option, Some, None, nat_lt, arith}
+use Rattle.std.proofs.Common.{◌≡◌, ◌∙◌, ◌≤◌, ◌-◌, ℕ, true, List, [], ◌∷◌, ◌++◌, length, take, drop, get_or, refl, sym, ap, subst, Option, Some, None, nat_lt, arith}
 use Rattle.std.specs.Borrow.{Bor}
 use Rattle.std.specs.List.{list_all, onto_first}
-use Rattle.std.proofs.lemmas.Bool.Decides.{nat_tests}
 use Rattle.std.proofs.lemmas.List.{take_all}
 use Rattle.iloc_text.specs.declared.op.Op.{Op}
 use Rattle.iloc_text.specs.declared.scan.TheConstants.{ABOVE_LIMIT}
@@ -10,7 +9,7 @@ use Rattle.iloc_text.specs.declared.forms.Opcode.{Opcode}
 use Rattle.iloc_text.specs.Forms.{opcode_text, op_of}
 use Rattle.iloc_text.specs.Grammar.{◌⋅◌, Blanks, OptionalLabel, OptionalComment, IsWithinLimit, ReadsWidely, Reads}
 use Rattle.iloc_text.specs.Files.{HasNoLineEnd}
-use Rattle.iloc_text.specs.Steps.Lines.{is_line_end, lines_of, lines_left}
+use Rattle.iloc_text.specs.Steps.Lines.{lines_of, lines_left}
 use Rattle.iloc_text.specs.Steps.LineReads.{FirstIs, FirstBody}
 use Rattle.iloc_text.specs.Steps.Scan.{after_blanks, called_at, is_within}
 use Rattle.iloc_text.proofs.Parts.{Before}
@@ -19,10 +18,8 @@ use Rattle.iloc_text.proofs.Zeros.{within_op_of}
 use Rattle.iloc_text.proofs.Operations.{called_finds}
 use Rattle.iloc_text.proofs.Labels.{no_label}
 use Rattle.iloc_text.proofs.Caps.{capped-within, within_limit}
+use Rattle.iloc_text.proofs.Splitting.{no_line_end}
 use Rattle.iloc_text.proofs.InLines.{IsInside, blanks_inside, optional_label_inside, operation_inside}
-
-pub no_line_end : (c : ℕ) → (c ≡ 10 → ⊥) → is_line_end c ≡ false
-no_line_end c h = grind (arith, nat_tests)
 
 -- what has no line end lengthens the first line of what stands behind it
 lines_behind : (front rest first : List ℕ) (more : List (List ℕ)) → HasNoLineEnd front → lines_of rest ≡ first ∷ more

@@ -66,6 +66,9 @@ line_some text end e = by (nat_lt (position_or_len is_line_end text) (length tex
         rw (← same) (slice_split_first is_line_end text 0 (grind (arith, nat_tests)))
     by false t e = cc
 
+pub no_line_end : (c : ℕ) → (c ≡ 10 → ⊥) → is_line_end c ≡ false
+no_line_end c h = grind (arith, nat_tests)
+
 is_line_end_tells : (c : ℕ) → is_line_end c ≡ false → c ≡ 10 → ⊥
 is_line_end_tells c h = grind (arith, nat_tests)
 

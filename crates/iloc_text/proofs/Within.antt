@@ -9,14 +9,11 @@ use Rattle.iloc_text.specs.Steps.Growth.{with_op, with_optional_label, with_opti
 use Rattle.iloc_text.specs.Laws.{FilesAreWithinLimits}
 use Rattle.iloc_text.proofs.Counts.{fronts-snoc}
 use Rattle.iloc_text.proofs.BlockOps.{over_lines}
+use Rattle.iloc_text.proofs.Every.{all-snoc}
 use Rattle.iloc_text.proofs.BlockLists.{length-file, last-file, file-snoc}
 
 abbrev AllFit : List Block → Type 0
 AllFit blocks = AllByRecursion (λ b. length b.ops ≤ MAX_OPS) blocks
-
-fit-snoc : (bs : List Block) (b : Block) → AllFit bs → length b.ops ≤ MAX_OPS → AllFit (bs ++ b ∷ [])
-fit-snoc [] b h l = (l, tt)
-fit-snoc (x ∷ xs) b h l = (h.0, fit-snoc xs b h.1 l)
 
 fit-with_op : (op : Op) (bs : List Block) → AllFit bs → length (last_ops (with_op op bs)) ≤ MAX_OPS
     → AllFit (with_op op bs)
@@ -27,7 +24,7 @@ fit-with_op op (x ∷ y ∷ z ∷ bs) h l = (h.0, fit-with_op op (y ∷ z ∷ bs
 
 fit-with_label : (label : Option (List ℕ)) (bs : List Block) → AllFit bs → AllFit (with_optional_label label bs)
 fit-with_label None bs h = h
-fit-with_label (Some name) bs h = fit-snoc bs (record { name = Some name; ops = [] }) h (omega arith)
+fit-with_label (Some name) bs h = all-snoc (λ b. length b.ops ≤ MAX_OPS) bs (record { name = Some name; ops = [] }) h (omega arith)
 
 fit-with_optional : (op : Option Op) (bs : List Block) → AllFit bs → length (last_ops (with_optional_op op bs)) ≤ MAX_OPS
     → AllFit (with_optional_op op bs)

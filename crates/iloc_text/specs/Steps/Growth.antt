@@ -1,9 +1,9 @@
 -- How the blocks of a file grow by one line.
-use Rattle.std.specs.Prelude.{◌≡◌, ℕ, ◌≤◌, ◌<◌, Option, Some, None, Result, Ok, Err, List, [], ◌∷◌, ◌++◌, length}
+use Rattle.std.specs.Prelude.{◌≡◌, ◌≢◌, ℕ, nat_lt, if◌then◌else◌, Option, Some, None, Result, Ok, Err, List, [], ◌∷◌, ◌++◌, length}
 use Rattle.iloc_text.specs.declared.op.Op.{Op}
 use Rattle.iloc_text.specs.declared.file.Block.{Block}
 use Rattle.iloc_text.specs.declared.fault.ReadFault.{ReadFault}
-use Rattle.iloc_text.specs.declared.fault.ReadFault.TheVariants.{InputTooLong, BadLine, NumberTooLarge, TooManyBlocks, TooManyOperations, NoMemory}
+use Rattle.iloc_text.specs.declared.fault.ReadFault.TheVariants.{TooManyBlocks, TooManyOperations, NoMemory}
 use Rattle.iloc_text.specs.declared.limits.TheConstants.{MAX_BLOCKS, MAX_OPS}
 
 -- a block without operations stands behind the others
@@ -35,17 +35,13 @@ last_ops [] = []
 last_ops (b ∷ []) = b.ops
 last_ops (b ∷ c ∷ bs) = last_ops (c ∷ bs)
 
--- neither too many blocks, nor too many operations in the last one
-pub record AreWithin (blocks : List Block) : Type 0 where
-  pub count : length blocks ≤ MAX_BLOCKS
-  pub last : length (last_ops blocks) ≤ MAX_OPS
+-- the blocks, or what is too much with this line: a block, or an operation of the last one
+abbrev pub limited : List Block → ℕ → Result (List Block) ReadFault
+limited blocks line =
+    if nat_lt MAX_BLOCKS (length blocks) then Err (TooManyBlocks line)
+    else (if nat_lt MAX_OPS (length (last_ops blocks)) then Err (TooManyOperations line) else Ok blocks)
 
 -- What comes of a step that makes these blocks wanted, on this line: at its end `Stand` holds of them.
 abbrev pub Grows : (List Block → Type 0) → List Block → ℕ → Result (Unit {0}) ReadFault → Type 0
 Grows Stand wanted line (Ok done) = Stand wanted
-Grows Stand wanted line (Err InputTooLong) = ⊥
-Grows Stand wanted line (Err (BadLine n)) = ⊥
-Grows Stand wanted line (Err (NumberTooLarge n)) = ⊥
-Grows Stand wanted line (Err (TooManyBlocks n)) = (n ≡ line) × (MAX_BLOCKS < length wanted)
-Grows Stand wanted line (Err (TooManyOperations n)) = (n ≡ line) × (length wanted ≤ MAX_BLOCKS) × (MAX_OPS < length (last_ops wanted))
-Grows Stand wanted line (Err NoMemory) = Unit {0}
+Grows Stand wanted line (Err fault) = fault ≢ NoMemory → limited wanted line ≡ Err fault
