@@ -10,7 +10,7 @@ use Rattle.iloc_text.specs.declared.forms.Opcode.TheVariants.{Nop}
 use Rattle.iloc_text.specs.Forms.{Lead, Value, Operand, opcode, operands, opcode_text}
 use Rattle.iloc_text.specs.Forms.Lead.{space, comma, arrow}
 use Rattle.iloc_text.specs.Forms.Value.{Constant}
-use Rattle.iloc_text.specs.Grammar.{◌⋅◌, Text, is_blank, is_word_byte, Blanks, Number, LeadText, ValueText, OperandsText, Operation, OptionalOperation, Name, OptionalLabel}
+use Rattle.iloc_text.specs.Grammar.{◌⋅◌, Text, is_blank, is_word_byte, Blanks, Number, LeadText, ValueText, OperandsText, Operation, Name, OptionalLabel}
 use Rattle.iloc_text.specs.Files.{HasNoLineEnd}
 use Rattle.iloc_text.proofs.Tokens.{IsWord}
 use Rattle.iloc_text.proofs.Labels.{name_is_word}
@@ -75,10 +75,6 @@ opcode_inside o = text_inside (opcode_text o) refl
 
 pub operation_inside : (op : Op) → IsInside (Operation op)
 operation_inside op = join_inside (opcode_inside (opcode op)) (operands_inside (operands op))
-
-pub optional_operation_inside : (op : Option Op) → IsInside (OptionalOperation op)
-optional_operation_inside None = text_inside [] refl
-optional_operation_inside (Some op) = operation_inside op
 
 word_byte_inside : (c : ℕ) → is_word_byte c ≡ true → c ≡ 10 → ⊥
 word_byte_inside c h e = grind (arith, nat_tests)

@@ -33,9 +33,13 @@ pub fn after_blanks(bytes: &[u8]) -> &[u8]
 pub fn some_blanks_at(bytes: &[u8]) -> Option<&[u8]>
     ensures { option_map (λ rest. rest.now) result ≡ some_blanks_at bytes.now }
 {
-    match bytes {
-        [first, after @ ..] if is_blank(*first) => Some(after_blanks(after)),
-        _ => None,
+    let [first, after @ ..] = bytes else {
+        return None;
+    };
+    if is_blank(*first) {
+        Some(after_blanks(after))
+    } else {
+        None
     }
 }
 

@@ -1,12 +1,13 @@
 //! What a line of a schedule says, as schedules are listed.
 ghost use Rattle.std.specs.Prelude.{◌≡◌, option_map};
 ghost use Rattle.iloc_text.specs.ScheduleLines.{IsSaidBy, said_of};
-ghost use Rattle.iloc_text.specs.Steps.ScheduleScan.{slot_at, behind_byte, row_at, number_behind, block_name_at, head_at, cycles_at, total_at, worded_at, said_at, schedule_line_at, is_said_within};
+ghost use Rattle.iloc_text.specs.Steps.ScheduleScan.{slot_at, behind_byte, row_at, block_name_at, head_at, cycles_at, total_at, worded_at, said_at, schedule_line_at, is_said_within};
 
 use crate::line::{ParseFault, is_end, is_within};
 use crate::op::Op;
+use crate::operand::number_behind_blank;
 use crate::operation::operation_at;
-use crate::scan::{ABOVE_LIMIT, after_blanks, is_word_byte, number_at, some_blanks_at, word_at};
+use crate::scan::{ABOVE_LIMIT, after_blanks, is_word_byte, some_blanks_at, word_at};
 
 /// What a line of a schedule says.
 #[derive(Clone, Copy)]
@@ -53,14 +54,6 @@ fn row_at(bytes: &[u8]) -> Option<(ScheduleLine<'_>, &[u8])>
     Some((ScheduleLine::Row { zero, one }, rest))
 }
 
-/// One blank or more and a number.
-#[tactic(auto, unfolding(crate::specs::Steps::ScheduleScan::number_behind))]
-fn number_behind(bytes: &[u8]) -> Option<(u32, &[u8])>
-    ensures { option_map (λ found. (found.0, found.1.now)) result ≡ number_behind bytes.now }
-{
-    number_at(some_blanks_at(bytes)?)
-}
-
 /// The name of a block, `-` where it has none.
 fn block_name_at(bytes: &[u8]) -> Option<(Option<&[u8]>, &[u8])>
     ensures { option_map (λ found. (option_map (λ name. name.now) found.0, found.1.now)) result
@@ -77,27 +70,27 @@ fn block_name_at(bytes: &[u8]) -> Option<(Option<&[u8]>, &[u8])>
 }
 
 /// The head of a block of which the word was read.
-#[tactic(auto, unfolding(crate::specs::Steps::ScheduleScan::head_at))]
+#[tactic(auto, unfolding(crate::specs::Steps::ScheduleScan::head_at, crate::specs::Steps::ScheduleScan::number_behind))]
 fn head_at(bytes: &[u8]) -> Option<(ScheduleLine<'_>, &[u8])>
     ensures { option_map (λ found. (said_of found.0, found.1.now)) result ≡ head_at bytes.now }
 {
-    let (number, rest) = number_behind(bytes)?;
+    let (number, rest) = number_behind_blank(bytes)?;
     let (name, rest) = block_name_at(some_blanks_at(rest)?)?;
     Some((ScheduleLine::Head { number, name }, rest))
 }
 
 /// What is said with this word, and behind it.
-#[tactic(auto, unfolding(crate::specs::Steps::ScheduleScan::cycles_at, crate::specs::Steps::ScheduleScan::total_at))]
+#[tactic(auto, unfolding(crate::specs::Steps::ScheduleScan::cycles_at, crate::specs::Steps::ScheduleScan::total_at, crate::specs::Steps::ScheduleScan::number_behind))]
 fn worded_at<'a>(word: &[u8], rest: &'a [u8]) -> Option<(ScheduleLine<'a>, &'a [u8])>
     ensures { option_map (λ found. (said_of found.0, found.1.now)) result ≡ worded_at word.now rest.now }
 {
     if word == b"block".as_slice() {
         head_at(rest)
     } else if word == b"cycles".as_slice() {
-        let (number, rest) = number_behind(rest)?;
+        let (number, rest) = number_behind_blank(rest)?;
         Some((ScheduleLine::Cycles(number), rest))
     } else if word == b"total".as_slice() {
-        let (number, rest) = number_behind(rest)?;
+        let (number, rest) = number_behind_blank(rest)?;
         Some((ScheduleLine::Total(number), rest))
     } else {
         None
