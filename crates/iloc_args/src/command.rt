@@ -1,11 +1,15 @@
 //! The program's command line, as the parser reads it.
-ghost use Rattle.std.specs.Prelude.{IfOk, codes};
-ghost use Rattle.iloc_args.specs.Command.{at_rule, check_entry, counts_entry};
-ghost use Rattle.iloc_args.specs.Command.{explain_entry, farm_app, latency_rule, run_entry};
+ghost use Rattle.std.specs.Prelude.{IfOk, IsOkAnd, codes};
+ghost use Rattle.clap.specs.Simple.{new_shape};
+ghost use Rattle.clap.specs.Words.{AddsSubcommand};
+ghost use Rattle.iloc_args.specs.Command.{at_rule, check_entry, counts_entry, explain_entry};
+ghost use Rattle.iloc_args.specs.Command.{farm_app, latency_rule, latency_rules, run_entry};
 ghost use Rattle.iloc_args.specs.Command.{schedule_entry, simulate_entry, top_shape, words_rule};
 ghost use Rattle.iloc_args.specs.Command.{workers_rule};
-ghost use Rattle.iloc_args.specs.Steps.Building.{HasApp, HasRule, alone, app, memory_shape};
+ghost use Rattle.iloc_args.specs.Steps.Building.{AddsRules, HasApp, HasRule, alone, app};
+ghost use Rattle.iloc_args.specs.Steps.Building.{memory_shape, option_rule, workers_shape};
 
+use clap::builder::ValueParser;
 use clap::{Arg, ArgAction, Command, value_parser};
 use std::alloc::{AllocError, Global};
 
@@ -32,16 +36,35 @@ Manual:
 const NEGATIVE_WORDS: &str = "\
 A negative WORD is given by its pattern of 32 bits, a number above 2147483647: 4294967295 is -1";
 
+/// `--NAME N`, a number that this parser takes.
+fn number_arg<'a>(
+    alloc: Global,
+    name: &'a str,
+    help: &'a str,
+    parser: ValueParser<'a>,
+    usual: &'a str,
+) -> Arg<'a>
+    ensures { HasRule (option_rule name.entry.now usual.entry.now parser.entry) result }
+{
+    Arg::new(alloc, name)
+        .long(name)
+        .value_name("N")
+        .help(help)
+        .value_parser(parser)
+        .default_value(usual)
+}
+
 /// `--at N`
 fn at_arg<'a>(alloc: Global) -> Arg<'a>
     ensures { HasRule at_rule result }
 {
-    Arg::new(alloc, "at")
-        .long("at")
-        .value_name("N")
-        .help("Address of the first WORD, a multiple of 4 up to 65532")
-        .value_parser(value_parser!(u32).range(0..=65532))
-        .default_value("1024")
+    number_arg(
+        alloc,
+        "at",
+        "Address of the first WORD, a multiple of 4 up to 65532",
+        value_parser!(u32).range(0..=65532),
+        "1024",
+    )
 }
 
 /// `[WORD]...`
@@ -60,24 +83,20 @@ fn words_arg<'a>(alloc: Global) -> Arg<'a>
 fn workers_arg<'a>(alloc: Global) -> Arg<'a>
     ensures { HasRule workers_rule result }
 {
-    Arg::new(alloc, "workers")
-        .long("workers")
-        .value_name("N")
-        .help("How many workers share the blocks, 1 to 8")
-        .value_parser(value_parser!(u32).range(1..=8))
-        .default_value("2")
+    number_arg(
+        alloc,
+        "workers",
+        "How many workers share the blocks, 1 to 8",
+        value_parser!(u32).range(1..=8),
+        "2",
+    )
 }
 
 /// `--NAME N`, a latency.
 fn latency_arg<'a>(alloc: Global, name: &'a str, help: &'a str, usual: &'a str) -> Arg<'a>
     ensures { HasRule (latency_rule name.entry.now usual.entry.now) result }
 {
-    Arg::new(alloc, name)
-        .long(name)
-        .value_name("N")
-        .help(help)
-        .value_parser(value_parser!(u32).range(1..=16))
-        .default_value(usual)
+    number_arg(alloc, name, help, value_parser!(u32).range(1..=16), usual)
 }
 
 /// `--load N`
@@ -116,6 +135,26 @@ fn mult_arg<'a>(alloc: Global) -> Arg<'a>
     )
 }
 
+/// The command with `[--load N] [--store N] [--mult N]` behind its arguments, if it could be made.
+fn with_latencies<'a>(
+    alloc: Global,
+    command: Result<Command<'a>, AllocError>,
+) -> Result<Command<'a>, AllocError>
+    ensures { IfOk result (λ new. IsOkAnd command.entry (λ old. AddsRules latency_rules old new)) }
+{
+    command?
+        .arg(load_arg(alloc))?
+        .arg(store_arg(alloc))?
+        .arg(mult_arg(alloc))
+}
+
+/// `NAME`
+fn bare_command<'a>(alloc: Global, name: &'a str, about: &'a str) -> Command<'a>
+    ensures { HasApp (alone (new_shape name.entry.now)) result }
+{
+    Command::new(alloc, name).about(about)
+}
+
 /// `NAME [--at N] [WORD]...`
 fn memory_command<'a>(
     alloc: Global,
@@ -124,11 +163,21 @@ fn memory_command<'a>(
 ) -> Result<Command<'a>, AllocError>
     ensures { IfOk result (HasApp (alone (memory_shape name.entry.now))) }
 {
-    Command::new(alloc, name)
-        .about(about)
+    bare_command(alloc, name, about)
         .after_help(NEGATIVE_WORDS)
         .arg(at_arg(alloc))?
         .arg(words_arg(alloc))
+}
+
+/// `NAME [--workers N]`
+fn workers_command<'a>(
+    alloc: Global,
+    name: &'a str,
+    about: &'a str,
+) -> Result<Command<'a>, AllocError>
+    ensures { IfOk result (HasApp (alone (workers_shape name.entry.now))) }
+{
+    bare_command(alloc, name, about).arg(workers_arg(alloc))
 }
 
 /// `run [--at N] [WORD]...`
@@ -146,74 +195,49 @@ fn run_command<'a>(alloc: Global) -> Result<Command<'a>, AllocError>
 fn simulate_command<'a>(alloc: Global) -> Result<Command<'a>, AllocError>
     ensures { IfOk result (HasApp (app simulate_entry)) }
 {
-    memory_command(
-        alloc,
-        "simulate",
-        "Schedule each block, and run the schedule",
-    )?
-    .arg(load_arg(alloc))?
-    .arg(store_arg(alloc))?
-    .arg(mult_arg(alloc))
+    let about = "Schedule each block, and run the schedule";
+    with_latencies(alloc, memory_command(alloc, "simulate", about))
 }
 
 /// `schedule [--workers N] [--load N] [--store N] [--mult N]`
 fn schedule_command<'a>(alloc: Global) -> Result<Command<'a>, AllocError>
     ensures { IfOk result (HasApp (app schedule_entry)) }
 {
-    Command::new(alloc, "schedule")
-        .about("Schedule each block, and print the schedule")
-        .arg(workers_arg(alloc))?
-        .arg(load_arg(alloc))?
-        .arg(store_arg(alloc))?
-        .arg(mult_arg(alloc))
+    let about = "Schedule each block, and print the schedule";
+    with_latencies(alloc, workers_command(alloc, "schedule", about))
 }
 
 /// `counts [--workers N] [--load N] [--store N] [--mult N]`
 fn counts_command<'a>(alloc: Global) -> Result<Command<'a>, AllocError>
     ensures { IfOk result (HasApp (app counts_entry)) }
 {
-    Command::new(alloc, "counts")
-        .about("Schedule each block, and print how many cycles the schedule takes")
-        .arg(workers_arg(alloc))?
-        .arg(load_arg(alloc))?
-        .arg(store_arg(alloc))?
-        .arg(mult_arg(alloc))
+    let about = "Schedule each block, and print how many cycles the schedule takes";
+    with_latencies(alloc, workers_command(alloc, "counts", about))
 }
 
 /// `explain [--load N] [--store N] [--mult N]`
 fn explain_command<'a>(alloc: Global) -> Result<Command<'a>, AllocError>
     ensures { IfOk result (HasApp (app explain_entry)) }
 {
-    Command::new(alloc, "explain")
-        .about("Schedule each block, and print why the schedule takes its cycles")
-        .arg(load_arg(alloc))?
-        .arg(store_arg(alloc))?
-        .arg(mult_arg(alloc))
+    let about = "Schedule each block, and print why the schedule takes its cycles";
+    with_latencies(alloc, Ok(bare_command(alloc, "explain", about)))
 }
 
 /// `check [--at N] [WORD]... [--load N] [--store N] [--mult N]`
 fn check_command<'a>(alloc: Global) -> Result<Command<'a>, AllocError>
     ensures { IfOk result (HasApp (app check_entry)) }
 {
-    memory_command(
-        alloc,
-        "check",
-        "Judge schedules of the blocks that stand behind them",
-    )?
-    .arg(load_arg(alloc))?
-    .arg(store_arg(alloc))?
-    .arg(mult_arg(alloc))
+    let about = "Judge schedules of the blocks that stand behind them";
+    with_latencies(alloc, memory_command(alloc, "check", about))
 }
 
 /// The program without its commands.
 fn top_command<'a>(alloc: Global) -> Result<Command<'a>, AllocError>
     ensures { IfOk result (HasApp (alone top_shape)) }
 {
+    let about = "List scheduler and simulator for ILOC blocks, which it reads from standard input";
     Ok(
-        Command::new(alloc, "ilocfarm")
-            .about(
-                "List scheduler and simulator for ILOC blocks, which it reads from standard input",
-            )
+        bare_command(alloc, "ilocfarm", about)
             .bin_name("ilocfarm")?
             .no_binary_name(true)
             .subcommand_required(true)
@@ -222,15 +246,26 @@ fn top_command<'a>(alloc: Global) -> Result<Command<'a>, AllocError>
     )
 }
 
+/// A command with another below it, if both could be made.
+fn with_command<'a>(
+    above: Result<Command<'a>, AllocError>,
+    below: Result<Command<'a>, AllocError>,
+) -> Result<Command<'a>, AllocError>
+    ensures { IfOk result (λ new. IsOkAnd above.entry (λ old. IsOkAnd below.entry (λ sub.
+        AddsSubcommand old sub new))) }
+{
+    above?.subcommand(below?)
+}
+
 /// The whole command line, whose words stand after the program's name.
 pub(crate) fn farm_command<'a>(alloc: Global) -> Result<Command<'a>, AllocError>
     ensures { IfOk result (HasApp farm_app) }
 {
-    top_command(alloc)?
-        .subcommand(run_command(alloc)?)?
-        .subcommand(simulate_command(alloc)?)?
-        .subcommand(schedule_command(alloc)?)?
-        .subcommand(counts_command(alloc)?)?
-        .subcommand(explain_command(alloc)?)?
-        .subcommand(check_command(alloc)?)
+    let farm = top_command(alloc);
+    let farm = with_command(farm, run_command(alloc));
+    let farm = with_command(farm, simulate_command(alloc));
+    let farm = with_command(farm, schedule_command(alloc));
+    let farm = with_command(farm, counts_command(alloc));
+    let farm = with_command(farm, explain_command(alloc));
+    with_command(farm, check_command(alloc))
 }
