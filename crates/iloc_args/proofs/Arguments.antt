@@ -1,0 +1,27 @@
+-- The parser of an option's number, within its bounds.
+use Rattle.std.proofs.Common.{◌≡◌, ◌∙◌, ℕ, Option, Some, pos, refl, subst, ℤ}
+use Rattle.std.specs.Int.{int_max, int_min}
+use Rattle.clap.specs.Lexer.{usize_max}
+use Rattle.clap.specs.declared.builder.range.ValueRange.{ValueRange}
+use Rattle.clap.specs.Values.{NarrowsTo, signed_between}
+use Rattle.clap.specs.Words.{Text}
+use Rattle.clap.specs.declared.builder.arg.Arg.{Arg}
+use Rattle.clap.specs.declared.builder.value_parser.ValueParser.{ValueParser}
+use Rattle.clap.specs.declared.builder.value_parser.ValueParser.TheVariants.{Signed}
+use Rattle.iloc_args.specs.Command.{number_rule, words_rule}
+use Rattle.iloc_args.specs.Steps.Building.{HasRule, option_rule}
+
+pub within : (low high : ℕ) (all p : ValueParser) (start end : ℤ) (name default : Text) (a : Arg)
+    → all ≡ Signed (pos 0) (pos 4294967295) → start ≡ pos low → end ≡ pos high → NarrowsTo all (Some start) (Some end) p
+    → signed_between (int_max (pos 0) (pos low)) (int_min (pos 4294967295) (pos high)) ≡ Signed (pos low) (pos high)
+    → HasRule (option_rule name default p) a → HasRule (number_rule name default low high) a
+within low high all p start end name default a of from to narrows fits has =
+    let parser : p ≡ signed_between (int_max (pos 0) (pos low)) (int_min (pos 4294967295) (pos high)) = rw (of, from, to) at narrows in
+    subst (λ (q : ValueParser). HasRule (option_rule name default q) a) (parser ∙ fits) has
+
+-- how many words there may be, and what each is
+pub words : (range : Option ValueRange) (parser : Option ValueParser) (a : Arg)
+    → range ≡ Some (record { start_inclusive = 0; end_inclusive = usize_max })
+    → parser ≡ Some (Signed (pos 0) (pos 4294967295))
+    → HasRule (record words_rule { range = range; parser = parser }) a → HasRule words_rule a
+words range parser a many each has = record { rule = has.rule ∙ rw (many, each) refl; global = has.global }
