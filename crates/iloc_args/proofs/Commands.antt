@@ -27,6 +27,14 @@ set_shape change a old new set had is app globals = record {
   globals = ap (λ (c : Command-F Command). c.has_globals) is ∙ (globals ∙ had.globals);
 }
 
+-- a setting that reads nothing of the command
+pub set_flag : (set : Command-F Command → Command-F Command) (change : Shape → Shape) (a : App) (old new : Command)
+    → HasApp a old → out-Command new ≡ set (out-Command old)
+    → ((c : Command-F Command) → app_of_fields (set c) ≡ on_top change (app_of_fields c))
+    → ((c : Command-F Command) → (set c).has_globals ≡ c.has_globals) → HasApp (on_top change a) new
+set_flag set change a old new had is app globals =
+    set_shape change a old new (set (out-Command old)) had is (app (out-Command old)) (globals (out-Command old))
+
 neither : (a b c : Bool) → a ≡ (b || c) → b ≡ false → c ≡ false → a ≡ false
 neither a b c is p q = is ∙ rw (p, q) refl
 

@@ -1,6 +1,5 @@
 use Rattle.std.proofs.Common.{refl}
 use Rattle.iloc_args.proofs.Commands.{set_shape}
-use Rattle.iloc_args.specs.Steps.Building.{HasApp, alone}
 use Rattle.iloc_args.proofs.command.bare_command.Goals as goal
 
 pub returns : goal.returns
