@@ -4,6 +4,7 @@ use Rattle.std.proofs.lemmas.Bool.Decides.{nat_tests}
 use Rattle.std.proofs.lemmas.List.FromFn.{get_or-map-range_with_len, length-map-range_with_len, fill_by_all}
 use Rattle.iloc_meaning.specs.Address.{is_good}
 use Rattle.iloc_meaning.specs.Memory.{with_words}
+use Rattle.iloc_meaning.specs.declared.memory.TheConstants.{WORDS}
 use Rattle.iloc_meaning.specs.Outcome.{has_fault, emitted}
 use Rattle.iloc_timed.specs.Timed.{Issued, word_in, executed_in, timed_outcome_of}
 use Rattle.iloc_judge.specs.declared.symbols.Symbols.{Symbols}
@@ -12,16 +13,16 @@ use Rattle.iloc_judge.specs.Steps.Symbols.{some_bad}
 use Rattle.iloc_judge.specs.Steps.Tracking.{Stands, Ends}
 use Rattle.iloc_judge.specs.Steps.Agreement.{AreSame, Agree}
 
-good_word : (k : ℕ) → k < 16384 → is_good (pos (4 * k)) ≡ true
+good_word : (k : ℕ) → k < WORDS → is_good (pos (4 * k)) ≡ true
 good_word k within = grind (arith, nat_tests)
 
 -- memories with the same words at good addresses
-same_words : (memory : List ℤ) (word other : ℕ → ℤ) → length memory ≡ 16384
+same_words : (memory : List ℤ) (word other : ℕ → ℤ) → length memory ≡ WORDS
     → ((a : ℕ) → IsTrue (is_good (pos a)) → word a ≡ other a) → with_words memory word ≡ with_words memory other
 same_words memory word other size same =
     fill_by_all (λ k. other (4 * k)) (with_words memory word) (length memory) (pos 0)
     (length-map-range_with_len (λ k. word (4 * k)) 0 (length memory)) (λ k below.
-    let small : k < 16384 = rw size at below in
+    let small : k < WORDS = rw size at below in
     get_or-map-range_with_len (λ j. word (4 * j)) 0 (length memory) k k (pos 0) below (omega arith)
     ∙ same (4 * k) (good_word k small))
 
@@ -37,7 +38,7 @@ both_fault : (memory : List ℤ) (log other : List Issued) → has_fault (execut
     → has_fault (executed_in other) ≡ true → timed_outcome_of memory log ≡ timed_outcome_of memory other
 both_fault memory log other first second = rw (first, second) refl
 
-both_stand : (memory : List ℤ) (d : Meaning) (log log' : List Issued) (one other : Symbols) → length memory ≡ 16384
+both_stand : (memory : List ℤ) (d : Meaning) (log log' : List Issued) (one other : Symbols) → length memory ≡ WORDS
     → Stands memory d log one → Stands memory d log' other → AreSame d one other
     → timed_outcome_of memory log ≡ timed_outcome_of memory log'
 both_stand memory d log log' one other size first second same =
@@ -49,7 +50,7 @@ both_stand memory d log log' one other size first second same =
     rw (first.no_fault, second.no_fault, outputs, words) refl
 
 pub same_outcome : (memory : List ℤ) (d : Meaning) (log log' : List Issued) (one other : Symbols)
-    → length memory ≡ 16384 → Ends memory d log one → Ends memory d log' other → Agree d one other
+    → length memory ≡ WORDS → Ends memory d log one → Ends memory d log' other → Agree d one other
     → timed_outcome_of memory log ≡ timed_outcome_of memory log'
 same_outcome memory d log log' one other size ended ended' agree = elim agree [
   | inl bad ↦ both_fault memory log log' (faults memory d log one ended bad.first)

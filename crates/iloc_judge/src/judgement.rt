@@ -3,6 +3,7 @@ ghost use Rattle.std.specs.Prelude.{◌≡◌, ◌↔◌, true, List, ℤ, IfOk,
 ghost use Rattle.iloc_timed.specs.Rows.{IsTable};
 ghost use Rattle.iloc_timed.specs.Timed.{timed_outcome};
 ghost use Rattle.iloc_judge.specs.Memory.{IsMemory};
+ghost use Rattle.iloc_judge.specs.Steps.Agreement.{SeenSame};
 
 use crate::agreement::agree;
 use crate::clues::Clues;
@@ -11,6 +12,21 @@ use crate::table::Table;
 use iloc_text::{NoMemory, Op};
 use iloc_timed::{Latencies, Row, Schedule};
 use std::alloc::Global;
+
+/// Nothing where two ends agree, whatever their terms mean. Else what they mention.
+fn clues_of_ends(
+    alloc: Global,
+    table: &Table,
+    one: &Symbols,
+    other: &Symbols,
+) -> Result<Option<Clues>, NoMemory>
+    ensures { IfOk result (λ clues. clues ≡ None → SeenSame table.now one.now other.now) }
+{
+    if table.is_ordered() && agree(alloc, table, one, other)? {
+        return Ok(None);
+    }
+    Ok(Some(Clues::of(alloc, table, &one.addresses, &other.addresses)?))
+}
 
 /// Nothing where two schedules are seen to do the same: their timed outcomes are equal on every memory of
 /// 16,384 words of 32 bits. Else what their runs mention.
@@ -27,10 +43,7 @@ pub(crate) fn clues(
     let mut table = Table::new(alloc);
     let one = Symbols::of(alloc, &mut table, ours, latencies)?;
     let other = Symbols::of(alloc, &mut table, theirs, latencies)?;
-    if table.is_ordered() && agree(alloc, &table, &one, &other)? {
-        return Ok(None);
-    }
-    Ok(Some(Clues::of(alloc, &table, &one.addresses, &other.addresses)?))
+    clues_of_ends(alloc, &table, &one, &other)
 }
 
 /// Whether a schedule has just these operations and these rows.

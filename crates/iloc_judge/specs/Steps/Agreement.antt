@@ -4,6 +4,7 @@ use Rattle.std.specs.List.{list_any}
 use Rattle.iloc_meaning.specs.Address.{is_good}
 use Rattle.iloc_judge.specs.declared.symbols.Symbols.{Symbols}
 use Rattle.iloc_judge.specs.declared.node.Node.{Node}
+use Rattle.iloc_judge.specs.Steps.Order.{IsOrdered}
 use Rattle.iloc_judge.specs.Steps.Terms.{Meaning, IsMeaning}
 use Rattle.iloc_judge.specs.Steps.Symbols.{some_bad}
 
@@ -38,3 +39,8 @@ pub record AreSame (d : Meaning) (one other : Symbols) : Type 0 where
 
 abbrev pub Agree : Meaning → Symbols → Symbols → Type 0
 Agree d one other = AreBad d one other ⊎ AreSame d one other
+
+-- the terms are in order, and the ends agree, whatever they mean
+pub record SeenSame (nodes : List Node) (one other : Symbols) : Type 0 where
+  pub ordered : IsOrdered nodes
+  pub agreed : (memory : List ℤ) (d : Meaning) → IsMeaning memory nodes d → Agree d one other
