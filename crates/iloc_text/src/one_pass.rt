@@ -34,6 +34,15 @@ fn behind_line_end(bytes: &[u8]) -> Option<Option<&[u8]>>
     behind_comment(after_blanks(bytes))
 }
 
+/// As `behind_line_end`, out of the way of operations.
+#[cold]
+#[inline(never)]
+fn behind_nothing(bytes: &[u8]) -> Option<Option<&[u8]>>
+    ensures { IfSome result (FirstIs (Blanks ⋅ OptionalComment) bytes.now) }
+{
+    behind_line_end(bytes)
+}
+
 /// The operation that stands at the front and is the last of its line, and what stands behind the line end, if it
 /// has one. This is what most lines are.
 #[inline(always)]
@@ -59,7 +68,7 @@ pub fn usual_body(bytes: &[u8]) -> Option<(Option<Op>, Option<&[u8]>)>
     if let Some((op, after)) = usual_operation(bytes) {
         return Some((Some(op), after));
     }
-    let after = behind_line_end(bytes)?;
+    let after = behind_nothing(bytes)?;
     Some((None, after))
 }
 
