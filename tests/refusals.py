@@ -29,7 +29,7 @@ NOTHING, GROWTH, GROWTH_OF_A_START, THREAD = range(4)
 # Lists that are collected from an iterator: the library asks for the whole room at once, and where that is refused it
 # takes room as the items come. So nothing is lost, and the next refusal is told.
 DOES_WITHOUT = {
-    "iloc_farm::program::serve": "the words behind the program's name",
+    "iloc_farm::program::run_program": "the words behind the program's name",
     "iloc_sched::priority::priorities": "the priorities that are answered",
     "iloc_judge::refutation::refute": "the words of a memory that is made up",
 }
