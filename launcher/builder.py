@@ -14,8 +14,8 @@ from room import Room
 
 PROGRAM = "ilocfarm"
 EACH = 0.2              # seconds between two looks
+JOBS_EACH = 2           # for each processor: a proof keeps its jobs to its end, and uses one as it begins and ends
 SHOWN = 20              # lines that are shown of a proof that failed
-MOST_JOBS = 8           # more don't shorten the proof of one crate
 ENDING = (signal.SIGHUP, signal.SIGINT, signal.SIGQUIT, signal.SIGTERM)
 
 
@@ -43,7 +43,7 @@ class Builder:
         self.top, self.log, self.say, self.rooms = top, log, say, f"{out}/rooms"
         self.crates = crates_of(top, PROGRAM)
         self.behind = work_behind(top, self.crates)
-        self.jobs = machine.jobs()
+        self.jobs, self.most = machine.jobs(JOBS_EACH), machine.most_of_one()
         self.progress = Progress(len(self.crates))
         self.left, self.running, self.done = [], [], []
         self.signal = None
@@ -116,7 +116,7 @@ class Builder:
             share = round(idle * self.behind[crate] / sum(self.behind[it] for it in ready[at:]))
             others = len(ready) - at - 1
             if idle > 0:
-                self.start(crate, max(1, min(share, idle - others, MOST_JOBS)))
+                self.start(crate, max(1, min(share, idle - others, self.most)))
 
     def start(self, crate, jobs):
         self.left.remove(crate)

@@ -1,9 +1,11 @@
-"""How many proofs the machine takes at a time."""
+"""How many jobs of proofs the machine takes at a time."""
 import os
 import re
 
 # What one job of a proof has been seen to take at most, in bytes.
 JOB = 2_500_000_000
+# More don't shorten the proof of one crate.
+MOST = 8
 # Where control groups limit processors and memory: the file, and how many processors or bytes it says.
 QUOTA = "/sys/fs/cgroup/cpu.max"
 LIMIT, HELD = "/sys/fs/cgroup/memory.max", "/sys/fs/cgroup/memory.stat"
@@ -31,9 +33,17 @@ def free_memory():
     return min(free + [limit[0] - held[0]]) if limit and held else free[0]
 
 
-def jobs():
-    """One a processor, as many as memory holds, at least one. RT_JOBS sets the number, as it does for rt ci."""
-    fixed = os.environ.get("RT_JOBS", "")
-    if fixed.isdigit() and int(fixed):
-        return int(fixed)
-    return max(1, min(processors(), free_memory() // JOB))
+def fixed():
+    """The number of jobs that RT_JOBS sets, as it does for rt ci, or 0."""
+    number = os.environ.get("RT_JOBS", "")
+    return int(number) if number.isdigit() else 0
+
+
+def jobs(each=1):
+    """So many a processor, as many as memory holds, at least one."""
+    return fixed() or max(1, min(each * processors(), free_memory() // JOB))
+
+
+def most_of_one():
+    """How many jobs one proof has at most."""
+    return MOST if fixed() else min(MOST, processors())
