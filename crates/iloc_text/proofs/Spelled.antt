@@ -1,7 +1,6 @@
 -- The spelling of an operation reads as that operation.
 use Rattle.std.proofs.Common.{◌≡◌, ℕ, ◌≤◌, ◌<◌, ◌^◌, length, drop, List, [], ◌∷◌, ◌++◌, map, refl, sym, Some, None, codes, decimal, arith}
 use Rattle.std.specs.List.{AllByRecursion}
-use Rattle.std.proofs.lemmas.List.{drop_all}
 use Rattle.std.proofs.lemmas.Fmt.{decimal_is_IsNumeral, length-decimal-le}
 use Rattle.iloc_text.specs.declared.limits.TheConstants.{MAX_NUMBER}
 use Rattle.iloc_text.specs.declared.op.Op.{Op}
@@ -66,6 +65,3 @@ spelling_reads op h =
 
 pub decimal_is_short : (n : ℕ) → n < 2 ^ 32 → length (decimal n) ≤ 10
 decimal_is_short n h = length-decimal-le 10 n (omega arith) (omega arith) (omega arith)
-
-pub nothing_behind : (line : List ℕ) → length line ≡ 64 → drop 64 line ≡ []
-nothing_behind line h = drop_all 64 line (omega arith)

@@ -31,5 +31,5 @@ pub use op::{Op, Reg};
 pub use reader::{read_blocks, read_file};
 pub use registers::{defines, uses, with_registers};
 pub use schedule_line::{ScheduleLine, read_schedule_line};
-pub use spelling::{push_number, push_op};
+pub use spelling::{OP_ROOM, push_number, push_op, write_op, write_text};
 pub use taker::TakeBlocks;

@@ -6,7 +6,7 @@ ghost use Rattle.iloc_text.specs.Forms.Lead.{space, comma, arrow};
 ghost use Rattle.iloc_text.specs.Forms.Value.{Use, Definition, Constant};
 ghost use Rattle.iloc_text.specs.Spelling.{spelled_operands, spelling};
 ghost use Rattle.iloc_text.specs.Steps.Operands.{operands_in};
-ghost use Rattle.iloc_text.specs.declared.spelling.TheConstants.{ROOM};
+ghost use Rattle.iloc_text.specs.declared.spelling.TheConstants.{OP_ROOM};
 
 use crate::fault::NoMemory;
 use crate::forms::{Operands, form_of};
@@ -14,7 +14,7 @@ use crate::op::{Op, Reg};
 use itoa::{Buffer, write_digits};
 
 /// More bytes than an operation is spelled with.
-const ROOM: usize = 64;
+pub const OP_ROOM: usize = 64;
 
 /// Appends `number` in decimal, with a `-` before a negative one and no other sign.
 ///
@@ -40,34 +40,45 @@ pub fn push_op(text: &mut Vec<u8>, op: &Op) -> Result<(), NoMemory>
     ensures full { OnErr result
         (vec_capacity text.old < vec_len text.old + length (spelling op.now)) }
 {
-    let mut line = [0; ROOM];
-    let (opcode, operands) = form_of(op);
-    let start = write_operands(&mut line, operands);
-    let start = write_text(&mut line, start, opcode.text());
+    let mut line = [0; OP_ROOM];
+    let start = write_op(&mut line, OP_ROOM, op);
     text.extend_from_slice(&line[start..])?;
     Ok(())
 }
 
-/// Writes the operands to the end of the line, the last of them first, and gives where they start.
-#[tactic(auto, using(crate::proofs::Spelled::nothing_behind))]
-fn write_operands(line: &mut [u8], operands: Operands) -> usize
-    requires { length line.old ≡ ROOM }
-    ensures room { (7 ≤ result) × (result ≤ ROOM) }
-    ensures written { drop result line.new ≡ spelled_operands (operands_in operands) }
+/// Writes the spelling of `op`, as `push_op` has it, so that it ends at `end`, and gives where it starts.
+#[inline(always)]
+pub fn write_op(line: &mut [u8], end: usize, op: &Op) -> usize
+    requires { (OP_ROOM ≤ end) × (end ≤ length line.old) }
+    ensures room { (result ≤ end) × (end ≤ result + OP_ROOM) }
+    ensures length { length line.new ≡ length line.old }
+    ensures written { drop result line.new ≡ spelling op.now ++ drop end line.old }
+{
+    let (opcode, operands) = form_of(op);
+    let start = write_operands(line, end, operands);
+    write_text(line, start, opcode.text())
+}
+
+/// Writes the operands so that they end at `end`, the last of them first, and gives where they start.
+fn write_operands(line: &mut [u8], end: usize, operands: Operands) -> usize
+    requires { (OP_ROOM ≤ end) × (end ≤ length line.old) }
+    ensures room { (result ≤ end) × (end ≤ result + 40) }
+    ensures length { length line.new ≡ length line.old }
+    ensures written { drop result line.new ≡ spelled_operands (operands_in operands) ++ drop end line.old }
 {
     match operands {
-        Operands::Nothing => ROOM,
-        Operands::Constant(value) => write_operand(line, ROOM, b" ", value),
+        Operands::Nothing => end,
+        Operands::Constant(value) => write_operand(line, end, b" ", value),
         Operands::Immediate(value, dest) => {
-            let end = write_operand(line, ROOM, b" => r", dest.0);
+            let end = write_operand(line, end, b" => r", dest.0);
             write_operand(line, end, b" ", value)
         }
-        Operands::Copied(source, dest) => write_transfer(line, ROOM, source, dest),
-        Operands::Stored(value, addr) => write_transfer(line, ROOM, value, addr),
-        Operands::Sources(left, right, dest) => write_two_sources(line, left, right, dest),
-        Operands::WithConstant(left, value, dest) => write_immediate(line, left, value, dest),
+        Operands::Copied(source, dest) => write_transfer(line, end, source, dest),
+        Operands::Stored(value, addr) => write_transfer(line, end, value, addr),
+        Operands::Sources(left, right, dest) => write_two_sources(line, end, left, right, dest),
+        Operands::WithConstant(left, value, dest) => write_immediate(line, end, left, value, dest),
         Operands::StoredAt(value, addr, offset) => {
-            let end = write_operand(line, ROOM, b", ", offset);
+            let end = write_operand(line, end, b", ", offset);
             write_transfer(line, end, value, addr)
         }
     }
@@ -77,6 +88,7 @@ fn write_operands(line: &mut [u8], operands: Operands) -> usize
 fn write_transfer(line: &mut [u8], end: usize, source: Reg, target: Reg) -> usize
     requires { (34 ≤ end) × (end ≤ length line.old) }
     ensures room { (result ≤ end) × (end ≤ result + 27) }
+    ensures length { length line.new ≡ length line.old }
     ensures written { drop result line.new
         ≡ codes " r" ++ (decimal source.0 ++ (codes " => r" ++ (decimal target.0 ++ drop end line.old))) }
 {
@@ -84,28 +96,28 @@ fn write_transfer(line: &mut [u8], end: usize, source: Reg, target: Reg) -> usiz
     write_operand(line, start, b" r", source.0)
 }
 
-/// Writes `left, right => dest` behind a space to the end of the line, and gives where it starts.
-#[tactic(auto, using(crate::proofs::Spelled::nothing_behind))]
-fn write_two_sources(line: &mut [u8], left: Reg, right: Reg, dest: Reg) -> usize
-    requires { length line.old ≡ ROOM }
-    ensures room { (7 ≤ result) × (result ≤ ROOM) }
+/// Writes `left, right => dest` behind a space, so that it ends at `end`, and gives where it starts.
+fn write_two_sources(line: &mut [u8], end: usize, left: Reg, right: Reg, dest: Reg) -> usize
+    requires { (OP_ROOM ≤ end) × (end ≤ length line.old) }
+    ensures room { (result ≤ end) × (end ≤ result + 40) }
+    ensures length { length line.new ≡ length line.old }
     ensures written { drop result line.new
-        ≡ spelled_operands (space ▹ Use left ∷ comma ▹ Use right ∷ arrow ▹ Definition dest ∷ []) }
+        ≡ spelled_operands (space ▹ Use left ∷ comma ▹ Use right ∷ arrow ▹ Definition dest ∷ []) ++ drop end line.old }
 {
-    let end = write_operand(line, ROOM, b" => r", dest.0);
+    let end = write_operand(line, end, b" => r", dest.0);
     let end = write_operand(line, end, b", r", right.0);
     write_operand(line, end, b" r", left.0)
 }
 
-/// Writes `left, value => dest` behind a space to the end of the line, and gives where it starts.
-#[tactic(auto, using(crate::proofs::Spelled::nothing_behind))]
-fn write_immediate(line: &mut [u8], left: Reg, value: u32, dest: Reg) -> usize
-    requires { length line.old ≡ ROOM }
-    ensures room { (7 ≤ result) × (result ≤ ROOM) }
+/// Writes `left, value => dest` behind a space, so that it ends at `end`, and gives where it starts.
+fn write_immediate(line: &mut [u8], end: usize, left: Reg, value: u32, dest: Reg) -> usize
+    requires { (OP_ROOM ≤ end) × (end ≤ length line.old) }
+    ensures room { (result ≤ end) × (end ≤ result + 40) }
+    ensures length { length line.new ≡ length line.old }
     ensures written { drop result line.new
-        ≡ spelled_operands (space ▹ Use left ∷ comma ▹ Constant value ∷ arrow ▹ Definition dest ∷ []) }
+        ≡ spelled_operands (space ▹ Use left ∷ comma ▹ Constant value ∷ arrow ▹ Definition dest ∷ []) ++ drop end line.old }
 {
-    let end = write_operand(line, ROOM, b" => r", dest.0);
+    let end = write_operand(line, end, b" => r", dest.0);
     let end = write_operand(line, end, b", ", value);
     write_operand(line, end, b" r", left.0)
 }
@@ -116,6 +128,7 @@ fn write_immediate(line: &mut [u8], left: Reg, value: u32, dest: Reg) -> usize
 fn write_operand(line: &mut [u8], end: usize, lead: &[u8], number: u32) -> usize
     requires { (length lead.now + 10 ≤ end) × (end ≤ length line.old) }
     ensures room { (result ≤ end) × (end ≤ result + (length lead.now + 10)) }
+    ensures length { length line.new ≡ length line.old }
     ensures written { drop result line.new ≡ lead.now ++ (decimal number ++ drop end line.old) }
 {
     let start = write_digits(u64::from(number), line, end);
@@ -124,9 +137,10 @@ fn write_operand(line: &mut [u8], end: usize, lead: &[u8], number: u32) -> usize
 
 /// Writes the text so that it ends at `end`, and gives where it starts.
 #[inline(always)]
-fn write_text(line: &mut [u8], end: usize, text: &[u8]) -> usize
+pub fn write_text(line: &mut [u8], end: usize, text: &[u8]) -> usize
     requires { (length text.now ≤ end) × (end ≤ length line.old) }
     ensures start { result + length text.now ≡ end }
+    ensures length { length line.new ≡ length line.old }
     ensures written { drop result line.new ≡ text.now ++ drop end line.old }
 {
     let start = end - text.len();

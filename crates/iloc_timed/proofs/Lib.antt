@@ -7,3 +7,4 @@ pub mod Turning
 pub mod Landing
 pub mod Following
 pub mod WholeRuns
+pub mod Spelled

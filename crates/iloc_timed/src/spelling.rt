@@ -1,46 +1,56 @@
 //! How a row is written.
-ghost use Rattle.std.specs.Prelude.{◌≡◌, ◌++◌, OnOk};
+ghost use Rattle.std.specs.Prelude.{◌≡◌, ◌≤◌, ◌+◌, ◌++◌, drop, length, OnErr, OnOk};
 ghost use Rattle.iloc_text.specs.Spelling.{spelling};
-ghost use Rattle.iloc_meaning.specs.Trace.{op_at};
-ghost use Rattle.iloc_timed.specs.Spelling.{row_spelling};
+ghost use Rattle.iloc_text.specs.declared.spelling.TheConstants.{OP_ROOM};
+ghost use Rattle.iloc_timed.specs.Spelling.{op_in, row_spelling};
+ghost use Rattle.iloc_timed.specs.declared.spelling.TheConstants.{ROOM};
 
 use crate::row::Row;
-use iloc_text::{NoMemory, Op, push_op};
+use iloc_text::{NoMemory, OP_ROOM, Op, write_op, write_text};
 
-/// Appends the operation of this number, `nop` where there is none.
-fn push_numbered(text: &mut Vec<u8>, ops: &[Op], i: usize) -> Result<(), NoMemory>
-    ensures { OnOk result (text.new.items ≡ text.old.items ++ spelling (op_at ops.now i)) }
+/// More bytes than a row is written with.
+const ROOM: usize = 2 * OP_ROOM + 8;
+
+/// Writes the operation in a slot, `nop` where it is empty, so that it ends at `end`, and gives where it starts.
+fn write_slot(line: &mut [u8], end: usize, ops: &[Op], slot: Option<usize>) -> usize
+    requires { (OP_ROOM ≤ end) × (end ≤ length line.old) }
+    ensures room { (result ≤ end) × (end ≤ result + OP_ROOM) }
+    ensures length { length line.new ≡ length line.old }
+    ensures written { drop result line.new ≡ spelling (op_in ops.now slot) ++ drop end line.old }
 {
-    match ops.get(i) {
-        Some(op) => push_op(text, op),
-        None => push_op(text, &Op::Nop),
+    match slot.and_then(|i| ops.get(i)) {
+        Some(op) => write_op(line, end, op),
+        None => write_text(line, end, b"nop"),
     }
 }
 
-/// Appends a row: `[ X ; Y ]`, the operation on unit 0 first, with `nop` for an empty slot. After a
-/// refusal a part of it may stand behind the text.
-pub fn push_row(text: &mut Vec<u8>, ops: &[Op], row: &Row) -> Result<(), NoMemory>
-    ensures { OnOk result (text.new.items ≡ text.old.items ++ row_spelling ops.now row.now) }
+/// Writes a row to the end of the line, and gives where it starts.
+fn write_row(line: &mut [u8], ops: &[Op], row: &Row) -> usize
+    requires { length line.old ≡ ROOM }
+    ensures room { result ≤ ROOM }
+    ensures length { length line.new ≡ ROOM }
+    ensures written { drop result line.new ≡ row_spelling ops.now row.now }
 {
-    match (row.zero, row.one) {
-        (None, None) => text.extend_from_slice(b"[ nop ; nop ]")?,
-        (Some(i), None) => {
-            text.extend_from_slice(b"[ ")?;
-            push_numbered(text, ops, i)?;
-            text.extend_from_slice(b" ; nop ]")?;
-        }
-        (None, Some(j)) => {
-            text.extend_from_slice(b"[ nop ; ")?;
-            push_numbered(text, ops, j)?;
-            text.extend_from_slice(b" ]")?;
-        }
-        (Some(i), Some(j)) => {
-            text.extend_from_slice(b"[ ")?;
-            push_numbered(text, ops, i)?;
-            text.extend_from_slice(b" ; ")?;
-            push_numbered(text, ops, j)?;
-            text.extend_from_slice(b" ]")?;
-        }
+    let end = write_text(line, ROOM, b" ]");
+    let end = write_slot(line, end, ops, row.one);
+    let end = write_text(line, end, b" ; ");
+    let end = write_slot(line, end, ops, row.zero);
+    write_text(line, end, b"[ ")
+}
+
+/// Appends a row: `[ X ; Y ]`, the operation on unit 0 first, with `nop` for an empty slot.
+///
+/// Where memory is refused the text stays as it was.
+pub fn push_row(text: &mut Vec<u8>, ops: &[Op], row: &Row) -> Result<(), NoMemory>
+    ensures ok { OnOk result (text.new.items ≡ text.old.items ++ row_spelling ops.now row.now) }
+    ensures err { OnErr result (text.new.items ≡ text.old.items) }
+{
+    if let (None, None) = (row.zero, row.one) {
+        text.extend_from_slice(b"[ nop ; nop ]")?;
+        return Ok(());
     }
+    let mut line = [0; ROOM];
+    let start = write_row(&mut line, ops, row);
+    text.extend_from_slice(&line[start..])?;
     Ok(())
 }
