@@ -12,5 +12,7 @@ pub mod Listed
 pub mod Idle
 pub mod Headline
 pub mod Listings
+pub mod Retold
 pub mod Entries
+pub mod Counted
 pub mod Unfolded

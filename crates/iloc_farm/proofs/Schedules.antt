@@ -33,11 +33,18 @@ use Rattle.iloc_farm.specs.Steps.Limits.{most_cycles}
 -- One list
 
 -- a schedule is its operations and its rows
-pub table_same : (s t : Table) → s.ops ≡ t.ops → s.rows ≡ t.rows → s ≡ t
+table_same : (s t : Table) → s.ops ≡ t.ops → s.rows ≡ t.rows → s ≡ t
 table_same s t ops rows = λ i. record { ops = ops i; rows = rows i }
 
-cons_same : {X : Type 0} (x y : X) (xs ys : List X) → x ≡ y → xs ≡ ys → x ∷ xs ≡ y ∷ ys
+pub cons_same : {X : Type 0} (x y : X) (xs ys : List X) → x ≡ y → xs ≡ ys → x ∷ xs ≡ y ∷ ys
 cons_same x y xs ys head tail = rw (head, tail) refl
+
+-- a block has one greedy schedule
+pub one_schedule : (lat : Latencies) (block : List Op) (s t : Table) → IsGreedy lat block s.ops s.rows
+    → IsGreedy lat block t.ops t.rows → t ≡ s
+one_schedule lat block s t greedy other =
+    let same : (t.ops ≡ s.ops) × (t.rows ≡ s.rows) = greedy_same lat block t.ops s.ops t.rows s.rows other greedy in
+    table_same t s same.0 same.1
 
 pub greedy_all_same : (lat : Latencies) (blocks : List Block) (schedules others : List Table)
     → AreGreedy lat blocks schedules → AreGreedy lat blocks others → others ≡ schedules
@@ -47,8 +54,7 @@ greedy_all_same lat [] (s ∷ schedules) others greedy other = absurd greedy
 greedy_all_same lat (b ∷ blocks) [] others greedy other = absurd greedy
 greedy_all_same lat (b ∷ blocks) (s ∷ schedules) [] greedy other = absurd other
 greedy_all_same lat (b ∷ blocks) (s ∷ schedules) (t ∷ others) greedy other =
-    let same : (t.ops ≡ s.ops) × (t.rows ≡ s.rows) = greedy_same lat b.ops t.ops s.ops t.rows s.rows other.0 greedy.0 in
-    cons_same t s others schedules (table_same t s same.0 same.1)
+    cons_same t s others schedules (one_schedule lat b.ops s t greedy.0 other.0)
     (greedy_all_same lat blocks schedules others greedy.1 other.1)
 
 -- Outcomes

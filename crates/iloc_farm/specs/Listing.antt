@@ -54,13 +54,20 @@ outcomes_listing blocks outcomes = entries outcome_entry 1 blocks outcomes
 abbrev pub cycles_of : Latencies → Table → ℕ
 cycles_of lat s = cycles lat s.ops s.rows
 
+-- `block K NAME`, a line for each row, `cycles C`
+abbrev pub schedule_lines : ℕ → Option (List ℕ) → Table → ℕ → List ℕ
+schedule_lines k name s cycles =
+    block_head k name ++ codes "\n" ++ flat_map (row_line s.ops) s.rows ++ codes "cycles " ++ decimal cycles ++ codes "\n"
+
 abbrev pub schedule_entry : Latencies → ℕ → Option (List ℕ) → Table → List ℕ
-schedule_entry lat k name s =
-    block_head k name ++ codes "\n" ++ flat_map (row_line s.ops) s.rows ++ codes "cycles " ++ decimal (cycles_of lat s) ++ codes "\n"
+schedule_entry lat k name s = schedule_lines k name s (cycles_of lat s)
 
 -- `block K NAME cycles C`
+abbrev pub count_line : ℕ → Option (List ℕ) → ℕ → List ℕ
+count_line k name cycles = block_head k name ++ codes " cycles " ++ decimal cycles ++ codes "\n"
+
 abbrev pub count_entry : Latencies → ℕ → Option (List ℕ) → Table → List ℕ
-count_entry lat k name s = block_head k name ++ codes " cycles " ++ decimal (cycles_of lat s) ++ codes "\n"
+count_entry lat k name s = count_line k name (cycles_of lat s)
 
 -- the cycles of all schedules together
 abbrev pub total_cycles : Latencies → List Table → ℕ

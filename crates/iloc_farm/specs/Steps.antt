@@ -1,7 +1,9 @@
 -- What the code does piece by piece, as steps of proof: no contract of a public function names them.
 pub mod Answered
+pub mod Counts
 pub mod Detailed
 pub mod Entries
+pub mod Farmed
 pub mod Folded
 pub mod Pieces
 pub mod Runner

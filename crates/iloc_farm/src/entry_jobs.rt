@@ -5,20 +5,18 @@ ghost use Rattle.iloc_text.specs.declared.limits.TheConstants.{MAX_BLOCKS, MAX_O
 
 use crate::desks::Desks;
 use crate::entry::Entry;
-use crate::listing::Detail;
 use iloc_board::{Jobs, NoMemory};
 use iloc_text::Block;
 use iloc_timed::Latencies;
 use std::alloc::Global;
 
-/// Blocks to be scheduled for a machine with these latencies, and listed in so much detail.
+/// Blocks to be scheduled for a machine with these latencies, and listed.
 #[derive(Clone, Copy)]
 pub struct EntryJobs<'f> {
     /// At most 65,535 blocks, each of at most 10,000 operations.
     pub blocks: &'f [Block],
     pub latencies: Latencies,
     pub desks: &'f Desks,
-    pub detail: Detail,
     ghost few: { length blocks.now ≤ MAX_BLOCKS },
     ghost short: { All (λ b. length b.ops ≤ MAX_OPS) blocks.now },
 }
@@ -30,7 +28,7 @@ impl<'f> Jobs for EntryJobs<'f> {
 
     ghost number = { λ jobs. length jobs.blocks.now };
 
-    ghost fits = { λ jobs i entry. IsEntryOf jobs.detail jobs.latencies jobs.blocks.now i entry };
+    ghost fits = { λ jobs i entry. IsEntryOf jobs.latencies jobs.blocks.now i entry };
 
     ghost price = { λ _ entry. entry.cycles };
 
@@ -46,7 +44,7 @@ impl<'f> Jobs for EntryJobs<'f> {
         let number = i as usize + 1;
         let block = &self.blocks[i as usize];
         self.desks
-            .entry(alloc, number, block, &self.latencies, self.detail)
+            .entry(alloc, number, block, &self.latencies)
             .map_err(|_| NoMemory)
     }
 }

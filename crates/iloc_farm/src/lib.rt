@@ -4,7 +4,10 @@
 mod answering;
 mod block_jobs;
 mod checked;
+mod counts;
 mod crew;
+mod cycle_jobs;
+mod desk;
 mod desks;
 mod device;
 mod end_to_end;

@@ -103,9 +103,50 @@ pub enum Detail {
     Cycles,
 }
 
-/// Appends what is listed of the block with this number, counted from 1, and this schedule, which
-/// takes so many cycles.
+/// Appends the rows and the cycles of the block with this number, counted from 1, and this schedule, which takes so
+/// many cycles.
 pub(crate) fn push_schedule(
+    text: &mut Vec<u8>,
+    number: usize,
+    name: Option<&Name>,
+    schedule: &Schedule,
+    cycles: u64,
+) -> Result<(), NoMemory>
+    requires number { number < 2 ^ 63 }
+    requires cycles { cycles < 2 ^ 63 }
+    ensures { OnOk result (text.new.items ≡ text.old.items
+        ++ listed.schedule_lines number (option_copied name.entry) schedule.now cycles) }
+{
+    push_block_head(text, number, name)?;
+    text.push(b'\n')?;
+    push_rows(text, schedule.ops(), schedule.rows())?;
+    text.extend_from_slice(b"cycles ")?;
+    push_number(text, cycles as i64)?;
+    text.push(b'\n')?;
+    Ok(())
+}
+
+/// Appends the line of the block with this number, counted from 1, whose schedule takes so many cycles.
+pub(crate) fn push_count(
+    text: &mut Vec<u8>,
+    number: usize,
+    name: Option<&Name>,
+    cycles: u64,
+) -> Result<(), NoMemory>
+    requires number { number < 2 ^ 63 }
+    requires cycles { cycles < 2 ^ 63 }
+    ensures { OnOk result
+        (text.new.items ≡ text.old.items ++ listed.count_line number (option_copied name.entry) cycles) }
+{
+    push_block_head(text, number, name)?;
+    text.extend_from_slice(b" cycles ")?;
+    push_number(text, cycles as i64)?;
+    text.push(b'\n')?;
+    Ok(())
+}
+
+/// Appends what is listed of the block with this number, counted from 1, in so much detail.
+fn push_detailed(
     text: &mut Vec<u8>,
     number: usize,
     name: Option<&Name>,
@@ -119,17 +160,10 @@ pub(crate) fn push_schedule(
         OnOk result (text.new.items ≡ text.old.items
         ++ entry_with detail latencies number (option_copied name.entry) schedule.now) }
 {
-    push_block_head(text, number, name)?;
-    if detail == Detail::Rows {
-        text.push(b'\n')?;
-        push_rows(text, schedule.ops(), schedule.rows())?;
-        text.extend_from_slice(b"cycles ")?;
-    } else {
-        text.extend_from_slice(b" cycles ")?;
+    match detail {
+        Detail::Rows => push_schedule(text, number, name, schedule, cycles),
+        Detail::Cycles => push_count(text, number, name, cycles),
     }
-    push_number(text, cycles as i64)?;
-    text.push(b'\n')?;
-    Ok(())
 }
 
 /// Appends the line of the cycles of all.
@@ -161,7 +195,7 @@ fn farm_text(
     for (index, block) in file.blocks.as_slice().iter().enumerate() {
         let schedule = &schedules[index];
         let cycles = cycles(schedule, latencies);
-        push_schedule(
+        push_detailed(
             &mut text,
             index + 1,
             block.name.as_ref(),

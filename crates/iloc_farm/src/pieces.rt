@@ -69,7 +69,7 @@ impl Pieces {
     }
 
     /// Appends a short text to the last piece, or begins the next one with it.
-    fn join(&mut self, text: &[u8]) -> Result<(), NoMemory>
+    pub(crate) fn join(&mut self, text: &[u8]) -> Result<(), NoMemory>
         ensures { OnOk result (self.new ≡ self.old ++ text.now) }
     {
         if self.last.len() + text.len() > MOST_JOINED {
