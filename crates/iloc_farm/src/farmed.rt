@@ -59,8 +59,8 @@ fn counts_of<R: Threads + Wait + Sync>(
         latencies: request.latencies,
         desks: &desks,
     };
-    let collected = answer_all(rt, alloc, &jobs, request.workers, &FreeGate)?;
-    Ok(collected.answers)
+    let counted = answer_all(rt, alloc, &jobs, request.workers, &FreeGate)?;
+    Ok(counted.answers)
 }
 
 /// The listing of the blocks' greedy schedules, in so much detail, for the request's latencies and
