@@ -5,8 +5,7 @@ ghost use Rattle.iloc_meaning.specs.Outcome.{outcome};
 ghost use Rattle.iloc_sched.specs.Renaming.{is_nop, renamed, IsRenamed};
 
 use crate::by_register::ByRegister;
-use arrayvec::ArrayVec;
-use iloc_text::{Block, MAX_OPS, NoMemory, Op, Reg, defines, uses, with_registers};
+use iloc_text::{Block, MAX_OPS, NoMemory, Op, Reg};
 use std::alloc::Global;
 
 // Registers below this number are looked up fastest in any block; in a longer one those below three times its
@@ -23,10 +22,9 @@ pub(crate) struct Names {
 }
 
 impl Names {
-    ghost use Rattle.std.specs.Prelude.{None};
+    ghost use Rattle.std.specs.Prelude.{None, Some};
     ghost use Rattle.iloc_text.specs.declared.op.Reg.{Reg};
-    ghost use Rattle.iloc_sched.specs.Renaming.{Source, name_of};
-    ghost use Rattle.iloc_sched.specs.Steps.NamingWalk.{also, Follows, NamesNext, Named, next_renamed};
+    ghost use Rattle.iloc_sched.specs.Steps.NamingWalk.{NamesNext, NamesUse, NamesDefinition, NamesAll, Named, next_renamed};
     ghost use Rattle.iloc_sched.specs.Steps.CurrentNames.{current_of};
 
     /// Names for blocks, one after another.
@@ -70,10 +68,8 @@ impl Names {
     /// The name of a register that is used: the one that it has, or else the next.
     fn of_use(&mut self, register: Reg) -> Result<Reg, NoMemory>
         requires { self.old.given < 2 ^ 32 - 1 }
-        ensures name { IfOk result (λ name. (n : ℕ) (sources : List Source) (now : Reg → Source) →
-            Follows n sources now self.old.given (current_of self.old) →
-            Follows n (also sources (now register)) now self.new.given (current_of self.new)
-            × (name ≡ name_of (also sources (now register)) (now register))) }
+        ensures name { IfOk result (λ name.
+            NamesUse register name self.old.given (current_of self.old) self.new.given (current_of self.new)) }
         ensures count { OnOk result (self.new.given ≤ self.old.given + 1) }
     {
         match self.current.get(register) {
@@ -86,6 +82,68 @@ impl Names {
         }
     }
 
+    /// Puts its name in the place of a register that is used.
+    fn rename_use(&mut self, register: &mut Reg) -> Result<(), NoMemory>
+        requires { self.old.given < 2 ^ 32 - 1 }
+        ensures name { OnOk result (NamesUse register.old register.new
+            self.old.given (current_of self.old) self.new.given (current_of self.new)) }
+        ensures count { OnOk result (self.new.given ≤ self.old.given + 1) }
+    {
+        *register = self.of_use(*register)?;
+        Ok(())
+    }
+
+    /// Puts the next name in the place of a register that is defined.
+    fn rename_definition(&mut self, register: &mut Reg) -> Result<(), NoMemory>
+        requires { self.old.given < 2 ^ 32 - 1 }
+        ensures { OnOk result (NamesDefinition register.old register.new
+            self.old.given (current_of self.old) self.new.given (current_of self.new)) }
+    {
+        let next = Reg(self.given);
+        self.give(*register)?;
+        *register = next;
+        Ok(())
+    }
+
+    /// The same for `used => defined`.
+    fn rename_copied(&mut self, source: &mut Reg, dest: &mut Reg) -> Result<(), NoMemory>
+        requires { self.old.given < 2 ^ 32 - 2 }
+        ensures names { OnOk result (NamesAll (source.old ∷ []) (Some dest.old) (source.new ∷ []) dest.new
+            self.old.given (current_of self.old) self.new.given (current_of self.new)) }
+        ensures count { OnOk result (self.new.given ≤ self.old.given + 2) }
+    {
+        self.rename_use(source)?;
+        self.rename_definition(dest)
+    }
+
+    /// The same for `used => used`.
+    fn rename_stored(&mut self, value: &mut Reg, addr: &mut Reg) -> Result<(), NoMemory>
+        requires { self.old.given < 2 ^ 32 - 2 }
+        ensures names { OnOk result ((own : Reg) → NamesAll (value.old ∷ addr.old ∷ []) None (value.new ∷ addr.new ∷ []) own
+            self.old.given (current_of self.old) self.new.given (current_of self.new)) }
+        ensures count { OnOk result (self.new.given ≤ self.old.given + 2) }
+    {
+        self.rename_use(value)?;
+        self.rename_use(addr)
+    }
+
+    /// The same for `used, used => defined`.
+    fn rename_sources(
+        &mut self,
+        left: &mut Reg,
+        right: &mut Reg,
+        dest: &mut Reg,
+    ) -> Result<(), NoMemory>
+        requires { self.old.given < 2 ^ 32 - 3 }
+        ensures names { OnOk result (NamesAll (left.old ∷ right.old ∷ []) (Some dest.old) (left.new ∷ right.new ∷ []) dest.new
+            self.old.given (current_of self.old) self.new.given (current_of self.new)) }
+        ensures count { OnOk result (self.new.given ≤ self.old.given + 3) }
+    {
+        self.rename_use(left)?;
+        self.rename_use(right)?;
+        self.rename_definition(dest)
+    }
+
     /// The operation with the names of its registers: those of the uses first, left to right.
     fn rename(&mut self, op: &Op) -> Result<Op, NoMemory>
         requires { self.old.given < 2 ^ 32 - 3 }
@@ -95,16 +153,27 @@ impl Names {
             × (renamed ≡ next_renamed done op.now)) }
         ensures count { OnOk result (self.new.given ≤ self.old.given + 3) }
     {
-        let registers = uses(op);
-        let mut names = ArrayVec::<Reg, 2>::new();
-        for register in registers.as_slice() {
-            names.push(self.of_use(*register)?);
+        let mut renamed = *op;
+        match &mut renamed {
+            Op::Nop => {}
+            Op::Output { .. } => {}
+            Op::LoadI { dest, .. } => self.rename_definition(dest)?,
+            Op::Load { addr, dest } => self.rename_copied(addr, dest)?,
+            Op::LoadAI { addr, dest, .. } => self.rename_copied(addr, dest)?,
+            Op::AddI { left, dest, .. } => self.rename_copied(left, dest)?,
+            Op::SubI { left, dest, .. } => self.rename_copied(left, dest)?,
+            Op::MultI { left, dest, .. } => self.rename_copied(left, dest)?,
+            Op::LshiftI { left, dest, .. } => self.rename_copied(left, dest)?,
+            Op::RshiftI { left, dest, .. } => self.rename_copied(left, dest)?,
+            Op::Store { value, addr } => self.rename_stored(value, addr)?,
+            Op::StoreAI { value, addr, .. } => self.rename_stored(value, addr)?,
+            Op::Add { left, right, dest } => self.rename_sources(left, right, dest)?,
+            Op::Sub { left, right, dest } => self.rename_sources(left, right, dest)?,
+            Op::Mult { left, right, dest } => self.rename_sources(left, right, dest)?,
+            Op::Lshift { left, right, dest } => self.rename_sources(left, right, dest)?,
+            Op::Rshift { left, right, dest } => self.rename_sources(left, right, dest)?,
         }
-        let own = Reg(self.given);
-        if let Some(register) = defines(op) {
-            self.give(register)?;
-        }
-        Ok(with_registers(op, names.as_slice(), own))
+        Ok(renamed)
     }
 
     /// Fills a list with the operations of a block, as `rename` has them.

@@ -1,6 +1,6 @@
 -- The loop that renames: a use, a definition, an operation, the block; for `rename` (`renamed`, `size`).
-use Rattle.std.proofs.Common.{◌≡◌, ℕ, zero, suc, ◌+◌, ◌<◌, ◌≤◌, true, false, if◌then◌else◌, List, [], ◌∷◌, ◌++◌, length, map, take, get_or, not, cond, Option, Some, None, option_map, refl, sym, ap, subst, ◌∙◌, arith, inl, inr, append-nil}
-use Rattle.std.proofs.lemmas.List.{map-append, take_all, take_more}
+use Rattle.std.proofs.Common.{◌≡◌, ℕ, zero, suc, ◌+◌, ◌<◌, ◌≤◌, true, false, if◌then◌else◌, List, [], ◌∷◌, ◌++◌, length, map, take, get_or, not, cond, Option, Some, None, option_map, refl, sym, ap, ◌∙◌, arith, inl, inr, append-nil}
+use Rattle.std.proofs.lemmas.List.{map-append, take_all}
 use Rattle.std.specs.List.{list_any, range_with_len}
 use Rattle.std.proofs.lemmas.List.Elements.{filter_more}
 use Rattle.std.proofs.lemmas.List.FromFn.{map-range_with_len_more}
@@ -12,7 +12,7 @@ use Rattle.iloc_meaning.specs.Trace.{op_at, is_register}
 use Rattle.iloc_meaning.proofs.Cases.{by_bool}
 use Rattle.iloc_sched.specs.Renaming.{Source, is_source, source, own_source, numbering, name_of, renamed_op, renamed_by, is_nop, without_nops, renamed}
 use Rattle.iloc_sched.specs.Renaming.Source.{Result}
-use Rattle.iloc_sched.specs.Steps.NamingWalk.{Stands, also, also_all, Follows, NamesNext, Named, numbering_with, UsesNamed, next_renamed}
+use Rattle.iloc_sched.specs.Steps.NamingWalk.{Stands, also, also_all, Follows, NamesNext, NamesUse, NamesDefinition, Named, numbering_with, UsesNamed, NextNamed, NamesAll, next_renamed}
 use Rattle.iloc_sched.specs.Steps.Members.{In}
 use Rattle.iloc_sched.proofs.Basics.Members.{in_map}
 use Rattle.iloc_sched.proofs.Renamed.MentionedSources.{use_numbered, definition_numbered, length-renamed_by}
@@ -59,23 +59,13 @@ uses_more done uses names given given' current current' r name named follows is 
     next : List Source
     next = also (numbering_with done uses) (source done (length done) r)
 
--- the same in a loop over the registers that are used
-pub uses_step : (done : List Op) (items names names' : List Reg) (i : ℕ) (other name : Reg) (given given' : ℕ)
-    (current current' : Reg → Option ℕ) → i < length items → UsesNamed done (take i items) names given current
-    → ((n : ℕ) (sources : List Source) (now : Reg → Source) → Follows n sources now given current
-    → Follows n (also sources (now (get_or items i other))) now given' current'
-    × (name ≡ name_of (also sources (now (get_or items i other))) (now (get_or items i other))))
-    → names' ≡ names ++ name ∷ [] → UsesNamed done (take (i + 1) items) names' given' current'
-uses_step done items names names' i other name given given' current current' below named step pushed =
-    let next = step (length done) (numbering_with done (take i items)) (source done (length done)) named.follows in
-    rw (take_more items i other below, pushed)
-    (uses_more done (take i items) names given given' current current' (get_or items i other) name named next.0 next.1)
-
-pub uses_all : (done : List Op) (items uses names : List Reg) (i : ℕ) (given : ℕ) (current : Reg → Option ℕ)
-    → length items ≤ i → items ≡ uses → UsesNamed done (take i items) names given current
-    → UsesNamed done uses names given current
-uses_all done items uses names i given current past same named =
-    subst (λ us. UsesNamed done us names given current) (take_all i items past ∙ same) named
+-- the same by what the naming of a use says
+pub use_named_next : (done : List Op) (uses names : List Reg) (given given' : ℕ) (current current' : Reg → Option ℕ)
+    (r name : Reg) → NamesUse r name given current given' current' → UsesNamed done uses names given current
+    → UsesNamed done (uses ++ r ∷ []) (names ++ name ∷ []) given' current'
+use_named_next done uses names given given' current current' r name step named =
+    let next = step (length done) (numbering_with done uses) (source done (length done)) named.follows in
+    uses_more done uses names given given' current current' r name named next.0 next.1
 
 -- the sources of registers after one more operation
 source_more : (done : List Op) (op : Op) → source (done ++ op ∷ []) (suc (length done))
@@ -142,6 +132,86 @@ renamed_next done op names given current named =
     rw (numbering_more done op, is, new) (ap (λ (n : ℕ). record { 0 = n }) (named.follows.count
     ∙ sym (place_new (numbering_with done (used op)) (Result (length done)) new)))))
     ∙ ap (with_registers _ _) (sym (op_at_last done op))
+
+-- an operation whose uses are named is renamed, one that defines nothing
+next_without : (done : List Op) (op : Op) (names : List Reg) (own : Reg) (given : ℕ) (current : Reg → Option ℕ)
+    → UsesNamed done (used op) names given current → defined op ≡ None → NextNamed done op names own given current
+next_without done op names own given current named none = record {
+  named = named_without done op names given current named none;
+  new = λ r. name_of (numbering_with done (used op)) (source done (length done) r);
+  names = named.names;
+  renamed = with_registers-same _ _ own (record { 0 = given }) op refl (rw none refl)
+      ∙ renamed_next done op names given current named;
+}
+
+-- and one that defines a register
+next_with : (done : List Op) (op : Op) (names : List Reg) (own : Reg) (given given' : ℕ) (current current' : Reg
+    → Option ℕ) (r : Reg) → UsesNamed done (used op) names given current → defined op ≡ Some r
+    → own ≡ record { 0 = given } → NamesNext r given current given' current'
+    → NextNamed done op names own given' current'
+next_with done op names own given given' current current' r named is own_is next = record {
+  named = named_with done op names given given' current current' r named is next;
+  new = λ r. name_of (numbering_with done (used op)) (source done (length done) r);
+  names = named.names;
+  renamed = rw own_is (renamed_next done op names given current named);
+}
+
+pub defining_named : (dest own : Reg) (given given' : ℕ) (current current' : Reg → Option ℕ)
+    → NamesDefinition dest own given current given' current'
+    → NamesAll [] (Some dest) [] own given current given' current'
+defining_named dest own given given' current current' definition = λ done op uses defines named.
+    next_with done op [] own given given' current current' dest
+    (rw uses (uses_begin done given current named)) defines definition.0 definition.1
+
+pub copied_named : (source source' dest own : Reg) (given mid given' : ℕ) (current currentₘ current' : Reg → Option ℕ)
+    → NamesUse source source' given current mid currentₘ → NamesDefinition dest own mid currentₘ given' current'
+    → NamesAll (source ∷ []) (Some dest) (source' ∷ []) own given current given' current'
+copied_named source source' dest own given mid given' current currentₘ current' naming definition =
+    λ done op uses defines named.
+    next_with done op (source' ∷ []) own mid given' currentₘ current' dest
+    (rw uses (use_named_next done [] [] given mid current currentₘ source source' naming
+    (uses_begin done given current named))) defines definition.0 definition.1
+
+two_named : (done : List Op) (left left' right right' : Reg) (given mid given' : ℕ) (current currentₘ current' : Reg
+    → Option ℕ) → NamesUse left left' given current mid currentₘ → NamesUse right right' mid currentₘ given' current'
+    → Named done given current → UsesNamed done (left ∷ right ∷ []) (left' ∷ right' ∷ []) given' current'
+two_named done left left' right right' given mid given' current currentₘ current' first second named =
+    use_named_next done (left ∷ []) (left' ∷ []) mid given' currentₘ current' right right' second
+    (use_named_next done [] [] given mid current currentₘ left left' first (uses_begin done given current named))
+
+pub stored_named : (value value' addr addr' own : Reg) (given mid given' : ℕ) (current currentₘ current' : Reg
+    → Option ℕ) → NamesUse value value' given current mid currentₘ → NamesUse addr addr' mid currentₘ given' current'
+    → NamesAll (value ∷ addr ∷ []) None (value' ∷ addr' ∷ []) own given current given' current'
+stored_named value value' addr addr' own given mid given' current currentₘ current' first second =
+    λ done op uses defines named.
+    next_without done op (value' ∷ addr' ∷ []) own given' current'
+    (rw uses (two_named done value value' addr addr' given mid given' current currentₘ current' first second named))
+    defines
+
+pub sources_named : (left left' right right' dest own : Reg) (given mid later given' : ℕ) (current currentₘ currentₗ
+    current' : Reg → Option ℕ) → NamesUse left left' given current mid currentₘ
+    → NamesUse right right' mid currentₘ later currentₗ → NamesDefinition dest own later currentₗ given' current'
+    → NamesAll (left ∷ right ∷ []) (Some dest) (left' ∷ right' ∷ []) own given current given' current'
+sources_named left left' right right' dest own given mid later given' current currentₘ currentₗ current' first second definition =
+    λ done op uses defines named.
+    next_with done op (left' ∷ right' ∷ []) own later given' currentₗ current' dest
+    (rw uses (two_named done left left' right right' given mid later current currentₘ currentₗ first second named))
+    defines definition.0 definition.1
+
+pub nothing_named : (own : Reg) (given : ℕ) (current : Reg → Option ℕ)
+    → NamesAll [] None [] own given current given current
+nothing_named own given current = λ done op uses defines named.
+    next_without done op [] own given current (rw uses (uses_begin done given current named)) defines
+
+-- an operation with the new registers in their places is the next one renamed
+pub placed_renamed : (op op' : Op) (olds : List Reg) (defines : Option Reg) (news : List Reg) (own : Reg) (given given'
+    : ℕ) (current current' : Reg → Option ℕ) → NamesAll olds defines news own given current given' current'
+    → used op ≡ olds → defined op ≡ defines
+    → ((new : Reg → Reg) → news ≡ map new olds → op' ≡ with_registers new own op) → (done : List Op)
+    → Named done given current → Named (done ++ op ∷ []) given' current' × (op' ≡ next_renamed done op)
+placed_renamed op op' olds defines news own given given' current current' names uses definition placed done named =
+    let next = names done op uses definition named in
+    (next.named, placed next.new (next.names ∙ ap (map next.new) uses) ∙ next.renamed)
 
 name_more : (done : List Op) (op : Op) (s : Source) → Stands (numbering done) s
     → name_of (numbering (done ++ op ∷ [])) s ≡ name_of (numbering done) s

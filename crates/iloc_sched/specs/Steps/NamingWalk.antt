@@ -3,6 +3,7 @@ use Rattle.std.specs.Prelude.{ℕ, ◌+◌, ◌≡◌, ◌≢◌, ◌<◌, ◌�
 use Rattle.std.specs.List.{list_any}
 use Rattle.iloc_text.specs.declared.op.Reg.{Reg}
 use Rattle.iloc_text.specs.declared.op.Op.{Op}
+use Rattle.iloc_text.specs.Registers.{used, defined, with_registers}
 use Rattle.iloc_sched.specs.Renaming.{Source, is_source, source, numbering, place_of, name_of, renamed_op}
 use Rattle.iloc_sched.specs.Renaming.Source.{Start, Result}
 
@@ -32,6 +33,17 @@ pub record NamesNext (r : Reg) (given : ℕ) (current : Reg → Option ℕ) (giv
   pub here : current' r ≡ Some given
   pub others : (q : Reg) → q.0 ≢ r.0 → current' q ≡ current q
 
+-- the register r is used, and has this name from now on
+abbrev pub NamesUse : Reg → Reg → ℕ → (Reg → Option ℕ) → ℕ → (Reg → Option ℕ) → Type 0
+NamesUse r name given current given' current' =
+    (n : ℕ) (sources : List Source) (now : Reg → Source) → Follows n sources now given current
+    → Follows n (also sources (now r)) now given' current' × (name ≡ name_of (also sources (now r)) (now r))
+
+-- the register r is defined, and has this name, the next one, from now on
+abbrev pub NamesDefinition : Reg → Reg → ℕ → (Reg → Option ℕ) → ℕ → (Reg → Option ℕ) → Type 0
+NamesDefinition r name given current given' current' =
+    (name ≡ record { 0 = given }) × NamesNext r given current given' current'
+
 -- the walk is past these operations
 abbrev pub Named : List Op → ℕ → (Reg → Option ℕ) → Type 0
 Named done given current = Follows (length done) (numbering done) (source done (length done)) given current
@@ -53,3 +65,17 @@ pub record UsesNamed (done : List Op) (used renamed : List Reg) (given : ℕ) (c
 -- the operation that comes next, renamed
 abbrev pub next_renamed : List Op → Op → Op
 next_renamed done op = renamed_op (done ++ op ∷ []) (numbering (done ++ op ∷ [])) (length done)
+
+-- the walk is past these operations and past `op`, which used these names and defined the register `own`
+pub record NextNamed (done : List Op) (op : Op) (uses : List Reg) (own : Reg) (given : ℕ) (current : Reg → Option ℕ) : Type 0 where
+  pub named : Named (done ++ op ∷ []) given current
+  pub new : Reg → Reg
+  pub names : uses ≡ map new (used op)
+  pub renamed : with_registers new own op ≡ next_renamed done op
+
+-- The operation that comes next uses `olds`, and `defines` if that is there; now it has the names `news`, and `own`
+-- in place of what it defines.
+abbrev pub NamesAll : List Reg → Option Reg → List Reg → Reg → ℕ → (Reg → Option ℕ) → ℕ → (Reg → Option ℕ) → Type 0
+NamesAll olds defines news own given current given' current' =
+    (done : List Op) (op : Op) → used op ≡ olds → defined op ≡ defines → Named done given current
+    → NextNamed done op news own given' current'

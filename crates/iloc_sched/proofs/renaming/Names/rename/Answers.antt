@@ -1,26 +1,72 @@
-use Rattle.std.proofs.Common.{arith, sym, ◌∙◌}
-use Rattle.iloc_sched.proofs.Renamed.RenamingLoop.{uses_step, uses_all, named_with, named_without, renamed_next}
+use Rattle.std.proofs.Common.{ap}
+use Rattle.iloc_text.specs.Registers.{used, defined}
+use Rattle.iloc_sched.proofs.Renamed.RenamingLoop.{placed_renamed, nothing_named, defining_named}
 use Rattle.iloc_sched.proofs.renaming.Names.rename.Goals as goal
-use Rattle.iloc_sched.proofs.renaming.Names.rename.Goals.{in-Some+in_ok-give, in_default}
 
-pub loop-register-preserved : goal.loop-register-preserved
-loop-register-preserved c = (
-  omega (arith, c.push.ensures.len),
-  omega (arith, c.in_ok-of_use.ensures.count),
-  λ done named. uses_step done _ _ _ _ _ _ _ _ _ _ c.loop-register-test.true (c.loop-register.invariant.2 done named)
-      c.in_ok-of_use.ensures.name c.push.ensures.items,
-)
+pub returns-in-Nop-clause-next : goal.returns-in-Nop-clause-next
+returns-in-Nop-clause-next c = placed_renamed _ _ _ _ _ _ _ _ _ _ (nothing_named (record { 0 = 0 }) _ _)
+    (ap used c.in-Nop.is) (ap defined c.in-Nop.is) (λ new names. rw c.in-Nop.is cc)
 
-pub returns-clause-next : goal.returns-clause-next
-returns-clause-next c = λ done named.
-    let walk = uses_all done _ _ _ _ _ _ c.loop-register-test.false (c.as_slice-register-items.ensures.value
-    ∙ c.uses-registers.ensures) (c.loop-register.invariant.2 done named) in (
-      elim c.match-defines.branch [
-        | in-Some+in_ok-give w ↦ rw w.self-is (named_with done c.args.op.now _ _ _ _ _ w.in-Some.register walk
-            (sym c.defines.ensures ∙ w.in-Some.is) w.in_ok-give.ensures)
-        | in_default w ↦ rw w.self-is (named_without done c.args.op.now _ _ _ walk (sym c.defines.ensures
-            ∙ w.in_default.is))
-      ],
-      c.with_registers.ensures.renamed _ (sym (c.as_slice.ensures.value ∙ walk.names))
-          ∙ renamed_next done c.args.op.now _ _ _ walk,
-    )
+pub returns-in-Output-clause-next : goal.returns-in-Output-clause-next
+returns-in-Output-clause-next c = placed_renamed _ _ _ _ _ _ _ _ _ _ (nothing_named (record { 0 = 0 }) _ _)
+    (ap used c.in-Output.is) (ap defined c.in-Output.is) (λ new names. rw c.in-Output.is cc)
+
+pub returns-in_ok-rename_definition-in-LoadI-clause-next : goal.returns-in_ok-rename_definition-in-LoadI-clause-next
+returns-in_ok-rename_definition-in-LoadI-clause-next c = placed_renamed _ _ _ _ _ _ _ _ _ _ (defining_named _ _ _ _ _ _ c.in_ok-rename_definition-in-LoadI.ensures)
+    (ap used c.in-LoadI.is) (ap defined c.in-LoadI.is) (λ new names. rw c.in-LoadI.is cc)
+
+pub returns-in_ok-rename_copied-in-Load-clause-next : goal.returns-in_ok-rename_copied-in-Load-clause-next
+returns-in_ok-rename_copied-in-Load-clause-next c = placed_renamed _ _ _ _ _ _ _ _ _ _ c.in_ok-rename_copied-in-Load.ensures.names
+    (ap used c.in-Load.is) (ap defined c.in-Load.is) (λ new names. rw c.in-Load.is cc)
+
+pub returns-in_ok-rename_copied-in-LoadAI-clause-next : goal.returns-in_ok-rename_copied-in-LoadAI-clause-next
+returns-in_ok-rename_copied-in-LoadAI-clause-next c = placed_renamed _ _ _ _ _ _ _ _ _ _ c.in_ok-rename_copied-in-LoadAI.ensures.names
+    (ap used c.in-LoadAI.is) (ap defined c.in-LoadAI.is) (λ new names. rw c.in-LoadAI.is cc)
+
+pub returns-in_ok-rename_copied-in-AddI-clause-next : goal.returns-in_ok-rename_copied-in-AddI-clause-next
+returns-in_ok-rename_copied-in-AddI-clause-next c = placed_renamed _ _ _ _ _ _ _ _ _ _ c.in_ok-rename_copied-in-AddI.ensures.names
+    (ap used c.in-AddI.is) (ap defined c.in-AddI.is) (λ new names. rw c.in-AddI.is cc)
+
+pub returns-in_ok-rename_copied-in-SubI-clause-next : goal.returns-in_ok-rename_copied-in-SubI-clause-next
+returns-in_ok-rename_copied-in-SubI-clause-next c = placed_renamed _ _ _ _ _ _ _ _ _ _ c.in_ok-rename_copied-in-SubI.ensures.names
+    (ap used c.in-SubI.is) (ap defined c.in-SubI.is) (λ new names. rw c.in-SubI.is cc)
+
+pub returns-in_ok-rename_copied-in-MultI-clause-next : goal.returns-in_ok-rename_copied-in-MultI-clause-next
+returns-in_ok-rename_copied-in-MultI-clause-next c = placed_renamed _ _ _ _ _ _ _ _ _ _ c.in_ok-rename_copied-in-MultI.ensures.names
+    (ap used c.in-MultI.is) (ap defined c.in-MultI.is) (λ new names. rw c.in-MultI.is cc)
+
+pub returns-in_ok-rename_copied-in-LshiftI-clause-next : goal.returns-in_ok-rename_copied-in-LshiftI-clause-next
+returns-in_ok-rename_copied-in-LshiftI-clause-next c = placed_renamed _ _ _ _ _ _ _ _ _ _ c.in_ok-rename_copied-in-LshiftI.ensures.names
+    (ap used c.in-LshiftI.is) (ap defined c.in-LshiftI.is) (λ new names. rw c.in-LshiftI.is cc)
+
+pub returns-in_ok-rename_copied-in-RshiftI-clause-next : goal.returns-in_ok-rename_copied-in-RshiftI-clause-next
+returns-in_ok-rename_copied-in-RshiftI-clause-next c = placed_renamed _ _ _ _ _ _ _ _ _ _ c.in_ok-rename_copied-in-RshiftI.ensures.names
+    (ap used c.in-RshiftI.is) (ap defined c.in-RshiftI.is) (λ new names. rw c.in-RshiftI.is cc)
+
+pub returns-in_ok-rename_stored-in-Store-clause-next : goal.returns-in_ok-rename_stored-in-Store-clause-next
+returns-in_ok-rename_stored-in-Store-clause-next c = placed_renamed _ _ _ _ _ _ _ _ _ _ (c.in_ok-rename_stored-in-Store.ensures.names (record { 0 = 0 }))
+    (ap used c.in-Store.is) (ap defined c.in-Store.is) (λ new names. rw c.in-Store.is cc)
+
+pub returns-in_ok-rename_stored-in-StoreAI-clause-next : goal.returns-in_ok-rename_stored-in-StoreAI-clause-next
+returns-in_ok-rename_stored-in-StoreAI-clause-next c = placed_renamed _ _ _ _ _ _ _ _ _ _ (c.in_ok-rename_stored-in-StoreAI.ensures.names (record { 0 = 0 }))
+    (ap used c.in-StoreAI.is) (ap defined c.in-StoreAI.is) (λ new names. rw c.in-StoreAI.is cc)
+
+pub returns-in_ok-rename_sources-in-Add-clause-next : goal.returns-in_ok-rename_sources-in-Add-clause-next
+returns-in_ok-rename_sources-in-Add-clause-next c = placed_renamed _ _ _ _ _ _ _ _ _ _ c.in_ok-rename_sources-in-Add.ensures.names
+    (ap used c.in-Add.is) (ap defined c.in-Add.is) (λ new names. rw c.in-Add.is cc)
+
+pub returns-in_ok-rename_sources-in-Sub-clause-next : goal.returns-in_ok-rename_sources-in-Sub-clause-next
+returns-in_ok-rename_sources-in-Sub-clause-next c = placed_renamed _ _ _ _ _ _ _ _ _ _ c.in_ok-rename_sources-in-Sub.ensures.names
+    (ap used c.in-Sub.is) (ap defined c.in-Sub.is) (λ new names. rw c.in-Sub.is cc)
+
+pub returns-in_ok-rename_sources-in-Mult-clause-next : goal.returns-in_ok-rename_sources-in-Mult-clause-next
+returns-in_ok-rename_sources-in-Mult-clause-next c = placed_renamed _ _ _ _ _ _ _ _ _ _ c.in_ok-rename_sources-in-Mult.ensures.names
+    (ap used c.in-Mult.is) (ap defined c.in-Mult.is) (λ new names. rw c.in-Mult.is cc)
+
+pub returns-in_ok-rename_sources-in-Lshift-clause-next : goal.returns-in_ok-rename_sources-in-Lshift-clause-next
+returns-in_ok-rename_sources-in-Lshift-clause-next c = placed_renamed _ _ _ _ _ _ _ _ _ _ c.in_ok-rename_sources-in-Lshift.ensures.names
+    (ap used c.in-Lshift.is) (ap defined c.in-Lshift.is) (λ new names. rw c.in-Lshift.is cc)
+
+pub returns-in_ok-rename_sources-in-Rshift-clause-next : goal.returns-in_ok-rename_sources-in-Rshift-clause-next
+returns-in_ok-rename_sources-in-Rshift-clause-next c = placed_renamed _ _ _ _ _ _ _ _ _ _ c.in_ok-rename_sources-in-Rshift.ensures.names
+    (ap used c.in-Rshift.is) (ap defined c.in-Rshift.is) (λ new names. rw c.in-Rshift.is cc)
