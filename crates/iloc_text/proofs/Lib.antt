@@ -24,3 +24,4 @@ pub mod Answer
 pub mod ScheduleLines
 pub mod Every
 pub mod Within
+pub mod Digits

@@ -10,6 +10,7 @@ pub mod laws;
 mod limits;
 mod line;
 mod line_ends;
+mod numbers;
 mod one_pass;
 mod op;
 mod open_block;

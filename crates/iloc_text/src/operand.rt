@@ -5,7 +5,8 @@ ghost use Rattle.iloc_text.specs.Forms.{◌▹◌};
 ghost use Rattle.iloc_text.specs.Forms.Value.{Use, Constant};
 ghost use Rattle.iloc_text.specs.Steps.Scan.{number_at, register_at, operand_at};
 
-use crate::scan::{arrow_at, comma_at, number_at, some_blanks_at};
+use crate::numbers::number_at;
+use crate::scan::{arrow_at, comma_at, some_blanks_at};
 
 /// The digits of the register at the front, and what stands behind them: nothing where no register stands.
 fn digits_at(bytes: &[u8]) -> &[u8]

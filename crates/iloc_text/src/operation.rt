@@ -4,12 +4,13 @@ ghost use Rattle.iloc_text.specs.Forms.{op_of};
 ghost use Rattle.iloc_text.specs.Steps.Scan.{called_at, operation_at, optional_operation_at};
 
 use crate::forms::{Opcode, Operands, op_of, opcode_of, shape_of};
+use crate::numbers::register_number_at;
 use crate::op::Op;
 use crate::operand::{
     digits_behind_arrow, digits_behind_blank, digits_behind_comma, number_behind_blank,
     number_behind_comma,
 };
-use crate::scan::{is_word_byte, number_at, word_at};
+use crate::scan::{is_word_byte, word_at};
 
 /// The numbers behind an opcode by their places, with 0 in each that it has no place for.
 #[inline(always)]
@@ -25,29 +26,29 @@ pub fn numbers_at(opcode: Opcode, bytes: &[u8]) -> Option<([u32; 3], &[u8])>
         }
         Operands::Immediate(..) => {
             let (value, rest) = number_behind_blank(bytes)?;
-            let (dest, rest) = number_at(digits_behind_arrow(rest))?;
+            let (dest, rest) = register_number_at(digits_behind_arrow(rest))?;
             Some(([value, dest, 0], rest))
         }
         Operands::Copied(..) | Operands::Stored(..) => {
-            let (source, rest) = number_at(digits_behind_blank(bytes))?;
-            let (target, rest) = number_at(digits_behind_arrow(rest))?;
+            let (source, rest) = register_number_at(digits_behind_blank(bytes))?;
+            let (target, rest) = register_number_at(digits_behind_arrow(rest))?;
             Some(([source, target, 0], rest))
         }
         Operands::Sources(..) => {
-            let (left, rest) = number_at(digits_behind_blank(bytes))?;
-            let (right, rest) = number_at(digits_behind_comma(rest))?;
-            let (dest, rest) = number_at(digits_behind_arrow(rest))?;
+            let (left, rest) = register_number_at(digits_behind_blank(bytes))?;
+            let (right, rest) = register_number_at(digits_behind_comma(rest))?;
+            let (dest, rest) = register_number_at(digits_behind_arrow(rest))?;
             Some(([left, right, dest], rest))
         }
         Operands::WithConstant(..) => {
-            let (left, rest) = number_at(digits_behind_blank(bytes))?;
+            let (left, rest) = register_number_at(digits_behind_blank(bytes))?;
             let (value, rest) = number_behind_comma(rest)?;
-            let (dest, rest) = number_at(digits_behind_arrow(rest))?;
+            let (dest, rest) = register_number_at(digits_behind_arrow(rest))?;
             Some(([left, value, dest], rest))
         }
         Operands::StoredAt(..) => {
-            let (value, rest) = number_at(digits_behind_blank(bytes))?;
-            let (addr, rest) = number_at(digits_behind_arrow(rest))?;
+            let (value, rest) = register_number_at(digits_behind_blank(bytes))?;
+            let (addr, rest) = register_number_at(digits_behind_arrow(rest))?;
             let (offset, rest) = number_behind_comma(rest)?;
             Some(([value, addr, offset], rest))
         }

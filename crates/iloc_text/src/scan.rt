@@ -1,7 +1,7 @@
 //! The tokens of a line. Each function reads one at the front of the bytes and gives what stands behind it.
-ghost use Rattle.std.specs.Prelude.{◌≡◌, ◌≤◌, ◌<◌, ◌-◌, ◌+◌, ◌*◌, option_map, length};
+ghost use Rattle.std.specs.Prelude.{◌≡◌, ◌≤◌, option_map, length};
 ghost use Rattle.iloc_text.specs.Grammar.{is_blank, is_word_byte};
-ghost use Rattle.iloc_text.specs.Steps.Scan.{after_blanks, some_blanks_at, capped, digits_after, number_at, arrow_at, comma_at, after_word, word_of};
+ghost use Rattle.iloc_text.specs.Steps.Scan.{after_blanks, some_blanks_at, arrow_at, comma_at, after_word, word_of};
 
 use crate::limits::MAX_NUMBER;
 
@@ -41,43 +41,6 @@ pub fn some_blanks_at(bytes: &[u8]) -> Option<&[u8]>
     } else {
         None
     }
-}
-
-/// The number that `digit` makes when it is written behind `value`, as far as the limit goes.
-#[cold]
-#[inline(never)]
-fn with_digit(value: u32, digit: u8) -> u32
-    requires { (48 ≤ digit) × (digit ≤ 57) }
-    ensures { result ≡ capped (value * 10 + (digit - 48)) }
-{
-    let wide = u64::from(value) * 10 + u64::from(digit - b'0');
-    wide.min(u64::from(ABOVE_LIMIT)) as u32
-}
-
-/// A number, which counts as `ABOVE_LIMIT` where it is greater.
-#[inline(always)]
-pub fn number_at(bytes: &[u8]) -> Option<(u32, &[u8])>
-    ensures { option_map (λ found. (found.0, found.1.now)) result ≡ number_at bytes.now }
-{
-    let [first, after @ ..] = bytes else {
-        return None;
-    };
-    if !first.is_ascii_digit() {
-        return None;
-    }
-    let mut value = u32::from(*first - b'0');
-    let mut rest = after;
-    while let [digit, after @ ..] = rest
-        && digit.is_ascii_digit()
-    {
-        value = if value < MAX_NUMBER / 10 {
-            value * 10 + u32::from(*digit - b'0')
-        } else {
-            with_digit(value, *digit)
-        };
-        rest = after;
-    }
-    Some((value, rest))
 }
 
 /// `=>` with any blanks on both sides.
