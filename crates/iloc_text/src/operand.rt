@@ -87,12 +87,53 @@ pub fn digits_behind_arrow(bytes: &[u8]) -> &[u8]
     }
 }
 
+/// As `constant_behind_blank`, whatever the blanks are.
+#[cold]
+#[inline(never)]
+fn constant_behind_blanks(bytes: &[u8]) -> &[u8]
+    ensures { number_at result.now ≡ operand_at (space ▹ Constant 0) bytes.now }
+{
+    some_blanks_at(bytes).unwrap_or(b"")
+}
+
+/// One blank or more, and then what stands there: nothing where no blank stands.
+#[inline(always)]
+fn constant_behind_blank(bytes: &[u8]) -> &[u8]
+    ensures { number_at result.now ≡ operand_at (space ▹ Constant 0) bytes.now }
+{
+    match bytes {
+        [b' ' | b'\t', first, ..] if first.is_ascii_digit() => &bytes[1..],
+        _ => constant_behind_blanks(bytes),
+    }
+}
+
 /// One blank or more and a number.
 #[inline(always)]
 pub fn number_behind_blank(bytes: &[u8]) -> Option<(u32, &[u8])>
     ensures { option_map (λ found. (found.0, found.1.now)) result ≡ operand_at (space ▹ Constant 0) bytes.now }
 {
-    number_at(some_blanks_at(bytes)?)
+    number_at(constant_behind_blank(bytes))
+}
+
+/// As `constant_behind_comma`, whatever the blanks around the comma are.
+#[cold]
+#[inline(never)]
+fn constant_behind_spaced_comma(bytes: &[u8]) -> &[u8]
+    ensures { number_at result.now ≡ operand_at (comma ▹ Constant 0) bytes.now }
+{
+    comma_at(bytes).unwrap_or(b"")
+}
+
+/// A comma, and then what stands there: nothing where no comma stands.
+#[inline(always)]
+fn constant_behind_comma(bytes: &[u8]) -> &[u8]
+    ensures { number_at result.now ≡ operand_at (comma ▹ Constant 0) bytes.now }
+{
+    match bytes {
+        [b',', b' ', first, ..] if first.is_ascii_digit() => &bytes[2..],
+        [b',', first, ..] if first.is_ascii_digit() => &bytes[1..],
+        _ => constant_behind_spaced_comma(bytes),
+    }
 }
 
 /// A comma and a number.
@@ -100,5 +141,5 @@ pub fn number_behind_blank(bytes: &[u8]) -> Option<(u32, &[u8])>
 pub fn number_behind_comma(bytes: &[u8]) -> Option<(u32, &[u8])>
     ensures { option_map (λ found. (found.0, found.1.now)) result ≡ operand_at (comma ▹ Constant 0) bytes.now }
 {
-    number_at(comma_at(bytes)?)
+    number_at(constant_behind_comma(bytes))
 }
