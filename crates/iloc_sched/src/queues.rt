@@ -10,10 +10,7 @@ use std::alloc::Global;
 /// A queue for each class.
 #[derive(Drop)]
 pub struct Queues {
-    pub memory: Queue,
-    pub product: Queue,
-    pub output: Queue,
-    pub rest: Queue,
+    pub by_class: [Queue; 4],
 }
 
 /// A candidate with its class.
@@ -34,10 +31,12 @@ impl Queues {
         ensures { (k : Class) → candidates result k ≡ [] }
     {
         Queues {
-            memory: Queue::new(alloc),
-            product: Queue::new(alloc),
-            output: Queue::new(alloc),
-            rest: Queue::new(alloc),
+            by_class: [
+                Queue::new(alloc),
+                Queue::new(alloc),
+                Queue::new(alloc),
+                Queue::new(alloc),
+            ],
         }
     }
 
@@ -45,10 +44,10 @@ impl Queues {
     pub fn clear(&mut self)
         ensures { (k : Class) → candidates self.new k ≡ [] }
     {
-        self.memory.clear();
-        self.product.clear();
-        self.output.clear();
-        self.rest.clear();
+        self.by_class[0].clear();
+        self.by_class[1].clear();
+        self.by_class[2].clear();
+        self.by_class[3].clear();
     }
 
     /// Takes the first of a class.
@@ -57,12 +56,7 @@ impl Queues {
         ensures popped { Popped (candidates self.old class) (candidates self.new class) result }
         ensures others { KeepsOthers self.old self.new class }
     {
-        match class {
-            Class::Memory => self.memory.pop(),
-            Class::Product => self.product.pop(),
-            Class::Output => self.output.pop(),
-            Class::Rest => self.rest.pop(),
-        }
+        self.by_class[class as usize].pop()
     }
 
     /// Adds an operation to its class.
@@ -72,26 +66,18 @@ impl Queues {
         ensures added { OnOk result (Adds (candidates self.old class) (candidates self.new class) candidate) }
         ensures others { OnOk result (KeepsOthers self.old self.new class) }
     {
-        match class {
-            Class::Memory => self.memory.insert(candidate),
-            Class::Product => self.product.insert(candidate),
-            Class::Output => self.output.insert(candidate),
-            Class::Rest => self.rest.insert(candidate),
-        }
+        self.by_class[class as usize].insert(candidate)
     }
 
     /// The rank of the first of a class, 0 where there is none or the class is kept out.
     fn offer(&self, class: Class, beside: Option<Class>) -> u64
         ensures { IsGreatestRank (IsOpen self.now beside class) result }
     {
+        let top = self.by_class[class as usize].top();
         if beside.is_some_and(|a| a.excludes(class)) {
-            return 0;
-        }
-        match class {
-            Class::Memory => self.memory.top(),
-            Class::Product => self.product.top(),
-            Class::Output => self.output.top(),
-            Class::Rest => self.rest.top(),
+            0
+        } else {
+            top
         }
     }
 

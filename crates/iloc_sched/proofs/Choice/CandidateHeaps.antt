@@ -1,4 +1,4 @@
--- The candidates of one heap before and after a push, a look and a pop; for `Queue::insert`, `top`, `pop`.
+-- The candidates of one heap before and after a push, a look and a pop; for `Queue::insert`, `top_of`, `top`, `pop`.
 use Rattle.std.proofs.Common.{◌≡◌, ◌≢◌, ℕ, ◌<◌, ◌≤◌, true, false, List, [], ◌∷◌, length, Option, Some, None, inl, inr, refl, sym, ◌∙◌, ap, subst, arith}
 use Rattle.std.proofs.lemmas.Bool.Decides.{nat_tests}
 use Rattle.std.proofs.lemmas.List.Sorted.{Contains-permutation, IsPermutation-sym}
@@ -6,11 +6,11 @@ use Rattle.std.proofs.lemmas.Map.Keys.{IsDistinct-IsPermutation, IsDistinct-cons
 use Rattle.std.specs.List.{IsDistinct, AllByRecursion}
 use Rattle.std.specs.List.Sorted.{IsPermutation}
 use Rattle.std.specs.Ordering.{is_lt}
-use Rattle.std.specs.Prelude.{slice_index_or, IfSome, IfNone, OnOk, OnErr, Result, Ok, Err}
-use Rattle.std.specs.BinaryHeap.{IsHeap, KeepsHeap, PopsGreatest, IsUpperBound}
+use Rattle.std.specs.Prelude.{slice_index_or, IfSome, IfNone}
+use Rattle.std.specs.BinaryHeap.{IsHeap, PopsGreatest, IsUpperBound}
 use Rattle.iloc_sched.specs.declared.candidate.Candidate.{Candidate}
 use Rattle.iloc_sched.specs.Steps.Members.{In}
-use Rattle.iloc_sched.specs.Steps.Order.{candidate_cmp, rank, same_number, AreRanked, IsFirst, IsGreatestRank}
+use Rattle.iloc_sched.specs.Steps.Order.{candidate_cmp, rank, same_number, AreRanked, IsFirst, IsGreatestRank, AreUpTo, first_rank}
 use Rattle.iloc_sched.specs.Steps.Changes.{IsFirstOf, HasNone, Adds, Removes, Popped}
 use Rattle.iloc_sched.proofs.Basics.Members.{contains_from, in_from}
 
@@ -107,36 +107,47 @@ rank_of_first c d (inr same) small_c small_d =
     let e : d.priority ≡ c.priority = same.0 in
     let n : d.number ≤ c.number = same.1 in omega arith
 
-pub no_top : (xs : List Candidate) (n : ℕ) → n ≡ length xs → (0 < n → ⊥) → IsGreatestRank (In xs) 0
-no_top xs n size none = record {
-  above = λ c held. let some : 0 < length xs = in_some xs c held in absurd (none (omega arith));
-  one = inl refl;
-}
+no_items : (xs : List Candidate) (n : ℕ) → n ≡ length xs → (0 < n → ⊥) → xs ≡ []
+no_items [] n size none = refl
+no_items (x ∷ xs) n size none = absurd (none (omega arith))
 
-pub top_rank : (xs : List Candidate) (n top : ℕ) (x : Candidate) → n ≡ length xs → 0 < n
-    → x ≡ slice_index_or xs 0 x → (IsHeap candidate_cmp xs → IsUpperBound candidate_cmp x xs)
-    → IsHeap candidate_cmp xs → AreRanked xs → top ≡ rank x → IsGreatestRank (In xs) top
-top_rank xs n top x size some is greatest heap ranked same =
+pub none_up_to : (xs : List Candidate) (n : ℕ) → n ≡ length xs → (0 < n → ⊥) → AreUpTo 0 xs
+none_up_to xs n size none = subst (λ zs. AreUpTo 0 zs) (sym (no_items xs n size none)) tt
+
+pub none_first : (xs : List Candidate) (n : ℕ) → n ≡ length xs → (0 < n → ⊥) → 0 ≡ first_rank xs
+none_first xs n size none = sym (ap first_rank (no_items xs n size none))
+
+pub up_to_rank : (xs : List Candidate) (n top : ℕ) (x : Candidate) → n ≡ length xs → 0 < n
+    → x ≡ slice_index_or xs 0 x → IsUpperBound candidate_cmp x xs → AreRanked xs → top ≡ rank x → AreUpTo top xs
+up_to_rank xs n top x size some is greatest ranked same =
     let held : In xs x = in_from xs x (0, omega arith, sym is) in
     let small : (c : Candidate) → In xs c → c.number < 4294967295 =
     λ c there. all_in (λ (d : Candidate). d.number < 4294967295) xs c ranked there in
-    record {
-      above = λ c there. (
-        subst (λ t. rank c ≤ t) (sym same)
-            (rank_of_first c x (top_is_first xs x (greatest heap) c there) (small c there) (small x held)),
-        small c there,
-      );
-      one = inr (x, held, sym same);
-    }
+    all_from (λ (c : Candidate). rank c ≤ top) xs (λ c there. subst (λ t. rank c ≤ t) (sym same)
+    (rank_of_first c x (top_is_first xs x greatest c there) (small c there) (small x held)))
 
-pub ranked_after_push : {T E : Type 0} (r : Result T E) (xs ys : List Candidate) (n m : ℕ) (x : Candidate)
-    → OnOk r (IsPermutation (x ∷ xs) ys) → OnErr r ((ys ≡ xs) × (m ≡ n)) → x.number < 4294967295
+pub rank_is_first : (xs : List Candidate) (n top : ℕ) (x : Candidate) → n ≡ length xs → 0 < n
+    → x ≡ slice_index_or xs 0 x → top ≡ rank x → top ≡ first_rank xs
+rank_is_first [] n top x size some is same = absurd (omega arith)
+rank_is_first (y ∷ xs) n top x size some is same = same ∙ ap rank is
+
+pub greatest_first : (xs : List Candidate) (top : ℕ) → AreRanked xs → AreUpTo top xs → top ≡ first_rank xs
+    → IsGreatestRank (In xs) top
+greatest_first [] top ranked most same = record { above = λ c held. absurd held; one = inl same }
+greatest_first (x ∷ xs) top ranked most same = record {
+  above = λ c there. (
+    all_in (λ (d : Candidate). rank d ≤ top) (x ∷ xs) c most there,
+    all_in (λ (d : Candidate). d.number < 4294967295) (x ∷ xs) c ranked there,
+  );
+  one = inr (x, inl refl, sym same);
+}
+
+pub pushed_ranked : (xs ys : List Candidate) (x : Candidate) → IsPermutation (x ∷ xs) ys → x.number < 4294967295
     → AreRanked xs → AreRanked ys
-ranked_after_push (Ok t) xs ys n m x moved same small ranked =
+pushed_ranked xs ys x moved small ranked =
     all_from (λ (c : Candidate). c.number < 4294967295) ys (λ c there.
     all_in (λ (c : Candidate). c.number < 4294967295) (x ∷ xs) c (small, ranked)
     (in_permutation ys (x ∷ xs) c (IsPermutation-sym (x ∷ xs) ys moved) there))
-ranked_after_push (Err e) xs ys n m x moved same small ranked = subst (λ zs. AreRanked zs) (sym same.0) ranked
 
 pub ranked_after_pop : (r : Option Candidate) (xs ys : List Candidate) (n m : ℕ)
     → IfSome r (λ x. IsPermutation xs (x ∷ ys)) → IfNone r ((ys ≡ xs) × (m ≡ n)) → AreRanked xs → AreRanked ys
@@ -145,19 +156,6 @@ ranked_after_pop (Some x) xs ys n m moved same ranked =
     all_from (λ (c : Candidate). c.number < 4294967295) ys (λ c there.
     all_in (λ (c : Candidate). c.number < 4294967295) xs c ranked
     (in_permutation (x ∷ ys) xs c (IsPermutation-sym xs (x ∷ ys) moved) (inr there)))
-
-pub heap_after_push : {T E : Type 0} (r : Result T E) (xs ys : List Candidate) (n m : ℕ)
-    → OnOk r (KeepsHeap candidate_cmp xs ys) → OnErr r ((ys ≡ xs) × (m ≡ n)) → IsHeap candidate_cmp xs
-    → IsHeap candidate_cmp ys
-heap_after_push (Ok t) xs ys n m kept same heap = kept heap
-heap_after_push (Err e) xs ys n m kept same heap = subst (λ zs. IsHeap candidate_cmp zs) (sym same.0) heap
-
-pub distinct_after_push : {T E : Type 0} (r : Result T E) (xs ys : List Candidate) (n m : ℕ) (x : Candidate)
-    → OnOk r (IsPermutation (x ∷ xs) ys) → OnErr r ((ys ≡ xs) × (m ≡ n)) → HasNone xs x.number
-    → IsDistinct same_number xs → IsDistinct same_number ys
-distinct_after_push (Ok t) xs ys n m x moved same new distinct = pushed_distinct xs ys x moved distinct new
-distinct_after_push (Err e) xs ys n m x moved same new distinct =
-    subst (λ zs. IsDistinct same_number zs) (sym same.0) distinct
 
 pub heap_after_pop : (r : Option Candidate) (xs ys : List Candidate) (n m : ℕ)
     → IfSome r (λ x. PopsGreatest candidate_cmp xs x ys) → IfNone r ((ys ≡ xs) × (m ≡ n)) → IsHeap candidate_cmp xs

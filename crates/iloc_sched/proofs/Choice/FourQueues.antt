@@ -1,11 +1,9 @@
 -- The best of the firsts of four queues is the first of all that may stand there; for `Queues::best_class`.
-use Rattle.std.proofs.Common.{ℕ, ◌<◌, ◌≤◌, true, false, arith, ◌≡◌, ◌≢◌, Option, Some, None, ◌⊎◌, inl, inr, refl, sym, ◌∙◌, ap, subst}
+use Rattle.std.proofs.Common.{ℕ, ◌<◌, ◌≤◌, true, false, arith, ◌≡◌, ◌≢◌, Option, Some, None, ◌⊎◌, inl, inr, refl, sym, ◌∙◌, subst}
 use Rattle.std.proofs.lemmas.Bool.Decides.{nat_tests}
-use Rattle.std.specs.BinaryHeap.{heap_items}
 use Rattle.iloc_sched.specs.declared.candidate.Candidate.{Candidate}
 use Rattle.iloc_sched.specs.declared.class.Class.{Class}
 use Rattle.iloc_sched.specs.declared.class.Class.TheVariants as C
-use Rattle.iloc_sched.specs.declared.queue.Queue.{Queue}
 use Rattle.iloc_sched.specs.declared.queues.Queues.{Queues}
 use Rattle.iloc_sched.specs.declared.queues.Choice.{Choice}
 use Rattle.iloc_sched.specs.Steps.Classes.{is_excluded}
@@ -79,25 +77,30 @@ popped_best q beside best c is first = (
   λ k d held. first_trans c best.candidate d (first.1 best.candidate is.0.1) (is.1 k d held),
 )
 
+-- two classes are one or apart
+same_class : (k class : Class) → (k ≡ class) ⊎ (k ≡ class → ⊥)
+same_class C.Memory C.Memory = inl refl
+same_class C.Memory C.Product = inr (λ e. cc)
+same_class C.Memory C.Output = inr (λ e. cc)
+same_class C.Memory C.Rest = inr (λ e. cc)
+same_class C.Product C.Memory = inr (λ e. cc)
+same_class C.Product C.Product = inl refl
+same_class C.Product C.Output = inr (λ e. cc)
+same_class C.Product C.Rest = inr (λ e. cc)
+same_class C.Output C.Memory = inr (λ e. cc)
+same_class C.Output C.Product = inr (λ e. cc)
+same_class C.Output C.Output = inl refl
+same_class C.Output C.Rest = inr (λ e. cc)
+same_class C.Rest C.Memory = inr (λ e. cc)
+same_class C.Rest C.Product = inr (λ e. cc)
+same_class C.Rest C.Output = inr (λ e. cc)
+same_class C.Rest C.Rest = inl refl
+
 -- each class is the one, or keeps its queue
 same_or_kept : (q q' : Queues) (class k : Class) → KeepsOthers q q' class
     → (k ≡ class) ⊎ ((k ≡ class → ⊥) × (candidates q' k ≡ candidates q k))
-same_or_kept q q' C.Memory C.Memory keeps = inl refl
-same_or_kept q q' C.Memory C.Product keeps = inr (λ e. cc, ap (λ (u : Queue). heap_items u.heap) keeps.0)
-same_or_kept q q' C.Memory C.Output keeps = inr (λ e. cc, ap (λ (u : Queue). heap_items u.heap) keeps.1)
-same_or_kept q q' C.Memory C.Rest keeps = inr (λ e. cc, ap (λ (u : Queue). heap_items u.heap) keeps.2)
-same_or_kept q q' C.Product C.Memory keeps = inr (λ e. cc, ap (λ (u : Queue). heap_items u.heap) keeps.0)
-same_or_kept q q' C.Product C.Product keeps = inl refl
-same_or_kept q q' C.Product C.Output keeps = inr (λ e. cc, ap (λ (u : Queue). heap_items u.heap) keeps.1)
-same_or_kept q q' C.Product C.Rest keeps = inr (λ e. cc, ap (λ (u : Queue). heap_items u.heap) keeps.2)
-same_or_kept q q' C.Output C.Memory keeps = inr (λ e. cc, ap (λ (u : Queue). heap_items u.heap) keeps.0)
-same_or_kept q q' C.Output C.Product keeps = inr (λ e. cc, ap (λ (u : Queue). heap_items u.heap) keeps.1)
-same_or_kept q q' C.Output C.Output keeps = inl refl
-same_or_kept q q' C.Output C.Rest keeps = inr (λ e. cc, ap (λ (u : Queue). heap_items u.heap) keeps.2)
-same_or_kept q q' C.Rest C.Memory keeps = inr (λ e. cc, ap (λ (u : Queue). heap_items u.heap) keeps.0)
-same_or_kept q q' C.Rest C.Product keeps = inr (λ e. cc, ap (λ (u : Queue). heap_items u.heap) keeps.1)
-same_or_kept q q' C.Rest C.Output keeps = inr (λ e. cc, ap (λ (u : Queue). heap_items u.heap) keeps.2)
-same_or_kept q q' C.Rest C.Rest keeps = inl refl
+same_or_kept q q' class k keeps =
+    elim (same_class k class) [ inl same ↦ inl same | inr apart ↦ inr (apart, keeps k apart) ]
 
 -- one class has lost its first, and the others keep theirs
 pub takes_from : (q q' : Queues) (class : Class) (c : Candidate)

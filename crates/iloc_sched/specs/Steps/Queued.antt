@@ -1,28 +1,34 @@
 -- What stands in the queues of ready operations.
-use Rattle.std.specs.Prelude.{◌≡◌, ◌⊎◌, false, List, Option, Some, None}
+use Rattle.std.specs.Prelude.{ℕ, ◌≡◌, ◌⊎◌, false, List, [], map, slice_index_or, Option, Some, None}
 use Rattle.std.specs.BinaryHeap.{heap_items}
 use Rattle.iloc_sched.specs.declared.candidate.Candidate.{Candidate}
 use Rattle.iloc_sched.specs.declared.class.Class.{Class}
 use Rattle.iloc_sched.specs.declared.class.Class.TheVariants as C
+use Rattle.iloc_sched.specs.declared.queue.Queue.{Queue}
 use Rattle.iloc_sched.specs.declared.queues.Queues.{Queues}
 use Rattle.iloc_sched.specs.declared.queues.Choice.{Choice}
 use Rattle.iloc_sched.specs.Steps.Members.{In}
 use Rattle.iloc_sched.specs.Steps.Order.{IsFirst}
 use Rattle.iloc_sched.specs.Steps.Classes.{is_excluded}
 
+-- the place of a class among the queues
+abbrev pub place_of : Class → ℕ
+place_of C.Memory = 0
+place_of C.Product = 1
+place_of C.Output = 2
+place_of C.Rest = 3
+
+-- by class the candidates that stand in its queue
+abbrev pub candidates_in : List Queue → Class → List Candidate
+candidates_in queues k = slice_index_or (map (λ (u : Queue). heap_items u.heap) queues) (place_of k) []
+
 -- the candidates of a class
 abbrev pub candidates : Queues → Class → List Candidate
-candidates q C.Memory = heap_items q.memory.heap
-candidates q C.Product = heap_items q.product.heap
-candidates q C.Output = heap_items q.output.heap
-candidates q C.Rest = heap_items q.rest.heap
+candidates q k = candidates_in q.by_class k
 
--- the other classes keep their queues
+-- the other classes keep their candidates
 abbrev pub KeepsOthers : Queues → Queues → Class → Type 0
-KeepsOthers q q' C.Memory = (q'.product ≡ q.product) × (q'.output ≡ q.output) × (q'.rest ≡ q.rest)
-KeepsOthers q q' C.Product = (q'.memory ≡ q.memory) × (q'.output ≡ q.output) × (q'.rest ≡ q.rest)
-KeepsOthers q q' C.Output = (q'.memory ≡ q.memory) × (q'.product ≡ q.product) × (q'.rest ≡ q.rest)
-KeepsOthers q q' C.Rest = (q'.memory ≡ q.memory) × (q'.product ≡ q.product) × (q'.output ≡ q.output)
+KeepsOthers q q' k = (j : Class) → (j ≡ k → ⊥) → candidates q' j ≡ candidates q j
 
 -- the candidate stands in the queue of a class that isn't kept out
 abbrev pub IsOpen : Queues → Option Class → Class → Candidate → Type 0

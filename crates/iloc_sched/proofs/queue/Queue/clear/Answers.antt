@@ -1,6 +1,6 @@
-use Rattle.std.proofs.Common.{sym, subst}
+use Rattle.std.proofs.Common.{ap, sym, subst}
 use Rattle.std.specs.List.{IsDistinct}
-use Rattle.iloc_sched.specs.Steps.Order.{same_number, AreRanked}
+use Rattle.iloc_sched.specs.Steps.Order.{same_number, AreRanked, AreUpTo, first_rank}
 use Rattle.iloc_sched.proofs.queue.Queue.clear.Goals as goal
 
 pub invariant_of-self : goal.invariant_of-self
@@ -9,4 +9,6 @@ invariant_of-self c = record {
   ordered = c.clear.ensures.heap_order;
   distinct = subst (λ cs. IsDistinct same_number cs) (sym c.clear.ensures.items) tt;
   ranked = subst (λ cs. AreRanked cs) (sym c.clear.ensures.items) tt;
+  up_to_top = subst (λ cs. AreUpTo 0 cs) (sym c.clear.ensures.items) tt;
+  first = sym (ap first_rank c.clear.ensures.items);
 }

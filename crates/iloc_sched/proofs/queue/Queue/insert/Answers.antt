@@ -1,19 +1,22 @@
-use Rattle.std.specs.BinaryHeap.{heap_items, heap_len}
-use Rattle.iloc_sched.proofs.Choice.CandidateHeaps.{heap_after_push, distinct_after_push, pushed_adds, ranked_after_push}
+use Rattle.std.specs.BinaryHeap.{heap_items}
+use Rattle.iloc_sched.proofs.Choice.CandidateHeaps.{pushed_adds, pushed_distinct, pushed_ranked}
 use Rattle.iloc_sched.proofs.queue.Queue.insert.Goals as goal
 
-pub invariant_of-self : goal.invariant_of-self
-invariant_of-self c =
+pub top_of-self-requires-clause-ranked : goal.top_of-self-requires-clause-ranked
+top_of-self-requires-clause-ranked c = pushed_ranked (heap_items c.args.self.now.heap) (heap_items c.push.new.self)
+    c.args.candidate c.in_ok-push.ensures.permutation c.requires.small c.args.self.now.ranked
+
+pub invariant_of-self-2 : goal.invariant_of-self-2
+invariant_of-self-2 c =
     let q = c.args.self.now in
     record {
-      ordered = heap_after_push c.push.result (heap_items q.heap) (heap_items c.push.new.self) (heap_len q.heap)
-          (heap_len c.push.new.self) c.push.ensures.heap_order c.push.ensures.unchanged q.ordered;
-      distinct = distinct_after_push c.push.result (heap_items q.heap) (heap_items c.push.new.self) (heap_len q.heap)
-          (heap_len c.push.new.self) c.args.candidate c.push.ensures.permutation c.push.ensures.unchanged c.requires.new
-          q.distinct;
-      ranked = ranked_after_push c.push.result (heap_items q.heap) (heap_items c.push.new.self) (heap_len q.heap)
-          (heap_len c.push.new.self) c.args.candidate c.push.ensures.permutation c.push.ensures.unchanged
-          c.requires.small q.ranked;
+      ordered = c.in_ok-push.ensures.heap_order q.ordered;
+      distinct = pushed_distinct (heap_items q.heap) (heap_items c.push.new.self) c.args.candidate
+          c.in_ok-push.ensures.permutation q.distinct c.requires.new;
+      ranked = pushed_ranked (heap_items q.heap) (heap_items c.push.new.self) c.args.candidate
+          c.in_ok-push.ensures.permutation c.requires.small q.ranked;
+      up_to_top = c.top_of-self.ensures.up_to;
+      first = c.top_of-self.ensures.first;
     }
 
 pub returns : goal.returns
