@@ -5,7 +5,6 @@ pub mod ChosenRows
 pub mod RowAfterRow
 pub mod OneGreedy
 pub mod GreedyExists
-pub mod Ranks
 pub mod CandidateHeaps
 pub mod FourQueues
 pub mod EnteringQueues

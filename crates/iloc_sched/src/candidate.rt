@@ -1,56 +1,31 @@
 //! A ready operation in the order of choice.
-ghost use Rattle.std.specs.Prelude.{◌≡◌, ◌<◌, ◌^◌};
-ghost use Rattle.std.proofs.Common.{rules};
-ghost use Rattle.std.specs.Cmp.{partial_order_from_own_ties};
-ghost use Rattle.std.specs.Cmp.Rules.{comparing};
-ghost use Rattle.std.specs.Ordering.{as_partial_cmp};
+ghost use Rattle.std.specs.Prelude.{◌≡◌};
 
-use std::cmp::Ordering;
-
-/// A ready operation. The greater of two is chosen first: the one of higher priority, of equals the one of lower
-/// number.
-#[derive(Clone, Copy, Debug, PartialEq, Eq)]
+/// A ready operation. Of two that of higher rank is chosen first: the one of higher priority, of equals the one of
+/// lower number.
+#[derive(Clone, Copy, Debug)]
 pub struct Candidate {
     pub priority: u32,
     pub number: u32,
 }
 
 impl Candidate {
-    ghost use Rattle.iloc_sched.specs.Steps.Order.{rank};
+    ghost use Rattle.iloc_sched.specs.Steps.Order.{rank, of_rank};
 
     /// The place of a candidate among all, as one number.
     pub fn rank(&self) -> u64
-        ensures rank { result ≡ rank self.now }
-        ensures small { self.now.number < 2 ^ 32 }
+        ensures { result ≡ rank self.now }
     {
         u64::from(self.priority) * (1 << 32) + u64::from(u32::MAX - self.number)
     }
-}
 
-impl PartialOrd for Candidate {
-    ghost use Rattle.iloc_sched.specs.Steps.Order.{candidate_cmp};
-
-    ghost partial_cmp = { as_partial_cmp candidate_cmp };
-
-    ghost laws = { partial_order_from_own_ties (Prim.search (comparing, rules)) (Prim.search (comparing, rules)) };
-
-    fn partial_cmp(&self, other: &Candidate) -> Option<Ordering> {
-        Some(self.cmp(other))
-    }
-}
-
-impl Ord for Candidate {
-    ghost use Rattle.iloc_sched.specs.Steps.Order.{candidate_cmp};
-
-    ghost cmp = { candidate_cmp };
-
-    ghost total = { Prim.search (comparing, rules) };
-
-    ghost matches_partial_cmp = { Prim.search (comparing, rules) };
-
-    ghost matches_eq = { Prim.search (comparing, rules) };
-
-    fn cmp(&self, other: &Candidate) -> Ordering {
-        self.rank().cmp(&other.rank())
+    /// The candidate of a rank.
+    pub fn of_rank(rank: u64) -> Candidate
+        ensures { result ≡ of_rank rank }
+    {
+        Candidate {
+            priority: (rank / (1 << 32)) as u32,
+            number: u32::MAX - (rank % (1 << 32)) as u32,
+        }
     }
 }

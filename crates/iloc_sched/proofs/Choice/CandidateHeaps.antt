@@ -1,21 +1,20 @@
--- The candidates of one heap before and after a push, a look and a pop; for `Queue::insert`, `top_of`, `top`, `pop`.
-use Rattle.std.proofs.Common.{◌≡◌, ◌≢◌, ℕ, ◌<◌, ◌≤◌, true, false, List, [], ◌∷◌, length, Option, Some, None, inl, inr, refl, sym, ◌∙◌, ap, subst, arith}
+-- The candidates of one heap of ranks before and after a push, a look and a pop; for `Queue::insert`, `top_of`, `top`,
+-- `pop`.
+use Rattle.std.proofs.Common.{◌≡◌, ◌≢◌, ℕ, ◌-◌, ◌/◌, ◌%◌, ◌<◌, ◌≤◌, true, false, List, [], ◌∷◌, length, Some, inl, inr, refl, sym, ◌∙◌, ap, subst, arith}
 use Rattle.std.proofs.lemmas.Bool.Decides.{nat_tests}
-use Rattle.std.proofs.lemmas.List.Sorted.{Contains-permutation, IsPermutation-sym}
+use Rattle.std.proofs.lemmas.List.Sorted.{Contains-permutation, IsPermutation-sym, IsPermutation-map}
 use Rattle.std.proofs.lemmas.Map.Keys.{IsDistinct-IsPermutation, IsDistinct-cons, IsDistinct-head, IsDistinct-tail}
 use Rattle.std.specs.List.{IsDistinct, AllByRecursion}
 use Rattle.std.specs.List.Sorted.{IsPermutation}
-use Rattle.std.specs.Ordering.{is_lt}
-use Rattle.std.specs.Prelude.{slice_index_or, IfSome, IfNone}
-use Rattle.std.specs.BinaryHeap.{IsHeap, PopsGreatest, IsUpperBound}
+use Rattle.std.specs.Ordering.{nat_cmp, is_lt}
+use Rattle.std.specs.Prelude.{slice_index, slice_index_or}
+use Rattle.std.specs.BinaryHeap.{IsUpperBound}
 use Rattle.iloc_sched.specs.declared.candidate.Candidate.{Candidate}
 use Rattle.iloc_sched.specs.Steps.Members.{In}
-use Rattle.iloc_sched.specs.Steps.Order.{candidate_cmp, rank, same_number, AreRanked, IsFirst, IsGreatestRank, AreUpTo, first_rank}
-use Rattle.iloc_sched.specs.Steps.Changes.{IsFirstOf, HasNone, Adds, Removes, Popped}
+use Rattle.iloc_sched.specs.Steps.Order.{rank, of_rank, by_rank, same_number, AreRanked, AreUpTo, IsFirst, IsGreatestRank}
+use Rattle.iloc_sched.specs.Steps.Changes.{IsFirstOf, HasNone, Adds, Removes}
+use Rattle.iloc_sched.proofs.Basics.Cases.{by_lt}
 use Rattle.iloc_sched.proofs.Basics.Members.{contains_from, in_from}
-
-pub is_first : (a b : Candidate) → is_lt (candidate_cmp a b) ≡ false → IsFirst a b
-is_first a b above = grind (arith, nat_tests)
 
 pub first_trans : (a b c : Candidate) → IsFirst a b → IsFirst b c → IsFirst a c
 first_trans a b c (inl above) (inl more) = inl (omega arith)
@@ -39,145 +38,132 @@ all_from P (y ∷ ys) all = (all y (inl refl), all_from P ys (λ x there. all x 
 pub in_permutation : (xs ys : List Candidate) (x : Candidate) → IsPermutation xs ys → In xs x → In ys x
 in_permutation xs ys x moved there = in_from ys x (Contains-permutation xs ys x moved (contains_from xs x there))
 
--- the top of a heap is the first
-pub top_is_first : (xs : List Candidate) (x : Candidate) → IsUpperBound candidate_cmp x xs → (c : Candidate) → In xs c
-    → IsFirst x c
-top_is_first xs x bound c there = is_first x c (all_in (λ y. is_lt (candidate_cmp x y) ≡ false) xs c bound there)
-
 same_number_flips : (x y : Candidate) → same_number x y ≡ same_number y x
 same_number_flips x y = grind (arith, nat_tests)
 
--- after a push
-pub pushed_adds : (xs ys : List Candidate) (x : Candidate) → IsPermutation (x ∷ xs) ys → Adds xs ys x
-pushed_adds xs ys x moved = record {
-  there = in_permutation (x ∷ xs) ys x moved (inl refl);
-  stays = λ d held. in_permutation (x ∷ xs) ys d moved (inr held);
-  was = λ d held. elim (in_permutation ys (x ∷ xs) d (IsPermutation-sym (x ∷ xs) ys moved) held) [
-    | inl is ↦
-        inr (sym is)
-    | inr old ↦ inl old
-  ];
-}
+-- a rank is that of its candidate, and a candidate that of its rank
+rank_again : (r : ℕ) → rank (of_rank r) ≡ r
+rank_again r = omega arith
 
-pub pushed_distinct : (xs ys : List Candidate) (x : Candidate) → IsPermutation (x ∷ xs) ys → IsDistinct same_number xs
-    → HasNone xs x.number → IsDistinct same_number ys
-pushed_distinct xs ys x moved distinct new =
-    IsDistinct-IsPermutation same_number same_number_flips (x ∷ xs) ys moved
-    (IsDistinct-cons same_number x xs (all_from (λ y. same_number x y ≡ false) xs (λ c held. let apart : c.number
-    ≢ x.number = new c held in grind (arith, nat_tests))) distinct)
+candidate_again : (c : Candidate) → c.number < 4294967295 → of_rank (rank c) ≡ c
+candidate_again c small =
+    let upper : rank c / 4294967296 ≡ c.priority = omega arith in
+    let lower : 4294967295 - rank c % 4294967296 ≡ c.number = omega arith in
+    rw upper (rw lower refl)
+
+-- of two ranks the greater is that of what comes first
+greater_first : (r s : ℕ) → s ≤ r → IsFirst (of_rank r) (of_rank s)
+greater_first r s most = by_lt (s / 4294967296) (r / 4294967296) (λ above. inl above)
+    (λ not_above. inr (omega arith, omega arith))
+
+not_below : (r s : ℕ) → is_lt (nat_cmp r s) ≡ false → s ≤ r
+not_below r s above = grind (arith, nat_tests)
+
+pub up_to_bound : (ranks : List ℕ) (r : ℕ) → IsUpperBound nat_cmp r ranks → AreUpTo r ranks
+up_to_bound ranks r bound = all_from (λ s. s ≤ r) ranks (λ s held. not_below r s
+    (all_in (λ s. is_lt (nat_cmp r s) ≡ false) ranks s bound held))
+
+-- what stands in a list of ranks
+in_ranks : (P : Candidate → Type 0) (ranks : List ℕ) (c : Candidate) → In (by_rank ranks) c
+    → ((r : ℕ) → In ranks r → P (of_rank r)) → P c
+in_ranks P [] c held each = absurd held
+in_ranks P (r ∷ ranks) c (inl here) each = subst P here (each r (inl refl))
+in_ranks P (r ∷ ranks) c (inr there) each = in_ranks P ranks c there (λ s held. each s (inr held))
+
+-- after a push
+module _ (ranks ranks' : List ℕ) (x : Candidate) (moved : IsPermutation (rank x ∷ ranks) ranks')
+    (small : x.number < 4294967295) where
+  moved_in : IsPermutation (x ∷ by_rank ranks) (by_rank ranks')
+  moved_in = subst (λ c. IsPermutation (c ∷ by_rank ranks) (by_rank ranks')) (candidate_again x small)
+      (IsPermutation-map of_rank (rank x ∷ ranks) ranks' moved)
+
+  pub pushed_adds : Adds (by_rank ranks) (by_rank ranks') x
+  pushed_adds = record {
+    there = in_permutation (x ∷ by_rank ranks) (by_rank ranks') x moved_in (inl refl);
+    stays = λ d held. in_permutation (x ∷ by_rank ranks) (by_rank ranks') d moved_in (inr held);
+    was = λ d held. elim (in_permutation (by_rank ranks') (x ∷ by_rank ranks) d
+        (IsPermutation-sym (x ∷ by_rank ranks) (by_rank ranks') moved_in) held)
+        [ inl is ↦ inr (sym is) | inr old ↦ inl old ];
+  }
+
+  pub pushed_distinct : IsDistinct same_number (by_rank ranks) → HasNone (by_rank ranks) x.number
+      → IsDistinct same_number (by_rank ranks')
+  pushed_distinct distinct new =
+      IsDistinct-IsPermutation same_number same_number_flips (x ∷ by_rank ranks) (by_rank ranks') moved_in
+      (IsDistinct-cons same_number x (by_rank ranks)
+      (all_from (λ y. same_number x y ≡ false) (by_rank ranks) (λ c held. let apart : c.number ≢ x.number = new c held in
+      grind (arith, nat_tests))) distinct)
+
+  pub pushed_ranked : AreRanked (by_rank ranks) → AreRanked (by_rank ranks')
+  pushed_ranked ranked = all_from (λ (c : Candidate). c.number < 4294967295) (by_rank ranks') (λ c there.
+      all_in (λ (c : Candidate). c.number < 4294967295) (x ∷ by_rank ranks) c (small, ranked)
+      (in_permutation (by_rank ranks') (x ∷ by_rank ranks) c
+      (IsPermutation-sym (x ∷ by_rank ranks) (by_rank ranks') moved_in) there))
 
 -- after a pop
-pub popped_distinct : (xs ys : List Candidate) (x : Candidate) → IsPermutation xs (x ∷ ys) → IsDistinct same_number xs
-    → IsDistinct same_number ys
-popped_distinct xs ys x moved distinct = IsDistinct-tail same_number x ys
-    (IsDistinct-IsPermutation same_number same_number_flips xs (x ∷ ys) moved distinct)
+module _ (ranks ranks' : List ℕ) (r : ℕ) (moved : IsPermutation ranks (r ∷ ranks')) where
+  moved_out : IsPermutation (by_rank ranks) (of_rank r ∷ by_rank ranks')
+  moved_out = IsPermutation-map of_rank ranks (r ∷ ranks') moved
 
-pub popped_removes : (xs ys : List Candidate) (x : Candidate) → IsPermutation xs (x ∷ ys) → IsDistinct same_number xs
-    → Removes xs ys x.number
-popped_removes xs ys x moved distinct =
-    let others : AllByRecursion (λ y. same_number x y ≡ false) ys =
-    IsDistinct-head same_number x ys (IsDistinct-IsPermutation same_number same_number_flips xs
-    (x ∷ ys) moved distinct) in
-    record {
-      stays = λ d held apart. elim (in_permutation xs (x ∷ ys) d moved held)
-          [ inl is ↦ absurd (apart (ap (λ (c : Candidate). c.number) (sym is))) | inr there ↦ there ];
-      was = λ d held. (
-        in_permutation (x ∷ ys) xs d (IsPermutation-sym xs (x ∷ ys) moved) (inr held),
-        λ same. let differs : same_number x d ≡ false = all_in (λ y. same_number x y ≡ false) ys d others held in
-            let equal : same_number x d ≡ true = grind (arith, nat_tests) in cc,
-      );
-    }
+  was_there : (c : Candidate) → In (of_rank r ∷ by_rank ranks') c → In (by_rank ranks) c
+  was_there c held = in_permutation (of_rank r ∷ by_rank ranks') (by_rank ranks) c
+      (IsPermutation-sym (by_rank ranks) (of_rank r ∷ by_rank ranks') moved_out) held
 
-pub popped_first : (xs ys : List Candidate) (x : Candidate) → IsPermutation xs (x ∷ ys)
-    → IsUpperBound candidate_cmp x xs → IsFirstOf xs (Some x)
-popped_first xs ys x moved bound = (
-  in_permutation (x ∷ ys) xs x (IsPermutation-sym xs (x ∷ ys) moved) (inl refl),
-  top_is_first xs x bound,
-)
+  pub popped_distinct : IsDistinct same_number (by_rank ranks) → IsDistinct same_number (by_rank ranks')
+  popped_distinct distinct = IsDistinct-tail same_number (of_rank r) (by_rank ranks')
+      (IsDistinct-IsPermutation same_number same_number_flips (by_rank ranks) (of_rank r ∷ by_rank ranks') moved_out
+      distinct)
 
--- what a queue answers and keeps, as the heap's calls end
-in_some : (xs : List Candidate) (c : Candidate) → In xs c → 0 < length xs
-in_some [] c held = absurd held
-in_some (x ∷ xs) c held = omega arith
+  pub popped_ranked : AreRanked (by_rank ranks) → AreRanked (by_rank ranks')
+  popped_ranked ranked = all_from (λ (c : Candidate). c.number < 4294967295) (by_rank ranks') (λ c there.
+      all_in (λ (c : Candidate). c.number < 4294967295) (by_rank ranks) c ranked (was_there c (inr there)))
 
--- of the ranks in a heap that of its top is the greatest
-pub rank_of_first : (c d : Candidate) → IsFirst d c → c.number < 4294967295 → d.number < 4294967295 → rank c ≤ rank d
-rank_of_first c d (inl above) small_c small_d = omega arith
-rank_of_first c d (inr same) small_c small_d =
-    let e : d.priority ≡ c.priority = same.0 in
-    let n : d.number ≤ c.number = same.1 in omega arith
+  pub popped_removes : IsDistinct same_number (by_rank ranks)
+      → Removes (by_rank ranks) (by_rank ranks') (of_rank r).number
+  popped_removes distinct =
+      let others : AllByRecursion (λ y. same_number (of_rank r) y ≡ false) (by_rank ranks') =
+      IsDistinct-head same_number (of_rank r) (by_rank ranks') (IsDistinct-IsPermutation same_number same_number_flips
+      (by_rank ranks) (of_rank r ∷ by_rank ranks') moved_out distinct) in
+      record {
+        stays = λ d held apart. elim (in_permutation (by_rank ranks) (of_rank r ∷ by_rank ranks') d moved_out held)
+            [ inl is ↦ absurd (apart (ap (λ (c : Candidate). c.number) (sym is))) | inr there ↦ there ];
+        was = λ d held. (
+          was_there d (inr held),
+          λ same. let differs : same_number (of_rank r) d ≡ false =
+              all_in (λ y. same_number (of_rank r) y ≡ false) (by_rank ranks') d others held in
+              let equal : same_number (of_rank r) d ≡ true = grind (arith, nat_tests) in cc,
+        );
+      }
 
-no_items : (xs : List Candidate) (n : ℕ) → n ≡ length xs → (0 < n → ⊥) → xs ≡ []
-no_items [] n size none = refl
-no_items (x ∷ xs) n size none = absurd (none (omega arith))
+  pub popped_first : IsUpperBound nat_cmp r ranks → IsFirstOf (by_rank ranks) (Some (of_rank r))
+  popped_first bound = (
+    was_there (of_rank r) (inl refl),
+    λ c held. in_ranks (λ d. IsFirst (of_rank r) d) ranks c held
+        (λ s there. greater_first r s (all_in (λ s. s ≤ r) ranks s (up_to_bound ranks r bound) there)),
+  )
 
-pub none_up_to : (xs : List Candidate) (n : ℕ) → n ≡ length xs → (0 < n → ⊥) → AreUpTo 0 xs
-none_up_to xs n size none = subst (λ zs. AreUpTo 0 zs) (sym (no_items xs n size none)) tt
+-- the greatest at hand
+pub none_up_to : (ranks : List ℕ) (n : ℕ) → n ≡ length ranks → (0 < n → ⊥) → AreUpTo 0 ranks
+none_up_to [] n size none = tt
+none_up_to (r ∷ ranks) n size none = absurd (none (omega arith))
 
-pub none_first : (xs : List Candidate) (n : ℕ) → n ≡ length xs → (0 < n → ⊥) → 0 ≡ first_rank xs
-none_first xs n size none = sym (ap first_rank (no_items xs n size none))
+pub none_first : (ranks : List ℕ) (n : ℕ) → n ≡ length ranks → (0 < n → ⊥) → 0 ≡ slice_index ranks 0
+none_first [] n size none = refl
+none_first (r ∷ ranks) n size none = absurd (none (omega arith))
 
-pub up_to_rank : (xs : List Candidate) (n top : ℕ) (x : Candidate) → n ≡ length xs → 0 < n
-    → x ≡ slice_index_or xs 0 x → IsUpperBound candidate_cmp x xs → AreRanked xs → top ≡ rank x → AreUpTo top xs
-up_to_rank xs n top x size some is greatest ranked same =
-    let held : In xs x = in_from xs x (0, omega arith, sym is) in
-    let small : (c : Candidate) → In xs c → c.number < 4294967295 =
-    λ c there. all_in (λ (d : Candidate). d.number < 4294967295) xs c ranked there in
-    all_from (λ (c : Candidate). rank c ≤ top) xs (λ c there. subst (λ t. rank c ≤ t) (sym same)
-    (rank_of_first c x (top_is_first xs x greatest c there) (small c there) (small x held)))
+pub is_at_front : (ranks : List ℕ) (n top : ℕ) → n ≡ length ranks → 0 < n → top ≡ slice_index_or ranks 0 top
+    → top ≡ slice_index ranks 0
+is_at_front [] n top size some is = absurd (omega arith)
+is_at_front (r ∷ ranks) n top size some is = is
 
-pub rank_is_first : (xs : List Candidate) (n top : ℕ) (x : Candidate) → n ≡ length xs → 0 < n
-    → x ≡ slice_index_or xs 0 x → top ≡ rank x → top ≡ first_rank xs
-rank_is_first [] n top x size some is same = absurd (omega arith)
-rank_is_first (y ∷ xs) n top x size some is same = same ∙ ap rank is
-
-pub greatest_first : (xs : List Candidate) (top : ℕ) → AreRanked xs → AreUpTo top xs → top ≡ first_rank xs
-    → IsGreatestRank (In xs) top
+pub greatest_first : (ranks : List ℕ) (top : ℕ) → AreRanked (by_rank ranks) → AreUpTo top ranks
+    → top ≡ slice_index ranks 0 → IsGreatestRank (In (by_rank ranks)) top
 greatest_first [] top ranked most same = record { above = λ c held. absurd held; one = inl same }
-greatest_first (x ∷ xs) top ranked most same = record {
+greatest_first (r ∷ ranks) top ranked most same = record {
   above = λ c there. (
-    all_in (λ (d : Candidate). rank d ≤ top) (x ∷ xs) c most there,
-    all_in (λ (d : Candidate). d.number < 4294967295) (x ∷ xs) c ranked there,
+    in_ranks (λ d. rank d ≤ top) (r ∷ ranks) c there
+        (λ s held. subst (λ n. n ≤ top) (sym (rank_again s)) (all_in (λ s. s ≤ top) (r ∷ ranks) s most held)),
+    all_in (λ (d : Candidate). d.number < 4294967295) (by_rank (r ∷ ranks)) c ranked there,
   );
-  one = inr (x, inl refl, sym same);
+  one = inr (of_rank r, inl refl, rank_again r ∙ sym same);
 }
-
-pub pushed_ranked : (xs ys : List Candidate) (x : Candidate) → IsPermutation (x ∷ xs) ys → x.number < 4294967295
-    → AreRanked xs → AreRanked ys
-pushed_ranked xs ys x moved small ranked =
-    all_from (λ (c : Candidate). c.number < 4294967295) ys (λ c there.
-    all_in (λ (c : Candidate). c.number < 4294967295) (x ∷ xs) c (small, ranked)
-    (in_permutation ys (x ∷ xs) c (IsPermutation-sym (x ∷ xs) ys moved) there))
-
-pub ranked_after_pop : (r : Option Candidate) (xs ys : List Candidate) (n m : ℕ)
-    → IfSome r (λ x. IsPermutation xs (x ∷ ys)) → IfNone r ((ys ≡ xs) × (m ≡ n)) → AreRanked xs → AreRanked ys
-ranked_after_pop None xs ys n m moved same ranked = subst (λ zs. AreRanked zs) (sym same.0) ranked
-ranked_after_pop (Some x) xs ys n m moved same ranked =
-    all_from (λ (c : Candidate). c.number < 4294967295) ys (λ c there.
-    all_in (λ (c : Candidate). c.number < 4294967295) xs c ranked
-    (in_permutation (x ∷ ys) xs c (IsPermutation-sym xs (x ∷ ys) moved) (inr there)))
-
-pub heap_after_pop : (r : Option Candidate) (xs ys : List Candidate) (n m : ℕ)
-    → IfSome r (λ x. PopsGreatest candidate_cmp xs x ys) → IfNone r ((ys ≡ xs) × (m ≡ n)) → IsHeap candidate_cmp xs
-    → IsHeap candidate_cmp ys
-heap_after_pop None xs ys n m pops same heap = subst (λ zs. IsHeap candidate_cmp zs) (sym same.0) heap
-heap_after_pop (Some x) xs ys n m pops same heap = (pops heap).0
-
-pub distinct_after_pop : (r : Option Candidate) (xs ys : List Candidate) (n m : ℕ)
-    → IfSome r (λ x. IsPermutation xs (x ∷ ys)) → IfNone r ((ys ≡ xs) × (m ≡ n)) → IsDistinct same_number xs
-    → IsDistinct same_number ys
-distinct_after_pop None xs ys n m moved same distinct = subst (λ zs. IsDistinct same_number zs) (sym same.0) distinct
-distinct_after_pop (Some x) xs ys n m moved same distinct = popped_distinct xs ys x moved distinct
-
-pub first_of_pop : (r : Option Candidate) (xs ys : List Candidate) (n : ℕ) → n ≡ length xs
-    → IfSome r (λ x. IsPermutation xs (x ∷ ys)) → IfSome r (λ x. PopsGreatest candidate_cmp xs x ys) → IfNone r (n ≡ 0)
-    → IsHeap candidate_cmp xs → IsFirstOf xs r
-first_of_pop None xs ys n size moved pops none heap = λ c held. let some : 0 < length xs = in_some xs c held in
-    absurd (omega arith)
-first_of_pop (Some x) xs ys n size moved pops none heap = popped_first xs ys x moved (pops heap).1
-
-pub popped_by_pop : (r : Option Candidate) (xs ys : List Candidate) (n m : ℕ)
-    → IfSome r (λ x. IsPermutation xs (x ∷ ys)) → IfNone r ((ys ≡ xs) × (m ≡ n)) → IsDistinct same_number xs
-    → Popped xs ys r
-popped_by_pop None xs ys n m moved same distinct = same.0
-popped_by_pop (Some x) xs ys n m moved same distinct = popped_removes xs ys x moved distinct

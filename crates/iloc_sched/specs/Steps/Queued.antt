@@ -8,7 +8,7 @@ use Rattle.iloc_sched.specs.declared.queue.Queue.{Queue}
 use Rattle.iloc_sched.specs.declared.queues.Queues.{Queues}
 use Rattle.iloc_sched.specs.declared.queues.Choice.{Choice}
 use Rattle.iloc_sched.specs.Steps.Members.{In}
-use Rattle.iloc_sched.specs.Steps.Order.{IsFirst}
+use Rattle.iloc_sched.specs.Steps.Order.{by_rank, IsFirst}
 use Rattle.iloc_sched.specs.Steps.Classes.{is_excluded}
 
 -- the place of a class among the queues
@@ -20,7 +20,7 @@ place_of C.Rest = 3
 
 -- by class the candidates that stand in its queue
 abbrev pub candidates_in : List Queue → Class → List Candidate
-candidates_in queues k = slice_index_or (map (λ (u : Queue). heap_items u.heap) queues) (place_of k) []
+candidates_in queues k = slice_index_or (map (λ (u : Queue). by_rank (heap_items u.heap)) queues) (place_of k) []
 
 -- the candidates of a class
 abbrev pub candidates : Queues → Class → List Candidate
