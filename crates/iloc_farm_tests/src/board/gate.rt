@@ -1,12 +1,13 @@
-ghost use Rattle.std.specs.Prelude.{◌≡◌, false};
+ghost use Rattle.std.specs.Prelude.{◌≡◌, ◌+◌, ◌<◌, false};
 ghost use Rattle.iloc_board.specs.declared.state.State.TheVariants as about;
 ghost use Rattle.iloc_board.specs.Core.{is_holding};
 ghost use Rattle.iloc_board.specs.Views.{state};
 
 use super::tens::Tens;
-use iloc_board::{Board, Gate, Pass, Seen, work};
+use iloc_board::{Board, Gate, Pass, Root, Seen, work};
 use std::alloc::Global;
 use std::cell::Cell;
+use std::process::Abort;
 use std::test::*;
 
 #[derive(Clone, Copy, PartialEq, Eq)]
@@ -70,11 +71,12 @@ impl Gate for Witnessed<'_, '_> {
 
 /// What the gate is told while the pass works.
 fn calls<'b, 'a>(
+    rt: &impl Abort,
     alloc: Global,
     board: &'b Board<'a, Tens>,
     bystander: Pass<'a, Tens>,
     pass: &mut Pass<'a, Tens>,
-) -> Result<Vec<Told>, Fail>
+) -> Vec<Told>
     requires bystander { (bystander.board ≡ board.now) × (is_holding (state bystander) ≡ false) }
     requires pass { (pass.old.board ≡ board.now) × (state pass.old ≡ about.Free) }
 {
@@ -84,11 +86,12 @@ fn calls<'b, 'a>(
         told: Vec::new(alloc),
     };
     let gate = Witnessed(Cell::new(Some(witness)));
-    let done = work(board, pass, &gate);
+    assert!(rt; work(board, pass, &gate).is_ok());
     let Witnessed(cell) = gate;
-    let Witness { told, .. } = cell.into_inner().ok_or("the witness is gone")?;
-    done?;
-    Ok(told)
+    let Some(Witness { told, .. }) = cell.into_inner() else {
+        panic!(rt; "the witness is gone");
+    };
+    told
 }
 
 /// What worker 2 tells.
@@ -119,14 +122,27 @@ const TOLD: &[Told] = &[
     },
 ];
 
+/// Asserts what the third pass tells.
+fn assert_told<'a>(
+    rt: &impl Abort,
+    alloc: Global,
+    board: &Board<'a, Tens>,
+    root: &mut Root<'a, Tens>,
+)
+    requires own { root.old.board ≡ board.now }
+    requires room { root.old.made + 2 < root.old.workers }
+{
+    let bystander = board.pass(root);
+    let _idle = board.pass(root);
+    let mut pass = board.pass(root);
+    let told = calls(rt, alloc, board, bystander, &mut pass);
+    assert!(rt; told.as_slice() == TOLD);
+}
+
 #[test]
 fn the_gate_is_told_of_each_look_and_each_take(rt: HostRuntime) -> Result<(), Fail> {
     let jobs = Tens { count: 2 };
     let (board, mut root) = Board::new(rt.alloc(), &jobs, 3)?;
-    let bystander = board.pass(&mut root);
-    let _idle = board.pass(&mut root);
-    let mut pass = board.pass(&mut root);
-    let told = calls(rt.alloc(), &board, bystander, &mut pass)?;
-    assert!(rt; told.as_slice() == TOLD);
+    assert_told(&rt, rt.alloc(), &board, &mut root);
     Ok(())
 }

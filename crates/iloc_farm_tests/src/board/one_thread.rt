@@ -1,11 +1,11 @@
 ghost use Rattle.std.specs.Prelude.{◌≡◌};
 
-use super::steps::{Act, act_all, assert_collected, collect_both, collect_with, pass_that_did};
+use super::steps::{Act, act_all, assert_collected, gather, pass_that_did};
 use super::tens::Refusing;
 use iloc_board::Seen::{Block, NoneLeft};
 use iloc_board::State::{Free, Holding};
 use iloc_board::Tried::{Stale, Took};
-use iloc_board::{Board, NoMemory, Pass};
+use iloc_board::{Board, NoMemory, Pass, Root};
 use std::alloc::Global;
 use std::process::Abort;
 use std::test::Fail;
@@ -21,6 +21,8 @@ const ANSWER_0: &[Act] = &[Act::Look(Block(0)), Act::Try(Took(0)), Act::HandBack
 const HAND_BACK: &[Act] = &[Act::HandBack];
 
 const LOSE_1: &[Act] = &[Act::Work(Err(NoMemory)), Act::Is(0, Holding(1))];
+
+const SEE_NONE: &[Act] = &[Act::Look(NoneLeft)];
 
 const WORK: &[Act] = &[Act::Work(Ok(())), Act::Look(NoneLeft)];
 
@@ -72,7 +74,7 @@ fn act_in_turn<'a>(
     zero: &mut Pass<'a, Refusing>,
     one: &mut Pass<'a, Refusing>,
     turns: &[&[Act]],
-) -> Result<(), Fail>
+)
     requires zero { zero.old.board ≡ board.now }
     requires one { one.old.board ≡ board.now }
     ensures zero { zero.new.board ≡ board.now }
@@ -80,15 +82,37 @@ fn act_in_turn<'a>(
 {
     for (i, acts) in turns.iter().enumerate() {
         if i % 2 == 0 {
-            act_all(rt, board, zero, acts)?;
+            act_all(rt, board, zero, acts);
         } else {
-            act_all(rt, board, one, acts)?;
+            act_all(rt, board, one, acts);
         }
     }
-    Ok(())
 }
 
-/// Has two passes do this in turn, gathers them, and asserts what is collected.
+/// Asserts how many passes there may be, and how many were made.
+fn assert_made(rt: &impl Abort, root: &Root<Refusing>, wanted: (u32, u32)) {
+    assert!(rt; (root.workers(), root.made()) == wanted);
+}
+
+/// Has two passes do this in turn, and gathers them.
+fn share<'a>(
+    rt: &impl Abort,
+    board: &Board<'a, Refusing>,
+    root: &mut Root<'a, Refusing>,
+    turns: &[&[Act]],
+)
+    requires { root.old.board ≡ board.now }
+    ensures { root.new.board ≡ board.now }
+{
+    let mut zero = pass_that_did(rt, board, root, &[]);
+    let mut one = pass_that_did(rt, board, root, &[]);
+    assert_made(rt, root, (2, 2));
+    act_in_turn(rt, board, &mut zero, &mut one, turns);
+    gather(rt, board, root, zero);
+    gather(rt, board, root, one);
+}
+
+/// Has two passes do this in turn, and asserts what is collected.
 fn assert_shared(
     rt: &impl Abort,
     alloc: Global,
@@ -97,11 +121,8 @@ fn assert_shared(
     wanted: Result<&[u32], u32>,
 ) -> Result<(), Fail> {
     let (board, mut root) = Board::new(alloc, jobs, 2)?;
-    let mut zero = board.pass(&mut root);
-    let mut one = board.pass(&mut root);
-    assert!(rt; (root.workers(), root.made()) == (2, 2));
-    act_in_turn(rt, &board, &mut zero, &mut one, turns)?;
-    assert_collected(rt, collect_both(board, root, zero, one), wanted)
+    share(rt, &board, &mut root, turns);
+    assert_collected(rt, board.collect(root), wanted)
 }
 
 #[test]
@@ -120,17 +141,33 @@ fn two_passes_act_in_turn(rt: HostRuntime) -> Result<(), Fail> {
 fn a_job_that_was_not_taken_is_missing(rt: HostRuntime) -> Result<(), Fail> {
     let jobs = Refusing::new(1, None);
     let (board, root) = Board::new(rt.alloc(), &jobs, 1)?;
-    assert!(rt; (root.workers(), root.made()) == (1, 0));
+    assert_made(&rt, &root, (1, 0));
     assert_collected(&rt, board.collect(root), Err(0))
+}
+
+/// Has one pass after another do this. Each is gathered where that is said, and else let go.
+fn act_after_one_another<'a>(
+    rt: &impl Abort,
+    board: &Board<'a, Refusing>,
+    root: &mut Root<'a, Refusing>,
+    passes: &[(&[Act], bool)],
+)
+    requires { root.old.board ≡ board.now }
+    ensures { root.new.board ≡ board.now }
+{
+    for (acts, is_gathered) in passes {
+        let pass = pass_that_did(rt, board, root, acts);
+        if *is_gathered {
+            gather(rt, board, root, pass);
+        }
+    }
 }
 
 #[test]
 fn a_later_pass_starts_where_the_gathered_got_to(rt: HostRuntime) -> Result<(), Fail> {
     let jobs = Refusing::new(1, None);
     let (board, mut root) = Board::new(rt.alloc(), &jobs, 2)?;
-    let first = pass_that_did(&rt, &board, &mut root, WORK)?;
-    assert!(rt; board.gather(&mut root, first).is_ok());
-    pass_that_did(&rt, &board, &mut root, &[Act::Look(NoneLeft)])?;
+    act_after_one_another(&rt, &board, &mut root, &[(WORK, true), (SEE_NONE, false)]);
     Ok(())
 }
 
@@ -138,7 +175,6 @@ fn a_later_pass_starts_where_the_gathered_got_to(rt: HostRuntime) -> Result<(), 
 fn the_answers_of_a_dropped_pass_are_missing(rt: HostRuntime) -> Result<(), Fail> {
     let jobs = Refusing::new(3, None);
     let (board, mut root) = Board::new(rt.alloc(), &jobs, 2)?;
-    drop(pass_that_did(&rt, &board, &mut root, ANSWER_0)?);
-    let second = pass_that_did(&rt, &board, &mut root, WORK)?;
-    assert_collected(&rt, collect_with(board, root, second), Err(0))
+    act_after_one_another(&rt, &board, &mut root, &[(ANSWER_0, false), (WORK, true)]);
+    assert_collected(&rt, board.collect(root), Err(0))
 }

@@ -1,10 +1,11 @@
 //! Steps that tests take with a pass, written down.
-ghost use Rattle.std.specs.Prelude.{◌≡◌, IfOk};
+ghost use Rattle.std.specs.Prelude.{◌≡◌};
 
 use super::tens::Refusing;
 use crate::asserted::assert_list;
 use iloc_board::{
-    Board, CollectFault, Collected, FreeGate, Jobs, NoMemory, Pass, Root, Seen, State, Tried, work,
+    Board, CollectFault, Collected, FreeGate, NoMemory, NoMemoryWith, Pass, Root, Seen, State,
+    Tried, work,
 };
 use std::process::Abort;
 use std::test::Fail;
@@ -21,26 +22,79 @@ pub(crate) enum Act {
     Is(u32, State),
 }
 
+/// Whether the pass may look, and sees this.
+fn sees<'a>(board: &Board<'a, Refusing>, pass: &mut Pass<'a, Refusing>, seen: Seen) -> bool
+    requires { pass.old.board ≡ board.now }
+    ensures { pass.new.board ≡ board.now }
+{
+    match pass.state() {
+        State::Holding(_) => false,
+        State::Free | State::Looked(_) => board.look(pass) == seen,
+    }
+}
+
+/// Whether the pass may try, and this becomes of it.
+fn tries<'a>(board: &Board<'a, Refusing>, pass: &mut Pass<'a, Refusing>, tried: Tried) -> bool
+    requires { pass.old.board ≡ board.now }
+    ensures { pass.new.board ≡ board.now }
+{
+    match pass.state() {
+        State::Looked(_) => board.try_take(pass) == tried,
+        State::Free | State::Holding(_) => false,
+    }
+}
+
+/// Hands back the answer to the job that the pass holds: what is given back where that is refused.
+pub(crate) fn given_back<'a>(
+    rt: &impl Abort,
+    board: &Board<'a, Refusing>,
+    pass: &mut Pass<'a, Refusing>,
+) -> Option<u32>
+    requires { pass.old.board ≡ board.now }
+    ensures { pass.new.board ≡ board.now }
+{
+    let State::Holding(job) = pass.state() else {
+        panic!(rt; "no job is held");
+    };
+    match board.hand_back(pass, 10 + job) {
+        Ok(()) => None,
+        Err(NoMemoryWith(answer)) => Some(answer),
+    }
+}
+
+/// Whether the pass may work, and ends so.
+fn works<'a>(
+    board: &Board<'a, Refusing>,
+    pass: &mut Pass<'a, Refusing>,
+    done: Result<(), NoMemory>,
+) -> bool
+    requires { pass.old.board ≡ board.now }
+    ensures { pass.new.board ≡ board.now }
+{
+    match pass.state() {
+        State::Free => work(board, pass, &FreeGate) == done,
+        State::Looked(_) | State::Holding(_) => false,
+    }
+}
+
 /// Does this with the pass, where its state allows it, and asserts what comes of it.
 fn carry_out<'a>(
     rt: &impl Abort,
     board: &Board<'a, Refusing>,
     pass: &mut Pass<'a, Refusing>,
     act: Act,
-) -> Result<(), Fail>
+)
     requires { pass.old.board ≡ board.now }
     ensures { pass.new.board ≡ board.now }
 {
-    let is_so = match (act, pass.state()) {
-        (Act::Look(seen), State::Free | State::Looked(_)) => board.look(pass) == seen,
-        (Act::Try(tried), State::Looked(_)) => board.try_take(pass) == tried,
-        (Act::HandBack, State::Holding(job)) => board.hand_back(pass, 10 + job).is_ok(),
-        (Act::Work(done), State::Free) => work(board, pass, &FreeGate) == done,
-        (Act::Is(worker, about), state) => (pass.worker(), state) == (worker, about),
-        _ => return Err(Fail::from("the state forbids the step")),
+    let is_so = match act {
+        Act::Look(seen) => sees(board, pass, seen),
+        Act::Try(tried) => tries(board, pass, tried),
+        Act::HandBack => given_back(rt, board, pass).is_none(),
+        Act::Work(done) => works(board, pass, done),
+        Act::Is(worker, about) => (pass.worker(), pass.state()) == (worker, about),
     };
     assert!(rt; is_so);
-    Ok(())
 }
 
 /// Does all this with the pass, one after another.
@@ -49,72 +103,51 @@ pub(crate) fn act_all<'a>(
     board: &Board<'a, Refusing>,
     pass: &mut Pass<'a, Refusing>,
     acts: &[Act],
-) -> Result<(), Fail>
+)
     requires { pass.old.board ≡ board.now }
     ensures { pass.new.board ≡ board.now }
 {
     for it in acts {
-        carry_out(rt, board, pass, *it)?;
+        carry_out(rt, board, pass, *it);
     }
-    Ok(())
 }
 
-/// Gathers the last pass and closes the board.
-pub(crate) fn collect_with<'a, J: Jobs>(
-    board: Board<'a, J>,
-    mut root: Root<'a, J>,
-    pass: Pass<'a, J>,
-) -> Result<Collected<J::Answer>, CollectFault>
-    requires root { root.board ≡ board }
-    requires pass { pass.board ≡ board }
+/// Gathers the pass, for which memory has to suffice.
+pub(crate) fn gather<'a>(
+    rt: &impl Abort,
+    board: &Board<'a, Refusing>,
+    root: &mut Root<'a, Refusing>,
+    pass: Pass<'a, Refusing>,
+)
+    requires root { root.old.board ≡ board.now }
+    requires pass { pass.board ≡ board.now }
+    ensures { root.new.board ≡ board.now }
 {
-    if board.gather(&mut root, pass).is_err() {
-        return Err(CollectFault::NoMemory);
-    }
-    board.collect(root)
+    assert!(rt; board.gather(root, pass).is_ok());
 }
 
-/// Gathers both passes and closes the board.
-pub(crate) fn collect_both<'a, J: Jobs>(
-    board: Board<'a, J>,
-    mut root: Root<'a, J>,
-    first: Pass<'a, J>,
-    second: Pass<'a, J>,
-) -> Result<Collected<J::Answer>, CollectFault>
-    requires root { root.board ≡ board }
-    requires first { first.board ≡ board }
-    requires second { second.board ≡ board }
-{
-    if board.gather(&mut root, first).is_err() {
-        return Err(CollectFault::NoMemory);
-    }
-    collect_with(board, root, second)
-}
-
-/// A new pass that has done all this, where another may be made.
+/// A new pass that has done all this.
 pub(crate) fn pass_that_did<'a>(
     rt: &impl Abort,
     board: &Board<'a, Refusing>,
     root: &mut Root<'a, Refusing>,
     acts: &[Act],
-) -> Result<Pass<'a, Refusing>, Fail>
+) -> Pass<'a, Refusing>
     requires { root.old.board ≡ board.now }
     ensures root { root.new.board ≡ board.now }
-    ensures pass { IfOk result (λ pass. pass.board ≡ board.now) }
+    ensures pass { result.board ≡ board.now }
 {
-    if root.made() >= root.workers() {
-        return Err(Fail::from("no further pass"));
-    }
+    assert!(rt; root.made() < root.workers());
     let mut pass = board.pass(root);
-    act_all(rt, board, &mut pass, acts)?;
-    Ok(pass)
+    act_all(rt, board, &mut pass, acts);
+    pass
 }
 
 /// Asserts that each answer has its cost, which is the same number.
 fn assert_costs(rt: &impl Abort, answers: &[u32], costs: &[u64]) {
     assert!(rt; costs.len() == answers.len());
-    for (answer, cost) in answers.iter().zip(costs) {
-        assert!(rt; u64::from(*answer) == *cost);
+    for (i, answer) in answers.iter().enumerate() {
+        assert!(rt; costs[i] == u64::from(*answer));
     }
 }
 
