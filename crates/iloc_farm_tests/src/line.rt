@@ -1,6 +1,9 @@
 //! Requests of command lines. How faults are told is seen of the built program.
+use crate::asked::asked;
 use crate::asserted::assert_list;
-use iloc_args::{Task, parse_line};
+use iloc_args::{Request, Task};
+use std::alloc::Global;
+use std::process::Abort;
 use std::test::Fail;
 
 /// Words, with the task, the workers, the start, the words of memory, and the latencies of loads, stores and products.
@@ -63,22 +66,33 @@ const ASKED: &[Asked] = &[
     ),
 ];
 
+/// Asserts that the request asks for this.
+fn assert_asked(rt: &impl Abort, request: &Request, wanted: &Asked) {
+    let (_, task, workers, at, memory, times) = *wanted;
+    let latencies = request.latencies;
+    assert!(rt; (request.task, request.workers, request.at) == (task, workers, at));
+    assert!(rt; (latencies.load, latencies.store, latencies.mult) == times);
+    assert_list(rt, &request.words, memory);
+}
+
 #[test]
 fn words_ask_for_a_task_with_its_options(rt: HostRuntime) -> Result<(), Fail> {
-    for (words, task, workers, at, memory, times) in ASKED {
-        let request = parse_line(rt.alloc(), words)?;
-        let latencies = request.latencies;
-        assert!(rt; (request.task, request.workers, request.at) == (*task, *workers, *at));
-        assert!(rt; (latencies.load, latencies.store, latencies.mult) == *times);
-        assert_list(&rt, &request.words, memory);
+    for wanted in ASKED {
+        let request = asked(rt.alloc(), wanted.0)?;
+        assert_asked(&rt, &request, wanted);
     }
     Ok(())
 }
 
+/// Whether both ask for the same.
+fn ask_alike(alloc: Global, words: &[&str], others: &[&str]) -> Result<bool, Fail> {
+    Ok(asked(alloc, words)? == asked(alloc, others)?)
+}
+
 #[test]
 fn requests_are_compared_by_what_they_ask_for(rt: HostRuntime) -> Result<(), Fail> {
-    let given = parse_line(rt.alloc(), &["run", "--at", "1024"])?;
-    assert!(rt; given == parse_line(rt.alloc(), &["run"])?);
-    assert!(rt; given != parse_line(rt.alloc(), &["run", "0"])?);
+    const GIVEN: &[&str] = &["run", "--at", "1024"];
+    assert!(rt; ask_alike(rt.alloc(), GIVEN, &["run"])?);
+    assert!(rt; !ask_alike(rt.alloc(), GIVEN, &["run", "0"])?);
     Ok(())
 }

@@ -1,12 +1,16 @@
 use super::fakes::{Sink, Source, giving, taking_all};
 use super::sample::{GIVES_7, STORES_7, TWO_OUTPUTS};
+use crate::asked::asked;
 use crate::asserted::assert_list;
-use iloc_args::parse_line;
+use iloc_args::Request;
 use iloc_farm::{Finding, RunFault, WriteFailed, run, run_program};
 use std::alloc::Global;
 use std::env::Args;
 use std::io::ErrorKind;
+use std::process::Abort;
+use std::sync::Wait;
 use std::test::Fail;
+use std::thread::Threads;
 
 /// What is read, how many bytes a turn, and how it ends; then the answer, how often it was read, and what was written.
 type Reading<'a> = (
@@ -37,27 +41,37 @@ const READINGS: &[Reading] = &[
     (b"nop", 1, BROKEN, UNREAD, 4, b""),
 ];
 
+/// Asserts what comes of such a reader.
+fn assert_read<H: Abort + AllocGlobal + Threads + Wait + Sync>(
+    rt: &H,
+    request: &Request,
+    reading: &Reading,
+) {
+    let (bytes, at_once, end, answer, turns, written) = *reading;
+    let mut reader = Source {
+        bytes,
+        at_once,
+        end,
+        turns: 0,
+    };
+    let mut writer = taking_all(rt.alloc());
+    let found = run(rt, rt.alloc(), &mut reader, &mut writer, request);
+    assert!(rt; (found, reader.turns) == (answer, turns));
+    assert_list(rt, &writer.taken, written);
+}
+
 #[test]
 fn reads_to_the_end_or_to_a_fault(rt: HostRuntime) -> Result<(), Fail> {
-    let request = parse_line(rt.alloc(), &["run"])?;
-    for (bytes, at_once, end, answer, turns, written) in READINGS {
-        let mut reader = Source {
-            bytes,
-            at_once: *at_once,
-            end: *end,
-            turns: 0,
-        };
-        let mut writer = taking_all(rt.alloc());
-        let found = run(&rt, rt.alloc(), &mut reader, &mut writer, &request);
-        assert!(rt; (found, reader.turns) == (*answer, *turns));
-        assert_list(&rt, &writer.taken, written);
+    let request = asked(rt.alloc(), &["run"])?;
+    for reading in READINGS {
+        assert_read(&rt, &request, reading);
     }
     Ok(())
 }
 
 #[test]
 fn reads_no_further_than_the_end(rt: HostRuntime) -> Result<(), Fail> {
-    let request = parse_line(rt.alloc(), &["run"])?;
+    let request = asked(rt.alloc(), &["run"])?;
     let input = vec![in rt.alloc(); b'\n'; 20_000]?;
     let mut reader = giving(&input);
     let mut writer = taking_all(rt.alloc());
@@ -99,19 +113,29 @@ const WRITINGS: &[Writing] = &[
     ),
 ];
 
+/// Asserts what comes of such a writer.
+fn assert_written<H: Abort + AllocGlobal + Threads + Wait + Sync>(
+    rt: &H,
+    request: &Request,
+    writing: &Writing,
+) {
+    let (_, input, (at_once, room, flushes), answer, written, flushed) = *writing;
+    let mut writer = Sink {
+        at_once,
+        room,
+        flushes,
+        ..taking_all(rt.alloc())
+    };
+    let found = run(rt, rt.alloc(), &mut giving(input), &mut writer, request);
+    assert!(rt; (found, writer.flushed) == (answer, flushed));
+    assert_list(rt, &writer.taken, written);
+}
+
 #[test]
 fn writes_and_flushes_or_tells_what_failed(rt: HostRuntime) -> Result<(), Fail> {
-    for (command, input, (at_once, room, flushes), answer, written, flushed) in WRITINGS {
-        let request = parse_line(rt.alloc(), &[*command])?;
-        let mut writer = Sink {
-            at_once: *at_once,
-            room: *room,
-            flushes: *flushes,
-            ..taking_all(rt.alloc())
-        };
-        let found = run(&rt, rt.alloc(), &mut giving(input), &mut writer, &request);
-        assert!(rt; (found, writer.flushed) == (*answer, *flushed));
-        assert_list(&rt, &writer.taken, written);
+    for writing in WRITINGS {
+        let request = asked(rt.alloc(), &[writing.0])?;
+        assert_written(&rt, &request, writing);
     }
     Ok(())
 }

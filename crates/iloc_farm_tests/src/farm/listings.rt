@@ -1,12 +1,14 @@
 //! Listings of what is there already: to be run with each growth refused in turn.
 use super::sample::TWO_OUTPUTS;
+use crate::asked::asked;
 use crate::asserted::assert_list;
-use iloc_args::{Request, parse_line};
+use iloc_args::Request;
 use iloc_farm::{counts_text, initial_memory, outcomes_text, schedules_text};
 use iloc_meaning::{Outcome, run_block};
 use iloc_text::{IlocFile, NoMemory, read_file};
 use iloc_timed::{Latencies, Row, Schedule, cycles};
 use std::alloc::Global;
+use std::slice::from_ref;
 use std::test::Fail;
 
 /// Both operations on unit 1, with an empty row between them.
@@ -26,15 +28,15 @@ const APART: [Row; 3] = [
 ];
 
 /// Both listings of a file of one block with its schedule.
-fn listed(alloc: Global, file: &IlocFile, schedule: Schedule) -> Result<(Vec<u8>, Vec<u8>), Fail> {
+fn listed(alloc: Global, file: &IlocFile, schedule: &Schedule) -> Result<(Vec<u8>, Vec<u8>), Fail> {
     let usual = Latencies::usual();
-    let schedules = [schedule];
-    if file.blocks.as_slice().len() != 1 || cycles(&schedules[0], &usual) > 1_000 {
+    let schedules = from_ref(schedule);
+    if file.blocks.as_slice().len() != 1 || cycles(schedule, &usual) > 1_000 {
         return Err(Fail::from("not one small block"));
     }
     Ok((
-        schedules_text(alloc, file, &usual, &schedules)?,
-        counts_text(alloc, file, &usual, &schedules)?,
+        schedules_text(alloc, file, &usual, schedules)?,
+        counts_text(alloc, file, &usual, schedules)?,
     ))
 }
 
@@ -57,7 +59,7 @@ total 3
 fn lists_schedules_that_are_there(rt: HostRuntime) -> Result<(), Fail> {
     let alloc = rt.alloc();
     let file = read_file(alloc, TWO_OUTPUTS)?;
-    let (rows, counts) = listed(alloc, &file, apart(alloc, &file)?)?;
+    let (rows, counts) = listed(alloc, &file, &apart(alloc, &file)?)?;
     assert_list(&rt, &rows, ROWS);
     assert_list(&rt, &counts, b"block 1 - cycles 3\ntotal 3\n");
     Ok(())
@@ -79,7 +81,7 @@ fn outcomes_of(
 #[test]
 fn lists_outcomes_that_are_there(rt: HostRuntime) -> Result<(), Fail> {
     let alloc = rt.alloc();
-    let request = parse_line(alloc, &["run", "--at", "4", "5"])?;
+    let request = asked(alloc, &["run", "--at", "4", "5"])?;
     let file = read_file(alloc, b"output 0\noutput 4\nB: output 2\n")?;
     let outcomes = outcomes_of(alloc, &request, &file)?;
     assert!(rt; outcomes.len() == file.blocks.as_slice().len());

@@ -1,11 +1,12 @@
 //! The run of each task, where a growth is refused: it answers want of memory or of a thread, nothing is written, and a
 //! second try ends well. To be run with each growth refused in turn: each test ends with the refusal.
 use super::fakes::{Sink, giving, taking_all};
+use crate::asked::asked;
 use crate::asserted::assert_list;
-use iloc_args::{Request, parse_line};
+use iloc_args::Request;
 use iloc_farm::{FarmFault, Finding, RunFault, run};
 use iloc_text::push_number;
-use std::alloc::Global;
+use std::alloc::{AllocError, Global};
 use std::process::Abort;
 use std::sync::Wait;
 use std::test::Fail;
@@ -17,11 +18,10 @@ const BLOCK: &[u8] =
     b"B:\nloadI 4 => r1\nload r1 => r2\nmult r1, r2 => r3\nstore r3 => r1\noutput 4\n";
 
 /// A writer with room for any listing here, so that it takes no memory itself.
-fn roomy(alloc: Global) -> Result<Sink, Fail> {
-    Ok(Sink {
-        taken: Vec::with_capacity(alloc, 1 << 16)?,
-        ..taking_all(alloc)
-    })
+fn roomy(alloc: Global) -> Result<Sink, AllocError> {
+    let mut writer = taking_all(alloc);
+    writer.taken.reserve(1 << 16)?;
+    Ok(writer)
 }
 
 /// What a run lists, at its second try where a growth was refused at the first, and how the first ended.
@@ -56,7 +56,7 @@ fn assert_listed<H: Abort + AllocGlobal + Threads + Wait + Sync>(
     input: &[u8],
 ) -> Result<(), Fail> {
     for (words, listing) in cases {
-        let request = parse_line(rt.alloc(), words)?;
+        let request = asked(rt.alloc(), words)?;
         let (found, first) = listed(rt, &request, input)?;
         assert_list(rt, &found, listing);
         first?;

@@ -119,23 +119,39 @@ fn stairs(alloc: Global, count: u32) -> Result<Vec<u8>, Fail> {
     Ok(text)
 }
 
-/// Asserts that these are the schedules of such blocks.
-fn assert_stairs(rt: &impl Abort, schedules: &[Schedule]) {
+/// Asserts that these are the schedules of so many such blocks.
+fn assert_stairs(rt: &impl Abort, schedules: &[Schedule], count: u32) {
+    assert!(rt; schedules.len() == count as usize);
     for (k, schedule) in schedules.iter().enumerate() {
         assert!(rt; (schedule.ops().len(), schedule.rows().len()) == (k + 1, k + 1));
     }
 }
 
+/// Asserts that all these workers met, and took a block each.
+fn assert_met(rt: &impl Abort, gate: &Meetings, workers: u32) {
+    assert!(rt; gate.looks.have_met() && gate.takes.have_met());
+    assert!(rt; gate.taken.load(Ordering::SeqCst) == u64::from(workers));
+}
+
+/// So many workers, and a block for each of them.
+fn assert_each_takes_one<H: Abort + AllocGlobal + Threads + Wait + Sync>(
+    rt: &H,
+    workers: u32,
+) -> Result<(), Fail>
+    requires { (1 ≤ workers) × (workers ≤ 8) }
+{
+    let gate = Meetings::new(workers);
+    let text = stairs(rt.alloc(), workers)?;
+    let found = schedules(rt, rt.alloc(), &text, workers, &gate)?;
+    assert_met(rt, &gate, workers);
+    assert_stairs(rt, &found, workers);
+    Ok(())
+}
+
 #[test]
 fn workers_take_a_block_each_at_once(rt: HostRuntime) -> Result<(), Fail> {
     for workers in 2..9 {
-        let gate = Meetings::new(workers);
-        let text = stairs(rt.alloc(), workers)?;
-        let found = schedules(&rt, rt.alloc(), &text, workers, &gate)?;
-        assert!(rt; gate.looks.have_met() && gate.takes.have_met());
-        assert!(rt; gate.taken.load(Ordering::SeqCst) == u64::from(workers));
-        assert!(rt; found.len() == workers as usize);
-        assert_stairs(&rt, &found);
+        assert_each_takes_one(&rt, workers)?;
     }
     Ok(())
 }
@@ -182,17 +198,27 @@ fn stay(turns: u32) {
     }
 }
 
-/// Whatever is answered: to be run with each allocation refused in turn, those of a thread's start among them.
-#[test]
-fn leaves_no_thread_behind(rt: HostRuntime) -> Result<(), Fail> {
-    files_are_within_limits();
-    let file = read_file(rt.alloc(), b"A:\nA:\nA:\nA:\nA:\nA:\nA:\nA:\n")?;
-    let gate = Crowd::new();
-    let found = schedule_all(&rt, rt.alloc(), &file, &Latencies::usual(), 8, &gate);
+/// Asserts that no worker is at a look or comes to one, and answers how many looks there were.
+fn looks_of_all(rt: &impl Abort, gate: &Crowd) -> u64 {
     assert!(rt; gate.inside.load(Ordering::SeqCst) == 0);
     let looks = gate.looks.load(Ordering::SeqCst);
     stay(10_000);
     assert!(rt; gate.looks.load(Ordering::SeqCst) == looks);
+    looks
+}
+
+/// Whatever is answered: to be run with each allocation refused in turn, those of a thread's start among them.
+#[test]
+fn leaves_no_thread_behind(rt: HostRuntime) -> Result<(), Fail> {
+    let gate = Crowd::new();
+    let found = schedules(
+        &rt,
+        rt.alloc(),
+        b"A:\nA:\nA:\nA:\nA:\nA:\nA:\nA:\n",
+        8,
+        &gate,
+    );
+    let looks = looks_of_all(&rt, &gate);
     assert!(rt; found?.len() == 8);
     assert!(rt; looks >= 8);
     Ok(())
