@@ -1,13 +1,11 @@
-//! The tests of the board, the command line and the farm, by their public calls. They stand apart so that each crate
-//! is proved once, and not a second time beside its tests.
+//! The tests of the command line and the farm, by their public calls. They stand apart so that each crate is proved
+//! once, and not a second time beside its tests.
 #![tactic(auto)]
 
 #[cfg(test)]
 mod asked;
 #[cfg(test)]
 mod asserted;
-#[cfg(test)]
-mod board;
 #[cfg(test)]
 mod farm;
 #[cfg(test)]

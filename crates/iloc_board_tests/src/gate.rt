@@ -3,7 +3,7 @@ ghost use Rattle.iloc_board.specs.declared.state.State.TheVariants as about;
 ghost use Rattle.iloc_board.specs.Core.{is_holding};
 ghost use Rattle.iloc_board.specs.Views.{state};
 
-use super::tens::Tens;
+use crate::tens::Tens;
 use iloc_board::{Board, Gate, Pass, Root, Seen, work};
 use std::alloc::Global;
 use std::cell::Cell;

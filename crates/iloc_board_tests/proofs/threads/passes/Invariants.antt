@@ -2,7 +2,7 @@ use Rattle.std.proofs.Common.{◌≡◌, ◌-◌}
 use Rattle.std.specs.List.{All}
 use Rattle.iloc_board.specs.declared.state.State.TheVariants.{Free}
 use Rattle.iloc_board.specs.Views.{state}
-use Rattle.iloc_farm_tests.proofs.board.threads.passes.Given as goal
+use Rattle.iloc_board_tests.proofs.threads.passes.Given as goal
 
 abbrev pub invariant-loop-made : goal.invariant-loop-made
 invariant-loop-made l = record {

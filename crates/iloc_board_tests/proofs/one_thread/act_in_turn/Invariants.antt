@@ -1,5 +1,5 @@
 use Rattle.std.proofs.Common.{◌≡◌}
-use Rattle.iloc_farm_tests.proofs.board.one_thread.act_in_turn.Given as goal
+use Rattle.iloc_board_tests.proofs.one_thread.act_in_turn.Given as goal
 
 abbrev pub invariant-loop-i : goal.invariant-loop-i
 invariant-loop-i g l = record {

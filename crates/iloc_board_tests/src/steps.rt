@@ -1,7 +1,7 @@
 //! Steps that tests take with a pass, written down.
 ghost use Rattle.std.specs.Prelude.{◌≡◌};
 
-use super::tens::Refusing;
+use crate::tens::Refusing;
 use crate::asserted::assert_list;
 use iloc_board::{
     Board, CollectFault, Collected, FreeGate, NoMemory, NoMemoryWith, Pass, Root, Seen, State,

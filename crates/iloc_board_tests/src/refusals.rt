@@ -4,8 +4,8 @@ ghost use Rattle.std.specs.Prelude.{◌≡◌, ◌≤◌};
 ghost use Rattle.iloc_board.specs.declared.state.State.TheVariants as about;
 ghost use Rattle.iloc_board.specs.Views.{state};
 
-use super::steps::{Act, act_all, assert_collected, gather, given_back, pass_that_did};
-use super::tens::Refusing;
+use crate::steps::{Act, act_all, assert_collected, gather, given_back, pass_that_did};
+use crate::tens::Refusing;
 use iloc_board::Seen::Block;
 use iloc_board::State::{Free, Holding};
 use iloc_board::Tried::Took;

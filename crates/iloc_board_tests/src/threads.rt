@@ -3,7 +3,7 @@ ghost use Rattle.std.specs.List.{All};
 ghost use Rattle.iloc_board.specs.declared.state.State.TheVariants as about;
 ghost use Rattle.iloc_board.specs.Views.{state};
 
-use super::tens::Tens;
+use crate::tens::Tens;
 use iloc_board::{Board, FreeGate, Pass, Root, work};
 use std::alloc::{AllocError, Global};
 use std::process::Abort;

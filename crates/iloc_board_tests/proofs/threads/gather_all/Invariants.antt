@@ -1,6 +1,6 @@
 use Rattle.std.proofs.Common.{◌≡◌}
 use Rattle.std.specs.List.{All}
-use Rattle.iloc_farm_tests.proofs.board.threads.gather_all.Given as goal
+use Rattle.iloc_board_tests.proofs.threads.gather_all.Given as goal
 
 abbrev pub invariant-loop-pass : goal.invariant-loop-pass
 invariant-loop-pass l = record {

@@ -1,7 +1,7 @@
 ghost use Rattle.std.specs.Prelude.{◌≡◌};
 
-use super::steps::{Act, act_all, assert_collected, gather, pass_that_did};
-use super::tens::Refusing;
+use crate::steps::{Act, act_all, assert_collected, gather, pass_that_did};
+use crate::tens::Refusing;
 use iloc_board::Seen::{Block, NoneLeft};
 use iloc_board::State::{Free, Holding};
 use iloc_board::Tried::{Stale, Took};

@@ -1,6 +1,6 @@
 use Rattle.std.proofs.Common.{◌≡◌, ap, ◌∙◌}
 use Rattle.std.proofs.lemmas.List.Elements.{All-rest}
-use Rattle.iloc_farm_tests.proofs.board.threads.gather_all.Goals as goal
+use Rattle.iloc_board_tests.proofs.threads.gather_all.Goals as goal
 
 pub loop-pass-preserved : goal.loop-pass-preserved
 loop-pass-preserved c = record {

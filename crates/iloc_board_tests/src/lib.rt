@@ -1,0 +1,20 @@
+//! The tests of the board, by its public calls. They stand apart so that the board is proved once, and not a second time
+//! beside its tests.
+#![tactic(auto)]
+
+#[cfg(test)]
+mod asserted;
+#[cfg(test)]
+mod gate;
+#[cfg(test)]
+mod machine;
+#[cfg(test)]
+mod one_thread;
+#[cfg(test)]
+mod refusals;
+#[cfg(test)]
+mod steps;
+#[cfg(test)]
+mod tens;
+#[cfg(test)]
+mod threads;
