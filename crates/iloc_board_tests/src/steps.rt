@@ -1,8 +1,8 @@
 //! Steps that tests take with a pass, written down.
 ghost use Rattle.std.specs.Prelude.{◌≡◌};
 
-use crate::tens::Refusing;
 use crate::asserted::assert_list;
+use crate::tens::Refusing;
 use iloc_board::{
     Board, CollectFault, Collected, FreeGate, NoMemory, NoMemoryWith, Pass, Root, Seen, State,
     Tried, work,
