@@ -59,6 +59,7 @@ impl Waiting {
     }
 
     /// Issues the first of the ready that can go beside an operation of a class.
+    #[inline(always)]
     fn issue_first(
         &mut self,
         plan: &Plan,

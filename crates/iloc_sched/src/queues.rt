@@ -51,6 +51,7 @@ impl Queues {
     }
 
     /// Takes the first of a class.
+    #[inline(always)]
     fn pop(&mut self, class: Class) -> Option<Candidate>
         ensures first { IsFirstOf (candidates self.old class) result }
         ensures popped { Popped (candidates self.old class) (candidates self.new class) result }
@@ -104,6 +105,7 @@ impl Queues {
     }
 
     /// Takes the first of all that can go beside an operation of a class.
+    #[inline(always)]
     pub fn take(&mut self, beside: Option<Class>) -> Option<Choice>
         ensures best { IsBest self.old beside result }
         ensures takes { IfSome result (λ choice. Takes self.old self.new choice) }

@@ -177,6 +177,7 @@ impl Waiting {
     }
 
     /// Issues operation i at this cycle.
+    #[inline(always)]
     pub fn issue(&mut self, edges: &Edges, i: usize, cycle: u32)
         requires small { cycle + LONGEST_DELAY + 1 < 2 ^ 32 }
         requires graph { IsGraph (graph_of edges.now) }
