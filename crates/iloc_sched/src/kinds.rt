@@ -14,6 +14,7 @@ pub(crate) struct Operations<'a> {
 }
 
 /// Fills a list with the kind of each operation.
+#[inline(always)]
 pub(crate) fn fill_kinds(kinds: &mut Vec<Kind>, ops: &[Op]) -> Result<(), NoMemory>
     ensures { OnOk result (kinds.new.items ≡ map kind ops.now) }
 {

@@ -28,6 +28,7 @@ fn fill_latencies(own: &mut Vec<u32>, kinds: &[Kind], latencies: &Latencies) -> 
 
 /// Fills a list with the priorities by the kept edges: an operation's is final once the edges out of it are gone
 /// through, which all lie after those into it.
+#[inline(always)]
 pub(crate) fn fill_priorities(
     prios: &mut Vec<u32>,
     edges: &Edges,
