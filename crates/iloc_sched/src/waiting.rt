@@ -117,11 +117,7 @@ impl Waiting {
         ensures wheel { self.new.wheel ≡ self.old.wheel }
         ensures size { length self.new.states.items ≡ length self.old.states.items }
     {
-        let state = self.states[j];
-        self.states[j] = State {
-            issued: state.issued,
-            reach,
-        };
+        self.states[j].reach = reach;
     }
 
     /// Operation i is issued at this cycle.
@@ -133,11 +129,7 @@ impl Waiting {
         ensures wheel { self.new.wheel ≡ self.old.wheel }
         ensures size { length self.new.states.items ≡ length self.old.states.items }
     {
-        let state = self.states[i];
-        self.states[i] = State {
-            issued: Some(cycle),
-            reach: state.reach,
-        };
+        self.states[i].issued = Some(cycle);
     }
 
     /// Edge x is over, since its source was issued at this cycle: who watches it goes on to the next that isn't.

@@ -6,16 +6,16 @@ use Rattle.iloc_sched.proofs.waiting.Waiting.watch.Goals as goal
 
 pub returns-clause-issued : goal.returns-clause-issued
 returns-clause-issued c =
-    let new : State = record { issued = c.index-state.result.now.issued; reach = c.args.reach } in
-    map-set_same (λ (s : State). s.issued) c.args.self.now.states.items c.args.j new c.index-state.result.now
-    (ap (λ (s : State). s.issued) c.index-state.ensures)
+    let new : State = record { issued = c.index_mut.result.now.issued; reach = c.args.reach } in
+    map-set_same (λ (s : State). s.issued) c.args.self.now.states.items c.args.j new c.index_mut.result.now
+    (ap (λ (s : State). s.issued) c.index_mut.ensures.value)
 
 pub returns-clause-watch : goal.returns-clause-watch
 returns-clause-watch c =
-    let new : State = record { issued = c.index-state.result.now.issued; reach = c.args.reach } in
+    let new : State = record { issued = c.index_mut.result.now.issued; reach = c.args.reach } in
     map-set (λ (s : State). s.reach.place) c.args.self.now.states.items c.args.j new
 
 pub returns-clause-earliest : goal.returns-clause-earliest
 returns-clause-earliest c =
-    let new : State = record { issued = c.index-state.result.now.issued; reach = c.args.reach } in
+    let new : State = record { issued = c.index_mut.result.now.issued; reach = c.args.reach } in
     map-set (λ (s : State). s.reach.earliest) c.args.self.now.states.items c.args.j new
