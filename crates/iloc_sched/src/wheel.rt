@@ -1,5 +1,5 @@
 //! Operations by the cycle at which they become ready.
-ghost use Rattle.std.specs.Prelude.{ℕ, ◌≡◌, ◌≢◌, ◌+◌, ◌^◌, ◌%◌, ◌<◌, [], ◌∷◌, length, IfNone, IfSome, OnOk};
+ghost use Rattle.std.specs.Prelude.{ℕ, ◌≡◌, ◌≢◌, ◌+◌, ◌^◌, ◌%◌, ◌<◌, ◌≤◌, [], ◌∷◌, length, IfNone, IfSome, OnOk};
 
 use iloc_text::NoMemory;
 use std::alloc::Global;
@@ -21,7 +21,7 @@ struct Bucket {
 #[derive(Debug, Drop)]
 pub struct Wheel {
     buckets: [Bucket; BUCKETS],
-    // By operation the one behind it in its bucket.
+    // By operation the one behind it in its bucket. It is as long as the longest block so far.
     behind: Vec<u32>,
 }
 
@@ -39,14 +39,15 @@ impl Wheel {
         }
     }
 
-    /// Takes out all operations, and has room for so many.
+    /// Takes out all operations, and has room for at least so many.
     pub fn clear(&mut self, count: usize) -> Result<(), NoMemory>
         ensures empty { (b : ℕ) → bucket_of self.new b ≡ [] }
-        ensures room { OnOk result (length self.new.behind.items ≡ count) }
+        ensures room { OnOk result (count ≤ length self.new.behind.items) }
     {
         self.buckets = [Bucket { first: 0, count: 0 }; BUCKETS];
-        self.behind.clear();
-        self.behind.resize(count, 0)?;
+        if self.behind.len() < count {
+            self.behind.resize(count, 0)?;
+        }
         Ok(())
     }
 

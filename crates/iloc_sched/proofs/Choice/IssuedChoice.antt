@@ -1,5 +1,5 @@
 -- The tables and queues after a choice was issued, or released; for `Waiting::issue_first`, `release`.
-use Rattle.std.proofs.Common.{◌≡◌, ◌≢◌, ℕ, ◌+◌, ◌%◌, ◌<◌, List, [], ◌∷◌, ◌++◌, length, set, get_or, Option, Some, None, inl, inr, refl, sym, ◌∙◌, ap, subst, arith, append_assoc}
+use Rattle.std.proofs.Common.{◌≡◌, ◌≢◌, ℕ, ◌+◌, ◌%◌, ◌<◌, ◌≤◌, List, [], ◌∷◌, ◌++◌, length, set, get_or, Option, Some, None, inl, inr, refl, sym, ◌∙◌, ap, subst, arith, append_assoc}
 use Rattle.std.proofs.lemmas.List.{get_or-set_same, get_or-set_other, append-nil}
 use Rattle.std.specs.Global.{Vec}
 use Rattle.iloc_sched.specs.declared.candidate.Candidate.{Candidate}
@@ -82,7 +82,7 @@ module _ (p : Plan) (w w1 : Waiting) (q q1 : Queues) (c : ℕ) (plan : IsPlan p)
   pub due_linked : (j : ℕ) → In ((progress_of w1).bucket (c % 32)) j → j < length w1.wheel.behind.items
   due_linked j held =
       let there : j < length p.edges.heads.items = due_there j held in
-      let links : length w.wheel.behind.items ≡ length p.edges.heads.items = under.sized.links in
+      let links : length p.edges.heads.items ≤ length w.wheel.behind.items = under.sized.links in
       let same : length w1.wheel.behind.items ≡ length w.wheel.behind.items = so_far.links in
       omega arith
 
@@ -129,7 +129,7 @@ released p w w' q q' c plan under so_far empty =
       sized = record {
         starts = under.sized.starts;
         states = ap (λ (states : Vec State). length states.items) so_far.states ∙ under.sized.states;
-        links = so_far.links ∙ under.sized.links;
+        links = omega (arith, so_far.links, under.sized.links);
       };
       waits = subst (λ (states : Vec State).
           Waits (graph_of p.edges) (progress_with states.items (bucket_of w'.wheel)) (c + 1) 0 None) (sym so_far.states)

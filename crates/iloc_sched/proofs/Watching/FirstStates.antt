@@ -89,7 +89,7 @@ module _ (e : Edges) (w v : Waiting) (n : ℕ) (state : State) (below : n < leng
     issued = issued_more;
     watch = watched_more;
     earliest = earliest_more;
-    links = ap (λ (wheel : Wheel). length wheel.behind.items) same ∙ so_far.links;
+    links = subst (λ (wheel : Wheel). length e.heads.items ≤ length wheel.behind.items) (sym same) so_far.links;
     roots = subst (λ (wheel : Wheel). AreRoots (graph_of e) (bucket_of wheel 0) (n + 1)) (sym same)
         (roots_kept (graph_of e) ((progress_of w).bucket 0) n so_far.roots free);
     others = λ b small apart. ap (λ (wheel : Wheel). bucket_of wheel b) same ∙ so_far.others b small apart;
@@ -104,7 +104,7 @@ module _ (e : Edges) (w v : Waiting) (n : ℕ) (state : State) (below : n < leng
     issued = issued_more;
     watch = watched_more;
     earliest = earliest_more;
-    links = links ∙ so_far.links;
+    links = omega (arith, links, so_far.links);
     roots = subst (λ js. AreRoots (graph_of e) js (n + 1)) (sym put)
         (root_put (graph_of e) ((progress_of w).bucket 0) n so_far.roots free);
     others = λ b small apart. others b small apart ∙ so_far.others b small apart;

@@ -1,5 +1,5 @@
 -- What holds as a schedule begins.
-use Rattle.std.specs.Prelude.{ℕ, ◌+◌, ◌≡◌, ◌≢◌, ◌<◌, List, [], length, replicate, take, Option, None}
+use Rattle.std.specs.Prelude.{ℕ, ◌+◌, ◌≡◌, ◌≢◌, ◌<◌, ◌≤◌, List, [], length, replicate, take, Option, None}
 use Rattle.iloc_sched.specs.declared.edges.Edges.{Edges}
 use Rattle.iloc_sched.specs.declared.waiting.Waiting.{Waiting}
 use Rattle.iloc_sched.specs.Steps.Members.{In, AreApart}
@@ -20,6 +20,6 @@ pub record IsOpening (e : Edges) (w : Waiting) (n : ℕ) : Type 0 where
   pub issued : issued_list w ≡ replicate n not_issued
   pub watch : watch_list w ≡ take n e.starts.items
   pub earliest : earliest_list w ≡ replicate n 0
-  pub links : length w.wheel.behind.items ≡ length e.heads.items
+  pub links : length e.heads.items ≤ length w.wheel.behind.items
   pub roots : AreRoots (graph_of e) ((progress_of w).bucket 0) n
   pub others : (b : ℕ) → b < 32 → b ≢ 0 → (progress_of w).bucket b ≡ []

@@ -1,5 +1,5 @@
 -- The scheduler's tables as functions of numbers.
-use Rattle.std.specs.Prelude.{ℕ, ◌+◌, ◌≡◌, List, length, map, slice_index, slice_index_or, Option, None}
+use Rattle.std.specs.Prelude.{ℕ, ◌+◌, ◌≡◌, ◌≤◌, List, length, map, slice_index, slice_index_or, Option, None}
 use Rattle.iloc_sched.specs.declared.edges.Edge.{Edge}
 use Rattle.iloc_sched.specs.declared.edges.Edges.{Edges}
 use Rattle.iloc_sched.specs.declared.waiting.State.{State}
@@ -56,8 +56,8 @@ earliest_list w = earliest_in w.states.items
 abbrev pub progress_of : Waiting → Progress
 progress_of w = progress_with w.states.items (bucket_of w.wheel)
 
--- the tables have their lengths
+-- the tables are as long as the operations need them
 pub record IsSized (e : Edges) (w : Waiting) : Type 0 where
   pub starts : length e.starts.items ≡ length e.heads.items + 1
   pub states : length w.states.items ≡ length e.heads.items
-  pub links : length w.wheel.behind.items ≡ length e.heads.items
+  pub links : length e.heads.items ≤ length w.wheel.behind.items

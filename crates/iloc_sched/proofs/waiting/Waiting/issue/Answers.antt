@@ -1,4 +1,4 @@
-use Rattle.std.proofs.Common.{length, ap, ◌∙◌}
+use Rattle.std.proofs.Common.{◌≤◌, length, sym, subst, ◌∙◌}
 use Rattle.iloc_sched.specs.declared.wheel.Wheel.{Wheel}
 use Rattle.iloc_sched.proofs.Watching.WalkInTables.{started, places_as_before}
 use Rattle.iloc_sched.proofs.waiting.Waiting.issue.Goals as goal
@@ -17,6 +17,7 @@ loop-at-init c =
       sized = record {
         starts = c.requires.sized.starts;
         states = c.mark.ensures.size ∙ c.requires.sized.states;
-        links = ap (λ (wheel : Wheel). length wheel.behind.items) c.mark.ensures.wheel ∙ c.requires.sized.links;
+        links = subst (λ (wheel : Wheel). length c.args.edges.now.heads.items ≤ length wheel.behind.items)
+            (sym c.mark.ensures.wheel) c.requires.sized.links;
       };
     }
