@@ -66,8 +66,8 @@ impl Waiting {
         self.wheel.clear(count)?;
         self.states.clear();
         self.states.reserve(count)?;
+        let mut place = edges.start(0);
         for j in 0..count {
-            let place = edges.start(j);
             let end = edges.start(j + 1);
             self.states.push(State {
                 issued: None,
@@ -76,24 +76,26 @@ impl Waiting {
             if place == end {
                 self.wheel.put(j as u32, 0);
             }
+            place = end;
         }
         Ok(())
     }
 
-    /// How far the edges into operation j are over by now, of which it is known how far they are at least.
-    fn reach(&self, edges: &Edges, j: usize, known: Reach) -> Reach
-        requires there { j < length edges.now.heads.items }
+    /// How far the edges before this end, those into one operation, are over by now, of which it is known how far they
+    /// are at least.
+    fn reach(&self, edges: &Edges, end: u32, known: Reach) -> Reach
+        requires end { end ≤ length edges.now.edges.items }
         requires graph { IsGraph (graph_of edges.now) }
         requires sized { IsSized edges.now self.now }
         requires early { (k t : ℕ) → k < length edges.now.heads.items
             → (progress_of self.now).issued k ≡ Some t → t + LONGEST_DELAY < 2 ^ 32 }
-        requires known { Reaches (graph_of edges.now) (progress_of self.now).issued j known.place known.earliest }
-        ensures reaches { Reaches (graph_of edges.now) (progress_of self.now).issued j result.place result.earliest }
+        ensures reaches { (j : ℕ) → (graph_of edges.now).start (j + 1) ≡ end
+            → Reaches (graph_of edges.now) (progress_of self.now).issued j known.place known.earliest
+            → Reaches (graph_of edges.now) (progress_of self.now).issued j result.place result.earliest }
         ensures on { known.place ≤ result.place }
-        ensures stuck { result.place < (graph_of edges.now).start (j + 1)
+        ensures stuck { result.place < end
             → (progress_of self.now).issued ((graph_of edges.now).from result.place) ≡ None }
     {
-        let end = edges.start(j + 1);
         let mut place = known.place;
         let mut earliest = known.earliest;
         while place < end {
@@ -159,9 +161,10 @@ impl Waiting {
             place: x + 1,
             earliest: state.reach.earliest.max(cycle + edge.delay),
         };
-        let reach = self.reach(edges, target, known);
+        let end = edges.start(target + 1);
+        let reach = self.reach(edges, end, known);
         self.watch(target, reach);
-        if reach.place < edges.start(target + 1) {
+        if reach.place < end {
             return edge.previous;
         }
         self.wheel.put(edge.to, reach.earliest);

@@ -1,17 +1,19 @@
 -- The same walk in the tables of the code, step by step; for `Waiting::issue`, `pass`.
-use Rattle.std.proofs.Common.{◌≡◌, ◌≢◌, ℕ, ◌+◌, ◌%◌, ◌<◌, ◌≤◌, ◌∷◌, List, length, set, get_or, Option, Some, None, refl, sym, ◌∙◌, ap, subst, arith}
+use Rattle.std.proofs.Common.{◌≡◌, ◌≢◌, ℕ, ◌+◌, ◌%◌, ◌<◌, ◌≤◌, ◌∷◌, List, length, max, set, get_or, Option, Some, None, refl, sym, ◌∙◌, ap, subst, arith}
 use Rattle.std.proofs.lemmas.List.{get_or-set_same, get_or-set_other}
+use Rattle.iloc_sched.specs.declared.edges.Edge.{Edge}
 use Rattle.iloc_sched.specs.declared.edges.Edges.{Edges}
+use Rattle.iloc_sched.specs.declared.waiting.State.{State}
 use Rattle.iloc_sched.specs.declared.waiting.Waiting.{Waiting}
 use Rattle.iloc_sched.specs.declared.wheel.Wheel.{Wheel}
 use Rattle.iloc_sched.specs.Steps.Members.{In}
 use Rattle.iloc_sched.specs.Steps.Wheel.{bucket_of}
 use Rattle.iloc_sched.specs.Steps.Graph.{Graph, IsLast, IsGraph}
 use Rattle.iloc_sched.specs.Steps.Progress.{Progress, Reaches, Waits, CanIssue, IsFrom, KeepsPlaces}
-use Rattle.iloc_sched.specs.Steps.Views.{graph_of, issued_list, watch_list, earliest_list, progress_of, IsSized}
-use Rattle.iloc_sched.proofs.Watching.EdgeWalk.{begins, skips, moves, Enters, enters_none, enters_put}
+use Rattle.iloc_sched.specs.Steps.Views.{edge_at, graph_of, issued_list, watch_list, earliest_list, progress_of, IsSized}
+use Rattle.iloc_sched.proofs.Watching.EdgeWalk.{reaches_more, begins, skips, moves, Enters, enters_none, enters_put}
 use Rattle.iloc_sched.proofs.Watching.LinkedBuckets.{apart_few}
-use Rattle.iloc_sched.proofs.Watching.TableReads.{issued_size, watch_size, earliest_size}
+use Rattle.iloc_sched.proofs.Watching.TableReads.{issued_size, watch_size, earliest_size, earliest_read, target_read}
 
 pub number_set_same : (xs : List ℕ) (i x : ℕ) → i < length xs → get_or (set xs i x) i 0 ≡ x
 number_set_same xs i x below = get_or-set_same xs i x 0 below
@@ -99,6 +101,29 @@ module _ (e : Edges) (w : Waiting) (x cycle : ℕ) (is : IsGraph (graph_of e)) (
       → Waits (graph_of e) (progress_of w) (cycle + 1) ((graph_of e).from x) ((graph_of e).previous x)
   after_skip free =
       skips (graph_of e) (progress_of w) (cycle + 1) ((graph_of e).from x) x is waits there refl free
+
+  -- the target, which watched x, has come past it
+  pub after_edge : (edge : Edge) (state : State) (t : ℕ) → edge ≡ edge_at e x
+      → state ≡ get_or w.states.items edge.to state → state.reach.place ≡ x
+      → t ≡ max state.reach.earliest (cycle + edge.delay)
+      → Reaches (graph_of e) (progress_of w).issued ((graph_of e).to x) (x + 1) t
+  after_edge edge state t edge_is read watches greatest =
+      let j : ℕ = (graph_of e).to x in
+      let to_is : edge.to ≡ j = ap (λ (d : Edge). d.to) edge_is in
+      let size : length w.states.items ≡ length e.heads.items = sized.states in
+      let inside : j < length e.heads.items = (is.to_there x there).0 in
+      let before : x < (graph_of e).start (j + 1) = (is.to_there x there).2 in
+      let watched : (progress_of w).watch j ≡ x =
+      sym (target_read e w x edge state is sized there edge_is read) ∙ watches in
+      let early : state.reach.earliest ≡ (progress_of w).earliest j =
+      earliest_read w edge.to state (omega arith) read ∙ ap (progress_of w).earliest to_is in
+      let most : t ≡ max ((progress_of w).earliest j) (cycle + (graph_of e).delay x) =
+      greatest ∙ ap (λ d. max state.reach.earliest (cycle + d)) (ap (λ (d : Edge). d.delay) edge_is)
+      ∙ ap (λ u. max u (cycle + (graph_of e).delay x)) early in
+      subst (λ u. Reaches (graph_of e) (progress_of w).issued j (x + 1) u) (sym most)
+      (reaches_more (graph_of e) (progress_of w).issued j x ((progress_of w).earliest j) cycle before now
+      (subst (λ p. Reaches (graph_of e) (progress_of w).issued j p ((progress_of w).earliest j)) watched
+      (waits.reach j inside)))
 
   -- the target watches an edge further on
   pub after_step : (v : Waiting) (p t : ℕ) → (progress_of w).watch ((graph_of e).to x) ≡ x

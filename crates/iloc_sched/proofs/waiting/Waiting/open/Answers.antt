@@ -10,32 +10,36 @@ use Rattle.iloc_sched.proofs.waiting.Waiting.open.Goals.{then-place-end, else-pl
 pub put-requires-clause-few : goal.put-requires-clause-few
 put-requires-clause-few c =
     let few : length ((progress_of c.loop-j.self).bucket 0) ≤ c.loop-j.j =
-    roots_few c.args.edges.now c.loop-j.self c.loop-j.j c.loop-j.invariant in
+    roots_few c.args.edges.now c.loop-j.self c.loop-j.j c.loop-j.invariant.opening in
     let short : length c.args.edges.now.heads.items ≤ 10000 = c.args.edges.now.short in
     omega arith
 
 pub loop-j-preserved : goal.loop-j-preserved
 loop-j-preserved c =
     let e = c.args.edges.now in
-    let state : State = record { issued = None; reach = record { place = c.start-place.result; earliest = 0 } } in
-    elim c.if-place-end.branch [
-      | then-place-end w ↦
-          let v : Waiting = record { states = c.push.new.self; wheel = w.put.new.self } in
-          subst (λ (v : Waiting). IsOpening e v (c.loop-j.j + 1)) (sym w.self-is)
-          (opening_put e c.loop-j.self v c.loop-j.j state (omega arith) c.loop-j.invariant c.in_ok-push.ensures.items
-          refl c.start-place.ensures refl w.put.ensures.put w.put.ensures.others w.put.ensures.room
-          (sym c.start-place.ensures ∙ w.if-place-end.true ∙ c.start-end.ensures))
-      | else-place-end w ↦
-          let v : Waiting = record { states = c.push.new.self; wheel = c.loop-j.self.wheel } in
-          subst (λ (v : Waiting). IsOpening e v (c.loop-j.j + 1)) (sym w.self-is)
-          (opening_kept e c.loop-j.self v c.loop-j.j state (omega arith) c.loop-j.invariant c.in_ok-push.ensures.items
-          refl c.start-place.ensures refl refl
-          (λ same. w.if-place-end.false (c.start-place.ensures ∙ same ∙ sym c.start-end.ensures)))
-    ]
+    let state : State = record { issued = None; reach = record { place = c.loop-j.place; earliest = 0 } } in
+    let at = c.loop-j.invariant.place in
+    record {
+      opening = elim c.if-place-end.branch [
+        | then-place-end w ↦
+            let v : Waiting = record { states = c.push.new.self; wheel = w.put.new.self } in
+            subst (λ (v : Waiting). IsOpening e v (c.loop-j.j + 1)) (sym w.self-is)
+            (opening_put e c.loop-j.self v c.loop-j.j state (omega arith) c.loop-j.invariant.opening
+            c.in_ok-push.ensures.items refl at refl w.put.ensures.put w.put.ensures.others w.put.ensures.room
+            (sym at ∙ w.if-place-end.true ∙ c.start-end.ensures))
+        | else-place-end w ↦
+            let v : Waiting = record { states = c.push.new.self; wheel = c.loop-j.self.wheel } in
+            subst (λ (v : Waiting). IsOpening e v (c.loop-j.j + 1)) (sym w.self-is)
+            (opening_kept e c.loop-j.self v c.loop-j.j state (omega arith) c.loop-j.invariant.opening
+            c.in_ok-push.ensures.items refl at refl refl
+            (λ same. w.if-place-end.false (at ∙ same ∙ sym c.start-end.ensures)))
+      ];
+      place = c.start-end.ensures;
+    }
 
 pub returns-clause-waits : goal.returns-clause-waits
 returns-clause-waits c =
     let e = c.args.edges.now in
     let at_end : c.loop-j.j ≡ length e.heads.items = omega (arith, c.op_count-count.ensures) in
     all_opened e c.loop-j.self c.requires.graph
-    (subst (λ n. IsOpening e c.loop-j.self n) at_end c.loop-j.invariant)
+    (subst (λ n. IsOpening e c.loop-j.self n) at_end c.loop-j.invariant.opening)
