@@ -1,6 +1,7 @@
 pub mod Said
 pub mod Words
 pub mod Written
+pub mod Joining
 pub mod Routines
 pub mod Explanations
 pub mod Checks

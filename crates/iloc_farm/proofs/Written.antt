@@ -36,6 +36,16 @@ front_behind start old new first part after whole before behind all = record {
   written = Appends-trans start old new first behind.front before behind.written;
 }
 
+-- a front of a part is a front of what begins with it
+pub front_before : (old new : Option (List ℕ)) (part after whole : List ℕ) → WritesFront old new part
+    → part ++ after ≡ whole → WritesFront old new whole
+front_before old new part after whole failed all = record {
+  front = failed.front;
+  rest = failed.rest ++ after;
+  whole = sym all ∙ (ap (λ t. t ++ after) failed.whole ∙ append_assoc failed.front failed.rest after);
+  written = failed.written;
+}
+
 -- the pieces of a text before the one at i, that one, and those behind it
 module _ {P : Type 0} (text_of : P → List ℕ) (pieces : List P) (i : ℕ) (piece : P) where
   pub pieces_more : piece ≡ get_or pieces i piece → i < length pieces

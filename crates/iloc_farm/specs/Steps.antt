@@ -5,6 +5,7 @@ pub mod Detailed
 pub mod Entries
 pub mod Farmed
 pub mod Folded
+pub mod Joined
 pub mod Pieces
 pub mod Runner
 pub mod OfInput

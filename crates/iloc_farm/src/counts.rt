@@ -3,7 +3,6 @@ ghost use Rattle.std.specs.Prelude.{◌≡◌, ◌<◌, ◌^◌, ◌++◌, lengt
 ghost use Rattle.iloc_farm.specs.Listing.{count_line, entries, total_of};
 
 use crate::listing::{push_count, push_total};
-use crate::pieces::Pieces;
 use iloc_text::{Block, NoMemory};
 use std::alloc::Global;
 
@@ -12,23 +11,19 @@ pub(crate) fn cycles_text(
     alloc: Global,
     blocks: &[Block],
     counts: &[u32],
-) -> Result<Pieces, NoMemory>
+) -> Result<Vec<u8>, NoMemory>
     requires each { length counts.now ≡ length blocks.now }
     requires total { sum counts.now < 2 ^ 63 }
-    ensures { IfOk result (λ text. text ≡ entries count_line 1 blocks.now counts.now
+    ensures { IfOk result (λ text. text.items ≡ entries count_line 1 blocks.now counts.now
         ++ total_of (sum counts.now)) }
 {
-    let mut text = Pieces::new(alloc, Vec::new(alloc));
-    let mut line = Vec::new(alloc);
+    let mut text = Vec::new(alloc);
     let mut total = 0;
     for (index, block) in blocks.iter().enumerate() {
         let cycles = u64::from(counts[index]);
-        push_count(&mut line, index + 1, block.name.as_ref(), cycles)?;
-        text.join(&line)?;
-        line.clear();
+        push_count(&mut text, index + 1, block.name.as_ref(), cycles)?;
         total += cycles;
     }
-    push_total(&mut line, total)?;
-    text.join(&line)?;
+    push_total(&mut text, total)?;
     Ok(text)
 }

@@ -24,14 +24,11 @@ pub(crate) fn entries_text(alloc: Global, entries: Vec<Entry>) -> Result<Pieces,
     ensures { IfOk result (λ text. text ≡ flat_map (λ e. spelled e.text) entries.items
         ++ total_of (sum_by (λ e. e.cycles) entries.items)) }
 {
-    let mut text = Pieces::new(alloc, Vec::new(alloc));
     let mut total = 0;
-    for entry in entries {
+    for entry in &entries {
         total += u64::from(entry.cycles);
-        text.push(entry.text)?;
     }
-    let mut line = Vec::new(alloc);
-    push_total(&mut line, total)?;
-    text.push(Piece::Plain(line))?;
-    Ok(text)
+    let mut last = Vec::new(alloc);
+    push_total(&mut last, total)?;
+    Pieces::of_entries(alloc, entries, last)
 }

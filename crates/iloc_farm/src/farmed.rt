@@ -87,7 +87,7 @@ pub(crate) fn farmed_text<R: Threads + Wait + Sync>(
         Detail::Cycles => {
             let blocks = file.blocks.as_slice();
             let counts = counts_of(rt, alloc, blocks, request)?;
-            Ok(cycles_text(alloc, blocks, &counts)?)
+            Ok(Pieces::new(alloc, cycles_text(alloc, blocks, &counts)?))
         }
     }
 }

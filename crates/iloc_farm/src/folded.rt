@@ -1,13 +1,9 @@
 //! Listed texts in which rows without an operation take little room.
-ghost use Rattle.std.specs.Prelude.{◌≡◌, ◌<◌, ◌≤◌, ◌+◌, ◌++◌, length, IfOk, OnErr, OnOk};
-ghost use Rattle.std.specs.Io.KnownBytes.{Appends};
-ghost use Rattle.iloc_farm.specs.Device.{WritesFront};
+ghost use Rattle.std.specs.Prelude.{◌≡◌, ◌<◌, ◌≤◌, ◌+◌, ◌++◌, length, IfOk, OnOk};
 ghost use Rattle.iloc_farm.specs.Steps.Folded.{empty_rows};
 
-use crate::device::{WriteFailed, write_bytes};
 use iloc_text::NoMemory;
 use std::alloc::Global;
-use std::io::Write;
 use std::marker::Model;
 
 /// How a row without an operation is listed.
@@ -127,21 +123,5 @@ impl Folded {
         }
         text.extend_from_slice(rest)?;
         Ok(())
-    }
-
-    /// Writes the text by way of a room, which has been made as long. After a failure a front of it was written.
-    pub(crate) fn write_to<W: Write>(
-        &self,
-        room: &mut Vec<u8>,
-        writer: &mut W,
-    ) -> Result<(), WriteFailed>
-        ensures ok { OnOk result (Appends (W.contents writer.old) (W.contents writer.new) self.now) }
-        ensures err { OnErr result (WritesFront (W.contents writer.old) (W.contents writer.new) self.now) }
-    {
-        room.clear();
-        if self.push_to(room).is_err() {
-            return Err(WriteFailed);
-        }
-        write_bytes(writer, room)
     }
 }

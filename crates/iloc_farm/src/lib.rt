@@ -20,6 +20,7 @@ mod fault;
 mod finding;
 mod folded;
 mod initial;
+mod joined;
 pub mod laws;
 mod listing;
 mod outcomes;

@@ -1,14 +1,15 @@
 //! A piece of a listing.
-ghost use Rattle.std.specs.Prelude.{OnErr, OnOk};
-ghost use Rattle.std.specs.Io.KnownBytes.{Appends};
+ghost use Rattle.std.specs.Prelude.{◌++◌, OnErr, OnOk};
 ghost use Rattle.iloc_farm.specs.Device.{WritesFront};
+ghost use Rattle.iloc_farm.specs.Steps.Joined.{Joins};
 ghost use Rattle.iloc_farm.specs.Steps.Pieces.{spelled};
 
-use crate::device::{WriteFailed, write_bytes};
+use crate::device::WriteFailed;
 use crate::folded::Folded;
+use crate::joined::{write_joined, write_room};
 use std::io::Write;
 
-/// What is listed of a block, or of several.
+/// What is listed of a block.
 #[derive(Drop)]
 pub enum Piece {
     /// Its text as it is.
@@ -18,19 +19,24 @@ pub enum Piece {
 }
 
 impl Piece {
-    /// Writes the text, a folded one by way of a room that has been made as long. After a failure a front of it was
-    /// written.
+    /// Writes the text behind those in the room, or leaves it there to be joined by the next. After a failure a front of
+    /// the room and the text was written.
     pub(crate) fn write_to<W: Write>(
         &self,
         room: &mut Vec<u8>,
         writer: &mut W,
     ) -> Result<(), WriteFailed>
-        ensures ok { OnOk result (Appends (W.contents writer.old) (W.contents writer.new) (spelled self.now)) }
-        ensures err { OnErr result (WritesFront (W.contents writer.old) (W.contents writer.new) (spelled self.now)) }
+        ensures ok { OnOk result (Joins (W.contents writer.old) (W.contents writer.new)
+            room.old.items room.new.items (spelled self.now)) }
+        ensures err { OnErr result (WritesFront (W.contents writer.old) (W.contents writer.new)
+            (room.old.items ++ spelled self.now)) }
     {
         match self {
-            Piece::Plain(text) => write_bytes(writer, text),
-            Piece::Folded(folded) => folded.write_to(room, writer),
+            Piece::Plain(text) => write_joined(text, room, writer),
+            Piece::Folded(folded) => {
+                write_room(room, writer)?;
+                folded.push_to(room).map_err(|_| WriteFailed)
+            }
         }
     }
 }

@@ -1,27 +1,27 @@
 //! A text in pieces, as several workers made it.
-ghost use Rattle.std.specs.Prelude.{◌≡◌, [], ◌++◌, OnErr, OnOk};
+ghost use Rattle.std.specs.Prelude.{◌≡◌, ◌++◌, IfOk, OnErr, OnOk};
 ghost use Rattle.std.specs.Io.KnownBytes.{Appends};
+ghost use Rattle.std.specs.List.{flat_map};
 ghost use Rattle.iloc_farm.specs.Device.{WritesFront};
 ghost use Rattle.iloc_farm.specs.Steps.Pieces.{spelled};
 
 use crate::device::{WriteFailed, write_text};
+use crate::entry::Entry;
+use crate::joined::{MOST_JOINED, write_room};
 use crate::piece::Piece;
 use iloc_text::NoMemory;
 use std::alloc::Global;
 use std::io::Write;
 use std::marker::Model;
 
-/// Pieces are joined up to this length, so that short ones are written together.
-const MOST_JOINED: usize = 65536;
-
 /// A text, in pieces.
 #[derive(Drop)]
 pub(crate) struct Pieces {
-    /// The first pieces, in order.
-    earlier: Vec<Piece>,
-    /// The last piece, which short ones join.
+    /// What is listed of each block.
+    entries: Vec<Entry>,
+    /// What stands behind the entries.
     last: Vec<u8>,
-    /// Room for the text of any folded piece.
+    /// Room by which the entries are written.
     room: Vec<u8>,
 }
 
@@ -32,18 +32,7 @@ impl Model for Pieces {
 
     ghost Value = { List ℕ };
 
-    ghost view = { λ p. flat_map spelled p.earlier.items ++ p.last.items };
-}
-
-/// The text of a piece that ends, in just the room that it needs. The next one begins empty.
-fn ended(last: &mut Vec<u8>) -> Vec<u8>
-    ensures text { result.items ≡ last.old.items }
-    ensures next { last.new.items ≡ [] }
-{
-    let alloc = *last.allocator();
-    let mut text = std::mem::replace(last, Vec::new(alloc));
-    text.shrink_to_fit();
-    text
+    ghost view = { λ p. flat_map (λ e. spelled e.text) p.entries.items ++ p.last.items };
 }
 
 impl Pieces {
@@ -52,46 +41,31 @@ impl Pieces {
         ensures { result ≡ text.items }
     {
         Pieces {
-            earlier: Vec::new(alloc),
+            entries: Vec::new(alloc),
             last: text,
             room: Vec::new(alloc),
         }
     }
 
-    /// Appends a piece. Its room is let go where it joins the last one.
-    pub(crate) fn push(&mut self, piece: Piece) -> Result<(), NoMemory>
-        ensures { OnOk result (self.new ≡ self.old ++ spelled piece) }
+    /// What is listed in these entries, and behind them this text. The room that writing them takes is made now.
+    pub(crate) fn of_entries(
+        alloc: Global,
+        entries: Vec<Entry>,
+        last: Vec<u8>,
+    ) -> Result<Pieces, NoMemory>
+        ensures { IfOk result (λ text. text ≡ flat_map (λ e. spelled e.text) entries.items ++ last.items) }
     {
-        match &piece {
-            Piece::Plain(text) if text.len() <= MOST_JOINED => self.join(text),
-            _ => self.push_apart(piece),
+        let mut most = MOST_JOINED;
+        for entry in &entries {
+            if let Piece::Folded(folded) = &entry.text {
+                most = most.max(folded.size());
+            }
         }
-    }
-
-    /// Appends a short text to the last piece, or begins the next one with it.
-    pub(crate) fn join(&mut self, text: &[u8]) -> Result<(), NoMemory>
-        ensures { OnOk result (self.new ≡ self.old ++ text.now) }
-    {
-        if self.last.len() + text.len() > MOST_JOINED {
-            self.earlier.push(Piece::Plain(ended(&mut self.last)))?;
-        }
-        if self.last.is_empty() {
-            self.last.reserve(MOST_JOINED)?;
-        }
-        self.last.extend_from_slice(text)?;
-        Ok(())
-    }
-
-    /// Appends a piece that is long or folded, and kept as it is.
-    fn push_apart(&mut self, piece: Piece) -> Result<(), NoMemory>
-        ensures { OnOk result (self.new ≡ self.old ++ spelled piece) }
-    {
-        if let Piece::Folded(folded) = &piece {
-            self.room.reserve(folded.size())?;
-        }
-        self.earlier.push(Piece::Plain(ended(&mut self.last)))?;
-        self.earlier.push(piece)?;
-        Ok(())
+        Ok(Pieces {
+            entries,
+            last,
+            room: Vec::with_capacity(alloc, most)?,
+        })
     }
 
     /// Writes the whole text, then flushes. After a failure a front of the text was written.
@@ -100,9 +74,11 @@ impl Pieces {
         ensures err { OnErr result (WritesFront (W.contents writer.old) (W.contents writer.new) self) }
     {
         let mut room = self.room;
-        for piece in &self.earlier {
-            piece.write_to(&mut room, writer)?;
+        room.clear();
+        for entry in &self.entries {
+            entry.text.write_to(&mut room, writer)?;
         }
+        write_room(&mut room, writer)?;
         write_text(writer, &self.last)
     }
 }

@@ -41,8 +41,8 @@ returns-in_ok-cycles_text-in-Cycles-clause-greedy g c =
     let blocks = c.as_slice-blocks.result.now in
     let made = c.in_ok-counts-in-Cycles.ensures in
     rw c.as_slice-blocks.ensures at (lists_greedy request blocks made.schedules _ c.args.detail D.Cycles c.in-Cycles.is
-    made.farmed (c.in_ok-cycles_text-in-Cycles.ensures
-    ∙ counts_listed request.latencies blocks made.schedules c.deref.result.now (c.deref.ensures.value ∙ made.counted)))
+    made.farmed (c.new.ensures ∙ (c.in_ok-cycles_text-in-Cycles.ensures
+    ∙ counts_listed request.latencies blocks made.schedules c.deref.result.now (c.deref.ensures.value ∙ made.counted))))
 
 pub returns-in_ok-cycles_text-in-Cycles-clause-farmed : goal.returns-in_ok-cycles_text-in-Cycles-clause-farmed
 returns-in_ok-cycles_text-in-Cycles-clause-farmed g c =
@@ -50,5 +50,5 @@ returns-in_ok-cycles_text-in-Cycles-clause-farmed g c =
     let blocks = c.as_slice-blocks.result.now in
     let made = c.in_ok-counts-in-Cycles.ensures in
     rw c.as_slice-blocks.ensures at (lists_farmed request blocks made.schedules _ c.args.detail D.Cycles c.in-Cycles.is
-    made.farmed (c.in_ok-cycles_text-in-Cycles.ensures
-    ∙ counts_listed request.latencies blocks made.schedules c.deref.result.now (c.deref.ensures.value ∙ made.counted)))
+    made.farmed (c.new.ensures ∙ (c.in_ok-cycles_text-in-Cycles.ensures
+    ∙ counts_listed request.latencies blocks made.schedules c.deref.result.now (c.deref.ensures.value ∙ made.counted))))

@@ -1,10 +1,10 @@
-use Rattle.std.proofs.Common.{take}
-use Rattle.std.specs.Io.KnownBytes.{Appends}
+use Rattle.std.proofs.Common.{[], take}
 use Rattle.std.specs.List.{flat_map}
+use Rattle.iloc_farm.specs.Steps.Joined.{Joins}
 use Rattle.iloc_farm.specs.Steps.Pieces.{spelled}
 use Rattle.iloc_farm.proofs.pieces.Pieces.write_to.Given as goal
 
-abbrev pub invariant-loop-piece : goal.invariant-loop-piece
-invariant-loop-piece g l =
-    Appends (g.W.Write.contents l.fn.writer) (g.W.Write.contents l.writer)
-    (flat_map spelled (take l.piece-index l.piece-items))
+abbrev pub invariant-loop-entry : goal.invariant-loop-entry
+invariant-loop-entry g l =
+    Joins (g.W.Write.contents l.fn.writer) (g.W.Write.contents l.writer) [] l.room.items
+    (flat_map (λ e. spelled e.text) (take l.entry-index l.entry-items))
