@@ -1,23 +1,12 @@
 -- Texts that are joined before they are written, one after another.
 use Rattle.std.proofs.Common.{◌≡◌, ◌∙◌, ℕ, List, [], ◌++◌, Option, ap, append-nil, append_assoc, subst, sym}
-use Rattle.std.proofs.KnownBytes.{Appends-nil, Appends-trans}
+use Rattle.std.proofs.KnownBytes.{Appends-trans}
 use Rattle.std.specs.Io.KnownBytes.{Appends}
 use Rattle.iloc_farm.proofs.Written.{front_behind}
 use Rattle.iloc_farm.specs.Device.{WritesFront}
 use Rattle.iloc_farm.specs.Steps.Joined.{Joins}
 
--- a text that is put behind those in the room
-pub stays : (old : Option (List ℕ)) (before after text : List ℕ) → after ≡ before ++ text
-    → Joins old old before after text
-stays old before after text is = record { front = []; whole = sym is; written = Appends-nil old }
-
--- the room was written, and the text is the room
-pub follows_room : (old new : Option (List ℕ)) (before after text : List ℕ) → Appends old new before → after ≡ text
-    → Joins old new before after text
-follows_room old new before after text written is =
-    record { front = before; whole = ap (λ t. before ++ t) (sym is); written = written }
-
--- both were written
+-- the room and the text were written
 pub goes : (old mid new : Option (List ℕ)) (before after text : List ℕ) → Appends old mid before → after ≡ []
     → Appends mid new text → Joins old new before after text
 goes old mid new before after text first is last = record {
