@@ -10,6 +10,7 @@ pub mod Bodies
 pub mod Labels
 pub mod Caps
 pub mod Lines
+pub mod Copied
 pub mod Counts
 pub mod BlockOps
 pub mod BlockLists

@@ -6,5 +6,7 @@ pub mod Operands
 pub mod Placed
 pub mod Scan
 pub mod ScheduleScan
+pub mod Copied
 pub mod Growth
+pub mod Held
 pub mod Open

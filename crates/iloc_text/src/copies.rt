@@ -1,31 +1,37 @@
 //! Copies of blocks that were handed over.
-ghost use Rattle.std.specs.Prelude.{◌≡◌, ◌++◌, IfOk};
+ghost use Rattle.std.specs.Prelude.{◌≡◌, [], ◌∷◌, ◌++◌, length, sum_by, IfOk, OnOk};
 ghost use Rattle.std.specs.Option.{option_copied};
 
 use crate::fault::NoMemory;
-use crate::file::{Block, Name, Ops};
+use crate::file::Block;
+use crate::name::Name;
+use crate::op::Op;
+use crate::ops::Ops;
 use crate::taker::TakeBlocks;
 use std::alloc::Global;
+use std::mem;
+use std::sync::Arc;
 
-/// The blocks that were handed over, each in a copy with just the room that it needs.
+/// So many operations are kept in one list, or those of one block where it has more.
+const ROOM: usize = 4096;
+
+/// A block whose operations stand in the list that is being filled.
 #[derive(Drop)]
-pub struct Copies {
-    pub blocks: Vec<Block>,
+struct Waiting {
+    name: Option<Name>,
+    count: usize,
 }
 
-impl TakeBlocks for Copies {
-    ghost use Rattle.std.specs.Prelude.{◌≡◌, ◌++◌};
-    ghost use Rattle.std.proofs.Common.{sym, append-nil};
-
-    ghost took = { λ start blocks now. now.blocks.items ≡ start.blocks.items ++ blocks };
-
-    fn take(&mut self, alloc: Global, _number: usize, block: &Block) -> Result<(), NoMemory> {
-        let copy = copy_of(alloc, block)?;
-        self.blocks.push(copy)?;
-        Ok(())
-    }
-
-    ghost took_none = { λ start. sym (append-nil start.blocks.items) };
+/// The blocks that were handed over, in copies that share lists of operations.
+#[derive(Drop)]
+pub struct Copies {
+    /// The first blocks.
+    done: Vec<Block>,
+    /// Those behind them.
+    waiting: Vec<Waiting>,
+    /// The operations of those.
+    ops: Vec<Op>,
+    ghost whole: { sum_by (λ w. w.count) waiting.items ≡ length ops.items },
 }
 
 /// A copy of the name, if there is one.
@@ -33,16 +39,83 @@ fn copy_of_name(alloc: Global, name: Option<&Name>) -> Result<Option<Name>, NoMe
     ensures { IfOk result (λ copy. copy ≡ option_copied name.entry) }
 {
     match name {
-        Some(name) => Ok(Some(Name::new(String::from_str(alloc, name.as_str())?))),
+        Some(name) => Ok(Some(name.copied(alloc)?)),
         None => Ok(None),
     }
 }
 
-/// A copy of the block.
-fn copy_of(alloc: Global, block: &Block) -> Result<Block, NoMemory>
-    ensures { IfOk result (λ copy. copy ≡ block.now) }
-{
-    let name = copy_of_name(alloc, block.name.as_ref())?;
-    let ops = Ops::new(Vec::from_slice(alloc, block.ops.as_slice())?);
-    Ok(Block { name, ops })
+impl Copies {
+    ghost use Rattle.iloc_text.specs.Steps.Copied.{all_of};
+
+    /// No block.
+    pub fn new(alloc: Global) -> Copies
+        ensures { all_of result ≡ [] }
+    {
+        Copies {
+            done: Vec::new(alloc),
+            waiting: Vec::new(alloc),
+            ops: Vec::new(alloc),
+        }
+    }
+
+    /// No block waits any more: those that did share the list of their operations.
+    fn settle(&mut self, alloc: Global) -> Result<(), NoMemory>
+        ensures all { OnOk result (all_of self.new ≡ all_of self.old) }
+        ensures none { OnOk result (self.new.waiting.items ≡ []) }
+    {
+        let waiting = mem::replace(&mut self.waiting, Vec::new(alloc));
+        let ops = mem::replace(&mut self.ops, Vec::new(alloc));
+        let all = Arc::new(alloc, ops)?;
+        let mut start = 0;
+        for block in waiting {
+            let end = start + block.count;
+            self.done.push(Block {
+                name: block.name,
+                ops: Ops::of_shared(&all, start, end)?,
+            })?;
+            start = end;
+        }
+        Ok(())
+    }
+
+    /// Adds a copy of the block, which waits.
+    fn add(&mut self, alloc: Global, block: &Block) -> Result<(), NoMemory>
+        ensures { OnOk result (all_of self.new ≡ all_of self.old ++ block.now ∷ []) }
+    {
+        let name = copy_of_name(alloc, block.name.as_ref())?;
+        let ops = block.ops.as_slice();
+        self.waiting.reserve(1)?;
+        self.ops.extend_from_slice(ops)?;
+        self.waiting.push_reserved(Waiting {
+            name,
+            count: ops.len(),
+        });
+        Ok(())
+    }
+
+    /// All blocks.
+    pub fn into_blocks(mut self, alloc: Global) -> Result<Vec<Block>, NoMemory>
+        ensures { IfOk result (λ blocks. blocks.items ≡ all_of self) }
+    {
+        self.settle(alloc)?;
+        Ok(self.done)
+    }
+}
+
+impl TakeBlocks for Copies {
+    ghost use Rattle.std.specs.Prelude.{◌≡◌, ◌++◌};
+    ghost use Rattle.std.proofs.Common.{sym, append-nil};
+    ghost use Rattle.iloc_text.specs.Steps.Copied.{all_of};
+
+    ghost took = { λ start blocks now. all_of now ≡ all_of start ++ blocks };
+
+    fn take(&mut self, alloc: Global, _number: usize, block: &Block) -> Result<(), NoMemory> {
+        if self.ops.len() + block.ops.len() > ROOM {
+            self.settle(alloc)?;
+            self.ops.reserve(ROOM.max(block.ops.len()))?;
+        }
+        self.add(alloc, block)
+    }
+
+    ghost took_none = { λ start. sym (append-nil (all_of start)) };
 }

@@ -1,5 +1,5 @@
 //! The block that is being read: how the blocks of a file grow, line by line, within the limits.
-ghost use Rattle.std.specs.Prelude.{◌≡◌, ◌<◌, ◌≤◌, [], List, IsUtf8, OnOk, length};
+ghost use Rattle.std.specs.Prelude.{◌≡◌, ◌<◌, ◌≤◌, [], List, IsUtf8, IfOk, OnOk, length};
 ghost use Rattle.std.specs.Option.{ForSome, option_copied};
 ghost use Rattle.iloc_text.specs.declared.file.Block.{Block as block_value};
 ghost use Rattle.iloc_text.specs.declared.limits.TheConstants.{MAX_BLOCKS, MAX_OPS};
@@ -7,10 +7,12 @@ ghost use Rattle.iloc_text.specs.Steps.LineReads.{label_of};
 ghost use Rattle.iloc_text.specs.Steps.Growth.{opened, with_op, with_optional_op, with_line, Grows};
 
 use crate::fault::{NoMemory, ReadFault};
-use crate::file::{Block, Name, Ops};
+use crate::file::Block;
 use crate::limits::{MAX_BLOCKS, MAX_OPS};
 use crate::line::Line;
+use crate::name::Name;
 use crate::op::Op;
+use crate::ops::Ops;
 use crate::taker::TakeBlocks;
 use std::alloc::Global;
 use std::str;
@@ -37,19 +39,14 @@ fn text_of(bytes: &[u8]) -> &str
     }
 }
 
-/// Writes the new name, if there is one, into the room of the old one.
-fn set_name(alloc: Global, name: &mut Option<Name>, text: Option<&str>) -> Result<(), NoMemory>
-    ensures { OnOk result (name.new ≡ option_copied text.entry) }
+/// The name with this text, if there is one.
+fn name_of(alloc: Global, text: Option<&str>) -> Result<Option<Name>, NoMemory>
+    ensures { IfOk result (λ name. name ≡ option_copied text.entry) }
 {
-    let Some(text) = text else {
-        *name = None;
-        return Ok(());
-    };
-    match name {
-        Some(old) => old.set(text)?,
-        None => *name = Some(Name::new(String::from_str(alloc, text)?)),
+    match text {
+        Some(text) => Ok(Some(Name::new(alloc, text)?)),
+        None => Ok(None),
     }
-    Ok(())
 }
 
 impl OpenBlock {
@@ -92,11 +89,12 @@ impl OpenBlock {
         self.hand_over(alloc, taker)?;
         self.count += 1;
         self.block.ops.clear();
-        set_name(alloc, &mut self.block.name, name)?;
+        self.block.name = name_of(alloc, name)?;
         Ok(())
     }
 
     /// Adds the operation to the open block, which is there.
+    #[inline(always)]
     fn push(&mut self, op: Op, number: u32) -> Result<(), ReadFault>
         ensures { (done blocks : List block_value) → AreSoFar done self.old blocks → 0 < length blocks →
             Grows (AreSoFar done self.new) (with_op op blocks) number result }
@@ -109,6 +107,7 @@ impl OpenBlock {
     }
 
     /// Adds the operation, if there is one, to the open block, or to an unnamed block where none is open yet.
+    #[inline(always)]
     pub fn add_op<T: TakeBlocks>(
         &mut self,
         alloc: Global,

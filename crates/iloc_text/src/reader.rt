@@ -77,11 +77,9 @@ pub fn read_file(alloc: Global, input: &[u8]) -> Result<IlocFile, ReadFault>
     ensures ok { IfOk result (λ file. Denotes input.now file.blocks) }
     ensures err { IfErr result (λ fault. fault ≢ no_memory → IsRefused input.now fault) }
 {
-    let mut copies = Copies {
-        blocks: Vec::new(alloc),
-    };
+    let mut copies = Copies::new(alloc);
     read_blocks(alloc, input, &mut copies)?;
     Ok(IlocFile {
-        blocks: Blocks::new(copies.blocks),
+        blocks: Blocks::new(copies.into_blocks(alloc)?),
     })
 }
