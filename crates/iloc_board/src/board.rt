@@ -1,5 +1,5 @@
 //! The board: a row of words that threads share.
-ghost use Rattle.std.specs.Prelude.{◌≡◌, ℕ, ◌+◌, ◌<◌, true, false, [], IfOk, IfErr, OnOk};
+ghost use Rattle.std.specs.Prelude.{◌≡◌, ℕ, ◌+◌, ◌<◌, true, false, [], ◌++◌, IfOk, IfErr, OnErr, OnOk};
 ghost use Rattle.iloc_board.specs.declared.step.Step.TheVariants as step;
 ghost use Rattle.iloc_board.specs.declared.state.State.TheVariants as about;
 ghost use Rattle.iloc_board.specs.Core.{is_holding, state_after};
@@ -14,8 +14,9 @@ use crate::rule::{Gathering, Handing, Looking, Making, Order, Trying};
 use crate::seat_view::SeatView;
 use crate::state::State;
 use atomic_table::Table;
-use std::alloc::Global;
+use std::alloc::{AllocError, Global};
 use std::marker::Model;
+use std::mem;
 
 /// What a look found.
 #[derive(Clone, Copy, Debug, PartialEq, Eq)]
@@ -57,6 +58,18 @@ impl<'a, J: Jobs> Model for Board<'a, J> {
     ghost view = { λ b. record { table = b.table.shared.table_id; jobs = b.jobs.now } };
 
     ghost invariant = { λ b. IsBoard (J.number b.jobs.now) b.count b.table.shared.key b.table.shared.table_id };
+}
+
+/// Moves all answers behind those there, which takes no room where there are none. For want of memory nothing changes.
+fn move_behind<A: Drop>(all: &mut Vec<(u32, A)>, more: &mut Vec<(u32, A)>) -> Result<(), AllocError>
+    ensures ok { OnOk result (all.new.items ≡ all.old.items ++ more.old.items) }
+    ensures err { OnErr result ((all.new.items ≡ all.old.items) × (more.new.items ≡ more.old.items)) }
+{
+    if all.is_empty() {
+        mem::swap(all, more);
+        return Ok(());
+    }
+    all.append(more)
 }
 
 impl<'a, J: Jobs> Board<'a, J> {
@@ -206,7 +219,7 @@ impl<'a, J: Jobs> Board<'a, J> {
         ensures ok { OnOk result (root.new ≡ with_gathered root.old pass.entry) }
         ensures err { IfErr result (λ e. (root.new ≡ root.old) × (e.0 ≡ pass.entry)) }
     {
-        if let Err(_) = root.answers.append(&mut pass.answers) {
+        if let Err(_) = move_behind(&mut root.answers, &mut pass.answers) {
             return Err(NoMemoryWith(pass));
         }
         let Pass { seat, .. } = pass;

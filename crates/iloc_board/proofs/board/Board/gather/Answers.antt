@@ -29,4 +29,4 @@ invariant_of-root-2 g c =
     c.pass.inside.seat.me c.pass.inside.worker c.pass.inside.state p) jobs c.pass.invariant in
     passes.gathered_inside (g.J.Jobs.number c.root.inside.jobs.now) (g.J.Jobs.fits c.root.inside.jobs.now)
     (g.J.Jobs.price c.root.inside.jobs.now) _ _ c.pass.inside.seat.me _ _ _ p _ _ c.root.invariant refl inside refl
-    c.join_seat.ensures.2 (c.in_default.ensures.items)
+    c.join_seat.ensures.2 (c.in_default.ensures.ok)
