@@ -11,16 +11,16 @@ use std::alloc::Global;
 
 /// Blocks to be scheduled for a machine with these latencies, of which only the cycles are wanted.
 #[derive(Clone, Copy)]
-pub struct CycleJobs<'f> {
+pub struct CycleJobs<'f, 'r> {
     /// At most 65,535 blocks, each of at most 10,000 operations.
     pub blocks: &'f [Block],
     pub latencies: Latencies,
-    pub desks: &'f Desks,
+    pub desks: &'f Desks<'r>,
     ghost few: { length blocks.now ≤ MAX_BLOCKS },
     ghost short: { All (λ b. length b.ops ≤ MAX_OPS) blocks.now },
 }
 
-impl<'f> Jobs for CycleJobs<'f> {
+impl<'f, 'r> Jobs for CycleJobs<'f, 'r> {
     ghost use Rattle.iloc_farm.specs.Steps.Counts.{IsCountOf};
 
     type Answer = u32;

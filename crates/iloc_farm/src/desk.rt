@@ -10,6 +10,7 @@ use crate::entry::Entry;
 use crate::folded::Folded;
 use crate::listing::push_schedule;
 use crate::piece::Piece;
+use crate::room::Room;
 use iloc_sched::Scheduler;
 use iloc_text::{Block, NoMemory};
 use iloc_timed::{Latencies, MAX_ROWS, Schedule, cycles};
@@ -32,17 +33,21 @@ fn is_mostly_empty(schedule: &Schedule) -> bool
 
 /// Where blocks are scheduled, one after another. The room that one took is kept for those after it.
 #[derive(Drop)]
-pub struct Desk {
+pub struct Desk<'r> {
     scheduler: Scheduler,
+    /// What is listed of a block, until it is kept.
     text: Vec<u8>,
+    /// Where it is kept, while it fits.
+    room: Room<'r>,
 }
 
-impl Desk {
-    /// A desk without room yet.
-    pub(crate) fn new(alloc: Global) -> Desk {
+impl<'r> Desk<'r> {
+    /// A desk at which texts are kept in this room.
+    pub(crate) fn new(alloc: Global, room: Room<'r>) -> Desk<'r> {
         Desk {
             scheduler: Scheduler::new(alloc),
             text: Vec::new(alloc),
+            room,
         }
     }
 
@@ -64,7 +69,7 @@ impl Desk {
         number: usize,
         block: &Block,
         latencies: &Latencies,
-    ) -> Result<Entry, NoMemory>
+    ) -> Result<Entry<'r>, NoMemory>
         requires short { length block.now.ops ≤ MAX_OPS }
         requires number { number < 2 ^ 63 }
         ensures { IfOk result (IsEntry latencies.now number block.now) }
@@ -88,14 +93,16 @@ impl Desk {
     }
 
     /// The text of the desk, to be kept.
-    fn kept(&self, alloc: Global, folds: bool) -> Result<Piece, NoMemory>
-        ensures { IfOk result (λ kept. spelled kept ≡ self.now.text.items) }
+    fn kept(&mut self, alloc: Global, folds: bool) -> Result<Piece<'r>, NoMemory>
+        ensures { IfOk result (λ kept. spelled kept ≡ self.old.text.items) }
     {
         if folds {
             let folded = Folded::of(alloc, &self.text)?;
-            Ok(Piece::Folded(Box::new(alloc, folded)?))
-        } else {
-            Ok(Piece::Plain(Vec::from_slice(alloc, &self.text)?))
+            return Ok(Piece::Folded(Box::new(alloc, folded)?));
+        }
+        match self.room.keep(&self.text) {
+            Some(text) => Ok(Piece::Shared(text)),
+            None => Ok(Piece::Own(Vec::from_slice(alloc, &self.text)?)),
         }
     }
 }

@@ -12,13 +12,13 @@ ghost use Rattle.iloc_farm.specs.Schedules.{IsWithinLimits};
 use crate::checked::checked_text;
 use crate::device::read_input;
 use crate::explained::explained_text;
-use crate::farmed::farmed_text;
+use crate::farmed::{counts_farmed, schedules_farmed};
 use crate::fault::RunFault;
 use crate::finding::Finding;
 use crate::initial::initial_memory;
-use crate::listing::Detail;
 use crate::outcomes::outcomes_listed;
 use crate::pieces::Pieces;
+use crate::room::lengthen;
 use crate::runner::Runner;
 use iloc_args::{Request, Task};
 use iloc_rows::laws::submissions_are_within_limits;
@@ -30,13 +30,13 @@ use std::io::{Read, Write};
 use std::sync::Wait;
 use std::thread::Threads;
 
-/// The file that the input denotes; the input is let go.
-fn file_of(alloc: Global, input: Vec<u8>) -> Result<IlocFile, ReadFault>
-    ensures ok { IfOk result (λ file. Denotes input.items file.blocks × IsWithinLimits file.blocks) }
-    ensures err { IfErr result (λ fault. fault ≢ ReadFault.NoMemory → IsRefused input.items fault) }
+/// The file that the input denotes.
+fn file_of(alloc: Global, input: &[u8]) -> Result<IlocFile, ReadFault>
+    ensures ok { IfOk result (λ file. Denotes input.now file.blocks × IsWithinLimits file.blocks) }
+    ensures err { IfErr result (λ fault. fault ≢ ReadFault.NoMemory → IsRefused input.now fault) }
 {
     files_are_within_limits();
-    read_file(alloc, &input)
+    read_file(alloc, input)
 }
 
 /// The blocks and proposals that the input denotes; the input is let go.
@@ -52,15 +52,15 @@ fn submission_of(alloc: Global, input: Vec<u8>) -> Result<Submission, RowsFault>
 
 /// What is listed of an input, and what was found.
 #[derive(Drop)]
-struct Listed {
-    text: Pieces,
+struct Listed<'r> {
+    text: Pieces<'r>,
     finding: Finding,
 }
 
-impl Listed {
+impl<'r> Listed<'r> {
     /// A listing of a file, of which nothing is judged.
-    fn of_file(text: Pieces) -> Listed
-        ensures { result ≡ record { text = text; finding = Finding.Passed } }
+    fn of_file(text: Pieces<'r>) -> Listed<'r>
+        ensures { result ≡ record { text = text.entry; finding = Finding.Passed } }
     {
         Listed {
             text,
@@ -70,7 +70,7 @@ impl Listed {
 }
 
 /// What is said of the rows that the input proposes for its blocks.
-fn check_text(alloc: Global, input: Vec<u8>, request: &Request) -> Result<Listed, RunFault>
+fn check_text<'r>(alloc: Global, input: Vec<u8>, request: &Request) -> Result<Listed<'r>, RunFault>
     requires { request.now.task ≡ Task.Check }
     ensures ok { IfOk result (λ listed. ListsInput request.now input.items listed.finding listed.text) }
     ensures err { IfErr result (EndsText request.now input.items) }
@@ -84,44 +84,103 @@ fn check_text(alloc: Global, input: Vec<u8>, request: &Request) -> Result<Listed
     })
 }
 
-/// What the request lists of the input.
-fn request_text<R: Threads + Wait + Sync>(
+/// What a run of each block of the input outputs.
+fn run_text<'r>(alloc: Global, input: Vec<u8>, request: &Request) -> Result<Listed<'r>, RunFault>
+    requires { request.now.task ≡ Task.Run }
+    ensures ok { IfOk result (λ listed. ListsInput request.now input.items listed.finding listed.text) }
+    ensures err { IfErr result (EndsText request.now input.items) }
+{
+    let memory = initial_memory(alloc, request)?;
+    let runner = Runner::plain(alloc, memory)?;
+    let text = outcomes_listed(alloc, &input, runner)?;
+    Ok(Listed::of_file(Pieces::new(alloc, text)))
+}
+
+/// What a run of each block's schedule on the timed machine outputs.
+fn simulated_text<'r>(
+    alloc: Global,
+    input: Vec<u8>,
+    request: &Request,
+) -> Result<Listed<'r>, RunFault>
+    requires { request.now.task ≡ Task.Simulate }
+    ensures ok { IfOk result (λ listed. ListsInput request.now input.items listed.finding listed.text) }
+    ensures err { IfErr result (EndsText request.now input.items) }
+{
+    let memory = initial_memory(alloc, request)?;
+    let runner = Runner::timed(alloc, memory, request.latencies)?;
+    let text = outcomes_listed(alloc, &input, runner)?;
+    Ok(Listed::of_file(Pieces::new(alloc, text)))
+}
+
+/// The schedules of the input's blocks. They are listed where the input was, as far as they fit.
+fn schedules_text<'r, R: Threads + Wait + Sync>(
     rt: &R,
     alloc: Global,
     input: Vec<u8>,
     request: &Request,
-) -> Result<Listed, RunFault>
+    room: &'r mut Vec<u8>,
+) -> Result<Listed<'r>, RunFault>
+    requires { request.now.task ≡ Task.Schedule }
+    ensures ok { IfOk result (λ listed. ListsInput request.now input.items listed.finding listed.text) }
+    ensures err { IfErr result (EndsText request.now input.items) }
+{
+    let file = file_of(alloc, &input)?;
+    *room = input;
+    lengthen(room, file.blocks.as_slice())?;
+    let text = schedules_farmed(rt, alloc, file, request, room.as_mut_slice())?;
+    Ok(Listed::of_file(text))
+}
+
+/// The cycles of the schedules of the input's blocks.
+fn counts_text<'r, R: Threads + Wait + Sync>(
+    rt: &R,
+    alloc: Global,
+    input: Vec<u8>,
+    request: &Request,
+) -> Result<Listed<'r>, RunFault>
+    requires { request.now.task ≡ Task.Counts }
+    ensures ok { IfOk result (λ listed. ListsInput request.now input.items listed.finding listed.text) }
+    ensures err { IfErr result (EndsText request.now input.items) }
+{
+    let file = file_of(alloc, &input)?;
+    drop(input);
+    let text = counts_farmed(rt, alloc, file.blocks.as_slice(), request)?;
+    Ok(Listed::of_file(Pieces::new(alloc, text)))
+}
+
+/// Why the schedules of the input's blocks take their cycles.
+fn explanations_text<'r>(
+    alloc: Global,
+    input: Vec<u8>,
+    request: &Request,
+) -> Result<Listed<'r>, RunFault>
+    requires { request.now.task ≡ Task.Explain }
+    ensures ok { IfOk result (λ listed. ListsInput request.now input.items listed.finding listed.text) }
+    ensures err { IfErr result (EndsText request.now input.items) }
+{
+    let file = file_of(alloc, &input)?;
+    drop(input);
+    let text = explained_text(alloc, &file, &request.latencies)?;
+    Ok(Listed::of_file(Pieces::new(alloc, text)))
+}
+
+/// What the request lists of the input. Some of it may lie in the room.
+fn request_text<'r, R: Threads + Wait + Sync>(
+    rt: &R,
+    alloc: Global,
+    input: Vec<u8>,
+    request: &Request,
+    room: &'r mut Vec<u8>,
+) -> Result<Listed<'r>, RunFault>
     ensures ok { IfOk result (λ listed. ListsInput request.now input.items listed.finding listed.text) }
     ensures err { IfErr result (EndsText request.now input.items) }
 {
     match request.task {
-        Task::Run => {
-            let memory = initial_memory(alloc, request)?;
-            let runner = Runner::plain(alloc, memory)?;
-            let text = outcomes_listed(alloc, &input, runner)?;
-            Ok(Listed::of_file(Pieces::new(alloc, text)))
-        }
-        Task::Simulate => {
-            let memory = initial_memory(alloc, request)?;
-            let runner = Runner::timed(alloc, memory, request.latencies)?;
-            let text = outcomes_listed(alloc, &input, runner)?;
-            Ok(Listed::of_file(Pieces::new(alloc, text)))
-        }
-        Task::Schedule => {
-            let file = file_of(alloc, input)?;
-            let text = farmed_text(rt, alloc, file, request, Detail::Rows)?;
-            Ok(Listed::of_file(text))
-        }
-        Task::Counts => {
-            let file = file_of(alloc, input)?;
-            let text = farmed_text(rt, alloc, file, request, Detail::Cycles)?;
-            Ok(Listed::of_file(text))
-        }
-        Task::Explain => {
-            let file = file_of(alloc, input)?;
-            let text = explained_text(alloc, &file, &request.latencies)?;
-            Ok(Listed::of_file(Pieces::new(alloc, text)))
-        }
+        Task::Run => run_text(alloc, input, request),
+        Task::Simulate => simulated_text(alloc, input, request),
+        Task::Schedule => schedules_text(rt, alloc, input, request, room),
+        Task::Counts => counts_text(rt, alloc, input, request),
+        Task::Explain => explanations_text(alloc, input, request),
         Task::Check => check_text(alloc, input, request),
     }
 }
@@ -148,7 +207,8 @@ pub fn run<H: Threads + Wait + Sync, R: Read, W: Write>(
         (W.contents writer.old) (W.contents writer.new)) }
 {
     let input = read_input(alloc, reader)?;
-    let listed = request_text(rt, alloc, input, request)?;
+    let mut room = Vec::new(alloc);
+    let listed = request_text(rt, alloc, input, request, &mut room)?;
     let Listed { text, finding } = listed;
     text.write_to(writer)?;
     Ok(finding)

@@ -12,17 +12,20 @@ use std::alloc::Global;
 
 /// What is listed of one block.
 #[derive(Drop)]
-pub struct Entry {
-    pub text: Piece,
+pub struct Entry<'r> {
+    pub text: Piece<'r>,
     /// The cycles of the block's schedule.
     pub cycles: u32,
 }
 
 /// The listing of these entries: their texts, and at the end the cycles of all.
-pub(crate) fn entries_text(alloc: Global, entries: Vec<Entry>) -> Result<Pieces, NoMemory>
+pub(crate) fn entries_text<'r>(
+    alloc: Global,
+    entries: Vec<Entry<'r>>,
+) -> Result<Pieces<'r>, NoMemory>
     requires { sum_by (λ e. e.cycles) entries.items < 2 ^ 63 }
-    ensures { IfOk result (λ text. text ≡ flat_map (λ e. spelled e.text) entries.items
-        ++ total_of (sum_by (λ e. e.cycles) entries.items)) }
+    ensures { IfOk result (λ text. text ≡ flat_map (λ e. spelled e.text) entries.entry.items
+        ++ total_of (sum_by (λ e. e.cycles) entries.entry.items)) }
 {
     let mut total = 0;
     for entry in &entries {

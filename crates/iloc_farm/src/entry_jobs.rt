@@ -12,19 +12,19 @@ use std::alloc::Global;
 
 /// Blocks to be scheduled for a machine with these latencies, and listed.
 #[derive(Clone, Copy)]
-pub struct EntryJobs<'f> {
+pub struct EntryJobs<'f, 'r> {
     /// At most 65,535 blocks, each of at most 10,000 operations.
     pub blocks: &'f [Block],
     pub latencies: Latencies,
-    pub desks: &'f Desks,
+    pub desks: &'f Desks<'r>,
     ghost few: { length blocks.now ≤ MAX_BLOCKS },
     ghost short: { All (λ b. length b.ops ≤ MAX_OPS) blocks.now },
 }
 
-impl<'f> Jobs for EntryJobs<'f> {
+impl<'f, 'r> Jobs for EntryJobs<'f, 'r> {
     ghost use Rattle.iloc_farm.specs.Steps.Entries.{IsEntryOf};
 
-    type Answer = Entry;
+    type Answer = Entry<'r>;
 
     ghost number = { λ jobs. length jobs.blocks.now };
 
@@ -36,11 +36,11 @@ impl<'f> Jobs for EntryJobs<'f> {
         self.blocks.len() as u32
     }
 
-    fn cost(&self, entry: &Entry) -> u64 {
+    fn cost(&self, entry: &Entry<'r>) -> u64 {
         u64::from(entry.cycles)
     }
 
-    fn answer(&self, alloc: Global, i: u32) -> Result<Entry, NoMemory> {
+    fn answer(&self, alloc: Global, i: u32) -> Result<Entry<'r>, NoMemory> {
         let number = i as usize + 1;
         let block = &self.blocks[i as usize];
         self.desks

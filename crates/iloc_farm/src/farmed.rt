@@ -1,9 +1,9 @@
 //! The listings of schedules that the workers make.
 ghost use Rattle.std.specs.Prelude.{IfOk};
+ghost use Rattle.iloc_farm.specs.Listing.{counts_listing, schedules_listing};
 ghost use Rattle.iloc_farm.specs.Run.{ListsFarmed, ListsGreedy};
 ghost use Rattle.iloc_farm.specs.Schedules.{IsWithinLimits};
 ghost use Rattle.iloc_farm.specs.Steps.Counts.{AreCounts};
-ghost use Rattle.iloc_farm.specs.Steps.Detailed.{listing_with};
 ghost use Rattle.iloc_farm.specs.Steps.Entries.{AreEntries};
 
 use crate::answering::answer_all;
@@ -14,7 +14,6 @@ use crate::entry::{Entry, entries_text};
 use crate::entry_jobs::EntryJobs;
 use crate::fault::FarmFault;
 use crate::laws::greedy_schedules_can_be_listed;
-use crate::listing::Detail;
 use crate::pieces::Pieces;
 use iloc_args::Request;
 use iloc_board::FreeGate;
@@ -23,17 +22,19 @@ use std::alloc::Global;
 use std::sync::Wait;
 use std::thread::Threads;
 
-/// The entries of the blocks' greedy schedules, for the request's latencies and by its workers. The blocks are let go.
-fn entries_of<R: Threads + Wait + Sync>(
+/// The entries of the blocks' greedy schedules, for the request's latencies and by its workers. Their texts lie in the
+/// room, which is written over, as far as they fit. The blocks are let go.
+fn entries_of<'r, R: Threads + Wait + Sync>(
     rt: &R,
     alloc: Global,
     file: IlocFile,
     request: &Request,
-) -> Result<Vec<Entry>, FarmFault>
+    room: &'r mut [u8],
+) -> Result<Vec<Entry<'r>>, FarmFault>
     requires { IsWithinLimits file.blocks }
     ensures { IfOk result (λ entries. AreEntries request.now file.blocks entries.items) }
 {
-    let desks = Desks::new(alloc, request.workers)?;
+    let desks = Desks::new(alloc, request.workers, room)?;
     let jobs = EntryJobs {
         blocks: file.blocks.as_slice(),
         latencies: request.latencies,
@@ -53,7 +54,7 @@ fn counts_of<R: Threads + Wait + Sync>(
     requires { IsWithinLimits blocks.now }
     ensures { IfOk result (λ counts. AreCounts request.now blocks.now counts.items) }
 {
-    let desks = Desks::new(alloc, request.workers)?;
+    let desks = Desks::new(alloc, request.workers, &mut [])?;
     let jobs = CycleJobs {
         blocks,
         latencies: request.latencies,
@@ -63,31 +64,40 @@ fn counts_of<R: Threads + Wait + Sync>(
     Ok(counted.answers)
 }
 
-/// The listing of the blocks' greedy schedules, in so much detail, for the request's latencies and
-/// by its workers. Where their rows are listed, the blocks are let go as soon as their entries are made.
-pub(crate) fn farmed_text<R: Threads + Wait + Sync>(
+/// The listing of the blocks' greedy schedules with their rows, for the request's latencies and by its workers. It lies in
+/// the room, as far as it fits, and the blocks are let go as soon as their entries are made.
+pub(crate) fn schedules_farmed<'r, R: Threads + Wait + Sync>(
     rt: &R,
     alloc: Global,
     file: IlocFile,
     request: &Request,
-    detail: Detail,
-) -> Result<Pieces, FarmFault>
+    room: &'r mut [u8],
+) -> Result<Pieces<'r>, FarmFault>
     requires { IsWithinLimits file.blocks }
     ensures greedy { let blocks = file.blocks in let latencies = request.now.latencies in
-        IfOk result (ListsGreedy latencies blocks (listing_with detail latencies blocks)) }
+        IfOk result (ListsGreedy latencies blocks (schedules_listing latencies blocks)) }
     ensures farmed { let blocks = file.blocks in
-        IfOk result (ListsFarmed request.now blocks (listing_with detail request.now.latencies blocks)) }
+        IfOk result (ListsFarmed request.now blocks (schedules_listing request.now.latencies blocks)) }
 {
     greedy_schedules_can_be_listed();
-    match detail {
-        Detail::Rows => {
-            let entries = entries_of(rt, alloc, file, request)?;
-            Ok(entries_text(alloc, entries)?)
-        }
-        Detail::Cycles => {
-            let blocks = file.blocks.as_slice();
-            let counts = counts_of(rt, alloc, blocks, request)?;
-            Ok(Pieces::new(alloc, cycles_text(alloc, blocks, &counts)?))
-        }
-    }
+    let entries = entries_of(rt, alloc, file, request, room)?;
+    Ok(entries_text(alloc, entries)?)
+}
+
+/// The listing of the cycles of the blocks' greedy schedules, for the request's latencies and by its workers.
+pub(crate) fn counts_farmed<R: Threads + Wait + Sync>(
+    rt: &R,
+    alloc: Global,
+    blocks: &[Block],
+    request: &Request,
+) -> Result<Vec<u8>, FarmFault>
+    requires { IsWithinLimits blocks.now }
+    ensures greedy { let blocks = blocks.now in let latencies = request.now.latencies in
+        IfOk result (λ text. ListsGreedy latencies blocks (counts_listing latencies blocks) text.items) }
+    ensures farmed { let blocks = blocks.now in
+        IfOk result (λ text. ListsFarmed request.now blocks (counts_listing request.now.latencies blocks) text.items) }
+{
+    greedy_schedules_can_be_listed();
+    let counts = counts_of(rt, alloc, blocks, request)?;
+    Ok(cycles_text(alloc, blocks, &counts)?)
 }

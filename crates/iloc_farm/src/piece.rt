@@ -11,14 +11,16 @@ use std::io::Write;
 
 /// What is listed of a block.
 #[derive(Drop)]
-pub enum Piece {
-    /// Its text as it is.
-    Plain(Vec<u8>),
+pub enum Piece<'r> {
+    /// Its text as it is, in a room that pieces share.
+    Shared(&'r [u8]),
+    /// Its text as it is, in room of its own.
+    Own(Vec<u8>),
     /// Its text without its empty rows.
     Folded(Box<Folded>),
 }
 
-impl Piece {
+impl<'r> Piece<'r> {
     /// Writes the text behind those in the room, or leaves it there to be joined by the next. After a failure a front of
     /// the room and the text was written.
     pub(crate) fn write_to<W: Write>(
@@ -32,7 +34,8 @@ impl Piece {
             (room.old.items ++ spelled self.now)) }
     {
         match self {
-            Piece::Plain(text) => write_joined(text, room, writer),
+            Piece::Shared(text) => write_joined(text, room, writer),
+            Piece::Own(text) => write_joined(text, room, writer),
             Piece::Folded(folded) => {
                 write_room(room, writer)?;
                 folded.push_to(room).map_err(|_| WriteFailed)

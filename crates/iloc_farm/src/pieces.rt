@@ -16,16 +16,16 @@ use std::marker::Model;
 
 /// A text, in pieces.
 #[derive(Drop)]
-pub(crate) struct Pieces {
+pub(crate) struct Pieces<'r> {
     /// What is listed of each block.
-    entries: Vec<Entry>,
+    entries: Vec<Entry<'r>>,
     /// What stands behind the entries.
     last: Vec<u8>,
     /// Room by which the entries are written.
     room: Vec<u8>,
 }
 
-impl Model for Pieces {
+impl<'r> Model for Pieces<'r> {
     ghost use Rattle.std.specs.Prelude.{ℕ, List, ◌++◌};
     ghost use Rattle.std.specs.List.{flat_map};
     ghost use Rattle.iloc_farm.specs.Steps.Pieces.{spelled};
@@ -35,9 +35,9 @@ impl Model for Pieces {
     ghost view = { λ p. flat_map (λ e. spelled e.text) p.entries.items ++ p.last.items };
 }
 
-impl Pieces {
+impl<'r> Pieces<'r> {
     /// This text, in one piece.
-    pub(crate) fn new(alloc: Global, text: Vec<u8>) -> Pieces
+    pub(crate) fn new(alloc: Global, text: Vec<u8>) -> Pieces<'r>
         ensures { result ≡ text.items }
     {
         Pieces {
@@ -50,10 +50,10 @@ impl Pieces {
     /// What is listed in these entries, and behind them this text. The room that writing them takes is made now.
     pub(crate) fn of_entries(
         alloc: Global,
-        entries: Vec<Entry>,
+        entries: Vec<Entry<'r>>,
         last: Vec<u8>,
-    ) -> Result<Pieces, NoMemory>
-        ensures { IfOk result (λ text. text ≡ flat_map (λ e. spelled e.text) entries.items ++ last.items) }
+    ) -> Result<Pieces<'r>, NoMemory>
+        ensures { IfOk result (λ text. text ≡ flat_map (λ e. spelled e.text) entries.entry.items ++ last.items) }
     {
         let mut most = MOST_JOINED;
         for entry in &entries {
@@ -70,8 +70,8 @@ impl Pieces {
 
     /// Writes the whole text, then flushes. After a failure a front of the text was written.
     pub(crate) fn write_to<W: Write>(self, writer: &mut W) -> Result<(), WriteFailed>
-        ensures ok { OnOk result (Appends (W.contents writer.old) (W.contents writer.new) self) }
-        ensures err { OnErr result (WritesFront (W.contents writer.old) (W.contents writer.new) self) }
+        ensures ok { OnOk result (Appends (W.contents writer.old) (W.contents writer.new) self.entry) }
+        ensures err { OnErr result (WritesFront (W.contents writer.old) (W.contents writer.new) self.entry) }
     {
         let mut room = self.room;
         room.clear();
