@@ -102,7 +102,10 @@ impl<'r> Desk<'r> {
         }
         match self.room.keep(&self.text) {
             Some(text) => Ok(Piece::Shared(text)),
-            None => Ok(Piece::Own(Vec::from_slice(alloc, &self.text)?)),
+            None => {
+                let text = Vec::from_slice(alloc, &self.text)?;
+                Ok(Piece::Own(Box::new(alloc, text)?))
+            }
         }
     }
 }

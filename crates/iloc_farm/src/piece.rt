@@ -15,7 +15,7 @@ pub enum Piece<'r> {
     /// Its text as it is, in a room that pieces share.
     Shared(&'r [u8]),
     /// Its text as it is, in room of its own.
-    Own(Vec<u8>),
+    Own(Box<Vec<u8>>),
     /// Its text without its empty rows.
     Folded(Box<Folded>),
 }

@@ -5,5 +5,5 @@ use Rattle.iloc_farm.specs.declared.piece.Piece.TheVariants.{Folded, Own, Shared
 
 abbrev pub spelled : Piece → List ℕ
 spelled (Shared text) = text.now
-spelled (Own text) = text.items
+spelled (Own text) = text.value.items
 spelled (Folded folded) = folded.value
