@@ -1,4 +1,5 @@
 pub mod Lists
+pub mod Pairs
 pub mod Effects
 pub mod Runs
 pub mod Taking

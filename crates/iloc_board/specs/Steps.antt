@@ -5,3 +5,4 @@ pub mod RunningCore
 pub mod Course
 pub mod Closing
 pub mod Row
+pub mod Answers

@@ -1,5 +1,5 @@
 //! The board: a row of words that threads share.
-ghost use Rattle.std.specs.Prelude.{◌≡◌, ℕ, ◌+◌, ◌<◌, true, false, [], ◌++◌, IfOk, IfErr, OnErr, OnOk};
+ghost use Rattle.std.specs.Prelude.{◌≡◌, ℕ, ◌+◌, ◌<◌, true, false, [], IfOk, IfErr, OnOk};
 ghost use Rattle.iloc_board.specs.declared.step.Step.TheVariants as step;
 ghost use Rattle.iloc_board.specs.declared.state.State.TheVariants as about;
 ghost use Rattle.iloc_board.specs.Core.{is_holding, state_after};
@@ -7,6 +7,7 @@ ghost use Rattle.iloc_board.specs.Journal.{seen, saw_none};
 ghost use Rattle.iloc_board.specs.Views.{job_of, is_looking, state, stepped, with_answer, with_pass, new_pass, with_gathered};
 ghost use Rattle.iloc_board.specs.Replies.{seen_reply, tried_reply, IsFreshSeen, IsFreshTried};
 
+use crate::answers::Answers;
 use crate::fault::{NoMemory, NoMemoryWith};
 use crate::jobs::Jobs;
 use crate::pass::{Pass, Root};
@@ -14,9 +15,8 @@ use crate::rule::{Gathering, Handing, Looking, Making, Order, Trying};
 use crate::seat_view::SeatView;
 use crate::state::State;
 use atomic_table::Table;
-use std::alloc::{AllocError, Global};
+use std::alloc::Global;
 use std::marker::Model;
-use std::mem;
 
 /// What a look found.
 #[derive(Clone, Copy, Debug, PartialEq, Eq)]
@@ -60,18 +60,6 @@ impl<'a, J: Jobs> Model for Board<'a, J> {
     ghost invariant = { λ b. IsBoard (J.number b.jobs.now) b.count b.table.shared.key b.table.shared.table_id };
 }
 
-/// Moves all answers behind those there, which takes no room where there are none. For want of memory nothing changes.
-fn move_behind<A: Drop>(all: &mut Vec<(u32, A)>, more: &mut Vec<(u32, A)>) -> Result<(), AllocError>
-    ensures ok { OnOk result (all.new.items ≡ all.old.items ++ more.old.items) }
-    ensures err { OnErr result ((all.new.items ≡ all.old.items) × (more.new.items ≡ more.old.items)) }
-{
-    if all.is_empty() {
-        mem::swap(all, more);
-        return Ok(());
-    }
-    all.append(more)
-}
-
 impl<'a, J: Jobs> Board<'a, J> {
     /// A board for these jobs, with a root that may make `workers` passes.
     pub fn new(
@@ -101,7 +89,7 @@ impl<'a, J: Jobs> Board<'a, J> {
             seat,
             workers,
             made: 0,
-            answers: Vec::new(alloc),
+            answers: Answers::new(alloc),
         };
         Ok((board, root))
     }
@@ -121,7 +109,7 @@ impl<'a, J: Jobs> Board<'a, J> {
             seat,
             worker,
             state: State::Free,
-            answers: Vec::new(self.alloc),
+            answers: Answers::new(self.alloc),
         }
     }
 
@@ -197,13 +185,13 @@ impl<'a, J: Jobs> Board<'a, J> {
             unreachable!()
         };
         let cost = self.jobs.cost(&answer);
-        if let Err(_) = pass.answers.reserve(1) {
+        if let Err(_) = pass.answers.reserve_one() {
             return Err(NoMemoryWith(answer));
         }
         self.table
             .shared
             .store::<Handing>(&mut pass.seat, job as usize + 1, cost);
-        pass.answers.push_reserved((job, answer));
+        pass.answers.push_reserved(job, answer);
         pass.state = State::Free;
         Ok(())
     }
@@ -219,7 +207,7 @@ impl<'a, J: Jobs> Board<'a, J> {
         ensures ok { OnOk result (root.new ≡ with_gathered root.old pass.entry) }
         ensures err { IfErr result (λ e. (root.new ≡ root.old) × (e.0 ≡ pass.entry)) }
     {
-        if let Err(_) = move_behind(&mut root.answers, &mut pass.answers) {
+        if let Err(_) = root.answers.append(&mut pass.answers) {
             return Err(NoMemoryWith(pass));
         }
         let Pass { seat, .. } = pass;

@@ -1,6 +1,7 @@
 //! A board that hands numbered jobs to workers and takes their answers back. It knows nothing of what a job is.
 #![tactic(auto)]
 
+mod answers;
 mod board;
 mod collect;
 mod core_steps;

@@ -4,6 +4,7 @@ ghost use Rattle.iloc_board.specs.Core.{IsWithin};
 ghost use Rattle.iloc_board.specs.Journal.{handed, all_handed};
 ghost use Rattle.iloc_board.specs.Views.{state, AreFitting};
 
+use crate::answers::Answers;
 use crate::jobs::Jobs;
 use crate::seat_view::SeatView;
 use crate::state::State;
@@ -17,7 +18,7 @@ pub struct Pass<'a, J: Jobs> {
     pub(crate) seat: Seat<(), SeatView>,
     pub(crate) worker: u32,
     pub(crate) state: State,
-    pub(crate) answers: Vec<(u32, J::Answer)>,
+    pub(crate) answers: Answers<J::Answer>,
 }
 
 impl<'a, J: Jobs> Model for Pass<'a, J> {
@@ -30,13 +31,13 @@ impl<'a, J: Jobs> Model for Pass<'a, J> {
     ghost view = { λ p. record {
       board = record { table = p.seat.table_id; jobs = p.jobs.now };
       journal = p.seat.me.0.journal;
-      answers = p.answers.items;
+      answers = p.answers.pairs;
     } };
 
     ghost invariant = { λ p. IsPass (J.number p.jobs.now) (J.fits p.jobs.now) (J.price p.jobs.now) p.seat.me p.worker p.state record {
       board = record { table = p.seat.table_id; jobs = p.jobs.now };
       journal = p.seat.me.0.journal;
-      answers = p.answers.items;
+      answers = p.answers.pairs;
     } };
 }
 
@@ -66,7 +67,7 @@ pub struct Root<'a, J: Jobs> {
     pub(crate) seat: Seat<(), SeatView>,
     pub(crate) workers: u32,
     pub(crate) made: u32,
-    pub(crate) answers: Vec<(u32, J::Answer)>,
+    pub(crate) answers: Answers<J::Answer>,
 }
 
 impl<'a, J: Jobs> Model for Root<'a, J> {
@@ -81,7 +82,7 @@ impl<'a, J: Jobs> Model for Root<'a, J> {
       workers = r.workers;
       made = r.made;
       gathered = r.seat.me.0.gathered;
-      answers = r.answers.items;
+      answers = r.answers.pairs;
     } };
 
     ghost invariant = { λ r. IsRoot (J.number r.jobs.now) (J.fits r.jobs.now) (J.price r.jobs.now) r.seat.me record {
@@ -89,7 +90,7 @@ impl<'a, J: Jobs> Model for Root<'a, J> {
       workers = r.workers;
       made = r.made;
       gathered = r.seat.me.0.gathered;
-      answers = r.answers.items;
+      answers = r.answers.pairs;
     } };
 }
 

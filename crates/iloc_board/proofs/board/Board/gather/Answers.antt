@@ -20,7 +20,7 @@ invariant_of-root-2 g c =
     let p : PassView g.row.J.Denot g.row.J-Answer.Denot = record {
       board = record { table = c.pass.inside.seat.table_id; jobs = c.pass.inside.jobs.now };
       journal = c.pass.inside.seat.me.0.journal;
-      answers = c.pass.inside.answers.items;
+      answers = c.pass.inside.answers.pairs;
     } in
     let jobs : c.pass.inside.jobs.now ≡ c.root.inside.jobs.now =
     passes.same_jobs _ _ _ _ c.pass.view_is c.self.view_is c.requires.pass
@@ -29,4 +29,4 @@ invariant_of-root-2 g c =
     c.pass.inside.seat.me c.pass.inside.worker c.pass.inside.state p) jobs c.pass.invariant in
     passes.gathered_inside (g.J.Jobs.number c.root.inside.jobs.now) (g.J.Jobs.fits c.root.inside.jobs.now)
     (g.J.Jobs.price c.root.inside.jobs.now) _ _ c.pass.inside.seat.me _ _ _ p _ _ c.root.invariant refl inside refl
-    c.join_seat.ensures.2 (c.in_default.ensures.ok)
+    c.join_seat.ensures.2 c.in_default.ensures.ok

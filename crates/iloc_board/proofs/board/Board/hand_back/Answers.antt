@@ -35,7 +35,7 @@ invariant_of-pass-2 g c =
     (sym (passes.same_jobs _ _ _ _ c.pass.view_is c.self.view_is c.requires.own)) in
     passes.handed_inside number (g.J.Jobs.fits c.pass.inside.jobs.now) (g.J.Jobs.price c.pass.inside.jobs.now) _ _ _ _ _
     _ c.in-Holding.job c.cost-cost.result _ c.args.answer _ c.pass.invariant refl c.store.ensures.2 c.in-Holding.is
-    (passes.pushed _ _ _ _ c.reserve.ensures.items c.push_reserved.ensures.items) fit price
+    (passes.pushed _ _ _ _ c.reserve_one.ensures.pairs c.push_reserved.ensures) fit price
 
 pub returns-clause-state : goal.returns-clause-state
 returns-clause-state g c = ap (λ (m : Sat). state_of m.0.journal.entries) c.store.ensures.2
