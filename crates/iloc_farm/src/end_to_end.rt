@@ -113,7 +113,7 @@ fn simulated_text<'r>(
 }
 
 /// The schedules of the input's blocks. They are listed where the input was, as far as they fit.
-fn schedules_text<'r, R: Threads + Wait + Sync>(
+fn scheduled_text<'r, R: Threads + Wait + Sync>(
     rt: &R,
     alloc: Global,
     input: Vec<u8>,
@@ -132,7 +132,7 @@ fn schedules_text<'r, R: Threads + Wait + Sync>(
 }
 
 /// The cycles of the schedules of the input's blocks.
-fn counts_text<'r, R: Threads + Wait + Sync>(
+fn counted_text<'r, R: Threads + Wait + Sync>(
     rt: &R,
     alloc: Global,
     input: Vec<u8>,
@@ -178,8 +178,8 @@ fn request_text<'r, R: Threads + Wait + Sync>(
     match request.task {
         Task::Run => run_text(alloc, input, request),
         Task::Simulate => simulated_text(alloc, input, request),
-        Task::Schedule => schedules_text(rt, alloc, input, request, room),
-        Task::Counts => counts_text(rt, alloc, input, request),
+        Task::Schedule => scheduled_text(rt, alloc, input, request, room),
+        Task::Counts => counted_text(rt, alloc, input, request),
         Task::Explain => explanations_text(alloc, input, request),
         Task::Check => check_text(alloc, input, request),
     }

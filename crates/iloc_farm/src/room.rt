@@ -1,5 +1,5 @@
 //! Room in which texts are kept side by side.
-ghost use Rattle.std.specs.Prelude.{◌≡◌, length, IfSome};
+ghost use Rattle.std.specs.Prelude.{◌≡◌, ◌<◌, length, IfNone, IfSome};
 
 use iloc_text::{Block, NoMemory};
 use std::mem;
@@ -26,7 +26,8 @@ impl<'r> Room<'r> {
 
     /// Takes so many bytes, or none where there are less.
     fn take(&mut self, size: usize) -> Option<&'r mut [u8]>
-        ensures { IfSome result (λ taken. length taken.now ≡ size) }
+        ensures taken { IfSome result (λ taken. length taken.now ≡ size) }
+        ensures none { IfNone result (length self.old.free.now < size) }
     {
         let free = mem::take(&mut self.free);
         if free.len() < size {
@@ -48,7 +49,8 @@ impl<'r> Room<'r> {
 
     /// A copy of the text in this room, or none where it doesn't fit.
     pub(crate) fn keep(&mut self, text: &[u8]) -> Option<&'r [u8]>
-        ensures { IfSome result (λ kept. kept.now ≡ text.now) }
+        ensures kept { IfSome result (λ kept. kept.now ≡ text.now) }
+        ensures none { IfNone result (length self.old.free.now < length text.now) }
     {
         let taken = self.take(text.len())?;
         taken.copy_from_slice(text);
