@@ -150,7 +150,7 @@ answered front (r ∷ rs) n (l ∷ ls) rest h w =
     ∙ answered (front ++ r ∷ []) rs (n + 1) ls rest h.1 (all-behind front r (fronts rs) w.1)
     ∙ ap₂ (λ f m. answer_from (file_of f) m rest) (append_assoc front (r ∷ []) rs) (omega arith)
 
-file_answer : (input : List ℕ) (blocks : List Block) → Denotes input blocks → answer input ≡ Ok blocks
+pub file_answer : (input : List ℕ) (blocks : List Block) → Denotes input blocks → answer input ≡ Ok blocks
 file_answer input blocks d = answer_short input d.short
     ∙ ap (answer_from (file_of []) 1) (lines_are_of input d.lines d.are_lines ∙ sym (append-nil d.lines))
     ∙ answered [] d.readings 1 d.lines [] d.read d.none_faulty ∙ ap (λ bs. Ok bs) (sym d.file)

@@ -26,3 +26,5 @@ pub mod ScheduleLines
 pub mod Every
 pub mod Within
 pub mod Digits
+pub mod Falling
+pub mod Apart

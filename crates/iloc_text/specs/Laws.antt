@@ -1,6 +1,6 @@
 -- What holds of the language as a whole.
 use Rattle.std.specs.Prelude.{◌≡◌, ℕ, ◌≤◌, Option, Some, None, option_map, ◌⊎◌, List, length, map}
-use Rattle.std.specs.List.{AllByRecursion}
+use Rattle.std.specs.List.{AllByRecursion, AllZip, flat_map}
 use Rattle.iloc_text.specs.declared.op.Reg.{Reg}
 use Rattle.iloc_text.specs.declared.op.Op.{Op}
 use Rattle.iloc_text.specs.declared.file.Block.{Block}
@@ -8,9 +8,10 @@ use Rattle.iloc_text.specs.declared.fault.ReadFault.{ReadFault}
 use Rattle.iloc_text.specs.Grammar.{Reads, IsWithinLimit}
 use Rattle.iloc_text.specs.Spelling.{spelling}
 use Rattle.iloc_text.specs.Files.{Denotes, IsRefused}
+use Rattle.iloc_text.specs.Parts.{AreParts}
 use Rattle.iloc_text.specs.ScheduleLines.{Said, Says}
 use Rattle.iloc_text.specs.Registers.{used, defined, with_registers}
-use Rattle.iloc_text.specs.declared.limits.TheConstants.{MAX_BLOCKS, MAX_OPS}
+use Rattle.iloc_text.specs.declared.limits.TheConstants.{MAX_INPUT, MAX_BLOCKS, MAX_OPS}
 
 -- a line has at most one reading
 abbrev pub LinesHaveOneReading : Type 0
@@ -40,6 +41,12 @@ TextsHaveAnAnswer = (input : List ℕ)
 abbrev pub FilesAreWithinLimits : Type 0
 FilesAreWithinLimits = (input : List ℕ) (blocks : List Block) → Denotes input blocks
     → (length blocks ≤ MAX_BLOCKS) × AllByRecursion (λ b. length b.ops ≤ MAX_OPS) blocks
+
+-- where each part of a text denotes a file, the text denotes the blocks of all, if they and it are within the limits
+abbrev pub PartsAreReadApart : Type 0
+PartsAreReadApart = (input : List ℕ) (parts : List (List ℕ)) (files : List (List Block)) → AreParts input parts
+    → AllZip Denotes parts files → length input ≤ MAX_INPUT → length (flat_map (λ blocks. blocks) files) ≤ MAX_BLOCKS
+    → Denotes input (flat_map (λ blocks. blocks) files)
 
 -- an operation with other registers uses the new ones, in the order of its own
 abbrev pub RenamingMapsUses : Type 0

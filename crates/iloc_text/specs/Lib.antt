@@ -5,6 +5,7 @@ pub mod Columns
 pub mod Grammar
 pub mod Fault
 pub mod Files
+pub mod Parts
 pub mod ScheduleLines
 pub mod Laws
 pub mod Steps

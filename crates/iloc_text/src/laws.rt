@@ -1,5 +1,5 @@
 //! Laws of the language, as contracts of functions that do nothing.
-ghost use Rattle.iloc_text.specs.Laws.{LinesHaveOneReading, ScheduleLinesSayOneThing, SpellingsReadBack, TextsHaveAnAnswer, TextsHaveOneAnswer, FilesAreWithinLimits, RenamingMapsUses, RenamingReplacesTheDefinition};
+ghost use Rattle.iloc_text.specs.Laws.{LinesHaveOneReading, ScheduleLinesSayOneThing, SpellingsReadBack, TextsHaveAnAnswer, TextsHaveOneAnswer, FilesAreWithinLimits, PartsAreReadApart, RenamingMapsUses, RenamingReplacesTheDefinition};
 
 /// A line has at most one reading.
 pub fn lines_have_one_reading()
@@ -30,6 +30,12 @@ pub fn texts_have_an_answer()
 /// A file that a text denotes has at most 65,535 blocks, each of at most 10,000 operations.
 pub fn files_are_within_limits()
     ensures { FilesAreWithinLimits }
+{}
+
+/// Where each part of a text denotes a file, as `read_file` finds it, the text denotes the blocks of all in order, if
+/// they are no more than a file may have, and the text is no longer than one may be.
+pub fn parts_are_read_apart()
+    ensures { PartsAreReadApart }
 {}
 
 /// An operation with other registers uses the new ones, in the order of its own.

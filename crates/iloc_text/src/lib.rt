@@ -24,6 +24,7 @@ mod scan;
 mod schedule_line;
 mod spelling;
 mod taker;
+mod text_parts;
 
 pub use column::{push_column, push_decimal};
 pub use fault::{NoMemory, ReadFault};
@@ -38,3 +39,4 @@ pub use registers::{defines, uses, with_registers};
 pub use schedule_line::{ScheduleLine, read_schedule_line};
 pub use spelling::{OP_ROOM, push_number, push_op, write_op, write_text};
 pub use taker::TakeBlocks;
+pub use text_parts::parts_of;

@@ -1,0 +1,253 @@
+-- The parts of a text are read apart as they are in the text.
+use Rattle.std.proofs.Common.{◌≡◌, ◌∙◌, ℕ, suc, ◌+◌, ◌<◌, ◌≤◌, nat_lt, Bool, true, false, cond, List, [], ◌∷◌, ◌++◌, length, refl, sym, ap, ap₂, subst, subst₂, Option, Some, None, is_some, Result, Ok, Err, append_assoc, append-nil, length-append, ◌⊎◌, inl, inr, arith}
+use Rattle.std.specs.List.{AllZip, flat_map, onto_first}
+use Rattle.std.proofs.lemmas.Bool.Decides.{nat_tests}
+use Rattle.iloc_text.specs.declared.limits.TheConstants.{MAX_INPUT, MAX_BLOCKS, MAX_OPS}
+use Rattle.iloc_text.specs.declared.op.Op.{Op}
+use Rattle.iloc_text.specs.declared.file.Block.{Block}
+use Rattle.iloc_text.specs.declared.fault.ReadFault.{ReadFault}
+use Rattle.iloc_text.specs.declared.fault.ReadFault.TheVariants.{NumberTooLarge, TooManyBlocks, TooManyOperations}
+use Rattle.iloc_text.specs.Grammar.{Reads}
+use Rattle.iloc_text.specs.Files.{file_of, block_names, Denotes}
+use Rattle.iloc_text.specs.Parts.{BeginsLabelled, FallsInto, AreParts}
+use Rattle.iloc_text.specs.Laws.{PartsAreReadApart}
+use Rattle.iloc_text.specs.Steps.Lines.{is_line_end, lines_of}
+use Rattle.iloc_text.specs.Steps.Scan.{line_at, is_within}
+use Rattle.iloc_text.specs.Steps.Growth.{opened, with_op, with_optional_label, with_optional_op, with_line, last_ops, limited}
+use Rattle.iloc_text.proofs.Splitting.{lines_are}
+use Rattle.iloc_text.proofs.Answer.{verdict_on, verdict, answer_from, on_verdict, answer, answer_short, reads_verdict, lines_are_of, file_answer}
+use Rattle.iloc_text.proofs.Every.{Answers, answers}
+use Rattle.iloc_text.proofs.Reading.{answer_begins}
+
+-- The lines of both parts
+
+onto_first_of : (c : ℕ) (ls ms : List (List ℕ)) → 0 < length ls → onto_first c (ls ++ ms) ≡ onto_first c ls ++ ms
+onto_first_of c [] ms some = absurd (omega arith)
+onto_first_of c (l ∷ ls) ms some = refl
+
+lines_of_both : (front back : List ℕ) → lines_of (front ++ 10 ∷ back) ≡ lines_of front ++ lines_of back
+lines_of_both [] back = refl
+lines_of_both (c ∷ cs) back = by (is_line_end c) (lines_of_both cs back) (lines_are cs).some
+  where
+    by : (b : Bool) → lines_of (cs ++ 10 ∷ back) ≡ lines_of cs ++ lines_of back → 0 < length (lines_of cs)
+        → cond b ([] ∷ lines_of (cs ++ 10 ∷ back)) (onto_first c (lines_of (cs ++ 10 ∷ back)))
+        ≡ cond b ([] ∷ lines_of cs) (onto_first c (lines_of cs)) ++ lines_of back
+    by true e some = ap (λ ls. [] ∷ ls) e
+    by false e some = ap (onto_first c) e ∙ onto_first_of c (lines_of cs) (lines_of back) some
+
+-- The answer of both
+
+answer_of_both : (blocks out : List Block) (n : ℕ) (ls ms : List (List ℕ)) → answer_from blocks n ls ≡ Ok out
+    → answer_from blocks n (ls ++ ms) ≡ answer_from out (length ls + n) ms
+answer_of_both blocks out n [] ms e =
+    let same : blocks ≡ out = cc in ap₂ (λ bs m. answer_from bs m ms) same (omega arith)
+answer_of_both blocks out n (l ∷ ls) ms e = by (verdict blocks l n) e (λ grown. answer_of_both grown out (n + 1) ls ms)
+  where
+    by : (v : Result (List Block) ReadFault) → on_verdict n ls v ≡ Ok out
+        → ((grown : List Block) → answer_from grown (n + 1) ls ≡ Ok out
+        → answer_from grown (n + 1) (ls ++ ms) ≡ answer_from out (length ls + (n + 1)) ms)
+        → on_verdict n (ls ++ ms) v ≡ answer_from out (suc (length ls) + n) ms
+    by (Ok grown) f rest = rest grown f ∙ ap (λ m. answer_from out m ms) (omega arith)
+    by (Err fault) f rest = cc
+
+-- Blocks behind others
+
+with_op_behind : (op : Op) (front blocks : List Block) → 0 < length blocks
+    → with_op op (front ++ blocks) ≡ front ++ with_op op blocks
+with_op_behind op [] blocks some = refl
+with_op_behind op (b ∷ []) [] some = absurd (omega arith)
+with_op_behind op (b ∷ []) (c ∷ cs) some = refl
+with_op_behind op (b ∷ c ∷ bs) blocks some = ap (λ rest. b ∷ rest) (with_op_behind op (c ∷ bs) blocks some)
+
+last_ops_behind : (front blocks : List Block) → 0 < length blocks → last_ops (front ++ blocks) ≡ last_ops blocks
+last_ops_behind [] blocks some = refl
+last_ops_behind (b ∷ []) [] some = absurd (omega arith)
+last_ops_behind (b ∷ []) (c ∷ cs) some = refl
+last_ops_behind (b ∷ c ∷ bs) blocks some = last_ops_behind (c ∷ bs) blocks some
+
+optional_op_behind : (op : Option Op) (front blocks : List Block) → 0 < length blocks
+    → with_optional_op op (front ++ blocks) ≡ front ++ with_optional_op op blocks
+optional_op_behind None front blocks some = refl
+optional_op_behind (Some op) front [] some = absurd (omega arith)
+optional_op_behind (Some op) [] (c ∷ cs) some = refl
+optional_op_behind (Some op) (b ∷ bs) (c ∷ cs) some = with_op_behind op (b ∷ bs) (c ∷ cs) some
+
+length_with_op : (op : Op) (blocks : List Block) → length (with_op op blocks) ≡ length blocks
+length_with_op op [] = refl
+length_with_op op (b ∷ []) = refl
+length_with_op op (b ∷ c ∷ bs) = ap suc (length_with_op op (c ∷ bs))
+
+longer_with_op : (op : Option Op) (blocks : List Block) → length blocks ≤ length (with_optional_op op blocks)
+longer_with_op None blocks = omega arith
+longer_with_op (Some op) [] = omega arith
+longer_with_op (Some op) (b ∷ bs) = omega (arith, length_with_op op (b ∷ bs))
+
+-- a line has a label, or blocks stand before it
+abbrev Opens : Option (List ℕ) → List Block → Type 0
+Opens label blocks = (is_some label ≡ true) ⊎ (0 < length blocks)
+
+length_opened : (name : Option (List ℕ)) (blocks : List Block) → length (opened name blocks) ≡ length blocks + 1
+length_opened name blocks = length-append blocks (record { name = name; ops = [] } ∷ [])
+
+longer_with_line : (label : Option (List ℕ)) (op : Option Op) (blocks : List Block)
+    → length blocks ≤ length (with_line label op blocks)
+longer_with_line None op blocks = longer_with_op op blocks
+longer_with_line (Some name) op blocks =
+    omega (arith, length_opened (Some name) blocks, longer_with_op op (opened (Some name) blocks))
+
+with_line_behind : (label : Option (List ℕ)) (op : Option Op) (front blocks : List Block) → Opens label blocks
+    → (with_line label op (front ++ blocks) ≡ front ++ with_line label op blocks)
+    × (0 < length (with_line label op blocks))
+with_line_behind None op front blocks (inl named) = cc
+with_line_behind None op front blocks (inr some) =
+    (optional_op_behind op front blocks some, omega (arith, longer_with_op op blocks))
+with_line_behind (Some name) op front blocks opens =
+    let count = length_opened (Some name) blocks in (
+      ap (with_optional_op op) (append_assoc front blocks (record { name = Some name; ops = [] } ∷ []))
+          ∙ optional_op_behind op front (opened (Some name) blocks) (omega arith),
+      omega (arith, longer_with_op op (opened (Some name) blocks)),
+    )
+
+within : (blocks grown : List Block) (m : ℕ) → limited blocks m ≡ Ok grown
+    → (blocks ≡ grown) × (nat_lt MAX_OPS (length (last_ops blocks)) ≡ false)
+within blocks grown m e = by (nat_lt MAX_BLOCKS (length blocks)) (nat_lt MAX_OPS (length (last_ops blocks))) refl e
+  where
+    by : (many long : Bool) → nat_lt MAX_OPS (length (last_ops blocks)) ≡ long
+        → cond many (Err (TooManyBlocks m)) (cond long (Err (TooManyOperations m)) (Ok blocks)) ≡ Ok grown
+        → (blocks ≡ grown) × (nat_lt MAX_OPS (length (last_ops blocks)) ≡ false)
+    by true long l f = cc
+    by false true l f = cc
+    by false false l f = (cc, l)
+
+-- what is within the limits stays so behind others, if all are no more than a file may have
+limited_behind : (front blocks grown : List Block) (m n : ℕ) → limited blocks m ≡ Ok grown → 0 < length blocks
+    → length front + length grown ≤ MAX_BLOCKS → limited (front ++ blocks) n ≡ Ok (front ++ grown)
+limited_behind front blocks grown m n e some few =
+    let w = within blocks grown m e in
+    let size : length blocks ≡ length grown = ap length w.0 in
+    let all = length-append front blocks in
+    let count : nat_lt MAX_BLOCKS (length (front ++ blocks)) ≡ false = grind (arith, nat_tests) in
+    let short : nat_lt MAX_OPS (length (last_ops (front ++ blocks))) ≡ false =
+    ap (λ ops. nat_lt MAX_OPS (length ops)) (last_ops_behind front blocks some) ∙ w.1 in
+    rw (count, short) (ap (λ bs. Ok (front ++ bs)) w.0)
+
+-- Lines behind others
+
+verdict_longer : (found : Option (Option (List ℕ) × Option Op)) (blocks grown : List Block) (m : ℕ)
+    → verdict_on found blocks m ≡ Ok grown → length blocks ≤ length grown
+verdict_longer None blocks grown m e = cc
+verdict_longer (Some found) blocks grown m e = by (is_within found.1) e
+  where
+    by : (b : Bool) → cond b (limited (with_line found.0 found.1 blocks) m) (Err (NumberTooLarge m)) ≡ Ok grown
+        → length blocks ≤ length grown
+    by true f = omega (
+      arith,
+      longer_with_line found.0 found.1 blocks,
+      ap length (within (with_line found.0 found.1 blocks) grown m f).0,
+    )
+    by false f = cc
+
+verdict_behind : (found : Option (Option (List ℕ) × Option Op)) (front blocks grown : List Block) (m n : ℕ)
+    → verdict_on found blocks m ≡ Ok grown → 0 < length blocks → length front + length grown ≤ MAX_BLOCKS
+    → verdict_on found (front ++ blocks) n ≡ Ok (front ++ grown)
+verdict_behind None front blocks grown m n e some few = cc
+verdict_behind (Some found) front blocks grown m n e some few = by (is_within found.1) e
+  where
+    by : (b : Bool) → cond b (limited (with_line found.0 found.1 blocks) m) (Err (NumberTooLarge m)) ≡ Ok grown
+        → cond b (limited (with_line found.0 found.1 (front ++ blocks)) n) (Err (NumberTooLarge n))
+        ≡ Ok (front ++ grown)
+    by true f = let w = with_line_behind found.0 found.1 front blocks (inr some) in
+        ap (λ bs. limited bs n) w.0
+        ∙ limited_behind front (with_line found.0 found.1 blocks) grown m n f w.1 few
+    by false f = cc
+
+answer_longer : (blocks out : List Block) (n : ℕ) (lines : List (List ℕ)) → answer_from blocks n lines ≡ Ok out
+    → length blocks ≤ length out
+answer_longer blocks out n [] e = let same : blocks ≡ out = cc in omega (arith, ap length same)
+answer_longer blocks out n (l ∷ ls) e =
+    by (verdict blocks l n) (λ grown. verdict_longer (line_at l) blocks grown n) e
+    (λ grown. answer_longer grown out (n + 1) ls)
+  where
+    by : (v : Result (List Block) ReadFault) → ((grown : List Block) → v ≡ Ok grown → length blocks ≤ length grown)
+        → on_verdict n ls v ≡ Ok out
+        → ((grown : List Block) → answer_from grown (n + 1) ls ≡ Ok out → length grown ≤ length out)
+        → length blocks ≤ length out
+    by (Ok grown) longer f rest = omega (arith, longer grown refl, rest grown f)
+    by (Err fault) longer f rest = cc
+
+answer_behind : (front blocks out : List Block) (m n : ℕ) (lines : List (List ℕ)) → answer_from blocks m lines ≡ Ok out
+    → 0 < length blocks → length front + length out ≤ MAX_BLOCKS
+    → answer_from (front ++ blocks) n lines ≡ Ok (front ++ out)
+answer_behind front blocks out m n [] e some few =
+    let same : blocks ≡ out = cc in ap (λ bs. Ok (front ++ bs)) same
+answer_behind front blocks out m n (l ∷ ls) e some few =
+    by (verdict blocks l m) refl e (λ grown. answer_behind front grown out (m + 1) (n + 1) ls)
+  where
+    by : (v : Result (List Block) ReadFault) → verdict blocks l m ≡ v → on_verdict m ls v ≡ Ok out
+        → ((grown : List Block) → answer_from grown (m + 1) ls ≡ Ok out → 0 < length grown
+        → length front + length out ≤ MAX_BLOCKS → answer_from (front ++ grown) (n + 1) ls ≡ Ok (front ++ out))
+        → on_verdict n ls (verdict (front ++ blocks) l n) ≡ Ok (front ++ out)
+    by (Ok grown) v f rest =
+        let here = verdict_longer (line_at l) blocks grown m v in
+        let there = answer_longer grown out (m + 1) ls f in
+        ap (on_verdict n ls) (verdict_behind (line_at l) front blocks grown m n v some (omega arith))
+        ∙ rest grown f (omega arith) few
+    by (Err fault) v f rest = cc
+
+labelled_behind : (front out : List Block) (line : List ℕ) (more : List (List ℕ)) (name : List ℕ) (op : Option Op) (n : ℕ)
+    → Reads line (Some name) op → answer_from [] 1 (line ∷ more) ≡ Ok out
+    → length front + length out ≤ MAX_BLOCKS → answer_from front n (line ∷ more) ≡ Ok (front ++ out)
+labelled_behind front out line more name op n reads e few =
+    by (limited (with_line (Some name) op []) 1) refl
+    (sym (ap (on_verdict 1 more) (reads_verdict [] line 1 (Some name) op reads)) ∙ e)
+  where
+    by : (v : Result (List Block) ReadFault) → limited (with_line (Some name) op []) 1 ≡ v → on_verdict 1 more v ≡ Ok out
+        → answer_from front n (line ∷ more) ≡ Ok (front ++ out)
+    by (Ok grown) v f =
+        let w = with_line_behind (Some name) op front [] (inl refl) in
+        let there = answer_longer grown out 2 more f in
+        let size = ap length (within (with_line (Some name) op []) grown 1 v).0 in
+        let some = w.1 in
+        ap (on_verdict n more) (reads_verdict front line n (Some name) op reads
+        ∙ ap (λ bs. limited (with_line (Some name) op bs) n) (sym (append-nil front))
+        ∙ ap (λ bs. limited bs n) w.0
+        ∙ limited_behind front (with_line (Some name) op []) grown 1 n v some (omega arith))
+        ∙ answer_behind front grown out 2 (n + 1) more f (omega arith) few
+    by (Err fault) v f = cc
+
+-- Texts
+
+first_answer : (text : List ℕ) (blocks : List Block) → Denotes text blocks → answer_from [] 1 (lines_of text) ≡ Ok blocks
+first_answer text blocks d = sym (answer_begins text d.short) ∙ file_answer text blocks d
+
+both_denoted : (front back : List ℕ) (first second : List Block) → Denotes front first → Denotes back second
+    → BeginsLabelled back → length (front ++ 10 ∷ back) ≤ MAX_INPUT → length (first ++ second) ≤ MAX_BLOCKS
+    → Denotes (front ++ 10 ∷ back) (first ++ second)
+both_denoted front back first second d e begins short few =
+    let lines = lines_are_of back (begins.line ∷ begins.more) begins.are_lines in
+    let n = length (lines_of front) + 1 in
+    let count = length-append first second in
+    subst (Answers (front ++ 10 ∷ back))
+    (answer_begins (front ++ 10 ∷ back) short
+    ∙ ap (answer_from [] 1) (lines_of_both front back)
+    ∙ answer_of_both [] first 1 (lines_of front) (lines_of back) (first_answer front first d)
+    ∙ ap (answer_from first n) lines
+    ∙ labelled_behind first second begins.line begins.more begins.name begins.op n begins.reads
+    (ap (answer_from [] 1) (sym lines) ∙ first_answer back second e) (omega arith))
+    (answers (front ++ 10 ∷ back))
+
+pub parts_apart : PartsAreReadApart
+parts_apart text [] files parts each short few = absurd parts
+parts_apart text (part ∷ []) [] parts each short few = absurd each
+parts_apart text (part ∷ []) (file ∷ []) parts each short few = subst₂ Denotes parts (sym (append-nil file)) each.0
+parts_apart text (part ∷ []) (file ∷ next ∷ files) parts each short few = absurd each.1
+parts_apart text (part ∷ next ∷ more) [] parts each short few = absurd each
+parts_apart text (part ∷ next ∷ more) (file ∷ files) parts each short few =
+    let falls = parts.1 in
+    let length_of = ap length falls.whole in
+    let length_both = length-append part (10 ∷ parts.0) in
+    let count = length-append file (flat_map (λ (bs : List Block). bs) files) in
+    subst (λ t. Denotes t (file ++ flat_map (λ bs. bs) files)) (sym falls.whole)
+    (both_denoted part parts.0 file (flat_map (λ bs. bs) files) each.0
+    (parts_apart parts.0 (next ∷ more) files parts.2 each.1 (omega arith) (omega arith))
+    falls.labelled (omega arith) few)

@@ -1,0 +1,50 @@
+//! How a text falls into parts that can be read apart, as by several threads.
+ghost use Rattle.std.specs.Prelude.{◌≡◌, ◌≤◌, length, map, IfOk, IfSome, IsTrue};
+ghost use Rattle.iloc_text.specs.Parts.{AreParts, BeginsLabelled, FallsInto};
+
+use crate::fault::NoMemory;
+use crate::line_ends::split_line;
+use crate::one_pass::usual_line;
+use std::alloc::Global;
+
+/// Whether the first line is found to have a label.
+fn begins_labelled(text: &[u8]) -> bool
+    ensures { IsTrue result → BeginsLabelled text.now }
+{
+    match usual_line(text) {
+        Some((line, _)) => line.label.is_some(),
+        None => false,
+    }
+}
+
+/// The first two parts into which the text is found to fall at a line end from this place on.
+fn split_from(text: &[u8], place: usize) -> Option<(&[u8], &[u8])>
+    requires { place ≤ length text.now }
+    ensures { IfSome result (λ parts. FallsInto text.now parts.0.now parts.1.now) }
+{
+    let mut rest = &text[place..];
+    while let (_, Some(back)) = split_line(rest) {
+        if begins_labelled(back) {
+            return Some((&text[..text.len() - back.len() - 1], back));
+        }
+        rest = back;
+    }
+    None
+}
+
+/// The parts, of about one length and at most `most`, into which the text is found to fall: there may be fewer.
+pub fn parts_of(alloc: Global, text: &[u8], most: usize) -> Result<Vec<&[u8]>, NoMemory>
+    ensures { IfOk result (λ parts. AreParts text.now (map (λ part. part.now) parts.items)) }
+{
+    let mut parts = Vec::with_capacity(alloc, most)?;
+    let mut rest = text;
+    for left in (1..most).rev() {
+        let Some((front, back)) = split_from(rest, rest.len() / (left + 1)) else {
+            break;
+        };
+        parts.push(front)?;
+        rest = back;
+    }
+    parts.push(rest)?;
+    Ok(parts)
+}
