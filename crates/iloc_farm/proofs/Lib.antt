@@ -2,6 +2,7 @@ pub mod Said
 pub mod Words
 pub mod Written
 pub mod Joining
+pub mod Parted
 pub mod Routines
 pub mod Explanations
 pub mod Checks

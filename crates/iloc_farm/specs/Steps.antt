@@ -7,6 +7,7 @@ pub mod Farmed
 pub mod Folded
 pub mod Joined
 pub mod Pieces
+pub mod Reading
 pub mod Runner
 pub mod OfInput
 pub mod Limits

@@ -1,13 +1,12 @@
 //! The whole run: from the bytes that a reader gives to those that a writer takes.
 ghost use Rattle.std.specs.Prelude.{◌≡◌, ◌≢◌, IfOk, IfErr, List, ℕ};
 ghost use Rattle.std.specs.Io.KnownBytes.{Appends};
-ghost use Rattle.iloc_text.specs.Files.{Denotes, IsRefused};
+ghost use Rattle.iloc_text.specs.declared.fault.ReadFault.TheVariants.{NoMemory as no_memory};
 ghost use Rattle.iloc_rows.specs.Submissions as submissions;
 ghost use Rattle.iloc_rows.specs.Laws.{AreWithinLimits};
 ghost use Rattle.iloc_rows.specs.declared.fault.RowsFault.TheVariants.{Read as read};
 ghost use Rattle.iloc_farm.specs.Steps.OfInput.{EndsText};
 ghost use Rattle.iloc_farm.specs.Run.{EndsRun, Lists, ListsInput};
-ghost use Rattle.iloc_farm.specs.Schedules.{IsWithinLimits};
 
 use crate::checked::checked_text;
 use crate::device::read_input;
@@ -18,33 +17,25 @@ use crate::finding::Finding;
 use crate::initial::initial_memory;
 use crate::outcomes::outcomes_listed;
 use crate::pieces::Pieces;
+use crate::reading::file_of;
 use crate::room::lengthen;
 use crate::runner::Runner;
 use iloc_args::{Request, Task};
 use iloc_rows::laws::submissions_are_within_limits;
 use iloc_rows::{RowsFault, Submission, read_submission};
 use iloc_text::laws::files_are_within_limits;
-use iloc_text::{IlocFile, ReadFault, read_file};
+use iloc_text::read_file;
 use std::alloc::Global;
 use std::io::{Read, Write};
 use std::sync::Wait;
 use std::thread::Threads;
-
-/// The file that the input denotes.
-fn file_of(alloc: Global, input: &[u8]) -> Result<IlocFile, ReadFault>
-    ensures ok { IfOk result (λ file. Denotes input.now file.blocks × IsWithinLimits file.blocks) }
-    ensures err { IfErr result (λ fault. fault ≢ ReadFault.NoMemory → IsRefused input.now fault) }
-{
-    files_are_within_limits();
-    read_file(alloc, input)
-}
 
 /// The blocks and proposals that the input denotes; the input is let go.
 fn submission_of(alloc: Global, input: Vec<u8>) -> Result<Submission, RowsFault>
     ensures ok { IfOk result (λ found. submissions.Denotes input.items found.blocks found.proposals
         × AreWithinLimits found.blocks found.proposals) }
     ensures err { IfErr result (λ fault.
-        fault ≢ read ReadFault.NoMemory → submissions.IsRefused input.items fault) }
+        fault ≢ read no_memory → submissions.IsRefused input.items fault) }
 {
     submissions_are_within_limits();
     read_submission(alloc, &input)
@@ -124,7 +115,7 @@ fn scheduled_text<'r, R: Threads + Wait + Sync>(
     ensures ok { IfOk result (λ listed. ListsInput request.now input.items listed.finding listed.text) }
     ensures err { IfErr result (EndsText request.now input.items) }
 {
-    let file = file_of(alloc, &input)?;
+    let file = file_of(rt, alloc, &input, request)?;
     *room = input;
     lengthen(room, file.blocks.as_slice())?;
     let text = schedules_farmed(rt, alloc, file, request, room.as_mut_slice())?;
@@ -142,7 +133,7 @@ fn counted_text<'r, R: Threads + Wait + Sync>(
     ensures ok { IfOk result (λ listed. ListsInput request.now input.items listed.finding listed.text) }
     ensures err { IfErr result (EndsText request.now input.items) }
 {
-    let file = file_of(alloc, &input)?;
+    let file = file_of(rt, alloc, &input, request)?;
     drop(input);
     let text = counts_farmed(rt, alloc, file.blocks.as_slice(), request)?;
     Ok(Listed::of_file(Pieces::new(alloc, text)))
@@ -158,7 +149,8 @@ fn explanations_text<'r>(
     ensures ok { IfOk result (λ listed. ListsInput request.now input.items listed.finding listed.text) }
     ensures err { IfErr result (EndsText request.now input.items) }
 {
-    let file = file_of(alloc, &input)?;
+    files_are_within_limits();
+    let file = read_file(alloc, &input)?;
     drop(input);
     let text = explained_text(alloc, &file, &request.latencies)?;
     Ok(Listed::of_file(Pieces::new(alloc, text)))

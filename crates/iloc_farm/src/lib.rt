@@ -27,6 +27,7 @@ mod outcomes;
 mod piece;
 mod pieces;
 mod program;
+mod reading;
 mod room;
 mod routine;
 mod runner;

@@ -12,7 +12,7 @@ use Rattle.iloc_text.specs.Steps.LineReads.{FirstIs, label_of}
 use Rattle.iloc_text.proofs.Splitting.{lines_are}
 
 -- the first line of a text, a line end and the text of the further lines make the text
-pub line_and_rest : (text line back : List ℕ) → lines_of text ≡ line ∷ lines_of back → text ≡ line ++ 10 ∷ back
+line_and_rest : (text line back : List ℕ) → lines_of text ≡ line ∷ lines_of back → text ≡ line ++ 10 ∷ back
 line_and_rest text line back e =
     (lines_are text).whole ∙ ap (join_with_byte 10) e ∙ by (lines_of back) (lines_are back).some
     ∙ ap (λ rest. line ++ 10 ∷ rest) (sym (lines_are back).whole)
@@ -23,10 +23,12 @@ line_and_rest text line back e =
     by (l ∷ ls) some = refl
 
 -- what stands before the rest, one line further
-pub one_line_further : (text done rest line back : List ℕ) → text ≡ done ++ rest → lines_of rest ≡ line ∷ lines_of back
-    → text ≡ (done ++ line) ++ 10 ∷ back
-one_line_further text done rest line back e lines =
-    e ∙ ap (λ r. done ++ r) (line_and_rest rest line back lines) ∙ sym (append_assoc done line (10 ∷ back))
+pub one_line_further : (text done rest line : List ℕ) {after : Option (Bor (List ℕ))} {back : Bor (List ℕ)}
+    → text ≡ done ++ rest → lines_of rest ≡ line ∷ lines_left after → after ≡ Some back
+    → text ≡ (done ++ line) ++ 10 ∷ back.now
+one_line_further text done rest line {after} {back} e lines some =
+    e ∙ ap (λ r. done ++ r) (line_and_rest rest line back.now (lines ∙ ap (λ a. line ∷ lines_left a) some))
+    ∙ sym (append_assoc done line (10 ∷ back.now))
 
 -- the front of a text, by the length of what stands behind it
 pub front_by_length : (text front back : List ℕ) → text ≡ front ++ 10 ∷ back

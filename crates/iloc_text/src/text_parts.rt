@@ -7,6 +7,9 @@ use crate::line_ends::split_line;
 use crate::one_pass::usual_line;
 use std::alloc::Global;
 
+/// A label is looked for on so many lines, about as many as a block of the greatest length has.
+const MOST_LINES: u32 = 16_384;
+
 /// Whether the first line is found to have a label.
 fn begins_labelled(text: &[u8]) -> bool
     ensures { IsTrue result → BeginsLabelled text.now }
@@ -17,13 +20,16 @@ fn begins_labelled(text: &[u8]) -> bool
     }
 }
 
-/// The first two parts into which the text is found to fall at a line end from this place on.
+/// The two parts into which the text is found to fall at the first such line end from this place on.
 fn split_from(text: &[u8], place: usize) -> Option<(&[u8], &[u8])>
     requires { place ≤ length text.now }
     ensures { IfSome result (λ parts. FallsInto text.now parts.0.now parts.1.now) }
 {
     let mut rest = &text[place..];
-    while let (_, Some(back)) = split_line(rest) {
+    for _ in 0..MOST_LINES {
+        let (_, Some(back)) = split_line(rest) else {
+            return None;
+        };
         if begins_labelled(back) {
             return Some((&text[..text.len() - back.len() - 1], back));
         }
