@@ -1,6 +1,6 @@
 -- The parts of a text are read apart as they are in the text.
 use Rattle.std.proofs.Common.{◌≡◌, ◌∙◌, ℕ, suc, ◌+◌, ◌<◌, ◌≤◌, nat_lt, Bool, true, false, cond, List, [], ◌∷◌, ◌++◌, length, refl, sym, ap, ap₂, subst, subst₂, Option, Some, None, is_some, Result, Ok, Err, append_assoc, append-nil, length-append, ◌⊎◌, inl, inr, arith}
-use Rattle.std.specs.List.{AllZip, flat_map, onto_first}
+use Rattle.std.specs.List.{flat_map, onto_first}
 use Rattle.std.proofs.lemmas.Bool.Decides.{nat_tests}
 use Rattle.iloc_text.specs.declared.limits.TheConstants.{MAX_INPUT, MAX_BLOCKS, MAX_OPS}
 use Rattle.iloc_text.specs.declared.op.Op.{Op}
@@ -8,14 +8,14 @@ use Rattle.iloc_text.specs.declared.file.Block.{Block}
 use Rattle.iloc_text.specs.declared.fault.ReadFault.{ReadFault}
 use Rattle.iloc_text.specs.declared.fault.ReadFault.TheVariants.{NumberTooLarge, TooManyBlocks, TooManyOperations}
 use Rattle.iloc_text.specs.Grammar.{Reads}
-use Rattle.iloc_text.specs.Files.{file_of, block_names, Denotes}
-use Rattle.iloc_text.specs.Parts.{BeginsLabelled, FallsInto, AreParts}
+use Rattle.iloc_text.specs.Files.{Denotes}
+use Rattle.iloc_text.specs.Parts.{BeginsLabelled}
 use Rattle.iloc_text.specs.Laws.{PartsAreReadApart}
 use Rattle.iloc_text.specs.Steps.Lines.{is_line_end, lines_of}
 use Rattle.iloc_text.specs.Steps.Scan.{line_at, is_within}
-use Rattle.iloc_text.specs.Steps.Growth.{opened, with_op, with_optional_label, with_optional_op, with_line, last_ops, limited}
+use Rattle.iloc_text.specs.Steps.Growth.{opened, with_op, with_optional_op, with_line, last_ops, limited}
 use Rattle.iloc_text.proofs.Splitting.{lines_are}
-use Rattle.iloc_text.proofs.Answer.{verdict_on, verdict, answer_from, on_verdict, answer, answer_short, reads_verdict, lines_are_of, file_answer}
+use Rattle.iloc_text.proofs.Answer.{verdict_on, verdict, answer_from, on_verdict, reads_verdict, lines_are_of, file_answer}
 use Rattle.iloc_text.proofs.Every.{Answers, answers}
 use Rattle.iloc_text.proofs.Reading.{answer_begins}
 

@@ -1,10 +1,9 @@
 -- How a text falls into parts.
-use Rattle.std.proofs.Common.{◌≡◌, ◌∙◌, ℕ, ◌+◌, ◌-◌, ◌<◌, ◌≤◌, List, [], ◌∷◌, ◌++◌, length, take, sym, ap, refl, append_assoc, length-append, arith, Option, Some, None, is_some, true, option_map}
+use Rattle.std.proofs.Common.{◌≡◌, ◌∙◌, ℕ, ◌-◌, ◌<◌, List, [], ◌∷◌, ◌++◌, length, take, sym, ap, refl, append_assoc, length-append, arith, Option, Some, None, is_some, true, option_map}
 use Rattle.std.specs.Borrow.{Bor}
 use Rattle.std.specs.List.{join_with_byte}
 use Rattle.std.proofs.Math.Seq.{take-append_seam}
 use Rattle.iloc_text.specs.declared.line.Line.{Line}
-use Rattle.iloc_text.specs.Files.{AreLines}
 use Rattle.iloc_text.specs.Grammar.{Reads}
 use Rattle.iloc_text.specs.Parts.{BeginsLabelled, FallsInto, AreParts}
 use Rattle.iloc_text.specs.Steps.Lines.{lines_of, lines_left}

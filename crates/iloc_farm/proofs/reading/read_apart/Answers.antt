@@ -1,10 +1,9 @@
-use Rattle.std.proofs.Common.{◌≡◌, ◌∙◌, ◌≤◌, ap, sym, subst, length, map, List, arith}
+use Rattle.std.proofs.Common.{◌∙◌, ◌≤◌, ap, sym, subst, length, map, List, arith}
 use Rattle.std.specs.List.{AllZip, flat_map}
 use Rattle.iloc_text.specs.declared.limits.TheConstants.{MAX_BLOCKS}
 use Rattle.iloc_text.specs.declared.file.Block.{Block}
 use Rattle.iloc_text.specs.Files.{Denotes}
 use Rattle.iloc_farm.specs.declared.reading.Part.{Part}
-use Rattle.iloc_farm.specs.declared.reading.PartRead.{PartRead}
 use Rattle.iloc_farm.specs.Steps.Reading.{HoldsItsFile}
 use Rattle.iloc_farm.proofs.Parted.{text_of}
 use Rattle.iloc_farm.proofs.Routines as routines

@@ -1,4 +1,4 @@
-use Rattle.std.proofs.Common.{◌≡◌, ◌∙◌, ◌++◌, ◌∷◌, [], ℕ, List, map, ap, refl, sym, subst, append_assoc, Bor}
+use Rattle.std.proofs.Common.{◌∙◌, ◌++◌, ◌∷◌, [], ℕ, List, map, ap, refl, sym, subst, append_assoc, Bor}
 use Rattle.std.proofs.lemmas.List.{map-append}
 use Rattle.iloc_text.specs.Parts.{AreParts}
 use Rattle.iloc_text.proofs.Falling.{falls_further}
