@@ -1,3 +1,4 @@
 mod file;
 mod reader;
 mod spelling;
+mod text_parts;

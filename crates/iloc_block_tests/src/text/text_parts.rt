@@ -1,0 +1,44 @@
+use crate::asserted::assert_list;
+use iloc_text::{NoMemory, parts_of};
+use std::alloc::Global;
+use std::test::Fail;
+
+const TEXT: &[u8] = b"nop\nA: nop\n// B: nop\nnop\nB: nop\nnop : nop\n\tC :\nnop\nD:nop";
+
+/// How many parts are wanted at most, and those that are found, with a bar behind each.
+const CASES: &[(usize, &[u8])] = &[
+    (
+        1,
+        b"nop\nA: nop\n// B: nop\nnop\nB: nop\nnop : nop\n\tC :\nnop\nD:nop|",
+    ),
+    (
+        2,
+        b"nop\nA: nop\n// B: nop\nnop\nB: nop|nop : nop\n\tC :\nnop\nD:nop|",
+    ),
+    (
+        3,
+        b"nop\nA: nop\n// B: nop\nnop|B: nop\nnop : nop|\tC :\nnop\nD:nop|",
+    ),
+    (
+        8,
+        b"nop\nA: nop\n// B: nop\nnop|B: nop|nop : nop|\tC :\nnop|D:nop|",
+    ),
+];
+
+/// The parts that are found, with a bar behind each.
+fn barred(alloc: Global, most: usize) -> Result<Vec<u8>, NoMemory> {
+    let mut all = Vec::new(alloc);
+    for part in parts_of(alloc, TEXT, most)? {
+        all.extend_from_slice(part)?;
+        all.push(b'|')?;
+    }
+    Ok(all)
+}
+
+#[test]
+fn falls_into_parts_before_labels(rt: HostRuntime) -> Result<(), Fail> {
+    for (most, wanted) in CASES {
+        assert_list(&rt, &barred(rt.alloc(), *most)?, wanted);
+    }
+    Ok(())
+}
