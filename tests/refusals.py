@@ -51,7 +51,7 @@ class Run:
     words: list
     name: str
     given: bytes
-    workers: int = 0
+    workers: int = 0    # the threads that a whole run starts
 
     def __str__(self):
         return f"{' '.join(self.words) or '(no word)'}, {self.name}"
@@ -146,6 +146,11 @@ def middling():
     return b"".join(inputs.block(draw, f"L{number}", 4 + draw.below(20), registers) for number in range(40))
 
 
+def long_text():
+    """The middling blocks with long comments between them: two threads read this text, and then two more work."""
+    return middling().replace(b"\nL", b"\n//" + b" " * 7000 + b"\nL")
+
+
 def middling_rows():
     """Our schedules of the middling blocks, of which every third lacks its last row."""
     for number, block in enumerate(read(middling()), 1):
@@ -172,9 +177,14 @@ def few_runs():
     yield Run([], "nothing", b"")
 
 
+def long_runs():
+    for command in ("schedule", "counts"):
+        yield Run([command, "--workers", "2"], "a long text", long_text(), 4)
+
+
 def refusal_checks(place):
     refuser = Refuser(place)
-    for run in [*few_runs(), *runs("40 blocks", middling(), b"".join(middling_rows()))]:
+    for run in [*few_runs(), *runs("40 blocks", middling(), b"".join(middling_rows())), *long_runs()]:
         yield Check(f"refusals/growths/{run}", lambda run=run: refuser.growths(run))
         yield Check(f"refusals/from_one_on/{run}", lambda run=run: refuser.from_one_on(run))
         if run.workers:

@@ -67,7 +67,7 @@ fn routines_of(alloc: Global, text: &[u8], most: usize) -> Result<Vec<Part<'_>>,
     Ok(routines)
 }
 
-/// The blocks of all parts, in order, or none where a part is refused.
+/// The blocks of all parts, in order, or none where the text of a part is refused.
 fn blocks_of(alloc: Global, parts: Vec<PartRead<'_>>) -> Result<Option<Vec<Block>>, NoMemory>
     requires { All HoldsItsFile parts.items }
     ensures { IfOk result (λ found. IfSome found (λ blocks. (files : List (List block_value))
@@ -76,10 +76,11 @@ fn blocks_of(alloc: Global, parts: Vec<PartRead<'_>>) -> Result<Option<Vec<Block
 {
     let mut blocks = Vec::new(alloc);
     for part in parts {
-        let Ok(file) = part.file else {
-            return Ok(None);
-        };
-        blocks.append(&mut file.blocks.into_vec())?;
+        match part.file {
+            Ok(file) => blocks.append(&mut file.blocks.into_vec())?,
+            Err(ReadFault::NoMemory) => return Err(NoMemory),
+            Err(_) => return Ok(None),
+        }
     }
     Ok(Some(blocks))
 }
