@@ -6,7 +6,7 @@ import shutil
 
 import inputs
 from check import COMMANDS, Check, told
-from refusals import NO_WORKER, Refuser, Run
+from refusals import NO_WORKER, Refuser, Run, long_text
 
 RUNS = 200
 STACK = 128 * 1024
@@ -19,6 +19,7 @@ def thread_checks(place):
     for command in ("schedule", "counts"):
         yield Check(f"threads/same_bytes/{command}", lambda command=command: same_bytes(place, command))
         yield Check(f"threads/as_many_as_asked/{command}", lambda command=command: as_many_as_asked(place, command))
+        yield Check(f"threads/as_many_that_read/{command}", lambda command=command: as_many_that_read(place, command))
         yield Check(f"threads/one_processor/{command}", lambda command=command: one_processor(place, command))
         yield Check(f"threads/none_to_be_had/{command}", lambda command=command: none_to_be_had(place, command))
     for command in ("run", "simulate", "explain"):
@@ -49,6 +50,14 @@ def as_many_as_asked(place, command):
         _, report = Refuser(place).refusing(Run([command, *words], "no block", b""))
         if report.threads != due:
             yield f"{' '.join(words) or 'nothing asked'}: {report.threads} threads"
+
+
+def as_many_that_read(place, command):
+    """A long text is read by as many as then work, and by the one that is there already where one is asked for."""
+    for workers in range(1, 9):
+        _, report = Refuser(place).refusing(Run([command, *by(workers)], "a long text", long_text()))
+        if report.threads != (2 * workers if workers > 1 else 1):
+            yield f"{workers} workers: {report.threads} threads"
 
 
 def one_processor(place, command):
