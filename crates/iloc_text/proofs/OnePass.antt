@@ -1,20 +1,18 @@
 -- What one pass finds is the first line of the text.
-use Rattle.std.proofs.Common.{◌≡◌, ◌∙◌, ◌≤◌, ◌-◌, ℕ, true, List, [], ◌∷◌, ◌++◌, length, take, drop, get_or, refl, sym, ap, subst, Option, Some, None, nat_lt, arith}
+use Rattle.std.proofs.Common.{◌≡◌, ◌∙◌, ◌≤◌, ◌-◌, ℕ, true, List, [], ◌∷◌, ◌++◌, length, take, drop, get_or, refl, sym, ap, subst, Option, Some, None, arith}
 use Rattle.std.specs.Borrow.{Bor}
-use Rattle.std.specs.List.{list_all, onto_first}
+use Rattle.std.specs.List.{onto_first}
 use Rattle.std.proofs.lemmas.List.{take_all}
 use Rattle.iloc_text.specs.declared.op.Op.{Op}
-use Rattle.iloc_text.specs.declared.scan.TheConstants.{ABOVE_LIMIT}
 use Rattle.iloc_text.specs.declared.forms.Opcode.{Opcode}
-use Rattle.iloc_text.specs.Forms.{opcode_text, op_of}
+use Rattle.iloc_text.specs.Forms.{opcode_text}
 use Rattle.iloc_text.specs.Grammar.{◌⋅◌, Blanks, OptionalLabel, OptionalComment, IsWithinLimit, ReadsWidely, Reads}
 use Rattle.iloc_text.specs.Files.{HasNoLineEnd}
 use Rattle.iloc_text.specs.Steps.Lines.{lines_of, lines_left}
 use Rattle.iloc_text.specs.Steps.LineReads.{FirstIs, FirstBody}
-use Rattle.iloc_text.specs.Steps.Scan.{after_blanks, called_at, is_within}
+use Rattle.iloc_text.specs.Steps.Scan.{after_blanks, called_at, is_within, is_within_limit}
 use Rattle.iloc_text.proofs.Parts.{Before}
 use Rattle.iloc_text.proofs.Tokens.{blanks_read}
-use Rattle.iloc_text.proofs.Zeros.{within_op_of}
 use Rattle.iloc_text.proofs.Operations.{called_finds}
 use Rattle.iloc_text.proofs.Labels.{no_label}
 use Rattle.iloc_text.proofs.Caps.{capped-within, within_limit}
@@ -48,15 +46,13 @@ comment_first (c ∷ d ∷ cs) line after long first second e = rw (first, secon
   is = (refl, refl);
 })
 
-pub operation_first : (start behind rest : List ℕ) (after : Option (Bor (List ℕ))) (o : Opcode) (ns : List ℕ) (op : Op)
-    → start ≡ opcode_text o ++ behind → Some (op_of o ns, rest) ≡ called_at o behind → op ≡ op_of o ns
-    → list_all (λ n. nat_lt n ABOVE_LIMIT) ns ≡ true → FirstIs (Blanks ⋅ OptionalComment) rest after
-    → FirstBody start (Some op) after
-operation_first start behind rest after o ns op begins called is small ends =
-    let found = called_finds o start behind (op_of o ns) rest begins (sym called) in
-    let within : IsWithinLimit found.0 =
-    within_limit found.0 (ap (λ p. is_within (Some p)) (sym found.2) ∙ within_op_of o ns small) in
-    subst (λ p. FirstBody start (Some p) after) (sym (is ∙ found.2 ∙ capped-within found.0 within))
+pub operation_first : (start behind rest : List ℕ) (after : Option (Bor (List ℕ))) (o : Opcode) (op : Op)
+    → start ≡ opcode_text o ++ behind → called_at o behind ≡ Some (op, rest) → is_within_limit op ≡ true
+    → FirstIs (Blanks ⋅ OptionalComment) rest after → FirstBody start (Some op) after
+operation_first start behind rest after o op begins called small ends =
+    let found = called_finds o start behind op rest begins called in
+    let within : IsWithinLimit found.0 = within_limit found.0 (ap (λ p. is_within (Some p)) (sym found.2) ∙ small) in
+    subst (λ p. FirstBody start (Some p) after) (sym (found.2 ∙ capped-within found.0 within))
     (ahead (operation_inside found.0) found.1 ends, within)
 
 -- what stands behind a label, or behind none, makes the line

@@ -25,6 +25,7 @@ mod schedule_line;
 mod spelling;
 mod taker;
 mod text_parts;
+mod usual;
 
 pub use column::{push_column, push_decimal};
 pub use fault::{NoMemory, ReadFault};

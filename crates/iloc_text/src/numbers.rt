@@ -1,11 +1,14 @@
 //! Numbers. Those of few digits, as most are, are read without a branch for each digit, since it is seldom foreseen
-//! how many digits a number has.
-ghost use Rattle.std.specs.Prelude.{◌≡◌, ◌≤◌, ◌<◌, ◌-◌, ◌+◌, ◌*◌, true, if◌then◌else◌, nat_lt, option_map, length, drop};
+//! how many digits a number has, and with some bytes behind them, so that where the text ends need not be asked.
+ghost use Rattle.std.specs.Prelude.{◌≡◌, ◌≤◌, ◌<◌, ◌-◌, ◌+◌, ◌*◌, true, if◌then◌else◌, nat_lt, option_map, Some, IfSome, length, drop};
 ghost use Rattle.std.specs.Char.{is_ascii_digit};
 ghost use Rattle.iloc_text.specs.Steps.Scan.{capped, digits_after, number_at};
 
 use crate::limits::MAX_NUMBER;
 use crate::scan::ABOVE_LIMIT;
+
+/// So many digits are enough for each number within the limit.
+const MOST_DIGITS: usize = 10;
 
 /// The number that `digit` makes when it is written behind `value`, as far as the limit goes.
 #[cold]
@@ -60,9 +63,8 @@ fn grown(value: u32, digit: u8, counts: bool) -> u32
     if counts { longer } else { value }
 }
 
-/// As `number_at`, near the end of the text.
-#[inline(always)]
-fn last_number_at(bytes: &[u8]) -> Option<(u32, &[u8])>
+/// A number, which counts as `ABOVE_LIMIT` where it is greater.
+pub fn number_at(bytes: &[u8]) -> Option<(u32, &[u8])>
     ensures { option_map (λ found. (found.0, found.1.now)) result ≡ number_at bytes.now }
 {
     match bytes {
@@ -74,52 +76,100 @@ fn last_number_at(bytes: &[u8]) -> Option<(u32, &[u8])>
     }
 }
 
-/// A number, which counts as `ABOVE_LIMIT` where it is greater. Up to two digits of it are read at once, which
-/// is all that the numbers of most registers have.
-#[inline(always)]
-pub fn register_number_at(bytes: &[u8]) -> Option<(u32, &[u8])>
-    ensures { option_map (λ found. (found.0, found.1.now)) result ≡ number_at bytes.now }
+/// A number within the limit and how many digits it has; no digits where none stands, or one with more than
+/// `MOST_DIGITS`.
+#[cold]
+#[inline(never)]
+fn long_number_at(bytes: &[u8]) -> (u32, usize)
+    ensures is { 0 < result.1 → number_at bytes.now ≡ Some (result.0, drop result.1 bytes.now) }
+    ensures small { nat_lt result.0 ABOVE_LIMIT ≡ true }
+    ensures near { result.1 ≤ MOST_DIGITS }
+    ensures inside { result.1 ≤ length bytes.now }
 {
-    let [first, second, third, ..] = bytes else {
-        return last_number_at(bytes);
-    };
-    let (first, second, third) = (digit_in(*first), digit_in(*second), digit_in(*third));
-    if first >= 10 {
-        return None;
+    let (value, count) = with_digits(0, bytes);
+    if value < ABOVE_LIMIT && count <= MOST_DIGITS {
+        (value, count)
+    } else {
+        (0, 0)
     }
-    let two = second < 10;
-    let value = grown(u32::from(first), second, two);
-    let rest = &bytes[1 + usize::from(two)..];
-    if two & (third < 10) {
-        let (value, count) = with_digits(value, rest);
-        return Some((value, &rest[count..]));
-    }
-    Some((value, rest))
 }
 
-/// As `register_number_at`; up to four digits are read at once, which is all that most constants have.
+/// A number of one digit or two, which are read at once, and how many they are: no more have most registers.
 #[inline(always)]
-pub fn number_at(bytes: &[u8]) -> Option<(u32, &[u8])>
-    ensures { option_map (λ found. (found.0, found.1.now)) result ≡ number_at bytes.now }
+fn two_digits_at(bytes: &[u8]) -> Option<(u32, usize)>
+    requires { 3 ≤ length bytes.now }
+    ensures is { IfSome result (λ found. number_at bytes.now ≡ Some (found.0, drop found.1 bytes.now)) }
+    ensures small { IfSome result (λ found. nat_lt found.0 ABOVE_LIMIT ≡ true) }
+    ensures near { IfSome result (λ found. found.1 ≤ 2) }
 {
-    let [first, second, third, fourth, fifth, ..] = bytes else {
-        return last_number_at(bytes);
-    };
-    let (first, second, third) = (digit_in(*first), digit_in(*second), digit_in(*third));
-    let (fourth, fifth) = (digit_in(*fourth), digit_in(*fifth));
-    if first >= 10 {
+    let (first, second, third) = (digit_in(bytes[0]), digit_in(bytes[1]), digit_in(bytes[2]));
+    let two = second < 10;
+    if first >= 10 || two & (third < 10) {
         return None;
     }
+    let value = grown(u32::from(first), second, two);
+    Some((value, 1 + usize::from(two)))
+}
+
+/// A number of one digit to four, which are read at once, and how many they are: no more have most constants.
+#[inline(always)]
+fn four_digits_at(bytes: &[u8]) -> Option<(u32, usize)>
+    requires { 5 ≤ length bytes.now }
+    ensures is { IfSome result (λ found. number_at bytes.now ≡ Some (found.0, drop found.1 bytes.now)) }
+    ensures small { IfSome result (λ found. nat_lt found.0 ABOVE_LIMIT ≡ true) }
+    ensures near { IfSome result (λ found. found.1 ≤ 4) }
+{
+    let (first, second, third) = (digit_in(bytes[0]), digit_in(bytes[1]), digit_in(bytes[2]));
+    let (fourth, fifth) = (digit_in(bytes[3]), digit_in(bytes[4]));
     let two = second < 10;
     let three = two & (third < 10);
     let four = three & (fourth < 10);
+    if first >= 10 || four & (fifth < 10) {
+        return None;
+    }
     let value = grown(u32::from(first), second, two);
     let value = grown(value, third, three);
     let value = grown(value, fourth, four);
-    let rest = &bytes[1 + usize::from(two) + usize::from(three) + usize::from(four)..];
-    if four & (fifth < 10) {
-        let (value, count) = with_digits(value, rest);
-        return Some((value, &rest[count..]));
+    Some((
+        value,
+        1 + usize::from(two) + usize::from(three) + usize::from(four),
+    ))
+}
+
+/// The number of a register, within the limit and of up to `MOST_DIGITS` digits, and how many these are.
+#[inline(always)]
+pub fn usual_register_number_at(bytes: &[u8]) -> Option<(u32, usize)>
+    requires { 3 ≤ length bytes.now }
+    ensures is { IfSome result (λ found. number_at bytes.now ≡ Some (found.0, drop found.1 bytes.now)) }
+    ensures small { IfSome result (λ found. nat_lt found.0 ABOVE_LIMIT ≡ true) }
+    ensures near { IfSome result (λ found. found.1 ≤ MOST_DIGITS) }
+{
+    if let Some(found) = two_digits_at(bytes) {
+        return Some(found);
     }
-    Some((value, rest))
+    let (value, count) = long_number_at(bytes);
+    if count == 0 {
+        None
+    } else {
+        Some((value, count))
+    }
+}
+
+/// As `usual_register_number_at`, of a constant.
+#[inline(always)]
+pub fn usual_number_at(bytes: &[u8]) -> Option<(u32, usize)>
+    requires { 5 ≤ length bytes.now }
+    ensures is { IfSome result (λ found. number_at bytes.now ≡ Some (found.0, drop found.1 bytes.now)) }
+    ensures small { IfSome result (λ found. nat_lt found.0 ABOVE_LIMIT ≡ true) }
+    ensures near { IfSome result (λ found. found.1 ≤ MOST_DIGITS) }
+{
+    if let Some(found) = four_digits_at(bytes) {
+        return Some(found);
+    }
+    let (value, count) = long_number_at(bytes);
+    if count == 0 {
+        None
+    } else {
+        Some((value, count))
+    }
 }

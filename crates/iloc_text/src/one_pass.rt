@@ -9,6 +9,7 @@ use crate::line_ends::split_line;
 use crate::op::Op;
 use crate::operation::numbers_at;
 use crate::scan::after_blanks;
+use crate::usual::usual_called_at;
 
 /// What stands behind the first line end, if there is one, where nothing but a comment stands before it.
 #[inline(always)]
@@ -34,19 +35,30 @@ fn behind_line_end(bytes: &[u8]) -> Option<Option<&[u8]>>
     behind_comment(after_blanks(bytes))
 }
 
-/// As `behind_line_end`, out of the way of operations.
-#[cold]
+/// The operation that stands at the front in the usual spelling and is the last of its line, and what stands behind
+/// the line end. This is what most lines are.
 #[inline(never)]
-fn behind_nothing(bytes: &[u8]) -> Option<Option<&[u8]>>
-    ensures { IfSome result (FirstIs (Blanks ⋅ OptionalComment) bytes.now) }
+fn usual_operation(bytes: &[u8]) -> Option<(Op, &[u8])>
+    ensures { IfSome result (λ found. FirstBody bytes.now (Some found.0) (Some found.1)) }
 {
-    behind_line_end(bytes)
+    let (opcode, behind) = opcode_at(bytes)?;
+    let (op, rest) = usual_called_at(opcode, behind)?;
+    let after = behind_line_end(rest)??;
+    Some((op, after))
 }
 
-/// The operation that stands at the front and is the last of its line, and what stands behind the line end, if it
-/// has one. This is what most lines are.
+/// What the line at the front says where that is an operation in the usual spelling, without a label and without
+/// blanks before it, and what stands behind its line end.
 #[inline(always)]
-fn usual_operation(bytes: &[u8]) -> Option<(Op, Option<&[u8]>)>
+pub fn usual_body(bytes: &[u8]) -> Option<(Option<Op>, Option<&[u8]>)>
+    ensures { IfSome result (λ found. FirstBody bytes.now found.0 found.1) }
+{
+    let (op, after) = usual_operation(bytes)?;
+    Some((Some(op), Some(after)))
+}
+
+/// As `usual_operation`, however it is spelled, and though the text may end with it.
+fn any_operation(bytes: &[u8]) -> Option<(Op, Option<&[u8]>)>
     ensures { IfSome result (λ found. FirstBody bytes.now (Some found.0) found.1) }
 {
     let (opcode, behind) = opcode_at(bytes)?;
@@ -61,15 +73,14 @@ fn usual_operation(bytes: &[u8]) -> Option<(Op, Option<&[u8]>)>
 
 /// What the line at the front says where it has no label and no blanks before what it says, and what stands behind
 /// its line end, if it has one.
-#[inline(always)]
-pub fn usual_body(bytes: &[u8]) -> Option<(Option<Op>, Option<&[u8]>)>
+fn any_body(bytes: &[u8]) -> Option<(Option<Op>, Option<&[u8]>)>
     ensures { IfSome result (λ found. FirstBody bytes.now found.0 found.1) }
 {
-    if let Some((op, after)) = usual_operation(bytes) {
-        return Some((Some(op), after));
+    if let Some(after) = behind_line_end(bytes) {
+        return Some((None, after));
     }
-    let after = behind_nothing(bytes)?;
-    Some((None, after))
+    let (op, after) = any_operation(bytes)?;
+    Some((Some(op), after))
 }
 
 /// What the first line of the text reads as, and what stands behind its line end, if it has one.
@@ -78,6 +89,6 @@ pub fn usual_line(text: &[u8]) -> Option<(Line<'_>, Option<&[u8]>)>
     ensures { IfSome result (λ found. FirstLine text.now (Ok found)) }
 {
     let (label, behind) = optional_label_at(after_blanks(text));
-    let (op, after) = usual_body(after_blanks(behind))?;
+    let (op, after) = any_body(after_blanks(behind))?;
     Some((Line { label, op }, after))
 }

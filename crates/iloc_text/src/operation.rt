@@ -4,16 +4,14 @@ ghost use Rattle.iloc_text.specs.Forms.{op_of};
 ghost use Rattle.iloc_text.specs.Steps.Scan.{called_at, operation_at, optional_operation_at};
 
 use crate::forms::{Opcode, Operands, op_of, opcode_of, shape_of};
-use crate::numbers::register_number_at;
 use crate::op::Op;
 use crate::operand::{
-    digits_behind_arrow, digits_behind_blank, digits_behind_comma, number_behind_blank,
-    number_behind_comma,
+    number_behind_blank, number_behind_comma, register_behind_arrow, register_behind_blank,
+    register_behind_comma,
 };
 use crate::scan::{is_word_byte, word_at};
 
 /// The numbers behind an opcode by their places, with 0 in each that it has no place for.
-#[inline(always)]
 #[tactic(auto, using(crate::proofs::Zeros::zero_stands_for_none, crate::proofs::Zeros::zeros_stand_for_none, crate::proofs::Zeros::all_zeros_stand_for_none), unfolding(crate::specs::Steps::Scan::called_at, crate::specs::Steps::Scan::operand_then))]
 pub fn numbers_at(opcode: Opcode, bytes: &[u8]) -> Option<([u32; 3], &[u8])>
     ensures { option_map (λ found. (op_of opcode found.0, found.1.now)) result ≡ called_at opcode bytes.now }
@@ -26,29 +24,29 @@ pub fn numbers_at(opcode: Opcode, bytes: &[u8]) -> Option<([u32; 3], &[u8])>
         }
         Operands::Immediate(..) => {
             let (value, rest) = number_behind_blank(bytes)?;
-            let (dest, rest) = register_number_at(digits_behind_arrow(rest))?;
+            let (dest, rest) = register_behind_arrow(rest)?;
             Some(([value, dest, 0], rest))
         }
         Operands::Copied(..) | Operands::Stored(..) => {
-            let (source, rest) = register_number_at(digits_behind_blank(bytes))?;
-            let (target, rest) = register_number_at(digits_behind_arrow(rest))?;
+            let (source, rest) = register_behind_blank(bytes)?;
+            let (target, rest) = register_behind_arrow(rest)?;
             Some(([source, target, 0], rest))
         }
         Operands::Sources(..) => {
-            let (left, rest) = register_number_at(digits_behind_blank(bytes))?;
-            let (right, rest) = register_number_at(digits_behind_comma(rest))?;
-            let (dest, rest) = register_number_at(digits_behind_arrow(rest))?;
+            let (left, rest) = register_behind_blank(bytes)?;
+            let (right, rest) = register_behind_comma(rest)?;
+            let (dest, rest) = register_behind_arrow(rest)?;
             Some(([left, right, dest], rest))
         }
         Operands::WithConstant(..) => {
-            let (left, rest) = register_number_at(digits_behind_blank(bytes))?;
+            let (left, rest) = register_behind_blank(bytes)?;
             let (value, rest) = number_behind_comma(rest)?;
-            let (dest, rest) = register_number_at(digits_behind_arrow(rest))?;
+            let (dest, rest) = register_behind_arrow(rest)?;
             Some(([left, value, dest], rest))
         }
         Operands::StoredAt(..) => {
-            let (value, rest) = register_number_at(digits_behind_blank(bytes))?;
-            let (addr, rest) = register_number_at(digits_behind_arrow(rest))?;
+            let (value, rest) = register_behind_blank(bytes)?;
+            let (addr, rest) = register_behind_arrow(rest)?;
             let (offset, rest) = number_behind_comma(rest)?;
             Some(([value, addr, offset], rest))
         }
@@ -56,7 +54,6 @@ pub fn numbers_at(opcode: Opcode, bytes: &[u8]) -> Option<([u32; 3], &[u8])>
 }
 
 /// What stands behind an opcode: the operands that belong there.
-#[inline(never)]
 fn called_at(opcode: Opcode, bytes: &[u8]) -> Option<(Op, &[u8])>
     ensures { option_map (λ found. (found.0, found.1.now)) result ≡ called_at opcode bytes.now }
 {

@@ -1,9 +1,12 @@
-use Rattle.std.proofs.Common.{◌∙◌, sym}
+use Rattle.std.proofs.Common.{Some, subst}
+use Rattle.iloc_text.specs.Grammar.{◌⋅◌, Blanks, OptionalComment}
+use Rattle.iloc_text.specs.Steps.LineReads.{FirstIs}
 use Rattle.iloc_text.proofs.OnePass.{operation_first}
 use Rattle.iloc_text.proofs.one_pass.usual_operation.Goals as goal
 
-pub returns-then-are_within_limit : goal.returns-then-are_within_limit
-returns-then-are_within_limit c =
-    operation_first c.args.bytes.now c.in_ok-opcode.behind.now c.in_ok-numbers.rest.now c.in_ok-after.after
-    c.in_ok-opcode.opcode c.in_ok-numbers.numbers c.op_of.result c.in_ok-opcode.ensures c.in_ok-numbers.ensures
-    c.op_of.ensures (sym c.are_within_limit.ensures ∙ c.if-are_within_limit.true) c.in_ok-after.ensures
+pub returns : goal.returns
+returns c =
+    let rest = c.in_ok-op.rest.now in
+    operation_first c.args.bytes.now c.in_ok-opcode.behind.now rest (Some c.in_ok-after.after) c.in_ok-opcode.opcode
+    c.in_ok-op.op c.in_ok-opcode.ensures c.in_ok-op.ensures.is c.in_ok-op.ensures.small
+    (subst (FirstIs (Blanks ⋅ OptionalComment) rest) c.in_ok-after.was c.in_ok-behind_line_end.ensures)

@@ -1,0 +1,188 @@
+//! Operations in the usual spelling. A line of the text that is long enough for each of them is looked at by places,
+//! so where the text ends is asked once.
+ghost use Rattle.std.specs.Prelude.{◌≡◌, ◌≤◌, ◌+◌, true, nat_lt, Some, IfSome, length, get_or, drop};
+ghost use Rattle.iloc_text.specs.declared.scan.TheConstants.{ABOVE_LIMIT};
+ghost use Rattle.iloc_text.specs.Forms.Lead.{space, comma, arrow};
+ghost use Rattle.iloc_text.specs.Forms.Value.{Use, Constant};
+ghost use Rattle.iloc_text.specs.Forms.{◌▹◌};
+ghost use Rattle.iloc_text.specs.Steps.Scan.{register_at, number_at, operand_at, called_at, is_within_limit};
+
+use crate::forms::{Opcode, Operands, op_of, shape_of};
+use crate::numbers::{usual_number_at, usual_register_number_at};
+use crate::op::Op;
+
+/// What stands behind an opcode in the usual spelling is no longer.
+const ROOM: usize = 48;
+
+/// The number of the register at a place, and the place behind it.
+#[inline(always)]
+fn register_from(bytes: &[u8], at: usize) -> Option<(u32, usize)>
+    requires { at + 4 ≤ length bytes.now }
+    ensures is { IfSome result (λ found. register_at (drop at bytes.now) ≡ Some (found.0, drop found.1 bytes.now)) }
+    ensures small { IfSome result (λ found. nat_lt found.0 ABOVE_LIMIT ≡ true) }
+    ensures near { IfSome result (λ found. found.1 ≤ at + 11) }
+{
+    if bytes[at] != b'r' {
+        return None;
+    }
+    let (value, count) = usual_register_number_at(&bytes[at + 1..])?;
+    Some((value, at + 1 + count))
+}
+
+/// The constant at a place, and the place behind it.
+#[inline(always)]
+fn constant_from(bytes: &[u8], at: usize) -> Option<(u32, usize)>
+    requires { at + 5 ≤ length bytes.now }
+    ensures is { IfSome result (λ found. number_at (drop at bytes.now) ≡ Some (found.0, drop found.1 bytes.now)) }
+    ensures small { IfSome result (λ found. nat_lt found.0 ABOVE_LIMIT ≡ true) }
+    ensures near { IfSome result (λ found. found.1 ≤ at + 10) }
+{
+    let (value, count) = usual_number_at(&bytes[at..])?;
+    Some((value, at + count))
+}
+
+/// A blank and a register.
+#[inline(always)]
+fn register_behind_blank(bytes: &[u8]) -> Option<(u32, usize)>
+    requires { 5 ≤ length bytes.now }
+    ensures is { IfSome result (λ found. operand_at (space ▹ Use (record { 0 = 0 })) bytes.now ≡ Some (found.0, drop found.1 bytes.now)) }
+    ensures small { IfSome result (λ found. nat_lt found.0 ABOVE_LIMIT ≡ true) }
+    ensures near { IfSome result (λ found. found.1 ≤ 12) }
+{
+    if bytes[0] != b' ' && bytes[0] != b'\t' {
+        return None;
+    }
+    register_from(bytes, 1)
+}
+
+/// A blank and a constant.
+#[inline(always)]
+fn constant_behind_blank(bytes: &[u8]) -> Option<(u32, usize)>
+    requires { 6 ≤ length bytes.now }
+    ensures is { IfSome result (λ found. operand_at (space ▹ Constant 0) bytes.now ≡ Some (found.0, drop found.1 bytes.now)) }
+    ensures small { IfSome result (λ found. nat_lt found.0 ABOVE_LIMIT ≡ true) }
+    ensures near { IfSome result (λ found. found.1 ≤ 11) }
+{
+    if bytes[0] != b' ' && bytes[0] != b'\t' {
+        return None;
+    }
+    constant_from(bytes, 1)
+}
+
+/// A comma at a place, with a space behind it or none, and a register.
+#[inline(always)]
+fn register_behind_comma(bytes: &[u8], at: usize) -> Option<(u32, usize)>
+    requires { at + 6 ≤ length bytes.now }
+    ensures is { IfSome result (λ found. operand_at (comma ▹ Use (record { 0 = 0 })) (drop at bytes.now) ≡ Some (found.0, drop found.1 bytes.now)) }
+    ensures small { IfSome result (λ found. nat_lt found.0 ABOVE_LIMIT ≡ true) }
+    ensures near { IfSome result (λ found. found.1 ≤ at + 13) }
+{
+    if bytes[at] != b',' {
+        return None;
+    }
+    let is_spaced = bytes[at + 1] == b' ';
+    register_from(bytes, at + 1 + usize::from(is_spaced))
+}
+
+/// A comma at a place, with a space behind it or none, and a constant.
+#[inline(always)]
+fn constant_behind_comma(bytes: &[u8], at: usize) -> Option<(u32, usize)>
+    requires { at + 7 ≤ length bytes.now }
+    ensures is { IfSome result (λ found. operand_at (comma ▹ Constant 0) (drop at bytes.now) ≡ Some (found.0, drop found.1 bytes.now)) }
+    ensures small { IfSome result (λ found. nat_lt found.0 ABOVE_LIMIT ≡ true) }
+    ensures near { IfSome result (λ found. found.1 ≤ at + 12) }
+{
+    if bytes[at] != b',' {
+        return None;
+    }
+    let is_spaced = bytes[at + 1] == b' ';
+    constant_from(bytes, at + 1 + usize::from(is_spaced))
+}
+
+/// The four bytes of an arrow with a space on both sides stand at the place. They are compared as one number.
+#[inline(always)]
+fn is_spaced_arrow(bytes: &[u8], at: usize) -> bool
+    requires { at + 4 ≤ length bytes.now }
+    ensures { result ≡ true → (get_or bytes.now at 0 ≡ 32) × (get_or bytes.now (at + 1) 0 ≡ 61)
+        × (get_or bytes.now (at + 2) 0 ≡ 62) × (get_or bytes.now (at + 3) 0 ≡ 32) }
+{
+    let four = [bytes[at], bytes[at + 1], bytes[at + 2], bytes[at + 3]];
+    u32::from_le_bytes(four) == u32::from_le_bytes([b' ', b'=', b'>', b' '])
+}
+
+/// An arrow at a place, with a space on both sides or on none, and a register.
+#[inline(always)]
+fn register_behind_arrow(bytes: &[u8], at: usize) -> Option<(u32, usize)>
+    requires { at + 8 ≤ length bytes.now }
+    ensures is { IfSome result (λ found. operand_at (arrow ▹ Use (record { 0 = 0 })) (drop at bytes.now) ≡ Some (found.0, drop found.1 bytes.now)) }
+    ensures small { IfSome result (λ found. nat_lt found.0 ABOVE_LIMIT ≡ true) }
+    ensures near { IfSome result (λ found. found.1 ≤ at + 15) }
+{
+    if is_spaced_arrow(bytes, at) {
+        return register_from(bytes, at + 4);
+    }
+    if bytes[at] == b'=' && bytes[at + 1] == b'>' {
+        return register_from(bytes, at + 2);
+    }
+    None
+}
+
+/// The operation of an opcode and of the operands at the front, and the place behind these.
+#[inline(always)]
+#[tactic(auto, unfolding(crate::specs::Steps::Scan::called_at, crate::specs::Steps::Scan::operand_then))]
+fn called_by_places(opcode: Opcode, bytes: &[u8]) -> Option<(Op, usize)>
+    requires { ROOM ≤ length bytes.now }
+    ensures is { IfSome result (λ found. called_at opcode bytes.now ≡ Some (found.0, drop found.1 bytes.now)) }
+    ensures small { IfSome result (λ found. is_within_limit found.0 ≡ true) }
+    ensures near { IfSome result (λ found. found.1 ≤ length bytes.now) }
+{
+    match shape_of(opcode) {
+        Operands::Nothing => Some((op_of(opcode, &[]), 0)),
+        Operands::Constant(_) => {
+            let (value, at) = constant_behind_blank(bytes)?;
+            Some((op_of(opcode, &[value]), at))
+        }
+        Operands::Immediate(..) => {
+            let (value, at) = constant_behind_blank(bytes)?;
+            let (dest, at) = register_behind_arrow(bytes, at)?;
+            Some((op_of(opcode, &[value, dest]), at))
+        }
+        Operands::Copied(..) | Operands::Stored(..) => {
+            let (source, at) = register_behind_blank(bytes)?;
+            let (target, at) = register_behind_arrow(bytes, at)?;
+            Some((op_of(opcode, &[source, target]), at))
+        }
+        Operands::Sources(..) => {
+            let (left, at) = register_behind_blank(bytes)?;
+            let (right, at) = register_behind_comma(bytes, at)?;
+            let (dest, at) = register_behind_arrow(bytes, at)?;
+            Some((op_of(opcode, &[left, right, dest]), at))
+        }
+        Operands::WithConstant(..) => {
+            let (left, at) = register_behind_blank(bytes)?;
+            let (value, at) = constant_behind_comma(bytes, at)?;
+            let (dest, at) = register_behind_arrow(bytes, at)?;
+            Some((op_of(opcode, &[left, value, dest]), at))
+        }
+        Operands::StoredAt(..) => {
+            let (value, at) = register_behind_blank(bytes)?;
+            let (addr, at) = register_behind_arrow(bytes, at)?;
+            let (offset, at) = constant_behind_comma(bytes, at)?;
+            Some((op_of(opcode, &[value, addr, offset]), at))
+        }
+    }
+}
+
+/// The operation whose opcode stands before the bytes, with the operands at their front, and what stands behind
+/// those.
+#[inline(always)]
+pub fn usual_called_at(opcode: Opcode, bytes: &[u8]) -> Option<(Op, &[u8])>
+    ensures is { IfSome result (λ found. called_at opcode bytes.now ≡ Some (found.0, found.1.now)) }
+    ensures small { IfSome result (λ found. is_within_limit found.0 ≡ true) }
+{
+    if bytes.len() < ROOM {
+        return None;
+    }
+    let (op, at) = called_by_places(opcode, bytes)?;
+    Some((op, &bytes[at..]))
+}
