@@ -14,9 +14,9 @@ fn is_blank(byte: u8) -> bool
     byte == b' ' || byte == b'\t' || byte == b'\r'
 }
 
-/// The bytes behind the blanks at the front.
-#[inline(always)]
-pub fn after_blanks(bytes: &[u8]) -> &[u8]
+/// As `after_blanks`, out of the way of bytes without blanks at the front.
+#[inline(never)]
+fn after_all_blanks(bytes: &[u8]) -> &[u8]
     ensures { result.now ≡ after_blanks bytes.now }
 {
     let mut rest = bytes;
@@ -26,6 +26,17 @@ pub fn after_blanks(bytes: &[u8]) -> &[u8]
         rest = after;
     }
     rest
+}
+
+/// The bytes behind the blanks at the front.
+#[inline(always)]
+pub fn after_blanks(bytes: &[u8]) -> &[u8]
+    ensures { result.now ≡ after_blanks bytes.now }
+{
+    match bytes {
+        [first, ..] if is_blank(*first) => after_all_blanks(bytes),
+        _ => bytes,
+    }
 }
 
 /// The bytes behind one blank or more.
