@@ -83,6 +83,20 @@ pushed_above op done blocks o line h some full =
 pub length-opened : (name : Option (List ℕ)) (blocks : List Block) → length (opened name blocks) ≡ length blocks + 1
 length-opened name blocks = length-append blocks (record { name = name; ops = [] } ∷ [])
 
+-- the first block of all
+pub opened_first : (done blocks : List Block) (o p : OpenBlock) → AreSoFar done o blocks → o.count ≡ 0 → p.count ≡ 1
+    → p.block ≡ record { name = None; ops = [] } → AreSoFar done p (opened None blocks)
+opened_first done blocks o p h none count block =
+    let before = h.before in
+    let no_block : blocks ≡ [] = no_blocks blocks (h.count ∙ none) in
+    let none_done : done ≡ [] = no_blocks done (omega arith) in
+    let same : opened None blocks ≡ done ++ p.block ∷ [] = rw (no_block, none_done, block) refl in
+    record {
+      before = omega (arith, ap length none_done);
+      count = let empty = h.count in omega (arith, length-opened None blocks);
+      last = λ _. same;
+    }
+
 -- Lines
 
 pub with_optional-some : (op : Op) (bs : List Block) → 0 < length bs → with_optional_op (Some op) bs ≡ with_op op bs
@@ -134,13 +148,3 @@ label_fails Stand label None op blocks line result fault e some f g = cc
 label_fails Stand label (Some name) op blocks line result fault e some f g =
     subst₂ (λ l r. Grows Stand (with_line l op blocks) line r) (sym e) (sym f)
     (λ memory. first_fails (Some name) op blocks line fault (g memory))
-
--- and of a line with an operation where no block is open
-pub unnamed_fails : (Stand : List Block → Type 0) (op : Op) (blocks : List Block) (line : ℕ)
-    (result : Result (Unit {0}) ReadFault) (fault : ReadFault)
-    → length blocks ≡ 0 → result ≡ Err fault → Grows Stand (opened None blocks) line (Err fault)
-    → Grows Stand (with_optional_op (Some op) blocks) line result
-unnamed_fails Stand op blocks line result fault none f g =
-    subst₂ (λ bs r. Grows Stand (with_optional_op (Some op) bs) line r) (sym (no_blocks blocks none)) (sym f)
-    (λ memory. first_fails None (Some op) [] line fault
-    (ap (λ bs. limited (opened None bs) line) (sym (no_blocks blocks none)) ∙ g memory))

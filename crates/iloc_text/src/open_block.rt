@@ -1,5 +1,5 @@
 //! The block that is being read: how the blocks of a file grow, line by line, within the limits.
-ghost use Rattle.std.specs.Prelude.{◌≡◌, ◌<◌, ◌≤◌, [], List, IsUtf8, IfOk, OnOk, length};
+ghost use Rattle.std.specs.Prelude.{◌≡◌, ◌<◌, ◌≤◌, [], List, IsUtf8, None, IfOk, OnOk, length};
 ghost use Rattle.std.specs.Option.{ForSome, option_copied};
 ghost use Rattle.iloc_text.specs.declared.file.Block.{Block as block_value};
 ghost use Rattle.iloc_text.specs.declared.limits.TheConstants.{MAX_BLOCKS, MAX_OPS};
@@ -93,17 +93,31 @@ impl OpenBlock {
         Ok(())
     }
 
+    /// Opens a block without a name where none is open yet.
+    #[cold]
+    #[inline(never)]
+    fn open_unnamed(&mut self)
+        requires { self.old.count ≡ 0 }
+        ensures { (done blocks : List block_value) → AreSoFar done self.old blocks →
+            AreSoFar done self.new (opened None blocks) }
+    {
+        let block = &mut self.block;
+        block.ops.clear();
+        block.name = None;
+        self.count = 1;
+    }
+
     /// Adds the operation to the open block, which is there.
     #[inline(always)]
     fn push(&mut self, op: Op, number: u32) -> Result<(), ReadFault>
         ensures { (done blocks : List block_value) → AreSoFar done self.old blocks → 0 < length blocks →
             Grows (AreSoFar done self.new) (with_op op blocks) number result }
     {
-        if self.block.ops.len() == MAX_OPS {
-            return Err(ReadFault::TooManyOperations(number));
+        if self.block.ops.push_within(MAX_OPS, op)? {
+            Ok(())
+        } else {
+            Err(ReadFault::TooManyOperations(number))
         }
-        self.block.ops.push(op)?;
-        Ok(())
     }
 
     /// Adds the operation, if there is one, to the open block, or to an unnamed block where none is open yet.
@@ -122,7 +136,7 @@ impl OpenBlock {
             return Ok(());
         };
         if self.count == 0 {
-            self.open(alloc, taker, None, number)?;
+            self.open_unnamed();
         }
         self.push(op, number)
     }

@@ -1,5 +1,5 @@
 //! The operations of a block.
-ghost use Rattle.std.specs.Prelude.{◌≡◌, ◌≤◌, ◌↔◌, [], ◌∷◌, ◌++◌, length, IsTrue, IfOk, OnOk, OnErr};
+ghost use Rattle.std.specs.Prelude.{◌≡◌, ◌≤◌, ◌↔◌, [], ◌∷◌, ◌++◌, ◌<◌, true, false, length, IsTrue, IfOk, OnOk, OnErr};
 ghost use Rattle.std.specs.Arc.{arc_value};
 ghost use Rattle.std.specs.List.{slice_range};
 
@@ -112,6 +112,32 @@ impl Ops {
             Held::Part(part) => self.held = Held::Own(part.with(op)?),
         }
         Ok(())
+    }
+
+    /// Adds an operation at the end where there are fewer than `limit`, and says whether it did. Shared operations
+    /// are copied first.
+    #[inline(always)]
+    pub(crate) fn push_within(&mut self, limit: usize, op: Op) -> Result<bool, NoMemory>
+        ensures added { IfOk result (λ added. added ≡ true → self.new ≡ self.old ++ op ∷ []) }
+        ensures below { IfOk result (λ added. added ≡ true → length self.old < limit) }
+        ensures full { IfOk result (λ added. added ≡ false → limit ≤ length self.old) }
+        ensures within { length self.old ≤ limit → length self.new ≤ limit }
+    {
+        match &mut self.held {
+            Held::Own(items) => {
+                if items.len() >= limit {
+                    return Ok(false);
+                }
+                items.push(op)?;
+            }
+            Held::Part(part) => {
+                if part.as_slice().len() >= limit {
+                    return Ok(false);
+                }
+                self.held = Held::Own(part.with(op)?);
+            }
+        }
+        Ok(true)
     }
 
     /// Lets all operations go. Where they stood in a list of their own, its room stays.

@@ -1,39 +1,31 @@
-use Rattle.std.proofs.Common.{◌≡◌, ◌∙◌, ◌<◌, List, Some, None, Err, length, sym, ap, arith}
-use Rattle.std.proofs.lemmas.Result.{err_from_is_err_and}
+use Rattle.std.proofs.Common.{◌≡◌, ◌∙◌, ◌<◌, List, Some, None, length, sym, arith}
 use Rattle.iloc_text.specs.declared.file.Block.{Block}
 use Rattle.iloc_text.specs.Steps.Growth.{opened, with_op, with_optional_op}
 use Rattle.iloc_text.specs.Steps.Open.{HasTaken}
-use Rattle.iloc_text.proofs.Growing.{unnamed_fails, pushed_behind, with_optional-none, with_optional-some, length-opened}
+use Rattle.iloc_text.proofs.Growing.{pushed_behind, with_optional-none, with_optional-some, length-opened}
 use Rattle.iloc_text.proofs.open_block.OpenBlock.add_op.Goals as goal
-use Rattle.iloc_text.proofs.open_block.OpenBlock.add_op.Goals.{then-self-eq0+in_ok-open, else-self-eq0}
-
-pub returns-in_err-open : goal.returns-in_err-open
-returns-in_err-open g c = λ start blocks h.
-    let exit = err_from_is_err_and c.from_residual.result c.from_residual.ensures.1 in
-    rw c.in-Some.is (unnamed_fails (HasTaken g.T.TakeBlocks.took start c.open.new.taker c.open.new.self) c.in-Some.op
-    blocks c.args.number c.from_residual.result c.in_err-open.field-0.0
-    (h.2.count ∙ c.if-self-eq0.true) (exit.1 ∙ ap (λ e. Err e) exit.2) (c.in_err-open.ensures start blocks h))
+use Rattle.iloc_text.proofs.open_block.OpenBlock.add_op.Goals.{then-self-eq0, else-self-eq0}
 
 pub returns : goal.returns
 returns g c = λ start blocks h.
     let took = g.T.TakeBlocks.took in
     let op = c.in-Some.op in
     let count = h.2.count in
-    let now : (bs : List Block) × HasTaken took start c.if-self-eq0.taker c.if-self-eq0.self bs × (0 < length bs)
+    let now : (bs : List Block) × HasTaken took start c.args.taker.now c.if-self-eq0.self bs × (0 < length bs)
     × (with_op op bs ≡ with_optional_op (Some op) blocks) =
     elim c.if-self-eq0.branch [
-      | then-self-eq0+in_ok-open w ↦ (
+      | then-self-eq0 w ↦ (
         opened None blocks,
-        rw (w.self-is, w.taker-is) (w.in_ok-open.ensures start blocks h),
+        rw w.self-is (h.0, h.1, w.open_unnamed.ensures h.0 blocks h.2),
         omega (arith, length-opened None blocks),
         sym (with_optional-none op blocks (count ∙ w.if-self-eq0.true)),
       )
       | else-self-eq0 w ↦ (
           let other = w.if-self-eq0.false in
           let some : 0 < length blocks = omega arith in
-          (blocks, rw (w.self-is, w.taker-is) h, some, sym (with_optional-some op blocks some))
+          (blocks, rw w.self-is h, some, sym (with_optional-some op blocks some))
           )
     ] in
-    rw (c.in-Some.is, ← now.3) (pushed_behind took start c.if-self-eq0.taker c.if-self-eq0.self c.push.new.self op now.0
+    rw (c.in-Some.is, ← now.3) (pushed_behind took start c.args.taker.now c.if-self-eq0.self c.push.new.self op now.0
     c.args.number c.push.result now.1
     (λ done so_far. c.push.ensures done now.0 so_far now.2))
