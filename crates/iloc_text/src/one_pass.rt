@@ -47,17 +47,21 @@ fn usual_operation(bytes: &[u8]) -> Option<(Op, &[u8])>
     Some((op, after))
 }
 
-/// What the line at the front says where that is an operation in the usual spelling, without a label and without
-/// blanks before it, and what stands behind its line end.
+/// What the line at the front says where that is an operation in the usual spelling, or nothing but a comment,
+/// without a label and without blanks before it, and what stands behind its line end, if it has one.
 #[inline(always)]
 pub fn usual_body(bytes: &[u8]) -> Option<(Option<Op>, Option<&[u8]>)>
     ensures { IfSome result (λ found. FirstBody bytes.now found.0 found.1) }
 {
-    let (op, after) = usual_operation(bytes)?;
-    Some((Some(op), Some(after)))
+    if let Some((op, after)) = usual_operation(bytes) {
+        return Some((Some(op), Some(after)));
+    }
+    let after = behind_line_end(bytes)?;
+    Some((None, after))
 }
 
 /// As `usual_operation`, however it is spelled, and though the text may end with it.
+#[inline(never)]
 fn any_operation(bytes: &[u8]) -> Option<(Op, Option<&[u8]>)>
     ensures { IfSome result (λ found. FirstBody bytes.now (Some found.0) found.1) }
 {
@@ -84,7 +88,7 @@ fn any_body(bytes: &[u8]) -> Option<(Option<Op>, Option<&[u8]>)>
 }
 
 /// What the first line of the text reads as, and what stands behind its line end, if it has one.
-#[inline(never)]
+#[inline(always)]
 pub fn usual_line(text: &[u8]) -> Option<(Line<'_>, Option<&[u8]>)>
     ensures { IfSome result (λ found. FirstLine text.now (Ok found)) }
 {
