@@ -203,13 +203,29 @@ pub fn opcode_of(word: &[u8]) -> Option<Opcode>
         .find(|opcode| opcode.text() == word)
 }
 
+/// What stands behind the text, where the bytes begin with it.
+#[inline(always)]
+fn behind_text<'a>(text: &[u8], bytes: &'a [u8]) -> Option<&'a [u8]>
+    ensures { IfSome result (λ rest. bytes.now ≡ text.now ++ rest.now) }
+{
+    if bytes.len() < text.len() {
+        return None;
+    }
+    for i in 0..text.len() {
+        if bytes[i] != text[i] {
+            return None;
+        }
+    }
+    Some(&bytes[text.len()..])
+}
+
 /// The first of the opcodes that stands at the front of the bytes, and what stands behind it.
 #[inline(always)]
 fn first_of<'a>(opcodes: &[Opcode], bytes: &'a [u8]) -> Option<(Opcode, &'a [u8])>
     ensures { IfSome result (λ found. bytes.now ≡ opcode_text found.0 ++ found.1.now) }
 {
     for opcode in opcodes {
-        if let Some(rest) = bytes.strip_prefix(opcode.text()) {
+        if let Some(rest) = behind_text(opcode.text(), bytes) {
             return Some((*opcode, rest));
         }
     }
@@ -219,7 +235,7 @@ fn first_of<'a>(opcodes: &[Opcode], bytes: &'a [u8]) -> Option<(Opcode, &'a [u8]
 /// The longest opcode at the front of the bytes, and what stands behind it.
 ///
 /// The first letter picks the few opcodes whose texts are compared, each longer one before its own front.
-/// The compiler makes a comparison of two numbers of each, since these lists and the texts are known to it.
+/// The compiler unrolls the comparisons, since these lists and the texts are known to it.
 #[inline(always)]
 pub fn opcode_at(bytes: &[u8]) -> Option<(Opcode, &[u8])>
     ensures { IfSome result (λ found. bytes.now ≡ opcode_text found.0 ++ found.1.now) }
