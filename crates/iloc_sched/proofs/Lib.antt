@@ -2,7 +2,7 @@ pub mod Basics
 pub mod Renamed
 pub mod DelayPairs
 pub mod Graph
-pub mod Watching
+pub mod Walking
 pub mod PriorityValues
 pub mod Choice
 pub mod Outcome

@@ -1,21 +1,21 @@
 //! Which operations wait, and for what.
 //!
-//! Each operation watches one edge into it: the sources of those before it are issued, the source of this one is not.
-//! When an operation is issued, who watches an edge out of it goes on to the next that isn't over. Who comes to its
-//! last edge goes into the bucket of the cycle at which the last of its sources' results has arrived.
-ghost use Rattle.std.specs.Prelude.{ℕ, ◌≡◌, ◌≢◌, ◌+◌, ◌^◌, ◌%◌, ◌<◌, ◌≤◌, ◌∷◌, [], length, slice_set, IfNone, IfSome, OnOk};
+//! Each operation counts the edges into it whose sources aren't issued. When an operation is issued, the edges out of it
+//! are gone through. Whose last edge was one of them goes into the bucket of the cycle at which the last of its sources'
+//! results has arrived.
+ghost use Rattle.std.specs.Prelude.{ℕ, ◌≡◌, ◌≢◌, ◌+◌, ◌^◌, ◌%◌, ◌<◌, ◌∷◌, [], length, slice_set, IfNone, IfSome, OnOk};
 
 use crate::edges::Edges;
 use crate::wheel::{LONGEST_DELAY, Wheel};
 use iloc_text::NoMemory;
 use std::alloc::Global;
 
-/// How far the edges into an operation are over.
+/// What an operation waits for.
 #[derive(Clone, Copy, Debug)]
-struct Reach {
-    /// The first edge whose source isn't issued, which the operation watches; one behind its last once all are over.
-    place: u32,
-    /// The earliest cycle by the edges before that one.
+struct Wait {
+    /// How many edges into it there are whose sources aren't issued.
+    unmet: u32,
+    /// The earliest cycle by all other edges into it.
     earliest: u32,
 }
 
@@ -24,7 +24,7 @@ struct Reach {
 struct State {
     /// The cycle at which it was issued.
     issued: Option<u32>,
-    reach: Reach,
+    wait: Wait,
 }
 
 /// The states of all operations.
@@ -39,8 +39,8 @@ impl Waiting {
     ghost use Rattle.std.specs.Prelude.{None, Some};
     ghost use Rattle.iloc_sched.specs.Steps.Members.{In};
     ghost use Rattle.iloc_sched.specs.Steps.Graph.{IsGraph};
-    ghost use Rattle.iloc_sched.specs.Steps.Progress.{Reaches, Waits, CanIssue, KeepsPlaces};
-    ghost use Rattle.iloc_sched.specs.Steps.Views.{graph_of, issued_list, watch_list, earliest_list, progress_of, IsSized};
+    ghost use Rattle.iloc_sched.specs.Steps.Progress.{Waits, CanIssue, KeepsPlaces};
+    ghost use Rattle.iloc_sched.specs.Steps.Views.{graph_of, issued_list, unmet_list, earliest_list, progress_of, IsSized};
     ghost use Rattle.iloc_sched.specs.Steps.SoFar.{waiting_count};
 
     /// No operation.
@@ -53,7 +53,7 @@ impl Waiting {
         }
     }
 
-    /// Nothing is issued: each operation watches the first edge into it, and who has none becomes ready at once.
+    /// Nothing is issued: each operation waits for all edges into it, and who has none becomes ready at once.
     pub fn open(&mut self, edges: &Edges) -> Result<(), NoMemory>
         requires graph { IsGraph (graph_of edges.now) }
         requires starts { length edges.now.starts.items ≡ length edges.now.heads.items + 1 }
@@ -71,7 +71,10 @@ impl Waiting {
             let end = edges.start(j + 1);
             self.states.push(State {
                 issued: None,
-                reach: Reach { place, earliest: 0 },
+                wait: Wait {
+                    unmet: end - place,
+                    earliest: 0,
+                },
             })?;
             if place == end {
                 self.wheel.put(j as u32, 0);
@@ -81,52 +84,23 @@ impl Waiting {
         Ok(())
     }
 
-    /// How far the edges before this end, those into one operation, are over by now, of which it is known how far they
-    /// are at least.
-    fn reach(&self, edges: &Edges, end: u32, known: Reach) -> Reach
-        requires end { end ≤ length edges.now.edges.items }
-        requires graph { IsGraph (graph_of edges.now) }
-        requires sized { IsSized edges.now self.now }
-        requires early { (k t : ℕ) → k < length edges.now.heads.items
-            → (progress_of self.now).issued k ≡ Some t → t + LONGEST_DELAY < 2 ^ 32 }
-        ensures reaches { (j : ℕ) → (graph_of edges.now).start (j + 1) ≡ end
-            → Reaches (graph_of edges.now) (progress_of self.now).issued j known.place known.earliest
-            → Reaches (graph_of edges.now) (progress_of self.now).issued j result.place result.earliest }
-        ensures on { known.place ≤ result.place }
-        ensures stuck { result.place < end
-            → (progress_of self.now).issued ((graph_of edges.now).from result.place) ≡ None }
-    {
-        let mut place = known.place;
-        let mut earliest = known.earliest;
-        while place < end {
-            let edge = edges.get(place as usize);
-            let source = self.states[edge.from as usize];
-            match source.issued {
-                Some(cycle) => earliest = earliest.max(cycle + edge.delay),
-                None => return Reach { place, earliest },
-            }
-            place += 1;
-        }
-        Reach { place, earliest }
-    }
-
-    /// Operation j watches another edge.
-    fn watch(&mut self, j: usize, reach: Reach)
+    /// Operation j waits for something else.
+    fn change(&mut self, j: usize, wait: Wait)
         requires { j < length self.old.states.items }
         ensures issued { issued_list self.new ≡ issued_list self.old }
-        ensures watch { watch_list self.new ≡ slice_set (watch_list self.old) j reach.place }
-        ensures earliest { earliest_list self.new ≡ slice_set (earliest_list self.old) j reach.earliest }
+        ensures unmet { unmet_list self.new ≡ slice_set (unmet_list self.old) j wait.unmet }
+        ensures earliest { earliest_list self.new ≡ slice_set (earliest_list self.old) j wait.earliest }
         ensures wheel { self.new.wheel ≡ self.old.wheel }
         ensures size { length self.new.states.items ≡ length self.old.states.items }
     {
-        self.states[j].reach = reach;
+        self.states[j].wait = wait;
     }
 
     /// Operation i is issued at this cycle.
     fn mark(&mut self, i: usize, cycle: u32)
         requires { i < length self.old.states.items }
         ensures issued { issued_list self.new ≡ slice_set (issued_list self.old) i (Some cycle) }
-        ensures watch { watch_list self.new ≡ watch_list self.old }
+        ensures unmet { unmet_list self.new ≡ unmet_list self.old }
         ensures earliest { earliest_list self.new ≡ earliest_list self.old }
         ensures wheel { self.new.wheel ≡ self.old.wheel }
         ensures size { length self.new.states.items ≡ length self.old.states.items }
@@ -134,8 +108,8 @@ impl Waiting {
         self.states[i].issued = Some(cycle);
     }
 
-    /// Edge x is over, since its source was issued at this cycle: who watches it goes on to the next that isn't.
-    /// Answers the edge before x out of the same source.
+    /// Edge x is over, since its source was issued at this cycle: its target has one less to wait for. Answers the edge
+    /// before x out of the same source.
     fn pass(&mut self, edges: &Edges, x: u32, cycle: u32) -> Option<u32>
         requires small { cycle + LONGEST_DELAY + 1 < 2 ^ 32 }
         requires there { x < length edges.now.edges.items }
@@ -147,27 +121,22 @@ impl Waiting {
         ensures previous { result ≡ (graph_of edges.now).previous x }
         ensures waits { Waits (graph_of edges.now) (progress_of self.new) (cycle + 1)
             ((graph_of edges.now).from x) result }
-        ensures keeps { KeepsPlaces (graph_of edges.now) (progress_of self.old) (progress_of self.new) }
+        ensures keeps { KeepsPlaces (progress_of self.old) (progress_of self.new) }
         ensures issued { issued_list self.new ≡ issued_list self.old }
         ensures sized { IsSized edges.now self.new }
     {
         let edge = edges.get(x as usize);
         let target = edge.to as usize;
         let state = self.states[target];
-        if state.reach.place != x {
-            return edge.previous;
-        }
-        let known = Reach {
-            place: x + 1,
-            earliest: state.reach.earliest.max(cycle + edge.delay),
+        let wait = Wait {
+            unmet: state.wait.unmet - 1,
+            earliest: state.wait.earliest.max(cycle + edge.delay),
         };
-        let end = edges.start(target + 1);
-        let reach = self.reach(edges, end, known);
-        self.watch(target, reach);
-        if reach.place < end {
+        self.change(target, wait);
+        if wait.unmet > 0 {
             return edge.previous;
         }
-        self.wheel.put(edge.to, reach.earliest);
+        self.wheel.put(edge.to, wait.earliest);
         edge.previous
     }
 
@@ -181,7 +150,7 @@ impl Waiting {
         requires waits { Waits (graph_of edges.now) (progress_of self.old) (cycle + 1) 0 None }
         ensures waits { Waits (graph_of edges.now) (progress_of self.new) (cycle + 1) 0 None }
         ensures issued { issued_list self.new ≡ slice_set (issued_list self.old) i (Some cycle) }
-        ensures keeps { KeepsPlaces (graph_of edges.now) (progress_of self.old) (progress_of self.new) }
+        ensures keeps { KeepsPlaces (progress_of self.old) (progress_of self.new) }
         ensures sized { IsSized edges.now self.new }
     {
         self.mark(i, cycle);

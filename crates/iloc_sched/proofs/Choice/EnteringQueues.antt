@@ -13,8 +13,8 @@ use Rattle.iloc_sched.specs.Steps.Graph.{Graph, IsGraph}
 use Rattle.iloc_sched.specs.Steps.Progress.{Progress, Waits, CanIssue, KeepsPlaces}
 use Rattle.iloc_sched.specs.Steps.SoFar.{class_at, IsQueued, Admits}
 use Rattle.iloc_sched.proofs.Basics.Members.{in_left, in_right, from_append}
-use Rattle.iloc_sched.proofs.Watching.BucketOfCycle.{due_now, then_due, later_still}
-use Rattle.iloc_sched.proofs.Watching.StillIssuable.{can_issue_still, can_issue_back}
+use Rattle.iloc_sched.proofs.Walking.BucketOfCycle.{due_now, then_due, later_still}
+use Rattle.iloc_sched.proofs.Walking.StillIssuable.{can_issue_still, can_issue_back}
 
 pub admits_none : (ops : List Op) (prios : List ℕ) (q : Queues) → Admits ops prios q q []
 admits_none ops prios q = record { comes = λ j held. absurd held; stays = λ k c held. held; was = λ k c held. inl held }
@@ -83,7 +83,7 @@ module _ (ops : List Op) (prios : List ℕ) (graph : Graph) (w : Progress) (c : 
 pub queued_after : (ops : List Op) (prios : List ℕ) (graph : Graph) (w w' : Progress) (c : ℕ) (q q' : Queues)
     (choice : Choice) → IsGraph graph
     → Waits graph w (c + 1) 0 None → Waits graph w' (c + 1) 0 None → w'.issued choice.candidate.number ≡ Some c
-    → ((k : ℕ) → k ≢ choice.candidate.number → w'.issued k ≡ w.issued k) → KeepsPlaces graph w w'
+    → ((k : ℕ) → k ≢ choice.candidate.number → w'.issued k ≡ w.issued k) → KeepsPlaces w w'
     → In (candidates q choice.class) choice.candidate → Takes q q' choice → IsQueued ops prios graph w (c + 1) q
     → IsQueued ops prios graph w' (c + 1) q'
 queued_after ops prios graph w w' c q q' choice is waits waits' at others keeps held takes queued =

@@ -1,5 +1,5 @@
 -- What the tables say can be issued is what is ready; for `Waiting::step`.
-use Rattle.std.proofs.Common.{◌≡◌, ℕ, ◌+◌, ◌<◌, ◌≤◌, List, length, None, inl, inr, sym, ◌∙◌, ap, subst, arith}
+use Rattle.std.proofs.Common.{◌≡◌, ℕ, ◌+◌, ◌-◌, false, ◌<◌, ◌≤◌, List, length, None, inl, inr, sym, ◌∙◌, ap, subst, arith}
 use Rattle.iloc_text.specs.declared.op.Op.{Op}
 use Rattle.iloc_timed.specs.declared.latencies.Latencies.{Latencies}
 use Rattle.iloc_timed.specs.declared.row.Row.{Row}
@@ -11,12 +11,13 @@ use Rattle.iloc_sched.specs.Steps.Choosing.{IsChosenSoFar}
 use Rattle.iloc_sched.specs.Steps.Members.{In}
 use Rattle.iloc_sched.specs.Steps.Near.{IsNear}
 use Rattle.iloc_sched.specs.Steps.Graph.{Graph, IsGraphOf}
-use Rattle.iloc_sched.specs.Steps.Progress.{Progress, Reaches, Waits, CanIssue, MatchesRows}
+use Rattle.iloc_sched.specs.Steps.Progress.{Progress, Waits, CanIssue, MatchesRows, count_from}
 use Rattle.iloc_sched.proofs.Choice.Ready.{IsReady, ready_means, ready_from}
 use Rattle.iloc_sched.proofs.Basics.Slots.{stands_there}
 use Rattle.iloc_sched.proofs.Choice.ChosenRows.{chosen_in}
 use Rattle.iloc_sched.proofs.Basics.Cases.{by_lt, none_of}
-use Rattle.iloc_sched.proofs.Watching.EdgeWalk.{within_count}
+use Rattle.iloc_sched.proofs.Walking.EdgeWalk.{within_count}
+use Rattle.iloc_sched.proofs.Walking.UnmetEdges.{count_none, count_some}
 use Rattle.iloc_sched.proofs.Graph.FarPairs.{near_is_over}
 
 -- what was issued had waited for its delays
@@ -45,14 +46,17 @@ module _ (lat : Latencies) (ops : List Op) (graph : Graph) (w : Progress) (rows 
       let place : (graph.to x < graph.ops) × (graph.start (graph.to x) ≤ x) × (x < graph.start (graph.to x + 1)) =
       is.is_graph.to_there x edge.1 in
       let first : graph.start j ≤ x = subst (λ k. graph.start k ≤ x) edge.2 place.1 in
-      let last : x < w.watch j = subst (λ a. x < a) (sym can.past_all)
-      (subst (λ k. x < graph.start (k + 1)) edge.2 place.2) in
-      let past = (waits.reach j can.there).past x first last in
+      let last : x < graph.start (j + 1) = subst (λ k. x < graph.start (k + 1)) edge.2 place.2 in
+      let met : waits.is_unmet x ≡ false =
+      count_none waits.is_unmet (graph.start j) (graph.start (j + 1) - graph.start j)
+      (sym (waits.unmet j can.there) ∙ can.past_all) x first (omega arith) in
+      let past = waits.past x edge.1 met in
       let order : h < j = pair.order in
       let j_within : j < length ops = within_ops j can.there in
       let time : issue_cycle rows h ≡ past.0 =
       (matches.done h past.0 (omega arith) (ap w.issued (sym edge.3) ∙ past.1)).0 in
-      let enough : past.0 + graph.delay x ≤ w.earliest j = past.2 in
+      let enough : past.0 + graph.delay x ≤ w.earliest j =
+      subst (λ k. past.0 + graph.delay x ≤ w.earliest k) edge.2 past.2 in
       let long : d ≤ graph.delay x = edge.4 in
       let soon : w.earliest j < length rows + 1 = can.soon in
       omega arith
@@ -70,8 +74,6 @@ module _ (lat : Latencies) (ops : List Op) (graph : Graph) (w : Progress) (rows 
   when_ready j held =
       let means : IsReady lat ops rows (length rows) j = ready_means lat ops rows (length rows) j held in
       let there : j < graph.ops = subst (λ n. j < n) (sym is.size) means.within in
-      let reach : Reaches graph w.issued j (w.watch j) (w.earliest j) = waits.reach j there in
-      let most : w.watch j ≤ graph.start (j + 1) = reach.within.1 in
       let over : (x : ℕ) → graph.start j ≤ x → x < graph.start (j + 1)
       → (issue_cycle rows (graph.from x) + graph.delay x ≤ length rows) × (1 ≤ graph.delay x)
       × (graph.from x < length ops) =
@@ -91,27 +93,33 @@ module _ (lat : Latencies) (ops : List Op) (graph : Graph) (w : Progress) (rows 
             × (t < length rows) = matches.done j t means.within was in let early : t < length rows = time.1 in
             let same : issue_cycle rows j ≡ t = time.0 in let late : length rows ≤ issue_cycle rows j = means.waiting in
             absurd (omega arith));
-        past_all = by_lt (w.watch j) (graph.start (j + 1))
-            (λ short. elim (waits.stuck j there short) [
+        past_all = by_lt 0 (w.unmet j)
+            (λ some.
+            let count : w.unmet j ≡ count_from waits.is_unmet (graph.start j) (graph.start (j + 1) - graph.start j) =
+            waits.unmet j there in
+            let one = count_some waits.is_unmet (graph.start j) (graph.start (j + 1) - graph.start j) (omega arith) in
+            let x : ℕ = one.0 in
+            let before : x < graph.start j + (graph.start (j + 1) - graph.start j) = one.2 in
+            let last : x < graph.start (j + 1) = omega (arith, one.1) in
+            elim (waits.stuck x (within_count graph is.is_graph j x there last) one.3) [
               | inl none ↦
-                  let h : (issue_cycle rows (graph.from (w.watch j)) + graph.delay (w.watch j) ≤ length rows)
-                  × (1 ≤ graph.delay (w.watch j)) × (graph.from (w.watch j) < length ops) =
-                  over (w.watch j) reach.within.0 short in
-                  let late : length rows ≤ issue_cycle rows (graph.from (w.watch j)) =
-                  matches.waiting (graph.from (w.watch j)) h.2 none in
-                  let enough : issue_cycle rows (graph.from (w.watch j)) + graph.delay (w.watch j) ≤ length rows =
-                  h.0 in
-                  let long : 1 ≤ graph.delay (w.watch j) = h.1 in
+                  let h : (issue_cycle rows (graph.from x) + graph.delay x ≤ length rows) × (1 ≤ graph.delay x)
+                  × (graph.from x < length ops) = over x one.1 last in
+                  let late : length rows ≤ issue_cycle rows (graph.from x) = matches.waiting (graph.from x) h.2 none in
+                  let enough : issue_cycle rows (graph.from x) + graph.delay x ≤ length rows = h.0 in
+                  let long : 1 ≤ graph.delay x = h.1 in
                   absurd (omega arith)
               | inr loose ↦ absurd loose.1
             ])
-            (λ end. omega arith);
-        soon = elim reach.reached [
+            (λ none. omega arith);
+        soon = elim (waits.reached j there) [
           | inl at_once ↦ omega arith
           | inr r ↦
-              let before : r.0 < w.watch j = r.3 in
+              let place : (graph.to r.0 < graph.ops) × (graph.start (graph.to r.0) ≤ r.0)
+              × (r.0 < graph.start (graph.to r.0 + 1)) = is.is_graph.to_there r.0 r.2 in
               let h : (issue_cycle rows (graph.from r.0) + graph.delay r.0 ≤ length rows) × (1 ≤ graph.delay r.0)
-              × (graph.from r.0 < length ops) = over r.0 r.2 (omega arith) in
+              × (graph.from r.0 < length ops) =
+              over r.0 (subst (λ k. graph.start k ≤ r.0) r.3 place.1) (subst (λ k. r.0 < graph.start (k + 1)) r.3 place.2) in
               let time : issue_cycle rows (graph.from r.0) ≡ r.1 = (matches.done (graph.from r.0) r.1 h.2 r.4).0 in
               let enough : issue_cycle rows (graph.from r.0) + graph.delay r.0 ≤ length rows = h.0 in
               let same : w.earliest j ≡ r.1 + graph.delay r.0 = r.5 in

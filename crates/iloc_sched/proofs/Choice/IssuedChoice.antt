@@ -20,8 +20,8 @@ use Rattle.iloc_sched.specs.Steps.Views.{graph_of, issued_list, progress_with, p
 use Rattle.iloc_sched.specs.Steps.SoFar.{class_at, IsPlan, IsQueued, Admits, IsReleasing, IsUnderWay, Issues}
 use Rattle.iloc_sched.proofs.Basics.Members.{in_right, split_apart}
 use Rattle.iloc_sched.proofs.Choice.EnteringQueues.{admits_none, admits_more, due_is_new, queued_with_due, queued_after}
-use Rattle.iloc_sched.proofs.Watching.TableReads.{issued_size}
-use Rattle.iloc_sched.proofs.Watching.BucketOfCycle.{empties}
+use Rattle.iloc_sched.proofs.Walking.TableReads.{issued_size}
+use Rattle.iloc_sched.proofs.Walking.BucketOfCycle.{empties}
 
 pub issued_at : (xs ys : List (Option ℕ)) (n c : ℕ) → ys ≡ set xs n (Some c) → n < length xs → get_or ys n None ≡ Some c
 issued_at xs ys n c is below = ap (λ zs. get_or zs n None) is ∙ get_or-set_same xs n (Some c) None below
@@ -34,7 +34,7 @@ pub issues_choice : (p : Plan) (w w' : Waiting) (q q' : Queues) (c : ℕ) (choic
     → IsUnderWay p w q (c + 1) → In (candidates q choice.class) choice.candidate → Takes q q' choice
     → Waits (graph_of p.edges) (progress_of w') (c + 1) 0 None
     → (issued_list w') ≡ set (issued_list w) choice.candidate.number (Some c)
-    → KeepsPlaces (graph_of p.edges) (progress_of w) (progress_of w') → IsSized p.edges w'
+    → KeepsPlaces (progress_of w) (progress_of w') → IsSized p.edges w'
     → Issues p w w' q q' c choice
 issues_choice p w w' q q' c choice is under held takes waits' issued keeps sized' =
     let can : CanIssue (graph_of p.edges) (progress_of w) (c + 1) choice.candidate.number =

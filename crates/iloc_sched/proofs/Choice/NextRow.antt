@@ -28,7 +28,7 @@ use Rattle.iloc_sched.proofs.Bounds.BusyCycles.{rows_bound}
 use Rattle.iloc_meaning.proofs.Cases.{by_bool}
 use Rattle.iloc_sched.proofs.Basics.Cases.{by_option, not_both, same_some}
 use Rattle.iloc_sched.proofs.Choice.IssuedChoice.{issued_at, issued_other}
-use Rattle.iloc_sched.proofs.Watching.TableReads.{issued_size}
+use Rattle.iloc_sched.proofs.Walking.TableReads.{issued_size}
 use Rattle.iloc_sched.proofs.Choice.ChosenByQueues.{chosen_none, chosen_row}
 use Rattle.iloc_timed.proofs.WholeRuns.{short_latency}
 

@@ -29,17 +29,17 @@ graph_of e = record {
 abbrev pub issued_in : List State → List (Option ℕ)
 issued_in states = map (λ (s : State). s.issued) states
 
-abbrev pub watched_in : List State → List ℕ
-watched_in states = map (λ (s : State). s.reach.place) states
+abbrev pub unmet_in : List State → List ℕ
+unmet_in states = map (λ (s : State). s.wait.unmet) states
 
 abbrev pub earliest_in : List State → List ℕ
-earliest_in states = map (λ (s : State). s.reach.earliest) states
+earliest_in states = map (λ (s : State). s.wait.earliest) states
 
 -- these states, and these operations in the buckets
 abbrev pub progress_with : List State → (ℕ → List ℕ) → Progress
 progress_with states bucket = record {
   issued = λ j. slice_index_or (issued_in states) j None;
-  watch = λ j. slice_index (watched_in states) j;
+  unmet = λ j. slice_index (unmet_in states) j;
   earliest = λ j. slice_index (earliest_in states) j;
   bucket = bucket;
 }
@@ -47,8 +47,8 @@ progress_with states bucket = record {
 abbrev pub issued_list : Waiting → List (Option ℕ)
 issued_list w = issued_in w.states.items
 
-abbrev pub watch_list : Waiting → List ℕ
-watch_list w = watched_in w.states.items
+abbrev pub unmet_list : Waiting → List ℕ
+unmet_list w = unmet_in w.states.items
 
 abbrev pub earliest_list : Waiting → List ℕ
 earliest_list w = earliest_in w.states.items

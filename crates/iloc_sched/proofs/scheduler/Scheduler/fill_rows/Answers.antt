@@ -6,7 +6,7 @@ use Rattle.iloc_sched.specs.Greedy.{IsGreedy}
 use Rattle.iloc_sched.specs.declared.plan.Plan.{Plan}
 use Rattle.iloc_sched.specs.Steps.SoFar.{IsSoFar, waiting_count}
 use Rattle.iloc_sched.proofs.Choice.NextRow.{few_rows, greedy_at_end}
-use Rattle.iloc_sched.proofs.Watching.FirstStates.{so_far_opened}
+use Rattle.iloc_sched.proofs.Walking.FirstStates.{so_far_opened}
 use Rattle.iloc_sched.proofs.scheduler.Scheduler.fill_rows.Goals as goal
 
 pub loop-left-init : goal.loop-left-init

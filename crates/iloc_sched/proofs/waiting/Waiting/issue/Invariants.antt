@@ -8,7 +8,7 @@ invariant-loop-at l = record {
   waits : Waits (graph_of l.edges) (progress_of l.self) (l.cycle + 1) l.i l.at;
   from : IsFrom (graph_of l.edges) l.i l.at;
   issued : issued_list l.self ≡ slice_set (issued_list l.fn.self) l.i (Some l.cycle);
-  keeps : KeepsPlaces (graph_of l.edges) (progress_of l.fn.self) (progress_of l.self);
+  keeps : KeepsPlaces (progress_of l.fn.self) (progress_of l.self);
   sized : IsSized l.edges l.self;
 }
 

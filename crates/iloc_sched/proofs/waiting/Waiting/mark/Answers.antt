@@ -6,17 +6,17 @@ use Rattle.iloc_sched.proofs.waiting.Waiting.mark.Goals as goal
 
 pub returns-clause-issued : goal.returns-clause-issued
 returns-clause-issued c =
-    let new : State = record { issued = Some c.args.cycle; reach = c.index_mut.result.now.reach } in
+    let new : State = record { issued = Some c.args.cycle; wait = c.index_mut.result.now.wait } in
     map-set (λ (s : State). s.issued) c.args.self.now.states.items c.args.i new
 
-pub returns-clause-watch : goal.returns-clause-watch
-returns-clause-watch c =
-    let new : State = record { issued = Some c.args.cycle; reach = c.index_mut.result.now.reach } in
-    map-set_same (λ (s : State). s.reach.place) c.args.self.now.states.items c.args.i new c.index_mut.result.now
-    (ap (λ (s : State). s.reach.place) c.index_mut.ensures.value)
+pub returns-clause-unmet : goal.returns-clause-unmet
+returns-clause-unmet c =
+    let new : State = record { issued = Some c.args.cycle; wait = c.index_mut.result.now.wait } in
+    map-set_same (λ (s : State). s.wait.unmet) c.args.self.now.states.items c.args.i new c.index_mut.result.now
+    (ap (λ (s : State). s.wait.unmet) c.index_mut.ensures.value)
 
 pub returns-clause-earliest : goal.returns-clause-earliest
 returns-clause-earliest c =
-    let new : State = record { issued = Some c.args.cycle; reach = c.index_mut.result.now.reach } in
-    map-set_same (λ (s : State). s.reach.earliest) c.args.self.now.states.items c.args.i new c.index_mut.result.now
-    (ap (λ (s : State). s.reach.earliest) c.index_mut.ensures.value)
+    let new : State = record { issued = Some c.args.cycle; wait = c.index_mut.result.now.wait } in
+    map-set_same (λ (s : State). s.wait.earliest) c.args.self.now.states.items c.args.i new c.index_mut.result.now
+    (ap (λ (s : State). s.wait.earliest) c.index_mut.ensures.value)

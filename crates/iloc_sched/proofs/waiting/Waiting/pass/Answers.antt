@@ -1,74 +1,51 @@
-use Rattle.std.proofs.Common.{◌≡◌, ◌+◌, ◌%◌, ◌<◌, ◌≤◌, ◌∷◌, ℕ, length, set, Some, ap, sym, ◌∙◌, subst, arith}
+use Rattle.std.proofs.Common.{◌≡◌, ◌+◌, ◌-◌, ◌%◌, ◌<◌, ◌≤◌, ◌∷◌, ℕ, Some, length, set, ap, sym, ◌∙◌, subst, arith}
 use Rattle.iloc_sched.specs.declared.edges.Edge.{Edge}
 use Rattle.iloc_sched.specs.declared.waiting.Waiting.{Waiting}
 use Rattle.iloc_sched.specs.declared.wheel.Wheel.{Wheel}
 use Rattle.iloc_sched.specs.Steps.Members.{In}
 use Rattle.iloc_sched.specs.Steps.Wheel.{bucket_of}
 use Rattle.iloc_sched.specs.Steps.Progress.{Waits}
-use Rattle.iloc_sched.specs.Steps.Views.{graph_of, watch_list, earliest_list, progress_of}
-use Rattle.iloc_sched.proofs.Watching.TableReads.{target_read}
-use Rattle.iloc_sched.proofs.Watching.WalkInTables.{in_none, bucket_few, after_edge, after_skip, after_step, after_end}
+use Rattle.iloc_sched.specs.Steps.Views.{graph_of, unmet_list, earliest_list, progress_of}
+use Rattle.iloc_sched.proofs.Walking.TableReads.{target_read}
+use Rattle.iloc_sched.proofs.Walking.WalkInTables.{in_none, bucket_few, target_waits, earliest_after, after_step, after_end, places_kept}
 use Rattle.iloc_sched.proofs.waiting.Waiting.pass.Goals as goal
 
-pub returns-then-state-x-clause-waits : goal.returns-then-state-x-clause-waits
-returns-then-state-x-clause-waits c =
+pub overflow_sub-wait : goal.overflow_sub-wait
+overflow_sub-wait c =
     let e = c.args.edges.now in
     let w = c.args.self.now in
     let x : ℕ = c.args.x in
-    let read : c.index-state.result.now.reach.place ≡ (progress_of w).watch ((graph_of e).to x) =
+    let read : c.index-state.result.now.wait.unmet ≡ (progress_of w).unmet ((graph_of e).to x) =
     target_read e w x c.get-edge.result c.index-state.result.now c.requires.graph c.requires.sized c.requires.there
     c.get-edge.ensures c.index-state.ensures in
-    subst (λ at. Waits (graph_of e) (progress_of w) (c.args.cycle + 1) ((graph_of e).from x) at)
-    (sym (ap (λ (d : Edge). d.previous) c.get-edge.ensures))
-    (after_skip e w x c.args.cycle c.requires.graph c.requires.sized c.requires.there c.requires.issued c.requires.waits
-    (λ same. c.if-state-x.true (read ∙ same)))
+    let some : 0 < (progress_of w).unmet ((graph_of e).to x) =
+    target_waits e w x c.args.cycle c.requires.graph c.requires.there c.requires.waits in
+    omega arith
 
-pub reach-reach-requires-clause-early : goal.reach-reach-requires-clause-early
-reach-reach-requires-clause-early c = λ k t there was. let early : t < c.args.cycle + 1 =
-    c.requires.waits.times k t there was in omega arith
-
-pub reach-reach-requires-clause-end : goal.reach-reach-requires-clause-end
-reach-reach-requires-clause-end c =
-    let e = c.args.edges.now in
-    let x : ℕ = c.args.x in
-    let to : ℕ = c.get-edge.result.to in
-    let to_is : to ≡ (graph_of e).to x = ap (λ (d : Edge). d.to) c.get-edge.ensures in
-    let inside : (graph_of e).to x < (graph_of e).ops = (c.requires.graph.to_there x c.requires.there).0 in
-    let last : (graph_of e).start (to + 1) ≤ (graph_of e).start (graph_of e).ops =
-    c.requires.graph.rises (to + 1) (graph_of e).ops (omega arith) (omega arith) in
-    let all : (graph_of e).start (graph_of e).ops ≡ (graph_of e).count = c.requires.graph.last in
-    omega (arith, c.start-end.ensures)
-
-pub returns-then-reach-end-clause-waits : goal.returns-then-reach-end-clause-waits
-returns-then-reach-end-clause-waits c =
+pub returns-then-wait-gt0-clause-waits : goal.returns-then-wait-gt0-clause-waits
+returns-then-wait-gt0-clause-waits c =
     let e = c.args.edges.now in
     let w = c.args.self.now in
     let x : ℕ = c.args.x in
-    let v : Waiting = c.watch.new.self in
-    let p : ℕ = c.reach-reach.result.place in
-    let t : ℕ = c.reach-reach.result.earliest in
+    let v : Waiting = c.change.new.self in
+    let p : ℕ = c.index-state.result.now.wait.unmet - 1 in
+    let t : ℕ = c.max.result in
     let to_is : c.get-edge.result.to ≡ (graph_of e).to x = ap (λ (d : Edge). d.to) c.get-edge.ensures in
-    let end : (graph_of e).start ((graph_of e).to x + 1) ≡ c.start-end.result =
-    sym (c.start-end.ensures ∙ ap (λ j. (graph_of e).start (j + 1)) to_is) in
-    let read : c.index-state.result.now.reach.place ≡ (progress_of w).watch ((graph_of e).to x) =
+    let read : c.index-state.result.now.wait.unmet ≡ (progress_of w).unmet ((graph_of e).to x) =
     target_read e w x c.get-edge.result c.index-state.result.now c.requires.graph c.requires.sized c.requires.there
     c.get-edge.ensures c.index-state.ensures in
-    let watched : (progress_of w).watch ((graph_of e).to x) ≤ p =
-    (let is : c.index-state.result.now.reach.place ≡ x = c.if-state-x.false in omega (arith, c.reach-reach.ensures.on)) in
+    let some : 0 < (progress_of w).unmet ((graph_of e).to x) =
+    target_waits e w x c.args.cycle c.requires.graph c.requires.there c.requires.waits in
     subst (λ at. Waits (graph_of e) (progress_of v) (c.args.cycle + 1) ((graph_of e).from x) at)
     (sym (ap (λ (d : Edge). d.previous) c.get-edge.ensures))
     (after_step e w x c.args.cycle c.requires.graph c.requires.sized c.requires.there c.requires.issued c.requires.waits
-    v p t (sym read ∙ c.if-state-x.false) c.watch.ensures.issued
-    (subst (λ j. watch_list v ≡ set (watch_list w) j p) to_is c.watch.ensures.watch)
-    (subst (λ j. earliest_list v ≡ set (earliest_list w) j t) to_is c.watch.ensures.earliest)
-    c.watch.ensures.wheel
-    (c.reach-reach.ensures.reaches ((graph_of e).to x) end
-    (after_edge e w x c.args.cycle c.requires.graph c.requires.sized c.requires.there c.requires.issued c.requires.waits
-    c.get-edge.result c.index-state.result.now c.max.result c.get-edge.ensures c.index-state.ensures
-    c.if-state-x.false c.max.ensures))
-    watched
-    (λ left. c.reach-reach.ensures.stuck (subst (λ n. p < n) end left))
-    (subst (λ n. p < n) (sym end) c.if-reach-end.true))
+    v p t c.change.ensures.issued
+    (subst (λ j. unmet_list v ≡ set (unmet_list w) j p) to_is c.change.ensures.unmet)
+    (subst (λ j. earliest_list v ≡ set (earliest_list w) j t) to_is c.change.ensures.earliest)
+    c.change.ensures.wheel (omega arith)
+    (earliest_after e w x c.args.cycle c.requires.graph c.requires.sized c.requires.there c.get-edge.result
+    c.index-state.result.now t c.get-edge.ensures c.index-state.ensures c.max.ensures)
+    c.if-wait-gt0.true)
 
 pub put-requires-clause-new : goal.put-requires-clause-new
 put-requires-clause-new c = λ b small held.
@@ -76,24 +53,21 @@ put-requires-clause-new c = λ b small held.
     let w = c.args.self.now in
     let x : ℕ = c.args.x in
     let to_is : c.get-edge.result.to ≡ (graph_of e).to x = ap (λ (d : Edge). d.to) c.get-edge.ensures in
-    let read : c.index-state.result.now.reach.place ≡ (progress_of w).watch ((graph_of e).to x) =
-    target_read e w x c.get-edge.result c.index-state.result.now c.requires.graph c.requires.sized c.requires.there
-    c.get-edge.ensures c.index-state.ensures in
-    in_none (graph_of e) (progress_of w) (c.args.cycle + 1) ((graph_of e).from x) x (Some x) c.requires.graph
-    c.requires.waits c.requires.there (sym read ∙ c.if-state-x.false) b small
+    in_none (graph_of e) (progress_of w) (c.args.cycle + 1) ((graph_of e).from x) ((graph_of e).to x) (Some x)
+    c.requires.waits (target_waits e w x c.args.cycle c.requires.graph c.requires.there c.requires.waits) b small
     (subst (λ j. In ((progress_of w).bucket b) j) to_is
-    (subst (λ (wheel : Wheel). In (bucket_of wheel b) c.get-edge.result.to) c.watch.ensures.wheel held))
+    (subst (λ (wheel : Wheel). In (bucket_of wheel b) c.get-edge.result.to) c.change.ensures.wheel held))
 
 pub put-requires-clause-few : goal.put-requires-clause-few
 put-requires-clause-few c =
     let e = c.args.edges.now in
     let w = c.args.self.now in
-    let b : ℕ = c.reach-reach.result.earliest % 32 in
+    let b : ℕ = c.max.result % 32 in
     let few : length ((progress_of w).bucket b) ≤ length e.heads.items =
     bucket_few (graph_of e) (progress_of w) (c.args.cycle + 1) ((graph_of e).from c.args.x) (Some c.args.x)
     c.requires.waits b (omega arith) in
-    let same : length (bucket_of c.watch.new.self.wheel b) ≡ length ((progress_of w).bucket b) =
-    ap (λ (wheel : Wheel). length (bucket_of wheel b)) c.watch.ensures.wheel in
+    let same : length (bucket_of c.change.new.self.wheel b) ≡ length ((progress_of w).bucket b) =
+    ap (λ (wheel : Wheel). length (bucket_of wheel b)) c.change.ensures.wheel in
     let short : length e.heads.items ≤ 10000 = e.short in
     omega arith
 
@@ -102,31 +76,54 @@ returns-clause-waits c =
     let e = c.args.edges.now in
     let w = c.args.self.now in
     let x : ℕ = c.args.x in
-    let v : Waiting = record { states = c.watch.new.self.states; wheel = c.put.new.self } in
-    let p : ℕ = c.reach-reach.result.place in
-    let t : ℕ = c.reach-reach.result.earliest in
+    let v : Waiting = record { states = c.change.new.self.states; wheel = c.put.new.self } in
+    let p : ℕ = c.index-state.result.now.wait.unmet - 1 in
+    let t : ℕ = c.max.result in
     let to_is : c.get-edge.result.to ≡ (graph_of e).to x = ap (λ (d : Edge). d.to) c.get-edge.ensures in
-    let end : (graph_of e).start ((graph_of e).to x + 1) ≡ c.start-end.result =
-    sym (c.start-end.ensures ∙ ap (λ j. (graph_of e).start (j + 1)) to_is) in
-    let read : c.index-state.result.now.reach.place ≡ (progress_of w).watch ((graph_of e).to x) =
+    let read : c.index-state.result.now.wait.unmet ≡ (progress_of w).unmet ((graph_of e).to x) =
     target_read e w x c.get-edge.result c.index-state.result.now c.requires.graph c.requires.sized c.requires.there
     c.get-edge.ensures c.index-state.ensures in
-    let watched : (progress_of w).watch ((graph_of e).to x) ≤ p =
-    (let is : c.index-state.result.now.reach.place ≡ x = c.if-state-x.false in omega (arith, c.reach-reach.ensures.on)) in
+    let some : 0 < (progress_of w).unmet ((graph_of e).to x) =
+    target_waits e w x c.args.cycle c.requires.graph c.requires.there c.requires.waits in
     subst (λ at. Waits (graph_of e) (progress_of v) (c.args.cycle + 1) ((graph_of e).from x) at)
     (sym (ap (λ (d : Edge). d.previous) c.get-edge.ensures))
     (after_end e w x c.args.cycle c.requires.graph c.requires.sized c.requires.there c.requires.issued c.requires.waits
-    v p t (sym read ∙ c.if-state-x.false) c.watch.ensures.issued
-    (subst (λ j. watch_list v ≡ set (watch_list w) j p) to_is c.watch.ensures.watch)
-    (subst (λ j. earliest_list v ≡ set (earliest_list w) j t) to_is c.watch.ensures.earliest)
-    (c.put.ensures.put ∙ ap (λ j. j ∷ bucket_of c.watch.new.self.wheel (t % 32)) to_is
-    ∙ ap (λ (wheel : Wheel). (graph_of e).to x ∷ bucket_of wheel (t % 32)) c.watch.ensures.wheel)
+    v p t c.change.ensures.issued
+    (subst (λ j. unmet_list v ≡ set (unmet_list w) j p) to_is c.change.ensures.unmet)
+    (subst (λ j. earliest_list v ≡ set (earliest_list w) j t) to_is c.change.ensures.earliest)
+    (c.put.ensures.put ∙ ap (λ j. j ∷ bucket_of c.change.new.self.wheel (t % 32)) to_is
+    ∙ ap (λ (wheel : Wheel). (graph_of e).to x ∷ bucket_of wheel (t % 32)) c.change.ensures.wheel)
     (λ b small apart. c.put.ensures.others b small apart
-    ∙ ap (λ (wheel : Wheel). bucket_of wheel b) c.watch.ensures.wheel)
-    (c.reach-reach.ensures.reaches ((graph_of e).to x) end
-    (after_edge e w x c.args.cycle c.requires.graph c.requires.sized c.requires.there c.requires.issued c.requires.waits
-    c.get-edge.result c.index-state.result.now c.max.result c.get-edge.ensures c.index-state.ensures
-    c.if-state-x.false c.max.ensures))
-    watched
-    (λ left. c.reach-reach.ensures.stuck (subst (λ n. p < n) end left))
-    (subst (λ n. n ≤ p) (sym end) c.if-reach-end.false))
+    ∙ ap (λ (wheel : Wheel). bucket_of wheel b) c.change.ensures.wheel)
+    (omega arith)
+    (earliest_after e w x c.args.cycle c.requires.graph c.requires.sized c.requires.there c.get-edge.result
+    c.index-state.result.now t c.get-edge.ensures c.index-state.ensures c.max.ensures)
+    (omega (arith, c.if-wait-gt0.false)))
+
+pub returns-then-wait-gt0-clause-keeps : goal.returns-then-wait-gt0-clause-keeps
+returns-then-wait-gt0-clause-keeps c =
+    let e = c.args.edges.now in
+    let w = c.args.self.now in
+    let x : ℕ = c.args.x in
+    let v : Waiting = c.change.new.self in
+    let p : ℕ = c.index-state.result.now.wait.unmet - 1 in
+    let t : ℕ = c.max.result in
+    let to_is : c.get-edge.result.to ≡ (graph_of e).to x = ap (λ (d : Edge). d.to) c.get-edge.ensures in
+    places_kept e w v x p t c.requires.graph c.requires.sized c.requires.there c.change.ensures.issued
+    (subst (λ j. unmet_list v ≡ set (unmet_list w) j p) to_is c.change.ensures.unmet)
+    (subst (λ j. earliest_list v ≡ set (earliest_list w) j t) to_is c.change.ensures.earliest)
+    (target_waits e w x c.args.cycle c.requires.graph c.requires.there c.requires.waits)
+
+pub returns-clause-keeps : goal.returns-clause-keeps
+returns-clause-keeps c =
+    let e = c.args.edges.now in
+    let w = c.args.self.now in
+    let x : ℕ = c.args.x in
+    let v : Waiting = record { states = c.change.new.self.states; wheel = c.put.new.self } in
+    let p : ℕ = c.index-state.result.now.wait.unmet - 1 in
+    let t : ℕ = c.max.result in
+    let to_is : c.get-edge.result.to ≡ (graph_of e).to x = ap (λ (d : Edge). d.to) c.get-edge.ensures in
+    places_kept e w v x p t c.requires.graph c.requires.sized c.requires.there c.change.ensures.issued
+    (subst (λ j. unmet_list v ≡ set (unmet_list w) j p) to_is c.change.ensures.unmet)
+    (subst (λ j. earliest_list v ≡ set (earliest_list w) j t) to_is c.change.ensures.earliest)
+    (target_waits e w x c.args.cycle c.requires.graph c.requires.there c.requires.waits)

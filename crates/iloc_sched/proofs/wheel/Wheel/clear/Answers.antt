@@ -2,7 +2,7 @@ use Rattle.std.proofs.Common.{◌≡◌, ℕ, List, [], get_or, ap}
 use Rattle.std.specs.Prelude.{replicate}
 use Rattle.iloc_sched.specs.declared.wheel.Bucket.{Bucket}
 use Rattle.iloc_sched.specs.Steps.Wheel.{chain, no_bucket, bucket_in}
-use Rattle.iloc_sched.proofs.Watching.LinkedBuckets.{read_replicate}
+use Rattle.iloc_sched.proofs.Walking.LinkedBuckets.{read_replicate}
 use Rattle.iloc_sched.proofs.wheel.Wheel.clear.Goals as goal
 
 -- no operation stands in an empty bucket, whatever is behind what

@@ -1,7 +1,7 @@
 use Rattle.std.proofs.Common.{get_or, ap}
 use Rattle.iloc_sched.specs.declared.wheel.Bucket.{Bucket}
 use Rattle.iloc_sched.specs.Steps.Wheel.{chain, no_bucket}
-use Rattle.iloc_sched.proofs.Watching.LinkedBuckets.{read_replicate}
+use Rattle.iloc_sched.proofs.Walking.LinkedBuckets.{read_replicate}
 use Rattle.iloc_sched.proofs.wheel.Wheel.new.Goals as goal
 
 pub returns : goal.returns

@@ -1,7 +1,7 @@
 use Rattle.std.proofs.Common.{◌≡◌, ◌%◌, ◌<◌, length, get_or, arith}
 use Rattle.iloc_sched.specs.declared.wheel.Bucket.{Bucket}
 use Rattle.iloc_sched.specs.Steps.Wheel.{no_bucket, bucket_of}
-use Rattle.iloc_sched.proofs.Watching.LinkedBuckets.{length-chain, put_here, put_elsewhere}
+use Rattle.iloc_sched.proofs.Walking.LinkedBuckets.{length-chain, put_here, put_elsewhere}
 use Rattle.iloc_sched.proofs.wheel.Wheel.put.Goals as goal
 
 pub overflow_add-self : goal.overflow_add-self

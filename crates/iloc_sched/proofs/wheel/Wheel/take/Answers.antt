@@ -2,7 +2,7 @@ use Rattle.std.proofs.Common.{◌%◌, ◌<◌, length, get_or, arith}
 use Rattle.std.proofs.lemmas.List.{get_or_read}
 use Rattle.iloc_sched.specs.declared.wheel.Bucket.{Bucket}
 use Rattle.iloc_sched.specs.Steps.Wheel.{no_bucket}
-use Rattle.iloc_sched.proofs.Watching.LinkedBuckets.{first_held, first_taken}
+use Rattle.iloc_sched.proofs.Walking.LinkedBuckets.{first_held, first_taken}
 use Rattle.iloc_sched.proofs.wheel.Wheel.take.Goals as goal
 
 pub index-requires : goal.index-requires

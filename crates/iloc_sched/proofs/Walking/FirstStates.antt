@@ -1,7 +1,9 @@
 -- The states and buckets with which a schedule begins; for `Waiting::open`.
-use Rattle.std.proofs.Common.{◌≡◌, ◌≢◌, ℕ, zero, suc, ◌+◌, ◌%◌, ◌<◌, ◌≤◌, List, [], ◌∷◌, ◌++◌, length, map, take, get_or, Option, None, inl, inr, refl, sym, ◌∙◌, ap, subst, arith, cond}
+use Rattle.std.proofs.Common.{◌≡◌, ◌≢◌, ℕ, zero, suc, ◌+◌, ◌-◌, ◌%◌, ◌<◌, ◌≤◌, List, [], ◌∷◌, ◌++◌, length, map, get_or, true, Option, None, inl, inr, refl, sym, ◌∙◌, ap, subst, arith, cond}
 use Rattle.std.specs.Prelude.{replicate, count_by, is_none}
-use Rattle.std.proofs.lemmas.List.{length-map, length-replicate, replicate_more, take_more}
+use Rattle.std.proofs.lemmas.List.{length-map, length-replicate, replicate_more}
+use Rattle.std.proofs.lemmas.List.FromFn.{get_or-map-range_with_len, map-range_with_len_more}
+use Rattle.std.specs.List.{range_with_len}
 use Rattle.std.proofs.lemmas.List.Sums.{sum_by-cons}
 use Rattle.iloc_sched.specs.declared.edges.Edges.{Edges}
 use Rattle.iloc_sched.specs.declared.plan.Plan.{Plan}
@@ -14,12 +16,13 @@ use Rattle.iloc_sched.specs.Steps.Members.{In, AreApart}
 use Rattle.iloc_sched.specs.Steps.Graph.{Graph, IsGraph}
 use Rattle.iloc_sched.specs.Steps.Progress.{Progress, Waits}
 use Rattle.iloc_sched.specs.Steps.Wheel.{bucket_of}
-use Rattle.iloc_sched.specs.Steps.Views.{graph_of, issued_in, watched_in, earliest_in, issued_list, watch_list, earliest_list, progress_of, IsSized}
+use Rattle.iloc_sched.specs.Steps.Views.{graph_of, issued_in, unmet_in, earliest_in, issued_list, unmet_list, earliest_list, progress_of, IsSized}
 use Rattle.iloc_sched.specs.Steps.Queued.{candidates}
 use Rattle.iloc_sched.specs.Steps.SoFar.{IsSoFar, waiting_count}
 use Rattle.iloc_sched.specs.Steps.Opening.{AreRoots, not_issued, IsOpening}
 use Rattle.iloc_sched.proofs.Basics.Cases.{by_eq, not_both}
-use Rattle.iloc_sched.proofs.Watching.LinkedBuckets.{apart_few, read_replicate}
+use Rattle.iloc_sched.proofs.Walking.UnmetEdges.{not_true, count_all}
+use Rattle.iloc_sched.proofs.Walking.LinkedBuckets.{apart_few, read_replicate}
 
 pub no_roots : (graph : Graph) → AreRoots graph [] 0
 no_roots graph = record { all = λ j below. absurd (omega arith); only = λ j held. absurd held; apart = tt }
@@ -46,12 +49,6 @@ roots_kept graph js n roots free = record {
   apart = roots.apart;
 }
 
-pub read_take : (n : ℕ) (xs : List ℕ) (k : ℕ) → k < n → get_or (take n xs) k 0 ≡ get_or xs k 0
-read_take zero xs k below = absurd (omega arith)
-read_take (suc n) [] k below = refl
-read_take (suc n) (x ∷ xs) zero below = refl
-read_take (suc n) (x ∷ xs) (suc k) below = read_take n xs k (omega arith)
-
 pub count_replicate : (n : ℕ) → count_by is_none (replicate n not_issued) ≡ n
 count_replicate zero = refl
 count_replicate (suc n) =
@@ -64,22 +61,26 @@ pushed : {Y : Type 0} → (f : State → Y) (xs : List State) (s : State) → ma
 pushed f [] s = refl
 pushed f (x ∷ xs) s = ap (λ ys. f x ∷ ys) (pushed f xs s)
 
+-- how many edges lead into an operation
+abbrev edges_into : Graph → ℕ → ℕ
+edges_into graph j = graph.start (j + 1) - graph.start j
+
 -- the states of one more operation
 module _ (e : Edges) (w v : Waiting) (n : ℕ) (state : State) (below : n < length e.starts.items)
     (so_far : IsOpening e w n) (states : v.states.items ≡ w.states.items ++ state ∷ []) (fresh : state.issued ≡ None)
-    (place : state.reach.place ≡ (graph_of e).start n) (soon : state.reach.earliest ≡ 0) where
+    (unmet : state.wait.unmet ≡ (graph_of e).start (n + 1) - (graph_of e).start n) (soon : state.wait.earliest ≡ 0) where
   issued_more : issued_list v ≡ replicate (n + 1) not_issued
   issued_more = ap issued_in states ∙ pushed (λ (s : State). s.issued) w.states.items state
       ∙ ap (λ o. issued_list w ++ o ∷ []) fresh ∙ ap (λ xs. xs ++ not_issued ∷ []) so_far.issued
       ∙ replicate_more n not_issued
 
-  watched_more : watch_list v ≡ take (n + 1) e.starts.items
-  watched_more = ap watched_in states ∙ pushed (λ (s : State). s.reach.place) w.states.items state
-      ∙ ap (λ x. watch_list w ++ x ∷ []) place ∙ ap (λ xs. xs ++ (graph_of e).start n ∷ []) so_far.watch
-      ∙ sym (take_more e.starts.items n 0 below)
+  unmet_more : unmet_list v ≡ map (edges_into (graph_of e)) (range_with_len 0 (n + 1))
+  unmet_more = ap unmet_in states ∙ pushed (λ (s : State). s.wait.unmet) w.states.items state
+      ∙ ap (λ x. unmet_list w ++ x ∷ []) unmet ∙ ap (λ xs. xs ++ edges_into (graph_of e) n ∷ []) so_far.unmet
+      ∙ sym (map-range_with_len_more (edges_into (graph_of e)) 0 n n (omega arith))
 
   earliest_more : earliest_list v ≡ replicate (n + 1) 0
-  earliest_more = ap earliest_in states ∙ pushed (λ (s : State). s.reach.earliest) w.states.items state
+  earliest_more = ap earliest_in states ∙ pushed (λ (s : State). s.wait.earliest) w.states.items state
       ∙ ap (λ x. earliest_list w ++ x ∷ []) soon ∙ ap (λ xs. xs ++ 0 ∷ []) so_far.earliest
       ∙ replicate_more n 0
 
@@ -87,7 +88,7 @@ module _ (e : Edges) (w v : Waiting) (n : ℕ) (state : State) (below : n < leng
   pub opening_kept : v.wheel ≡ w.wheel → (graph_of e).start n ≢ (graph_of e).start (n + 1) → IsOpening e v (n + 1)
   opening_kept same free = record {
     issued = issued_more;
-    watch = watched_more;
+    unmet = unmet_more;
     earliest = earliest_more;
     links = subst (λ (wheel : Wheel). length e.heads.items ≤ length wheel.behind.items) (sym same) so_far.links;
     roots = subst (λ (wheel : Wheel). AreRoots (graph_of e) (bucket_of wheel 0) (n + 1)) (sym same)
@@ -102,7 +103,7 @@ module _ (e : Edges) (w v : Waiting) (n : ℕ) (state : State) (below : n < leng
       → (graph_of e).start n ≡ (graph_of e).start (n + 1) → IsOpening e v (n + 1)
   opening_put put others links free = record {
     issued = issued_more;
-    watch = watched_more;
+    unmet = unmet_more;
     earliest = earliest_more;
     links = omega (arith, links, so_far.links);
     roots = subst (λ js. AreRoots (graph_of e) js (n + 1)) (sym put)
@@ -124,27 +125,29 @@ roots_few e w n so_far =
 
 -- nothing is issued yet
 pub opened : (graph : Graph) (w : Progress) → IsGraph graph → ((j : ℕ) → w.issued j ≡ None)
-    → ((j : ℕ) → j < graph.ops → w.watch j ≡ graph.start j) → ((j : ℕ) → w.earliest j ≡ 0)
+    → ((j : ℕ) → j < graph.ops → w.unmet j ≡ graph.start (j + 1) - graph.start j) → ((j : ℕ) → w.earliest j ≡ 0)
     → AreRoots graph (w.bucket 0) graph.ops → ((b : ℕ) → b < 32 → b ≢ 0 → w.bucket b ≡ []) → Waits graph w 0 0 None
-opened graph w is none watch earliest roots others = record {
-  reach = λ j there.
-      let at : w.watch j ≡ graph.start j = watch j there in
-      let up : graph.start j ≤ graph.start (j + 1) = is.rises j (j + 1) (omega arith) (omega arith) in
-      record {
-        within = (omega arith, omega arith);
-        past = λ x after before. absurd (omega arith);
-        reached = inl (earliest j);
-      };
-  stuck = λ j there left. inl (none (graph.from (w.watch j)));
+opened graph w is none unmet earliest roots others = record {
+  is_unmet = λ x. true;
+  unmet = λ j there. unmet j there
+      ∙ sym (count_all (λ x. true) (λ x. refl) (graph.start j) (graph.start (j + 1) - graph.start j));
+  ahead = λ x there from up. refl;
+  stuck = λ x there yes. inl (none (graph.from x));
+  past = λ x there no. not_true true no refl;
+  reached = λ j there. inl (earliest j);
   complete = λ j t there was. not_both (w.issued j) t (none j) was;
   times = λ j t there was. not_both (w.issued j) t (none j) was;
   waits = λ j there waiting all late. subst (λ b. In (w.bucket b) j) (sym (ap (λ e. e % 32) (earliest j)))
-      (roots.all j there (sym (watch j there) ∙ all));
+      (let count : w.unmet j ≡ graph.start (j + 1) - graph.start j = unmet j there in
+      let up : graph.start j ≤ graph.start (j + 1) = is.rises j (j + 1) (omega arith) (omega arith) in
+      roots.all j there (omega arith));
   only = λ b j small held. by_eq b 0
       (λ same.
       let h : (j < graph.ops) × (graph.start j ≡ graph.start (j + 1)) =
       roots.only j (subst (λ a. In (w.bucket a) j) same held) in
-      (h.0, none j, watch j h.0 ∙ h.1, omega arith, ap (λ e. e % 32) (earliest j) ∙ sym same))
+      let count : w.unmet j ≡ graph.start (j + 1) - graph.start j = unmet j h.0 in
+      let alike : graph.start j ≡ graph.start (j + 1) = h.1 in
+      (h.0, none j, omega arith, omega arith, ap (λ e. e % 32) (earliest j) ∙ sym same))
       (λ apart. absurd (subst (λ js. In js j) (others b small apart) held));
   apart = λ b small. by_eq b 0 (λ same. subst (λ a. AreApart (w.bucket a)) (sym same) roots.apart)
       (λ apart. subst AreApart (sym (others b small apart)) tt);
@@ -157,7 +160,8 @@ module _ (e : Edges) (w : Waiting) (is : IsGraph (graph_of e)) (made : IsOpening
 
   pub all_opened : Waits (graph_of e) (progress_of w) 0 0 None
   all_opened = opened (graph_of e) (progress_of w) is none_issued
-      (λ j there. ap (λ xs. get_or xs j 0) made.watch ∙ read_take (length e.heads.items) e.starts.items j there)
+      (λ j there. ap (λ xs. get_or xs j 0) made.unmet
+      ∙ get_or-map-range_with_len (edges_into (graph_of e)) 0 (length e.heads.items) j j 0 there (omega arith))
       (λ j. ap (λ xs. get_or xs j 0) made.earliest ∙ read_replicate (length e.heads.items) 0 j)
       made.roots made.others
 

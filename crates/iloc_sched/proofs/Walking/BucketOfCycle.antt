@@ -2,25 +2,20 @@
 use Rattle.std.proofs.Common.{◌≡◌, ◌≢◌, ℕ, ◌+◌, ◌%◌, ◌<◌, ◌≤◌, List, [], Option, None, ◌⊎◌, inl, inr, sym, ◌∙◌, ap, subst, arith}
 use Rattle.iloc_sched.specs.Steps.Members.{In, AreApart}
 use Rattle.iloc_sched.specs.Steps.Graph.{Graph, IsGraph}
-use Rattle.iloc_sched.specs.Steps.Progress.{Progress, Reaches, Waits, CanIssue}
+use Rattle.iloc_sched.specs.Steps.Progress.{Progress, Waits, CanIssue}
 use Rattle.iloc_sched.proofs.Basics.Cases.{by_eq, by_lt}
-use Rattle.iloc_sched.proofs.Watching.EdgeWalk.{within_count}
 
 pub earliest_bound : (graph : Graph) (w : Progress) (f i : ℕ) (at : Option ℕ) → IsGraph graph → Waits graph w f i at
     → (j : ℕ) → j < graph.ops → w.earliest j < f + 16
 earliest_bound graph w f i at is waits j there =
-    let reach : Reaches graph w.issued j (w.watch j) (w.earliest j) = waits.reach j there in
-    elim reach.reached [
+    elim (waits.reached j there) [
       | inl at_once ↦ omega arith
       | inr h ↦
           let x : ℕ = h.0 in
-          let before : x < w.watch j = h.3 in
-          let end : w.watch j ≤ graph.start (j + 1) = reach.within.1 in
-          let x_there : x < graph.count = within_count graph is j x there (omega arith) in
-          let earlier : graph.from x < graph.to x = is.earlier x x_there in
-          let target : graph.to x < graph.ops = (is.to_there x x_there).0 in
+          let earlier : graph.from x < graph.to x = is.earlier x h.2 in
+          let target : graph.to x < graph.ops = (is.to_there x h.2).0 in
           let time : h.1 < f = waits.times (graph.from x) h.1 (omega arith) h.4 in
-          let short : graph.delay x ≤ 16 = (is.delays x x_there).1 in
+          let short : graph.delay x ≤ 16 = (is.delays x h.2).1 in
           let same : w.earliest j ≡ h.1 + graph.delay x = h.5 in
           omega arith
     ]
@@ -32,7 +27,7 @@ same_mod a c least most same = omega arith
 pub due_now : (graph : Graph) (w : Progress) (c : ℕ) → IsGraph graph → Waits graph w c 0 None → (j : ℕ)
     → In (w.bucket (c % 32)) j → CanIssue graph w (c + 1) j × (w.earliest j ≡ c)
 due_now graph w c is waits j held =
-    let h : (j < graph.ops) × (w.issued j ≡ None) × (w.watch j ≡ graph.start (j + 1)) × (c ≤ w.earliest j)
+    let h : (j < graph.ops) × (w.issued j ≡ None) × (w.unmet j ≡ 0) × (c ≤ w.earliest j)
     × (w.earliest j % 32 ≡ c % 32) = waits.only (c % 32) j (omega arith) held in
     let now : w.earliest j ≡ c = same_mod (w.earliest j) c h.3 (earliest_bound graph w c 0 None is waits j h.0) h.4 in
     (record { there = h.0; waiting = h.1; past_all = h.2; soon = omega arith }, now)
@@ -57,8 +52,12 @@ pub empties : (graph : Graph) (w : Progress) (c : ℕ) (bucket' : ℕ → List �
     → bucket' (c % 32) ≡ [] → ((b : ℕ) → b < 32 → b ≢ c % 32 → bucket' b ≡ w.bucket b)
     → Waits graph (record w { bucket = bucket' }) (c + 1) 0 None
 empties graph w c bucket' is waits emptied others = record {
-  reach = waits.reach;
+  is_unmet = waits.is_unmet;
+  unmet = waits.unmet;
+  ahead = waits.ahead;
   stuck = waits.stuck;
+  past = waits.past;
+  reached = waits.reached;
   complete = waits.complete;
   times = λ j t there was. let before : t < c = waits.times j t there was in omega arith;
   waits = λ j there none all late.
@@ -70,7 +69,7 @@ empties graph w c bucket' is waits emptied others = record {
   only = λ b j small held. by_eq b (c % 32)
       (λ same. absurd (subst (λ xs. In xs j) (ap bucket' same ∙ emptied) held))
       (λ apart.
-      let h : (j < graph.ops) × (w.issued j ≡ None) × (w.watch j ≡ graph.start (j + 1)) × (c ≤ w.earliest j)
+      let h : (j < graph.ops) × (w.issued j ≡ None) × (w.unmet j ≡ 0) × (c ≤ w.earliest j)
       × (w.earliest j % 32 ≡ b) = waits.only b j small (subst (λ xs. In xs j) (others b small apart) held) in (
         h.0,
         h.1,

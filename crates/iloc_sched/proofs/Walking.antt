@@ -1,4 +1,5 @@
--- What waits while a schedule is made: watched edges, and the buckets of what becomes ready.
+-- What waits while a schedule is made: unmet edges, and the buckets of what becomes ready.
+pub mod UnmetEdges
 pub mod EdgeWalk
 pub mod WalkInTables
 pub mod TableReads

@@ -1,0 +1,278 @@
+-- The walk along the edges out of an issued operation keeps what is known of what waits; for `Waiting::issue`.
+use Rattle.std.proofs.Common.{◌≡◌, ◌≢◌, ℕ, ◌+◌, ◌-◌, ◌%◌, ◌<◌, ◌≤◌, max, true, false, List, ◌∷◌, Option, Some, None, ◌⊎◌, inl, inr, refl, sym, ◌∙◌, ap, subst, arith}
+use Rattle.iloc_sched.specs.Steps.Members.{In, AreApart}
+use Rattle.iloc_sched.specs.Steps.Graph.{Graph, IsLast, IsGraph}
+use Rattle.iloc_sched.specs.Steps.Progress.{Progress, UpTo, Waits, CanIssue, count_from}
+use Rattle.iloc_sched.proofs.Walking.UnmetEdges.{by_bool, not_true, without, without_it, without_other, count_same, count_less}
+use Rattle.iloc_sched.proofs.Basics.Cases.{by_eq, by_lt, not_both, same_some, none_of}
+
+-- what passes below n is at most the last that does
+pub up_to_last : (P : ℕ → Type 0) (n : ℕ) (last : Option ℕ) (x : ℕ) → IsLast P n last → x < n → P x → UpTo last x
+up_to_last P n None x is below passes = is x below passes
+up_to_last P n (Some m) x is below passes = by_lt m x (λ more. absurd (is.2 x more below passes)) (λ less. less)
+
+-- what waits for edges is within all edges
+pub within_count : (graph : Graph) → IsGraph graph → (j x : ℕ) → j < graph.ops → x < graph.start (j + 1)
+    → x < graph.count
+within_count graph is j x there below =
+    let more : graph.start (j + 1) ≤ graph.start graph.ops = is.rises (j + 1) graph.ops (omega arith) (omega arith) in
+    let last : graph.start graph.ops ≡ graph.count = is.last in
+    omega arith
+
+-- i is issued at cycle c: the edges out of it are unmet still
+pub begins : (graph : Graph) (w : Progress) (f i c : ℕ) (issued' : ℕ → Option ℕ) → IsGraph graph
+    → Waits graph w f 0 None → CanIssue graph w f i → c < f → issued' i ≡ Some c
+    → ((k : ℕ) → k ≢ i → issued' k ≡ w.issued k) → Waits graph (record w { issued = issued' }) f i (graph.head i)
+begins graph w f i c issued' is waits can before at others =
+    let still : (k u : ℕ) → w.issued k ≡ Some u → issued' k ≡ Some u =
+    λ k u was. others k (λ same. not_both (w.issued i) u can.waiting (ap w.issued (sym same) ∙ was)) ∙ was in
+    let not_i : (k : ℕ) → issued' k ≡ None → k ≢ i =
+    λ k none same. not_both (issued' i) c (ap issued' (sym same) ∙ none) at in
+    record {
+      is_unmet = waits.is_unmet;
+      unmet = waits.unmet;
+      ahead = λ x there from_i below. by_bool (waits.is_unmet x) (λ yes. yes)
+          (λ no. let h = waits.past x there no in
+          not_both (w.issued (graph.from x)) h.0 (ap w.issued from_i ∙ can.waiting) h.1);
+      stuck = λ x there yes. elim (waits.stuck x there yes) [
+        | inl none ↦ by_eq (graph.from x) i
+            (λ same. inr (
+              same,
+              up_to_last (λ y. graph.from y ≡ i) graph.count (graph.head i) x (is.heads i can.there) there same,
+            ))
+            (λ apart. inl (others _ apart ∙ none))
+        | inr loose ↦ absurd loose.1
+      ];
+      past = λ x there no. let h = waits.past x there no in (h.0, still _ _ h.1, h.2);
+      reached = λ j there. elim (waits.reached j there) [
+        | inl at_once ↦ inl at_once
+        | inr h ↦ inr (h.0, h.1, h.2, h.3, still _ _ h.4, h.5)
+      ];
+      complete = λ j t there was. by_eq j i
+          (λ same. subst (λ k. w.unmet k ≡ 0) (sym same) can.past_all)
+          (λ apart. waits.complete j t there (sym (others j apart) ∙ was));
+      times = λ j t there was. by_eq j i
+          (λ same. let now : t ≡ c = same_some (issued' i) t c (ap issued' (sym same) ∙ was) at in omega arith)
+          (λ apart. waits.times j t there (sym (others j apart) ∙ was));
+      waits = λ j there none. waits.waits j there (sym (others j (not_i j none)) ∙ none);
+      only = λ b j small held.
+          let h = waits.only b j small held in
+          let later : f ≤ w.earliest j = h.3 in
+          let soon : w.earliest i < f = can.soon in (
+            h.0,
+            others j (λ same. let e : w.earliest j ≡ w.earliest i = ap w.earliest same in absurd (omega arith))
+                ∙ h.1,
+            h.2,
+            h.3,
+            h.4,
+          );
+      apart = waits.apart;
+    }
+
+-- of the edges out of i up to x those other than x are up to the one before it
+pub up_to_previous : (graph : Graph) → IsGraph graph → (x y : ℕ) → x < graph.count → graph.from y ≡ graph.from x → y ≤ x
+    → y ≢ x → UpTo (graph.previous x) y
+up_to_previous graph is x y there same most apart =
+    up_to_last (λ z. graph.from z ≡ graph.from x) x (graph.previous x) y (is.previous_edges x there) (omega arith) same
+
+-- the edge before x out of the same operation is another
+below_last : (P : ℕ → Type 0) (n : ℕ) (last : Option ℕ) (y : ℕ) → IsLast P n last → UpTo last y → y < n
+below_last P n None y last up = absurd up
+below_last P n (Some m) y last up = let below : m < n = last.0 in omega arith
+
+pub previous_below : (graph : Graph) → IsGraph graph → (x y : ℕ) → x < graph.count → UpTo (graph.previous x) y → y < x
+previous_below graph is x y there =
+    below_last (λ z. graph.from z ≡ graph.from x) x (graph.previous x) y (is.previous_edges x there)
+
+module _ (graph : Graph) (w : Progress) (f i x : ℕ) (is : IsGraph graph) (waits : Waits graph w f i (Some x))
+    (there : x < graph.count) (from_i : graph.from x ≡ i) where
+  unmet_at : waits.is_unmet x ≡ true
+  unmet_at = waits.ahead x there from_i (omega arith)
+
+  -- the target of x has one less to wait for
+  one_less : w.unmet (graph.to x) ≡ count_from (without waits.is_unmet x) (graph.start (graph.to x))
+      (graph.start (graph.to x + 1) - graph.start (graph.to x)) + 1
+  one_less =
+      let j : ℕ = graph.to x in
+      let place : (graph.to x < graph.ops) × (graph.start (graph.to x) ≤ x) × (x < graph.start (graph.to x + 1)) =
+      is.to_there x there in
+      let first : graph.start j ≤ x = place.1 in
+      let last : x < graph.start (j + 1) = place.2 in
+      waits.unmet j place.0
+      ∙ count_less waits.is_unmet (without waits.is_unmet x) x unmet_at (without_it waits.is_unmet x)
+      (without_other waits.is_unmet x) (graph.start j) (graph.start (j + 1) - graph.start j) first (omega arith)
+
+  -- it has something to wait for
+  pub some_unmet : 0 < w.unmet (graph.to x)
+  some_unmet = let less = one_less in omega arith
+
+  -- no other operation has
+  others_same : (k : ℕ) → k < graph.ops → k ≢ graph.to x
+      → w.unmet k ≡ count_from (without waits.is_unmet x) (graph.start k) (graph.start (k + 1) - graph.start k)
+  others_same k within apart =
+      let up : graph.start k ≤ graph.start (k + 1) = is.rises k (k + 1) (omega arith) (omega arith) in
+      waits.unmet k within
+      ∙ sym (count_same waits.is_unmet (without waits.is_unmet x) (graph.start k) (graph.start (k + 1) - graph.start k)
+      (λ y from below. without_other waits.is_unmet x y
+      (λ same. apart (sym (is.into k x within (subst (λ a. graph.start k ≤ a) same from)
+      (subst (λ a. a < graph.start (k + 1)) same (omega arith)))))))
+
+-- j goes into bucket b where it has come to its last edge
+pub record Enters (bucket bucket' : ℕ → List ℕ) (b j : ℕ) (at_end : Type 0) : Type 0 where
+  pub stays : (a k : ℕ) → a < 32 → In (bucket a) k → In (bucket' a) k
+  pub was : (a k : ℕ) → a < 32 → In (bucket' a) k → In (bucket a) k ⊎ ((k ≡ j) × (a ≡ b) × at_end)
+  pub comes : at_end → In (bucket' b) j
+  pub apart : (a : ℕ) → a < 32 → AreApart (bucket' a)
+
+-- edge x is over, and its target has one less to wait for
+pub moves : (graph : Graph) (w : Progress) (f i x c p t : ℕ) (unmet' earliest' : ℕ → ℕ) (bucket' : ℕ → List ℕ)
+    → IsGraph graph → Waits graph w f i (Some x) → x < graph.count → graph.from x ≡ i → f ≡ c + 1 → w.issued i ≡ Some c
+    → w.unmet (graph.to x) ≡ p + 1 → t ≡ max (w.earliest (graph.to x)) (c + graph.delay x)
+    → unmet' (graph.to x) ≡ p → ((k : ℕ) → k ≢ graph.to x → unmet' k ≡ w.unmet k)
+    → earliest' (graph.to x) ≡ t → ((k : ℕ) → k ≢ graph.to x → earliest' k ≡ w.earliest k)
+    → Enters w.bucket bucket' (t % 32) (graph.to x) (p ≡ 0)
+    → Waits graph (record w { unmet = unmet'; earliest = earliest'; bucket = bucket' }) f i (graph.previous x)
+moves graph w f i x c p t unmet' earliest' bucket' is waits there from_i now at_i was_p is_t at_unmet other_unmet
+    at_earliest other_earliest enters =
+    let j : ℕ = graph.to x in
+    let j_there : j < graph.ops = (is.to_there x there).0 in
+    let issued_x : w.issued (graph.from x) ≡ Some c = ap w.issued from_i ∙ at_i in
+    let long : 1 ≤ graph.delay x = (is.delays x there).0 in
+    let less : w.unmet j ≡ count_from (without waits.is_unmet x) (graph.start j) (graph.start (j + 1) - graph.start j) + 1 =
+    one_less graph w f i x is waits there from_i in
+    let waiting : (u : ℕ) → w.issued j ≡ Some u → ⊥ = λ u was. let done : w.unmet j ≡ 0 =
+    waits.complete j u j_there was in absurd (omega arith) in
+    record {
+      is_unmet = without waits.is_unmet x;
+      unmet = λ k within. by_eq k j
+          (λ same. subst (λ k. unmet' k ≡ count_from (without waits.is_unmet x) (graph.start k)
+          (graph.start (k + 1) - graph.start k)) (sym same) (at_unmet ∙ omega arith))
+          (λ apart. other_unmet k apart ∙ others_same graph w f i x is waits there from_i k within apart);
+      ahead = λ y within from_y up.
+          let below : y < x = previous_below graph is x y there up in
+          without_other waits.is_unmet x y (λ same. absurd (omega arith)) ∙ waits.ahead y within from_y (omega arith);
+      stuck = λ y within yes. by_eq y x
+          (λ same. not_true (without waits.is_unmet x y)
+          (subst (λ a. without waits.is_unmet x a ≡ false) (sym same) (without_it waits.is_unmet x)) yes)
+          (λ apart. elim (waits.stuck y within (sym (without_other waits.is_unmet x y apart) ∙ yes)) [
+            | inl none ↦ inl none
+            | inr loose ↦ inr (
+              loose.0,
+              up_to_previous graph is x y there (loose.0 ∙ sym from_i) loose.1 apart,
+            )
+          ]);
+      past = λ y within no. by_eq y x
+          (λ same. (
+            c,
+            subst (λ a. w.issued (graph.from a) ≡ Some c) (sym same) issued_x,
+            subst (λ a. c + graph.delay a ≤ earliest' (graph.to a)) (sym same)
+                (subst (λ a. c + graph.delay x ≤ a) (sym at_earliest) (omega arith)),
+          ))
+          (λ apart.
+          let h = waits.past y within (sym (without_other waits.is_unmet x y apart) ∙ no) in
+          let enough : h.0 + graph.delay y ≤ w.earliest (graph.to y) = h.2 in
+          let more : w.earliest (graph.to y) ≤ earliest' (graph.to y) =
+          by_eq (graph.to y) j
+          (λ same. subst (λ k. w.earliest k ≤ earliest' k) (sym same)
+          (subst (λ a. w.earliest j ≤ a) (sym at_earliest) (omega arith)))
+          (λ other. subst (λ a. w.earliest (graph.to y) ≤ a) (sym (other_earliest (graph.to y) other)) (omega arith)) in
+          (h.0, h.1, omega arith));
+      reached = λ k within. by_eq k j
+          (λ same. let at_k : earliest' k ≡ t = ap earliest' same ∙ at_earliest in
+          by_lt (w.earliest j) (c + graph.delay x)
+          (λ later. inr (x, c, there, sym same, issued_x, omega arith))
+          (λ earlier. elim (waits.reached j j_there) [
+            | inl at_once ↦ inl (omega arith)
+            | inr h ↦ let was : w.earliest j ≡ h.1 + graph.delay h.0 = h.5 in
+                inr (h.0, h.1, h.2, h.3 ∙ sym same, h.4, omega arith)
+          ]))
+          (λ apart. subst (λ a. (a ≡ 0) ⊎ ((y : ℕ) × (u : ℕ) × (y < graph.count) × (graph.to y ≡ k)
+          × (w.issued (graph.from y) ≡ Some u) × (a ≡ u + graph.delay y))) (sym (other_earliest k apart))
+          (waits.reached k within));
+      complete = λ k u within was. by_eq k j
+          (λ same. absurd (waiting u (ap w.issued (sym same) ∙ was)))
+          (λ apart. other_unmet k apart ∙ waits.complete k u within was);
+      times = waits.times;
+      waits = λ k within none all late_k. by_eq k j
+          (λ same. let at_k : earliest' k ≡ t = ap earliest' same ∙ at_earliest in
+          let at_end : p ≡ 0 = sym at_unmet ∙ ap unmet' (sym same) ∙ all in
+          subst (λ a. In (bucket' (a % 32)) k) (sym at_k)
+          (subst (λ a. In (bucket' (t % 32)) a) (sym same) (enters.comes at_end)))
+          (λ apart. let is_e : earliest' k ≡ w.earliest k = other_earliest k apart in
+          subst (λ a. In (bucket' (a % 32)) k) (sym is_e)
+          (enters.stays _ k (omega arith) (waits.waits k within none (sym (other_unmet k apart) ∙ all)
+          (subst (λ a. f ≤ a) is_e late_k))));
+      only = λ b k small held. elim (enters.was b k small held) [
+        | inl old ↦
+            let h = waits.only b k small old in
+            let all : w.unmet k ≡ 0 = h.2 in
+            let apart : k ≢ j = (λ same. let none : w.unmet j ≡ 0 = ap w.unmet (sym same) ∙ all in absurd (omega arith)) in (
+              h.0,
+              h.1,
+              other_unmet k apart ∙ all,
+              subst (λ a. f ≤ a) (sym (other_earliest k apart)) h.3,
+              ap (λ a. a % 32) (other_earliest k apart) ∙ h.4,
+            )
+        | inr new ↦
+            let same : k ≡ j = new.0 in
+            let at_k : earliest' k ≡ t = ap earliest' same ∙ at_earliest in (
+              subst (λ a. a < graph.ops) (sym same) j_there,
+              subst (λ a. w.issued a ≡ None) (sym same) (none_of (w.issued j) waiting),
+              ap unmet' same ∙ at_unmet ∙ new.2,
+              omega arith,
+              ap (λ a. a % 32) at_k ∙ sym new.1,
+            )
+      ];
+      apart = enters.apart;
+    }
+
+-- nothing is loose
+pub ends : (graph : Graph) (w : Progress) (f i : ℕ) → Waits graph w f i None → Waits graph w f 0 None
+ends graph w f i waits = record {
+  is_unmet = waits.is_unmet;
+  unmet = waits.unmet;
+  ahead = λ x there from_x up. absurd up;
+  stuck = λ x there yes. elim (waits.stuck x there yes) [ inl none ↦ inl none | inr loose ↦ absurd loose.1 ];
+  past = waits.past;
+  reached = waits.reached;
+  complete = waits.complete;
+  times = waits.times;
+  waits = waits.waits;
+  only = waits.only;
+  apart = waits.apart;
+}
+
+-- no bucket changes
+pub enters_none : (bucket : ℕ → List ℕ) (b j : ℕ) (at_end : Type 0) → (at_end → ⊥)
+    → ((a : ℕ) → a < 32 → AreApart (bucket a)) → Enters bucket bucket b j at_end
+enters_none bucket b j at_end not apart = record {
+  stays = λ a k small held. held;
+  was = λ a k small held. inl held;
+  comes = λ end. absurd (not end);
+  apart = apart;
+}
+
+-- j is put into bucket b, which does not have it
+pub enters_put : (bucket bucket' : ℕ → List ℕ) (b j : ℕ) (at_end : Type 0) → at_end
+    → ((a : ℕ) → a < 32 → AreApart (bucket a)) → (In (bucket b) j → ⊥) → bucket' b ≡ j ∷ bucket b
+    → ((a : ℕ) → a < 32 → a ≢ b → bucket' a ≡ bucket a) → Enters bucket bucket' b j at_end
+enters_put bucket bucket' b j at_end end apart new at others = record {
+  stays = λ a k small held. by_eq a b
+      (λ same. subst (λ a. In (bucket' a) k) (sym same)
+      (subst (λ xs. In xs k) (sym at) (inr (subst (λ a. In (bucket a) k) same held))))
+      (λ other. subst (λ xs. In xs k) (sym (others a small other)) held);
+  was = λ a k small held. by_eq a b
+      (λ same. elim (the_put k (subst (λ xs. In xs k) at (subst (λ a. In (bucket' a) k) same held))) [
+        | inl is ↦ inr (is, same, end)
+        | inr old ↦ inl (subst (λ a. In (bucket a) k) (sym same) old)
+      ])
+      (λ other. inl (subst (λ xs. In xs k) (others a small other) held));
+  comes = λ _. subst (λ xs. In xs j) (sym at) (inl refl);
+  apart = λ a small. by_eq a b
+      (λ same. subst (λ a. AreApart (bucket' a)) (sym same)
+      (subst AreApart (sym at) (new, apart b (subst (λ a. a < 32) same small))))
+      (λ other. subst AreApart (sym (others a small other)) (apart a small));
+}
+  where
+    the_put : (k : ℕ) → In (j ∷ bucket b) k → (k ≡ j) ⊎ In (bucket b) k
+    the_put k held = elim held [ inl is ↦ inl (sym is) | inr old ↦ inr old ]

@@ -1,0 +1,63 @@
+-- Who can be issued once another was; for `Waiting::issue_first`.
+use Rattle.std.proofs.Common.{◌≡◌, ◌≢◌, ℕ, ◌+◌, ◌-◌, ◌<◌, ◌≤◌, false, Some, None, inl, inr, sym, ◌∙◌, ap, subst, arith}
+use Rattle.iloc_sched.specs.Steps.Graph.{Graph, IsGraph}
+use Rattle.iloc_sched.specs.Steps.Progress.{Progress, Waits, CanIssue, KeepsPlaces, count_from}
+use Rattle.iloc_sched.proofs.Basics.Cases.{by_eq, by_lt, not_both, same_some}
+use Rattle.iloc_sched.proofs.Walking.EdgeWalk.{within_count}
+use Rattle.iloc_sched.proofs.Walking.UnmetEdges.{count_none, count_some}
+
+module _ (graph : Graph) (w w' : Progress) (c i : ℕ) (is : IsGraph graph)
+    (waits : Waits graph w (c + 1) 0 None) (waits' : Waits graph w' (c + 1) 0 None)
+    (at : w'.issued i ≡ Some c) (others : (k : ℕ) → k ≢ i → w'.issued k ≡ w.issued k) (keeps : KeepsPlaces w w')
+  where
+    pub can_issue_still : (j : ℕ) → j ≢ i → CanIssue graph w (c + 1) j → CanIssue graph w' (c + 1) j
+    can_issue_still j apart can =
+        let same : (w'.unmet j ≡ 0) × (w'.earliest j ≡ w.earliest j) = keeps j can.past_all in
+        record {
+          there = can.there;
+          waiting = others j apart ∙ can.waiting;
+          past_all = same.0;
+          soon = subst (λ a. a < c + 1) (sym same.1) can.soon;
+        }
+
+    -- who was completed by this has to wait for its result
+    completed_before : (j : ℕ) → CanIssue graph w' (c + 1) j → 0 < w.unmet j → ⊥
+    completed_before j can some =
+        let count : w.unmet j ≡ count_from waits.is_unmet (graph.start j) (graph.start (j + 1) - graph.start j) =
+        waits.unmet j can.there in
+        let one = count_some waits.is_unmet (graph.start j) (graph.start (j + 1) - graph.start j) (omega arith) in
+        let x : ℕ = one.0 in
+        let before : x < graph.start j + (graph.start (j + 1) - graph.start j) = one.2 in
+        let last : x < graph.start (j + 1) = omega (arith, one.1) in
+        let there : x < graph.count = within_count graph is j x can.there last in
+        let into : graph.to x ≡ j = is.into j x can.there one.1 last in
+        let met : waits'.is_unmet x ≡ false =
+        count_none waits'.is_unmet (graph.start j) (graph.start (j + 1) - graph.start j)
+        (sym (waits'.unmet j can.there) ∙ can.past_all) x one.1 before in
+        let h = waits'.past x there met in
+        let long : 1 ≤ graph.delay x = (is.delays x there).0 in
+        let soon : w'.earliest j < c + 1 = can.soon in
+        let enough : h.0 + graph.delay x ≤ w'.earliest j = subst (λ k. h.0 + graph.delay x ≤ w'.earliest k) into h.2 in
+        elim (waits.stuck x there one.3) [
+          | inl none ↦ by_eq (graph.from x) i
+              (λ same.
+              let now : h.0 ≡ c = same_some (w'.issued i) h.0 c (ap w'.issued (sym same) ∙ h.1) at in
+              absurd (omega arith))
+              (λ apart. not_both (w.issued (graph.from x)) h.0 none (sym (others (graph.from x) apart) ∙ h.1))
+          | inr loose ↦ loose.1
+        ]
+
+    pub can_issue_back : (j : ℕ) → CanIssue graph w' (c + 1) j → (j ≢ i) × CanIssue graph w (c + 1) j
+    can_issue_back j can =
+        let apart : j ≢ i = (λ same. not_both (w'.issued i) c (ap w'.issued (sym same) ∙ can.waiting) at) in
+        let all : w.unmet j ≡ 0 =
+        by_lt 0 (w.unmet j) (λ some. absurd (completed_before j can some)) (λ none. omega arith) in
+        let same : (w'.unmet j ≡ 0) × (w'.earliest j ≡ w.earliest j) = keeps j all in (
+          apart,
+          record {
+            there = can.there;
+            waiting = sym (others j apart) ∙ can.waiting;
+            past_all = all;
+            soon = subst (λ a. a < c + 1) same.1 can.soon;
+          },
+        )
