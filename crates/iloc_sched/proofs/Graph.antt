@@ -5,3 +5,4 @@ pub mod FarPairs
 pub mod AddedEdges
 pub mod ListedKinds
 pub mod LastsNoted
+pub mod OneMoreInPlan

@@ -19,3 +19,4 @@ pub mod Lasts
 pub mod PartialGraph
 pub mod NamingWalk
 pub mod CurrentNames
+pub mod Filling

@@ -41,6 +41,7 @@ pub struct Edges {
 }
 
 impl Edges {
+    ghost use Rattle.std.specs.Prelude.{None, ◌++◌, ◌∷◌, []};
     ghost use Rattle.iloc_sched.specs.Steps.Members.{In};
     ghost use Rattle.iloc_sched.specs.Steps.Graph.{IsGraphOf};
     ghost use Rattle.iloc_sched.specs.Steps.Lasts.{IsNext, loads_before};
@@ -97,7 +98,7 @@ impl Edges {
     }
 
     /// No edge between so many operations.
-    fn clear(&mut self, count: usize) -> Result<(), NoMemory>
+    pub fn clear(&mut self, count: usize) -> Result<(), NoMemory>
         requires { count ≤ MAX_OPS }
         ensures partial { OnOk result ((lat : Latencies) (ops : List Op) → length ops ≡ count
             → IsPartialGraph lat ops (graph_of self.new) 0) }
@@ -110,6 +111,17 @@ impl Edges {
         self.starts.push(0)?;
         self.heads.clear();
         self.heads.resize(count, None)?;
+        Ok(())
+    }
+
+    /// One operation more, with no edge out of it yet.
+    pub fn grow(&mut self) -> Result<(), NoMemory>
+        requires { length self.old.heads.items < MAX_OPS }
+        ensures heads { OnOk result (self.new.heads.items ≡ self.old.heads.items ++ None ∷ []) }
+        ensures edges { self.new.edges ≡ self.old.edges }
+        ensures starts { self.new.starts ≡ self.old.starts }
+    {
+        self.heads.push(None)?;
         Ok(())
     }
 
@@ -246,7 +258,8 @@ impl Edges {
     }
 
     /// Adds all edges into operation j.
-    fn add_all(
+    #[inline(always)]
+    pub fn add_all(
         &mut self,
         operations: &Operations,
         latencies: &Latencies,

@@ -1,15 +1,16 @@
 //! What is fixed while a block is scheduled.
-ghost use Rattle.std.specs.Prelude.{◌≡◌, ◌<◌, ◌≤◌, [], length, map, OnOk};
+ghost use Rattle.std.specs.Prelude.{◌≡◌, ◌+◌, ◌<◌, ◌≤◌, [], ◌∷◌, ◌++◌, length, map, OnOk};
 ghost use Rattle.iloc_timed.specs.Kinds.{kind};
-ghost use Rattle.iloc_sched.specs.Renaming.{IsRenamed};
+ghost use Rattle.iloc_sched.specs.Renaming.{renamed, IsRenamed};
 
 use crate::candidate::Candidate;
 use crate::class::Class;
 use crate::edges::Edges;
-use crate::kinds::{Operations, fill_kinds};
+use crate::kinds::Operations;
 use crate::lasts::Lasts;
 use crate::priority::fill_priorities;
-use iloc_text::{MAX_OPS, NoMemory, Op};
+use crate::renaming::{Names, is_nop};
+use iloc_text::{Block, MAX_OPS, NoMemory, Op};
 use iloc_timed::{Kind, Latencies};
 use std::alloc::Global;
 
@@ -26,6 +27,9 @@ pub struct Plan {
 impl Plan {
     ghost use Rattle.iloc_sched.specs.Steps.Order.{candidate_at};
     ghost use Rattle.iloc_sched.specs.Steps.SoFar.{IsPlan, class_at};
+    ghost use Rattle.iloc_sched.specs.Steps.Filling.{IsFilling};
+    ghost use Rattle.iloc_sched.specs.Steps.Graph.{IsGraphOf};
+    ghost use Rattle.iloc_sched.specs.Steps.Views.{graph_of};
 
     /// The plan of no operation.
     pub fn new(alloc: Global) -> Plan
@@ -40,26 +44,90 @@ impl Plan {
         }
     }
 
-    /// Becomes the plan of its operations, which are renamed, fastest where their registers are below the limit.
-    pub fn fill(
-        &mut self,
-        lasts: &mut Lasts,
-        registers: usize,
-        latencies: &Latencies,
-    ) -> Result<(), NoMemory>
-        requires renamed { IsRenamed self.old.ops.items }
-        requires few { length self.old.ops.items ≤ MAX_OPS }
-        ensures plan { OnOk result (IsPlan self.new) }
-        ensures ops { OnOk result (self.new.ops ≡ self.old.ops) }
-        ensures latencies { OnOk result (self.new.latencies ≡ latencies.now) }
+    /// No operation, with room for so many.
+    fn clear(&mut self, lasts: &mut Lasts, count: usize) -> Result<(), NoMemory>
+        requires { count ≤ MAX_OPS }
+        ensures filling { OnOk result (IsFilling self.new lasts.new) }
+        ensures ops { OnOk result (self.new.ops.items ≡ []) }
+        ensures latencies { self.new.latencies ≡ self.old.latencies }
     {
-        self.latencies = *latencies;
-        fill_kinds(&mut self.kinds, &self.ops)?;
+        self.ops.clear();
+        self.ops.reserve(count)?;
+        self.kinds.clear();
+        self.kinds.reserve(count)?;
+        self.edges.clear(0)?;
+        lasts.clear(3 * count)?;
+        Ok(())
+    }
+
+    /// Adds an operation, the next of renamed ones, with the edges into it.
+    #[inline(always)]
+    fn push(&mut self, lasts: &mut Lasts, op: Op) -> Result<(), NoMemory>
+        requires filling { IsFilling self.old lasts.old }
+        requires renamed { IsRenamed (self.old.ops.items ++ op ∷ []) }
+        requires few { length self.old.ops.items < MAX_OPS }
+        ensures filling { OnOk result (IsFilling self.new lasts.new) }
+        ensures ops { OnOk result (self.new.ops.items ≡ self.old.ops.items ++ op ∷ []) }
+        ensures latencies { self.new.latencies ≡ self.old.latencies }
+    {
+        let j = self.ops.len();
+        let kind = Kind::of(&op);
+        self.ops.push(op)?;
+        self.kinds.push(kind)?;
+        self.edges.grow()?;
         let operations = Operations {
             ops: &self.ops,
             kinds: &self.kinds,
         };
-        self.edges.fill(lasts, &operations, registers, latencies)?;
+        self.edges.add_all(&operations, &self.latencies, lasts, j)?;
+        lasts.note(&operations, j)?;
+        Ok(())
+    }
+
+    /// Takes the operations of a block. Each is renamed and gets the edges into it in one go: which operation comes next
+    /// can't be foretold, so it is looked at once.
+    fn gather(
+        &mut self,
+        names: &mut Names,
+        lasts: &mut Lasts,
+        block: &Block,
+    ) -> Result<(), NoMemory>
+        requires { length block.now.ops ≤ MAX_OPS }
+        ensures kinds { OnOk result (self.new.kinds.items ≡ map kind self.new.ops.items) }
+        ensures graph { OnOk result (IsGraphOf self.new.latencies self.new.ops.items (graph_of self.new.edges)) }
+        ensures starts { OnOk result (length self.new.edges.starts.items ≡ length self.new.edges.heads.items + 1) }
+        ensures ops { OnOk result (self.new.ops.items ≡ renamed block.now.ops) }
+        ensures latencies { OnOk result (self.new.latencies ≡ self.old.latencies) }
+    {
+        self.clear(lasts, block.ops.len())?;
+        names.clear(block.ops.len())?;
+        for op in block.ops.as_slice() {
+            if !is_nop(op) {
+                self.push(lasts, names.rename(op)?)?;
+            }
+        }
+        Ok(())
+    }
+
+    /// Becomes the plan of a block.
+    pub fn fill(
+        &mut self,
+        names: &mut Names,
+        lasts: &mut Lasts,
+        block: &Block,
+        latencies: &Latencies,
+    ) -> Result<(), NoMemory>
+        requires { length block.now.ops ≤ MAX_OPS }
+        ensures plan { OnOk result (IsPlan self.new) }
+        ensures ops { OnOk result (self.new.ops.items ≡ renamed block.now.ops) }
+        ensures latencies { OnOk result (self.new.latencies ≡ latencies.now) }
+    {
+        self.latencies = *latencies;
+        self.gather(names, lasts, block)?;
+        let operations = Operations {
+            ops: &self.ops,
+            kinds: &self.kinds,
+        };
         fill_priorities(&mut self.priorities, &self.edges, &operations, latencies)
     }
 

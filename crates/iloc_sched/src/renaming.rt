@@ -37,15 +37,8 @@ impl Names {
         }
     }
 
-    /// How many names were given in the last block, which are the registers below that number.
-    pub(crate) fn count(&self) -> usize
-        ensures { result ≡ self.now.given }
-    {
-        self.given as usize
-    }
-
     /// No register has a name, as a block of so many operations begins.
-    fn clear(&mut self, ops: usize) -> Result<(), NoMemory>
+    pub(crate) fn clear(&mut self, ops: usize) -> Result<(), NoMemory>
         requires { ops ≤ MAX_OPS }
         ensures none { OnOk result ((r : Reg) → current_of self.new r ≡ None) }
         ensures count { self.new.given ≡ 0 }
@@ -145,7 +138,8 @@ impl Names {
     }
 
     /// The operation with the names of its registers: those of the uses first, left to right.
-    fn rename(&mut self, op: &Op) -> Result<Op, NoMemory>
+    #[inline(always)]
+    pub(crate) fn rename(&mut self, op: &Op) -> Result<Op, NoMemory>
         requires { self.old.given < 2 ^ 32 - 3 }
         ensures next { IfOk result (λ renamed. (done : List Op) →
             Named done self.old.given (current_of self.old) →
@@ -198,7 +192,7 @@ impl Names {
 }
 
 /// Whether the operation is a `nop`.
-fn is_nop(op: &Op) -> bool
+pub(crate) fn is_nop(op: &Op) -> bool
     ensures { result ≡ is_nop op.now }
 {
     matches!(op, Op::Nop)

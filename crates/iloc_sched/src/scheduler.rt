@@ -83,9 +83,8 @@ impl Scheduler {
             issue_cycle s.rows i + priority latencies.now s.ops i ≤ cycles latencies.now s.ops s.rows) }
         ensures most { IfOk result (λ s. cycles latencies.now s.ops s.rows ≤ sum_by (latency latencies.now) s.ops) }
     {
-        self.names.rename_block(&mut self.plan.ops, block)?;
         self.plan
-            .fill(&mut self.lasts, self.names.count(), latencies)?;
+            .fill(&mut self.names, &mut self.lasts, block, latencies)?;
         self.fill_rows()?;
         let ops = mem::replace(&mut self.plan.ops, Vec::new(self.alloc));
         let rows = mem::replace(&mut self.rows, Vec::new(self.alloc));

@@ -12,7 +12,7 @@ use Rattle.iloc_sched.proofs.scheduler.Scheduler.lend.Goals as goal
 pub of_table-requires-clause-table : goal.of_table-requires-clause-table
 of_table-requires-clause-table c =
     let is : c.fill.new.self.ops.items ≡ renamed c.args.block.now.ops =
-    ap (λ (v : Vec Op). v.items) c.in_ok-fill.ensures.ops ∙ c.in_ok-rename_block.ensures.renamed in
+    c.in_ok-fill.ensures.ops in
     (seen_greedy c.fill.new.self.latencies c.args.latencies.now c.args.block.now.ops c.fill.new.self.ops.items
     c.replace-ops.result.items c.fill_rows.new.self.rows.items c.replace-rows.result.items c.in_ok-fill.ensures.latencies
     (ap (λ (v : Vec Op). v.items) (c.replace-ops.ensures.value ∙ ap (λ (p : Plan). p.ops) c.fill_rows.ensures.plan))
@@ -24,7 +24,7 @@ answered : (c : goal.After-of_table) → IsGreedy c.args.latencies.now c.args.bl
     c.of_table.result.rows
 answered c =
     let is : c.fill.new.self.ops.items ≡ renamed c.args.block.now.ops =
-    ap (λ (v : Vec Op). v.items) c.in_ok-fill.ensures.ops ∙ c.in_ok-rename_block.ensures.renamed in
+    c.in_ok-fill.ensures.ops in
     seen_greedy c.fill.new.self.latencies c.args.latencies.now c.args.block.now.ops c.fill.new.self.ops.items
     c.of_table.result.ops c.fill_rows.new.self.rows.items c.of_table.result.rows c.in_ok-fill.ensures.latencies
     (c.of_table.ensures.ops

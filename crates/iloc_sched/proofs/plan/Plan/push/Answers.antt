@@ -1,0 +1,50 @@
+use Rattle.std.proofs.Common.{◌≡◌, ◌+◌, ◌∷◌, ◌++◌, [], List, length, ◌∙◌, ap, subst, arith}
+use Rattle.std.specs.Global.{Vec}
+use Rattle.iloc_sched.specs.declared.edges.Edge.{Edge}
+use Rattle.iloc_text.specs.declared.op.Op.{Op}
+use Rattle.iloc_sched.specs.Steps.Lasts.{IsLasts}
+use Rattle.iloc_sched.specs.Steps.PartialGraph.{IsPartialGraph}
+use Rattle.iloc_sched.specs.Steps.Views.{graph_of}
+use Rattle.iloc_sched.proofs.Graph.OneMoreInPlan.{is_next, partial_grown, kinds_more, size_more}
+use Rattle.iloc_sched.proofs.plan.Plan.push.Goals as goal
+
+pub add_all-requires-clause-next : goal.add_all-requires-clause-next
+add_all-requires-clause-next c =
+    is_next c.args.self.now.ops.items c.args.op c.args.self.now.kinds.items c.deref-2.result.now c.args.lasts.now
+    c.len-j.result c.deref.result.now (c.deref.ensures.value ∙ c.in_ok-push.ensures.items)
+    (c.deref-2.ensures.value ∙ c.in_ok-push-2.ensures.items
+    ∙ ap (λ k. c.args.self.now.kinds.items ++ k ∷ []) c.of-kind.ensures)
+    c.requires.filling.kinds (c.len-j.ensures ∙ c.args.self.now.ops.ok.0) c.requires.renamed c.requires.few
+    c.requires.filling.known
+
+pub add_all-requires-clause-partial : goal.add_all-requires-clause-partial
+add_all-requires-clause-partial c =
+    partial_grown c.args.self.now.ops.items c.args.op c.args.self.now.latencies c.args.self.now.edges c.grow.new.self
+    c.len-j.result c.deref.result.now (c.deref.ensures.value ∙ c.in_ok-push.ensures.items)
+    (c.len-j.ensures ∙ c.args.self.now.ops.ok.0) c.grow.ensures.edges c.grow.ensures.starts c.in_ok-grow.ensures.heads
+    c.requires.filling.partial
+
+pub returns-clause-filling : goal.returns-clause-filling
+returns-clause-filling c =
+    let lat = c.args.self.now.latencies in
+    let ops : List Op = c.push.new.self.items in
+    let at : c.len-j.result ≡ length c.args.self.now.ops.items = c.len-j.ensures ∙ c.args.self.now.ops.ok.0 in
+    let read : c.deref.result.now ≡ ops = c.deref.ensures.value in
+    let more : length ops ≡ length c.args.self.now.ops.items + 1 =
+    ap (length {A = Op}) c.in_ok-push.ensures.items ∙ size_more c.args.self.now.ops.items c.args.op in
+    let size : c.len-j.result + 1 ≡ length ops = omega arith in
+    let edges : length c.grow.new.self.edges.items ≡ length c.args.self.now.edges.edges.items =
+    ap (λ (v : Vec Edge). length v.items) c.grow.ensures.edges in
+    record {
+      kinds = kinds_more c.args.self.now.ops.items c.args.op c.args.self.now.kinds.items c.push-2.new.self.items ops
+          c.in_ok-push.ensures.items
+          (c.in_ok-push-2.ensures.items ∙ ap (λ k. c.args.self.now.kinds.items ++ k ∷ []) c.of-kind.ensures)
+          c.requires.filling.kinds;
+      partial = subst (λ n. IsPartialGraph lat ops (graph_of c.add_all.new.self) n) size
+          (subst (λ xs. IsPartialGraph lat xs (graph_of c.add_all.new.self) (c.len-j.result + 1)) read
+          c.in_ok-add_all.ensures.partial);
+      known = subst (λ n. IsLasts ops c.note.new.self n) size
+          (subst (λ xs. IsLasts xs c.note.new.self (c.len-j.result + 1)) read c.in_ok-note.ensures.lasts);
+      starts = omega (arith, c.in_ok-add_all.ensures.starts);
+      count = omega (arith, c.in_ok-add_all.ensures.count, c.in_ok-note.ensures.loads, c.requires.filling.count);
+    }
