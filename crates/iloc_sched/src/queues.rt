@@ -1,5 +1,5 @@
 //! The ready operations by class.
-ghost use Rattle.std.specs.Prelude.{◌≡◌, ◌-◌, ◌<◌, ◌^◌, IfSome, IfNone, OnOk};
+ghost use Rattle.std.specs.Prelude.{◌≡◌, ◌-◌, ◌<◌, ◌≤◌, ◌^◌, ◌⊎◌, IfSome, IfNone, OnOk};
 
 use crate::candidate::Candidate;
 use crate::class::Class;
@@ -18,6 +18,24 @@ pub struct Queues {
 pub struct Choice {
     pub candidate: Candidate,
     pub class: Class,
+}
+
+/// The rank of the first that a class offers, 0 where it offers none.
+#[derive(Clone, Copy, Debug)]
+struct Offer {
+    rank: u64,
+    class: Class,
+}
+
+impl Offer {
+    /// The one of higher rank.
+    fn or(self, other: Offer) -> Offer
+        ensures one { (result ≡ self) ⊎ (result ≡ other) }
+        ensures first { self.rank ≤ result.rank }
+        ensures second { other.rank ≤ result.rank }
+    {
+        if self.rank < other.rank { other } else { self }
+    }
 }
 
 impl Queues {
@@ -71,7 +89,7 @@ impl Queues {
     }
 
     /// The rank of the first of a class, 0 where there is none or the class is kept out.
-    fn offer(&self, class: Class, beside: Option<Class>) -> u64
+    fn rank_of(&self, class: Class, beside: Option<Class>) -> u64
         ensures { IsGreatestRank (IsOpen self.now beside class) result }
     {
         let top = self.by_class[class as usize].top();
@@ -79,6 +97,17 @@ impl Queues {
             0
         } else {
             top
+        }
+    }
+
+    /// What a class offers.
+    fn offer(&self, class: Class, beside: Option<Class>) -> Offer
+        ensures rank { IsGreatestRank (IsOpen self.now beside class) result.rank }
+        ensures class { result.class ≡ class }
+    {
+        Offer {
+            rank: self.rank_of(class, beside),
+            class,
         }
     }
 
@@ -90,17 +119,11 @@ impl Queues {
         let product = self.offer(Class::Product, beside);
         let output = self.offer(Class::Output, beside);
         let rest = self.offer(Class::Rest, beside);
-        let best = memory.max(product).max(output.max(rest));
-        if best == 0 {
+        let best = memory.or(product).or(output.or(rest));
+        if best.rank == 0 {
             None
-        } else if best == rest {
-            Some(Class::Rest)
-        } else if best == memory {
-            Some(Class::Memory)
-        } else if best == product {
-            Some(Class::Product)
         } else {
-            Some(Class::Output)
+            Some(best.class)
         }
     }
 

@@ -6,6 +6,7 @@ use Rattle.iloc_sched.specs.declared.class.Class.{Class}
 use Rattle.iloc_sched.specs.declared.class.Class.TheVariants as C
 use Rattle.iloc_sched.specs.declared.queues.Queues.{Queues}
 use Rattle.iloc_sched.specs.declared.queues.Choice.{Choice}
+use Rattle.iloc_sched.specs.declared.queues.Offer.{Offer}
 use Rattle.iloc_sched.specs.Steps.Classes.{is_excluded}
 use Rattle.iloc_sched.specs.Steps.Members.{In}
 use Rattle.iloc_sched.specs.Steps.Order.{rank, IsFirst, IsGreatestRank}
@@ -67,6 +68,20 @@ module _ (q : Queues) (beside : Option Class) (memory product output rest best :
       ),
     )
   ]
+
+-- what is known of a class's offer
+abbrev pub IsOffer : Queues → Option Class → Offer → Type 0
+IsOffer q beside o = IsGreatestRank (IsOpen q beside o.class) o.rank
+
+pub offered : (q : Queues) (beside : Option Class) (k : Class) (o : Offer) → IsGreatestRank (IsOpen q beside k) o.rank
+    → o.class ≡ k → IsOffer q beside o
+offered q beside k o is same = subst (λ j. IsGreatestRank (IsOpen q beside j) o.rank) (sym same) is
+
+-- one of two offers is an offer
+pub either_offer : (q : Queues) (beside : Option Class) (a b o : Offer) → IsOffer q beside a → IsOffer q beside b
+    → (o ≡ a) ⊎ (o ≡ b) → IsOffer q beside o
+either_offer q beside a b o is_a is_b one =
+    elim one [ inl same ↦ subst (IsOffer q beside) (sym same) is_a | inr same ↦ subst (IsOffer q beside) (sym same) is_b ]
 
 -- the first of a class that has the best is the best
 pub popped_best : (q : Queues) (beside : Option Class) (best : Choice) (c : Candidate) → IsBest q beside (Some best)
