@@ -98,7 +98,7 @@ impl Edges {
     }
 
     /// No edge between so many operations.
-    pub fn clear(&mut self, count: usize) -> Result<(), NoMemory>
+    fn clear(&mut self, count: usize) -> Result<(), NoMemory>
         requires { count ≤ MAX_OPS }
         ensures partial { OnOk result ((lat : Latencies) (ops : List Op) → length ops ≡ count
             → IsPartialGraph lat ops (graph_of self.new) 0) }
@@ -111,6 +111,19 @@ impl Edges {
         self.starts.push(0)?;
         self.heads.clear();
         self.heads.resize(count, None)?;
+        Ok(())
+    }
+
+    /// No operation, with room for so many.
+    pub fn empty(&mut self, room: usize) -> Result<(), NoMemory>
+        ensures partial { OnOk result ((lat : Latencies) (ops : List Op) → length ops ≡ 0
+            → IsPartialGraph lat ops (graph_of self.new) 0) }
+        ensures starts { OnOk result (length self.new.starts.items ≡ 1) }
+        ensures edges { OnOk result (length self.new.edges.items ≡ 0) }
+    {
+        self.clear(0)?;
+        self.starts.reserve(room)?;
+        self.heads.reserve(room)?;
         Ok(())
     }
 
@@ -174,6 +187,7 @@ impl Edges {
     }
 
     /// Adds the edge into operation j for a register that it uses.
+    #[inline(always)]
     fn add_use(
         &mut self,
         operations: &Operations,
@@ -202,6 +216,7 @@ impl Edges {
     }
 
     /// Adds the edges into operation j for the registers that it uses.
+    #[inline(always)]
     fn add_uses(
         &mut self,
         operations: &Operations,
@@ -225,6 +240,7 @@ impl Edges {
     }
 
     /// Adds the edges into operation j by memory and outputs.
+    #[inline(always)]
     fn add_memory(
         &mut self,
         operations: &Operations,

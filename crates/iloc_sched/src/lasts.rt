@@ -78,6 +78,7 @@ impl Lasts {
     }
 
     /// Operation j is one of the earlier ones from now on.
+    #[inline(always)]
     pub fn note(&mut self, operations: &Operations, j: usize) -> Result<(), NoMemory>
         requires few { length operations.now.ops.now ≤ MAX_OPS }
         requires there { j < length operations.now.ops.now }

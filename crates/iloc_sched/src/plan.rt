@@ -55,7 +55,7 @@ impl Plan {
         self.ops.reserve(count)?;
         self.kinds.clear();
         self.kinds.reserve(count)?;
-        self.edges.clear(0)?;
+        self.edges.empty(count)?;
         lasts.clear(3 * count)?;
         Ok(())
     }

@@ -12,10 +12,10 @@ returns-clause-filling c =
     let none : length c.reserve.new.self.items ≡ 0 = ap length ops in
     record {
       kinds = kinds ∙ ap (map kind) (sym ops);
-      partial = subst (λ n. IsPartialGraph c.args.self.now.latencies c.reserve.new.self.items (graph_of c.clear-3.new.self) n)
-          (sym none) (c.in_ok-clear.ensures.partial c.args.self.now.latencies c.reserve.new.self.items none);
-      known = subst (λ n. IsLasts c.reserve.new.self.items c.clear-4.new.self n) (sym none)
-          (c.in_ok-clear-2.ensures.lasts c.reserve.new.self.items);
-      starts = omega (arith, c.in_ok-clear.ensures.starts);
-      count = omega (arith, c.in_ok-clear.ensures.edges, c.in_ok-clear-2.ensures.loads);
+      partial = subst (λ n. IsPartialGraph c.args.self.now.latencies c.reserve.new.self.items (graph_of c.empty.new.self) n)
+          (sym none) (c.in_ok-empty.ensures.partial c.args.self.now.latencies c.reserve.new.self.items none);
+      known = subst (λ n. IsLasts c.reserve.new.self.items c.clear-3.new.self n) (sym none)
+          (c.in_ok-clear.ensures.lasts c.reserve.new.self.items);
+      starts = omega (arith, c.in_ok-empty.ensures.starts);
+      count = omega (arith, c.in_ok-empty.ensures.edges, c.in_ok-clear.ensures.loads);
     }
