@@ -28,3 +28,4 @@ pub mod Within
 pub mod Digits
 pub mod Falling
 pub mod Apart
+pub mod Places

@@ -1,18 +1,73 @@
-//! Operations in the usual spelling. A line of the text that is long enough for each of them is looked at by places,
-//! so where the text ends is asked once.
-ghost use Rattle.std.specs.Prelude.{◌≡◌, ◌≤◌, ◌+◌, true, nat_lt, Some, IfSome, length, get_or, drop};
+//! Operations in the usual spelling: with numbers of few digits, and few bytes before each. They are looked at by places in
+//! a text that is long enough for each of them, so where it ends is asked once.
+ghost use Rattle.std.specs.Prelude.{◌≡◌, ◌<◌, ◌≤◌, ◌+◌, ◌++◌, ℕ, List, true, nat_lt, Some, IfSome, length, get_or, drop};
 ghost use Rattle.iloc_text.specs.declared.scan.TheConstants.{ABOVE_LIMIT};
 ghost use Rattle.iloc_text.specs.Forms.Lead.{space, comma, arrow};
 ghost use Rattle.iloc_text.specs.Forms.Value.{Use, Constant};
 ghost use Rattle.iloc_text.specs.Forms.{◌▹◌};
-ghost use Rattle.iloc_text.specs.Steps.Scan.{register_at, number_at, operand_at, called_at, is_within_limit};
+ghost use Rattle.iloc_text.specs.Steps.Scan.{some_blanks_at, comma_at, arrow_at, register_at, number_at, operand_at, called_at, is_within_limit};
 
 use crate::forms::{Opcode, Operands, op_of, shape_of};
 use crate::numbers::{usual_number_at, usual_register_number_at};
 use crate::op::Op;
+use crate::scan::{arrow_at, comma_at, some_blanks_at};
+
+/// At most so many bytes are passed before a register or a constant, as where these stand in columns.
+const MOST_PASSED: usize = 20;
 
 /// What stands behind an opcode in the usual spelling is no longer.
-const ROOM: usize = 48;
+const ROOM: usize = 128;
+
+/// The place at which the rest of the bytes stands; 0 where that is behind `most`.
+fn place_of(bytes: &[u8], rest: &[u8], most: usize) -> usize
+    requires { (front : List ℕ) × (bytes.now ≡ front ++ rest.now) }
+    ensures is { 0 < result → rest.now ≡ drop result bytes.now }
+    ensures near { result ≤ most }
+{
+    let place = bytes.len() - rest.len();
+    if place <= most { place } else { 0 }
+}
+
+/// The place behind blanks of any number at the front; 0 where none stand there, or too many.
+#[cold]
+#[inline(never)]
+fn place_behind_blanks(bytes: &[u8]) -> usize
+    ensures is { 0 < result → some_blanks_at bytes.now ≡ Some (drop result bytes.now) }
+    ensures near { result ≤ MOST_PASSED }
+{
+    match some_blanks_at(bytes) {
+        Some(rest) => place_of(bytes, rest, MOST_PASSED),
+        None => 0,
+    }
+}
+
+/// The place behind a comma at a place and any blanks around it; 0 where none stands there, or too many blanks.
+#[cold]
+#[inline(never)]
+fn place_behind_comma(bytes: &[u8], at: usize) -> usize
+    requires { at ≤ length bytes.now }
+    ensures is { 0 < result → comma_at (drop at bytes.now) ≡ Some (drop result bytes.now) }
+    ensures near { result ≤ at + MOST_PASSED }
+{
+    match comma_at(&bytes[at..]) {
+        Some(rest) => place_of(bytes, rest, at + MOST_PASSED),
+        None => 0,
+    }
+}
+
+/// The place behind an arrow at a place and any blanks around it; 0 where none stands there, or too many blanks.
+#[cold]
+#[inline(never)]
+fn place_behind_arrow(bytes: &[u8], at: usize) -> usize
+    requires { at ≤ length bytes.now }
+    ensures is { 0 < result → arrow_at (drop at bytes.now) ≡ Some (drop result bytes.now) }
+    ensures near { result ≤ at + MOST_PASSED }
+{
+    match arrow_at(&bytes[at..]) {
+        Some(rest) => place_of(bytes, rest, at + MOST_PASSED),
+        None => 0,
+    }
+}
 
 /// The number of the register at a place, and the place behind it.
 #[inline(always)]
@@ -41,62 +96,74 @@ fn constant_from(bytes: &[u8], at: usize) -> Option<(u32, usize)>
     Some((value, at + count))
 }
 
-/// A blank and a register.
+/// Blanks and a register.
 #[inline(always)]
 fn register_behind_blank(bytes: &[u8]) -> Option<(u32, usize)>
-    requires { 5 ≤ length bytes.now }
+    requires { MOST_PASSED + 4 ≤ length bytes.now }
     ensures is { IfSome result (λ found. operand_at (space ▹ Use (record { 0 = 0 })) bytes.now ≡ Some (found.0, drop found.1 bytes.now)) }
     ensures small { IfSome result (λ found. nat_lt found.0 ABOVE_LIMIT ≡ true) }
-    ensures near { IfSome result (λ found. found.1 ≤ 12) }
+    ensures near { IfSome result (λ found. found.1 ≤ MOST_PASSED + 11) }
 {
-    if bytes[0] != b' ' && bytes[0] != b'\t' {
-        return None;
+    if (bytes[0] == b' ' || bytes[0] == b'\t') && bytes[1] == b'r' {
+        return register_from(bytes, 1);
     }
-    register_from(bytes, 1)
+    match place_behind_blanks(bytes) {
+        0 => None,
+        place => register_from(bytes, place),
+    }
 }
 
-/// A blank and a constant.
+/// Blanks and a constant.
 #[inline(always)]
 fn constant_behind_blank(bytes: &[u8]) -> Option<(u32, usize)>
-    requires { 6 ≤ length bytes.now }
+    requires { MOST_PASSED + 5 ≤ length bytes.now }
     ensures is { IfSome result (λ found. operand_at (space ▹ Constant 0) bytes.now ≡ Some (found.0, drop found.1 bytes.now)) }
     ensures small { IfSome result (λ found. nat_lt found.0 ABOVE_LIMIT ≡ true) }
-    ensures near { IfSome result (λ found. found.1 ≤ 11) }
+    ensures near { IfSome result (λ found. found.1 ≤ MOST_PASSED + 10) }
 {
-    if bytes[0] != b' ' && bytes[0] != b'\t' {
-        return None;
+    if (bytes[0] == b' ' || bytes[0] == b'\t') && bytes[1].is_ascii_digit() {
+        return constant_from(bytes, 1);
     }
-    constant_from(bytes, 1)
+    match place_behind_blanks(bytes) {
+        0 => None,
+        place => constant_from(bytes, place),
+    }
 }
 
-/// A comma at a place, with a space behind it or none, and a register.
+/// A comma at a place and a register.
 #[inline(always)]
 fn register_behind_comma(bytes: &[u8], at: usize) -> Option<(u32, usize)>
-    requires { at + 6 ≤ length bytes.now }
+    requires { at + MOST_PASSED + 4 ≤ length bytes.now }
     ensures is { IfSome result (λ found. operand_at (comma ▹ Use (record { 0 = 0 })) (drop at bytes.now) ≡ Some (found.0, drop found.1 bytes.now)) }
     ensures small { IfSome result (λ found. nat_lt found.0 ABOVE_LIMIT ≡ true) }
-    ensures near { IfSome result (λ found. found.1 ≤ at + 13) }
+    ensures near { IfSome result (λ found. found.1 ≤ at + MOST_PASSED + 11) }
 {
-    if bytes[at] != b',' {
-        return None;
+    let start = at + 1 + usize::from(bytes[at + 1] == b' ');
+    if bytes[at] == b',' && bytes[start] == b'r' {
+        return register_from(bytes, start);
     }
-    let is_spaced = bytes[at + 1] == b' ';
-    register_from(bytes, at + 1 + usize::from(is_spaced))
+    match place_behind_comma(bytes, at) {
+        0 => None,
+        place => register_from(bytes, place),
+    }
 }
 
-/// A comma at a place, with a space behind it or none, and a constant.
+/// A comma at a place and a constant.
 #[inline(always)]
 fn constant_behind_comma(bytes: &[u8], at: usize) -> Option<(u32, usize)>
-    requires { at + 7 ≤ length bytes.now }
+    requires { at + MOST_PASSED + 5 ≤ length bytes.now }
     ensures is { IfSome result (λ found. operand_at (comma ▹ Constant 0) (drop at bytes.now) ≡ Some (found.0, drop found.1 bytes.now)) }
     ensures small { IfSome result (λ found. nat_lt found.0 ABOVE_LIMIT ≡ true) }
-    ensures near { IfSome result (λ found. found.1 ≤ at + 12) }
+    ensures near { IfSome result (λ found. found.1 ≤ at + MOST_PASSED + 10) }
 {
-    if bytes[at] != b',' {
-        return None;
+    let start = at + 1 + usize::from(bytes[at + 1] == b' ');
+    if bytes[at] == b',' && bytes[start].is_ascii_digit() {
+        return constant_from(bytes, start);
     }
-    let is_spaced = bytes[at + 1] == b' ';
-    constant_from(bytes, at + 1 + usize::from(is_spaced))
+    match place_behind_comma(bytes, at) {
+        0 => None,
+        place => constant_from(bytes, place),
+    }
 }
 
 /// The four bytes of an arrow with a space on both sides stand at the place. They are compared as one number.
@@ -110,21 +177,21 @@ fn is_spaced_arrow(bytes: &[u8], at: usize) -> bool
     u32::from_le_bytes(four) == u32::from_le_bytes([b' ', b'=', b'>', b' '])
 }
 
-/// An arrow at a place, with a space on both sides or on none, and a register.
+/// An arrow at a place and a register.
 #[inline(always)]
 fn register_behind_arrow(bytes: &[u8], at: usize) -> Option<(u32, usize)>
-    requires { at + 8 ≤ length bytes.now }
+    requires { at + MOST_PASSED + 4 ≤ length bytes.now }
     ensures is { IfSome result (λ found. operand_at (arrow ▹ Use (record { 0 = 0 })) (drop at bytes.now) ≡ Some (found.0, drop found.1 bytes.now)) }
     ensures small { IfSome result (λ found. nat_lt found.0 ABOVE_LIMIT ≡ true) }
-    ensures near { IfSome result (λ found. found.1 ≤ at + 15) }
+    ensures near { IfSome result (λ found. found.1 ≤ at + MOST_PASSED + 11) }
 {
-    if is_spaced_arrow(bytes, at) {
+    if is_spaced_arrow(bytes, at) && bytes[at + 4] == b'r' {
         return register_from(bytes, at + 4);
     }
-    if bytes[at] == b'=' && bytes[at + 1] == b'>' {
-        return register_from(bytes, at + 2);
+    match place_behind_arrow(bytes, at) {
+        0 => None,
+        place => register_from(bytes, place),
     }
-    None
 }
 
 /// The operation of an opcode and of the operands at the front, and the place behind these.
