@@ -1,4 +1,6 @@
+mod diary;
 mod file;
 mod reader;
 mod spelling;
+mod stream;
 mod text_parts;

@@ -12,6 +12,7 @@ use Rattle.iloc_text.specs.Grammar.{Reads, HasReading, HasWideReading}
 use Rattle.iloc_text.specs.Steps.Scan.{line_at, is_within}
 use Rattle.iloc_text.specs.Steps.Lines.{is_line_end, lines_of}
 use Rattle.iloc_text.specs.Steps.Growth.{with_line, limited}
+use Rattle.iloc_text.specs.Steps.Verdicts.{verdict_on, verdict, answer_from, on_verdict}
 use Rattle.iloc_text.specs.Files.{HasNoLineEnd, AreLines, Reading, ReadAs, fronts, file_of, IsWithin, Denotes, IsFaulty, HasFirstFault, IsRefused}
 use Rattle.iloc_text.specs.Laws.{TextsHaveOneAnswer}
 use Rattle.iloc_text.proofs.Names.{capped_op}
@@ -39,24 +40,6 @@ pub lines_are_of : (input : List ℕ) (lines : List (List ℕ)) → AreLines inp
 lines_are_of input lines a = ap lines_of a.whole ∙ lines_joined lines a.some a.each
 
 -- The answer of one line, of the lines, and of a text
-
-abbrev pub verdict_on : Option (Option (List ℕ) × Option Op) → List Block → ℕ → Result (List Block) ReadFault
-verdict_on None blocks n = Err (BadLine n)
-verdict_on (Some found) blocks n = cond (is_within found.1) (limited (with_line found.0 found.1 blocks) n)
-    (Err (NumberTooLarge n))
-
--- the blocks with line n, where these stand before it
-abbrev pub verdict : List Block → List ℕ → ℕ → Result (List Block) ReadFault
-verdict blocks line n = verdict_on (line_at line) blocks n
-
-abbrev pub answer_from : List Block → ℕ → List (List ℕ) → Result (List Block) ReadFault
-answer_from blocks n [] = Ok blocks
-answer_from blocks n (line ∷ lines) = elim (verdict blocks line n) as (λ _. Result (List Block) ReadFault)
-    [ Ok grown ↦ answer_from grown (n + 1) lines | Err fault ↦ Err fault ]
-
-abbrev pub on_verdict : ℕ → List (List ℕ) → Result (List Block) ReadFault → Result (List Block) ReadFault
-on_verdict n lines v = elim v as (λ _. Result (List Block) ReadFault)
-    [ Ok grown ↦ answer_from grown (n + 1) lines | Err fault ↦ Err fault ]
 
 abbrev pub answer : List ℕ → Result (List Block) ReadFault
 answer input = cond (nat_lt MAX_INPUT (length input)) (Err InputTooLong) (answer_from (file_of []) 1 (lines_of input))

@@ -15,7 +15,8 @@ use Rattle.iloc_text.specs.Steps.Lines.{is_line_end, lines_of}
 use Rattle.iloc_text.specs.Steps.Scan.{line_at, is_within}
 use Rattle.iloc_text.specs.Steps.Growth.{opened, with_op, with_optional_op, with_line, last_ops, limited}
 use Rattle.iloc_text.proofs.Splitting.{lines_are}
-use Rattle.iloc_text.proofs.Answer.{verdict_on, verdict, answer_from, on_verdict, reads_verdict, lines_are_of, file_answer}
+use Rattle.iloc_text.specs.Steps.Verdicts.{verdict_on, verdict, answer_from, on_verdict}
+use Rattle.iloc_text.proofs.Answer.{reads_verdict, lines_are_of, file_answer}
 use Rattle.iloc_text.proofs.Every.{Answers, answers}
 use Rattle.iloc_text.proofs.Reading.{answer_begins}
 
@@ -25,7 +26,7 @@ onto_first_of : (c : ℕ) (ls ms : List (List ℕ)) → 0 < length ls → onto_f
 onto_first_of c [] ms some = absurd (omega arith)
 onto_first_of c (l ∷ ls) ms some = refl
 
-lines_of_both : (front back : List ℕ) → lines_of (front ++ 10 ∷ back) ≡ lines_of front ++ lines_of back
+pub lines_of_both : (front back : List ℕ) → lines_of (front ++ 10 ∷ back) ≡ lines_of front ++ lines_of back
 lines_of_both [] back = refl
 lines_of_both (c ∷ cs) back = by (is_line_end c) (lines_of_both cs back) (lines_are cs).some
   where
@@ -37,7 +38,7 @@ lines_of_both (c ∷ cs) back = by (is_line_end c) (lines_of_both cs back) (line
 
 -- The answer of both
 
-answer_of_both : (blocks out : List Block) (n : ℕ) (ls ms : List (List ℕ)) → answer_from blocks n ls ≡ Ok out
+pub answer_of_both : (blocks out : List Block) (n : ℕ) (ls ms : List (List ℕ)) → answer_from blocks n ls ≡ Ok out
     → answer_from blocks n (ls ++ ms) ≡ answer_from out (length ls + n) ms
 answer_of_both blocks out n [] ms e =
     let same : blocks ≡ out = cc in ap₂ (λ bs m. answer_from bs m ms) same (omega arith)

@@ -17,7 +17,8 @@ use Rattle.iloc_text.proofs.Lines.{line_bad, line_good, line_large}
 use Rattle.iloc_text.proofs.Splitting.{lines_are}
 use Rattle.iloc_text.proofs.Counts.{fronts-snoc}
 use Rattle.iloc_text.proofs.BlockLists.{length-file, last-file, file-snoc}
-use Rattle.iloc_text.proofs.Answer.{verdict_on, verdict, answer_from, on_verdict, answer}
+use Rattle.iloc_text.specs.Steps.Verdicts.{verdict_on, verdict, answer_from, on_verdict}
+use Rattle.iloc_text.proofs.Answer.{answer}
 
 -- One line
 

@@ -28,4 +28,6 @@ pub mod Within
 pub mod Digits
 pub mod Falling
 pub mod Apart
+pub mod TextReads
+pub mod Streams
 pub mod Places

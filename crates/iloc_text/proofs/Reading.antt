@@ -1,5 +1,5 @@
 -- What the reader has read, from line to line.
-use Rattle.std.proofs.Common.{◌≡◌, ◌≢◌, ◌∙◌, ℕ, ◌<◌, ◌≤◌, List, [], ◌∷◌, length, refl, sym, ap, subst, Option, Some, None, IfErr, Result, Err, IsUtf8, get_or, zero, suc, true, Bor, arith}
+use Rattle.std.proofs.Common.{◌≡◌, ◌≢◌, ◌∙◌, ℕ, ◌<◌, ◌≤◌, List, [], ◌∷◌, length, refl, sym, ap, subst, Option, Some, None, IfErr, Result, Ok, Err, IsUtf8, get_or, zero, suc, true, Bor, arith}
 use Rattle.std.specs.List.{AllByRecursion}
 use Rattle.std.specs.Option.{ForSome}
 use Rattle.std.proofs.lemmas.Str.{IsUtf8-from_ascii}
@@ -14,9 +14,10 @@ use Rattle.iloc_text.specs.Grammar.{is_word_byte, IsName, Reads}
 use Rattle.iloc_text.specs.Steps.Lines.{lines_of, lines_left}
 use Rattle.iloc_text.specs.Steps.LineReads.{FirstIs, FirstLine}
 use Rattle.iloc_text.specs.Steps.Growth.{with_line, limited}
-use Rattle.iloc_text.specs.Files.{block_names, file_of, IsRefused}
+use Rattle.iloc_text.specs.Files.{block_names, file_of, Denotes, IsRefused}
 use Rattle.iloc_text.proofs.Parts.{Before-split, all-Before}
-use Rattle.iloc_text.proofs.Answer.{verdict, answer_from, on_verdict, answer, answer_short, reads_verdict, bad_verdict, large_verdict}
+use Rattle.iloc_text.specs.Steps.Verdicts.{verdict, answer_from, on_verdict, Answered}
+use Rattle.iloc_text.proofs.Answer.{answer, answer_short, reads_verdict, bad_verdict, large_verdict}
 use Rattle.iloc_text.proofs.Every.{Answers, answers}
 
 -- The text of a label
@@ -51,41 +52,53 @@ nothing_read = refl
 pub answer_begins : (input : List ℕ) → length input ≤ MAX_INPUT → answer input ≡ answer_from [] 1 (lines_of input)
 answer_begins input short = answer_short input short ∙ ap (λ bs. answer_from bs 1 (lines_of input)) nothing_read
 
--- with these blocks on the lines before, the answer hangs on the line at hand
-answer_at : (input : List ℕ) (blocks : List Block) (n : ℕ) {rest : Option (Bor (List ℕ))} {text : Bor (List ℕ)}
-    {line : List ℕ} {more : List (List ℕ)} → answer input ≡ answer_from blocks n (lines_left rest) → rest ≡ Some text
-    → lines_of text.now ≡ line ∷ more → answer input ≡ on_verdict n more (verdict blocks line n)
-answer_at input blocks n e some split = e ∙ ap (λ r. answer_from blocks n (lines_left r)) some
+-- with these blocks on the lines before, the answer of the whole hangs on the line at hand
+answer_at : (whole : Result (List Block) ReadFault) (blocks : List Block) (n : ℕ) {rest : Option (Bor (List ℕ))}
+    {text : Bor (List ℕ)} {line : List ℕ} {more : List (List ℕ)} → whole ≡ answer_from blocks n (lines_left rest)
+    → rest ≡ Some text → lines_of text.now ≡ line ∷ more → whole ≡ on_verdict n more (verdict blocks line n)
+answer_at whole blocks n e some split = e ∙ ap (λ r. answer_from blocks n (lines_left r)) some
     ∙ ap (answer_from blocks n) split
 
-pub answer_read : (input : List ℕ) (blocks : List Block) (n : ℕ) {rest after : Option (Bor (List ℕ))}
+pub answer_read : (whole : Result (List Block) ReadFault) (blocks : List Block) (n : ℕ) {rest after : Option (Bor (List ℕ))}
     {text : Bor (List ℕ)} (label : Option (List ℕ)) (op : Option Op)
-    → answer input ≡ answer_from blocks n (lines_left rest) → rest ≡ Some text
+    → whole ≡ answer_from blocks n (lines_left rest) → rest ≡ Some text
     → FirstIs (λ line. Reads line label op) text.now after
-    → answer input ≡ on_verdict n (lines_left after) (limited (with_line label op blocks) n)
-answer_read input blocks n {rest} {after} label op e some first = answer_at input blocks n e some first.split
+    → whole ≡ on_verdict n (lines_left after) (limited (with_line label op blocks) n)
+answer_read whole blocks n {rest} {after} label op e some first = answer_at whole blocks n e some first.split
     ∙ ap (on_verdict n (lines_left after)) (reads_verdict blocks first.line n label op first.is)
 
-refused_at : (input : List ℕ) (n : ℕ) (more : List (List ℕ)) (v : Result (List Block) ReadFault) (fault : ReadFault)
-    → answer input ≡ on_verdict n more v → v ≡ Err fault → IsRefused input fault
-refused_at input n more v fault e bad = subst (Answers input) (e ∙ ap (on_verdict n more) bad) (answers input)
+pub bad_answer : (whole : Result (List Block) ReadFault) (blocks : List Block) (n : ℕ) {rest : Option (Bor (List ℕ))}
+    {text : Bor (List ℕ)} → whole ≡ answer_from blocks n (lines_left rest) → rest ≡ Some text
+    → FirstLine text.now (Err faults.Bad) → whole ≡ Err (BadLine n)
+bad_answer whole blocks n e some bad = answer_at whole blocks n e some bad.1.split
+    ∙ ap (on_verdict n (lines_left bad.0)) (bad_verdict blocks bad.1.line n bad.1.is)
 
-pub bad_refused : (input : List ℕ) (blocks : List Block) (n : ℕ) {rest : Option (Bor (List ℕ))} {text : Bor (List ℕ)}
-    → answer input ≡ answer_from blocks n (lines_left rest) → rest ≡ Some text → FirstLine text.now (Err faults.Bad)
-    → IsRefused input (BadLine n)
-bad_refused input blocks n e some bad = refused_at input n (lines_left bad.0) (verdict blocks bad.1.line n) (BadLine n)
-    (answer_at input blocks n e some bad.1.split) (bad_verdict blocks bad.1.line n bad.1.is)
-
-pub large_refused : (input : List ℕ) (blocks : List Block) (n : ℕ) {rest : Option (Bor (List ℕ))} {text : Bor (List ℕ)}
-    → answer input ≡ answer_from blocks n (lines_left rest) → rest ≡ Some text → FirstLine text.now (Err faults.NumberTooLarge)
-    → IsRefused input (NumberTooLarge n)
-large_refused input blocks n e some large = refused_at input n (lines_left large.0) (verdict blocks large.1.line n)
-    (NumberTooLarge n) (answer_at input blocks n e some large.1.split)
-    (large_verdict blocks large.1.line n large.1.is.0 large.1.is.1)
+pub large_answer : (whole : Result (List Block) ReadFault) (blocks : List Block) (n : ℕ) {rest : Option (Bor (List ℕ))}
+    {text : Bor (List ℕ)} → whole ≡ answer_from blocks n (lines_left rest) → rest ≡ Some text
+    → FirstLine text.now (Err faults.NumberTooLarge) → whole ≡ Err (NumberTooLarge n)
+large_answer whole blocks n e some large = answer_at whole blocks n e some large.1.split
+    ∙ ap (on_verdict n (lines_left large.0)) (large_verdict blocks large.1.line n large.1.is.0 large.1.is.1)
 
 -- the fault that a call hands on
-pub err_is_refused : {T : Type 0} (input : List ℕ) (n : ℕ) (more : List (List ℕ)) (v : Result (List Block) ReadFault)
-    (fault : ReadFault) (r : Result T ReadFault) → answer input ≡ on_verdict n more v
-    → (fault ≢ NoMemory → v ≡ Err fault) → r ≡ Err fault → IfErr r (λ f. f ≢ NoMemory → IsRefused input f)
-err_is_refused {T} input n more v fault r e bad is = subst (λ x. IfErr x (λ f. f ≢ NoMemory → IsRefused input f)) (sym is)
-    (λ memory. refused_at input n more v fault e (bad memory))
+pub err_answer : {A : Type 0} (Stand : List Block → Type 0) (whole : Result (List Block) ReadFault) (n : ℕ)
+    (more : List (List ℕ)) (v : Result (List Block) ReadFault) (fault : ReadFault) (r : Result A ReadFault)
+    → whole ≡ on_verdict n more v → (fault ≢ NoMemory → v ≡ Err fault) → r ≡ Err fault → Answered Stand whole r
+err_answer Stand whole n more v fault r e bad is = subst (Answered Stand whole) (sym is)
+    (λ memory. e ∙ ap (on_verdict n more) (bad memory))
+
+-- the refusal of a text with this answer
+pub refused : (input : List ℕ) (whole : Result (List Block) ReadFault) (fault : ReadFault) → answer input ≡ whole
+    → whole ≡ Err fault → IsRefused input fault
+refused input whole fault e bad = subst (Answers input) (e ∙ bad) (answers input)
+
+-- the refusal of a text, where a call hands a fault on
+pub err_refused : {A : Type 0} (input : List ℕ) (whole : Result (List Block) ReadFault)
+    (fault : ReadFault) (r : Result A ReadFault) → answer input ≡ whole → (fault ≢ NoMemory → whole ≡ Err fault)
+    → r ≡ Err fault → IfErr r (λ f. f ≢ NoMemory → IsRefused input f)
+err_refused input whole fault r e bad is = subst (λ x. IfErr x (λ f. f ≢ NoMemory → IsRefused input f)) (sym is)
+    (λ memory. refused input whole fault e (bad memory))
+
+-- the file of one
+pub denoted : (input : List ℕ) (whole : Result (List Block) ReadFault) (blocks : List Block) → answer input ≡ whole
+    → whole ≡ Ok blocks → Denotes input blocks
+denoted input whole blocks e good = subst (Answers input) (e ∙ good) (answers input)

@@ -10,3 +10,5 @@ pub mod Copied
 pub mod Growth
 pub mod Held
 pub mod Open
+pub mod Verdicts
+pub mod TextReads

@@ -3,7 +3,7 @@ ghost use Rattle.std.specs.Prelude.{◌≡◌, [], ◌∷◌, ◌++◌, length, 
 ghost use Rattle.std.specs.Option.{option_copied};
 
 use crate::fault::NoMemory;
-use crate::file::Block;
+use crate::file::{Block, Blocks, IlocFile};
 use crate::name::Name;
 use crate::op::Op;
 use crate::ops::Ops;
@@ -93,12 +93,14 @@ impl Copies {
         Ok(())
     }
 
-    /// All blocks.
-    pub fn into_blocks(mut self, alloc: Global) -> Result<Vec<Block>, NoMemory>
-        ensures { IfOk result (λ blocks. blocks.items ≡ all_of self) }
+    /// The file of all blocks.
+    pub fn into_file(mut self, alloc: Global) -> Result<IlocFile, NoMemory>
+        ensures { IfOk result (λ file. file.blocks ≡ all_of self) }
     {
         self.settle(alloc)?;
-        Ok(self.done)
+        Ok(IlocFile {
+            blocks: Blocks::new(self.done),
+        })
     }
 }
 

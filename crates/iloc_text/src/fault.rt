@@ -81,3 +81,33 @@ impl<T: Drop> From<AllocFailed<T>> for ReadFault {
         ReadFault::NoMemory
     }
 }
+
+/// Why no file was read from a stream.
+#[derive(Clone, Copy, Debug, Drop, PartialEq, Eq)]
+pub enum StreamFault {
+    /// A read failed.
+    ReadFailed,
+    /// The text that was read has no file, or a growth was refused.
+    Text(ReadFault),
+}
+
+impl From<ReadFault> for StreamFault {
+    ghost use Rattle.iloc_text.specs.declared.fault.StreamFault.TheVariants.{Text};
+
+    ghost from_gives = { λ fault given. given ≡ Text fault };
+
+    fn from(fault: ReadFault) -> StreamFault {
+        StreamFault::Text(fault)
+    }
+}
+
+impl From<NoMemory> for StreamFault {
+    ghost use Rattle.iloc_text.specs.declared.fault.ReadFault.TheVariants.{NoMemory as no_memory};
+    ghost use Rattle.iloc_text.specs.declared.fault.StreamFault.TheVariants.{Text};
+
+    ghost from_gives = { λ _ fault. fault ≡ Text no_memory };
+
+    fn from(_: NoMemory) -> StreamFault {
+        StreamFault::Text(ReadFault::NoMemory)
+    }
+}

@@ -1,13 +1,16 @@
 //! The reader: from bytes to the blocks that they denote.
-ghost use Rattle.std.specs.Prelude.{◌≢◌, List, IfOk, IfErr, OnOk};
+ghost use Rattle.std.specs.Prelude.{◌≡◌, ◌≢◌, ◌+◌, ◌<◌, ◌^◌, length, List, IfOk, IfErr, OnOk};
 ghost use Rattle.iloc_text.specs.declared.file.Block.{Block};
 ghost use Rattle.iloc_text.specs.declared.fault.ReadFault.TheVariants.{NoMemory as no_memory};
 ghost use Rattle.iloc_text.specs.Steps.LineReads.{FirstLine};
+ghost use Rattle.iloc_text.specs.Steps.Lines.{lines_of};
+ghost use Rattle.iloc_text.specs.Steps.Open.{HasTaken};
+ghost use Rattle.iloc_text.specs.Steps.Verdicts.{Answered, answer_from};
 ghost use Rattle.iloc_text.specs.Files.{Denotes, IsRefused};
 
 use crate::copies::Copies;
 use crate::fault::ReadFault;
-use crate::file::{Blocks, IlocFile};
+use crate::file::IlocFile;
 use crate::limits::MAX_INPUT;
 use crate::line::{Line, ParseFault, read_line};
 use crate::line_ends::split_line;
@@ -30,6 +33,40 @@ fn first_line(text: &[u8]) -> Result<(Line<'_>, Option<&[u8]>), ParseFault>
     Ok((line, after))
 }
 
+/// Reads the lines of the text, before which so many lines were read, and hands each block over as soon as the next one
+/// opens. Answers how many lines were read then.
+pub(crate) fn read_lines<T: TakeBlocks>(
+    alloc: Global,
+    text: &[u8],
+    before: u32,
+    open: &mut OpenBlock,
+    taker: &mut T,
+) -> Result<u32, ReadFault>
+    requires { before + length text.now + 1 < 2 ^ 32 }
+    ensures number { IfOk result (λ number. number ≡ before + length (lines_of text.now)) }
+    ensures blocks { (start : T) (blocks : List Block) → HasTaken T.took start taker.old open.old blocks →
+        Answered (HasTaken T.took start taker.new open.new) (answer_from blocks (before + 1) (lines_of text.now)) result }
+{
+    let mut number = before;
+    let mut rest = Some(text);
+    while let Some(text) = rest {
+        number += 1;
+        if let Some((op, after)) = usual_body(after_blanks(text)) {
+            open.add_op(alloc, taker, op, number)?;
+            rest = after;
+            continue;
+        }
+        let (line, after) = match first_line(text) {
+            Ok(found) => found,
+            Err(ParseFault::Bad) => return Err(ReadFault::BadLine(number)),
+            Err(ParseFault::NumberTooLarge) => return Err(ReadFault::NumberTooLarge(number)),
+        };
+        open.add_line(alloc, taker, line, number)?;
+        rest = after;
+    }
+    Ok(number)
+}
+
 /// Reads a text of ILOC and hands each block over, in order, as soon as its last line is read: exactly the
 /// blocks that the text denotes, or the refusal that it denotes.
 ///
@@ -50,23 +87,7 @@ pub fn read_blocks<T: TakeBlocks>(
         return Err(ReadFault::InputTooLong);
     }
     let mut open = OpenBlock::none(alloc);
-    let mut number = 0;
-    let mut rest = Some(input);
-    while let Some(text) = rest {
-        number += 1;
-        if let Some((op, after)) = usual_body(after_blanks(text)) {
-            open.add_op(alloc, taker, op, number)?;
-            rest = after;
-            continue;
-        }
-        let (line, after) = match first_line(text) {
-            Ok(found) => found,
-            Err(ParseFault::Bad) => return Err(ReadFault::BadLine(number)),
-            Err(ParseFault::NumberTooLarge) => return Err(ReadFault::NumberTooLarge(number)),
-        };
-        open.add_line(alloc, taker, line, number)?;
-        rest = after;
-    }
+    read_lines(alloc, input, 0, &mut open, taker)?;
     open.hand_over(alloc, taker)?;
     Ok(())
 }
@@ -79,7 +100,5 @@ pub fn read_file(alloc: Global, input: &[u8]) -> Result<IlocFile, ReadFault>
 {
     let mut copies = Copies::new(alloc);
     read_blocks(alloc, input, &mut copies)?;
-    Ok(IlocFile {
-        blocks: Blocks::new(copies.into_blocks(alloc)?),
-    })
+    Ok(copies.into_file(alloc)?)
 }

@@ -1,0 +1,33 @@
+-- What a reader has read of a text that comes piece by piece.
+use Rattle.std.specs.Prelude.{◌≡◌, ℕ, ◌+◌, ◌≤◌, ◌-◌, ◌^◌, min, Option, Some, None, Err, List, [], ◌++◌, length}
+use Rattle.iloc_text.specs.declared.limits.TheConstants.{MAX_INPUT}
+use Rattle.iloc_text.specs.declared.file.Block.{Block}
+use Rattle.iloc_text.specs.declared.fault.ReadFault.{ReadFault}
+use Rattle.iloc_text.specs.declared.text_reader.TextReader.{TextReader}
+use Rattle.iloc_text.specs.Steps.Lines.{lines_of}
+use Rattle.iloc_text.specs.Steps.Open.{HasTaken}
+use Rattle.iloc_text.specs.Steps.Verdicts.{answer_from}
+
+-- whatever comes behind the text, these blocks are those of the lines that were read, and the rest is still to be read
+pub record GoesOn {T : Type 0} (took : T → List Block → T → Type 0) (start : T) (reader : TextReader T) (text : List ℕ)
+    : Type 0 where
+  pub blocks : List Block
+  pub taken : HasTaken took start reader.taker reader.open blocks
+  pub answer : (more : List ℕ) → answer_from [] 1 (lines_of (text ++ more))
+      ≡ answer_from blocks (reader.number + 1) (lines_of (reader.rest.items ++ more))
+
+-- whatever comes behind the text, it has this fault
+abbrev pub HasFault : List ℕ → ReadFault → Type 0
+HasFault text fault = (more : List ℕ) → answer_from [] 1 (lines_of (text ++ more)) ≡ Err fault
+
+-- the reading goes on, or the text has a fault
+abbrev pub StandsAt : {T : Type 0} → Option ReadFault → (took : T → List Block → T → Type 0) → T → TextReader T → List ℕ
+    → Type 0
+StandsAt None took start reader text = GoesOn took start reader text
+StandsAt (Some fault) took start reader text = HasFault text fault
+
+-- From `start` on the reader has read this text. Of one that is too long it knows no more than that.
+pub record HasRead {T : Type 0} (took : T → List Block → T → Type 0) (start : T) (reader : TextReader T) (text : List ℕ)
+    : Type 0 where
+  pub counted : reader.length ≡ min (length text) (2 ^ 64 - 1)
+  pub stands : length text ≤ MAX_INPUT → StandsAt reader.fault took start reader text
