@@ -18,3 +18,4 @@ pub mod Retold
 pub mod Entries
 pub mod Counted
 pub mod Unfolded
+pub mod Streamed

@@ -3,6 +3,8 @@ use Rattle.std.specs.Prelude.{ℕ, List, codes}
 use Rattle.iloc_text.specs.Fault.{fault_text}
 use Rattle.iloc_text.specs.declared.fault.ReadFault.{ReadFault}
 use Rattle.iloc_text.specs.declared.fault.ReadFault.TheVariants as text
+use Rattle.iloc_text.specs.declared.fault.StreamFault.{StreamFault}
+use Rattle.iloc_text.specs.declared.fault.StreamFault.TheVariants as stream
 use Rattle.iloc_rows.specs.Fault.{rows_fault_text}
 use Rattle.iloc_rows.specs.declared.fault.RowsFault.{RowsFault}
 use Rattle.iloc_rows.specs.declared.fault.RowsFault.TheVariants as rows
@@ -65,6 +67,11 @@ fault_of_text (text.NumberTooLarge n) = Text (text.NumberTooLarge n)
 fault_of_text (text.TooManyBlocks n) = Text (text.TooManyBlocks n)
 fault_of_text (text.TooManyOperations n) = Text (text.TooManyOperations n)
 fault_of_text text.NoMemory = no_memory
+
+-- the fault of a run for which no file was read from a stream
+abbrev pub fault_of_stream : StreamFault → RunFault
+fault_of_stream stream.ReadFailed = ReadFailed
+fault_of_stream (stream.Text fault) = fault_of_text fault
 
 -- the fault of a check whose input is no blocks with rows
 abbrev pub fault_of_rows : RowsFault → RunFault

@@ -5,8 +5,11 @@ ghost use Rattle.iloc_text.specs.declared.fault.ReadFault.TheVariants.{NoMemory 
 ghost use Rattle.iloc_rows.specs.Submissions as submissions;
 ghost use Rattle.iloc_rows.specs.Laws.{AreWithinLimits};
 ghost use Rattle.iloc_rows.specs.declared.fault.RowsFault.TheVariants.{Read as read};
-ghost use Rattle.iloc_farm.specs.Steps.OfInput.{EndsText};
-ghost use Rattle.iloc_farm.specs.Run.{EndsRun, Lists, ListsInput};
+ghost use Rattle.iloc_text.specs.Files.{Denotes};
+ghost use Rattle.iloc_farm.specs.Device.{ReadsInput};
+ghost use Rattle.iloc_farm.specs.Schedules.{IsWithinLimits};
+ghost use Rattle.iloc_farm.specs.Steps.OfInput.{EndsFile, EndsReading};
+ghost use Rattle.iloc_farm.specs.Run.{EndsRun, Lists};
 
 use crate::checked::checked_text;
 use crate::device::read_input;
@@ -20,11 +23,11 @@ use crate::pieces::Pieces;
 use crate::reading::file_of;
 use crate::room::lengthen;
 use crate::runner::Runner;
+use crate::stream::file_read;
 use iloc_args::{Request, Task};
 use iloc_rows::laws::submissions_are_within_limits;
 use iloc_rows::{RowsFault, Submission, read_submission};
-use iloc_text::laws::files_are_within_limits;
-use iloc_text::read_file;
+use iloc_text::IlocFile;
 use std::alloc::Global;
 use std::io::{Read, Write};
 use std::sync::Wait;
@@ -60,13 +63,18 @@ impl<'r> Listed<'r> {
     }
 }
 
-/// What is said of the rows that the input proposes for its blocks.
-fn check_text<'r>(alloc: Global, input: Vec<u8>, request: &Request) -> Result<Listed<'r>, RunFault>
+/// What is said of the rows that an input proposes for its blocks.
+fn check_text<'r, R: Read>(
+    alloc: Global,
+    reader: &mut R,
+    request: &Request,
+) -> Result<Listed<'r>, RunFault>
     requires { request.now.task ≡ Task.Check }
-    ensures ok { IfOk result (λ listed. ListsInput request.now input.items listed.finding listed.text) }
-    ensures err { IfErr result (EndsText request.now input.items) }
+    ensures ok { IfOk result (λ listed.
+        Lists request.now (R.remaining reader.old) (R.remaining reader.new) listed.finding listed.text) }
+    ensures err { IfErr result (EndsReading request.now (R.remaining reader.old) (R.remaining reader.new)) }
 {
-    let submission = submission_of(alloc, input)?;
+    let submission = submission_of(alloc, read_input(alloc, reader)?)?;
     let memory = initial_memory(alloc, request)?;
     let checked = checked_text(alloc, submission, &request.latencies, &memory)?;
     Ok(Listed {
@@ -75,105 +83,133 @@ fn check_text<'r>(alloc: Global, input: Vec<u8>, request: &Request) -> Result<Li
     })
 }
 
-/// What a run of each block of the input outputs.
-fn run_text<'r>(alloc: Global, input: Vec<u8>, request: &Request) -> Result<Listed<'r>, RunFault>
+/// What a run of each block of a file outputs.
+fn run_text<'r, R: Read>(
+    alloc: Global,
+    reader: &mut R,
+    request: &Request,
+) -> Result<Listed<'r>, RunFault>
     requires { request.now.task ≡ Task.Run }
-    ensures ok { IfOk result (λ listed. ListsInput request.now input.items listed.finding listed.text) }
-    ensures err { IfErr result (EndsText request.now input.items) }
+    ensures ok { IfOk result (λ listed.
+        Lists request.now (R.remaining reader.old) (R.remaining reader.new) listed.finding listed.text) }
+    ensures err { IfErr result (EndsReading request.now (R.remaining reader.old) (R.remaining reader.new)) }
 {
     let memory = initial_memory(alloc, request)?;
     let runner = Runner::plain(alloc, memory)?;
-    let text = outcomes_listed(alloc, &input, runner)?;
+    let text = outcomes_listed(alloc, reader, runner)?;
     Ok(Listed::of_file(Pieces::new(alloc, text)))
 }
 
 /// What a run of each block's schedule on the timed machine outputs.
-fn simulated_text<'r>(
+fn simulated_text<'r, R: Read>(
     alloc: Global,
-    input: Vec<u8>,
+    reader: &mut R,
     request: &Request,
 ) -> Result<Listed<'r>, RunFault>
     requires { request.now.task ≡ Task.Simulate }
-    ensures ok { IfOk result (λ listed. ListsInput request.now input.items listed.finding listed.text) }
-    ensures err { IfErr result (EndsText request.now input.items) }
+    ensures ok { IfOk result (λ listed.
+        Lists request.now (R.remaining reader.old) (R.remaining reader.new) listed.finding listed.text) }
+    ensures err { IfErr result (EndsReading request.now (R.remaining reader.old) (R.remaining reader.new)) }
 {
     let memory = initial_memory(alloc, request)?;
     let runner = Runner::timed(alloc, memory, request.latencies)?;
-    let text = outcomes_listed(alloc, &input, runner)?;
+    let text = outcomes_listed(alloc, reader, runner)?;
     Ok(Listed::of_file(Pieces::new(alloc, text)))
 }
 
-/// The schedules of the input's blocks. They are listed where the input was, as far as they fit.
-fn scheduled_text<'r, R: Threads + Wait + Sync>(
-    rt: &R,
+/// The schedules of the blocks of a file. They are listed where its text was, as far as they fit.
+fn scheduled_text<'r, H: Threads + Wait + Sync, R: Read>(
+    rt: &H,
     alloc: Global,
-    input: Vec<u8>,
+    reader: &mut R,
     request: &Request,
     room: &'r mut Vec<u8>,
 ) -> Result<Listed<'r>, RunFault>
     requires { request.now.task ≡ Task.Schedule }
-    ensures ok { IfOk result (λ listed. ListsInput request.now input.items listed.finding listed.text) }
-    ensures err { IfErr result (EndsText request.now input.items) }
+    ensures ok { IfOk result (λ listed.
+        Lists request.now (R.remaining reader.old) (R.remaining reader.new) listed.finding listed.text) }
+    ensures err { IfErr result (EndsReading request.now (R.remaining reader.old) (R.remaining reader.new)) }
 {
-    let file = file_of(rt, alloc, &input, request)?;
-    *room = input;
+    *room = read_input(alloc, reader)?;
+    let file = file_of(rt, alloc, room, request)?;
     lengthen(room, file.blocks.as_slice())?;
     let text = schedules_farmed(rt, alloc, file, request, room.as_mut_slice())?;
     Ok(Listed::of_file(text))
 }
 
-/// The cycles of the schedules of the input's blocks.
-fn counted_text<'r, R: Threads + Wait + Sync>(
-    rt: &R,
+/// The file that is read, of which the whole text is held, so that several threads can read it.
+fn file_held<H: Threads + Wait + Sync, R: Read>(
+    rt: &H,
     alloc: Global,
-    input: Vec<u8>,
+    reader: &mut R,
+    request: &Request,
+) -> Result<IlocFile, RunFault>
+    requires { request.now.task ≢ Task.Check }
+    ensures ok { IfOk result (λ file. (input : List ℕ) ×
+        ReadsInput (R.remaining reader.old) (R.remaining reader.new) input ×
+        Denotes input file.blocks × IsWithinLimits file.blocks) }
+    ensures err { IfErr result (EndsFile (R.remaining reader.old) (R.remaining reader.new)) }
+{
+    let input = read_input(alloc, reader)?;
+    file_of(rt, alloc, &input, request)
+}
+
+/// The cycles of the schedules of the blocks of a file. It is read as its bytes come where one thread reads it.
+fn counted_text<'r, H: Threads + Wait + Sync, R: Read>(
+    rt: &H,
+    alloc: Global,
+    reader: &mut R,
     request: &Request,
 ) -> Result<Listed<'r>, RunFault>
     requires { request.now.task ≡ Task.Counts }
-    ensures ok { IfOk result (λ listed. ListsInput request.now input.items listed.finding listed.text) }
-    ensures err { IfErr result (EndsText request.now input.items) }
+    ensures ok { IfOk result (λ listed.
+        Lists request.now (R.remaining reader.old) (R.remaining reader.new) listed.finding listed.text) }
+    ensures err { IfErr result (EndsReading request.now (R.remaining reader.old) (R.remaining reader.new)) }
 {
-    let file = file_of(rt, alloc, &input, request)?;
-    drop(input);
+    let file = if request.workers == 1 {
+        file_read(alloc, reader)?
+    } else {
+        file_held(rt, alloc, reader, request)?
+    };
     let text = counts_farmed(rt, alloc, file.blocks.as_slice(), request)?;
     Ok(Listed::of_file(Pieces::new(alloc, text)))
 }
 
-/// Why the schedules of the input's blocks take their cycles.
-fn explanations_text<'r>(
+/// Why the schedules of the blocks of a file take their cycles.
+fn explanations_text<'r, R: Read>(
     alloc: Global,
-    input: Vec<u8>,
+    reader: &mut R,
     request: &Request,
 ) -> Result<Listed<'r>, RunFault>
     requires { request.now.task ≡ Task.Explain }
-    ensures ok { IfOk result (λ listed. ListsInput request.now input.items listed.finding listed.text) }
-    ensures err { IfErr result (EndsText request.now input.items) }
+    ensures ok { IfOk result (λ listed.
+        Lists request.now (R.remaining reader.old) (R.remaining reader.new) listed.finding listed.text) }
+    ensures err { IfErr result (EndsReading request.now (R.remaining reader.old) (R.remaining reader.new)) }
 {
-    files_are_within_limits();
-    let file = read_file(alloc, &input)?;
-    drop(input);
+    let file = file_read(alloc, reader)?;
     let text = explained_text(alloc, &file, &request.latencies)?;
     Ok(Listed::of_file(Pieces::new(alloc, text)))
 }
 
-/// What the request lists of the input. Some of it may lie in the room.
-fn request_text<'r, R: Threads + Wait + Sync>(
-    rt: &R,
+/// What the request lists of what the reader gives. Some of it may lie in the room.
+fn request_text<'r, H: Threads + Wait + Sync, R: Read>(
+    rt: &H,
     alloc: Global,
-    input: Vec<u8>,
+    reader: &mut R,
     request: &Request,
     room: &'r mut Vec<u8>,
 ) -> Result<Listed<'r>, RunFault>
-    ensures ok { IfOk result (λ listed. ListsInput request.now input.items listed.finding listed.text) }
-    ensures err { IfErr result (EndsText request.now input.items) }
+    ensures ok { IfOk result (λ listed.
+        Lists request.now (R.remaining reader.old) (R.remaining reader.new) listed.finding listed.text) }
+    ensures err { IfErr result (EndsReading request.now (R.remaining reader.old) (R.remaining reader.new)) }
 {
     match request.task {
-        Task::Run => run_text(alloc, input, request),
-        Task::Simulate => simulated_text(alloc, input, request),
-        Task::Schedule => scheduled_text(rt, alloc, input, request, room),
-        Task::Counts => counted_text(rt, alloc, input, request),
-        Task::Explain => explanations_text(alloc, input, request),
-        Task::Check => check_text(alloc, input, request),
+        Task::Run => run_text(alloc, reader, request),
+        Task::Simulate => simulated_text(alloc, reader, request),
+        Task::Schedule => scheduled_text(rt, alloc, reader, request, room),
+        Task::Counts => counted_text(rt, alloc, reader, request),
+        Task::Explain => explanations_text(alloc, reader, request),
+        Task::Check => check_text(alloc, reader, request),
     }
 }
 
@@ -198,9 +234,8 @@ pub fn run<H: Threads + Wait + Sync, R: Read, W: Write>(
         (R.remaining reader.old) (R.remaining reader.new)
         (W.contents writer.old) (W.contents writer.new)) }
 {
-    let input = read_input(alloc, reader)?;
     let mut room = Vec::new(alloc);
-    let listed = request_text(rt, alloc, input, request, &mut room)?;
+    let listed = request_text(rt, alloc, reader, request, &mut room)?;
     let Listed { text, finding } = listed;
     text.write_to(writer)?;
     Ok(finding)

@@ -4,7 +4,7 @@ ghost use Rattle.iloc_farm.specs.Fault.{run_status_of};
 
 use crate::device::{InputFault, WriteFailed};
 use iloc_rows::RowsFault;
-use iloc_text::{NoMemory, ReadFault};
+use iloc_text::{NoMemory, ReadFault, StreamFault};
 use std::alloc::{AllocError, AllocFailed};
 use std::error::Error;
 use std::fmt::{self, Display, Formatter};
@@ -103,6 +103,19 @@ impl From<ReadFault> for RunFault {
         match fault {
             ReadFault::NoMemory => RunFault::Farm(FarmFault::NoMemory),
             fault => RunFault::Text(fault),
+        }
+    }
+}
+
+impl From<StreamFault> for RunFault {
+    ghost use Rattle.iloc_farm.specs.Fault.{fault_of_stream};
+
+    ghost from_gives = { λ fault given. given ≡ fault_of_stream fault };
+
+    fn from(fault: StreamFault) -> RunFault {
+        match fault {
+            StreamFault::ReadFailed => RunFault::ReadFailed,
+            StreamFault::Text(fault) => RunFault::from(fault),
         }
     }
 }

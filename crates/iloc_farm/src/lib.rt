@@ -32,6 +32,7 @@ mod room;
 mod routine;
 mod runner;
 mod shift;
+mod stream;
 mod totals;
 
 pub use checked::{CheckedText, checked_text};

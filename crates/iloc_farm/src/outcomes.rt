@@ -1,15 +1,19 @@
 //! The listing of the outcomes of blocks, made as they are read.
-ghost use Rattle.std.specs.Prelude.{◌≡◌, ◌++◌, ◌≢◌, IfErr, IfOk, List, Err};
-ghost use Rattle.iloc_text.specs.declared.fault.ReadFault.{ReadFault as read_fault};
+ghost use Rattle.std.specs.Prelude.{◌≡◌, IfErr, IfOk, List, ℕ};
 ghost use Rattle.iloc_text.specs.declared.file.Block.{Block as block_value};
-ghost use Rattle.iloc_text.specs.Files.{Denotes, IsRefused};
-ghost use Rattle.iloc_farm.specs.Steps.Runner.{runs};
+ghost use Rattle.iloc_text.specs.Files.{Denotes};
+ghost use Rattle.iloc_farm.specs.Device.{ReadsInput};
 ghost use Rattle.iloc_farm.specs.Run.{run_listing};
+ghost use Rattle.iloc_farm.specs.Steps.OfInput.{EndsFile};
+ghost use Rattle.iloc_farm.specs.Steps.Runner.{runs};
 
+use crate::fault::RunFault;
 use crate::listing::push_outcome;
 use crate::runner::Runner;
-use iloc_text::{Block, NoMemory, ReadFault, TakeBlocks, read_blocks};
+use crate::stream::blocks_read;
+use iloc_text::{Block, NoMemory, TakeBlocks};
 use std::alloc::Global;
+use std::io::Read;
 
 /// Runs each block that it is handed, and lists its outcome.
 #[derive(Drop)]
@@ -40,20 +44,20 @@ impl TakeBlocks for Lister {
     ghost took_none = { λ start. (refl, sym (append-nil start.text.items)) };
 }
 
-/// The listing of the outcomes of the blocks that the input denotes, each run as soon as it is read.
-pub(crate) fn outcomes_listed(
+/// The listing of the outcomes of the blocks of a file, each run as soon as it is read.
+pub(crate) fn outcomes_listed<R: Read>(
     alloc: Global,
-    input: &[u8],
+    reader: &mut R,
     runner: Runner,
-) -> Result<Vec<u8>, ReadFault>
-    ensures ok { IfOk result (λ text. (blocks : List block_value) × Denotes input.now blocks
-        × (text.items ≡ run_listing (runs runner).memory blocks)) }
-    ensures err { IfErr result (λ fault. fault ≢ ReadFault.NoMemory → IsRefused input.now fault) }
+) -> Result<Vec<u8>, RunFault>
+    ensures ok { IfOk result (λ text. (input : List ℕ) ×
+        ReadsInput (R.remaining reader.old) (R.remaining reader.new) input ×
+        (blocks : List block_value) × Denotes input blocks × (text.items ≡ run_listing (runs runner).memory blocks)) }
+    ensures err { IfErr result (EndsFile (R.remaining reader.old) (R.remaining reader.new)) }
 {
-    let mut lister = Lister {
+    let lister = Lister {
         runner,
         text: Vec::new(alloc),
     };
-    read_blocks(alloc, input, &mut lister)?;
-    Ok(lister.text)
+    Ok(blocks_read(alloc, reader, lister)?.text)
 }

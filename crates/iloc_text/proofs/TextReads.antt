@@ -80,12 +80,12 @@ err_further text rest piece front back blocks n fault r h e bad is =
 
 -- a reader that stands where another does
 pub taken_as : {T : Type 0} (took : T → List Block → T → Type 0) (start : T) (a b : TextReader T) (blocks : List Block)
-    → b.taker ≡ a.taker → b.open ≡ a.open → HasTaken took start a.taker a.open blocks
-    → HasTaken took start b.taker b.open blocks
+    → b.taker ≡ a.taker → b.open_block ≡ a.open_block → HasTaken took start a.taker a.open_block blocks
+    → HasTaken took start b.taker b.open_block blocks
 taken_as took start a b blocks taker opened = subst₂ (λ t o. HasTaken took start t o blocks) (sym taker) (sym opened)
 
 pub goes_as : {T : Type 0} (took : T → List Block → T → Type 0) (start : T) (a b : TextReader T) (text : List ℕ)
-    → b.taker ≡ a.taker → b.open ≡ a.open → b.number ≡ a.number → b.rest.items ≡ a.rest.items
+    → b.taker ≡ a.taker → b.open_block ≡ a.open_block → b.number ≡ a.number → b.rest.items ≡ a.rest.items
     → GoesOn took start a text → GoesOn took start b text
 goes_as took start a b text taker opened number rest goes = record {
   blocks = goes.blocks;
@@ -98,7 +98,7 @@ goes_as took start a b text taker opened number rest goes = record {
 pub goes_further : {T : Type 0} (took : T → List Block → T → Type 0) (start : T) (a b : TextReader T)
     (text piece front back : List ℕ) (out : List Block) → (goes : GoesOn took start a text) → piece ≡ front ++ 10 ∷ back
     → answer_from goes.blocks (a.number + 1) (lines_of (a.rest.items ++ front)) ≡ Ok out
-    → HasTaken took start b.taker b.open out → b.number ≡ a.number + length (lines_of (a.rest.items ++ front))
+    → HasTaken took start b.taker b.open_block out → b.number ≡ a.number + length (lines_of (a.rest.items ++ front))
     → b.rest.items ≡ back → GoesOn took start b (text ++ piece)
 goes_further took start a b text piece front back out goes e ok taken number rest = record {
   blocks = out;

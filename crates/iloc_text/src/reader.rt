@@ -39,20 +39,20 @@ pub(crate) fn read_lines<T: TakeBlocks>(
     alloc: Global,
     text: &[u8],
     before: u32,
-    open: &mut OpenBlock,
+    open_block: &mut OpenBlock,
     taker: &mut T,
 ) -> Result<u32, ReadFault>
     requires { before + length text.now + 1 < 2 ^ 32 }
     ensures number { IfOk result (λ number. number ≡ before + length (lines_of text.now)) }
-    ensures blocks { (start : T) (blocks : List Block) → HasTaken T.took start taker.old open.old blocks →
-        Answered (HasTaken T.took start taker.new open.new) (answer_from blocks (before + 1) (lines_of text.now)) result }
+    ensures blocks { (start : T) (blocks : List Block) → HasTaken T.took start taker.old open_block.old blocks →
+        Answered (HasTaken T.took start taker.new open_block.new) (answer_from blocks (before + 1) (lines_of text.now)) result }
 {
     let mut number = before;
     let mut rest = Some(text);
     while let Some(text) = rest {
         number += 1;
         if let Some((op, after)) = usual_body(after_blanks(text)) {
-            open.add_op(alloc, taker, op, number)?;
+            open_block.add_op(alloc, taker, op, number)?;
             rest = after;
             continue;
         }
@@ -61,7 +61,7 @@ pub(crate) fn read_lines<T: TakeBlocks>(
             Err(ParseFault::Bad) => return Err(ReadFault::BadLine(number)),
             Err(ParseFault::NumberTooLarge) => return Err(ReadFault::NumberTooLarge(number)),
         };
-        open.add_line(alloc, taker, line, number)?;
+        open_block.add_line(alloc, taker, line, number)?;
         rest = after;
     }
     Ok(number)

@@ -18,7 +18,7 @@ use std::alloc::Global;
 #[derive(Drop)]
 pub struct TextReader<T> {
     taker: T,
-    open: OpenBlock,
+    open_block: OpenBlock,
     // How many lines were read.
     number: u32,
     // What came behind them.
@@ -42,7 +42,7 @@ impl<T: TakeBlocks + Drop> TextReader<T> {
     {
         TextReader {
             taker,
-            open: OpenBlock::none(alloc),
+            open_block: OpenBlock::none(alloc),
             number: 0,
             rest: Vec::new(alloc),
             length: 0,
@@ -54,7 +54,7 @@ impl<T: TakeBlocks + Drop> TextReader<T> {
     fn keep(&mut self, bytes: &[u8]) -> Result<(), NoMemory>
         requires { self.old.number + vec_len self.old.rest + length bytes.now ≤ self.old.length }
         ensures taker { self.new.taker ≡ self.old.taker }
-        ensures open { self.new.open ≡ self.old.open }
+        ensures open_block { self.new.open_block ≡ self.old.open_block }
         ensures number { self.new.number ≡ self.old.number }
         ensures length { self.new.length ≡ self.old.length }
         ensures fault { self.new.fault ≡ self.old.fault }
@@ -73,15 +73,15 @@ impl<T: TakeBlocks + Drop> TextReader<T> {
         ensures fault { self.new.fault ≡ self.old.fault }
         ensures number { IfOk result (λ number. number ≡ self.old.number + length (lines_of self.old.rest.items)) }
         ensures blocks { (start : T) (blocks : List block_value) →
-            HasTaken T.took start self.old.taker self.old.open blocks →
-            Answered (HasTaken T.took start self.new.taker self.new.open)
+            HasTaken T.took start self.old.taker self.old.open_block blocks →
+            Answered (HasTaken T.took start self.new.taker self.new.open_block)
             (answer_from blocks (self.old.number + 1) (lines_of self.old.rest.items)) result }
     {
         read_lines(
             alloc,
             &self.rest,
             self.number,
-            &mut self.open,
+            &mut self.open_block,
             &mut self.taker,
         )
     }
@@ -147,10 +147,10 @@ impl<T: TakeBlocks + Drop> TextReader<T> {
         self.read_kept(alloc)?;
         let TextReader {
             mut taker,
-            open,
+            open_block,
             ..
         } = self;
-        open.hand_over(alloc, &mut taker)?;
+        open_block.hand_over(alloc, &mut taker)?;
         Ok(taker)
     }
 }

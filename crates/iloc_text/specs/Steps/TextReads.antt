@@ -12,7 +12,7 @@ use Rattle.iloc_text.specs.Steps.Verdicts.{answer_from}
 pub record GoesOn {T : Type 0} (took : T → List Block → T → Type 0) (start : T) (reader : TextReader T) (text : List ℕ)
     : Type 0 where
   pub blocks : List Block
-  pub taken : HasTaken took start reader.taker reader.open blocks
+  pub taken : HasTaken took start reader.taker reader.open_block blocks
   pub answer : (more : List ℕ) → answer_from [] 1 (lines_of (text ++ more))
       ≡ answer_from blocks (reader.number + 1) (lines_of (reader.rest.items ++ more))
 

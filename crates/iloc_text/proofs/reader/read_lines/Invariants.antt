@@ -9,8 +9,8 @@ use Rattle.iloc_text.proofs.reader.read_lines.Given as goal
 abbrev pub invariant-loop-rest : goal.invariant-loop-rest
 invariant-loop-rest g l = record {
   counted : l.number + length (lines_left l.rest) ≡ l.fn.before + length (lines_of l.fn.text);
-  stands : (start : _) (blocks : List Block) → HasTaken g.T.TakeBlocks.took start l.fn.taker l.fn.open blocks
-      → (read : List Block) × HasTaken g.T.TakeBlocks.took start l.taker l.open read
+  stands : (start : _) (blocks : List Block) → HasTaken g.T.TakeBlocks.took start l.fn.taker l.fn.open_block blocks
+      → (read : List Block) × HasTaken g.T.TakeBlocks.took start l.taker l.open_block read
       × (answer_from blocks (l.fn.before + 1) (lines_of l.fn.text) ≡ answer_from read (l.number + 1) (lines_left l.rest));
 }
 

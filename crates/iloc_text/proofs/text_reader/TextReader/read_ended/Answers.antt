@@ -13,7 +13,7 @@ returns-in_err-number-clause-err g c = λ start text goes.
     let end = c.in-Some.end in
     let self = c.args.self.now in
     let kept = c.in_ok-keep-2.ensures in
-    let taken = taken_as g.T.TakeBlocks.took start self c.keep-2.new.self goes.blocks kept.taker kept.open goes.taken in
+    let taken = taken_as g.T.TakeBlocks.took start self c.keep-2.new.self goes.blocks kept.taker kept.open_block goes.taken in
     let bad = c.in_err-number.ensures.blocks start goes.blocks taken in
     let exit = err_from_is_err_and c.from_residual-in_err-number.result c.from_residual-in_err-number.ensures.1 in
     err_further text self.rest.items piece (take end piece) (drop (end + 1) piece) goes.blocks (self.number + 1)
@@ -68,14 +68,14 @@ returns-clause-ok g c = λ start text goes.
     let self = c.args.self.now in
     let kept = c.in_ok-keep-2.ensures in
     let last = c.in_ok-keep-3.ensures in
-    let taken = taken_as g.T.TakeBlocks.took start self c.keep-2.new.self goes.blocks kept.taker kept.open goes.taken in
+    let taken = taken_as g.T.TakeBlocks.took start self c.keep-2.new.self goes.blocks kept.taker kept.open_block goes.taken in
     let read = c.in_ok-number.ensures.blocks start goes.blocks taken in
     let back : take (length piece - (end + 1)) (drop (end + 1) piece) ≡ drop (end + 1) piece =
     take_all (length piece - (end + 1)) (drop (end + 1) piece) (omega (arith, length-drop (end + 1) piece)) in
     goes_further g.T.TakeBlocks.took start self c.keep-3.new.self text piece (take end piece) (drop (end + 1) piece) read.0
     goes (split_at piece end c.in-Some.ensures.0.high c.in-Some.ensures.1)
     (ap₂ (λ n r. answer_from goes.blocks (n + 1) (lines_of r)) (sym kept.number) (sym kept.rest) ∙ read.1)
-    (taken_as g.T.TakeBlocks.took start c.read_kept.new.self c.keep-3.new.self read.0 last.taker last.open read.2)
+    (taken_as g.T.TakeBlocks.took start c.read_kept.new.self c.keep-3.new.self read.0 last.taker last.open_block read.2)
     (last.number ∙ c.in_ok-number.ensures.number
     ∙ ap₂ (λ n r. n + length (lines_of r)) kept.number kept.rest)
     (last.rest ∙ ap (λ items. items ++ take (length piece - (end + 1)) (drop (end + 1) piece)) c.clear.ensures.items ∙ back)
