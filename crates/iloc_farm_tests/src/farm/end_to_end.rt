@@ -72,7 +72,7 @@ fn reads_to_the_end_or_to_a_fault(rt: HostRuntime) -> Result<(), Fail> {
 #[test]
 fn reads_no_further_than_the_end(rt: HostRuntime) -> Result<(), Fail> {
     let request = asked(rt.alloc(), &["run"])?;
-    let input = vec![in rt.alloc(); b'\n'; 20_000]?;
+    let input = vec![in rt.alloc(); b'\n'; 80_000]?;
     let mut reader = giving(&input);
     let mut writer = taking_all(rt.alloc());
     run(&rt, rt.alloc(), &mut reader, &mut writer, &request)?;
