@@ -29,7 +29,7 @@ pub fn work<'a, J: Jobs, G: Gate>(
     ensures err { OnErr result (is_holding (state pass.new) ≡ true) }
 {
     while let Some(job) = claim(board, pass, gate) {
-        let answer = board.jobs.answer(board.alloc, job)?;
+        let answer = pass.jobs.answer(board.alloc, job)?;
         board.hand_back(pass, answer)?;
     }
     Ok(())
