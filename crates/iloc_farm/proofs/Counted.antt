@@ -1,5 +1,5 @@
 -- From the numbers that workers handed back to the schedules whose cycles they are.
-use Rattle.std.proofs.Common.{◌≡◌, ℕ, zero, suc, ◌+◌, List, [], ◌∷◌, ◌++◌, length, map, sum, Some, refl, ap, sym, ◌∙◌, arith}
+use Rattle.std.proofs.Common.{◌≡◌, ℕ, zero, suc, ◌+◌, List, [], ◌∷◌, ◌++◌, length, map, sum, Some, refl, ap, sym, ◌∙◌, subst, arith}
 use Rattle.std.specs.Prelude.{slice_get}
 use Rattle.std.proofs.lemmas.List.Sums.{sum-map}
 use Rattle.iloc_text.specs.declared.file.Block.{Block}
@@ -10,6 +10,7 @@ use Rattle.iloc_farm.specs.Listing.{count_entry, count_line, counts_listing, cyc
 use Rattle.iloc_farm.specs.Schedules.{AreGreedy, IsScheduleOf}
 use Rattle.iloc_farm.specs.Steps.Answered.{AreAnswered}
 use Rattle.iloc_farm.specs.Steps.Counts.{AreCounts, IsCountOf}
+use Rattle.iloc_farm.specs.Steps.ToSchedule.{ToSchedule}
 use Rattle.iloc_farm.proofs.Retold.{are_farmed}
 use Rattle.iloc_farm.proofs.Schedules.{cons_same, greedy_all_exist, one_schedule}
 
@@ -65,3 +66,14 @@ pub counts_listed : (lat : Latencies) (blocks : List Block) (schedules : List Ta
 counts_listed lat blocks schedules counts counted =
     ap (λ ns. entries count_line 1 blocks ns ++ total_of (sum ns)) counted
     ∙ (λ i. lines_same lat 1 blocks schedules i ++ total_of (sum-map (cycles_of lat) schedules i))
+
+-- the same of jobs that a worker has, one of those that all have
+pub are_counts_of : (request : Request) (blocks : List Block) (jobs : ToSchedule) (workers : ℕ) (counts costs : List ℕ)
+    → jobs ≡ record { blocks = blocks; latencies = request.latencies } → workers ≡ request.workers
+    → AreAnswered (length jobs.blocks) (IsCountOf jobs.latencies jobs.blocks) (λ cycles. cycles) workers counts costs
+    → AreCounts request blocks counts
+are_counts_of request blocks jobs workers counts costs same all h =
+    let P : ToSchedule → ℕ → Type 0 = λ z n.
+    AreAnswered (length z.blocks) (IsCountOf z.latencies z.blocks) (λ cycles. cycles) n counts costs in
+    are_counts request blocks counts costs (subst (λ n. P (record { blocks = blocks; latencies = request.latencies }) n) all
+    (subst (λ z. P z workers) same h))

@@ -13,6 +13,7 @@ use Rattle.iloc_farm.specs.Schedules.{AreGreedy, IsScheduleOf}
 use Rattle.iloc_farm.specs.Steps.Answered.{AreAnswered}
 use Rattle.iloc_farm.specs.Steps.Entries.{AreEntries, IsEntry, IsEntryOf}
 use Rattle.iloc_farm.specs.Steps.Pieces.{spelled}
+use Rattle.iloc_farm.specs.Steps.ToSchedule.{ToSchedule}
 use Rattle.iloc_farm.specs.declared.entry.Entry.{Entry}
 use Rattle.iloc_farm.proofs.Retold.{are_farmed}
 use Rattle.iloc_farm.proofs.Schedules.{greedy_all_exist, one_schedule}
@@ -72,3 +73,14 @@ are_entries request blocks made costs h =
       texts = listed.0;
       total = listed.1;
     }
+
+-- the same of jobs that a worker has, one of those that all have
+pub are_entries_of : (request : Request) (blocks : List Block) (jobs : ToSchedule) (workers : ℕ) (made : List Entry)
+    (costs : List ℕ) → jobs ≡ record { blocks = blocks; latencies = request.latencies } → workers ≡ request.workers
+    → AreAnswered (length jobs.blocks) (IsEntryOf jobs.latencies jobs.blocks) (λ (e : Entry). e.cycles) workers made costs
+    → AreEntries request blocks made
+are_entries_of request blocks jobs workers made costs same all h =
+    let P : ToSchedule → ℕ → Type 0 = λ z n.
+    AreAnswered (length z.blocks) (IsEntryOf z.latencies z.blocks) (λ (e : Entry). e.cycles) n made costs in
+    are_entries request blocks made costs (subst (λ n. P (record { blocks = blocks; latencies = request.latencies }) n) all
+    (subst (λ z. P z workers) same h))

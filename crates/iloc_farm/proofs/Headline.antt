@@ -19,6 +19,7 @@ use Rattle.iloc_farm.specs.Headline.{Headline, handed_for}
 use Rattle.iloc_farm.specs.Listing.{cycles_of}
 use Rattle.iloc_farm.specs.Schedules.{IsScheduleOf}
 use Rattle.iloc_farm.specs.Steps.Answered.{AreAnswered}
+use Rattle.iloc_farm.specs.declared.block_jobs.BlockJobs.{BlockJobs}
 use Rattle.iloc_farm.proofs.Idle.{nothing_out}
 
 -- what is told of the block k fits it, if no table does or a fitting one was handed back
@@ -115,3 +116,13 @@ module _ (lat : Latencies) (blocks : List Block) where
               same = λ memory. lawful_same_outcome lat b.ops s.ops s.rows memory greedy.lawful;
             };
       }
+
+-- what is answered by jobs that a worker has is answered by those that they are copies of
+pub answered_by : (mine jobs : BlockJobs) (own workers : ℕ) (schedules : List Table) (costs : List ℕ) → mine ≡ jobs
+    → own ≡ workers
+    → AreAnswered (length mine.blocks.now) (IsScheduleOf mine.latencies mine.blocks.now) (cycles_of mine.latencies) own schedules costs
+    → AreAnswered (length jobs.blocks.now) (IsScheduleOf jobs.latencies jobs.blocks.now) (cycles_of jobs.latencies) workers schedules costs
+answered_by mine jobs own workers schedules costs same all h =
+    let P : BlockJobs → ℕ → Type 0 = λ z n. AreAnswered (length z.blocks.now) (IsScheduleOf z.latencies z.blocks.now)
+    (cycles_of z.latencies) n schedules costs in
+    subst (λ n. P jobs n) all (subst (λ z. P z own) same h)

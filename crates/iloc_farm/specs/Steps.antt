@@ -13,3 +13,4 @@ pub mod OfInput
 pub mod Limits
 pub mod Explaining
 pub mod Checking
+pub mod ToSchedule

@@ -1,5 +1,5 @@
 //! All jobs answered by several threads.
-ghost use Rattle.std.specs.Prelude.{◌≡◌, ◌≤◌, ◌<◌, [], ◌∷◌, ◌++◌, IfOk, OnOk, map};
+ghost use Rattle.std.specs.Prelude.{◌≡◌, ◌≤◌, ◌<◌, [], ◌∷◌, ◌++◌, length, IfOk, OnOk, map};
 ghost use Rattle.std.specs.List.{All, range_with_len};
 ghost use Rattle.iloc_board.specs.declared.state.State.TheVariants as about;
 ghost use Rattle.iloc_board.specs.Views.{state};
@@ -15,35 +15,41 @@ use std::alloc::Global;
 use std::sync::Wait;
 use std::thread::Threads;
 
-/// Answers all jobs by `workers` threads: each answer with its cost, in the order of the jobs.
-pub fn answer_all<J: Jobs + Sync, G: Gate + Sync, R: Threads + Wait + Sync>(
+/// Answers all jobs by several threads: each answer with its cost, in the order of the jobs. There is a thread for each of
+/// `own`, by which it makes its answers. All are the same jobs, but each may keep something for its thread alone.
+pub fn answer_all<'j, J: Jobs + Sync, G: Gate + Sync, R: Threads + Wait + Sync>(
     rt: &R,
     alloc: Global,
-    jobs: &J,
-    workers: u32,
+    jobs: &'j J,
+    own: &'j [J],
     gate: &G,
 ) -> Result<Collected<J::Answer>, FarmFault>
 where
     J::Answer: Send,
-    requires { 0 < workers }
+    requires some { 0 < length own.now }
+    requires few { length own.now ≤ 8 }
+    requires same { All (λ mine. mine ≡ jobs.now) own.now }
     ensures { let jobs = jobs.now in IfOk result (λ c.
-        AreAnswered (J.number jobs) (J.fits jobs) (J.price jobs) workers c.answers.items c.costs.items) }
+        AreAnswered (J.number jobs) (J.fits jobs) (J.price jobs) (length own.now) c.answers.items c.costs.items) }
 {
-    let (board, mut root) = Board::new(alloc, jobs, workers)?;
-    let shifts = shifts(alloc, &board, &mut root, gate)?;
+    let (board, mut root) = Board::new(alloc, jobs, own.len() as u32)?;
+    let shifts = shifts(alloc, &board, &mut root, own, gate)?;
     let worked = crew(rt, alloc, shifts)?;
     gather_all(&board, &mut root, worked)?;
     Ok(finish(board, root)?)
 }
 
-/// A shift for each pass that the root may make.
+/// A shift for each pass that the root may make, with the jobs that are its own.
 fn shifts<'s, 'a, J: Jobs, G: Gate>(
     alloc: Global,
     board: &'s Board<'a, J>,
     root: &mut Root<'a, J>,
+    own: &'a [J],
     gate: &'s G,
 ) -> Result<Vec<Shift<'s, 'a, J, G>>, NoMemory>
     requires own { root.old.board ≡ board.now }
+    requires each { length own.now ≡ root.old.workers }
+    requires same { All (λ mine. mine ≡ board.now.jobs) own.now }
     requires none_made { root.old.made ≡ 0 }
     requires none_gathered { root.old.gathered ≡ [] }
     ensures own { root.new.board ≡ board.now }
@@ -56,7 +62,9 @@ fn shifts<'s, 'a, J: Jobs, G: Gate>(
 {
     let mut made = Vec::new(alloc);
     while root.made() < root.workers() {
+        let jobs = &own[root.made() as usize];
         let pass = board.pass(root);
+        let pass = pass.with_jobs(jobs);
         made.push(Shift { board, pass, gate })?;
     }
     Ok(made)

@@ -1,33 +1,74 @@
 //! The cycles of the schedules of a file's blocks as the jobs of a board.
-ghost use Rattle.std.specs.Prelude.{◌≤◌, length};
+ghost use Rattle.std.specs.Prelude.{◌≡◌, ◌≤◌, length, IfOk};
 ghost use Rattle.std.specs.List.{All};
 ghost use Rattle.iloc_text.specs.declared.limits.TheConstants.{MAX_BLOCKS, MAX_OPS};
 
-use crate::desks::Desks;
+use crate::desk::Desk;
+use crate::desks::cycles_at;
 use iloc_board::{Jobs, NoMemory};
 use iloc_text::Block;
 use iloc_timed::Latencies;
 use std::alloc::Global;
+use std::marker::Model;
+use std::sync::Mutex;
 
 /// Blocks to be scheduled for a machine with these latencies, of which only the cycles are wanted.
-#[derive(Clone, Copy)]
-pub struct CycleJobs<'f, 'r> {
-    /// At most 65,535 blocks, each of at most 10,000 operations.
-    pub blocks: &'f [Block],
-    pub latencies: Latencies,
-    pub desks: &'f Desks<'r>,
-    ghost few: { length blocks.now ≤ MAX_BLOCKS },
-    ghost short: { All (λ b. length b.ops ≤ MAX_OPS) blocks.now },
+#[derive(Drop)]
+pub struct CycleJobs<'f, 'd, 'r> {
+    blocks: &'f [Block],
+    latencies: Latencies,
+    /// Where the worker schedules who makes answers by these.
+    desk: &'d Mutex<Desk<'r>>,
 }
 
-impl<'f, 'r> Jobs for CycleJobs<'f, 'r> {
+impl<'f, 'd, 'r> Model for CycleJobs<'f, 'd, 'r> {
+    ghost use Rattle.std.specs.Prelude.{◌≤◌, length};
+    ghost use Rattle.std.specs.List.{All};
+    ghost use Rattle.iloc_text.specs.declared.limits.TheConstants.{MAX_BLOCKS, MAX_OPS};
+    ghost use Rattle.iloc_farm.specs.Steps.ToSchedule.{ToSchedule};
+
+    ghost Value = { ToSchedule };
+
+    ghost view = { λ jobs. record { blocks = jobs.blocks.now; latencies = jobs.latencies } };
+
+    ghost invariant = { λ jobs. (length jobs.blocks.now ≤ MAX_BLOCKS)
+        × All (λ b. length b.ops ≤ MAX_OPS) jobs.blocks.now };
+}
+
+impl<'f, 'd, 'r> CycleJobs<'f, 'd, 'r> {
+    /// These blocks as the jobs of each of the workers with these desks.
+    pub(crate) fn at_each(
+        alloc: Global,
+        blocks: &'f [Block],
+        latencies: &Latencies,
+        desks: &'d [Mutex<Desk<'r>>],
+    ) -> Result<Vec<CycleJobs<'f, 'd, 'r>>, NoMemory>
+        requires few { length blocks.now ≤ MAX_BLOCKS }
+        requires short { All (λ b. length b.ops ≤ MAX_OPS) blocks.now }
+        ensures many { IfOk result (λ own. length own.items ≡ length desks.now) }
+        ensures same { IfOk result (λ own.
+            All (λ mine. mine ≡ record { blocks = blocks.now; latencies = latencies.now }) own.items) }
+    {
+        let mut own = Vec::with_capacity(alloc, desks.len())?;
+        for desk in desks {
+            own.push(CycleJobs {
+                blocks,
+                latencies: *latencies,
+                desk,
+            })?;
+        }
+        Ok(own)
+    }
+}
+
+impl<'f, 'd, 'r> Jobs for CycleJobs<'f, 'd, 'r> {
     ghost use Rattle.iloc_farm.specs.Steps.Counts.{IsCountOf};
 
     type Answer = u32;
 
-    ghost number = { λ jobs. length jobs.blocks.now };
+    ghost number = { λ jobs. length jobs.blocks };
 
-    ghost fits = { λ jobs i cycles. IsCountOf jobs.latencies jobs.blocks.now i cycles };
+    ghost fits = { λ jobs i cycles. IsCountOf jobs.latencies jobs.blocks i cycles };
 
     ghost price = { λ _ cycles. cycles };
 
@@ -40,8 +81,6 @@ impl<'f, 'r> Jobs for CycleJobs<'f, 'r> {
     }
 
     fn answer(&self, alloc: Global, i: u32) -> Result<u32, NoMemory> {
-        self.desks
-            .cycles(alloc, &self.blocks[i as usize], &self.latencies)
-            .map_err(|_| NoMemory)
+        cycles_at(self.desk, alloc, &self.blocks[i as usize], &self.latencies).map_err(|_| NoMemory)
     }
 }

@@ -1,34 +1,75 @@
 //! The entries of a file's blocks in a listing of schedules as the jobs of a board.
-ghost use Rattle.std.specs.Prelude.{◌≤◌, length};
+ghost use Rattle.std.specs.Prelude.{◌≡◌, ◌≤◌, length, IfOk};
 ghost use Rattle.std.specs.List.{All};
 ghost use Rattle.iloc_text.specs.declared.limits.TheConstants.{MAX_BLOCKS, MAX_OPS};
 
-use crate::desks::Desks;
+use crate::desk::Desk;
+use crate::desks::entry_at;
 use crate::entry::Entry;
 use iloc_board::{Jobs, NoMemory};
 use iloc_text::Block;
 use iloc_timed::Latencies;
 use std::alloc::Global;
+use std::marker::Model;
+use std::sync::Mutex;
 
 /// Blocks to be scheduled for a machine with these latencies, and listed.
-#[derive(Clone, Copy)]
-pub struct EntryJobs<'f, 'r> {
-    /// At most 65,535 blocks, each of at most 10,000 operations.
-    pub blocks: &'f [Block],
-    pub latencies: Latencies,
-    pub desks: &'f Desks<'r>,
-    ghost few: { length blocks.now ≤ MAX_BLOCKS },
-    ghost short: { All (λ b. length b.ops ≤ MAX_OPS) blocks.now },
+#[derive(Drop)]
+pub struct EntryJobs<'f, 'd, 'r> {
+    blocks: &'f [Block],
+    latencies: Latencies,
+    /// Where the worker schedules who makes answers by these.
+    desk: &'d Mutex<Desk<'r>>,
 }
 
-impl<'f, 'r> Jobs for EntryJobs<'f, 'r> {
+impl<'f, 'd, 'r> Model for EntryJobs<'f, 'd, 'r> {
+    ghost use Rattle.std.specs.Prelude.{◌≤◌, length};
+    ghost use Rattle.std.specs.List.{All};
+    ghost use Rattle.iloc_text.specs.declared.limits.TheConstants.{MAX_BLOCKS, MAX_OPS};
+    ghost use Rattle.iloc_farm.specs.Steps.ToSchedule.{ToSchedule};
+
+    ghost Value = { ToSchedule };
+
+    ghost view = { λ jobs. record { blocks = jobs.blocks.now; latencies = jobs.latencies } };
+
+    ghost invariant = { λ jobs. (length jobs.blocks.now ≤ MAX_BLOCKS)
+        × All (λ b. length b.ops ≤ MAX_OPS) jobs.blocks.now };
+}
+
+impl<'f, 'd, 'r> EntryJobs<'f, 'd, 'r> {
+    /// These blocks as the jobs of each of the workers with these desks.
+    pub(crate) fn at_each(
+        alloc: Global,
+        blocks: &'f [Block],
+        latencies: &Latencies,
+        desks: &'d [Mutex<Desk<'r>>],
+    ) -> Result<Vec<EntryJobs<'f, 'd, 'r>>, NoMemory>
+        requires few { length blocks.now ≤ MAX_BLOCKS }
+        requires short { All (λ b. length b.ops ≤ MAX_OPS) blocks.now }
+        ensures many { IfOk result (λ own. length own.items ≡ length desks.now) }
+        ensures same { IfOk result (λ own.
+            All (λ mine. mine ≡ record { blocks = blocks.now; latencies = latencies.now }) own.items) }
+    {
+        let mut own = Vec::with_capacity(alloc, desks.len())?;
+        for desk in desks {
+            own.push(EntryJobs {
+                blocks,
+                latencies: *latencies,
+                desk,
+            })?;
+        }
+        Ok(own)
+    }
+}
+
+impl<'f, 'd, 'r> Jobs for EntryJobs<'f, 'd, 'r> {
     ghost use Rattle.iloc_farm.specs.Steps.Entries.{IsEntryOf};
 
     type Answer = Entry<'r>;
 
-    ghost number = { λ jobs. length jobs.blocks.now };
+    ghost number = { λ jobs. length jobs.blocks };
 
-    ghost fits = { λ jobs i entry. IsEntryOf jobs.latencies jobs.blocks.now i entry };
+    ghost fits = { λ jobs i entry. IsEntryOf jobs.latencies jobs.blocks i entry };
 
     ghost price = { λ _ entry. entry.cycles };
 
@@ -43,8 +84,6 @@ impl<'f, 'r> Jobs for EntryJobs<'f, 'r> {
     fn answer(&self, alloc: Global, i: u32) -> Result<Entry<'r>, NoMemory> {
         let number = i as usize + 1;
         let block = &self.blocks[i as usize];
-        self.desks
-            .entry(alloc, number, block, &self.latencies)
-            .map_err(|_| NoMemory)
+        entry_at(self.desk, alloc, number, block, &self.latencies).map_err(|_| NoMemory)
     }
 }

@@ -44,6 +44,7 @@ pub fn schedule_all<R: Threads + Wait + Sync, G: Gate + Sync>(
         blocks: file.blocks.as_slice(),
         latencies: *latencies,
     };
-    let collected = answer_all(rt, alloc, &jobs, workers, gate)?;
+    let own = vec![in alloc; jobs; workers as usize]?;
+    let collected = answer_all(rt, alloc, &own[0], &own, gate)?;
     Ok(collected.answers)
 }

@@ -9,7 +9,7 @@ ghost use Rattle.iloc_farm.specs.Steps.Entries.{AreEntries};
 use crate::answering::answer_all;
 use crate::counts::cycles_text;
 use crate::cycle_jobs::CycleJobs;
-use crate::desks::Desks;
+use crate::desks::desks_in;
 use crate::entry::{Entry, entries_text};
 use crate::entry_jobs::EntryJobs;
 use crate::fault::FarmFault;
@@ -34,13 +34,10 @@ fn entries_of<'r, R: Threads + Wait + Sync>(
     requires { IsWithinLimits file.blocks }
     ensures { IfOk result (λ entries. AreEntries request.now file.blocks entries.items) }
 {
-    let desks = Desks::new(alloc, request.workers, room)?;
-    let jobs = EntryJobs {
-        blocks: file.blocks.as_slice(),
-        latencies: request.latencies,
-        desks: &desks,
-    };
-    let collected = answer_all(rt, alloc, &jobs, request.workers, &FreeGate)?;
+    let desks = desks_in(alloc, room, request.workers)?;
+    let blocks = file.blocks.as_slice();
+    let jobs = EntryJobs::at_each(alloc, blocks, &request.latencies, &desks)?;
+    let collected = answer_all(rt, alloc, &jobs[0], &jobs, &FreeGate)?;
     Ok(collected.answers)
 }
 
@@ -54,13 +51,9 @@ fn counts_of<R: Threads + Wait + Sync>(
     requires { IsWithinLimits blocks.now }
     ensures { IfOk result (λ counts. AreCounts request.now blocks.now counts.items) }
 {
-    let desks = Desks::new(alloc, request.workers, &mut [])?;
-    let jobs = CycleJobs {
-        blocks,
-        latencies: request.latencies,
-        desks: &desks,
-    };
-    let counted = answer_all(rt, alloc, &jobs, request.workers, &FreeGate)?;
+    let desks = desks_in(alloc, &mut [], request.workers)?;
+    let jobs = CycleJobs::at_each(alloc, blocks, &request.latencies, &desks)?;
+    let counted = answer_all(rt, alloc, &jobs[0], &jobs, &FreeGate)?;
     Ok(counted.answers)
 }
 

@@ -9,6 +9,7 @@ pub loop-made-preserved : goal.loop-made-preserved
 loop-made-preserved g c =
     let made = ap (λ r. r.made) c.pass-pass.ensures.root in
     let workers = ap (λ r. r.workers) c.pass-pass.ensures.root in
+    let made_is = c.with_jobs-pass.ensures ∙ c.pass-pass.ensures.pass in
     let within : c.pass-pass.new.root.made ≤ c.pass-pass.new.root.workers = omega arith in
     let ready = λ (s : Shift g.row.J.Denot g.row.G.Denot g.row.J-Answer.Denot). (s.pass.board ≡ s.board.now)
     × (s.board.now ≡ c.args.board.now) × (state s.pass ≡ about.Free) in
@@ -18,10 +19,10 @@ loop-made-preserved g c =
       within = within;
       gathered = ap (λ r. r.gathered) c.pass-pass.ensures.root ∙ c.loop-made.invariant.gathered;
       ready = routines.all_more ready _ _ _ c.in_ok-push.ensures.items c.loop-made.invariant.ready (
-        ap (λ p. p.board) c.pass-pass.ensures.pass ∙ c.loop-made.invariant.own,
+        ap (λ p. p.board) made_is ∙ c.loop-made.invariant.own,
         refl,
-        ap state c.pass-pass.ensures.pass,
+        ap state made_is,
       );
       numbered = routines.numbered_more (λ s. s.pass.journal.worker) _ _ _ _ _ c.in_ok-push.ensures.items
-          c.loop-made.invariant.numbered (ap (λ p. p.journal.worker) c.pass-pass.ensures.pass) made;
+          c.loop-made.invariant.numbered (ap (λ p. p.journal.worker) made_is) made;
     }
