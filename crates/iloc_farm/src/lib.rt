@@ -23,6 +23,7 @@ mod initial;
 mod joined;
 pub mod laws;
 mod listing;
+mod numbered;
 mod outcomes;
 mod piece;
 mod pieces;

@@ -8,6 +8,7 @@ ghost use Rattle.iloc_timed.specs.Spelling.{row_line};
 ghost use Rattle.iloc_farm.specs.Listing as listed;
 ghost use Rattle.iloc_farm.specs.Steps.Detailed.{entry_with, listing_with};
 
+use crate::numbered::push_numbered;
 use iloc_meaning::Outcome;
 use iloc_text::{IlocFile, Name, NoMemory, Op, push_number};
 use iloc_timed::{Latencies, Row, Schedule, cycles, push_row};
@@ -27,9 +28,7 @@ pub(crate) fn push_block_head(
         Some(name) => name.as_str(),
         None => "-",
     };
-    text.extend_from_slice(b"block ")?;
-    push_number(text, number as i64)?;
-    text.extend_from_slice(b" ")?;
+    push_numbered(text, b"block ", number as u64, b" ")?;
     text.extend_from_slice(name.as_bytes())?;
     Ok(())
 }
@@ -120,10 +119,7 @@ pub(crate) fn push_schedule(
     push_block_head(text, number, name)?;
     text.push(b'\n')?;
     push_rows(text, schedule.ops(), schedule.rows())?;
-    text.extend_from_slice(b"cycles ")?;
-    push_number(text, cycles as i64)?;
-    text.push(b'\n')?;
-    Ok(())
+    push_numbered(text, b"cycles ", cycles, b"\n")
 }
 
 /// Appends the line of the block with this number, counted from 1, whose schedule takes so many cycles.
@@ -139,10 +135,7 @@ pub(crate) fn push_count(
         (text.new.items ≡ text.old.items ++ listed.count_line number (option_copied name.entry) cycles) }
 {
     push_block_head(text, number, name)?;
-    text.extend_from_slice(b" cycles ")?;
-    push_number(text, cycles as i64)?;
-    text.push(b'\n')?;
-    Ok(())
+    push_numbered(text, b" cycles ", cycles, b"\n")
 }
 
 /// Appends what is listed of the block with this number, counted from 1, in so much detail.
@@ -171,10 +164,7 @@ pub(crate) fn push_total(text: &mut Vec<u8>, total: u64) -> Result<(), NoMemory>
     requires { total < 2 ^ 63 }
     ensures { OnOk result (text.new.items ≡ text.old.items ++ listed.total_of total) }
 {
-    text.extend_from_slice(b"total ")?;
-    push_number(text, total as i64)?;
-    text.push(b'\n')?;
-    Ok(())
+    push_numbered(text, b"total ", total, b"\n")
 }
 
 /// The listing of a file's blocks with their schedules, in so much detail, and the cycles of all.
