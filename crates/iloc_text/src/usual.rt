@@ -177,6 +177,15 @@ fn is_spaced_arrow(bytes: &[u8], at: usize) -> bool
     u32::from_le_bytes(four) == u32::from_le_bytes([b' ', b'=', b'>', b' '])
 }
 
+/// The two bytes of an arrow stand at the place.
+#[inline(always)]
+fn is_bare_arrow(bytes: &[u8], at: usize) -> bool
+    requires { at + 2 ≤ length bytes.now }
+    ensures { result ≡ true → (get_or bytes.now at 0 ≡ 61) × (get_or bytes.now (at + 1) 0 ≡ 62) }
+{
+    bytes[at] == b'=' && bytes[at + 1] == b'>'
+}
+
 /// An arrow at a place and a register.
 #[inline(always)]
 fn register_behind_arrow(bytes: &[u8], at: usize) -> Option<(u32, usize)>
@@ -187,6 +196,9 @@ fn register_behind_arrow(bytes: &[u8], at: usize) -> Option<(u32, usize)>
 {
     if is_spaced_arrow(bytes, at) && bytes[at + 4] == b'r' {
         return register_from(bytes, at + 4);
+    }
+    if is_bare_arrow(bytes, at) && bytes[at + 2] == b'r' {
+        return register_from(bytes, at + 2);
     }
     match place_behind_arrow(bytes, at) {
         0 => None,
