@@ -1,9 +1,10 @@
--- Up to four digits at the front, which are read at once.
-use Rattle.std.proofs.Common.{◌≡◌, ◌∙◌, ◌≤◌, ◌<◌, ◌+◌, ◌*◌, ℕ, Bool, true, false, ◌&&◌, if◌then◌else◌, List, ◌∷◌, length, drop, get_or, refl, sym, ap, Some, nat_lt, arith}
+-- Up to four digits at the front, which are read at once, and the digits in a front of the bytes.
+use Rattle.std.proofs.Common.{◌≡◌, ◌∙◌, ◌≤◌, ◌<◌, ◌+◌, ◌-◌, ◌*◌, ℕ, zero, suc, Bool, true, false, cond, ◌&&◌, if◌then◌else◌, List, [], ◌∷◌, length, take, drop, length-drop, get_or, refl, sym, ap, ◌⊎◌, inl, inr, Some, None, nat_lt, arith}
 use Rattle.std.specs.Char.{is_ascii_digit}
 use Rattle.std.specs.Int.{from_bool}
 use Rattle.std.proofs.lemmas.Bool.Decides.{nat_tests}
-use Rattle.iloc_text.specs.Steps.Scan.{digits_after, number_at}
+use Rattle.std.proofs.lemmas.List.{length-take, take_all}
+use Rattle.iloc_text.specs.Steps.Scan.{capped, digits_after, number_at}
 
 -- d is the digit that c writes, where it writes one
 pub record DigitIn (c d : ℕ) : Type 0 where
@@ -93,3 +94,58 @@ four_end (a ∷ b ∷ c ∷ d ∷ e ∷ more) v q r s t long db dc dd de h =
     ∙ ended b c d e more v q r s t db dc dd de x y z (nat_lt t 10) refl refl refl refl h
     ∙ ap (λ rest. (v, rest)) (sym (behind a (b ∷ c ∷ d ∷ e ∷ more) x y z))
 four_end _ v q r s t long db dc dd de h = absurd (omega (arith, long))
+
+-- Digits in a front of the bytes
+
+left_shorter : (v : ℕ) (bytes : List ℕ) → length (digits_after v bytes).1 ≤ length bytes
+left_shorter v [] = omega arith
+left_shorter v (c ∷ cs) = by (is_ascii_digit c) (left_shorter (capped (v * 10 + (c - 48))) cs)
+  where
+    by : (b : Bool) → length (digits_after (capped (v * 10 + (c - 48))) cs).1 ≤ length cs
+        → length (cond b (digits_after (capped (v * 10 + (c - 48))) cs) (v, c ∷ cs)).1 ≤ length (c ∷ cs)
+    by true h = omega (arith, h)
+    by false h = omega arith
+
+-- the digits that end within a front of the bytes end there in the bytes too
+ended_in_front : (n k v w : ℕ) (bytes : List ℕ) → k < n → digits_after v (take n bytes) ≡ (w, drop k (take n bytes))
+    → digits_after v bytes ≡ (w, drop k bytes)
+ended_in_front zero k v w bytes h e = absurd (omega (arith, h))
+ended_in_front (suc n) k v w [] h e = e
+ended_in_front (suc n) zero v w (c ∷ cs) h e =
+    by (is_ascii_digit c) (left_shorter (capped (v * 10 + (c - 48))) (take n cs)) e
+  where
+    by : (b : Bool) → length (digits_after (capped (v * 10 + (c - 48))) (take n cs)).1 ≤ length (take n cs)
+        → cond b (digits_after (capped (v * 10 + (c - 48))) (take n cs)) (v, c ∷ take n cs) ≡ (w, c ∷ take n cs)
+        → cond b (digits_after (capped (v * 10 + (c - 48))) cs) (v, c ∷ cs) ≡ (w, c ∷ cs)
+    by true short same = absurd (omega (arith, short, ap (λ found. length found.1) same))
+    by false short same = ap (λ found. (found.0, c ∷ cs)) same
+ended_in_front (suc n) (suc k) v w (c ∷ cs) h e =
+    by (is_ascii_digit c) (ended_in_front n k (capped (v * 10 + (c - 48))) w cs (omega (arith, h))) e
+  where
+    by : (b : Bool) → (digits_after (capped (v * 10 + (c - 48))) (take n cs) ≡ (w, drop k (take n cs))
+        → digits_after (capped (v * 10 + (c - 48))) cs ≡ (w, drop k cs))
+        → cond b (digits_after (capped (v * 10 + (c - 48))) (take n cs)) (v, c ∷ take n cs) ≡ (w, drop k (take n cs))
+        → cond b (digits_after (capped (v * 10 + (c - 48))) cs) (v, c ∷ cs) ≡ (w, drop k cs)
+    by true more same = more same
+    by false more same = absurd (omega (arith, length-drop k (take n cs), ap (λ found. length found.1) same))
+
+counted : (k w : ℕ) (bytes : List ℕ) → 0 < k → k ≤ length bytes → digits_after 0 bytes ≡ (w, drop k bytes)
+    → number_at bytes ≡ Some (w, drop k bytes)
+counted k w [] some inside e = absurd (omega (arith, some, inside))
+counted k w (c ∷ cs) some inside e = by (is_ascii_digit c) e
+  where
+    by : (b : Bool) → cond b (digits_after (capped (0 * 10 + (c - 48))) cs) (0, c ∷ cs) ≡ (w, drop k (c ∷ cs))
+        → cond b (Some (cond b (digits_after (capped (0 * 10 + (c - 48))) cs) (0, c ∷ cs))) None
+        ≡ Some (w, drop k (c ∷ cs))
+    by true same = ap (λ found. Some found) same
+    by false same = absurd (omega (arith, some, inside, length-drop k (c ∷ cs), ap (λ found. length found.1) same))
+
+-- where the front has one byte more than these digits, if that many are there, they are the number
+pub number_in_front : (n k w : ℕ) (bytes : List ℕ) → 0 < k → k ≤ length (take n bytes) → k < n ⊎ length bytes ≤ n
+    → digits_after 0 (take n bytes) ≡ (w, drop k (take n bytes)) → number_at bytes ≡ Some (w, drop k bytes)
+number_in_front n k w bytes some inside (inl within) e =
+    counted k w bytes some (omega (arith, inside, length-take n bytes)) (ended_in_front n k 0 w bytes within e)
+number_in_front n k w bytes some inside (inr all) e =
+    let whole = take_all n bytes all in
+    counted k w bytes some (omega (arith, inside, ap length whole))
+    (sym (ap (digits_after 0) whole) ∙ e ∙ ap (λ text. (w, drop k text)) whole)

@@ -77,7 +77,7 @@ pub fn number_at(bytes: &[u8]) -> Option<(u32, &[u8])>
 }
 
 /// A number within the limit and how many digits it has; no digits where none stands, or one with more than
-/// `MOST_DIGITS`.
+/// `MOST_DIGITS`, of which no more than one further digit is looked at.
 #[cold]
 #[inline(never)]
 fn long_number_at(bytes: &[u8]) -> (u32, usize)
@@ -86,7 +86,8 @@ fn long_number_at(bytes: &[u8]) -> (u32, usize)
     ensures near { result.1 ≤ MOST_DIGITS }
     ensures inside { result.1 ≤ length bytes.now }
 {
-    let (value, count) = with_digits(0, bytes);
+    let front = &bytes[..bytes.len().min(MOST_DIGITS + 1)];
+    let (value, count) = with_digits(0, front);
     if value < ABOVE_LIMIT && count <= MOST_DIGITS {
         (value, count)
     } else {
