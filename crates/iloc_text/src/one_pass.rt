@@ -75,13 +75,19 @@ fn any_operation(bytes: &[u8]) -> Option<(Op, Option<&[u8]>)>
     }
 }
 
-/// What the line at the front says where it has no label and no blanks before what it says, and what stands behind
-/// its line end, if it has one.
-fn any_body(bytes: &[u8]) -> Option<(Option<Op>, Option<&[u8]>)>
+/// What the line at the front says behind a label, if it has one, and blanks. Behind no label the usual spelling isn't
+/// looked for: where it stands there `usual_body` finds it.
+#[inline(always)]
+fn body_behind<'a>(label: Option<&[u8]>, bytes: &'a [u8]) -> Option<(Option<Op>, Option<&'a [u8]>)>
     ensures { IfSome result (λ found. FirstBody bytes.now found.0 found.1) }
 {
     if let Some(after) = behind_line_end(bytes) {
         return Some((None, after));
+    }
+    if label.is_some()
+        && let Some((op, after)) = usual_operation(bytes)
+    {
+        return Some((Some(op), Some(after)));
     }
     let (op, after) = any_operation(bytes)?;
     Some((Some(op), after))
@@ -93,6 +99,6 @@ pub fn usual_line(text: &[u8]) -> Option<(Line<'_>, Option<&[u8]>)>
     ensures { IfSome result (λ found. FirstLine text.now (Ok found)) }
 {
     let (label, behind) = optional_label_at(after_blanks(text));
-    let (op, after) = any_body(after_blanks(behind))?;
+    let (op, after) = body_behind(label, after_blanks(behind))?;
     Some((Line { label, op }, after))
 }
