@@ -55,14 +55,27 @@ fn place_behind_comma(bytes: &[u8], at: usize) -> usize
     }
 }
 
-/// The place behind an arrow at a place and any blanks around it; 0 where none stands there, or too many blanks.
+/// The two bytes of an arrow stand at the place.
+#[inline(always)]
+fn is_bare_arrow(bytes: &[u8], at: usize) -> bool
+    requires { at + 2 ≤ length bytes.now }
+    ensures { result ≡ true → (get_or bytes.now at 0 ≡ 61) × (get_or bytes.now (at + 1) 0 ≡ 62) }
+{
+    bytes[at] == b'=' && bytes[at + 1] == b'>'
+}
+
+/// The place behind an arrow at a place and any blanks around it; 0 where none stands there, or too many blanks. An
+/// arrow without blanks is looked for first.
 #[cold]
 #[inline(never)]
 fn place_behind_arrow(bytes: &[u8], at: usize) -> usize
-    requires { at ≤ length bytes.now }
+    requires { at + 3 ≤ length bytes.now }
     ensures is { 0 < result → arrow_at (drop at bytes.now) ≡ Some (drop result bytes.now) }
     ensures near { result ≤ at + MOST_PASSED }
 {
+    if is_bare_arrow(bytes, at) && bytes[at + 2] == b'r' {
+        return at + 2;
+    }
     match arrow_at(&bytes[at..]) {
         Some(rest) => place_of(bytes, rest, at + MOST_PASSED),
         None => 0,
@@ -177,15 +190,6 @@ fn is_spaced_arrow(bytes: &[u8], at: usize) -> bool
     u32::from_le_bytes(four) == u32::from_le_bytes([b' ', b'=', b'>', b' '])
 }
 
-/// The two bytes of an arrow stand at the place.
-#[inline(always)]
-fn is_bare_arrow(bytes: &[u8], at: usize) -> bool
-    requires { at + 2 ≤ length bytes.now }
-    ensures { result ≡ true → (get_or bytes.now at 0 ≡ 61) × (get_or bytes.now (at + 1) 0 ≡ 62) }
-{
-    bytes[at] == b'=' && bytes[at + 1] == b'>'
-}
-
 /// An arrow at a place and a register.
 #[inline(always)]
 fn register_behind_arrow(bytes: &[u8], at: usize) -> Option<(u32, usize)>
@@ -196,9 +200,6 @@ fn register_behind_arrow(bytes: &[u8], at: usize) -> Option<(u32, usize)>
 {
     if is_spaced_arrow(bytes, at) && bytes[at + 4] == b'r' {
         return register_from(bytes, at + 4);
-    }
-    if is_bare_arrow(bytes, at) && bytes[at + 2] == b'r' {
-        return register_from(bytes, at + 2);
     }
     match place_behind_arrow(bytes, at) {
         0 => None,
