@@ -1,17 +1,25 @@
 //! Numbers by register.
-ghost use Rattle.std.specs.Prelude.{ℕ, ◌≡◌, ◌≤◌, length, None, OnOk};
+ghost use Rattle.std.specs.Prelude.{ℕ, ◌≡◌, ◌≤◌, ◌<◌, length, None, OnOk};
+ghost use Rattle.std.specs.Ordering.{nat_cmp};
+ghost use Rattle.std.specs.BTreeMap.{get};
 
 use iloc_text::{NoMemory, Reg};
 use std::alloc::Global;
 use std::collections::BTreeMap;
 
+// How many registers more than twice as many a table that grows is made for, so that it grows once in a short block.
+const MORE: usize = 16;
+
 /// A number for each of some registers.
 #[derive(Debug, Drop)]
 pub struct ByRegister {
-    // Of the registers below its length.
+    // Of the registers below its length. It grows as registers below the limit get numbers.
     table: Vec<Option<u32>>,
-    // Of all others.
+    limit: usize,
+    // Of registers that aren't below the limit.
     others: BTreeMap<u32, u32>,
+    ghost within: { length table.items ≤ limit },
+    ghost apart: { (r : ℕ) → r < limit → get nat_cmp others r ≡ None },
 }
 
 impl ByRegister {
@@ -23,18 +31,18 @@ impl ByRegister {
     {
         ByRegister {
             table: Vec::new(alloc),
+            limit: 0,
             others: BTreeMap::new(alloc),
         }
     }
 
     /// No register has a number any more. From now on those below the limit are looked up fastest.
-    pub fn clear(&mut self, limit: usize) -> Result<(), NoMemory>
-        ensures { OnOk result ((r : ℕ) → number_at self.new r ≡ None) }
+    pub fn clear(&mut self, limit: usize)
+        ensures { (r : ℕ) → number_at self.new r ≡ None }
     {
         self.others.clear();
         self.table.clear();
-        self.table.resize(limit, None)?;
-        Ok(())
+        self.limit = limit;
     }
 
     /// The number of a register, if it has one.
@@ -56,13 +64,30 @@ impl ByRegister {
             self.table[place] = Some(number);
             return Ok(());
         }
+        if place < self.limit {
+            return self.set_behind(register, number);
+        }
         self.set_other(register, number)
+    }
+
+    /// The same for a register below the limit that the table doesn't reach yet.
+    #[cold]
+    fn set_behind(&mut self, register: Reg, number: u32) -> Result<(), NoMemory>
+        requires behind { length self.old.table.items ≤ register.0 }
+        requires within { register.0 < self.old.limit }
+        ensures { OnOk result (Sets self.old self.new register.0 number) }
+    {
+        let place = register.0 as usize;
+        let enough = self.table.len() + place + MORE;
+        self.table.resize(enough.min(self.limit), None)?;
+        self.table[place] = Some(number);
+        Ok(())
     }
 
     /// The same for a register that isn't below the limit.
     #[cold]
     fn set_other(&mut self, register: Reg, number: u32) -> Result<(), NoMemory>
-        requires { length self.old.table.items ≤ register.0 }
+        requires { self.old.limit ≤ register.0 }
         ensures { OnOk result (Sets self.old self.new register.0 number) }
     {
         self.others.insert(register.0, number)?;

@@ -312,7 +312,7 @@ impl Edges {
         ensures starts { OnOk result (length self.new.starts.items ≡ length self.new.heads.items + 1) }
     {
         self.clear(operations.ops.len())?;
-        lasts.clear(registers)?;
+        lasts.clear(registers);
         for j in 0..operations.ops.len() {
             self.add_all(operations, latencies, lasts, j)?;
             lasts.note(operations, j)?;

@@ -39,14 +39,14 @@ impl Lasts {
     }
 
     /// Before the first operation of a list. From now on registers below the limit are looked up fastest.
-    pub fn clear(&mut self, registers: usize) -> Result<(), NoMemory>
-        ensures lasts { OnOk result ((ops : List Op) → IsLasts ops self.new 0) }
+    pub fn clear(&mut self, registers: usize)
+        ensures lasts { (ops : List Op) → IsLasts ops self.new 0 }
         ensures loads { length self.new.loads.items ≡ 0 }
     {
         self.store = None;
         self.output = None;
         self.loads.clear();
-        self.definers.clear(registers)
+        self.definers.clear(registers);
     }
 
     /// Notes what operation j defines.

@@ -56,7 +56,7 @@ impl Plan {
         self.kinds.clear();
         self.kinds.reserve(count)?;
         self.edges.empty(count)?;
-        lasts.clear(3 * count)?;
+        lasts.clear(3 * count);
         Ok(())
     }
 
@@ -100,7 +100,7 @@ impl Plan {
         ensures latencies { OnOk result (self.new.latencies ≡ self.old.latencies) }
     {
         self.clear(lasts, block.ops.len())?;
-        names.clear(block.ops.len())?;
+        names.clear(block.ops.len());
         for op in block.ops.as_slice() {
             if !is_nop(op) {
                 self.push(lasts, names.rename(op)?)?;

@@ -38,13 +38,13 @@ impl Names {
     }
 
     /// No register has a name, as a block of so many operations begins.
-    pub(crate) fn clear(&mut self, ops: usize) -> Result<(), NoMemory>
+    pub(crate) fn clear(&mut self, ops: usize)
         requires { ops ≤ MAX_OPS }
-        ensures none { OnOk result ((r : Reg) → current_of self.new r ≡ None) }
+        ensures none { (r : Reg) → current_of self.new r ≡ None }
         ensures count { self.new.given ≡ 0 }
     {
         self.given = 0;
-        self.current.clear(3 * ops + LOW)
+        self.current.clear(3 * ops + LOW);
     }
 
     /// Gives a register the next name.
@@ -179,7 +179,7 @@ impl Names {
         ensures outcome { OnOk result ((memory : List ℤ) →
             outcome ops.new.items memory ≡ outcome block.now.ops memory) }
     {
-        self.clear(block.ops.len())?;
+        self.clear(block.ops.len());
         ops.clear();
         ops.reserve(block.ops.len())?;
         for op in block.ops.as_slice() {

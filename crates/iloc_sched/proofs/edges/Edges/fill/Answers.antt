@@ -7,9 +7,9 @@ use Rattle.iloc_sched.proofs.edges.Edges.fill.Goals as goal
 pub loop-j-init : goal.loop-j-init
 loop-j-init c = record {
   partial = c.in_ok-clear.ensures.partial c.args.latencies.now c.args.operations.now.ops.now refl;
-  lasts = c.in_ok-clear-2.ensures.lasts c.args.operations.now.ops.now;
+  lasts = c.clear-2.ensures.lasts c.args.operations.now.ops.now;
   starts = c.in_ok-clear.ensures.starts;
-  count = omega (arith, c.in_ok-clear.ensures.edges, c.in_ok-clear-2.ensures.loads);
+  count = omega (arith, c.in_ok-clear.ensures.edges, c.clear-2.ensures.loads);
 }
 
 pub returns-clause-graph : goal.returns-clause-graph

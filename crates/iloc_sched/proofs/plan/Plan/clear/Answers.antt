@@ -15,7 +15,7 @@ returns-clause-filling c =
       partial = subst (λ n. IsPartialGraph c.args.self.now.latencies c.reserve.new.self.items (graph_of c.empty.new.self) n)
           (sym none) (c.in_ok-empty.ensures.partial c.args.self.now.latencies c.reserve.new.self.items none);
       known = subst (λ n. IsLasts c.reserve.new.self.items c.clear-3.new.self n) (sym none)
-          (c.in_ok-clear.ensures.lasts c.reserve.new.self.items);
+          (c.clear-3.ensures.lasts c.reserve.new.self.items);
       starts = omega (arith, c.in_ok-empty.ensures.starts);
-      count = omega (arith, c.in_ok-empty.ensures.edges, c.in_ok-clear.ensures.loads);
+      count = omega (arith, c.in_ok-empty.ensures.edges, c.clear-3.ensures.loads);
     }
