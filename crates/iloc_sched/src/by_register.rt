@@ -1,7 +1,8 @@
 //! Numbers by register.
-ghost use Rattle.std.specs.Prelude.{ℕ, ◌≡◌, ◌≤◌, ◌<◌, length, None, OnOk};
+ghost use Rattle.std.specs.Prelude.{ℕ, ◌≡◌, ◌≤◌, ◌<◌, length, slice_get, Some, None, OnOk};
 ghost use Rattle.std.specs.Ordering.{nat_cmp};
 ghost use Rattle.std.specs.BTreeMap.{get};
+ghost use Rattle.iloc_sched.specs.declared.by_register.Given.{Given};
 
 use iloc_text::{NoMemory, Reg};
 use std::alloc::Global;
@@ -10,15 +11,26 @@ use std::collections::BTreeMap;
 // How many registers more than twice as many a table that grows is made for, so that it grows once in a short block.
 const MORE: usize = 16;
 
+/// A number that a register was given.
+#[derive(Clone, Copy, Debug)]
+struct Given {
+    number: u32,
+    /// The round in which it was given. It doesn't count in a later one.
+    round: u32,
+}
+
 /// A number for each of some registers.
 #[derive(Debug, Drop)]
 pub struct ByRegister {
     // Of the registers below its length. It grows as registers below the limit get numbers.
-    table: Vec<Option<u32>>,
+    table: Vec<Given>,
     limit: usize,
-    // Of registers that aren't below the limit.
+    // Of all others.
     others: BTreeMap<u32, u32>,
-    ghost within: { length table.items ≤ limit },
+    // A round ends as the numbers are cleared: so no table is gone through.
+    round: u32,
+    ghost begun: { 0 < round },
+    ghost past: { (r : ℕ) (g : Given) → slice_get table.items r ≡ Some g → g.round ≤ round },
     ghost apart: { (r : ℕ) → r < limit → get nat_cmp others r ≡ None },
 }
 
@@ -33,6 +45,7 @@ impl ByRegister {
             table: Vec::new(alloc),
             limit: 0,
             others: BTreeMap::new(alloc),
+            round: 1,
         }
     }
 
@@ -41,8 +54,12 @@ impl ByRegister {
         ensures { (r : ℕ) → number_at self.new r ≡ None }
     {
         self.others.clear();
-        self.table.clear();
         self.limit = limit;
+        if self.round == u32::MAX {
+            self.table.clear();
+            self.round = 0;
+        }
+        self.round += 1;
     }
 
     /// The number of a register, if it has one.
@@ -50,7 +67,8 @@ impl ByRegister {
         ensures { result ≡ number_at self.now register.0 }
     {
         match self.table.get(register.0 as usize) {
-            Some(slot) => *slot,
+            Some(given) if given.round == self.round => Some(given.number),
+            Some(_) => None,
             None => self.others.get(&register.0).copied(),
         }
     }
@@ -61,7 +79,10 @@ impl ByRegister {
     {
         let place = register.0 as usize;
         if place < self.table.len() {
-            self.table[place] = Some(number);
+            self.table[place] = Given {
+                number,
+                round: self.round,
+            };
             return Ok(());
         }
         if place < self.limit {
@@ -79,15 +100,23 @@ impl ByRegister {
     {
         let place = register.0 as usize;
         let enough = self.table.len() + place + MORE;
-        self.table.resize(enough.min(self.limit), None)?;
-        self.table[place] = Some(number);
+        let none = Given {
+            number: 0,
+            round: 0,
+        };
+        self.table.resize(enough.min(self.limit), none)?;
+        self.table[place] = Given {
+            number,
+            round: self.round,
+        };
         Ok(())
     }
 
     /// The same for a register that isn't below the limit.
     #[cold]
     fn set_other(&mut self, register: Reg, number: u32) -> Result<(), NoMemory>
-        requires { self.old.limit ≤ register.0 }
+        requires behind { length self.old.table.items ≤ register.0 }
+        requires past { self.old.limit ≤ register.0 }
         ensures { OnOk result (Sets self.old self.new register.0 number) }
     {
         self.others.insert(register.0, number)?;
