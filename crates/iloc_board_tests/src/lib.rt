@@ -11,6 +11,8 @@ mod machine;
 #[cfg(test)]
 mod one_thread;
 #[cfg(test)]
+mod own_jobs;
+#[cfg(test)]
 mod refusals;
 #[cfg(test)]
 mod steps;
