@@ -29,6 +29,17 @@ pub(crate) fn desks_in(
     Ok(desks)
 }
 
+/// How many cycles the block's schedule takes, which is made at a new desk. Out of line, since a call pays for the room of
+/// a desk that it may make.
+#[cold]
+#[inline(never)]
+fn cycles_at_new(alloc: Global, block: &Block, latencies: &Latencies) -> Result<u32, NoMemory>
+    requires { length block.now.ops ≤ MAX_OPS }
+    ensures { IfOk result (IsCount latencies.now block.now) }
+{
+    Desk::new(alloc, Room::new(&mut [])).cycles(block, latencies)
+}
+
 /// How many cycles the block's schedule takes, which is made at this desk, or at a new one where it isn't free.
 pub(crate) fn cycles_at(
     desk: &Mutex<Desk<'_>>,
@@ -41,8 +52,25 @@ pub(crate) fn cycles_at(
 {
     match desk.try_lock() {
         Some(mut desk) => desk.cycles(block, latencies),
-        None => Desk::new(alloc, Room::new(&mut [])).cycles(block, latencies),
+        None => cycles_at_new(alloc, block, latencies),
     }
+}
+
+/// The entry of the block with this number, counted from 1, which is made at a new desk. Out of line, as
+/// `cycles_at_new`.
+#[cold]
+#[inline(never)]
+fn entry_at_new<'r>(
+    alloc: Global,
+    number: usize,
+    block: &Block,
+    latencies: &Latencies,
+) -> Result<Entry<'r>, NoMemory>
+    requires short { length block.now.ops ≤ MAX_OPS }
+    requires number { number < 2 ^ 63 }
+    ensures { IfOk result (IsEntry latencies.now number block.now) }
+{
+    Desk::new(alloc, Room::new(&mut [])).entry(alloc, number, block, latencies)
 }
 
 /// The entry of the block with this number, counted from 1, which is made at this desk, or at a new one where it isn't
@@ -60,6 +88,6 @@ pub(crate) fn entry_at<'r>(
 {
     match desk.try_lock() {
         Some(mut desk) => desk.entry(alloc, number, block, latencies),
-        None => Desk::new(alloc, Room::new(&mut [])).entry(alloc, number, block, latencies),
+        None => entry_at_new(alloc, number, block, latencies),
     }
 }
