@@ -63,11 +63,11 @@ impl Copies {
         ensures all { OnOk result (all_of self.new ≡ all_of self.old) }
         ensures none { OnOk result (self.new.waiting.items ≡ []) }
     {
-        let waiting = mem::replace(&mut self.waiting, Vec::new(alloc));
+        let mut waiting = mem::replace(&mut self.waiting, Vec::new(alloc));
         let ops = mem::replace(&mut self.ops, Vec::new(alloc));
         let all = Arc::new(alloc, ops)?;
         let mut start = 0;
-        for block in waiting {
+        for block in waiting.drain(..) {
             let end = start + block.count;
             self.done.push(Block {
                 name: block.name,
@@ -75,6 +75,7 @@ impl Copies {
             })?;
             start = end;
         }
+        self.waiting = waiting;
         Ok(())
     }
 
