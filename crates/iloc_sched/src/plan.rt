@@ -1,14 +1,15 @@
 //! What is fixed while a block is scheduled.
 ghost use Rattle.std.specs.Prelude.{◌≡◌, ◌+◌, ◌<◌, ◌≤◌, [], ◌∷◌, ◌++◌, length, map, OnOk};
 ghost use Rattle.iloc_timed.specs.Kinds.{kind};
+ghost use Rattle.iloc_timed.specs.Latency.{latency};
 ghost use Rattle.iloc_sched.specs.Renaming.{renamed, IsRenamed};
 
 use crate::candidate::Candidate;
 use crate::class::Class;
 use crate::edges::Edges;
-use crate::kinds::Operations;
+use crate::kinds::{Operations, latency_of};
 use crate::lasts::Lasts;
-use crate::priority::fill_priorities;
+use crate::priority::raise_priorities;
 use crate::renaming::{Names, is_nop};
 use iloc_text::{Block, MAX_OPS, NoMemory, Op};
 use iloc_timed::{Kind, Latencies};
@@ -21,6 +22,7 @@ pub struct Plan {
     pub kinds: Vec<Kind>,
     pub latencies: Latencies,
     pub edges: Edges,
+    /// Each operation's latency at first, to be raised to its priority once all edges are there.
     pub priorities: Vec<u32>,
 }
 
@@ -55,6 +57,8 @@ impl Plan {
         self.ops.reserve(count)?;
         self.kinds.clear();
         self.kinds.reserve(count)?;
+        self.priorities.clear();
+        self.priorities.reserve(count)?;
         self.edges.empty(count)?;
         lasts.clear(3 * count);
         Ok(())
@@ -74,6 +78,7 @@ impl Plan {
         let kind = Kind::of(&op);
         self.ops.push(op)?;
         self.kinds.push(kind)?;
+        self.priorities.push(latency_of(kind, &self.latencies))?;
         self.edges.grow()?;
         let operations = Operations {
             ops: &self.ops,
@@ -84,8 +89,8 @@ impl Plan {
         Ok(())
     }
 
-    /// Takes the operations of a block. Each is renamed and gets the edges into it in one go: which operation comes next
-    /// can't be foretold, so it is looked at once.
+    /// Takes the operations of a block, with their latencies in place of priorities. Each is renamed and gets the edges
+    /// into it in one go: which operation comes next can't be foretold, so it is looked at once.
     fn gather(
         &mut self,
         names: &mut Names,
@@ -94,6 +99,7 @@ impl Plan {
     ) -> Result<(), NoMemory>
         requires { length block.now.ops ≤ MAX_OPS }
         ensures kinds { OnOk result (self.new.kinds.items ≡ map kind self.new.ops.items) }
+        ensures own { OnOk result (self.new.priorities.items ≡ map (latency self.new.latencies) self.new.ops.items) }
         ensures graph { OnOk result (IsGraphOf self.new.latencies self.new.ops.items (graph_of self.new.edges)) }
         ensures starts { OnOk result (length self.new.edges.starts.items ≡ length self.new.edges.heads.items + 1) }
         ensures ops { OnOk result (self.new.ops.items ≡ renamed block.now.ops) }
@@ -124,11 +130,8 @@ impl Plan {
     {
         self.latencies = *latencies;
         self.gather(names, lasts, block)?;
-        let operations = Operations {
-            ops: &self.ops,
-            kinds: &self.kinds,
-        };
-        fill_priorities(&mut self.priorities, &self.edges, &operations, latencies)
+        raise_priorities(&mut self.priorities, &self.edges);
+        Ok(())
     }
 
     /// The class of an operation.

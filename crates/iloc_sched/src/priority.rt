@@ -1,10 +1,12 @@
 //! The priorities of operations.
-ghost use Rattle.std.specs.Prelude.{◌≡◌, ◌≤◌, length, map, IfOk, OnOk};
+ghost use Rattle.std.specs.Prelude.{◌≡◌, ◌≤◌, List, length, map, IfOk, OnOk};
+ghost use Rattle.iloc_text.specs.declared.op.Op.{Op};
+ghost use Rattle.iloc_timed.specs.declared.latencies.Latencies.{Latencies};
 ghost use Rattle.iloc_timed.specs.Kinds.{kind};
-ghost use Rattle.iloc_timed.specs.Latency.{latency_of};
+ghost use Rattle.iloc_timed.specs.Latency.{latency, latency_of};
 ghost use Rattle.iloc_sched.specs.Priority.{priorities};
 ghost use Rattle.iloc_sched.specs.Renaming.{IsRenamed};
-ghost use Rattle.iloc_sched.specs.Steps.Graph.{IsGraphOf};
+ghost use Rattle.iloc_sched.specs.Steps.Graph.{IsGraphOf, AreLatencies};
 ghost use Rattle.iloc_sched.specs.Steps.Views.{graph_of};
 
 use crate::edges::Edges;
@@ -26,10 +28,24 @@ fn fill_latencies(own: &mut Vec<u32>, kinds: &[Kind], latencies: &Latencies) -> 
     Ok(())
 }
 
-/// Fills a list with the priorities by the kept edges: an operation's is final once the edges out of it are gone
-/// through, which all lie after those into it.
+/// Raises the latencies of operations to their priorities by the kept edges: an operation's is final once the edges out
+/// of it are gone through, which all lie after those into it.
 #[inline(always)]
-pub(crate) fn fill_priorities(
+pub(crate) fn raise_priorities(prios: &mut Vec<u32>, edges: &Edges)
+    requires { AreLatencies (graph_of edges.now) prios.old.items }
+    ensures { (lat : Latencies) (ops : List Op) → IsGraphOf lat ops (graph_of edges.now)
+        → prios.old.items ≡ map (latency lat) ops → prios.new.items ≡ priorities lat ops }
+{
+    for x in (0..edges.edge_count()).rev() {
+        let edge = edges.get(x);
+        let through = edge.delay + prios[edge.to as usize];
+        let source = edge.from as usize;
+        prios[source] = prios[source].max(through);
+    }
+}
+
+/// Fills a list with the priorities by the kept edges.
+fn fill_priorities(
     prios: &mut Vec<u32>,
     edges: &Edges,
     operations: &Operations,
@@ -40,12 +56,7 @@ pub(crate) fn fill_priorities(
     ensures { OnOk result (prios.new.items ≡ priorities latencies.now operations.now.ops.now) }
 {
     fill_latencies(prios, operations.kinds, latencies)?;
-    for x in (0..edges.edge_count()).rev() {
-        let edge = edges.get(x);
-        let through = edge.delay + prios[edge.to as usize];
-        let source = edge.from as usize;
-        prios[source] = prios[source].max(through);
-    }
+    raise_priorities(prios, edges);
     Ok(())
 }
 

@@ -136,6 +136,12 @@ module _ (ops : List Op) (op : Op) where
       kinds_is ∙ ap (λ ks. ks ++ kind op ∷ []) kinds_were ∙ sym (map-append kind ops (op ∷ []))
       ∙ ap (map kind) (sym ops_is)
 
+  pub latencies_more : (lat : Latencies) (own own' : List ℕ) (ops' : List Op) → ops' ≡ ops ++ op ∷ []
+      → own' ≡ own ++ latency lat op ∷ [] → own ≡ map (latency lat) ops → own' ≡ map (latency lat) ops'
+  latencies_more lat own own' ops' ops_is own_is own_was =
+      own_is ∙ ap (λ ns. ns ++ latency lat op ∷ []) own_was ∙ sym (map-append (latency lat) ops (op ∷ []))
+      ∙ ap (map (latency lat)) (sym ops_is)
+
   -- it is the next
   pub is_next : (kinds kinds' : List Kind) (lasts : Lasts) (j : ℕ) (ops' : List Op) → ops' ≡ ops ++ op ∷ []
       → kinds' ≡ kinds ++ kind op ∷ [] → kinds ≡ map kind ops → j ≡ length ops → IsRenamed (ops ++ op ∷ [])

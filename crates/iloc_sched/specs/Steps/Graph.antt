@@ -1,5 +1,5 @@
 -- The kept edges between operations.
-use Rattle.std.specs.Prelude.{ℕ, ◌+◌, ◌≡◌, ◌<◌, ◌≤◌, List, length, slice_index, Option, Some, None}
+use Rattle.std.specs.Prelude.{ℕ, ◌+◌, ◌≡◌, ◌<◌, ◌≤◌, List, length, map, slice_index, Option, Some, None}
 use Rattle.iloc_text.specs.declared.op.Op.{Op}
 use Rattle.iloc_meaning.specs.Trace.{op_at}
 use Rattle.iloc_timed.specs.declared.latencies.Latencies.{Latencies}
@@ -42,6 +42,13 @@ pub record IsGraphOf (lat : Latencies) (ops : List Op) (graph : Graph) : Type 0 
   pub size : graph.ops ≡ length ops
   pub sound : (x : ℕ) → x < graph.count → IsDelayPair lat ops (graph.from x) (graph.to x) (graph.delay x)
   pub all : (i j d : ℕ) → IsDelayPair lat ops i j d → IsNear lat ops i j d → (x : ℕ) × (x < graph.count) × (graph.to x ≡ j) × (graph.from x ≡ i) × (d ≤ graph.delay x)
+
+-- the numbers are the latencies of operations between which these edges are kept
+pub record AreLatencies (graph : Graph) (own : List ℕ) : Type 0 where
+  pub lat : Latencies
+  pub ops : List Op
+  pub kept : IsGraphOf lat ops graph
+  pub each : own ≡ map (latency lat) ops
 
 -- the priorities while the edges are gone through from the last: those from x on are done
 pub record IsRaised (lat : Latencies) (ops : List Op) (graph : Graph) (prios : List ℕ) (x : ℕ) : Type 0 where

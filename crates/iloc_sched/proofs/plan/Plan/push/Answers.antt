@@ -2,10 +2,11 @@ use Rattle.std.proofs.Common.{◌≡◌, ◌+◌, ◌∷◌, ◌++◌, [], List,
 use Rattle.std.specs.Global.{Vec}
 use Rattle.iloc_sched.specs.declared.edges.Edge.{Edge}
 use Rattle.iloc_text.specs.declared.op.Op.{Op}
+use Rattle.iloc_timed.specs.Latency.{latency_of}
 use Rattle.iloc_sched.specs.Steps.Lasts.{IsLasts}
 use Rattle.iloc_sched.specs.Steps.PartialGraph.{IsPartialGraph}
 use Rattle.iloc_sched.specs.Steps.Views.{graph_of}
-use Rattle.iloc_sched.proofs.Graph.OneMoreInPlan.{is_next, partial_grown, kinds_more, size_more}
+use Rattle.iloc_sched.proofs.Graph.OneMoreInPlan.{is_next, partial_grown, kinds_more, latencies_more, size_more}
 use Rattle.iloc_sched.proofs.plan.Plan.push.Goals as goal
 
 pub add_all-requires-clause-next : goal.add_all-requires-clause-next
@@ -40,6 +41,11 @@ returns-clause-filling c =
           c.in_ok-push.ensures.items
           (c.in_ok-push-2.ensures.items ∙ ap (λ k. c.args.self.now.kinds.items ++ k ∷ []) c.of-kind.ensures)
           c.requires.filling.kinds;
+      own = latencies_more c.args.self.now.ops.items c.args.op lat c.args.self.now.priorities.items c.push-3.new.self.items ops
+          c.in_ok-push.ensures.items
+          (c.in_ok-push-3.ensures.items ∙ ap (λ n. c.args.self.now.priorities.items ++ n ∷ [])
+          (c.latency_of.ensures ∙ ap (latency_of lat) c.of-kind.ensures))
+          c.requires.filling.own;
       partial = subst (λ n. IsPartialGraph lat ops (graph_of c.add_all.new.self) n) size
           (subst (λ xs. IsPartialGraph lat xs (graph_of c.add_all.new.self) (c.len-j.result + 1)) read
           c.in_ok-add_all.ensures.partial);
