@@ -9,10 +9,11 @@ ghost use Rattle.iloc_text.specs.declared.op.Op.{Op};
 ghost use Rattle.iloc_text.specs.Registers.{used};
 ghost use Rattle.iloc_timed.specs.declared.latencies.Latencies.{Latencies};
 ghost use Rattle.iloc_timed.specs.Kinds.{kind};
+ghost use Rattle.iloc_timed.specs.Latency.{latency};
 ghost use Rattle.iloc_meaning.specs.Trace.{op_at};
 ghost use Rattle.iloc_sched.specs.Renaming.{IsRenamed};
 
-use crate::kinds::{Operations, latency_of};
+use crate::kinds::Operations;
 use crate::lasts::Lasts;
 use iloc_text::{MAX_OPS, NoMemory, Reg, uses};
 use iloc_timed::{Kind, Latencies};
@@ -197,6 +198,7 @@ impl Edges {
         j: usize,
     ) -> Result<(), NoMemory>
         requires next { IsNext operations.now.ops.now operations.now.kinds.now lasts.now j }
+        requires own { operations.now.latencies.now ≡ map (latency latencies.now) operations.now.ops.now }
         requires used { Contains (used (op_at operations.now.ops.now j)) register }
         requires room { length self.old.edges.items < 5 * length self.old.heads.items }
         requires partial { IsPartialGraph latencies.now operations.now.ops.now (graph_of self.old) j }
@@ -206,11 +208,7 @@ impl Edges {
         ensures frame { KeepsFrame self.old self.new }
     {
         match lasts.definers.get(register) {
-            Some(i) => self.add(
-                i,
-                j as u32,
-                latency_of(operations.kinds[i as usize], latencies),
-            ),
+            Some(i) => self.add(i, j as u32, operations.latencies[i as usize]),
             None => Ok(()),
         }
     }
@@ -225,6 +223,7 @@ impl Edges {
         j: usize,
     ) -> Result<(), NoMemory>
         requires next { IsNext operations.now.ops.now operations.now.kinds.now lasts.now j }
+        requires own { operations.now.latencies.now ≡ map (latency latencies.now) operations.now.ops.now }
         requires room { length self.old.edges.items + 2 ≤ 5 * length self.old.heads.items }
         requires partial { IsPartialGraph latencies.now operations.now.ops.now (graph_of self.old) j }
         ensures grows { OnOk result (Grows latencies.now operations.now.ops.now (graph_of self.old) (graph_of self.new) j) }
@@ -283,6 +282,7 @@ impl Edges {
         j: usize,
     ) -> Result<(), NoMemory>
         requires next { IsNext operations.now.ops.now operations.now.kinds.now lasts.now j }
+        requires own { operations.now.latencies.now ≡ map (latency latencies.now) operations.now.ops.now }
         requires room { length self.old.edges.items + 4 + length lasts.now.loads.items ≤ 5 * length self.old.heads.items }
         requires starts { length self.old.starts.items ≡ j + 1 }
         requires partial { IsPartialGraph latencies.now operations.now.ops.now (graph_of self.old) j }
@@ -308,6 +308,7 @@ impl Edges {
         requires few { length operations.now.ops.now ≤ MAX_OPS }
         requires renamed { IsRenamed operations.now.ops.now }
         requires kinds { operations.now.kinds.now ≡ map kind operations.now.ops.now }
+        requires own { operations.now.latencies.now ≡ map (latency latencies.now) operations.now.ops.now }
         ensures graph { OnOk result (IsGraphOf latencies.now operations.now.ops.now (graph_of self.new)) }
         ensures starts { OnOk result (length self.new.starts.items ≡ length self.new.heads.items + 1) }
     {

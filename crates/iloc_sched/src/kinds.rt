@@ -6,11 +6,12 @@ ghost use Rattle.iloc_timed.specs.Latency.{latency_of};
 use iloc_text::{NoMemory, Op};
 use iloc_timed::{Kind, Latencies};
 
-/// Operations with the kind of each.
+/// Operations with the kind and the latency of each.
 #[derive(Clone, Copy)]
 pub(crate) struct Operations<'a> {
     pub ops: &'a [Op],
     pub kinds: &'a [Kind],
+    pub latencies: &'a [u32],
 }
 
 /// Fills a list with the kind of each operation.

@@ -83,6 +83,7 @@ impl Plan {
         let operations = Operations {
             ops: &self.ops,
             kinds: &self.kinds,
+            latencies: &self.priorities,
         };
         self.edges.add_all(&operations, &self.latencies, lasts, j)?;
         lasts.note(&operations, j)?;

@@ -2,7 +2,6 @@
 ghost use Rattle.std.specs.Prelude.{◌≡◌, ◌≤◌, List, length, map, IfOk, OnOk};
 ghost use Rattle.iloc_text.specs.declared.op.Op.{Op};
 ghost use Rattle.iloc_timed.specs.declared.latencies.Latencies.{Latencies};
-ghost use Rattle.iloc_timed.specs.Kinds.{kind};
 ghost use Rattle.iloc_timed.specs.Latency.{latency, latency_of};
 ghost use Rattle.iloc_sched.specs.Priority.{priorities};
 ghost use Rattle.iloc_sched.specs.Renaming.{IsRenamed};
@@ -44,19 +43,33 @@ pub(crate) fn raise_priorities(prios: &mut Vec<u32>, edges: &Edges)
     }
 }
 
-/// Fills a list with the priorities by the kept edges.
+/// Fills a list with the priorities of renamed operations.
 fn fill_priorities(
     prios: &mut Vec<u32>,
-    edges: &Edges,
-    operations: &Operations,
+    alloc: Global,
+    ops: &[Op],
     latencies: &Latencies,
 ) -> Result<(), NoMemory>
-    requires graph { IsGraphOf latencies.now operations.now.ops.now (graph_of edges.now) }
-    requires kinds { operations.now.kinds.now ≡ map kind operations.now.ops.now }
-    ensures { OnOk result (prios.new.items ≡ priorities latencies.now operations.now.ops.now) }
+    requires renamed { IsRenamed ops.now }
+    requires few { length ops.now ≤ MAX_OPS }
+    ensures { OnOk result (prios.new.items ≡ priorities latencies.now ops.now) }
 {
-    fill_latencies(prios, operations.kinds, latencies)?;
-    raise_priorities(prios, edges);
+    let mut kinds = Vec::new(alloc);
+    fill_kinds(&mut kinds, ops)?;
+    fill_latencies(prios, &kinds, latencies)?;
+    let operations = Operations {
+        ops,
+        kinds: &kinds,
+        latencies: prios,
+    };
+    let mut edges = Edges::new(alloc);
+    edges.fill(
+        &mut Lasts::new(alloc),
+        &operations,
+        3 * ops.len(),
+        latencies,
+    )?;
+    raise_priorities(prios, &edges);
     Ok(())
 }
 
@@ -70,17 +83,7 @@ pub fn priorities(alloc: Global, ops: &[Op], latencies: &Latencies) -> Result<Ve
     requires few { length ops.now ≤ MAX_OPS }
     ensures { IfOk result (λ prios. prios.items ≡ priorities latencies.now ops.now) }
 {
-    let mut kinds = Vec::new(alloc);
-    fill_kinds(&mut kinds, ops)?;
-    let operations = Operations { ops, kinds: &kinds };
-    let mut edges = Edges::new(alloc);
-    edges.fill(
-        &mut Lasts::new(alloc),
-        &operations,
-        3 * ops.len(),
-        latencies,
-    )?;
     let mut prios = Vec::new(alloc);
-    fill_priorities(&mut prios, &edges, &operations, latencies)?;
+    fill_priorities(&mut prios, alloc, ops, latencies)?;
     Ok(prios.iter().map(|prio| u64::from(*prio)).collect(alloc)?)
 }

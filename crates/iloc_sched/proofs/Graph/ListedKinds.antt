@@ -22,3 +22,8 @@ kind_read ops kinds j q d is there read = sym (kind_listed ops kinds j d is ther
 pub latencies_by_kinds : (lat : Latencies) (ops : List Op) → map (latency_of lat) (map kind ops) ≡ map (latency lat) ops
 latencies_by_kinds lat [] = refl
 latencies_by_kinds lat (op ∷ ops) = ap (λ rest. latency lat op ∷ rest) (latencies_by_kinds lat ops)
+
+-- place i of the list of latencies has that of operation i
+pub latency_listed : (lat : Latencies) (ops : List Op) (own : List ℕ) (i d : ℕ) → own ≡ map (latency lat) ops
+    → i < length ops → get_or own i d ≡ latency lat (op_at ops i)
+latency_listed lat ops own i d is there = ap (λ xs. get_or xs i d) is ∙ get_or-map (latency lat) ops i Nop d there

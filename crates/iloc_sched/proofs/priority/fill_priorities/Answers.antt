@@ -1,22 +1,35 @@
-use Rattle.std.proofs.Common.{◌≡◌, map, ◌∙◌, ap}
+use Rattle.std.proofs.Common.{ℕ, ◌≡◌, List, map, ◌∙◌, ap}
+use Rattle.iloc_text.specs.declared.op.Op.{Op}
+use Rattle.iloc_timed.specs.declared.kind.Kind.{Kind}
+use Rattle.iloc_timed.specs.declared.latencies.Latencies.{Latencies}
+use Rattle.iloc_timed.specs.Kinds.{kind}
 use Rattle.iloc_timed.specs.Latency.{latency, latency_of}
 use Rattle.iloc_sched.proofs.Graph.ListedKinds.{latencies_by_kinds}
 use Rattle.iloc_sched.proofs.priority.fill_priorities.Goals as goal
 
-listed : (c : goal.After-raise_priorities)
-    → c.fill_latencies.new.own.items ≡ map (latency c.args.latencies.now) c.args.operations.now.ops.now
-listed c =
-    c.in_ok-fill_latencies.ensures ∙ ap (map (latency_of c.args.latencies.now)) c.requires.kinds
-    ∙ latencies_by_kinds c.args.latencies.now c.args.operations.now.ops.now
+-- latencies by a list of kinds
+listed : (lat : Latencies) (ops : List Op) (kinds : List Kind) (own : List ℕ) → kinds ≡ map kind ops
+    → own ≡ map (latency_of lat) kinds → own ≡ map (latency lat) ops
+listed lat ops kinds own kinds_are own_is =
+    own_is ∙ ap (map (latency_of lat)) kinds_are ∙ latencies_by_kinds lat ops
+
+pub fill-requires-clause-own : goal.fill-requires-clause-own
+fill-requires-clause-own c =
+    c.deref-3.ensures.value
+    ∙ listed c.args.latencies.now c.args.ops.now c.deref.result.now c.fill_latencies.new.own.items
+    (c.deref.ensures.value ∙ c.in_ok-fill_kinds.ensures) c.in_ok-fill_latencies.ensures
 
 pub raise_priorities-requires : goal.raise_priorities-requires
 raise_priorities-requires c = record {
   lat = c.args.latencies.now;
-  ops = c.args.operations.now.ops.now;
-  kept = c.requires.graph;
-  each = c.in_ok-fill_latencies.ensures ∙ ap (map (latency_of c.args.latencies.now)) c.requires.kinds
-      ∙ latencies_by_kinds c.args.latencies.now c.args.operations.now.ops.now;
+  ops = c.args.ops.now;
+  kept = c.in_ok-fill.ensures.graph;
+  each = listed c.args.latencies.now c.args.ops.now c.deref.result.now c.fill_latencies.new.own.items
+      (c.deref.ensures.value ∙ c.in_ok-fill_kinds.ensures) c.in_ok-fill_latencies.ensures;
 }
 
 pub returns : goal.returns
-returns c = c.raise_priorities.ensures c.args.latencies.now c.args.operations.now.ops.now c.requires.graph (listed c)
+returns c =
+    c.raise_priorities.ensures c.args.latencies.now c.args.ops.now c.in_ok-fill.ensures.graph
+    (listed c.args.latencies.now c.args.ops.now c.deref.result.now c.fill_latencies.new.own.items
+    (c.deref.ensures.value ∙ c.in_ok-fill_kinds.ensures) c.in_ok-fill_latencies.ensures)

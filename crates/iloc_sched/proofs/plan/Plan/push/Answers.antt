@@ -25,6 +25,15 @@ add_all-requires-clause-partial c =
     (c.len-j.ensures ∙ c.args.self.now.ops.ok.0) c.grow.ensures.edges c.grow.ensures.starts c.in_ok-grow.ensures.heads
     c.requires.filling.partial
 
+pub add_all-requires-clause-own : goal.add_all-requires-clause-own
+add_all-requires-clause-own c =
+    let lat = c.args.self.now.latencies in
+    latencies_more c.args.self.now.ops.items c.args.op lat c.args.self.now.priorities.items c.deref-3.result.now
+    c.deref.result.now (c.deref.ensures.value ∙ c.in_ok-push.ensures.items)
+    (c.deref-3.ensures.value ∙ c.in_ok-push-3.ensures.items ∙ ap (λ n. c.args.self.now.priorities.items ++ n ∷ [])
+    (c.latency_of.ensures ∙ ap (latency_of lat) c.of-kind.ensures))
+    c.requires.filling.own
+
 pub returns-clause-filling : goal.returns-clause-filling
 returns-clause-filling c =
     let lat = c.args.self.now.latencies in
