@@ -26,6 +26,7 @@ pub mod ScheduleLines
 pub mod Every
 pub mod Within
 pub mod Digits
+pub mod ShortDecimals
 pub mod Falling
 pub mod Apart
 pub mod TextReads

@@ -1,5 +1,5 @@
 //! The table of forms: the opcode and the operands of each operation, and the operation of an opcode and numbers.
-ghost use Rattle.std.specs.Prelude.{◌≡◌, ◌≤◌, ◌++◌, length, get_or, IfSome};
+ghost use Rattle.std.specs.Prelude.{◌≡◌, ◌≤◌, ◌++◌, ◌-◌, drop, length, get_or, IfSome};
 ghost use Rattle.iloc_text.specs.Forms.{opcode, operands, opcode_text, op_of};
 ghost use Rattle.iloc_text.specs.Steps.Operands.{operands_in};
 ghost use Rattle.iloc_text.specs.Steps.Opcodes.{opcode_of, operands_of};
@@ -94,6 +94,32 @@ impl Opcode {
             Opcode::RshiftI => b"rshiftI",
             Opcode::LoadAI => b"loadAI",
             Opcode::StoreAI => b"storeAI",
+        }
+    }
+
+    /// The opcode as it is written, at the end of eight bytes.
+    #[inline(always)]
+    pub fn padded(self) -> &'static [u8; 8]
+        ensures text { drop (8 - length (opcode_text self)) result.now ≡ opcode_text self }
+    {
+        match self {
+            Opcode::LoadI => b"   loadI",
+            Opcode::Load => b"    load",
+            Opcode::Store => b"   store",
+            Opcode::Add => b"     add",
+            Opcode::Sub => b"     sub",
+            Opcode::Mult => b"    mult",
+            Opcode::Lshift => b"  lshift",
+            Opcode::Rshift => b"  rshift",
+            Opcode::Output => b"  output",
+            Opcode::Nop => b"     nop",
+            Opcode::AddI => b"    addI",
+            Opcode::SubI => b"    subI",
+            Opcode::MultI => b"   multI",
+            Opcode::LshiftI => b" lshiftI",
+            Opcode::RshiftI => b" rshiftI",
+            Opcode::LoadAI => b"  loadAI",
+            Opcode::StoreAI => b" storeAI",
         }
     }
 }

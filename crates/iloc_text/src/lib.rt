@@ -3,6 +3,7 @@
 
 mod column;
 mod copies;
+mod decimal;
 mod fault;
 mod file;
 mod forms;

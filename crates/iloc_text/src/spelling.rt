@@ -1,17 +1,18 @@
 //! How operations and numbers are written.
 ghost use Rattle.std.specs.Prelude.{◌≡◌, ◌++◌, OnOk, OnErr, [], ◌∷◌, drop, vec_len, vec_capacity, length, codes, ◌+◌, ◌<◌, ◌≤◌};
 ghost use Rattle.std.specs.Fmt.{decimal, signed_decimal};
-ghost use Rattle.iloc_text.specs.Forms.{◌▹◌};
+ghost use Rattle.iloc_text.specs.Forms.{◌▹◌, opcode_text};
 ghost use Rattle.iloc_text.specs.Forms.Lead.{space, comma, arrow};
 ghost use Rattle.iloc_text.specs.Forms.Value.{Use, Definition, Constant};
 ghost use Rattle.iloc_text.specs.Spelling.{spelled_operands, spelling};
 ghost use Rattle.iloc_text.specs.Steps.Operands.{operands_in};
 ghost use Rattle.iloc_text.specs.declared.spelling.TheConstants.{OP_ROOM};
 
+use crate::decimal::write_number;
 use crate::fault::NoMemory;
-use crate::forms::{Operands, form_of};
+use crate::forms::{Opcode, Operands, form_of};
 use crate::op::{Op, Reg};
-use itoa::{Buffer, write_digits};
+use itoa::Buffer;
 
 /// More bytes than an operation is spelled with.
 pub const OP_ROOM: usize = 64;
@@ -56,7 +57,20 @@ pub fn write_op(line: &mut [u8], end: usize, op: &Op) -> usize
 {
     let (opcode, operands) = form_of(op);
     let start = write_operands(line, end, operands);
-    write_text(line, start, opcode.text())
+    write_opcode(line, start, opcode)
+}
+
+/// Writes the opcode so that it ends at `end`, and gives where it starts. All eight bytes before `end` are written, since a
+/// copy of so many is one step, whatever the opcode.
+#[inline(always)]
+fn write_opcode(line: &mut [u8], end: usize, opcode: Opcode) -> usize
+    requires { (8 ≤ end) × (end ≤ length line.old) }
+    ensures room { (result ≤ end) × (end ≤ result + 7) }
+    ensures length { length line.new ≡ length line.old }
+    ensures written { drop result line.new ≡ opcode_text opcode ++ drop end line.old }
+{
+    let start = write_text(line, end, opcode.padded());
+    start + 8 - opcode.text().len()
 }
 
 /// Writes the operands so that they end at `end`, the last of them first, and gives where they start.
@@ -124,14 +138,13 @@ fn write_immediate(line: &mut [u8], end: usize, left: Reg, value: u32, dest: Reg
 
 /// Writes `lead` and the number so that they end at `end`, and gives where they start.
 #[inline(always)]
-#[tactic(auto, using(crate::proofs::Spelled::decimal_is_short))]
 fn write_operand(line: &mut [u8], end: usize, lead: &[u8], number: u32) -> usize
     requires { (length lead.now + 10 ≤ end) × (end ≤ length line.old) }
     ensures room { (result ≤ end) × (end ≤ result + (length lead.now + 10)) }
     ensures length { length line.new ≡ length line.old }
     ensures written { drop result line.new ≡ lead.now ++ (decimal number ++ drop end line.old) }
 {
-    let start = write_digits(u64::from(number), line, end);
+    let start = write_number(line, end, number);
     write_text(line, start, lead)
 }
 
