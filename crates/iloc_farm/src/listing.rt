@@ -11,7 +11,7 @@ ghost use Rattle.iloc_farm.specs.Steps.Detailed.{entry_with, listing_with};
 use crate::numbered::push_numbered;
 use iloc_meaning::Outcome;
 use iloc_text::{IlocFile, Name, NoMemory, Op, push_number};
-use iloc_timed::{Latencies, Row, Schedule, cycles, push_row};
+use iloc_timed::{Latencies, Row, Schedule, cycles, push_row_line};
 use std::alloc::Global;
 
 /// Appends `block K NAME`, with `-` for a block without a name.
@@ -87,8 +87,7 @@ fn push_rows(text: &mut Vec<u8>, ops: &[Op], rows: &[Row]) -> Result<(), NoMemor
         (text.new.items ≡ text.old.items ++ flat_map (row_line ops.now) rows.now) }
 {
     for row in rows {
-        push_row(text, ops, row)?;
-        text.push(b'\n')?;
+        push_row_line(text, ops, row)?;
     }
     Ok(())
 }

@@ -22,5 +22,5 @@ pub use row::Row;
 pub use run::run_schedule;
 pub use schedule::{MAX_ROWS, Schedule};
 pub use simulator::Simulator;
-pub use spelling::push_row;
+pub use spelling::{push_row, push_row_line};
 pub use timing::{cycles, cycles_of, latency};

@@ -2,14 +2,14 @@
 ghost use Rattle.std.specs.Prelude.{◌≡◌, ◌≤◌, ◌+◌, ◌++◌, drop, length, OnErr, OnOk};
 ghost use Rattle.iloc_text.specs.Spelling.{spelling};
 ghost use Rattle.iloc_text.specs.declared.spelling.TheConstants.{OP_ROOM};
-ghost use Rattle.iloc_timed.specs.Spelling.{op_in, row_spelling};
+ghost use Rattle.iloc_timed.specs.Spelling.{op_in, row_line, row_spelling};
 ghost use Rattle.iloc_timed.specs.declared.spelling.TheConstants.{ROOM};
 
 use crate::row::Row;
 use iloc_text::{NoMemory, OP_ROOM, Op, write_op, write_text};
 
 /// More bytes than a row is written with.
-const ROOM: usize = 2 * OP_ROOM + 8;
+const ROOM: usize = 2 * OP_ROOM + 7;
 
 /// Writes the operation in a slot, `nop` where it is empty, so that it ends at `end`, and gives where it starts.
 fn write_slot(line: &mut [u8], end: usize, ops: &[Op], slot: Option<usize>) -> usize
@@ -24,14 +24,15 @@ fn write_slot(line: &mut [u8], end: usize, ops: &[Op], slot: Option<usize>) -> u
     }
 }
 
-/// Writes a row to the end of the line, and gives where it starts.
-fn write_row(line: &mut [u8], ops: &[Op], row: &Row) -> usize
-    requires { length line.old ≡ ROOM }
-    ensures room { result ≤ ROOM }
-    ensures length { length line.new ≡ ROOM }
-    ensures written { drop result line.new ≡ row_spelling ops.now row.now }
+/// Writes a row so that it ends at `end`, and gives where it starts.
+#[inline(always)]
+fn write_row(line: &mut [u8], end: usize, ops: &[Op], row: &Row) -> usize
+    requires { (ROOM ≤ end) × (end ≤ length line.old) }
+    ensures room { result ≤ end }
+    ensures length { length line.new ≡ length line.old }
+    ensures written { drop result line.new ≡ row_spelling ops.now row.now ++ drop end line.old }
 {
-    let end = write_text(line, ROOM, b" ]");
+    let end = write_text(line, end, b" ]");
     let end = write_slot(line, end, ops, row.one);
     let end = write_text(line, end, b" ; ");
     let end = write_slot(line, end, ops, row.zero);
@@ -45,12 +46,25 @@ pub fn push_row(text: &mut Vec<u8>, ops: &[Op], row: &Row) -> Result<(), NoMemor
     ensures ok { OnOk result (text.new.items ≡ text.old.items ++ row_spelling ops.now row.now) }
     ensures err { OnErr result (text.new.items ≡ text.old.items) }
 {
+    let mut line = [0; ROOM];
+    let start = write_row(&mut line, ROOM, ops, row);
+    text.extend_from_slice(&line[start..])?;
+    Ok(())
+}
+
+/// Appends a row on a line of its own.
+///
+/// Where memory is refused the text stays as it was.
+pub fn push_row_line(text: &mut Vec<u8>, ops: &[Op], row: &Row) -> Result<(), NoMemory>
+    ensures ok { OnOk result (text.new.items ≡ text.old.items ++ row_line ops.now row.now) }
+    ensures err { OnErr result (text.new.items ≡ text.old.items) }
+{
     if let (None, None) = (row.zero, row.one) {
-        text.extend_from_slice(b"[ nop ; nop ]")?;
+        text.extend_from_slice(b"[ nop ; nop ]\n")?;
         return Ok(());
     }
-    let mut line = [0; ROOM];
-    let start = write_row(&mut line, ops, row);
+    let mut line = [b'\n'; ROOM + 1];
+    let start = write_row(&mut line, ROOM, ops, row);
     text.extend_from_slice(&line[start..])?;
     Ok(())
 }
