@@ -76,9 +76,7 @@ impl Waiting {
                     earliest: 0,
                 },
             })?;
-            if place == end {
-                self.wheel.put(j as u32, 0);
-            }
+            self.wheel.put_if(place == end, j as u32, 0);
             place = end;
         }
         Ok(())
@@ -133,10 +131,7 @@ impl Waiting {
             earliest: state.wait.earliest.max(cycle + edge.delay),
         };
         self.change(target, wait);
-        if wait.unmet > 0 {
-            return edge.previous;
-        }
-        self.wheel.put(edge.to, wait.earliest);
+        self.wheel.put_if(wait.unmet == 0, edge.to, wait.earliest);
         edge.previous
     }
 

@@ -1,5 +1,5 @@
 //! Operations by the cycle at which they become ready.
-ghost use Rattle.std.specs.Prelude.{ℕ, ◌≡◌, ◌≢◌, ◌+◌, ◌^◌, ◌%◌, ◌<◌, ◌≤◌, [], ◌∷◌, length, IfNone, IfSome, OnOk};
+ghost use Rattle.std.specs.Prelude.{ℕ, ◌≡◌, ◌≢◌, ◌+◌, ◌^◌, ◌%◌, ◌<◌, ◌≤◌, if◌then◌else◌, [], ◌∷◌, length, IfNone, IfSome, OnOk};
 
 use iloc_text::NoMemory;
 use std::alloc::Global;
@@ -15,6 +15,13 @@ const BUCKETS: usize = 2 * LONGEST_DELAY;
 struct Bucket {
     first: u32,
     count: u32,
+}
+
+/// The first number where it is chosen, else the other.
+fn one_of(chosen: bool, number: u32, other: u32) -> u32
+    ensures { result ≡ (if chosen then number else other) }
+{
+    if chosen { number } else { other }
 }
 
 /// Operations in buckets, by a cycle modulo 32.
@@ -51,12 +58,14 @@ impl Wheel {
         Ok(())
     }
 
-    /// Puts an operation that is in no bucket into that of a cycle.
-    pub fn put(&mut self, j: u32, cycle: u32)
+    /// Puts an operation that is in no bucket into that of a cycle, if it is ready then. It takes no branch, since it is
+    /// seldom foreseen whether an operation is ready.
+    pub fn put_if(&mut self, ready: bool, j: u32, cycle: u32)
         requires there { j < length self.old.behind.items }
         requires new { (b : ℕ) → b < 32 → In (bucket_of self.old b) j → ⊥ }
         requires few { length (bucket_of self.old (cycle % 32)) + 1 < 2 ^ 32 }
-        ensures put { bucket_of self.new (cycle % 32) ≡ j ∷ bucket_of self.old (cycle % 32) }
+        ensures put { bucket_of self.new (cycle % 32)
+            ≡ (if ready then j ∷ bucket_of self.old (cycle % 32) else bucket_of self.old (cycle % 32)) }
         ensures others { (b : ℕ) → b < 32 → b ≢ cycle % 32 → bucket_of self.new b ≡ bucket_of self.old b }
         ensures room { length self.new.behind.items ≡ length self.old.behind.items }
     {
@@ -64,8 +73,8 @@ impl Wheel {
         let bucket = self.buckets[place];
         self.behind[j as usize] = bucket.first;
         self.buckets[place] = Bucket {
-            first: j,
-            count: bucket.count + 1,
+            first: one_of(ready, j, bucket.first),
+            count: bucket.count + u32::from(ready),
         };
     }
 

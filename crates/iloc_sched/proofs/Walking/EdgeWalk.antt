@@ -1,5 +1,5 @@
 -- The walk along the edges out of an issued operation keeps what is known of what waits; for `Waiting::issue`.
-use Rattle.std.proofs.Common.{◌≡◌, ◌≢◌, ℕ, ◌+◌, ◌-◌, ◌%◌, ◌<◌, ◌≤◌, max, true, false, List, ◌∷◌, Option, Some, None, ◌⊎◌, inl, inr, refl, sym, ◌∙◌, ap, subst, arith}
+use Rattle.std.proofs.Common.{◌≡◌, ◌≢◌, ℕ, ◌+◌, ◌-◌, ◌%◌, ◌<◌, ◌≤◌, max, Bool, true, false, if◌then◌else◌, List, ◌∷◌, Option, Some, None, ◌⊎◌, inl, inr, refl, sym, ◌∙◌, ap, subst, arith}
 use Rattle.iloc_sched.specs.Steps.Members.{In, AreApart}
 use Rattle.iloc_sched.specs.Steps.Graph.{Graph, IsLast, IsGraph}
 use Rattle.iloc_sched.specs.Steps.Progress.{Progress, UpTo, Waits, CanIssue, count_from}
@@ -242,18 +242,8 @@ ends graph w f i waits = record {
   apart = waits.apart;
 }
 
--- no bucket changes
-pub enters_none : (bucket : ℕ → List ℕ) (b j : ℕ) (at_end : Type 0) → (at_end → ⊥)
-    → ((a : ℕ) → a < 32 → AreApart (bucket a)) → Enters bucket bucket b j at_end
-enters_none bucket b j at_end not apart = record {
-  stays = λ a k small held. held;
-  was = λ a k small held. inl held;
-  comes = λ end. absurd (not end);
-  apart = apart;
-}
-
 -- j is put into bucket b, which does not have it
-pub enters_put : (bucket bucket' : ℕ → List ℕ) (b j : ℕ) (at_end : Type 0) → at_end
+enters_put : (bucket bucket' : ℕ → List ℕ) (b j : ℕ) (at_end : Type 0) → at_end
     → ((a : ℕ) → a < 32 → AreApart (bucket a)) → (In (bucket b) j → ⊥) → bucket' b ≡ j ∷ bucket b
     → ((a : ℕ) → a < 32 → a ≢ b → bucket' a ≡ bucket a) → Enters bucket bucket' b j at_end
 enters_put bucket bucket' b j at_end end apart new at others = record {
@@ -276,3 +266,21 @@ enters_put bucket bucket' b j at_end end apart new at others = record {
   where
     the_put : (k : ℕ) → In (j ∷ bucket b) k → (k ≡ j) ⊎ In (bucket b) k
     the_put k held = elim held [ inl is ↦ inl (sym is) | inr old ↦ inr old ]
+
+-- the same if it has come to its last edge, and else no bucket changes
+pub enters_if : (ready : Bool) (bucket bucket' : ℕ → List ℕ) (b j : ℕ) (at_end : Type 0)
+    → (ready ≡ true → at_end) → (ready ≡ false → at_end → ⊥)
+    → ((a : ℕ) → a < 32 → AreApart (bucket a)) → (In (bucket b) j → ⊥)
+    → bucket' b ≡ (if ready then j ∷ bucket b else bucket b)
+    → ((a : ℕ) → a < 32 → a ≢ b → bucket' a ≡ bucket a) → Enters bucket bucket' b j at_end
+enters_if true bucket bucket' b j at_end end not apart new at others =
+    enters_put bucket bucket' b j at_end (end refl) apart new at others
+enters_if false bucket bucket' b j at_end end not apart new at others =
+    let same : (a : ℕ) → a < 32 → bucket' a ≡ bucket a = λ a small. by_eq a b
+    (λ is. subst (λ k. bucket' k ≡ bucket k) (sym is) at) (λ other. others a small other) in
+    record {
+      stays = λ a k small held. subst (λ xs. In xs k) (sym (same a small)) held;
+      was = λ a k small held. inl (subst (λ xs. In xs k) (same a small) held);
+      comes = λ over. absurd (not refl over);
+      apart = λ a small. subst AreApart (sym (same a small)) (apart a small);
+    }

@@ -1,5 +1,5 @@
 -- The states and buckets with which a schedule begins; for `Waiting::open`.
-use Rattle.std.proofs.Common.{◌≡◌, ◌≢◌, ℕ, zero, suc, ◌+◌, ◌-◌, ◌%◌, ◌<◌, ◌≤◌, List, [], ◌∷◌, ◌++◌, length, map, get_or, true, Option, None, inl, inr, refl, sym, ◌∙◌, ap, subst, arith, cond}
+use Rattle.std.proofs.Common.{◌≡◌, ◌≢◌, ℕ, zero, suc, ◌+◌, ◌-◌, ◌%◌, ◌<◌, ◌≤◌, List, [], ◌∷◌, ◌++◌, length, map, get_or, Bool, true, false, if◌then◌else◌, Option, None, inl, inr, refl, sym, ◌∙◌, ap, subst, arith, cond}
 use Rattle.std.specs.Prelude.{replicate, count_by, is_none}
 use Rattle.std.proofs.lemmas.List.{length-map, length-replicate, replicate_more}
 use Rattle.std.proofs.lemmas.List.FromFn.{get_or-map-range_with_len, map-range_with_len_more}
@@ -11,11 +11,9 @@ use Rattle.iloc_sched.specs.declared.queues.Queues.{Queues}
 use Rattle.iloc_sched.specs.declared.class.Class.{Class}
 use Rattle.iloc_sched.specs.declared.waiting.State.{State}
 use Rattle.iloc_sched.specs.declared.waiting.Waiting.{Waiting}
-use Rattle.iloc_sched.specs.declared.wheel.Wheel.{Wheel}
 use Rattle.iloc_sched.specs.Steps.Members.{In, AreApart}
 use Rattle.iloc_sched.specs.Steps.Graph.{Graph, IsGraph}
 use Rattle.iloc_sched.specs.Steps.Progress.{Progress, Waits}
-use Rattle.iloc_sched.specs.Steps.Wheel.{bucket_of}
 use Rattle.iloc_sched.specs.Steps.Views.{graph_of, issued_in, unmet_in, earliest_in, issued_list, unmet_list, earliest_list, progress_of, IsSized}
 use Rattle.iloc_sched.specs.Steps.Queued.{candidates}
 use Rattle.iloc_sched.specs.Steps.SoFar.{IsSoFar, waiting_count}
@@ -27,7 +25,7 @@ use Rattle.iloc_sched.proofs.Walking.LinkedBuckets.{apart_few, read_replicate}
 pub no_roots : (graph : Graph) → AreRoots graph [] 0
 no_roots graph = record { all = λ j below. absurd (omega arith); only = λ j held. absurd held; apart = tt }
 
-pub root_put : (graph : Graph) (js : List ℕ) (n : ℕ) → AreRoots graph js n → graph.start n ≡ graph.start (n + 1)
+root_put : (graph : Graph) (js : List ℕ) (n : ℕ) → AreRoots graph js n → graph.start n ≡ graph.start (n + 1)
     → AreRoots graph (n ∷ js) (n + 1)
 root_put graph js n roots free = record {
   all = λ j below none. by_eq j n (λ same. inl (sym same)) (λ apart. inr (roots.all j (omega arith) none));
@@ -39,7 +37,7 @@ root_put graph js n roots free = record {
   apart = (λ held. let h : n < n = (roots.only n held).0 in absurd (omega arith), roots.apart);
 }
 
-pub roots_kept : (graph : Graph) (js : List ℕ) (n : ℕ) → AreRoots graph js n → graph.start n ≢ graph.start (n + 1)
+roots_kept : (graph : Graph) (js : List ℕ) (n : ℕ) → AreRoots graph js n → graph.start n ≢ graph.start (n + 1)
     → AreRoots graph js (n + 1)
 roots_kept graph js n roots free = record {
   all = λ j below none. by_eq j n (λ same. absurd (free (subst (λ k. graph.start k ≡ graph.start (k + 1)) same none)))
@@ -48,6 +46,12 @@ roots_kept graph js n roots free = record {
       (let below : j < n = h.0 in omega arith, h.1);
   apart = roots.apart;
 }
+
+roots_more : (graph : Graph) (js : List ℕ) (n : ℕ) (ready : Bool) → AreRoots graph js n
+    → (ready ≡ true → graph.start n ≡ graph.start (n + 1)) → (ready ≡ false → graph.start n ≢ graph.start (n + 1))
+    → AreRoots graph (if ready then n ∷ js else js) (n + 1)
+roots_more graph js n true roots free not = root_put graph js n roots (free refl)
+roots_more graph js n false roots free not = roots_kept graph js n roots (not refl)
 
 pub count_replicate : (n : ℕ) → count_by is_none (replicate n not_issued) ≡ n
 count_replicate zero = refl
@@ -84,30 +88,20 @@ module _ (e : Edges) (w v : Waiting) (n : ℕ) (state : State) (below : n < leng
       ∙ ap (λ x. earliest_list w ++ x ∷ []) soon ∙ ap (λ xs. xs ++ 0 ∷ []) so_far.earliest
       ∙ replicate_more n 0
 
-  -- it has an edge to wait for
-  pub opening_kept : v.wheel ≡ w.wheel → (graph_of e).start n ≢ (graph_of e).start (n + 1) → IsOpening e v (n + 1)
-  opening_kept same free = record {
-    issued = issued_more;
-    unmet = unmet_more;
-    earliest = earliest_more;
-    links = subst (λ (wheel : Wheel). length e.heads.items ≤ length wheel.behind.items) (sym same) so_far.links;
-    roots = subst (λ (wheel : Wheel). AreRoots (graph_of e) (bucket_of wheel 0) (n + 1)) (sym same)
-        (roots_kept (graph_of e) ((progress_of w).bucket 0) n so_far.roots free);
-    others = λ b small apart. ap (λ (wheel : Wheel). bucket_of wheel b) same ∙ so_far.others b small apart;
-  }
-
-  -- it has none, and goes into the first bucket
-  pub opening_put : (progress_of v).bucket 0 ≡ n ∷ (progress_of w).bucket 0
+  -- it goes into the first bucket if it has no edge to wait for
+  pub opening_more : (ready : Bool)
+      → (progress_of v).bucket 0 ≡ (if ready then n ∷ (progress_of w).bucket 0 else (progress_of w).bucket 0)
       → ((b : ℕ) → b < 32 → b ≢ 0 → (progress_of v).bucket b ≡ (progress_of w).bucket b)
       → length v.wheel.behind.items ≡ length w.wheel.behind.items
-      → (graph_of e).start n ≡ (graph_of e).start (n + 1) → IsOpening e v (n + 1)
-  opening_put put others links free = record {
+      → (ready ≡ true → (graph_of e).start n ≡ (graph_of e).start (n + 1))
+      → (ready ≡ false → (graph_of e).start n ≢ (graph_of e).start (n + 1)) → IsOpening e v (n + 1)
+  opening_more ready put others links free not = record {
     issued = issued_more;
     unmet = unmet_more;
     earliest = earliest_more;
     links = omega (arith, links, so_far.links);
     roots = subst (λ js. AreRoots (graph_of e) js (n + 1)) (sym put)
-        (root_put (graph_of e) ((progress_of w).bucket 0) n so_far.roots free);
+        (roots_more (graph_of e) ((progress_of w).bucket 0) n ready so_far.roots free not);
     others = λ b small apart. others b small apart ∙ so_far.others b small apart;
   }
 

@@ -1,6 +1,7 @@
 -- Buckets as linked lists: put, first and taken; for `Wheel::put`, `take`, `clear`.
-use Rattle.std.proofs.Common.{◌≡◌, ◌≢◌, ℕ, zero, suc, ◌+◌, ◌-◌, ◌<◌, ◌≤◌, List, [], ◌∷◌, length, get_or, set, inl, inr, refl, sym, ◌∙◌, ap, subst, arith, true, false, eqb, add-one}
+use Rattle.std.proofs.Common.{◌≡◌, ◌≢◌, ℕ, zero, suc, ◌+◌, ◌-◌, ◌<◌, ◌≤◌, List, [], ◌∷◌, length, get_or, set, inl, inr, refl, sym, ◌∙◌, ap, subst, arith, Bool, true, false, if◌then◌else◌, eqb, add-one}
 use Rattle.std.specs.Prelude.{replicate}
+use Rattle.std.specs.Int.{from_bool}
 use Rattle.std.specs.List.{IsDistinct, AllByRecursion}
 use Rattle.std.proofs.lemmas.List.{get_or-set_same, get_or-set_other}
 use Rattle.std.proofs.lemmas.Bool.{eqb-true}
@@ -33,6 +34,10 @@ pub chain_next : (f : ℕ → ℕ) (n j : ℕ) → n ≢ 0 → chain f n j ≡ j
 chain_next f zero j some = absurd (some refl)
 chain_next f (suc n) j some = ap (λ m. j ∷ chain f m (f j)) (omega arith)
 
+pub at_most_one : (b : Bool) → from_bool b ≤ 1
+at_most_one true = omega arith
+at_most_one false = omega arith
+
 pub read_replicate : {X : Type 0} (n : ℕ) (x : X) (k : ℕ) → get_or (replicate n x) k x ≡ x
 read_replicate zero x k = refl
 read_replicate (suc n) x zero = refl
@@ -46,28 +51,40 @@ module _ (buckets : List Bucket) (behind : List ℕ) (b j : ℕ) (below : b < le
     behind_others : (k : ℕ) → k ≢ j → after_put k ≡ get_or behind k 0
     behind_others k apart = get_or-set_other behind j k (get_or buckets b no_bucket).first 0 apart
 
-    abbrev one_more : Bucket
-    one_more = record { first = j; count = (get_or buckets b no_bucket).count + 1 }
+    abbrev old : Bucket
+    old = get_or buckets b no_bucket
 
-    -- j is put into bucket b
-    pub put_here : (In (bucket_in buckets behind b) j → ⊥)
-        → bucket_in (set buckets b (record { first = j; count = (get_or buckets b no_bucket).count + 1 }))
-        (set behind j (get_or buckets b no_bucket).first) b ≡ j ∷ bucket_in buckets behind b
-    put_here new =
-        let old : Bucket = get_or buckets b no_bucket in
-        ap (λ (x : Bucket). chain after_put x.count x.first) (get_or-set_same buckets b one_more no_bucket below)
-        ∙ chain_more after_put old.count j
+    -- the bucket with one operation more, if that is ready
+    abbrev pub with_one : Bool → Bucket
+    with_one ready = record { first = if ready then j else old.first; count = old.count + from_bool ready }
+
+    abbrev chain_after : Bucket → List ℕ
+    chain_after x = chain after_put x.count x.first
+
+    -- what is behind an operation that is in no bucket doesn't matter
+    unchanged : (x : Bucket) → (In (chain (λ k. get_or behind k 0) x.count x.first) j → ⊥)
+        → chain_after x ≡ chain (λ k. get_or behind k 0) x.count x.first
+    unchanged x new = chain_same (λ k. get_or behind k 0) after_put x.count x.first j behind_others new
+
+    first_put : (ready : Bool) → (In (bucket_in buckets behind b) j → ⊥)
+        → chain_after (with_one ready) ≡ (if ready then j ∷ bucket_in buckets behind b else bucket_in buckets behind b)
+    first_put true new = chain_more after_put old.count j
         ∙ ap (λ m. j ∷ chain after_put old.count m) (get_or-set_same behind j old.first 0 there)
-        ∙ ap (λ js. j ∷ js)
-        (chain_same (λ k. get_or behind k 0) after_put old.count old.first j behind_others new)
+        ∙ ap (λ js. j ∷ js) (unchanged old new)
+    first_put false new = ap (λ m. chain after_put m old.first) (omega arith) ∙ unchanged old new
 
-    pub put_elsewhere : (a : ℕ) → a ≢ b → (In (bucket_in buckets behind a) j → ⊥)
-        → bucket_in (set buckets b (record { first = j; count = (get_or buckets b no_bucket).count + 1 }))
-        (set behind j (get_or buckets b no_bucket).first) a ≡ bucket_in buckets behind a
-    put_elsewhere a apart new =
-        let at : Bucket = get_or buckets a no_bucket in
-        ap (λ (x : Bucket). chain after_put x.count x.first) (get_or-set_other buckets b a one_more no_bucket apart)
-        ∙ chain_same (λ k. get_or behind k 0) after_put at.count at.first j behind_others new
+    -- j is put into bucket b, if it is ready
+    pub put_here : (ready : Bool) → (In (bucket_in buckets behind b) j → ⊥)
+        → bucket_in (set buckets b (with_one ready)) (set behind j old.first) b
+        ≡ (if ready then j ∷ bucket_in buckets behind b else bucket_in buckets behind b)
+    put_here ready new =
+        ap chain_after (get_or-set_same buckets b (with_one ready) no_bucket below) ∙ first_put ready new
+
+    pub put_elsewhere : (ready : Bool) (a : ℕ) → a ≢ b → (In (bucket_in buckets behind a) j → ⊥)
+        → bucket_in (set buckets b (with_one ready)) (set behind j old.first) a ≡ bucket_in buckets behind a
+    put_elsewhere ready a apart new =
+        ap chain_after (get_or-set_other buckets b a (with_one ready) no_bucket apart)
+        ∙ unchanged (get_or buckets a no_bucket) new
 
 -- the first of bucket b
 pub first_held : (buckets : List Bucket) (behind : List ℕ) (b : ℕ) → (get_or buckets b no_bucket).count ≢ 0

@@ -1,5 +1,6 @@
 -- The same walk in the tables of the code, step by step; for `Waiting::issue`, `pass`.
-use Rattle.std.proofs.Common.{◌≡◌, ◌≢◌, ℕ, ◌+◌, ◌%◌, ◌<◌, ◌≤◌, ◌∷◌, List, length, max, set, get_or, Option, Some, None, refl, sym, ◌∙◌, ap, subst, arith}
+use Rattle.std.proofs.Common.{◌≡◌, ◌≢◌, ℕ, ◌+◌, ◌%◌, ◌<◌, ◌≤◌, ◌∷◌, List, length, max, set, get_or, Option, Some, None, if◌then◌else◌, nat_eq, refl, sym, ◌∙◌, ap, subst, arith}
+use Rattle.std.proofs.lemmas.Bool.Decides.{nat_tests}
 use Rattle.std.proofs.lemmas.List.{get_or-set_same, get_or-set_other}
 use Rattle.iloc_sched.specs.declared.edges.Edge.{Edge}
 use Rattle.iloc_sched.specs.declared.edges.Edges.{Edges}
@@ -11,7 +12,7 @@ use Rattle.iloc_sched.specs.Steps.Wheel.{bucket_of}
 use Rattle.iloc_sched.specs.Steps.Graph.{Graph, IsLast, IsGraph}
 use Rattle.iloc_sched.specs.Steps.Progress.{Progress, Waits, CanIssue, IsFrom, KeepsPlaces}
 use Rattle.iloc_sched.specs.Steps.Views.{edge_at, graph_of, issued_list, unmet_list, earliest_list, progress_of, IsSized}
-use Rattle.iloc_sched.proofs.Walking.EdgeWalk.{begins, some_unmet, moves, Enters, enters_none, enters_put}
+use Rattle.iloc_sched.proofs.Walking.EdgeWalk.{begins, some_unmet, moves, Enters, enters_if}
 use Rattle.iloc_sched.proofs.Walking.LinkedBuckets.{apart_few}
 use Rattle.iloc_sched.proofs.Walking.TableReads.{issued_size, unmet_size, earliest_size, earliest_read}
 
@@ -111,32 +112,20 @@ module _ (e : Edges) (w : Waiting) (x cycle : ℕ) (is : IsGraph (graph_of e)) (
     (there : x < length e.edges.items)
     (now : (progress_of w).issued ((graph_of e).from x) ≡ Some cycle)
     (waits : Waits (graph_of e) (progress_of w) (cycle + 1) ((graph_of e).from x) (Some x)) where
-  -- the target has an edge left still
-  pub after_step : (v : Waiting) (p t : ℕ) → issued_list v ≡ issued_list w
-      → unmet_list v ≡ set (unmet_list w) ((graph_of e).to x) p
-      → earliest_list v ≡ set (earliest_list w) ((graph_of e).to x) t → v.wheel ≡ w.wheel
-      → (progress_of w).unmet ((graph_of e).to x) ≡ p + 1
-      → t ≡ max ((progress_of w).earliest ((graph_of e).to x)) (cycle + (graph_of e).delay x) → 0 < p
-      → Waits (graph_of e) (progress_of v) (cycle + 1) ((graph_of e).from x) ((graph_of e).previous x)
-  after_step v p t issued unmet earliest wheel was_p is_t left =
-      passed e w v x p t is sized there issued unmet earliest cycle now waits was_p is_t
-      (subst (λ (turned : Wheel). Enters (progress_of w).bucket (bucket_of turned) (t % 32) ((graph_of e).to x) (p ≡ 0))
-      (sym wheel)
-      (enters_none (progress_of w).bucket (t % 32) ((graph_of e).to x) (p ≡ 0) (λ none. absurd (omega arith))
-      waits.apart))
-
-  -- the target has no edge left, and enters its bucket
-  pub after_end : (v : Waiting) (p t : ℕ) → issued_list v ≡ issued_list w
+  -- the target enters its bucket where it has no edge left
+  pub after_pass : (v : Waiting) (p t : ℕ) → issued_list v ≡ issued_list w
       → unmet_list v ≡ set (unmet_list w) ((graph_of e).to x) p
       → earliest_list v ≡ set (earliest_list w) ((graph_of e).to x) t
-      → (progress_of v).bucket (t % 32) ≡ (graph_of e).to x ∷ (progress_of w).bucket (t % 32)
+      → (progress_of v).bucket (t % 32)
+      ≡ (if nat_eq p 0 then (graph_of e).to x ∷ (progress_of w).bucket (t % 32) else (progress_of w).bucket (t % 32))
       → ((b : ℕ) → b < 32 → b ≢ t % 32 → (progress_of v).bucket b ≡ (progress_of w).bucket b)
       → (progress_of w).unmet ((graph_of e).to x) ≡ p + 1
-      → t ≡ max ((progress_of w).earliest ((graph_of e).to x)) (cycle + (graph_of e).delay x) → p ≡ 0
+      → t ≡ max ((progress_of w).earliest ((graph_of e).to x)) (cycle + (graph_of e).delay x)
       → Waits (graph_of e) (progress_of v) (cycle + 1) ((graph_of e).from x) ((graph_of e).previous x)
-  after_end v p t issued unmet earliest put others was_p is_t none =
+  after_pass v p t issued unmet earliest put others was_p is_t =
       passed e w v x p t is sized there issued unmet earliest cycle now waits was_p is_t
-      (enters_put (progress_of w).bucket (progress_of v).bucket (t % 32) ((graph_of e).to x) (p ≡ 0) none waits.apart
+      (enters_if (nat_eq p 0) (progress_of w).bucket (progress_of v).bucket (t % 32) ((graph_of e).to x) (p ≡ 0)
+      (λ is. grind (arith, nat_tests)) (λ not none. grind (arith, nat_tests)) waits.apart
       (in_none (graph_of e) (progress_of w) (cycle + 1) ((graph_of e).from x) ((graph_of e).to x) (Some x) waits
       (target_waits e w x cycle is there waits) (t % 32) (omega arith))
       put others)

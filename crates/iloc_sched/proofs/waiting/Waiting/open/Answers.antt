@@ -1,14 +1,14 @@
-use Rattle.std.proofs.Common.{◌≡◌, ◌+◌, ◌-◌, ◌≤◌, length, ap, None, refl, sym, ◌∙◌, subst, arith}
+use Rattle.std.proofs.Common.{◌≡◌, ◌+◌, ◌-◌, ◌≤◌, length, ap, None, nat_eq, refl, sym, ◌∙◌, subst, arith}
+use Rattle.std.proofs.lemmas.Bool.Decides.{nat_tests}
 use Rattle.iloc_sched.specs.declared.waiting.State.{State}
 use Rattle.iloc_sched.specs.declared.waiting.Waiting.{Waiting}
 use Rattle.iloc_sched.specs.Steps.Opening.{IsOpening}
 use Rattle.iloc_sched.specs.Steps.Views.{graph_of, progress_of}
-use Rattle.iloc_sched.proofs.Walking.FirstStates.{opening_kept, opening_put, roots_few, all_opened, all_sized}
+use Rattle.iloc_sched.proofs.Walking.FirstStates.{opening_more, roots_few, all_opened, all_sized}
 use Rattle.iloc_sched.proofs.waiting.Waiting.open.Goals as goal
-use Rattle.iloc_sched.proofs.waiting.Waiting.open.Goals.{then-place-end, else-place-end}
 
-pub put-requires-clause-few : goal.put-requires-clause-few
-put-requires-clause-few c =
+pub put_if-requires-clause-few : goal.put_if-requires-clause-few
+put_if-requires-clause-few c =
     let few : length ((progress_of c.loop-j.self).bucket 0) ≤ c.loop-j.j =
     roots_few c.args.edges.now c.loop-j.self c.loop-j.j c.loop-j.invariant.opening in
     let short : length c.args.edges.now.heads.items ≤ 10000 = c.args.edges.now.short in
@@ -29,21 +29,14 @@ loop-j-preserved c =
     let at = c.loop-j.invariant.place in
     let unmet : c.start-end.result - c.loop-j.place ≡ (graph_of e).start (c.loop-j.j + 1) - (graph_of e).start c.loop-j.j =
     ap (λ n. n - c.loop-j.place) c.start-end.ensures ∙ ap (λ n. (graph_of e).start (c.loop-j.j + 1) - n) at in
+    let v : Waiting = record { states = c.push.new.self; wheel = c.put_if.new.self } in
     record {
-      opening = elim c.if-place-end.branch [
-        | then-place-end w ↦
-            let v : Waiting = record { states = c.push.new.self; wheel = w.put.new.self } in
-            subst (λ (v : Waiting). IsOpening e v (c.loop-j.j + 1)) (sym w.self-is)
-            (opening_put e c.loop-j.self v c.loop-j.j state (omega arith) c.loop-j.invariant.opening
-            c.in_ok-push.ensures.items refl unmet refl w.put.ensures.put w.put.ensures.others w.put.ensures.room
-            (sym at ∙ w.if-place-end.true ∙ c.start-end.ensures))
-        | else-place-end w ↦
-            let v : Waiting = record { states = c.push.new.self; wheel = c.loop-j.self.wheel } in
-            subst (λ (v : Waiting). IsOpening e v (c.loop-j.j + 1)) (sym w.self-is)
-            (opening_kept e c.loop-j.self v c.loop-j.j state (omega arith) c.loop-j.invariant.opening
-            c.in_ok-push.ensures.items refl unmet refl refl
-            (λ same. w.if-place-end.false (at ∙ same ∙ sym c.start-end.ensures)))
-      ];
+      opening = opening_more e c.loop-j.self v c.loop-j.j state (omega arith) c.loop-j.invariant.opening
+          c.in_ok-push.ensures.items refl unmet refl (nat_eq c.loop-j.place c.start-end.result)
+          c.put_if.ensures.put c.put_if.ensures.others c.put_if.ensures.room
+          (λ is. let same : c.loop-j.place ≡ c.start-end.result = grind (arith, nat_tests) in sym at ∙ same ∙ c.start-end.ensures)
+          (λ not same. let alike : c.loop-j.place ≡ c.start-end.result = at ∙ same ∙ sym c.start-end.ensures in
+          grind (arith, nat_tests));
       place = c.start-end.ensures;
     }
 

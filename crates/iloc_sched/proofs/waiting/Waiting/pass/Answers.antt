@@ -1,4 +1,4 @@
-use Rattle.std.proofs.Common.{◌≡◌, ◌+◌, ◌-◌, ◌%◌, ◌<◌, ◌≤◌, ◌∷◌, ℕ, Some, length, set, ap, sym, ◌∙◌, subst, arith}
+use Rattle.std.proofs.Common.{◌≡◌, ◌+◌, ◌-◌, ◌%◌, ◌<◌, ◌≤◌, ◌∷◌, ℕ, List, nat_eq, if◌then◌else◌, Some, length, set, ap, sym, ◌∙◌, subst, arith}
 use Rattle.iloc_sched.specs.declared.edges.Edge.{Edge}
 use Rattle.iloc_sched.specs.declared.waiting.Waiting.{Waiting}
 use Rattle.iloc_sched.specs.declared.wheel.Wheel.{Wheel}
@@ -7,7 +7,7 @@ use Rattle.iloc_sched.specs.Steps.Wheel.{bucket_of}
 use Rattle.iloc_sched.specs.Steps.Progress.{Waits}
 use Rattle.iloc_sched.specs.Steps.Views.{graph_of, unmet_list, earliest_list, progress_of}
 use Rattle.iloc_sched.proofs.Walking.TableReads.{target_read}
-use Rattle.iloc_sched.proofs.Walking.WalkInTables.{in_none, bucket_few, target_waits, earliest_after, after_step, after_end, places_kept}
+use Rattle.iloc_sched.proofs.Walking.WalkInTables.{in_none, bucket_few, target_waits, earliest_after, after_pass, places_kept}
 use Rattle.iloc_sched.proofs.waiting.Waiting.pass.Goals as goal
 
 pub overflow_sub-wait : goal.overflow_sub-wait
@@ -22,33 +22,8 @@ overflow_sub-wait c =
     target_waits e w x c.args.cycle c.requires.graph c.requires.there c.requires.waits in
     omega arith
 
-pub returns-then-wait-gt0-clause-waits : goal.returns-then-wait-gt0-clause-waits
-returns-then-wait-gt0-clause-waits c =
-    let e = c.args.edges.now in
-    let w = c.args.self.now in
-    let x : ℕ = c.args.x in
-    let v : Waiting = c.change.new.self in
-    let p : ℕ = c.index-state.result.now.wait.unmet - 1 in
-    let t : ℕ = c.max.result in
-    let to_is : c.get-edge.result.to ≡ (graph_of e).to x = ap (λ (d : Edge). d.to) c.get-edge.ensures in
-    let read : c.index-state.result.now.wait.unmet ≡ (progress_of w).unmet ((graph_of e).to x) =
-    target_read e w x c.get-edge.result c.index-state.result.now c.requires.graph c.requires.sized c.requires.there
-    c.get-edge.ensures c.index-state.ensures in
-    let some : 0 < (progress_of w).unmet ((graph_of e).to x) =
-    target_waits e w x c.args.cycle c.requires.graph c.requires.there c.requires.waits in
-    subst (λ at. Waits (graph_of e) (progress_of v) (c.args.cycle + 1) ((graph_of e).from x) at)
-    (sym (ap (λ (d : Edge). d.previous) c.get-edge.ensures))
-    (after_step e w x c.args.cycle c.requires.graph c.requires.sized c.requires.there c.requires.issued c.requires.waits
-    v p t c.change.ensures.issued
-    (subst (λ j. unmet_list v ≡ set (unmet_list w) j p) to_is c.change.ensures.unmet)
-    (subst (λ j. earliest_list v ≡ set (earliest_list w) j t) to_is c.change.ensures.earliest)
-    c.change.ensures.wheel (omega arith)
-    (earliest_after e w x c.args.cycle c.requires.graph c.requires.sized c.requires.there c.get-edge.result
-    c.index-state.result.now t c.get-edge.ensures c.index-state.ensures c.max.ensures)
-    c.if-wait-gt0.true)
-
-pub put-requires-clause-new : goal.put-requires-clause-new
-put-requires-clause-new c = λ b small held.
+pub put_if-requires-clause-new : goal.put_if-requires-clause-new
+put_if-requires-clause-new c = λ b small held.
     let e = c.args.edges.now in
     let w = c.args.self.now in
     let x : ℕ = c.args.x in
@@ -58,8 +33,8 @@ put-requires-clause-new c = λ b small held.
     (subst (λ j. In ((progress_of w).bucket b) j) to_is
     (subst (λ (wheel : Wheel). In (bucket_of wheel b) c.get-edge.result.to) c.change.ensures.wheel held))
 
-pub put-requires-clause-few : goal.put-requires-clause-few
-put-requires-clause-few c =
+pub put_if-requires-clause-few : goal.put_if-requires-clause-few
+put_if-requires-clause-few c =
     let e = c.args.edges.now in
     let w = c.args.self.now in
     let b : ℕ = c.max.result % 32 in
@@ -76,7 +51,7 @@ returns-clause-waits c =
     let e = c.args.edges.now in
     let w = c.args.self.now in
     let x : ℕ = c.args.x in
-    let v : Waiting = record { states = c.change.new.self.states; wheel = c.put.new.self } in
+    let v : Waiting = record { states = c.change.new.self.states; wheel = c.put_if.new.self } in
     let p : ℕ = c.index-state.result.now.wait.unmet - 1 in
     let t : ℕ = c.max.result in
     let to_is : c.get-edge.result.to ≡ (graph_of e).to x = ap (λ (d : Edge). d.to) c.get-edge.ensures in
@@ -85,41 +60,28 @@ returns-clause-waits c =
     c.get-edge.ensures c.index-state.ensures in
     let some : 0 < (progress_of w).unmet ((graph_of e).to x) =
     target_waits e w x c.args.cycle c.requires.graph c.requires.there c.requires.waits in
+    let entered : ℕ → Wheel → List ℕ = λ j wheel.
+    if nat_eq p 0 then j ∷ bucket_of wheel (t % 32) else bucket_of wheel (t % 32) in
     subst (λ at. Waits (graph_of e) (progress_of v) (c.args.cycle + 1) ((graph_of e).from x) at)
     (sym (ap (λ (d : Edge). d.previous) c.get-edge.ensures))
-    (after_end e w x c.args.cycle c.requires.graph c.requires.sized c.requires.there c.requires.issued c.requires.waits
+    (after_pass e w x c.args.cycle c.requires.graph c.requires.sized c.requires.there c.requires.issued c.requires.waits
     v p t c.change.ensures.issued
     (subst (λ j. unmet_list v ≡ set (unmet_list w) j p) to_is c.change.ensures.unmet)
     (subst (λ j. earliest_list v ≡ set (earliest_list w) j t) to_is c.change.ensures.earliest)
-    (c.put.ensures.put ∙ ap (λ j. j ∷ bucket_of c.change.new.self.wheel (t % 32)) to_is
-    ∙ ap (λ (wheel : Wheel). (graph_of e).to x ∷ bucket_of wheel (t % 32)) c.change.ensures.wheel)
-    (λ b small apart. c.put.ensures.others b small apart
+    (c.put_if.ensures.put ∙ ap (λ j. entered j c.change.new.self.wheel) to_is
+    ∙ ap (entered ((graph_of e).to x)) c.change.ensures.wheel)
+    (λ b small apart. c.put_if.ensures.others b small apart
     ∙ ap (λ (wheel : Wheel). bucket_of wheel b) c.change.ensures.wheel)
     (omega arith)
     (earliest_after e w x c.args.cycle c.requires.graph c.requires.sized c.requires.there c.get-edge.result
-    c.index-state.result.now t c.get-edge.ensures c.index-state.ensures c.max.ensures)
-    (omega (arith, c.if-wait-gt0.false)))
-
-pub returns-then-wait-gt0-clause-keeps : goal.returns-then-wait-gt0-clause-keeps
-returns-then-wait-gt0-clause-keeps c =
-    let e = c.args.edges.now in
-    let w = c.args.self.now in
-    let x : ℕ = c.args.x in
-    let v : Waiting = c.change.new.self in
-    let p : ℕ = c.index-state.result.now.wait.unmet - 1 in
-    let t : ℕ = c.max.result in
-    let to_is : c.get-edge.result.to ≡ (graph_of e).to x = ap (λ (d : Edge). d.to) c.get-edge.ensures in
-    places_kept e w v x p t c.requires.graph c.requires.sized c.requires.there c.change.ensures.issued
-    (subst (λ j. unmet_list v ≡ set (unmet_list w) j p) to_is c.change.ensures.unmet)
-    (subst (λ j. earliest_list v ≡ set (earliest_list w) j t) to_is c.change.ensures.earliest)
-    (target_waits e w x c.args.cycle c.requires.graph c.requires.there c.requires.waits)
+    c.index-state.result.now t c.get-edge.ensures c.index-state.ensures c.max.ensures))
 
 pub returns-clause-keeps : goal.returns-clause-keeps
 returns-clause-keeps c =
     let e = c.args.edges.now in
     let w = c.args.self.now in
     let x : ℕ = c.args.x in
-    let v : Waiting = record { states = c.change.new.self.states; wheel = c.put.new.self } in
+    let v : Waiting = record { states = c.change.new.self.states; wheel = c.put_if.new.self } in
     let p : ℕ = c.index-state.result.now.wait.unmet - 1 in
     let t : ℕ = c.max.result in
     let to_is : c.get-edge.result.to ≡ (graph_of e).to x = ap (λ (d : Edge). d.to) c.get-edge.ensures in
