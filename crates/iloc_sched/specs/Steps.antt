@@ -15,6 +15,7 @@ pub mod Queued
 pub mod SoFar
 pub mod Opening
 pub mod ByRegister
+pub mod Registers
 pub mod Lasts
 pub mod PartialGraph
 pub mod NamingWalk

@@ -15,7 +15,8 @@ ghost use Rattle.iloc_sched.specs.Renaming.{IsRenamed};
 
 use crate::kinds::Operations;
 use crate::lasts::Lasts;
-use iloc_text::{MAX_OPS, NoMemory, Reg, uses};
+use crate::registers::{Registers, Uses};
+use iloc_text::{MAX_OPS, NoMemory, Reg};
 use iloc_timed::{Kind, Latencies};
 use std::alloc::Global;
 
@@ -46,6 +47,7 @@ impl Edges {
     ghost use Rattle.iloc_sched.specs.Steps.Members.{In};
     ghost use Rattle.iloc_sched.specs.Steps.Graph.{IsGraphOf};
     ghost use Rattle.iloc_sched.specs.Steps.Lasts.{IsNext, loads_before};
+    ghost use Rattle.iloc_sched.specs.Steps.Registers.{listed};
     ghost use Rattle.iloc_sched.specs.Steps.PartialGraph.{IsPartialGraph, KeepsFrame, Grows, AddsFrom, CoversUse, CoversUses, CoversMemory};
     ghost use Rattle.iloc_sched.specs.Steps.Views.{edge_at, graph_of};
 
@@ -220,9 +222,11 @@ impl Edges {
         operations: &Operations,
         latencies: &Latencies,
         lasts: &Lasts,
+        uses: Uses,
         j: usize,
     ) -> Result<(), NoMemory>
         requires next { IsNext operations.now.ops.now operations.now.kinds.now lasts.now j }
+        requires uses { listed uses ≡ used (op_at operations.now.ops.now j) }
         requires own { operations.now.latencies.now ≡ map (latency latencies.now) operations.now.ops.now }
         requires room { length self.old.edges.items + 2 ≤ 5 * length self.old.heads.items }
         requires partial { IsPartialGraph latencies.now operations.now.ops.now (graph_of self.old) j }
@@ -231,11 +235,15 @@ impl Edges {
         ensures count { OnOk result (length self.new.edges.items ≤ length self.old.edges.items + 2) }
         ensures frame { KeepsFrame self.old self.new }
     {
-        let registers = uses(&operations.ops[j]);
-        for register in registers.as_slice() {
-            self.add_use(operations, latencies, lasts, *register, j)?;
+        match uses {
+            Uses::Nothing => Ok(()),
+            Uses::One(register) => self.add_use(operations, latencies, lasts, register, j),
+            Uses::Two(left, right) => {
+                self.add_use(operations, latencies, lasts, left, j)?;
+                self.add_use(operations, latencies, lasts, right, j)?;
+                Ok(())
+            }
         }
-        Ok(())
     }
 
     /// Adds the edges into operation j by memory and outputs.
@@ -279,8 +287,10 @@ impl Edges {
         operations: &Operations,
         latencies: &Latencies,
         lasts: &Lasts,
+        uses: Uses,
         j: usize,
     ) -> Result<(), NoMemory>
+        requires uses { listed uses ≡ used (op_at operations.now.ops.now j) }
         requires next { IsNext operations.now.ops.now operations.now.kinds.now lasts.now j }
         requires own { operations.now.latencies.now ≡ map (latency latencies.now) operations.now.ops.now }
         requires room { length self.old.edges.items + 4 + length lasts.now.loads.items ≤ 5 * length self.old.heads.items }
@@ -291,7 +301,7 @@ impl Edges {
             + loads_before (kind (op_at operations.now.ops.now j)) lasts.now) }
         ensures starts { OnOk result (length self.new.starts.items ≡ j + 2) }
     {
-        self.add_uses(operations, latencies, lasts, j)?;
+        self.add_uses(operations, latencies, lasts, uses, j)?;
         self.add_memory(operations, latencies, lasts, j)?;
         self.starts.push(self.edges.len() as u32)?;
         Ok(())
@@ -315,8 +325,9 @@ impl Edges {
         self.clear(operations.ops.len())?;
         lasts.clear(registers);
         for j in 0..operations.ops.len() {
-            self.add_all(operations, latencies, lasts, j)?;
-            lasts.note(operations, j)?;
+            let registers = Registers::of(&operations.ops[j]);
+            self.add_all(operations, latencies, lasts, registers.uses, j)?;
+            lasts.note(operations, registers.defines, j)?;
         }
         Ok(())
     }

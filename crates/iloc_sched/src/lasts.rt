@@ -1,12 +1,13 @@
 //! The earlier operations that a later one may have to wait for.
 ghost use Rattle.std.specs.Prelude.{◌≡◌, ◌≤◌, ◌<◌, ◌+◌, length, map, List, OnOk};
 ghost use Rattle.iloc_text.specs.declared.op.Op.{Op};
+ghost use Rattle.iloc_text.specs.Registers.{defined as defined_by};
 ghost use Rattle.iloc_meaning.specs.Trace.{op_at};
 ghost use Rattle.iloc_timed.specs.Kinds.{kind};
 
 use crate::by_register::ByRegister;
 use crate::kinds::Operations;
-use iloc_text::{MAX_OPS, NoMemory, Op, defines};
+use iloc_text::{MAX_OPS, NoMemory, Reg};
 use iloc_timed::Kind;
 use std::alloc::Global;
 
@@ -50,11 +51,12 @@ impl Lasts {
     }
 
     /// Notes what operation j defines.
-    fn note_definition(&mut self, op: &Op, j: u32) -> Result<(), NoMemory>
-        ensures definers { OnOk result (NotesDefiner op.now self.old.definers self.new.definers j) }
+    fn note_definition(&mut self, defined: Option<Reg>, j: u32) -> Result<(), NoMemory>
+        ensures definers { OnOk result ((op : Op) → defined ≡ defined_by op
+            → NotesDefiner op self.old.definers self.new.definers j) }
         ensures others { self.new ≡ record self.old { definers = self.new.definers } }
     {
-        match defines(op) {
+        match defined {
             Some(register) => self.definers.set(register, j),
             None => Ok(()),
         }
@@ -79,16 +81,22 @@ impl Lasts {
 
     /// Operation j is one of the earlier ones from now on.
     #[inline(always)]
-    pub fn note(&mut self, operations: &Operations, j: usize) -> Result<(), NoMemory>
+    pub fn note(
+        &mut self,
+        operations: &Operations,
+        defined: Option<Reg>,
+        j: usize,
+    ) -> Result<(), NoMemory>
         requires few { length operations.now.ops.now ≤ MAX_OPS }
         requires there { j < length operations.now.ops.now }
         requires kinds { operations.now.kinds.now ≡ map kind operations.now.ops.now }
+        requires defined { defined ≡ defined_by (op_at operations.now.ops.now j) }
         requires lasts { IsLasts operations.now.ops.now self.old j }
         ensures lasts { OnOk result (IsLasts operations.now.ops.now self.new (j + 1)) }
         ensures loads { OnOk result (length self.new.loads.items + loads_before (kind (op_at operations.now.ops.now j)) self.old
             ≤ length self.old.loads.items + 1) }
     {
-        self.note_definition(&operations.ops[j], j as u32)?;
+        self.note_definition(defined, j as u32)?;
         self.note_kind(operations.kinds[j], j as u32)
     }
 }

@@ -15,6 +15,7 @@ mod plan;
 mod priority;
 mod queue;
 mod queues;
+mod registers;
 mod renaming;
 mod scheduler;
 mod waiting;

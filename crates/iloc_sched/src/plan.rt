@@ -10,6 +10,7 @@ use crate::edges::Edges;
 use crate::kinds::{Operations, latency_of};
 use crate::lasts::Lasts;
 use crate::priority::raise_priorities;
+use crate::registers::Registers;
 use crate::renaming::{Names, is_nop};
 use iloc_text::{Block, MAX_OPS, NoMemory, Op};
 use iloc_timed::{Kind, Latencies};
@@ -31,6 +32,7 @@ impl Plan {
     ghost use Rattle.iloc_sched.specs.Steps.SoFar.{IsPlan, class_at};
     ghost use Rattle.iloc_sched.specs.Steps.Filling.{IsFilling};
     ghost use Rattle.iloc_sched.specs.Steps.Graph.{IsGraphOf};
+    ghost use Rattle.iloc_sched.specs.Steps.Registers.{AreRegistersOf};
     ghost use Rattle.iloc_sched.specs.Steps.Views.{graph_of};
 
     /// The plan of no operation.
@@ -66,8 +68,9 @@ impl Plan {
 
     /// Adds an operation, the next of renamed ones, with the edges into it.
     #[inline(always)]
-    fn push(&mut self, lasts: &mut Lasts, op: Op) -> Result<(), NoMemory>
+    fn push(&mut self, lasts: &mut Lasts, op: Op, registers: Registers) -> Result<(), NoMemory>
         requires filling { IsFilling self.old lasts.old }
+        requires registers { AreRegistersOf op registers }
         requires renamed { IsRenamed (self.old.ops.items ++ op ∷ []) }
         requires few { length self.old.ops.items < MAX_OPS }
         ensures filling { OnOk result (IsFilling self.new lasts.new) }
@@ -85,8 +88,9 @@ impl Plan {
             kinds: &self.kinds,
             latencies: &self.priorities,
         };
-        self.edges.add_all(&operations, &self.latencies, lasts, j)?;
-        lasts.note(&operations, j)?;
+        self.edges
+            .add_all(&operations, &self.latencies, lasts, registers.uses, j)?;
+        lasts.note(&operations, registers.defines, j)?;
         Ok(())
     }
 
@@ -110,7 +114,8 @@ impl Plan {
         names.clear(block.ops.len());
         for op in block.ops.as_slice() {
             if !is_nop(op) {
-                self.push(lasts, names.rename(op)?)?;
+                let (renamed, registers) = names.rename(op)?;
+                self.push(lasts, renamed, registers)?;
             }
         }
         Ok(())

@@ -5,6 +5,7 @@ ghost use Rattle.iloc_meaning.specs.Outcome.{outcome};
 ghost use Rattle.iloc_sched.specs.Renaming.{is_nop, renamed, IsRenamed};
 
 use crate::by_register::ByRegister;
+use crate::registers::{Registers, Uses};
 use iloc_text::{Block, MAX_OPS, NoMemory, Op, Reg};
 use std::alloc::Global;
 
@@ -26,6 +27,8 @@ impl Names {
     ghost use Rattle.iloc_text.specs.declared.op.Reg.{Reg};
     ghost use Rattle.iloc_sched.specs.Steps.NamingWalk.{NamesNext, NamesUse, NamesDefinition, NamesAll, Named, next_renamed};
     ghost use Rattle.iloc_sched.specs.Steps.CurrentNames.{current_of};
+    ghost use Rattle.iloc_sched.specs.Steps.Registers.{AreRegistersOf};
+    ghost use Rattle.iloc_sched.specs.declared.registers.Uses.TheVariants.{Nothing, One, Two};
 
     /// Names for blocks, one after another.
     pub(crate) fn new(alloc: Global) -> Names
@@ -98,26 +101,50 @@ impl Names {
         Ok(())
     }
 
+    /// The same for `=> defined`. Answers the names.
+    fn rename_dest(&mut self, dest: &mut Reg) -> Result<Registers, NoMemory>
+        requires { self.old.given < 2 ^ 32 - 1 }
+        ensures names { OnOk result (NamesDefinition dest.old dest.new
+            self.old.given (current_of self.old) self.new.given (current_of self.new)) }
+        ensures registers { IfOk result (λ names. names ≡ record { uses = Nothing; defines = Some dest.new }) }
+    {
+        self.rename_definition(dest)?;
+        Ok(Registers {
+            uses: Uses::Nothing,
+            defines: Some(*dest),
+        })
+    }
+
     /// The same for `used => defined`.
-    fn rename_copied(&mut self, source: &mut Reg, dest: &mut Reg) -> Result<(), NoMemory>
+    fn rename_copied(&mut self, source: &mut Reg, dest: &mut Reg) -> Result<Registers, NoMemory>
         requires { self.old.given < 2 ^ 32 - 2 }
         ensures names { OnOk result (NamesAll (source.old ∷ []) (Some dest.old) (source.new ∷ []) dest.new
             self.old.given (current_of self.old) self.new.given (current_of self.new)) }
         ensures count { OnOk result (self.new.given ≤ self.old.given + 2) }
+        ensures registers { IfOk result (λ names. names ≡ record { uses = One source.new; defines = Some dest.new }) }
     {
         self.rename_use(source)?;
-        self.rename_definition(dest)
+        self.rename_definition(dest)?;
+        Ok(Registers {
+            uses: Uses::One(*source),
+            defines: Some(*dest),
+        })
     }
 
     /// The same for `used => used`.
-    fn rename_stored(&mut self, value: &mut Reg, addr: &mut Reg) -> Result<(), NoMemory>
+    fn rename_stored(&mut self, value: &mut Reg, addr: &mut Reg) -> Result<Registers, NoMemory>
         requires { self.old.given < 2 ^ 32 - 2 }
         ensures names { OnOk result ((own : Reg) → NamesAll (value.old ∷ addr.old ∷ []) None (value.new ∷ addr.new ∷ []) own
             self.old.given (current_of self.old) self.new.given (current_of self.new)) }
         ensures count { OnOk result (self.new.given ≤ self.old.given + 2) }
+        ensures registers { IfOk result (λ names. names ≡ record { uses = Two value.new addr.new; defines = None }) }
     {
         self.rename_use(value)?;
-        self.rename_use(addr)
+        self.rename_use(addr)?;
+        Ok(Registers {
+            uses: Uses::Two(*value, *addr),
+            defines: None,
+        })
     }
 
     /// The same for `used, used => defined`.
@@ -126,32 +153,44 @@ impl Names {
         left: &mut Reg,
         right: &mut Reg,
         dest: &mut Reg,
-    ) -> Result<(), NoMemory>
+    ) -> Result<Registers, NoMemory>
         requires { self.old.given < 2 ^ 32 - 3 }
         ensures names { OnOk result (NamesAll (left.old ∷ right.old ∷ []) (Some dest.old) (left.new ∷ right.new ∷ []) dest.new
             self.old.given (current_of self.old) self.new.given (current_of self.new)) }
         ensures count { OnOk result (self.new.given ≤ self.old.given + 3) }
+        ensures registers { IfOk result (λ names.
+            names ≡ record { uses = Two left.new right.new; defines = Some dest.new }) }
     {
         self.rename_use(left)?;
         self.rename_use(right)?;
-        self.rename_definition(dest)
+        self.rename_definition(dest)?;
+        Ok(Registers {
+            uses: Uses::Two(*left, *right),
+            defines: Some(*dest),
+        })
     }
 
-    /// The operation with the names of its registers: those of the uses first, left to right.
+    /// The operation with the names of its registers, those of the uses first, left to right; and these names, so that
+    /// nobody has to look again which registers it has.
     #[inline(always)]
-    pub(crate) fn rename(&mut self, op: &Op) -> Result<Op, NoMemory>
+    pub(crate) fn rename(&mut self, op: &Op) -> Result<(Op, Registers), NoMemory>
         requires { self.old.given < 2 ^ 32 - 3 }
         ensures next { IfOk result (λ renamed. (done : List Op) →
             Named done self.old.given (current_of self.old) →
             Named (done ++ op.now ∷ []) self.new.given (current_of self.new)
-            × (renamed ≡ next_renamed done op.now)) }
+            × (renamed.0 ≡ next_renamed done op.now)) }
         ensures count { OnOk result (self.new.given ≤ self.old.given + 3) }
+        ensures registers { IfOk result (λ renamed. AreRegistersOf renamed.0 renamed.1) }
     {
+        const NONE: Registers = Registers {
+            uses: Uses::Nothing,
+            defines: None,
+        };
         let mut renamed = *op;
-        match &mut renamed {
-            Op::Nop => {}
-            Op::Output { .. } => {}
-            Op::LoadI { dest, .. } => self.rename_definition(dest)?,
+        let registers = match &mut renamed {
+            Op::Nop => NONE,
+            Op::Output { .. } => NONE,
+            Op::LoadI { dest, .. } => self.rename_dest(dest)?,
             Op::Load { addr, dest } => self.rename_copied(addr, dest)?,
             Op::LoadAI { addr, dest, .. } => self.rename_copied(addr, dest)?,
             Op::AddI { left, dest, .. } => self.rename_copied(left, dest)?,
@@ -166,8 +205,8 @@ impl Names {
             Op::Mult { left, right, dest } => self.rename_sources(left, right, dest)?,
             Op::Lshift { left, right, dest } => self.rename_sources(left, right, dest)?,
             Op::Rshift { left, right, dest } => self.rename_sources(left, right, dest)?,
-        }
-        Ok(renamed)
+        };
+        Ok((renamed, registers))
     }
 
     /// Fills a list with the operations of a block, as `rename` has them.
@@ -184,7 +223,7 @@ impl Names {
         ops.reserve(block.ops.len())?;
         for op in block.ops.as_slice() {
             if !is_nop(op) {
-                ops.push(self.rename(op)?)?;
+                ops.push(self.rename(op)?.0)?;
             }
         }
         Ok(())

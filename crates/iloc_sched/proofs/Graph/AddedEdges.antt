@@ -190,3 +190,20 @@ pub covers_along : (lat : Latencies) (ops : List Op) (graph : Graph) (j : ℕ) (
     → regs ≡ used (op_at ops j) → ((r : Reg) → In taken r → CoversUse lat ops graph j r) → CoversUses lat ops graph j
 covers_along lat ops graph j taken regs all are covers = λ r held.
     covers r (subst (λ xs. In xs r) (sym (all ∙ are)) (in_from (used (op_at ops j)) r held))
+
+-- the one register that an operation uses has its edges
+pub one_covered : (lat : Latencies) (ops : List Op) (graph : Graph) (j : ℕ) (r : Reg) → r ∷ [] ≡ used (op_at ops j)
+    → CoversUse lat ops graph j r → CoversUses lat ops graph j
+one_covered lat ops graph j r are covered =
+    covers_along lat ops graph j (r ∷ []) (r ∷ []) refl are
+    (λ s held. elim held [ inl same ↦ subst (λ q. CoversUse lat ops graph j q) same covered | inr none ↦ absurd none ])
+
+-- both have
+pub two_covered : (lat : Latencies) (ops : List Op) (a b : Graph) (j : ℕ) (left right : Reg)
+    → left ∷ right ∷ [] ≡ used (op_at ops j) → Grows lat ops a b j → CoversUse lat ops a j left → CoversUse lat ops b j right
+    → CoversUses lat ops b j
+two_covered lat ops a b j left right are grows first second =
+    let of_left : (s : Reg) → In (left ∷ []) s → CoversUse lat ops a j s = λ s held.
+    elim held [ inl same ↦ subst (λ q. CoversUse lat ops a j q) same first | inr none ↦ absurd none ] in
+    covers_along lat ops b j (left ∷ right ∷ []) (left ∷ right ∷ []) refl are
+    (uses_more lat ops a b j (left ∷ []) right grows of_left second)

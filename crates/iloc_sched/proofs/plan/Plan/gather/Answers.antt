@@ -7,16 +7,16 @@ use Rattle.iloc_sched.proofs.Graph.PartialGraphs.{kept_at_end}
 use Rattle.iloc_sched.proofs.Graph.OneMoreInPlan.{size_more}
 use Rattle.iloc_sched.specs.Steps.Views.{graph_of}
 use Rattle.iloc_sched.proofs.plan.Plan.gather.Goals as goal
-use Rattle.iloc_sched.proofs.plan.Plan.gather.Goals.{then-not-is_nop+in_ok-rename+in_ok-push, else-not-is_nop}
+use Rattle.iloc_sched.proofs.plan.Plan.gather.Goals.{then-not-is_nop+in_ok-renamed+in_ok-push, else-not-is_nop}
 
 pub push-requires-clause-renamed : goal.push-requires-clause-renamed
 push-requires-clause-renamed c =
     let k : ℕ = c.loop-op.op-index in
     let items : List Op = c.as_slice-op-items.result.now in
     let ops : List Op = c.loop-op.self.ops.items in
-    let next = c.in_ok-rename.ensures.next _ c.loop-op.invariant.named in
+    let next = c.in_ok-renamed.ensures.next _ c.loop-op.invariant.named in
     subst IsRenamed
-    (sym (next_pushed (without_nops (take k items)) ops (ops ++ c.in_ok-rename.field-0 ∷ []) _ c.in_ok-rename.field-0
+    (sym (next_pushed (without_nops (take k items)) ops (ops ++ c.in_ok-renamed.renamed ∷ []) _ c.in_ok-renamed.renamed
     c.loop-op.invariant.ops next.1 refl
     ∙ ap (λ done. renamed_by done (numbering done))
     (sym (op_taken items k _ c.loop-op-test.true (sym c.is_nop.ensures ∙ c.if-not-is_nop.true)))))
@@ -24,8 +24,8 @@ push-requires-clause-renamed c =
 
 pub loop-op-preserved : goal.loop-op-preserved
 loop-op-preserved c = elim c.if-not-is_nop.branch [
-  | then-not-is_nop+in_ok-rename+in_ok-push w ↦
-      let next = w.in_ok-rename.ensures.next _ c.loop-op.invariant.named in
+  | then-not-is_nop+in_ok-renamed+in_ok-push w ↦
+      let next = w.in_ok-renamed.ensures.next _ c.loop-op.invariant.named in
       rw (
         w.self-is,
         w.names-is,
@@ -33,12 +33,12 @@ loop-op-preserved c = elim c.if-not-is_nop.branch [
         op_taken _ c.loop-op.op-index _ c.loop-op-test.true (sym c.is_nop.ensures
             ∙ w.if-not-is_nop.true),
       ) (record {
-        given = omega (arith, w.in_ok-rename.ensures.count);
+        given = omega (arith, w.in_ok-renamed.ensures.count);
         named = next.0;
         ops = next_pushed _ _ _ _ _ c.loop-op.invariant.ops next.1 w.in_ok-push.ensures.ops;
         few =
             let more : length w.push.new.self.ops.items ≡ length c.loop-op.self.ops.items + 1 =
-            ap (length {A = Op}) w.in_ok-push.ensures.ops ∙ size_more c.loop-op.self.ops.items w.in_ok-rename.field-0 in
+            ap (length {A = Op}) w.in_ok-push.ensures.ops ∙ size_more c.loop-op.self.ops.items w.in_ok-renamed.renamed in
             omega arith;
         filling = w.in_ok-push.ensures.filling;
         latencies = w.push.ensures.latencies ∙ c.loop-op.invariant.latencies;
