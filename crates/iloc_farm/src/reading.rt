@@ -1,5 +1,5 @@
 //! Files that several threads read, each a part of the text.
-ghost use Rattle.std.specs.Prelude.{◌≡◌, ◌≢◌, IfErr, IfOk, IfSome, List, map};
+ghost use Rattle.std.specs.Prelude.{◌≡◌, ◌≢◌, IfErr, IfOk, IfSome, List, map, ◌++◌};
 ghost use Rattle.std.specs.List.{All, AllZip, flat_map};
 ghost use Rattle.iloc_args.specs.declared.request.Task.TheVariants as task;
 ghost use Rattle.iloc_text.specs.declared.file.Block.{Block as block_value};
@@ -67,6 +67,18 @@ fn routines_of(alloc: Global, text: &[u8], most: usize) -> Result<Vec<Part<'_>>,
     Ok(routines)
 }
 
+/// The blocks of both lists, in order. Where there are none in front, those behind stay where they are.
+fn joined(front: Vec<Block>, behind: Vec<Block>) -> Result<Vec<Block>, NoMemory>
+    ensures { IfOk result (λ all. all.items ≡ front.items ++ behind.items) }
+{
+    let (mut front, mut behind) = (front, behind);
+    if front.is_empty() {
+        return Ok(behind);
+    }
+    front.append(&mut behind)?;
+    Ok(front)
+}
+
 /// The blocks of all parts, in order, or none where the text of a part is refused.
 fn blocks_of(alloc: Global, parts: Vec<PartRead<'_>>) -> Result<Option<Vec<Block>>, NoMemory>
     requires { All HoldsItsFile parts.items }
@@ -77,7 +89,7 @@ fn blocks_of(alloc: Global, parts: Vec<PartRead<'_>>) -> Result<Option<Vec<Block
     let mut blocks = Vec::new(alloc);
     for part in parts {
         match part.file {
-            Ok(file) => blocks.append(&mut file.blocks.into_vec())?,
+            Ok(file) => blocks = joined(blocks, file.blocks.into_vec())?,
             Err(ReadFault::NoMemory) => return Err(NoMemory),
             Err(_) => return Ok(None),
         }

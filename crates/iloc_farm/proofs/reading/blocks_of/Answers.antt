@@ -21,7 +21,7 @@ loop-part-preserved c =
     record {
       left = All-rest HoldsItsFile part _ _ rest now.left;
       files = now.files ++ file.blocks ∷ [];
-      blocks = c.in_ok-append-in-Ok.ensures.items
+      blocks = c.in_ok-blocks-in-Ok.ensures
           ∙ ap₂ (λ front back. front ++ back) now.blocks given
           ∙ sym (flat_map-append own now.files (file.blocks ∷ [])
           ∙ ap (λ back. flat_map own now.files ++ back) (append-nil file.blocks));
