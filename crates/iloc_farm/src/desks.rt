@@ -12,18 +12,21 @@ use iloc_timed::Latencies;
 use std::alloc::Global;
 use std::sync::Mutex;
 
-/// A desk for each of so many workers, with an equal share of these bytes as its room.
-pub(crate) fn desks_in(
+/// A desk for each of so many workers, with an equal share of these bytes as its room, and behind it one of these lists,
+/// if there are as many.
+pub(crate) fn desks_in<'r>(
     alloc: Global,
-    bytes: &mut [u8],
+    bytes: &'r mut [u8],
+    more: &'r mut [Vec<u8>],
     workers: u32,
-) -> Result<Vec<Mutex<Desk<'_>>>, NoMemory>
+) -> Result<Vec<Mutex<Desk<'r>>>, NoMemory>
     ensures { IfOk result (λ desks. length desks.items ≡ workers) }
 {
     let mut room = Room::new(bytes);
+    let mut more = more.iter_mut();
     let mut desks = Vec::with_capacity(alloc, workers as usize)?;
     for made in 0..workers {
-        let share = room.share((workers - made) as usize);
+        let share = room.share((workers - made) as usize, more.next());
         desks.push(Mutex::new(Desk::new(alloc, share)))?;
     }
     Ok(desks)

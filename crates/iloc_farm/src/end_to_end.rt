@@ -21,8 +21,8 @@ use crate::initial::initial_memory;
 use crate::outcomes::outcomes_listed;
 use crate::pieces::Pieces;
 use crate::reading::file_of;
-use crate::room::lengthen;
 use crate::runner::Runner;
+use crate::space::Space;
 use crate::stream::file_read;
 use iloc_args::{Request, Task};
 use iloc_rows::laws::submissions_are_within_limits;
@@ -123,17 +123,17 @@ fn scheduled_text<'r, H: Threads + Wait + Sync, R: Read>(
     alloc: Global,
     reader: &mut R,
     request: &Request,
-    room: &'r mut Vec<u8>,
+    space: &'r mut Space,
 ) -> Result<Listed<'r>, RunFault>
     requires { request.now.task ≡ Task.Schedule }
     ensures ok { IfOk result (λ listed.
         Lists request.now (R.remaining reader.old) (R.remaining reader.new) listed.finding listed.text) }
     ensures err { IfErr result (EndsReading request.now (R.remaining reader.old) (R.remaining reader.new)) }
 {
-    *room = read_input(alloc, reader)?;
-    let file = file_of(rt, alloc, room, request)?;
-    lengthen(room, file.blocks.as_slice())?;
-    let text = schedules_farmed(rt, alloc, file, request, room.as_mut_slice())?;
+    space.input = read_input(alloc, reader)?;
+    let file = file_of(rt, alloc, &space.input, request)?;
+    space.widen(alloc, file.blocks.as_slice(), request.workers)?;
+    let text = schedules_farmed(rt, alloc, file, request, space)?;
     Ok(Listed::of_file(text))
 }
 
@@ -191,13 +191,13 @@ fn explanations_text<'r, R: Read>(
     Ok(Listed::of_file(Pieces::new(alloc, text)))
 }
 
-/// What the request lists of what the reader gives. Some of it may lie in the room.
+/// What the request lists of what the reader gives. Some of it may lie in the space.
 fn request_text<'r, H: Threads + Wait + Sync, R: Read>(
     rt: &H,
     alloc: Global,
     reader: &mut R,
     request: &Request,
-    room: &'r mut Vec<u8>,
+    space: &'r mut Space,
 ) -> Result<Listed<'r>, RunFault>
     ensures ok { IfOk result (λ listed.
         Lists request.now (R.remaining reader.old) (R.remaining reader.new) listed.finding listed.text) }
@@ -206,7 +206,7 @@ fn request_text<'r, H: Threads + Wait + Sync, R: Read>(
     match request.task {
         Task::Run => run_text(alloc, reader, request),
         Task::Simulate => simulated_text(alloc, reader, request),
-        Task::Schedule => scheduled_text(rt, alloc, reader, request, room),
+        Task::Schedule => scheduled_text(rt, alloc, reader, request, space),
         Task::Counts => counted_text(rt, alloc, reader, request),
         Task::Explain => explanations_text(alloc, reader, request),
         Task::Check => check_text(alloc, reader, request),
@@ -234,8 +234,8 @@ pub fn run<H: Threads + Wait + Sync, R: Read, W: Write>(
         (R.remaining reader.old) (R.remaining reader.new)
         (W.contents writer.old) (W.contents writer.new)) }
 {
-    let mut room = Vec::new(alloc);
-    let listed = request_text(rt, alloc, reader, request, &mut room)?;
+    let mut space = Space::new(alloc);
+    let listed = request_text(rt, alloc, reader, request, &mut space)?;
     let Listed { text, finding } = listed;
     text.write_to(writer)?;
     Ok(finding)

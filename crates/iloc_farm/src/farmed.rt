@@ -15,6 +15,7 @@ use crate::entry_jobs::EntryJobs;
 use crate::fault::FarmFault;
 use crate::laws::greedy_schedules_can_be_listed;
 use crate::pieces::Pieces;
+use crate::space::Space;
 use iloc_args::Request;
 use iloc_board::FreeGate;
 use iloc_text::{Block, IlocFile};
@@ -22,19 +23,20 @@ use std::alloc::Global;
 use std::sync::Wait;
 use std::thread::Threads;
 
-/// The entries of the blocks' greedy schedules, for the request's latencies and by its workers. Their texts lie in the
-/// room, which is written over, as far as they fit. The blocks are let go.
+/// The entries of the blocks' greedy schedules, for the request's latencies and by its workers. Their texts lie in this
+/// space, which is written over, as far as they fit. The blocks are let go.
 fn entries_of<'r, R: Threads + Wait + Sync>(
     rt: &R,
     alloc: Global,
     file: IlocFile,
     request: &Request,
-    room: &'r mut [u8],
+    space: &'r mut Space,
 ) -> Result<Vec<Entry<'r>>, FarmFault>
     requires { IsWithinLimits file.blocks }
     ensures { IfOk result (λ entries. AreEntries request.now file.blocks entries.items) }
 {
-    let desks = desks_in(alloc, room, request.workers)?;
+    let Space { input, more } = space;
+    let desks = desks_in(alloc, input, more, request.workers)?;
     let blocks = file.blocks.as_slice();
     let jobs = EntryJobs::at_each(alloc, blocks, &request.latencies, &desks)?;
     let collected = answer_all(rt, alloc, &jobs[0], &jobs, &FreeGate)?;
@@ -51,20 +53,20 @@ fn counts_of<R: Threads + Wait + Sync>(
     requires { IsWithinLimits blocks.now }
     ensures { IfOk result (λ counts. AreCounts request.now blocks.now counts.items) }
 {
-    let desks = desks_in(alloc, &mut [], request.workers)?;
+    let desks = desks_in(alloc, &mut [], &mut [], request.workers)?;
     let jobs = CycleJobs::at_each(alloc, blocks, &request.latencies, &desks)?;
     let counted = answer_all(rt, alloc, &jobs[0], &jobs, &FreeGate)?;
     Ok(counted.answers)
 }
 
 /// The listing of the blocks' greedy schedules with their rows, for the request's latencies and by its workers. It lies in
-/// the room, as far as it fits, and the blocks are let go as soon as their entries are made.
+/// this space, as far as it fits, and the blocks are let go as soon as their entries are made.
 pub(crate) fn schedules_farmed<'r, R: Threads + Wait + Sync>(
     rt: &R,
     alloc: Global,
     file: IlocFile,
     request: &Request,
-    room: &'r mut [u8],
+    space: &'r mut Space,
 ) -> Result<Pieces<'r>, FarmFault>
     requires { IsWithinLimits file.blocks }
     ensures greedy { let blocks = file.blocks in let latencies = request.now.latencies in
@@ -73,7 +75,7 @@ pub(crate) fn schedules_farmed<'r, R: Threads + Wait + Sync>(
         IfOk result (ListsFarmed request.now blocks (schedules_listing request.now.latencies blocks)) }
 {
     greedy_schedules_can_be_listed();
-    let entries = entries_of(rt, alloc, file, request, room)?;
+    let entries = entries_of(rt, alloc, file, request, space)?;
     Ok(entries_text(alloc, entries)?)
 }
 

@@ -33,6 +33,7 @@ mod room;
 mod routine;
 mod runner;
 mod shift;
+mod space;
 mod stream;
 mod totals;
 

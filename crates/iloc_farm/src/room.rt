@@ -1,27 +1,21 @@
 //! Room in which texts are kept side by side.
 ghost use Rattle.std.specs.Prelude.{◌≡◌, ◌<◌, length, IfNone, IfSome};
 
-use iloc_text::{Block, NoMemory};
 use std::mem;
-
-/// What is listed of an operation takes so many bytes, more or less, and seldom more than half as many again as it takes
-/// in its file.
-const BYTES_OF_AN_OPERATION: usize = 24;
-
-/// What is listed of a block takes so many bytes beside those of its operations, more or less.
-const BYTES_OF_A_BLOCK: usize = 32;
 
 /// Room for texts. None of it is taken twice, and what was taken outlives the room.
 #[derive(Drop)]
 pub struct Room<'r> {
     /// What is not taken yet.
     free: &'r mut [u8],
+    /// More, of which nothing is written yet.
+    more: Option<&'r mut Vec<u8>>,
 }
 
 impl<'r> Room<'r> {
     /// Room of these bytes, which are written over.
     pub(crate) fn new(free: &'r mut [u8]) -> Room<'r> {
-        Room { free }
+        Room { free, more: None }
     }
 
     /// Takes so many bytes, or none where there are less.
@@ -39,11 +33,22 @@ impl<'r> Room<'r> {
         Some(taken)
     }
 
-    /// One of so many equal shares of this room.
-    pub(crate) fn share(&mut self, shares: usize) -> Room<'r> {
+    /// One of so many equal shares of this room, and behind it what more there is.
+    pub(crate) fn share(&mut self, shares: usize, more: Option<&'r mut Vec<u8>>) -> Room<'r> {
         let size = self.free.len() / shares.max(1);
         Room {
             free: self.take(size).unwrap_or_default(),
+            more,
+        }
+    }
+
+    /// Goes on in what more there is, all of which is written once now.
+    #[cold]
+    fn go_on(&mut self) {
+        if let Some(more) = self.more.take()
+            && more.resize(more.capacity(), 0).is_ok()
+        {
+            self.free = more.as_mut_slice();
         }
     }
 
@@ -52,23 +57,11 @@ impl<'r> Room<'r> {
         ensures kept { IfSome result (λ kept. kept.now ≡ text.now) }
         ensures none { IfNone result (length self.old.free.now < length text.now) }
     {
+        if self.free.len() < text.len() {
+            self.go_on();
+        }
         let taken = self.take(text.len())?;
         taken.copy_from_slice(text);
         Some(taken)
     }
-}
-
-/// Lengthens the bytes of a file to what the listed schedules of its blocks may take, where they are fewer.
-pub(crate) fn lengthen(bytes: &mut Vec<u8>, blocks: &[Block]) -> Result<(), NoMemory> {
-    let mut operations = 0usize;
-    for block in blocks {
-        operations = operations.saturating_add(block.ops.len());
-    }
-    let most = bytes.len().saturating_add(bytes.len() / 2);
-    let operations = operations.saturating_mul(BYTES_OF_AN_OPERATION).min(most);
-    let size = operations.saturating_add(blocks.len().saturating_mul(BYTES_OF_A_BLOCK));
-    if bytes.len() < size {
-        bytes.resize(size, 0)?;
-    }
-    Ok(())
 }
