@@ -61,7 +61,7 @@ module _ {A : Type 0} where
   length-placed row [] = refl
   length-placed row (x ∷ xs) = length-placed (slice_set row x.0 (Some x.1)) xs ∙ length-set row x.0 (Some x.1)
 
-  placed_has : (row : List (Option A)) (xs : List (ℕ × A)) (i : ℕ) (a : A) → slice_get (placed row xs) i ≡ Some (Some a)
+  pub placed_has : (row : List (Option A)) (xs : List (ℕ × A)) (i : ℕ) (a : A) → slice_get (placed row xs) i ≡ Some (Some a)
       → Contains xs (i, a) ⊎ (slice_get row i ≡ Some (Some a))
   placed_has row [] i a e = inr e
   placed_has row (x ∷ xs) i a e =
@@ -85,7 +85,7 @@ module _ {A : Type 0} where
         | inr ne ↦ some_stays (slice_set row x.0 (Some x.1)) xs i a (get_set_other row x.0 i (Some x.1) ne ∙ e)
       ]
 
-  placed_some : (row : List (Option A)) (xs : List (ℕ × A)) (i : ℕ) (a : A) → i < length row → Contains xs (i, a)
+  pub placed_some : (row : List (Option A)) (xs : List (ℕ × A)) (i : ℕ) (a : A) → i < length row → Contains xs (i, a)
       → (b : A) × (slice_get (placed row xs) i ≡ Some (Some b))
   placed_some row [] i a lt h = absurd (contains_none (i, a) h)
   placed_some row (x ∷ xs) i a lt h =
@@ -99,7 +99,7 @@ module _ {A : Type 0} where
             ≡ length row = length-set row x.0 (Some x.1) in omega arith) r
       ]
 
-  none_placed : (n i : ℕ) (a : A) → slice_get (replicate n None) i ≡ Some (Some a) → ⊥
+  pub none_placed : (n i : ℕ) (a : A) → slice_get (replicate n None) i ≡ Some (Some a) → ⊥
   none_placed zero i a e = absurd (cc)
   none_placed (suc n) zero a e = absurd (cc)
   none_placed (suc n) (suc i) a e = none_placed n i a e
@@ -451,6 +451,9 @@ module _ {J A : Type 0} (count : ℕ) (fits : ℕ → A → Type 0) (price : A �
           let P : List (ℕ × A) → Type 0 = λ t. All (λ x. x.0 < n) t in
           let Q : ℕ → Type 0 = λ m. All (λ x. x.0 < m) r.answers in
           subst P (sym its_own) (subst Q (sym same) all_below)
+
+      pub own_once : NoneTwice (jobs_of own)
+      own_once = let P : List (ℕ × A) → Type 0 = λ t. NoneTwice (jobs_of t) in subst P (sym its_own) each_once
 
       pub ends_well : (answers : List A) (costs : List ℕ) → map (λ a. Some a) answers ≡ placed (replicate n None) own
           → (final count steps).costs ≡ costs

@@ -10,5 +10,6 @@ pub mod Passes
 pub mod Rows
 pub mod Retires
 pub mod Closes
+pub mod Reordered
 pub mod Works
 pub mod Claims
