@@ -11,6 +11,7 @@ pub mod Status
 pub mod Gathered
 pub mod Schedules
 pub mod Simulated
+pub mod ListAfterList
 pub mod Listed
 pub mod Idle
 pub mod Headline

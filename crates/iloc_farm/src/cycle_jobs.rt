@@ -3,10 +3,10 @@ ghost use Rattle.std.specs.Prelude.{◌≡◌, ◌≤◌, length, IfOk};
 ghost use Rattle.std.specs.List.{All};
 ghost use Rattle.iloc_text.specs.declared.limits.TheConstants.{MAX_BLOCKS, MAX_OPS};
 
+use crate::block_lists::BlockLists;
 use crate::desk::Desk;
 use crate::desks::cycles_at;
 use iloc_board::{Jobs, NoMemory};
-use iloc_text::Block;
 use iloc_timed::Latencies;
 use std::alloc::Global;
 use std::marker::Model;
@@ -15,7 +15,7 @@ use std::sync::Mutex;
 /// Blocks to be scheduled for a machine with these latencies, of which only the cycles are wanted.
 #[derive(Drop)]
 pub struct CycleJobs<'f, 'd, 'r> {
-    blocks: &'f [Block],
+    blocks: &'f BlockLists,
     latencies: Latencies,
     /// Where the worker schedules who makes answers by these.
     desk: &'d Mutex<Desk<'r>>,
@@ -39,7 +39,7 @@ impl<'f, 'd, 'r> CycleJobs<'f, 'd, 'r> {
     /// These blocks as the jobs of each of the workers with these desks.
     pub(crate) fn at_each(
         alloc: Global,
-        blocks: &'f [Block],
+        blocks: &'f BlockLists,
         latencies: &Latencies,
         desks: &'d [Mutex<Desk<'r>>],
     ) -> Result<Vec<CycleJobs<'f, 'd, 'r>>, NoMemory>
@@ -81,6 +81,7 @@ impl<'f, 'd, 'r> Jobs for CycleJobs<'f, 'd, 'r> {
     }
 
     fn answer(&self, alloc: Global, i: u32) -> Result<u32, NoMemory> {
-        cycles_at(self.desk, alloc, &self.blocks[i as usize], &self.latencies).map_err(|_| NoMemory)
+        let block = self.blocks.get(i as usize);
+        cycles_at(self.desk, alloc, block, &self.latencies).map_err(|_| NoMemory)
     }
 }

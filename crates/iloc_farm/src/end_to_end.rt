@@ -11,6 +11,7 @@ ghost use Rattle.iloc_farm.specs.Schedules.{IsWithinLimits};
 ghost use Rattle.iloc_farm.specs.Steps.OfInput.{EndsFile, EndsReading};
 ghost use Rattle.iloc_farm.specs.Run.{EndsRun, Lists};
 
+use crate::block_lists::BlockLists;
 use crate::checked::checked_text;
 use crate::device::read_input;
 use crate::explained::explained_text;
@@ -20,14 +21,13 @@ use crate::finding::Finding;
 use crate::initial::initial_memory;
 use crate::outcomes::outcomes_listed;
 use crate::pieces::Pieces;
-use crate::reading::file_of;
+use crate::reading::blocks_of;
 use crate::runner::Runner;
 use crate::space::Space;
 use crate::stream::file_read;
 use iloc_args::{Request, Task};
 use iloc_rows::laws::submissions_are_within_limits;
 use iloc_rows::{RowsFault, Submission, read_submission};
-use iloc_text::IlocFile;
 use std::alloc::Global;
 use std::io::{Read, Write};
 use std::sync::Wait;
@@ -131,30 +131,35 @@ fn scheduled_text<'r, H: Threads + Wait + Sync, R: Read>(
     ensures err { IfErr result (EndsReading request.now (R.remaining reader.old) (R.remaining reader.new)) }
 {
     space.input = read_input(alloc, reader)?;
-    let file = file_of(rt, alloc, &space.input, request)?;
-    space.widen(alloc, file.blocks.as_slice(), request.workers)?;
-    let text = schedules_farmed(rt, alloc, file, request, space)?;
+    let blocks = blocks_of(rt, alloc, &space.input, request)?;
+    space.widen(alloc, &blocks, request.workers)?;
+    let text = schedules_farmed(rt, alloc, blocks, request, space)?;
     Ok(Listed::of_file(text))
 }
 
-/// The file that is read, of which the whole text is held, so that several threads can read it.
-fn file_held<H: Threads + Wait + Sync, R: Read>(
+/// The blocks that are read: as their bytes come where one thread reads them, else of a text that is held, so that several
+/// can read it.
+fn input_blocks<H: Threads + Wait + Sync, R: Read>(
     rt: &H,
     alloc: Global,
     reader: &mut R,
     request: &Request,
-) -> Result<IlocFile, RunFault>
+) -> Result<BlockLists, RunFault>
     requires { request.now.task ≢ Task.Check }
-    ensures ok { IfOk result (λ file. (input : List ℕ) ×
+    ensures ok { IfOk result (λ blocks. (input : List ℕ) ×
         ReadsInput (R.remaining reader.old) (R.remaining reader.new) input ×
-        Denotes input file.blocks × IsWithinLimits file.blocks) }
+        Denotes input blocks × IsWithinLimits blocks) }
     ensures err { IfErr result (EndsFile (R.remaining reader.old) (R.remaining reader.new)) }
 {
+    if request.workers == 1 {
+        let file = file_read(alloc, reader)?;
+        return Ok(BlockLists::of_one(alloc, file.blocks)?);
+    }
     let input = read_input(alloc, reader)?;
-    file_of(rt, alloc, &input, request)
+    blocks_of(rt, alloc, &input, request)
 }
 
-/// The cycles of the schedules of the blocks of a file. It is read as its bytes come where one thread reads it.
+/// The cycles of the schedules of the blocks of a file.
 fn counted_text<'r, H: Threads + Wait + Sync, R: Read>(
     rt: &H,
     alloc: Global,
@@ -166,12 +171,8 @@ fn counted_text<'r, H: Threads + Wait + Sync, R: Read>(
         Lists request.now (R.remaining reader.old) (R.remaining reader.new) listed.finding listed.text) }
     ensures err { IfErr result (EndsReading request.now (R.remaining reader.old) (R.remaining reader.new)) }
 {
-    let file = if request.workers == 1 {
-        file_read(alloc, reader)?
-    } else {
-        file_held(rt, alloc, reader, request)?
-    };
-    let text = counts_farmed(rt, alloc, file.blocks.as_slice(), request)?;
+    let blocks = input_blocks(rt, alloc, reader, request)?;
+    let text = counts_farmed(rt, alloc, &blocks, request)?;
     Ok(Listed::of_file(Pieces::new(alloc, text)))
 }
 

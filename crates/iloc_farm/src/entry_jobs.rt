@@ -3,11 +3,11 @@ ghost use Rattle.std.specs.Prelude.{◌≡◌, ◌≤◌, length, IfOk};
 ghost use Rattle.std.specs.List.{All};
 ghost use Rattle.iloc_text.specs.declared.limits.TheConstants.{MAX_BLOCKS, MAX_OPS};
 
+use crate::block_lists::BlockLists;
 use crate::desk::Desk;
 use crate::desks::entry_at;
 use crate::entry::Entry;
 use iloc_board::{Jobs, NoMemory};
-use iloc_text::Block;
 use iloc_timed::Latencies;
 use std::alloc::Global;
 use std::marker::Model;
@@ -16,7 +16,7 @@ use std::sync::Mutex;
 /// Blocks to be scheduled for a machine with these latencies, and listed.
 #[derive(Drop)]
 pub struct EntryJobs<'f, 'd, 'r> {
-    blocks: &'f [Block],
+    blocks: &'f BlockLists,
     latencies: Latencies,
     /// Where the worker schedules who makes answers by these.
     desk: &'d Mutex<Desk<'r>>,
@@ -40,7 +40,7 @@ impl<'f, 'd, 'r> EntryJobs<'f, 'd, 'r> {
     /// These blocks as the jobs of each of the workers with these desks.
     pub(crate) fn at_each(
         alloc: Global,
-        blocks: &'f [Block],
+        blocks: &'f BlockLists,
         latencies: &Latencies,
         desks: &'d [Mutex<Desk<'r>>],
     ) -> Result<Vec<EntryJobs<'f, 'd, 'r>>, NoMemory>
@@ -83,7 +83,7 @@ impl<'f, 'd, 'r> Jobs for EntryJobs<'f, 'd, 'r> {
 
     fn answer(&self, alloc: Global, i: u32) -> Result<Entry<'r>, NoMemory> {
         let number = i as usize + 1;
-        let block = &self.blocks[i as usize];
+        let block = self.blocks.get(i as usize);
         entry_at(self.desk, alloc, number, block, &self.latencies).map_err(|_| NoMemory)
     }
 }

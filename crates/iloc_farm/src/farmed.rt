@@ -7,6 +7,7 @@ ghost use Rattle.iloc_farm.specs.Steps.Counts.{AreCounts};
 ghost use Rattle.iloc_farm.specs.Steps.Entries.{AreEntries};
 
 use crate::answering::answer_all;
+use crate::block_lists::BlockLists;
 use crate::counts::cycles_text;
 use crate::cycle_jobs::CycleJobs;
 use crate::desks::desks_in;
@@ -18,7 +19,6 @@ use crate::pieces::Pieces;
 use crate::space::Space;
 use iloc_args::Request;
 use iloc_board::FreeGate;
-use iloc_text::{Block, IlocFile};
 use std::alloc::Global;
 use std::sync::Wait;
 use std::thread::Threads;
@@ -28,17 +28,16 @@ use std::thread::Threads;
 fn entries_of<'r, R: Threads + Wait + Sync>(
     rt: &R,
     alloc: Global,
-    file: IlocFile,
+    blocks: BlockLists,
     request: &Request,
     space: &'r mut Space,
 ) -> Result<Vec<Entry<'r>>, FarmFault>
-    requires { IsWithinLimits file.blocks }
-    ensures { IfOk result (λ entries. AreEntries request.now file.blocks entries.items) }
+    requires { IsWithinLimits blocks }
+    ensures { IfOk result (λ entries. AreEntries request.now blocks entries.items) }
 {
     let Space { input, more } = space;
     let desks = desks_in(alloc, input, more, request.workers)?;
-    let blocks = file.blocks.as_slice();
-    let jobs = EntryJobs::at_each(alloc, blocks, &request.latencies, &desks)?;
+    let jobs = EntryJobs::at_each(alloc, &blocks, &request.latencies, &desks)?;
     let collected = answer_all(rt, alloc, &jobs[0], &jobs, &FreeGate)?;
     Ok(collected.answers)
 }
@@ -47,7 +46,7 @@ fn entries_of<'r, R: Threads + Wait + Sync>(
 fn counts_of<R: Threads + Wait + Sync>(
     rt: &R,
     alloc: Global,
-    blocks: &[Block],
+    blocks: &BlockLists,
     request: &Request,
 ) -> Result<Vec<u32>, FarmFault>
     requires { IsWithinLimits blocks.now }
@@ -64,18 +63,18 @@ fn counts_of<R: Threads + Wait + Sync>(
 pub(crate) fn schedules_farmed<'r, R: Threads + Wait + Sync>(
     rt: &R,
     alloc: Global,
-    file: IlocFile,
+    blocks: BlockLists,
     request: &Request,
     space: &'r mut Space,
 ) -> Result<Pieces<'r>, FarmFault>
-    requires { IsWithinLimits file.blocks }
-    ensures greedy { let blocks = file.blocks in let latencies = request.now.latencies in
+    requires { IsWithinLimits blocks }
+    ensures greedy { let latencies = request.now.latencies in
         IfOk result (ListsGreedy latencies blocks (schedules_listing latencies blocks)) }
-    ensures farmed { let blocks = file.blocks in
-        IfOk result (ListsFarmed request.now blocks (schedules_listing request.now.latencies blocks)) }
+    ensures farmed { IfOk result
+        (ListsFarmed request.now blocks (schedules_listing request.now.latencies blocks)) }
 {
     greedy_schedules_can_be_listed();
-    let entries = entries_of(rt, alloc, file, request, space)?;
+    let entries = entries_of(rt, alloc, blocks, request, space)?;
     Ok(entries_text(alloc, entries)?)
 }
 
@@ -83,7 +82,7 @@ pub(crate) fn schedules_farmed<'r, R: Threads + Wait + Sync>(
 pub(crate) fn counts_farmed<R: Threads + Wait + Sync>(
     rt: &R,
     alloc: Global,
-    blocks: &[Block],
+    blocks: &BlockLists,
     request: &Request,
 ) -> Result<Vec<u8>, FarmFault>
     requires { IsWithinLimits blocks.now }

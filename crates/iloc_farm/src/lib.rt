@@ -3,6 +3,7 @@
 
 mod answering;
 mod block_jobs;
+mod block_lists;
 mod checked;
 mod counts;
 mod crew;

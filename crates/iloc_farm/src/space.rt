@@ -1,6 +1,7 @@
 //! The memory in which what is listed of schedules lies.
 
-use iloc_text::{Block, NoMemory};
+use crate::block_lists::BlockLists;
+use iloc_text::NoMemory;
 use std::alloc::Global;
 
 /// What is listed of an operation takes so many bytes, more or less, and seldom more than half as many again as it takes
@@ -28,13 +29,12 @@ impl Space {
     }
 
     /// How many bytes the listed schedules of these blocks may take.
-    fn wanted(&self, blocks: &[Block]) -> usize {
-        let mut operations = 0usize;
-        for block in blocks {
-            operations = operations.saturating_add(block.ops.len());
-        }
+    fn wanted(&self, blocks: &BlockLists) -> usize {
         let most = self.input.len().saturating_add(self.input.len() / 2);
-        let operations = operations.saturating_mul(BYTES_OF_AN_OPERATION).min(most);
+        let operations = blocks
+            .operations()
+            .saturating_mul(BYTES_OF_AN_OPERATION)
+            .min(most);
         operations.saturating_add(blocks.len().saturating_mul(BYTES_OF_A_BLOCK))
     }
 
@@ -42,7 +42,7 @@ impl Space {
     pub(crate) fn widen(
         &mut self,
         alloc: Global,
-        blocks: &[Block],
+        blocks: &BlockLists,
         workers: u32,
     ) -> Result<(), NoMemory> {
         let missing = self.wanted(blocks).saturating_sub(self.input.len());

@@ -1,16 +1,14 @@
-use Rattle.std.proofs.Common.{◌≡◌, ◌++◌, List, map}
-use Rattle.std.specs.List.{All, AllZip, flat_map}
+use Rattle.std.proofs.Common.{List, map, ◌++◌}
+use Rattle.std.specs.List.{All, AllZip}
 use Rattle.iloc_text.specs.declared.file.Block.{Block}
 use Rattle.iloc_text.specs.Files.{Denotes}
 use Rattle.iloc_farm.specs.Steps.Reading.{HoldsItsFile}
-use Rattle.iloc_farm.proofs.reading.blocks_of.Given as goal
+use Rattle.iloc_farm.proofs.reading.lists_of.Given as goal
 
 -- the files so far, behind which stand those of the parts that are left
 abbrev pub invariant-loop-part : goal.invariant-loop-part
 invariant-loop-part l = record {
   left : All HoldsItsFile l.part-iterator.rest.items;
-  files : List (List Block);
-  blocks : l.blocks.items ≡ flat_map (λ own. own) files;
   whole : (more : List (List Block)) → AllZip Denotes (map (λ part. part.text.now) l.part-iterator.rest.items) more
-      → AllZip Denotes (map (λ part. part.text.now) l.fn.parts.items) (files ++ more);
+      → AllZip Denotes (map (λ part. part.text.now) l.fn.parts.items) (l.lists.items ++ more);
 }
