@@ -1,7 +1,7 @@
 -- Rows that are found to be the same do what the block does.
 use Rattle.std.proofs.Common.{◌≡◌, true, List, sym, ap, ◌∙◌}
 use Rattle.std.specs.Prelude.{ℤ}
-use Rattle.iloc_text.specs.declared.op.Op.{Op}
+use Rattle.iloc_ops.specs.declared.op.Op.{Op}
 use Rattle.iloc_timed.specs.declared.latencies.Latencies.{Latencies}
 use Rattle.iloc_timed.specs.declared.row.Row.{Row}
 use Rattle.iloc_judge.specs.declared.verdict.Verdict.{Verdict}

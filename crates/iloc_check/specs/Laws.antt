@@ -1,6 +1,6 @@
 -- What holds of all that is found of rows.
 use Rattle.std.specs.Prelude.{ℕ, ℤ, ◌≡◌, true, List}
-use Rattle.iloc_text.specs.declared.op.Op.{Op}
+use Rattle.iloc_ops.specs.declared.op.Op.{Op}
 use Rattle.iloc_timed.specs.declared.latencies.Latencies.{Latencies}
 use Rattle.iloc_timed.specs.Schedule.{Table}
 use Rattle.iloc_rows.specs.declared.proposal.Proposal.{Proposal}

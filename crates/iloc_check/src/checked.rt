@@ -9,9 +9,9 @@ use crate::detail::push_detail;
 use crate::verdict_line::push_verdict_line;
 use iloc_judge::{Verdict, judge};
 use iloc_meaning::Memory;
+use iloc_ops::{Block, MAX_OPS, NoMemory};
 use iloc_rows::Proposal;
 use iloc_sched::least;
-use iloc_text::{Block, MAX_OPS, NoMemory};
 use iloc_timed::{Latencies, Schedule, cycles, cycles_of};
 use std::alloc::Global;
 

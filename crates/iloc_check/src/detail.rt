@@ -6,7 +6,7 @@ ghost use Rattle.iloc_check.specs.Listing as listed;
 ghost use Rattle.iloc_check.specs.Steps.Counted.{IsCounted, CanBeListed};
 
 use iloc_judge::{Place, Probe, Verdict};
-use iloc_text::{NoMemory, Op, push_decimal, push_number};
+use iloc_ops::{NoMemory, Op, push_decimal, push_number};
 use iloc_timed::{Row, push_row};
 
 /// Appends a word, `none` where there is none.

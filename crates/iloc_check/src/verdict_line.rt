@@ -4,7 +4,7 @@ ghost use Rattle.iloc_check.specs.Listing as listed;
 
 use crate::checked::Checked;
 use iloc_judge::Verdict;
-use iloc_text::{NoMemory, push_column};
+use iloc_ops::{NoMemory, push_column};
 
 /// The word for a verdict.
 fn verdict_word(verdict: &Verdict) -> &'static str

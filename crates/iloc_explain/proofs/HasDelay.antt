@@ -4,7 +4,7 @@ use Rattle.std.specs.Prelude.{Contains, IsTrue}
 use Rattle.std.specs.List.{list_any}
 use Rattle.std.proofs.lemmas.Bool.{eq-eqb, eqb-true, iff_false, lt-ltb}
 use Rattle.iloc_meaning.proofs.Cases.{by_bool}
-use Rattle.iloc_text.specs.declared.op.Op.{Op}
+use Rattle.iloc_ops.specs.declared.op.Op.{Op}
 use Rattle.iloc_meaning.specs.Trace.{op_at}
 use Rattle.iloc_timed.specs.declared.latencies.Latencies.{Latencies}
 use Rattle.iloc_sched.specs.Delays.{delays}

@@ -2,8 +2,8 @@
 use Rattle.std.proofs.Common.{◌≡◌, ◌<◌, ◌≤◌, ℕ, not, ◌+◌, List, ◌∷◌, ◌++◌, length, drop, get_or, refl, sym, ap, ◌∙◌, append_assoc, add-one, drop-cons, arith}
 use Rattle.std.proofs.lemmas.List.Filters.{length-filter_both}
 use Rattle.iloc_meaning.proofs.Cases.{by_bool}
-use Rattle.iloc_text.specs.declared.op.Op.{Op}
-use Rattle.iloc_text.specs.declared.op.Op.TheVariants.{Nop}
+use Rattle.iloc_ops.specs.declared.op.Op.{Op}
+use Rattle.iloc_ops.specs.declared.op.Op.TheVariants.{Nop}
 use Rattle.iloc_sched.specs.Renaming.{is_nop, without_nops}
 use Rattle.iloc_sched.proofs.Renamed.WithoutNops.{is_nop-true}
 use Rattle.iloc_explain.specs.declared.explanation.Explained.{Explained}

@@ -1,7 +1,7 @@
 -- When the operations of a schedule are ready, and what they waited for.
 use Rattle.std.specs.Prelude.{ℕ, ◌+◌, ◌≡◌, ◌≤◌, ◌⊎◌, ◌==◌, ◌&&◌, nat_lt, Bool, List, ◌++◌, filter, option_to_list}
 use Rattle.std.specs.List.{flat_map, list_any}
-use Rattle.iloc_text.specs.declared.op.Op.{Op}
+use Rattle.iloc_ops.specs.declared.op.Op.{Op}
 use Rattle.iloc_meaning.specs.Trace.{op_at}
 use Rattle.iloc_timed.specs.declared.latencies.Latencies.{Latencies}
 use Rattle.iloc_timed.specs.declared.row.Row.{Row}

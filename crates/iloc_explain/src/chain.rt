@@ -5,7 +5,7 @@ ghost use Rattle.iloc_explain.specs.Chain.{Continues, IsLongestChain, SpansTheGr
 ghost use Rattle.iloc_explain.specs.Steps.Greatest.{IsPlaceOfGreatest};
 
 use crate::waited::has_delay;
-use iloc_text::{NoMemory, Op};
+use iloc_ops::{NoMemory, Op};
 use iloc_timed::Latencies;
 use std::alloc::Global;
 

@@ -6,7 +6,7 @@ ghost use Rattle.iloc_explain.specs.Explained.{AreExplained, unit_of};
 use crate::issued::issue_cycles;
 use crate::latest::Latest;
 use crate::waited::waited_until;
-use iloc_text::NoMemory;
+use iloc_ops::NoMemory;
 use iloc_timed::{Latencies, Row, Schedule, latency};
 use std::alloc::Global;
 

@@ -3,7 +3,7 @@ ghost use Rattle.std.specs.Prelude.{◌≡◌, ◌<◌, ℕ, length, IfOk, IfSom
 ghost use Rattle.iloc_timed.specs.Rows.{issue_cycle};
 ghost use Rattle.iloc_explain.specs.Steps.Issued.{with_slot};
 
-use iloc_text::NoMemory;
+use iloc_ops::NoMemory;
 use iloc_timed::Schedule;
 use std::alloc::Global;
 

@@ -1,8 +1,8 @@
 //! What earlier operations leave to wait for.
 ghost use Rattle.std.specs.Prelude.{◌≡◌, ◌+◌, ◌<◌, ◌^◌, OnOk};
-ghost use Rattle.iloc_text.specs.declared.op.Reg.{Reg as reg_value};
+ghost use Rattle.iloc_ops.specs.declared.op.Reg.{Reg as reg_value};
 
-use iloc_text::{NoMemory, Op, Reg, defines, uses};
+use iloc_ops::{NoMemory, Op, Reg, defines, uses};
 use iloc_timed::Kind;
 use std::alloc::Global;
 use std::collections::BTreeMap;

@@ -8,8 +8,8 @@ ghost use Rattle.iloc_explain.specs.Listing.{IsExplanation};
 
 use crate::chain::longest_chain;
 use crate::explanation::{Explained, Unit, explain};
+use iloc_ops::{Block, MAX_OPS, NoMemory, Op, push_column, push_decimal, push_op};
 use iloc_sched::{least, priorities};
-use iloc_text::{Block, MAX_OPS, NoMemory, Op, push_column, push_decimal, push_op};
 use iloc_timed::{Latencies, Schedule, cycles};
 use std::alloc::Global;
 

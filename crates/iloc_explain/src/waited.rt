@@ -5,8 +5,8 @@ ghost use Rattle.iloc_sched.specs.Delays.{delays as all_delays};
 ghost use Rattle.iloc_explain.specs.Waiting.{waited_until};
 ghost use Rattle.iloc_explain.specs.Steps.Waits.{waits_for};
 
+use iloc_ops::{NoMemory, Op};
 use iloc_sched::{LONGEST_DELAY, delays};
-use iloc_text::{NoMemory, Op};
 use iloc_timed::{Latencies, Schedule};
 use std::alloc::Global;
 

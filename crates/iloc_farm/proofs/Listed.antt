@@ -1,6 +1,6 @@
 -- What is listed of one block more.
 use Rattle.std.proofs.Common.{◌≡◌, ◌∙◌, ℕ, ◌+◌, List, [], ◌∷◌, ◌++◌, length, ℤ, sym, ap, append_assoc, append-nil, arith}
-use Rattle.iloc_text.specs.declared.file.Block.{Block}
+use Rattle.iloc_ops.specs.declared.file.Block.{Block}
 use Rattle.iloc_meaning.specs.Outcome.{outcome}
 use Rattle.iloc_farm.specs.Listing.{entries, outcome_entry}
 use Rattle.iloc_farm.specs.Run.{run_listing}

@@ -1,6 +1,6 @@
 -- What is listed of one input does not depend on the workers, and greedy schedules can be listed.
 use Rattle.std.proofs.Common.{◌≡◌, ℕ, List, ℤ, ap, sym, ◌∙◌, subst}
-use Rattle.iloc_text.specs.declared.file.Block.{Block}
+use Rattle.iloc_ops.specs.declared.file.Block.{Block}
 use Rattle.iloc_text.proofs.Answer.{one_answer}
 use Rattle.iloc_timed.specs.declared.latencies.Latencies.{Latencies}
 use Rattle.iloc_timed.specs.Schedule.{Table}

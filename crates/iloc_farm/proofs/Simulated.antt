@@ -1,6 +1,6 @@
 -- What is listed of simulated blocks is what is listed of blocks that are run.
 use Rattle.std.proofs.Common.{◌≡◌, ℕ, List, ℤ, ap, sym, ◌∙◌}
-use Rattle.iloc_text.specs.declared.file.Block.{Block}
+use Rattle.iloc_ops.specs.declared.file.Block.{Block}
 use Rattle.iloc_timed.specs.declared.latencies.Latencies.{Latencies}
 use Rattle.iloc_timed.specs.Schedule.{Table}
 use Rattle.iloc_farm.specs.Listing.{outcomes_listing}

@@ -1,7 +1,7 @@
 -- The headline of the farm: what several workers make of a file's blocks, in whatever order their steps come.
 use Rattle.std.specs.Prelude.{◌≡◌, ℕ, ℤ, cond, ◌==◌, List, [], ◌∷◌, length, slice_get, slice_index, Some}
 use Rattle.std.specs.List.{Contains, range_with_len}
-use Rattle.iloc_text.specs.declared.file.Block.{Block}
+use Rattle.iloc_ops.specs.declared.file.Block.{Block}
 use Rattle.iloc_meaning.specs.Outcome.{outcome}
 use Rattle.iloc_timed.specs.declared.latencies.Latencies.{Latencies}
 use Rattle.iloc_timed.specs.Schedule.{Table}

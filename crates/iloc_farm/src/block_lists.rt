@@ -2,7 +2,7 @@
 ghost use Rattle.std.specs.Prelude.{◌≡◌, ◌-◌, ◌<◌, ◌^◌, length, min, slice_get, IfOk, Some};
 ghost use Rattle.std.specs.List.{flat_map};
 
-use iloc_text::{Block, Blocks, NoMemory};
+use iloc_ops::{Block, Blocks, NoMemory};
 use std::alloc::Global;
 use std::marker::Model;
 
@@ -15,7 +15,7 @@ pub(crate) struct BlockLists {
 impl Model for BlockLists {
     ghost use Rattle.std.specs.Prelude.{List};
     ghost use Rattle.std.specs.List.{flat_map};
-    ghost use Rattle.iloc_text.specs.declared.file.Block.{Block as block_value};
+    ghost use Rattle.iloc_ops.specs.declared.file.Block.{Block as block_value};
 
     ghost Value = { List block_value };
 

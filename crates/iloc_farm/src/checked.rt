@@ -8,9 +8,9 @@ use crate::listing::push_block_head;
 use crate::totals::Totals;
 use iloc_check::push_check;
 use iloc_meaning::Memory;
+use iloc_ops::NoMemory;
 use iloc_rows::Submission;
 use iloc_sched::Scheduler;
-use iloc_text::NoMemory;
 use iloc_timed::{Latencies, MAX_ROWS};
 use std::alloc::Global;
 

@@ -4,7 +4,7 @@ ghost use Rattle.iloc_farm.specs.Listing.{count_line, entries, total_of};
 
 use crate::block_lists::BlockLists;
 use crate::listing::{push_count, push_total};
-use iloc_text::NoMemory;
+use iloc_ops::NoMemory;
 use std::alloc::Global;
 
 /// The listing of these blocks, each of which takes so many cycles: a line for each, and at the end the cycles of all.

@@ -1,6 +1,6 @@
 //! A desk, at which blocks are scheduled one after another.
 ghost use Rattle.std.specs.Prelude.{◌≡◌, ◌↔◌, ◌≤◌, ◌<◌, ◌+◌, ◌*◌, ◌^◌, length, IfOk, IsTrue};
-ghost use Rattle.iloc_text.specs.declared.limits.TheConstants.{MAX_OPS};
+ghost use Rattle.iloc_ops.specs.declared.limits.TheConstants.{MAX_OPS};
 ghost use Rattle.iloc_farm.specs.Listing as listed;
 ghost use Rattle.iloc_farm.specs.Steps.Counts.{IsCount};
 ghost use Rattle.iloc_farm.specs.Steps.Entries.{IsEntry};
@@ -11,8 +11,8 @@ use crate::folded::Folded;
 use crate::listing::push_schedule;
 use crate::piece::Piece;
 use crate::room::Room;
+use iloc_ops::{Block, NoMemory};
 use iloc_sched::Scheduler;
-use iloc_text::{Block, NoMemory};
 use iloc_timed::{Latencies, MAX_ROWS, Schedule, cycles};
 use std::alloc::Global;
 

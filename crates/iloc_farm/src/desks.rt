@@ -1,13 +1,13 @@
 //! The desks at which workers schedule blocks.
 ghost use Rattle.std.specs.Prelude.{◌≡◌, ◌≤◌, ◌<◌, ◌^◌, length, IfOk};
-ghost use Rattle.iloc_text.specs.declared.limits.TheConstants.{MAX_OPS};
+ghost use Rattle.iloc_ops.specs.declared.limits.TheConstants.{MAX_OPS};
 ghost use Rattle.iloc_farm.specs.Steps.Counts.{IsCount};
 ghost use Rattle.iloc_farm.specs.Steps.Entries.{IsEntry};
 
 use crate::desk::Desk;
 use crate::entry::Entry;
 use crate::room::Room;
-use iloc_text::{Block, NoMemory};
+use iloc_ops::{Block, NoMemory};
 use iloc_timed::Latencies;
 use std::alloc::Global;
 use std::sync::Mutex;

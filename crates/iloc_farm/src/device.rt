@@ -3,7 +3,7 @@ ghost use Rattle.std.specs.Prelude.{IfOk, OnOk, OnErr};
 ghost use Rattle.std.specs.Io.KnownBytes.{Appends};
 ghost use Rattle.iloc_farm.specs.Device.{ReadsInput, WritesFront};
 
-use iloc_text::MAX_INPUT;
+use iloc_ops::MAX_INPUT;
 use std::alloc::{AllocError, Global};
 use std::io::{Read, Write};
 

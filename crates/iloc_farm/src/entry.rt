@@ -7,7 +7,7 @@ ghost use Rattle.iloc_farm.specs.Steps.Pieces.{spelled};
 use crate::listing::push_total;
 use crate::piece::Piece;
 use crate::pieces::Pieces;
-use iloc_text::NoMemory;
+use iloc_ops::NoMemory;
 use std::alloc::Global;
 
 /// What is listed of one block.

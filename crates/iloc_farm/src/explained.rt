@@ -1,14 +1,14 @@
 //! The listing of why the schedules of a file's blocks take their cycles.
 ghost use Rattle.std.specs.Prelude.{◌≤◌, ◌<◌, ◌^◌, length, IfOk};
-ghost use Rattle.iloc_text.specs.declared.limits.TheConstants.{MAX_OPS};
+ghost use Rattle.iloc_ops.specs.declared.limits.TheConstants.{MAX_OPS};
 ghost use Rattle.iloc_farm.specs.Explaining.{ListsExplained};
 ghost use Rattle.iloc_farm.specs.Schedules.{IsWithinLimits};
 ghost use Rattle.iloc_farm.specs.Steps.Explaining.{Explains};
 
 use crate::listing::{push_block_head, push_total};
 use iloc_explain::push_explanation;
+use iloc_ops::{Block, IlocFile, NoMemory};
 use iloc_sched::Scheduler;
-use iloc_text::{Block, IlocFile, NoMemory};
 use iloc_timed::{Latencies, cycles};
 use std::alloc::Global;
 

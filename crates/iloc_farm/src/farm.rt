@@ -7,7 +7,7 @@ use crate::answering::answer_all;
 use crate::block_jobs::BlockJobs;
 use crate::fault::FarmFault;
 use iloc_board::Gate;
-use iloc_text::IlocFile;
+use iloc_ops::IlocFile;
 use iloc_timed::{Latencies, Schedule};
 use std::alloc::Global;
 use std::sync::Wait;

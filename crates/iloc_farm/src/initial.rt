@@ -4,7 +4,7 @@ ghost use Rattle.iloc_farm.specs.Initial.{initial_memory};
 
 use iloc_args::Request;
 use iloc_meaning::Memory;
-use iloc_text::NoMemory;
+use iloc_ops::NoMemory;
 use std::alloc::Global;
 
 /// The memory that a request has each block start with: its words from its start on, and else 0.

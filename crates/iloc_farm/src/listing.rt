@@ -10,7 +10,7 @@ ghost use Rattle.iloc_farm.specs.Steps.Detailed.{entry_with, listing_with};
 
 use crate::numbered::push_numbered;
 use iloc_meaning::Outcome;
-use iloc_text::{IlocFile, Name, NoMemory, Op, push_number};
+use iloc_ops::{IlocFile, Name, NoMemory, Op, push_number};
 use iloc_timed::{Latencies, Row, Schedule, cycles, push_row_line};
 use std::alloc::Global;
 

@@ -2,7 +2,7 @@
 ghost use Rattle.std.specs.Prelude.{◌≡◌, ◌≤◌, ◌+◌, ◌++◌, length, OnOk};
 ghost use Rattle.std.specs.Fmt.{decimal};
 
-use iloc_text::{NoMemory, write_text};
+use iloc_ops::{NoMemory, write_text};
 use itoa::write_digits;
 
 /// More bytes than a number takes with the words around it.

@@ -1,6 +1,6 @@
 //! The listing of the outcomes of blocks, made as they are read.
 ghost use Rattle.std.specs.Prelude.{◌≡◌, IfErr, IfOk, List, ℕ};
-ghost use Rattle.iloc_text.specs.declared.file.Block.{Block as block_value};
+ghost use Rattle.iloc_ops.specs.declared.file.Block.{Block as block_value};
 ghost use Rattle.iloc_text.specs.Files.{Denotes};
 ghost use Rattle.iloc_farm.specs.Device.{ReadsInput};
 ghost use Rattle.iloc_farm.specs.Run.{run_listing};

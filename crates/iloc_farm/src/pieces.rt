@@ -9,7 +9,7 @@ use crate::device::{WriteFailed, write_text};
 use crate::entry::Entry;
 use crate::joined::{MOST_JOINED, write_room};
 use crate::piece::Piece;
-use iloc_text::NoMemory;
+use iloc_ops::NoMemory;
 use std::alloc::Global;
 use std::io::Write;
 use std::marker::Model;

@@ -5,8 +5,8 @@ ghost use Rattle.iloc_meaning.specs.Outcome.{outcome, shown};
 ghost use Rattle.iloc_farm.specs.Steps.Runner.{runs};
 
 use iloc_meaning::{Interpreter, Memory};
+use iloc_ops::{Block, MAX_OPS, NoMemory};
 use iloc_sched::Scheduler;
-use iloc_text::{Block, MAX_OPS, NoMemory};
 use iloc_timed::{Latencies, Simulator};
 use std::alloc::Global;
 

@@ -1,7 +1,7 @@
 //! The memory in which what is listed of schedules lies.
 
 use crate::block_lists::BlockLists;
-use iloc_text::NoMemory;
+use iloc_ops::NoMemory;
 use std::alloc::Global;
 
 /// What is listed of an operation takes so many bytes, more or less, and seldom more than half as many again as it takes

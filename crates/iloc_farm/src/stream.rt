@@ -1,6 +1,6 @@
 //! Files that are read as their bytes come.
 ghost use Rattle.std.specs.Prelude.{IfErr, IfOk, List, ℕ};
-ghost use Rattle.iloc_text.specs.declared.file.Block.{Block as block_value};
+ghost use Rattle.iloc_ops.specs.declared.file.Block.{Block as block_value};
 ghost use Rattle.iloc_text.specs.Files.{Denotes};
 ghost use Rattle.iloc_farm.specs.Device.{ReadsInput};
 ghost use Rattle.iloc_farm.specs.Schedules.{IsWithinLimits};

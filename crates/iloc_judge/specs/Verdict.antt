@@ -1,6 +1,6 @@
 -- What is said of somebody's rows for a block.
 use Rattle.std.specs.Prelude.{◌≡◌, List, ℤ}
-use Rattle.iloc_text.specs.declared.op.Op.{Op}
+use Rattle.iloc_ops.specs.declared.op.Op.{Op}
 use Rattle.iloc_meaning.specs.Outcome.{outcome}
 use Rattle.iloc_timed.specs.declared.latencies.Latencies.{Latencies}
 use Rattle.iloc_timed.specs.declared.row.Row.{Row}

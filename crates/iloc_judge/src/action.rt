@@ -9,7 +9,7 @@ ghost use Rattle.iloc_judge.specs.Steps.Symbols.{number_in, effect_of};
 use crate::registers::Registers;
 use crate::table::Table;
 use iloc_meaning::arithmetic::constant;
-use iloc_text::{NoMemory, Op, Reg};
+use iloc_ops::{NoMemory, Op, Reg};
 
 /// What an operation does, by the numbers of terms. What is done at an address is a fault where that
 /// isn't good.

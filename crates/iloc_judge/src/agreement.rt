@@ -9,7 +9,7 @@ use crate::node::Node;
 use crate::symbols::Symbols;
 use crate::table::Table;
 use iloc_meaning::Memory;
-use iloc_text::NoMemory;
+use iloc_ops::NoMemory;
 use std::alloc::Global;
 
 /// Whether an address is known, and good or not as asked.

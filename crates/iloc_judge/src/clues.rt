@@ -4,7 +4,7 @@ use crate::agreement::{is_marked, marks};
 use crate::node::Node;
 use crate::table::Table;
 use iloc_meaning::Memory;
-use iloc_text::NoMemory;
+use iloc_ops::NoMemory;
 use std::alloc::Global;
 
 /// The known words of two runs, as patterns of 32 bits.

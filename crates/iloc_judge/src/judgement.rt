@@ -9,7 +9,7 @@ use crate::agreement::agree;
 use crate::clues::Clues;
 use crate::symbols::Symbols;
 use crate::table::Table;
-use iloc_text::{NoMemory, Op};
+use iloc_ops::{NoMemory, Op};
 use iloc_timed::{Latencies, Row, Schedule};
 use std::alloc::Global;
 

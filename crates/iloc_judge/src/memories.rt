@@ -6,7 +6,7 @@ ghost use Rattle.iloc_judge.specs.Steps.Terms.{Adds, Meaning, IsMeaning, IsWritt
 use crate::node::Node;
 use crate::table::Table;
 use crate::tries::Found;
-use iloc_text::NoMemory;
+use iloc_ops::NoMemory;
 
 /// What the last epoch of a memory says of an address.
 #[derive(Clone, Copy, Debug)]

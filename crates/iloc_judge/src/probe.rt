@@ -4,7 +4,7 @@ ghost use Rattle.std.specs.Prelude.{◌≡◌, ◌+◌, ◌*◌, ◌%◌, ◌≤
 use crate::clues::Clues;
 use crate::pattern::Pattern;
 use iloc_meaning::WORDS;
-use iloc_text::NoMemory;
+use iloc_ops::NoMemory;
 use std::alloc::Global;
 
 /// A memory that the judge makes up: these words from the address `at` on, and all else 0.

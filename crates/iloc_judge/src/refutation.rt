@@ -10,7 +10,7 @@ use crate::pattern::Pattern;
 use crate::place::{Place, difference};
 use crate::probe::Probe;
 use iloc_meaning::{Memory, run_block};
-use iloc_text::{Block, NoMemory};
+use iloc_ops::{Block, NoMemory};
 use iloc_timed::{Latencies, Schedule, run_schedule};
 use std::alloc::Global;
 

@@ -2,7 +2,7 @@
 ghost use Rattle.std.specs.Prelude.{◌≡◌, IfOk, OnOk};
 
 use crate::table::Table;
-use iloc_text::{NoMemory, Reg};
+use iloc_ops::{NoMemory, Reg};
 use std::alloc::Global;
 use std::collections::BTreeMap;
 
@@ -16,7 +16,7 @@ pub(crate) struct Registers {
 
 impl Registers {
     ghost use Rattle.std.specs.Prelude.{◌≢◌, pos};
-    ghost use Rattle.iloc_text.specs.declared.op.Reg.{Reg as Register};
+    ghost use Rattle.iloc_ops.specs.declared.op.Reg.{Reg as Register};
     ghost use Rattle.iloc_judge.specs.Steps.Terms.{Adds};
     ghost use Rattle.iloc_judge.specs.Steps.Symbols.{number_in, ChangesOnly};
 

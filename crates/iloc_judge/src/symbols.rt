@@ -10,7 +10,7 @@ use crate::action::Action;
 use crate::registers::Registers;
 use crate::table::Table;
 use crate::wheel::{LONGEST, Sent, Wheel};
-use iloc_text::{NoMemory, Op, Reg, defines};
+use iloc_ops::{NoMemory, Op, Reg, defines};
 use iloc_timed::{Latencies, MAX_ROWS, Row, Schedule, latency};
 use std::alloc::Global;
 

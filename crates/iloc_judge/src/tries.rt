@@ -4,7 +4,7 @@ ghost use Rattle.iloc_judge.specs.Steps.Terms.{Adds, PutsAt, AreHalves, HasNoOth
 
 use crate::node::Node;
 use crate::table::Table;
-use iloc_text::NoMemory;
+use iloc_ops::NoMemory;
 
 /// How many bits a key has.
 const KEY_BITS: u32 = 32;

@@ -10,7 +10,7 @@ use crate::place::Place;
 use crate::probe::Probe;
 use crate::refutation::{Refutation, difference_on, refute};
 use iloc_meaning::Memory;
-use iloc_text::{Block, NoMemory, Op};
+use iloc_ops::{Block, NoMemory, Op};
 use iloc_timed::{BuildFault, Latencies, MAX_ROWS, Row, Schedule};
 use std::alloc::Global;
 

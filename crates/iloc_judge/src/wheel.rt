@@ -1,7 +1,7 @@
 //! Terms on their way to where they are written.
 ghost use Rattle.std.specs.Prelude.{◌≡◌, ◌%◌, ◌++◌, ◌∷◌, [], replicate, slice_set, IfOk, OnOk};
 
-use iloc_text::{NoMemory, Reg};
+use iloc_ops::{NoMemory, Reg};
 use std::alloc::Global;
 use std::marker::Model;
 

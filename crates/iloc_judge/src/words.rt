@@ -7,7 +7,7 @@ ghost use Rattle.iloc_judge.specs.Steps.Terms.{computed, Adds, Meaning, IsMeanin
 use crate::node::{Binary, Node};
 use crate::table::Table;
 use iloc_meaning::arithmetic;
-use iloc_text::NoMemory;
+use iloc_ops::NoMemory;
 
 /// A word as the sum of a base and a constant, wrapped to 32 bits; with no base, as the constant.
 #[derive(Clone, Copy, Debug)]

@@ -1,9 +1,9 @@
 -- What an effect depends on.
 use Rattle.std.proofs.Common.{◌≡◌, ℕ, suc, ◌+ℤ◌, ℤ, pos, negsuc, Bool, true, false, List, [], ◌∷◌, Contains, None, map, arith, refl, ap, ap₂}
-use Rattle.iloc_text.specs.declared.op.Reg.{Reg}
-use Rattle.iloc_text.specs.declared.op.Op.{Op}
-use Rattle.iloc_text.specs.declared.op.Op.TheVariants.{Load, Store, Output, Nop, LoadAI, StoreAI}
-use Rattle.iloc_text.specs.Registers.{used, defined, with_registers}
+use Rattle.iloc_ops.specs.declared.op.Reg.{Reg}
+use Rattle.iloc_ops.specs.declared.op.Op.{Op}
+use Rattle.iloc_ops.specs.declared.op.Op.TheVariants.{Load, Store, Output, Nop, LoadAI, StoreAI}
+use Rattle.iloc_ops.specs.Registers.{used, defined, with_registers}
 use Rattle.iloc_meaning.specs.declared.effect.Effect.{Effect}
 use Rattle.iloc_meaning.specs.declared.effect.Effect.TheVariants.{Faults, Gives, Writes, Emits}
 use Rattle.iloc_meaning.specs.Address.{is_good, good_address}

@@ -6,7 +6,7 @@ use Rattle.std.specs.Ordering.{nat_cmp, eq_by_cmp}
 use Rattle.std.specs.Cmp.{nat_cmp_total, unsigned_tied}
 use Rattle.std.specs.Map.{lookup}
 use Rattle.std.specs.FinMap.{find, from_entries, get-from_entries}
-use Rattle.iloc_text.specs.declared.op.Reg.{Reg}
+use Rattle.iloc_ops.specs.declared.op.Reg.{Reg}
 use Rattle.iloc_meaning.specs.Registers.{Values, value_of, ChangesOnly}
 
 find_is_lookup : (n : ℕ) (entries : List (ℕ × ℤ)) → find nat_cmp n entries ≡ lookup (eq_by_cmp nat_cmp n) entries

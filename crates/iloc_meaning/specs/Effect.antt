@@ -1,8 +1,8 @@
 -- What one operation does where the registers have the values `reg` and memory has the words `word`, by address.
 use Rattle.std.specs.Prelude.{ℕ, Option, Some, None, ℤ, ◌+ℤ◌, ◌-ℤ◌, ◌*ℤ◌}
-use Rattle.iloc_text.specs.declared.op.Reg.{Reg}
-use Rattle.iloc_text.specs.declared.op.Op.{Op}
-use Rattle.iloc_text.specs.declared.op.Op.TheVariants.{Load, LoadI, Store, Add, Sub, Mult, Lshift, Rshift, Output, Nop, AddI, SubI, MultI, LshiftI, RshiftI, LoadAI, StoreAI}
+use Rattle.iloc_ops.specs.declared.op.Reg.{Reg}
+use Rattle.iloc_ops.specs.declared.op.Op.{Op}
+use Rattle.iloc_ops.specs.declared.op.Op.TheVariants.{Load, LoadI, Store, Add, Sub, Mult, Lshift, Rshift, Output, Nop, AddI, SubI, MultI, LshiftI, RshiftI, LoadAI, StoreAI}
 use Rattle.iloc_meaning.specs.declared.effect.Effect.{Effect}
 use Rattle.iloc_meaning.specs.declared.effect.Effect.TheVariants.{Faults, Gives, Writes, Emits, Nothing}
 use Rattle.iloc_meaning.specs.Address.{good_address}

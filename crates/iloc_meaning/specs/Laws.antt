@@ -1,8 +1,8 @@
 -- What holds of every operation, whatever the registers and the memory say.
 use Rattle.std.specs.Prelude.{◌≡◌, ℕ, ℤ, pos, true, Contains}
-use Rattle.iloc_text.specs.declared.op.Reg.{Reg}
-use Rattle.iloc_text.specs.declared.op.Op.{Op}
-use Rattle.iloc_text.specs.Registers.{used, defined, with_registers}
+use Rattle.iloc_ops.specs.declared.op.Reg.{Reg}
+use Rattle.iloc_ops.specs.declared.op.Op.{Op}
+use Rattle.iloc_ops.specs.Registers.{used, defined, with_registers}
 use Rattle.iloc_meaning.specs.Address.{is_good}
 use Rattle.iloc_meaning.specs.Effect.{effect}
 use Rattle.iloc_meaning.specs.Results.{GoesTo}

@@ -6,7 +6,7 @@ ghost use Rattle.iloc_meaning.specs.Memory.{word_at};
 use crate::arithmetic::{constant, difference, product, shifted_left, shifted_right, sum};
 use crate::memory::Memory;
 use crate::registers::Registers;
-use iloc_text::{Op, Reg};
+use iloc_ops::{Op, Reg};
 
 /// The effect of an operation: at most one result, one written word or one emitted word.
 #[derive(Clone, Copy, Debug, PartialEq, Eq)]

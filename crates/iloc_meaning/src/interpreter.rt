@@ -6,7 +6,7 @@ ghost use Rattle.iloc_meaning.specs.Outcome.{outcome, shown};
 use crate::memory::Memory;
 use crate::outcome::Outcome;
 use crate::state::State;
-use iloc_text::{Block, NoMemory};
+use iloc_ops::{Block, NoMemory};
 use std::alloc::Global;
 use std::marker::Model;
 

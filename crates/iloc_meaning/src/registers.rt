@@ -1,7 +1,7 @@
 //! The registers of a running block.
 ghost use Rattle.std.specs.Prelude.{◌≡◌, pos, IfOk, OnOk, OnErr};
 
-use iloc_text::{NoMemory, Reg};
+use iloc_ops::{NoMemory, Reg};
 use std::alloc::Global;
 use std::collections::BTreeMap;
 use std::marker::Model;
@@ -38,7 +38,7 @@ impl Model for Registers {
 }
 
 impl Registers {
-    ghost use Rattle.iloc_text.specs.declared.op.Reg.{Reg as Register};
+    ghost use Rattle.iloc_ops.specs.declared.op.Reg.{Reg as Register};
     ghost use Rattle.iloc_meaning.specs.Registers.{value_of, ChangesOnly};
 
     /// All registers 0.

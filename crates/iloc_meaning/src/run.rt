@@ -5,7 +5,7 @@ ghost use Rattle.iloc_meaning.specs.Outcome.{outcome};
 use crate::interpreter::Interpreter;
 use crate::memory::Memory;
 use crate::outcome::Outcome;
-use iloc_text::{Block, NoMemory};
+use iloc_ops::{Block, NoMemory};
 use std::alloc::Global;
 
 /// The outcome of a block that starts with all registers 0 and this memory. After a refusal, as

@@ -3,7 +3,7 @@ ghost use Rattle.std.specs.Prelude.{◌≡◌, ◌/◌, pos, length, slice_set, 
 ghost use Rattle.iloc_meaning.specs.Address.{is_good};
 
 use crate::memory::{Memory, WORDS};
-use iloc_text::NoMemory;
+use iloc_ops::NoMemory;
 use std::alloc::Global;
 use std::marker::Model;
 

@@ -9,7 +9,7 @@ use crate::outcome::Outcome;
 use crate::registers::Registers;
 use crate::scratch::Scratch;
 use crate::words::Words;
-use iloc_text::{NoMemory, Op, defines};
+use iloc_ops::{NoMemory, Op, defines};
 use std::alloc::Global;
 
 /// The registers, the memory and the emitted words of a run, and whether it came to its end.
@@ -26,7 +26,7 @@ pub struct State {
 }
 
 impl State {
-    ghost use Rattle.iloc_text.specs.declared.op.Reg.{Reg};
+    ghost use Rattle.iloc_ops.specs.declared.op.Reg.{Reg};
     ghost use Rattle.iloc_meaning.specs.Registers.{value_of};
     ghost use Rattle.iloc_meaning.specs.State.{leaves};
     ghost use Rattle.iloc_meaning.specs.Steps.State.{Follows, After};

@@ -1,6 +1,6 @@
 -- What follows from what a text denotes.
 use Rattle.std.proofs.Common.{◌≡◌, ◌∙◌, ℕ, List, length, ap}
-use Rattle.iloc_text.specs.declared.file.Block.{Block}
+use Rattle.iloc_ops.specs.declared.file.Block.{Block}
 use Rattle.iloc_rows.specs.declared.proposal.Proposal.{Proposal}
 use Rattle.iloc_rows.specs.Submissions.{Denotes}
 use Rattle.iloc_rows.proofs.Growing.{length-proposals}

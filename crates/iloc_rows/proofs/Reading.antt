@@ -1,8 +1,8 @@
 -- What the reader has read of schedule lines, from line to line.
 use Rattle.std.proofs.Common.{◌≡◌, ◌≢◌, ◌∙◌, ℕ, suc, ◌+◌, ◌<◌, ◌≤◌, List, [], ◌∷◌, ◌++◌, length, refl, sym, ap, subst, Option, Some, None, Result, Err, IfErr, append_assoc, append-nil, length-append, Bor, inl, inr, arith}
 use Rattle.std.specs.List.{join_with_byte}
-use Rattle.iloc_text.specs.declared.limits.TheConstants.{MAX_INPUT}
-use Rattle.iloc_text.specs.declared.file.Block.{Block}
+use Rattle.iloc_ops.specs.declared.limits.TheConstants.{MAX_INPUT}
+use Rattle.iloc_ops.specs.declared.file.Block.{Block}
 use Rattle.iloc_text.specs.declared.fault.ReadFault.{ReadFault}
 use Rattle.iloc_text.specs.declared.fault.ReadFault.TheVariants.{InputTooLong, BadLine, NumberTooLarge, TooManyBlocks, TooManyOperations, NoMemory}
 use Rattle.iloc_text.specs.Files as files

@@ -1,10 +1,10 @@
 -- A block whose registers are renamed, so that each is defined once.
 use Rattle.std.specs.Prelude.{ℕ, zero, suc, ◌+◌, ◌≡◌, ◌<◌, ◌==◌, not, Bool, true, false, if◌then◌else◌, List, [], ◌∷◌, ◌++◌, length, map, filter, Option, Some, None, Contains}
 use Rattle.std.specs.List.{list_any, range_with_len}
-use Rattle.iloc_text.specs.declared.op.Reg.{Reg}
-use Rattle.iloc_text.specs.declared.op.Op.{Op}
-use Rattle.iloc_text.specs.declared.op.Op.TheVariants.{Nop}
-use Rattle.iloc_text.specs.Registers.{used, defined, with_registers}
+use Rattle.iloc_ops.specs.declared.op.Reg.{Reg}
+use Rattle.iloc_ops.specs.declared.op.Op.{Op}
+use Rattle.iloc_ops.specs.declared.op.Op.TheVariants.{Nop}
+use Rattle.iloc_ops.specs.Registers.{used, defined, with_registers}
 use Rattle.iloc_meaning.specs.Trace.{op_at, is_register}
 
 -- where a used value comes from: a register as the block starts, or the result of an operation

@@ -4,7 +4,7 @@ ghost use Rattle.std.specs.Ordering.{nat_cmp};
 ghost use Rattle.std.specs.BTreeMap.{get};
 ghost use Rattle.iloc_sched.specs.declared.by_register.Given.{Given};
 
-use iloc_text::{NoMemory, Reg};
+use iloc_ops::{NoMemory, Reg};
 use std::alloc::Global;
 use std::collections::BTreeMap;
 

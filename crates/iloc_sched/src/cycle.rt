@@ -10,7 +10,7 @@ use crate::plan::Plan;
 use crate::queues::{Choice, Queues};
 use crate::waiting::Waiting;
 use crate::wheel::LONGEST_DELAY;
-use iloc_text::NoMemory;
+use iloc_ops::NoMemory;
 use iloc_timed::Row;
 
 /// The row of a choice with what stands beside it. A product stands on unit 1, a load or a store on unit 0.

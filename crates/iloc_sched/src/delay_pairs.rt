@@ -6,7 +6,7 @@ ghost use Rattle.iloc_sched.specs.Delays.{uses_result, reads_stored, keeps_order
 ghost use Rattle.iloc_sched.specs.Pairs.{ComesBefore, rising, with_delays, pairs_from, pairs};
 
 use arrayvec::ArrayVec;
-use iloc_text::{MAX_OPS, NoMemory, Op, defines, uses};
+use iloc_ops::{MAX_OPS, NoMemory, Op, defines, uses};
 use iloc_timed::{Kind, Latencies, latency};
 use std::alloc::Global;
 

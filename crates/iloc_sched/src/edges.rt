@@ -4,9 +4,9 @@
 //! kept, since every other goes by way of an operation between: from the last store, from the last output, and to a
 //! store from each load since the last one.
 ghost use Rattle.std.specs.Prelude.{ℕ, ◌≡◌, ◌+◌, ◌*◌, ◌≤◌, ◌<◌, length, map, List, Some, OnOk, Contains};
-ghost use Rattle.iloc_text.specs.declared.limits.TheConstants.{MAX_OPS};
-ghost use Rattle.iloc_text.specs.declared.op.Op.{Op};
-ghost use Rattle.iloc_text.specs.Registers.{used};
+ghost use Rattle.iloc_ops.specs.declared.limits.TheConstants.{MAX_OPS};
+ghost use Rattle.iloc_ops.specs.declared.op.Op.{Op};
+ghost use Rattle.iloc_ops.specs.Registers.{used};
 ghost use Rattle.iloc_timed.specs.declared.latencies.Latencies.{Latencies};
 ghost use Rattle.iloc_timed.specs.Kinds.{kind};
 ghost use Rattle.iloc_timed.specs.Latency.{latency};
@@ -16,7 +16,7 @@ ghost use Rattle.iloc_sched.specs.Renaming.{IsRenamed};
 use crate::kinds::Operations;
 use crate::lasts::Lasts;
 use crate::registers::{Registers, Uses};
-use iloc_text::{MAX_OPS, NoMemory, Reg};
+use iloc_ops::{MAX_OPS, NoMemory, Reg};
 use iloc_timed::{Kind, Latencies};
 use std::alloc::Global;
 

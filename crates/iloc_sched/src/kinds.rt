@@ -3,7 +3,7 @@ ghost use Rattle.std.specs.Prelude.{◌≡◌, map, OnOk};
 ghost use Rattle.iloc_timed.specs.Kinds.{kind};
 ghost use Rattle.iloc_timed.specs.Latency.{latency_of};
 
-use iloc_text::{NoMemory, Op};
+use iloc_ops::{NoMemory, Op};
 use iloc_timed::{Kind, Latencies};
 
 /// Operations with the kind and the latency of each.

@@ -1,13 +1,13 @@
 //! The earlier operations that a later one may have to wait for.
 ghost use Rattle.std.specs.Prelude.{◌≡◌, ◌≤◌, ◌<◌, ◌+◌, length, map, List, OnOk};
-ghost use Rattle.iloc_text.specs.declared.op.Op.{Op};
-ghost use Rattle.iloc_text.specs.Registers.{defined as defined_by};
+ghost use Rattle.iloc_ops.specs.declared.op.Op.{Op};
+ghost use Rattle.iloc_ops.specs.Registers.{defined as defined_by};
 ghost use Rattle.iloc_meaning.specs.Trace.{op_at};
 ghost use Rattle.iloc_timed.specs.Kinds.{kind};
 
 use crate::by_register::ByRegister;
 use crate::kinds::Operations;
-use iloc_text::{MAX_OPS, NoMemory, Reg};
+use iloc_ops::{MAX_OPS, NoMemory, Reg};
 use iloc_timed::Kind;
 use std::alloc::Global;
 

@@ -12,7 +12,7 @@ use crate::lasts::Lasts;
 use crate::priority::raise_priorities;
 use crate::registers::Registers;
 use crate::renaming::{Names, is_nop};
-use iloc_text::{Block, MAX_OPS, NoMemory, Op};
+use iloc_ops::{Block, MAX_OPS, NoMemory, Op};
 use iloc_timed::{Kind, Latencies};
 use std::alloc::Global;
 

@@ -1,6 +1,6 @@
 //! The priorities of operations.
 ghost use Rattle.std.specs.Prelude.{◌≡◌, ◌≤◌, List, length, map, IfOk, OnOk};
-ghost use Rattle.iloc_text.specs.declared.op.Op.{Op};
+ghost use Rattle.iloc_ops.specs.declared.op.Op.{Op};
 ghost use Rattle.iloc_timed.specs.declared.latencies.Latencies.{Latencies};
 ghost use Rattle.iloc_timed.specs.Latency.{latency, latency_of};
 ghost use Rattle.iloc_sched.specs.Priority.{priorities};
@@ -11,7 +11,7 @@ ghost use Rattle.iloc_sched.specs.Steps.Views.{graph_of};
 use crate::edges::Edges;
 use crate::kinds::{Operations, fill_kinds, latency_of};
 use crate::lasts::Lasts;
-use iloc_text::{MAX_OPS, NoMemory, Op};
+use iloc_ops::{MAX_OPS, NoMemory, Op};
 use iloc_timed::{Kind, Latencies};
 use std::alloc::Global;
 

@@ -7,7 +7,7 @@ ghost use Rattle.std.proofs.Props.{props};
 ghost use Rattle.iloc_sched.specs.Steps.Order.{AreRanked, AreUpTo, by_rank, same_number};
 
 use crate::candidate::Candidate;
-use iloc_text::NoMemory;
+use iloc_ops::NoMemory;
 use std::alloc::Global;
 use std::collections::BinaryHeap;
 

@@ -1,9 +1,9 @@
 //! The registers of an operation.
 ghost use Rattle.std.specs.Prelude.{◌≡◌};
-ghost use Rattle.iloc_text.specs.Registers.{used};
+ghost use Rattle.iloc_ops.specs.Registers.{used};
 ghost use Rattle.iloc_sched.specs.Steps.Registers.{listed};
 
-use iloc_text::{Op, Reg, defines, uses};
+use iloc_ops::{Op, Reg, defines, uses};
 
 /// The registers that an operation uses, left to right.
 #[derive(Clone, Copy, Debug)]

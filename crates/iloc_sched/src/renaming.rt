@@ -1,12 +1,12 @@
 //! Renaming: each definition of a block gets a register of its own, and each use the register of its value.
 ghost use Rattle.std.specs.Prelude.{◌≡◌, ◌+◌, ◌-◌, ◌^◌, ◌<◌, ◌≤◌, List, ℤ, ℕ, [], ◌∷◌, ◌++◌, length, IfOk, OnOk};
-ghost use Rattle.iloc_text.specs.declared.op.Op.{Op};
+ghost use Rattle.iloc_ops.specs.declared.op.Op.{Op};
 ghost use Rattle.iloc_meaning.specs.Outcome.{outcome};
 ghost use Rattle.iloc_sched.specs.Renaming.{is_nop, renamed, IsRenamed};
 
 use crate::by_register::ByRegister;
 use crate::registers::{Registers, Uses};
-use iloc_text::{Block, MAX_OPS, NoMemory, Op, Reg};
+use iloc_ops::{Block, MAX_OPS, NoMemory, Op, Reg};
 use std::alloc::Global;
 
 // Registers below this number are looked up fastest in any block; in a longer one those below three times its
@@ -24,7 +24,7 @@ pub(crate) struct Names {
 
 impl Names {
     ghost use Rattle.std.specs.Prelude.{None, Some};
-    ghost use Rattle.iloc_text.specs.declared.op.Reg.{Reg};
+    ghost use Rattle.iloc_ops.specs.declared.op.Reg.{Reg};
     ghost use Rattle.iloc_sched.specs.Steps.NamingWalk.{NamesNext, NamesUse, NamesDefinition, NamesAll, Named, next_renamed};
     ghost use Rattle.iloc_sched.specs.Steps.CurrentNames.{current_of};
     ghost use Rattle.iloc_sched.specs.Steps.Registers.{AreRegistersOf};

@@ -1,6 +1,6 @@
 //! The list scheduler.
 ghost use Rattle.std.specs.Prelude.{ℕ, ◌≡◌, ◌≤◌, ◌<◌, ◌+◌, ◌*◌, List, length, sum_by, IfOk, OnOk, ℤ};
-ghost use Rattle.iloc_text.specs.declared.op.Op.{Op};
+ghost use Rattle.iloc_ops.specs.declared.op.Op.{Op};
 ghost use Rattle.iloc_meaning.specs.Outcome.{outcome};
 ghost use Rattle.iloc_timed.specs.declared.row.Row.{Row};
 ghost use Rattle.iloc_timed.specs.Cycles.{cycles};
@@ -19,7 +19,7 @@ use crate::queues::Queues;
 use crate::renaming::Names;
 use crate::waiting::Waiting;
 use crate::wheel::LONGEST_DELAY;
-use iloc_text::{Block, MAX_OPS, NoMemory};
+use iloc_ops::{Block, MAX_OPS, NoMemory};
 use iloc_timed::{Latencies, Row, Schedule};
 use std::alloc::Global;
 use std::mem;

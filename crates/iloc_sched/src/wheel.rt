@@ -1,7 +1,7 @@
 //! Operations by the cycle at which they become ready.
 ghost use Rattle.std.specs.Prelude.{ℕ, ◌≡◌, ◌≢◌, ◌+◌, ◌^◌, ◌%◌, ◌<◌, ◌≤◌, if◌then◌else◌, [], ◌∷◌, length, IfNone, IfSome, OnOk};
 
-use iloc_text::NoMemory;
+use iloc_ops::NoMemory;
 use std::alloc::Global;
 
 /// No delay is longer, since no latency is.

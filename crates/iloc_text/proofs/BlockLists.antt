@@ -1,7 +1,7 @@
 -- What one more line does to the blocks of a file.
 use Rattle.std.proofs.Common.{◌≡◌, ◌∙◌, ℕ, suc, ◌+◌, ◌<◌, List, [], ◌∷◌, ◌++◌, length, refl, sym, ap, ap₂, Option, Some, None, option_to_list, append-nil, length-append, inl, inr, arith}
-use Rattle.iloc_text.specs.declared.op.Op.{Op}
-use Rattle.iloc_text.specs.declared.file.Block.{Block}
+use Rattle.iloc_ops.specs.declared.op.Op.{Op}
+use Rattle.iloc_ops.specs.declared.file.Block.{Block}
 use Rattle.iloc_text.specs.Files.{Reading, block_names, block_count, ops_of, blocks_from, file_of}
 use Rattle.iloc_text.specs.Steps.Growth.{with_op, with_optional_op, with_line, last_ops}
 use Rattle.iloc_text.proofs.Counts.{length-names, names-label, names-empty, names-op, names-first, count-label, count-op, count-first, none_or_some}

@@ -1,7 +1,7 @@
 -- What one more line does to the operations of each block.
 use Rattle.std.proofs.Common.{◌≡◌, ◌≢◌, ◌∙◌, ℕ, ◌<◌, ◌≤◌, Bool, true, false, cond, ◌==◌, List, [], ◌∷◌, ◌++◌, filter_map, refl, sym, ap, subst, Option, Some, None, is_some, option_to_list, append_assoc, append-nil, eq-eqb, ne_eqb, arith}
 use Rattle.std.proofs.lemmas.List.Elements.{filter_map-append}
-use Rattle.iloc_text.specs.declared.op.Op.{Op}
+use Rattle.iloc_ops.specs.declared.op.Op.{Op}
 use Rattle.iloc_text.specs.Files.{Reading, block_count, fronts, last_op, ops_of}
 use Rattle.iloc_text.proofs.Counts.{fronts-snoc, last_op-snoc, count-snoc}
 

@@ -1,7 +1,7 @@
 -- The scanner reads what stands behind a label, and each text that may stand there.
 use Rattle.std.proofs.Common.{◌≡◌, ◌∙◌, ℕ, Bool, true, false, cond, ◌&&◌, ◌==◌, List, [], ◌∷◌, ◌++◌, refl, ap, Option, Some, None, IfSome, option_map, arith}
 use Rattle.std.proofs.lemmas.Bool.Decides.{nat_tests}
-use Rattle.iloc_text.specs.declared.op.Op.{Op}
+use Rattle.iloc_ops.specs.declared.op.Op.{Op}
 use Rattle.iloc_text.specs.Grammar.{◌⋅◌, is_blank, is_word_byte, Blanks, OptionalOperation, OptionalComment}
 use Rattle.iloc_text.specs.Steps.Scan.{◌>>=◌, after_blanks, operation_at, optional_operation_at, is_end, body_at}
 use Rattle.iloc_text.proofs.Parts.{Before, Before-join, Before-split, Before-all, all-Before, starts}

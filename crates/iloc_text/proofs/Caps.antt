@@ -2,11 +2,11 @@
 use Rattle.std.proofs.Common.{◌≡◌, ◌∙◌, ℕ, ◌≤◌, nat_lt, Bool, true, false, ◌&&◌, List, [], ◌∷◌, map, refl, sym, ap, ap₂, Some, arith}
 use Rattle.std.specs.List.{AllByRecursion, list_all}
 use Rattle.std.proofs.lemmas.Bool.Decides.{nat_tests}
-use Rattle.iloc_text.specs.declared.limits.TheConstants.{MAX_NUMBER}
+use Rattle.iloc_ops.specs.declared.limits.TheConstants.{MAX_NUMBER}
 use Rattle.iloc_text.specs.declared.scan.TheConstants.{ABOVE_LIMIT}
-use Rattle.iloc_text.specs.declared.op.Op.{Op}
+use Rattle.iloc_ops.specs.declared.op.Op.{Op}
 use Rattle.std.proofs.lemmas.List.Folds.{list_all-map}
-use Rattle.iloc_text.specs.Forms.{Operand, operands, number_of, numbers, opcode, op_of}
+use Rattle.iloc_ops.specs.Forms.{Operand, operands, number_of, numbers, opcode, op_of}
 use Rattle.iloc_text.specs.Grammar.{IsWithinLimit}
 use Rattle.iloc_text.specs.Steps.Scan.{capped, is_within}
 use Rattle.iloc_text.proofs.Names.{capped_op, op_same, numbers-capped}

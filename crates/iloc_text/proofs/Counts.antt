@@ -3,7 +3,7 @@ use Rattle.std.proofs.Common.{◌≡◌, ◌∙◌, ℕ, suc, ◌+◌, ◌<◌, 
 use Rattle.std.proofs.lemmas.List.{map-append, length-map}
 use Rattle.std.proofs.lemmas.List.Elements.{filter_map-append}
 use Rattle.std.proofs.lemmas.Bool.Decides.{nat_tests}
-use Rattle.iloc_text.specs.declared.op.Op.{Op}
+use Rattle.iloc_ops.specs.declared.op.Op.{Op}
 use Rattle.iloc_text.specs.Files.{Reading, labels, opens_unnamed, block_names, block_count, fronts, last_op}
 
 pub fronts-snoc : (rs : List Reading) (r : Reading) → fronts (rs ++ r ∷ []) ≡ fronts rs ++ (rs ++ r ∷ []) ∷ []

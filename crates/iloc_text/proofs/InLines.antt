@@ -4,12 +4,12 @@ use Rattle.std.specs.List.{list_all}
 use Rattle.std.specs.Char.{digit_value}
 use Rattle.std.specs.Str.Parse.{AllDigits}
 use Rattle.std.proofs.lemmas.Bool.Decides.{nat_tests}
-use Rattle.iloc_text.specs.declared.op.Op.{Op}
-use Rattle.iloc_text.specs.declared.forms.Opcode.{Opcode}
-use Rattle.iloc_text.specs.declared.forms.Opcode.TheVariants.{Nop}
-use Rattle.iloc_text.specs.Forms.{Lead, Value, Operand, opcode, operands, opcode_text}
-use Rattle.iloc_text.specs.Forms.Lead.{space, comma, arrow}
-use Rattle.iloc_text.specs.Forms.Value.{Constant}
+use Rattle.iloc_ops.specs.declared.op.Op.{Op}
+use Rattle.iloc_ops.specs.declared.forms.Opcode.{Opcode}
+use Rattle.iloc_ops.specs.declared.forms.Opcode.TheVariants.{Nop}
+use Rattle.iloc_ops.specs.Forms.{Lead, Value, Operand, opcode, operands, opcode_text}
+use Rattle.iloc_ops.specs.Forms.Lead.{space, comma, arrow}
+use Rattle.iloc_ops.specs.Forms.Value.{Constant}
 use Rattle.iloc_text.specs.Grammar.{◌⋅◌, Text, is_blank, is_word_byte, Blanks, Number, LeadText, ValueText, OperandsText, Operation, Name, OptionalLabel}
 use Rattle.iloc_text.specs.Files.{HasNoLineEnd}
 use Rattle.iloc_text.proofs.Tokens.{IsWord}

@@ -1,5 +1,4 @@
 pub mod Parts
-pub mod Renaming
 pub mod Tokens
 pub mod Opcodes
 pub mod Starts
@@ -26,7 +25,6 @@ pub mod ScheduleLines
 pub mod Every
 pub mod Within
 pub mod Digits
-pub mod ShortDecimals
 pub mod Falling
 pub mod Apart
 pub mod TextReads

@@ -2,8 +2,8 @@
 use Rattle.std.proofs.Common.{◌≡◌, ◌∙◌, ℕ, nat_lt, true, false, List, ◌++◌, refl, sym, ap, subst, Option, Some, None, IfSome, option_map, unwrap_or}
 use Rattle.std.specs.List.{list_all}
 use Rattle.iloc_text.specs.declared.scan.TheConstants.{ABOVE_LIMIT}
-use Rattle.iloc_text.specs.declared.op.Op.{Op}
-use Rattle.iloc_text.specs.Forms.{operands, numbers}
+use Rattle.iloc_ops.specs.declared.op.Op.{Op}
+use Rattle.iloc_ops.specs.Forms.{operands, numbers}
 use Rattle.iloc_text.specs.Grammar.{is_blank, is_word_byte, ReadsWidely, Reads, HasReading, HasWideReading}
 use Rattle.iloc_text.specs.Steps.Scan.{after_blanks, optional_label_at, body_at, line_at, is_within}
 use Rattle.iloc_text.proofs.Parts.{Before-join, Before-split, Before-all, all-Before, starts}

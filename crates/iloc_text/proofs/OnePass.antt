@@ -3,9 +3,9 @@ use Rattle.std.proofs.Common.{◌≡◌, ◌∙◌, ◌≤◌, ◌-◌, ℕ, tru
 use Rattle.std.specs.Borrow.{Bor}
 use Rattle.std.specs.List.{onto_first}
 use Rattle.std.proofs.lemmas.List.{take_all}
-use Rattle.iloc_text.specs.declared.op.Op.{Op}
-use Rattle.iloc_text.specs.declared.forms.Opcode.{Opcode}
-use Rattle.iloc_text.specs.Forms.{opcode_text}
+use Rattle.iloc_ops.specs.declared.op.Op.{Op}
+use Rattle.iloc_ops.specs.declared.forms.Opcode.{Opcode}
+use Rattle.iloc_ops.specs.Forms.{opcode_text}
 use Rattle.iloc_text.specs.Grammar.{◌⋅◌, Blanks, OptionalLabel, OptionalComment, IsWithinLimit, ReadsWidely, Reads}
 use Rattle.iloc_text.specs.Files.{HasNoLineEnd}
 use Rattle.iloc_text.specs.Steps.Lines.{lines_of, lines_left}

@@ -2,9 +2,9 @@
 use Rattle.std.proofs.Common.{◌≡◌, ℕ, Bool, true, false, cond, ◌&&◌, List, [], ◌∷◌, ◌++◌, refl, sym, Option, Some, None, IfSome, find, bytes_eq}
 use Rattle.std.specs.List.{list_all}
 use Rattle.std.proofs.lemmas.Slice.Eq.{bytes_eq-Decides}
-use Rattle.iloc_text.specs.declared.forms.Opcode.{Opcode}
-use Rattle.iloc_text.specs.declared.forms.Opcode.TheVariants.{Nop}
-use Rattle.iloc_text.specs.Forms.{opcodes, opcode_text}
+use Rattle.iloc_ops.specs.declared.forms.Opcode.{Opcode}
+use Rattle.iloc_ops.specs.declared.forms.Opcode.TheVariants.{Nop}
+use Rattle.iloc_ops.specs.Forms.{opcodes, opcode_text}
 use Rattle.iloc_text.specs.Grammar.{is_word_byte}
 use Rattle.iloc_text.specs.Steps.Opcodes.{opcode_of}
 use Rattle.iloc_text.specs.Steps.Scan.{◌>>=◌}

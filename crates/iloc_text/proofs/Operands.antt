@@ -1,9 +1,9 @@
 -- The scanner finds operands, and finds them again.
 use Rattle.std.proofs.Common.{◌≡◌, ◌∙◌, ℕ, false, List, [], ◌∷◌, ◌++◌, map, drop, get_or, refl, ap, ap₂, Some, IfSome}
 use Rattle.std.specs.Char.{is_ascii_digit}
-use Rattle.iloc_text.specs.Forms.{Lead, Value, Operand, ◌▹◌, number_in, number_of}
-use Rattle.iloc_text.specs.Forms.Lead.{space, comma, arrow}
-use Rattle.iloc_text.specs.Forms.Value.{Use, Definition, Constant}
+use Rattle.iloc_ops.specs.Forms.{Lead, Value, Operand, ◌▹◌, number_in, number_of}
+use Rattle.iloc_ops.specs.Forms.Lead.{space, comma, arrow}
+use Rattle.iloc_ops.specs.Forms.Value.{Use, Definition, Constant}
 use Rattle.iloc_text.specs.Grammar.{is_blank, LeadText, ValueText, OperandsText}
 use Rattle.iloc_text.specs.Steps.Scan.{capped, register_at, lead_at, value_at, operand_at, operand_then, operands_at}
 use Rattle.iloc_text.proofs.Parts.{Before, Before-join, Before-split, starts}

@@ -2,10 +2,10 @@
 use Rattle.std.proofs.Common.{subst, ◌==◌, ◌≡◌, ◌∙◌, ℕ, ◌<◌, Bool, true, false, List, [], ◌∷◌, ◌++◌, refl, sym, ap, Some, IfSome, arith}
 use Rattle.std.specs.Char.{digit_value}
 use Rattle.std.proofs.lemmas.Bool.Decides.{nat_tests}
-use Rattle.iloc_text.specs.declared.op.Op.{Op}
-use Rattle.iloc_text.specs.declared.forms.Opcode.{Opcode}
-use Rattle.iloc_text.specs.Forms.{Lead, Operand, opcode, operands, opcode_text, op_of}
-use Rattle.iloc_text.specs.Forms.Lead.{space, comma, arrow}
+use Rattle.iloc_ops.specs.declared.op.Op.{Op}
+use Rattle.iloc_ops.specs.declared.forms.Opcode.{Opcode}
+use Rattle.iloc_ops.specs.Forms.{Lead, Operand, opcode, operands, opcode_text, op_of}
+use Rattle.iloc_ops.specs.Forms.Lead.{space, comma, arrow}
 use Rattle.iloc_text.specs.Grammar.{◌⋅◌, Text, is_word_byte, is_blank, Blanks, LeadText, OperandsText, Operation}
 use Rattle.iloc_text.specs.Steps.Opcodes.{opcode_of, operands_of}
 use Rattle.iloc_text.specs.Steps.Scan.{after_blanks, after_word, word_of, operands_at, called_at, operation_at}

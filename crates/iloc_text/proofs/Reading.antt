@@ -4,9 +4,9 @@ use Rattle.std.specs.List.{AllByRecursion}
 use Rattle.std.specs.Option.{ForSome}
 use Rattle.std.proofs.lemmas.Str.{IsUtf8-from_ascii}
 use Rattle.std.proofs.lemmas.Bool.Decides.{nat_tests}
-use Rattle.iloc_text.specs.declared.limits.TheConstants.{MAX_INPUT}
-use Rattle.iloc_text.specs.declared.op.Op.{Op}
-use Rattle.iloc_text.specs.declared.file.Block.{Block}
+use Rattle.iloc_ops.specs.declared.limits.TheConstants.{MAX_INPUT}
+use Rattle.iloc_ops.specs.declared.op.Op.{Op}
+use Rattle.iloc_ops.specs.declared.file.Block.{Block}
 use Rattle.iloc_text.specs.declared.fault.ReadFault.{ReadFault}
 use Rattle.iloc_text.specs.declared.fault.ReadFault.TheVariants.{BadLine, NumberTooLarge, NoMemory}
 use Rattle.iloc_text.specs.declared.line.ParseFault.TheVariants as faults

@@ -4,11 +4,11 @@ use Rattle.std.specs.List.{AllByRecursion, list_all}
 use Rattle.std.specs.Char.{is_ascii_digit, is_ascii_alphabetic}
 use Rattle.std.proofs.lemmas.Bool.Decides.{nat_tests}
 use Rattle.std.proofs.lemmas.Slice.Eq.{bytes_eq-Decides}
-use Rattle.iloc_text.specs.declared.limits.TheConstants.{MAX_NUMBER}
+use Rattle.iloc_ops.specs.declared.limits.TheConstants.{MAX_NUMBER}
 use Rattle.iloc_text.specs.declared.scan.TheConstants.{ABOVE_LIMIT}
-use Rattle.iloc_text.specs.declared.op.Op.{Op}
-use Rattle.iloc_text.specs.Forms.{numbers, operands}
-use Rattle.iloc_text.specs.Forms.Value.{Constant}
+use Rattle.iloc_ops.specs.declared.op.Op.{Op}
+use Rattle.iloc_ops.specs.Forms.{numbers, operands}
+use Rattle.iloc_ops.specs.Forms.Value.{Constant}
 use Rattle.iloc_text.specs.Grammar.{◌⋅◌, Text, is_blank, is_word_byte, SomeBlanks, Number, IsName, IsWithinLimit}
 use Rattle.iloc_text.specs.ScheduleLines.{Said, SlotText, BlockName, SaidText, SaysWidely, said_numbers, Says, SaysSomething, SaysSomethingWidely}
 use Rattle.iloc_text.specs.ScheduleLines.Said.{nothing, row, head, cycles, total}

@@ -1,14 +1,14 @@
 -- The spelling of an operation reads as that operation.
 use Rattle.std.proofs.Common.{ℕ, ◌≤◌, ◌<◌, ◌^◌, length, List, [], ◌∷◌, ◌++◌, map, refl, sym, Some, None, codes, decimal, arith}
 use Rattle.std.specs.List.{AllByRecursion}
-use Rattle.std.proofs.lemmas.Fmt.{decimal_is_IsNumeral, length-decimal-le}
-use Rattle.iloc_text.specs.declared.limits.TheConstants.{MAX_NUMBER}
-use Rattle.iloc_text.specs.declared.op.Op.{Op}
-use Rattle.iloc_text.specs.Forms.{Lead, Value, Operand, number_in, number_of, opcode, operands, opcode_text}
-use Rattle.iloc_text.specs.Forms.Lead.{space, comma, arrow}
-use Rattle.iloc_text.specs.Forms.Value.{Use, Definition, Constant}
+use Rattle.std.proofs.lemmas.Fmt.{decimal_is_IsNumeral}
+use Rattle.iloc_ops.specs.declared.limits.TheConstants.{MAX_NUMBER}
+use Rattle.iloc_ops.specs.declared.op.Op.{Op}
+use Rattle.iloc_ops.specs.Forms.{Lead, Value, Operand, number_in, number_of, opcode, operands, opcode_text}
+use Rattle.iloc_ops.specs.Forms.Lead.{space, comma, arrow}
+use Rattle.iloc_ops.specs.Forms.Value.{Use, Definition, Constant}
 use Rattle.iloc_text.specs.Grammar.{Text, Blanks, Number, LeadText, ValueText, OperandsText, Operation, IsWithinLimit, Reads}
-use Rattle.iloc_text.specs.Spelling.{spelled_lead, spelled_value, spelled_operands, spelling}
+use Rattle.iloc_ops.specs.Spelling.{spelled_lead, spelled_value, spelled_operands, spelling}
 use Rattle.iloc_text.proofs.Parts.{Before, Before-join, Before-all}
 
 abbrev IsSmall : ℕ → Type 0
@@ -60,8 +60,3 @@ spelling_reads op h =
           (Before-join (blanks_first []) (record { front = []; first = tt; whole = refl })))))),
       h,
     )
-
--- What the code writes
-
-pub decimal_is_short : (n : ℕ) → n < 2 ^ 32 → length (decimal n) ≤ 10
-decimal_is_short n h = length-decimal-le 10 n (omega arith) (omega arith) (omega arith)

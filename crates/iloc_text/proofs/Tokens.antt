@@ -5,7 +5,7 @@ use Rattle.std.specs.List.{AllByRecursion}
 use Rattle.std.specs.Char.{is_ascii_digit, digit_value}
 use Rattle.std.specs.Str.Parse.{AllDigits, digits_value_after}
 use Rattle.std.proofs.lemmas.Bool.Decides.{nat_tests}
-use Rattle.iloc_text.specs.declared.op.Reg.{Reg}
+use Rattle.iloc_ops.specs.declared.op.Reg.{Reg}
 use Rattle.iloc_text.specs.Grammar.{is_word_byte, ◌⋅◌, Text, is_blank, Blanks, SomeBlanks, Number, Register, Arrow, Comma}
 use Rattle.iloc_text.specs.Steps.Scan.{after_blanks, some_blanks_at, capped, digits_after, number_at, register_at, arrow_at, arrow_from, comma_at, comma_from, after_word, word_of}
 use Rattle.iloc_text.proofs.Parts.{Before, Before-join, Before-split, starts}

@@ -2,9 +2,9 @@
 use Rattle.std.proofs.Common.{◌≡◌, ℕ, zero, suc, nat_lt, Bool, true, false, ◌&&◌, List, [], ◌∷◌, get_or, refl}
 use Rattle.std.specs.List.{list_all}
 use Rattle.iloc_text.specs.declared.scan.TheConstants.{ABOVE_LIMIT}
-use Rattle.iloc_text.specs.declared.forms.Opcode.{Opcode}
-use Rattle.iloc_text.specs.declared.forms.Opcode.TheVariants as O
-use Rattle.iloc_text.specs.Forms.{op_of}
+use Rattle.iloc_ops.specs.declared.forms.Opcode.{Opcode}
+use Rattle.iloc_ops.specs.declared.forms.Opcode.TheVariants as O
+use Rattle.iloc_ops.specs.Forms.{op_of}
 use Rattle.iloc_text.specs.Steps.Scan.{is_within_limit}
 
 pub zero_stands_for_none : (o : Opcode) (a b : ℕ) → op_of o (a ∷ b ∷ 0 ∷ []) ≡ op_of o (a ∷ b ∷ [])

@@ -1,12 +1,12 @@
 -- Which file a text denotes, and which refusal: by counting over its lines.
 use Rattle.std.specs.Prelude.{◌≡◌, ℕ, ◌+◌, ◌≤◌, ◌<◌, Bool, false, not, ◌&&◌, ◌||◌, ◌==◌, if◌then◌else◌, Option, Some, None, is_some, List, [], ◌∷◌, ◌++◌, length, map}
 use Rattle.std.specs.List.{AllByRecursion, join_with_byte, filter_map}
-use Rattle.iloc_text.specs.declared.op.Op.{Op}
-use Rattle.iloc_text.specs.declared.file.Block.{Block}
+use Rattle.iloc_ops.specs.declared.op.Op.{Op}
+use Rattle.iloc_ops.specs.declared.file.Block.{Block}
 use Rattle.iloc_text.specs.declared.fault.ReadFault.{ReadFault}
 use Rattle.iloc_text.specs.declared.fault.ReadFault.TheVariants.{InputTooLong, BadLine, NumberTooLarge, TooManyBlocks, TooManyOperations, NoMemory}
 use Rattle.iloc_text.specs.Grammar.{Reads, HasReading, HasWideReading}
-use Rattle.iloc_text.specs.declared.limits.TheConstants.{MAX_INPUT, MAX_BLOCKS, MAX_OPS}
+use Rattle.iloc_ops.specs.declared.limits.TheConstants.{MAX_INPUT, MAX_BLOCKS, MAX_OPS}
 
 -- Lines
 

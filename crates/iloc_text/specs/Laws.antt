@@ -1,17 +1,15 @@
 -- What holds of the language as a whole.
-use Rattle.std.specs.Prelude.{◌≡◌, ℕ, ◌≤◌, Option, Some, None, option_map, ◌⊎◌, List, length, map}
+use Rattle.std.specs.Prelude.{◌≡◌, ℕ, ◌≤◌, Option, Some, None, ◌⊎◌, List, length}
 use Rattle.std.specs.List.{AllByRecursion, AllZip, flat_map}
-use Rattle.iloc_text.specs.declared.op.Reg.{Reg}
-use Rattle.iloc_text.specs.declared.op.Op.{Op}
-use Rattle.iloc_text.specs.declared.file.Block.{Block}
+use Rattle.iloc_ops.specs.declared.op.Op.{Op}
+use Rattle.iloc_ops.specs.declared.file.Block.{Block}
 use Rattle.iloc_text.specs.declared.fault.ReadFault.{ReadFault}
 use Rattle.iloc_text.specs.Grammar.{Reads, IsWithinLimit}
-use Rattle.iloc_text.specs.Spelling.{spelling}
+use Rattle.iloc_ops.specs.Spelling.{spelling}
 use Rattle.iloc_text.specs.Files.{Denotes, IsRefused}
 use Rattle.iloc_text.specs.Parts.{AreParts}
 use Rattle.iloc_text.specs.ScheduleLines.{Said, Says}
-use Rattle.iloc_text.specs.Registers.{used, defined, with_registers}
-use Rattle.iloc_text.specs.declared.limits.TheConstants.{MAX_INPUT, MAX_BLOCKS, MAX_OPS}
+use Rattle.iloc_ops.specs.declared.limits.TheConstants.{MAX_INPUT, MAX_BLOCKS, MAX_OPS}
 
 -- a line has at most one reading
 abbrev pub LinesHaveOneReading : Type 0
@@ -47,12 +45,3 @@ abbrev pub PartsAreReadApart : Type 0
 PartsAreReadApart = (input : List ℕ) (parts : List (List ℕ)) (files : List (List Block)) → AreParts input parts
     → AllZip Denotes parts files → length input ≤ MAX_INPUT → length (flat_map (λ blocks. blocks) files) ≤ MAX_BLOCKS
     → Denotes input (flat_map (λ blocks. blocks) files)
-
--- an operation with other registers uses the new ones, in the order of its own
-abbrev pub RenamingMapsUses : Type 0
-RenamingMapsUses = (new : Reg → Reg) (own : Reg) (op : Op) → used (with_registers new own op) ≡ map new (used op)
-
--- and it defines `own`, if it defines a register
-abbrev pub RenamingReplacesTheDefinition : Type 0
-RenamingReplacesTheDefinition = (new : Reg → Reg) (own : Reg) (op : Op)
-    → defined (with_registers new own op) ≡ option_map (λ _. own) (defined op)

@@ -1,7 +1,3 @@
-pub mod Forms
-pub mod Registers
-pub mod Spelling
-pub mod Columns
 pub mod Grammar
 pub mod Fault
 pub mod Files

@@ -1,6 +1,6 @@
 -- Parts of a text that can be read apart.
 use Rattle.std.specs.Prelude.{◌≡◌, ℕ, Option, Some, List, [], ◌∷◌, ◌++◌}
-use Rattle.iloc_text.specs.declared.op.Op.{Op}
+use Rattle.iloc_ops.specs.declared.op.Op.{Op}
 use Rattle.iloc_text.specs.Grammar.{Reads}
 use Rattle.iloc_text.specs.Files.{AreLines}
 

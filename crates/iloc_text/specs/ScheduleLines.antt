@@ -1,13 +1,13 @@
 -- Which texts a line of a schedule may have, as schedules are listed.
 use Rattle.std.specs.Prelude.{◌≢◌, ℕ, ◌≤◌, Option, Some, None, option_map, Result, Ok, Err, List, [], ◌∷◌, ◌++◌, codes}
 use Rattle.std.specs.List.{AllByRecursion}
-use Rattle.iloc_text.specs.declared.limits.TheConstants.{MAX_NUMBER}
-use Rattle.iloc_text.specs.declared.op.Op.{Op}
+use Rattle.iloc_ops.specs.declared.limits.TheConstants.{MAX_NUMBER}
+use Rattle.iloc_ops.specs.declared.op.Op.{Op}
 use Rattle.iloc_text.specs.declared.line.ParseFault.{ParseFault}
 use Rattle.iloc_text.specs.declared.line.ParseFault.TheVariants.{Bad, NumberTooLarge}
 use Rattle.iloc_text.specs.declared.schedule_line.ScheduleLine.{ScheduleLine}
 use Rattle.iloc_text.specs.declared.schedule_line.ScheduleLine.TheVariants.{Empty, Row, Head, Cycles, Total}
-use Rattle.iloc_text.specs.Forms.{numbers}
+use Rattle.iloc_ops.specs.Forms.{numbers}
 use Rattle.iloc_text.specs.Grammar.{◌⋅◌, Text, Blanks, SomeBlanks, Number, Operation, OptionalComment, Name}
 
 -- What a line says: nothing; a row, with the operation on unit 0 and that on unit 1; that what stands below is of the

@@ -2,13 +2,10 @@
 pub mod LineReads
 pub mod Lines
 pub mod Opcodes
-pub mod Operands
-pub mod Placed
 pub mod Scan
 pub mod ScheduleScan
 pub mod Copied
 pub mod Growth
-pub mod Held
 pub mod Open
 pub mod Verdicts
 pub mod TextReads

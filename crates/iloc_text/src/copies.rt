@@ -2,12 +2,8 @@
 ghost use Rattle.std.specs.Prelude.{◌≡◌, [], ◌∷◌, ◌++◌, length, sum_by, IfOk, OnOk};
 ghost use Rattle.std.specs.Option.{option_copied};
 
-use crate::fault::NoMemory;
-use crate::file::{Block, Blocks, IlocFile};
-use crate::name::Name;
-use crate::op::Op;
-use crate::ops::Ops;
 use crate::taker::TakeBlocks;
+use iloc_ops::{Block, Blocks, IlocFile, Name, NoMemory, Op, Ops};
 use std::alloc::Global;
 use std::mem;
 use std::sync::Arc;

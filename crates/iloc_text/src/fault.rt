@@ -1,27 +1,10 @@
 //! Why a text is refused.
 ghost use Rattle.std.specs.Prelude.{◌≡◌};
 
-use std::alloc::{AllocError, AllocFailed};
+use iloc_ops::NoMemory;
+use std::alloc::AllocFailed;
 use std::error::Error;
 use std::fmt::{self, Display, Formatter};
-use thiserror::Error as ThisError;
-
-/// The growth of a list, a text or a memory was refused.
-#[derive(Clone, Copy, Debug, Drop, ThisError, PartialEq, Eq)]
-#[error("out of memory")]
-pub struct NoMemory;
-
-impl From<AllocError> for NoMemory {
-    fn from(_: AllocError) -> NoMemory {
-        NoMemory
-    }
-}
-
-impl<T: Drop> From<AllocFailed<T>> for NoMemory {
-    fn from(_: AllocFailed<T>) -> NoMemory {
-        NoMemory
-    }
-}
 
 /// Why a text has no file. Lines are counted from 1.
 #[derive(Clone, Copy, Debug, Drop, PartialEq, Eq)]

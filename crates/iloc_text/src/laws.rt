@@ -1,5 +1,7 @@
 //! Laws of the language, as contracts of functions that do nothing.
-ghost use Rattle.iloc_text.specs.Laws.{LinesHaveOneReading, ScheduleLinesSayOneThing, SpellingsReadBack, TextsHaveAnAnswer, TextsHaveOneAnswer, FilesAreWithinLimits, PartsAreReadApart, RenamingMapsUses, RenamingReplacesTheDefinition};
+ghost use Rattle.iloc_text.specs.Laws.{LinesHaveOneReading, ScheduleLinesSayOneThing, SpellingsReadBack, TextsHaveAnAnswer, TextsHaveOneAnswer, FilesAreWithinLimits, PartsAreReadApart};
+
+pub use iloc_ops::laws::{renaming_maps_uses, renaming_replaces_the_definition};
 
 /// A line has at most one reading.
 pub fn lines_have_one_reading()
@@ -36,14 +38,4 @@ pub fn files_are_within_limits()
 /// they are no more than a file may have, and the text is no longer than one may be.
 pub fn parts_are_read_apart()
     ensures { PartsAreReadApart }
-{}
-
-/// An operation with other registers uses the new ones, in the order of its own.
-pub fn renaming_maps_uses()
-    ensures { RenamingMapsUses }
-{}
-
-/// An operation with other registers defines the new one if it defines one, and else none.
-pub fn renaming_replaces_the_definition()
-    ensures { RenamingReplacesTheDefinition }
 {}

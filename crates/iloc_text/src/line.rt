@@ -5,10 +5,9 @@ ghost use Rattle.iloc_text.specs.declared.scan.TheConstants.{ABOVE_LIMIT};
 ghost use Rattle.iloc_text.specs.Steps.LineReads.{LineReads, label_of};
 ghost use Rattle.iloc_text.specs.Steps.Scan.{is_end, body_at, line_at, optional_label_at, is_within_limit, is_within};
 
-use crate::forms::{Operands, form_of};
-use crate::op::Op;
 use crate::operation::optional_operation_at;
 use crate::scan::{ABOVE_LIMIT, after_blanks, word_at};
+use iloc_ops::{Op, Operands, form_of};
 
 /// What a line reads as.
 #[derive(Clone, Copy)]

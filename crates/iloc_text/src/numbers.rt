@@ -4,8 +4,8 @@ ghost use Rattle.std.specs.Prelude.{◌≡◌, ◌≤◌, ◌<◌, ◌-◌, ◌+
 ghost use Rattle.std.specs.Char.{is_ascii_digit};
 ghost use Rattle.iloc_text.specs.Steps.Scan.{capped, digits_after, number_at};
 
-use crate::limits::MAX_NUMBER;
 use crate::scan::ABOVE_LIMIT;
+use iloc_ops::MAX_NUMBER;
 
 /// So many digits are enough for each number within the limit.
 const MOST_DIGITS: usize = 10;

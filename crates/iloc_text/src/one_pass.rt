@@ -3,13 +3,13 @@ ghost use Rattle.std.specs.Prelude.{None, Some, Ok, IfSome};
 ghost use Rattle.iloc_text.specs.Grammar.{◌⋅◌, Blanks, OptionalComment};
 ghost use Rattle.iloc_text.specs.Steps.LineReads.{FirstIs, FirstBody, FirstLine};
 
-use crate::forms::{op_of, opcode_at};
 use crate::line::{Line, are_within_limit, optional_label_at};
 use crate::line_ends::split_line;
-use crate::op::Op;
+use crate::opcode::opcode_at;
 use crate::operation::numbers_at;
 use crate::scan::after_blanks;
 use crate::usual::usual_called_at;
+use iloc_ops::{Op, op_of};
 
 /// What stands behind the first line end, if there is one, where nothing but a comment stands before it.
 #[inline(always)]

@@ -1,19 +1,15 @@
 //! The block that is being read: how the blocks of a file grow, line by line, within the limits.
 ghost use Rattle.std.specs.Prelude.{◌≡◌, ◌<◌, ◌≤◌, [], List, IsUtf8, None, IfOk, OnOk, length};
 ghost use Rattle.std.specs.Option.{ForSome, option_copied};
-ghost use Rattle.iloc_text.specs.declared.file.Block.{Block as block_value};
-ghost use Rattle.iloc_text.specs.declared.limits.TheConstants.{MAX_BLOCKS, MAX_OPS};
+ghost use Rattle.iloc_ops.specs.declared.file.Block.{Block as block_value};
+ghost use Rattle.iloc_ops.specs.declared.limits.TheConstants.{MAX_BLOCKS, MAX_OPS};
 ghost use Rattle.iloc_text.specs.Steps.LineReads.{label_of};
 ghost use Rattle.iloc_text.specs.Steps.Growth.{opened, with_op, with_optional_op, with_line, Grows};
 
-use crate::fault::{NoMemory, ReadFault};
-use crate::file::Block;
-use crate::limits::{MAX_BLOCKS, MAX_OPS};
+use crate::fault::ReadFault;
 use crate::line::Line;
-use crate::name::Name;
-use crate::op::Op;
-use crate::ops::Ops;
 use crate::taker::TakeBlocks;
+use iloc_ops::{Block, MAX_BLOCKS, MAX_OPS, Name, NoMemory, Op, Ops};
 use std::alloc::Global;
 use std::str;
 

@@ -1,8 +1,8 @@
 //! The operands of a line, each with what stands before it, however they are spelled.
 ghost use Rattle.std.specs.Prelude.{◌≡◌, option_map};
-ghost use Rattle.iloc_text.specs.Forms.Lead.{space, comma, arrow};
-ghost use Rattle.iloc_text.specs.Forms.{◌▹◌};
-ghost use Rattle.iloc_text.specs.Forms.Value.{Use, Constant};
+ghost use Rattle.iloc_ops.specs.Forms.Lead.{space, comma, arrow};
+ghost use Rattle.iloc_ops.specs.Forms.{◌▹◌};
+ghost use Rattle.iloc_ops.specs.Forms.Value.{Use, Constant};
 ghost use Rattle.iloc_text.specs.Steps.Scan.{register_at, operand_at};
 
 use crate::numbers::number_at;

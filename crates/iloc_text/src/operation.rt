@@ -1,15 +1,15 @@
 //! The operation of a line, scanned with numbers that count as `ABOVE_LIMIT` where they are above the limit.
 ghost use Rattle.std.specs.Prelude.{◌≡◌, option_map};
-ghost use Rattle.iloc_text.specs.Forms.{op_of};
+ghost use Rattle.iloc_ops.specs.Forms.{op_of};
 ghost use Rattle.iloc_text.specs.Steps.Scan.{called_at, operation_at, optional_operation_at};
 
-use crate::forms::{Opcode, Operands, op_of, opcode_of, shape_of};
-use crate::op::Op;
+use crate::opcode::{opcode_of, shape_of};
 use crate::operand::{
     number_behind_blank, number_behind_comma, register_behind_arrow, register_behind_blank,
     register_behind_comma,
 };
 use crate::scan::{is_word_byte, word_at};
+use iloc_ops::{Op, Opcode, Operands, op_of};
 
 /// The numbers behind an opcode by their places, with 0 in each that it has no place for.
 #[tactic(auto, using(crate::proofs::Zeros::zero_stands_for_none, crate::proofs::Zeros::zeros_stand_for_none, crate::proofs::Zeros::all_zeros_stand_for_none), unfolding(crate::specs::Steps::Scan::called_at, crate::specs::Steps::Scan::operand_then))]

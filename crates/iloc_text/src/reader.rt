@@ -1,6 +1,6 @@
 //! The reader: from bytes to the blocks that they denote.
 ghost use Rattle.std.specs.Prelude.{◌≡◌, ◌≢◌, ◌+◌, ◌<◌, ◌^◌, length, List, IfOk, IfErr, OnOk};
-ghost use Rattle.iloc_text.specs.declared.file.Block.{Block};
+ghost use Rattle.iloc_ops.specs.declared.file.Block.{Block};
 ghost use Rattle.iloc_text.specs.declared.fault.ReadFault.TheVariants.{NoMemory as no_memory};
 ghost use Rattle.iloc_text.specs.Steps.LineReads.{FirstLine};
 ghost use Rattle.iloc_text.specs.Steps.Lines.{lines_of};
@@ -10,14 +10,13 @@ ghost use Rattle.iloc_text.specs.Files.{Denotes, IsRefused};
 
 use crate::copies::Copies;
 use crate::fault::ReadFault;
-use crate::file::IlocFile;
-use crate::limits::MAX_INPUT;
 use crate::line::{Line, ParseFault, read_line};
 use crate::line_ends::split_line;
 use crate::one_pass::{usual_body, usual_line};
 use crate::open_block::OpenBlock;
 use crate::scan::after_blanks;
 use crate::taker::TakeBlocks;
+use iloc_ops::{IlocFile, MAX_INPUT};
 use std::alloc::Global;
 
 /// The first line of the text and what stands behind its line end, if it has one; or why it has no reading.

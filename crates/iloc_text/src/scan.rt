@@ -3,7 +3,7 @@ ghost use Rattle.std.specs.Prelude.{◌≡◌, ◌≤◌, option_map, length};
 ghost use Rattle.iloc_text.specs.Grammar.{is_blank, is_word_byte};
 ghost use Rattle.iloc_text.specs.Steps.Scan.{after_blanks, some_blanks_at, arrow_at, comma_at, after_word, word_of};
 
-use crate::limits::MAX_NUMBER;
+use iloc_ops::MAX_NUMBER;
 
 /// The least number above the limit. While a line is scanned it stands for every such number.
 pub const ABOVE_LIMIT: u32 = MAX_NUMBER + 1;

@@ -4,10 +4,10 @@ ghost use Rattle.iloc_text.specs.ScheduleLines.{IsSaidBy, said_of};
 ghost use Rattle.iloc_text.specs.Steps.ScheduleScan.{slot_at, behind_byte, row_at, block_name_at, head_at, cycles_at, total_at, worded_at, said_at, schedule_line_at, is_said_within};
 
 use crate::line::{ParseFault, is_end, is_within};
-use crate::op::Op;
 use crate::operand::number_behind_blank;
 use crate::operation::operation_at;
 use crate::scan::{ABOVE_LIMIT, after_blanks, is_word_byte, some_blanks_at, word_at};
+use iloc_ops::Op;
 
 /// What a line of a schedule says.
 #[derive(Clone, Copy)]

@@ -1,16 +1,15 @@
 //! Files that are read as their bytes come from a stream.
 ghost use Rattle.std.specs.Prelude.{IfErr, IfOk, OnOk, List, [], ℕ};
-ghost use Rattle.iloc_text.specs.declared.file.Block.{Block};
+ghost use Rattle.iloc_ops.specs.declared.file.Block.{Block};
 ghost use Rattle.iloc_text.specs.Files.{Denotes};
 ghost use Rattle.iloc_text.specs.Steps.TextReads.{HasRead};
 ghost use Rattle.iloc_text.specs.Streams.{EndsStream, ReadsText};
 
 use crate::copies::Copies;
 use crate::fault::StreamFault;
-use crate::file::IlocFile;
-use crate::limits::MAX_INPUT;
 use crate::taker::TakeBlocks;
 use crate::text_reader::TextReader;
+use iloc_ops::{IlocFile, MAX_INPUT};
 use std::alloc::Global;
 use std::io::Read;
 

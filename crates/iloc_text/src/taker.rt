@@ -1,10 +1,8 @@
 //! What the reader hands the blocks of a text to.
 ghost use Rattle.std.specs.Prelude.{◌≡◌, ◌+◌, ◌≤◌, List, [], ◌∷◌, ◌++◌, length, OnOk};
-ghost use Rattle.iloc_text.specs.declared.file.Block.{Block as block_value};
+ghost use Rattle.iloc_ops.specs.declared.file.Block.{Block as block_value};
 
-use crate::fault::NoMemory;
-use crate::file::Block;
-use crate::limits::{MAX_BLOCKS, MAX_OPS};
+use iloc_ops::{Block, MAX_BLOCKS, MAX_OPS, NoMemory};
 use std::alloc::Global;
 
 /// Takes the blocks of a text, one after another.

@@ -2,9 +2,9 @@
 ghost use Rattle.std.specs.Prelude.{◌≡◌, ◌≤◌, length, map, IfOk, IfSome, IsTrue};
 ghost use Rattle.iloc_text.specs.Parts.{AreParts, BeginsLabelled, FallsInto};
 
-use crate::fault::NoMemory;
 use crate::line_ends::split_line;
 use crate::one_pass::usual_line;
+use iloc_ops::NoMemory;
 use std::alloc::Global;
 
 /// A label is looked for on so many lines, about as many as a block of the greatest length has.

@@ -1,15 +1,15 @@
 //! A reader of a text that comes piece by piece.
 ghost use Rattle.std.specs.Prelude.{◌≡◌, ◌≢◌, ◌+◌, ◌≤◌, ◌++◌, [], List, ℕ, length, vec_len, IfOk, IfErr, OnOk, OnErr};
-ghost use Rattle.iloc_text.specs.declared.limits.TheConstants.{MAX_INPUT};
-ghost use Rattle.iloc_text.specs.declared.file.Block.{Block as block_value};
+ghost use Rattle.iloc_ops.specs.declared.limits.TheConstants.{MAX_INPUT};
+ghost use Rattle.iloc_ops.specs.declared.file.Block.{Block as block_value};
 ghost use Rattle.iloc_text.specs.declared.fault.ReadFault.TheVariants.{NoMemory as no_memory};
 ghost use Rattle.iloc_text.specs.Files.{Denotes, IsRefused};
 
-use crate::fault::{NoMemory, ReadFault};
-use crate::limits::MAX_INPUT;
+use crate::fault::ReadFault;
 use crate::open_block::OpenBlock;
 use crate::reader::read_lines;
 use crate::taker::TakeBlocks;
+use iloc_ops::{MAX_INPUT, NoMemory};
 use memchr::memrchr;
 use std::alloc::Global;
 

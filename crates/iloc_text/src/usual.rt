@@ -2,15 +2,15 @@
 //! a text that is long enough for each of them, so where it ends is asked once.
 ghost use Rattle.std.specs.Prelude.{◌≡◌, ◌<◌, ◌≤◌, ◌+◌, ◌++◌, ℕ, List, true, nat_lt, Some, IfSome, length, get_or, drop};
 ghost use Rattle.iloc_text.specs.declared.scan.TheConstants.{ABOVE_LIMIT};
-ghost use Rattle.iloc_text.specs.Forms.Lead.{space, comma, arrow};
-ghost use Rattle.iloc_text.specs.Forms.Value.{Use, Constant};
-ghost use Rattle.iloc_text.specs.Forms.{◌▹◌};
+ghost use Rattle.iloc_ops.specs.Forms.Lead.{space, comma, arrow};
+ghost use Rattle.iloc_ops.specs.Forms.Value.{Use, Constant};
+ghost use Rattle.iloc_ops.specs.Forms.{◌▹◌};
 ghost use Rattle.iloc_text.specs.Steps.Scan.{some_blanks_at, comma_at, arrow_at, register_at, number_at, operand_at, called_at, is_within_limit};
 
-use crate::forms::{Opcode, Operands, op_of, shape_of};
 use crate::numbers::{usual_number_at, usual_register_number_at};
-use crate::op::Op;
+use crate::opcode::shape_of;
 use crate::scan::{arrow_at, comma_at, some_blanks_at};
+use iloc_ops::{Op, Opcode, Operands, op_of};
 
 /// At most so many bytes are passed before a register or a constant, as where these stand in columns.
 const MOST_PASSED: usize = 20;

@@ -1,9 +1,9 @@
 -- A schedule in mid-run, one step on.
 use Rattle.std.proofs.Common.{◌≡◌, ◌<◌, ◌≤◌, ℕ, ◌+◌, ◌%◌, true, false, List, [], ◌∷◌, ◌++◌, length, set, Some, Vec, Global, IsTrue, ℤ, pos, arith, refl, sym, ap, ◌∙◌, append-nil}
 use Rattle.std.specs.Prelude.{fold}
-use Rattle.iloc_text.specs.declared.op.Reg.{Reg}
-use Rattle.iloc_text.specs.declared.op.Op.{Op}
-use Rattle.iloc_text.specs.Registers.{defined}
+use Rattle.iloc_ops.specs.declared.op.Reg.{Reg}
+use Rattle.iloc_ops.specs.declared.op.Op.{Op}
+use Rattle.iloc_ops.specs.Registers.{defined}
 use Rattle.iloc_meaning.specs.declared.effect.Effect.{Effect}
 use Rattle.iloc_meaning.specs.declared.effect.Effect.TheVariants.{Faults, Gives, Writes, Emits, Nothing}
 use Rattle.iloc_meaning.specs.Address.{is_good}

@@ -1,7 +1,7 @@
 -- How many cycles a schedule takes, until its last result has arrived.
 use Rattle.std.specs.Prelude.{ℕ, ◌+◌, max, List, length, map, fold}
 use Rattle.std.specs.List.{range_with_len}
-use Rattle.iloc_text.specs.declared.op.Op.{Op}
+use Rattle.iloc_ops.specs.declared.op.Op.{Op}
 use Rattle.iloc_meaning.specs.Trace.{op_at}
 use Rattle.iloc_timed.specs.declared.latencies.Latencies.{Latencies}
 use Rattle.iloc_timed.specs.declared.row.Row.{Row}

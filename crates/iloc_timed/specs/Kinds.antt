@@ -1,7 +1,7 @@
 -- The kinds of operations that the machine tells apart.
 use Rattle.std.specs.Prelude.{Bool, true, false, ◌||◌}
-use Rattle.iloc_text.specs.declared.op.Op.{Op}
-use Rattle.iloc_text.specs.declared.op.Op.TheVariants.{Load, LoadAI, Store, StoreAI, Mult, MultI, Output}
+use Rattle.iloc_ops.specs.declared.op.Op.{Op}
+use Rattle.iloc_ops.specs.declared.op.Op.TheVariants.{Load, LoadAI, Store, StoreAI, Mult, MultI, Output}
 use Rattle.iloc_timed.specs.declared.kind.Kind.{Kind}
 use Rattle.iloc_timed.specs.declared.kind.Kind.TheVariants as K
 

@@ -1,6 +1,6 @@
 -- How many cycles an operation takes: its result arrives that many cycles after it is issued.
 use Rattle.std.specs.Prelude.{ℕ, ◌≤◌}
-use Rattle.iloc_text.specs.declared.op.Op.{Op}
+use Rattle.iloc_ops.specs.declared.op.Op.{Op}
 use Rattle.iloc_timed.specs.declared.kind.Kind.{Kind}
 use Rattle.iloc_timed.specs.declared.kind.Kind.TheVariants as K
 use Rattle.iloc_timed.specs.declared.latencies.Latencies.{Latencies}

@@ -1,7 +1,7 @@
 -- The rows of a schedule: by cycle, the numbers of the operations that are issued on the two units.
 use Rattle.std.specs.Prelude.{ℕ, ◌+◌, ◌≡◌, ◌<◌, ◌==◌, ◌&&◌, not, Bool, false, if◌then◌else◌, List, [], ◌∷◌, ◌++◌, length, slice_index_or, sum_by, count_by, Option, Some, None, option_map, option_to_list, Contains, IsTrue}
 use Rattle.std.specs.List.{list_any}
-use Rattle.iloc_text.specs.declared.op.Op.{Op}
+use Rattle.iloc_ops.specs.declared.op.Op.{Op}
 use Rattle.iloc_meaning.specs.Trace.{op_at}
 use Rattle.iloc_timed.specs.declared.kind.Kind.{Kind}
 use Rattle.iloc_timed.specs.declared.row.Row.{Row}

@@ -1,7 +1,7 @@
 -- What a schedule is, and why operations and rows make none.
 use Rattle.std.specs.Prelude.{ℕ, ◌≡◌, ◌≢◌, ◌<◌, ◌&&◌, nat_lt, Bool, List, length, IsTrue, IsFalse}
 use Rattle.std.specs.List.{list_all}
-use Rattle.iloc_text.specs.declared.op.Op.{Op}
+use Rattle.iloc_ops.specs.declared.op.Op.{Op}
 use Rattle.iloc_timed.specs.declared.row.Row.{Row}
 use Rattle.iloc_timed.specs.declared.build_fault.BuildFault.{BuildFault}
 use Rattle.iloc_timed.specs.declared.build_fault.BuildFault.TheVariants.{BadRow, NotOnce, NoMemory}

@@ -2,7 +2,7 @@
 ghost use Rattle.std.specs.Prelude.{◌≡◌};
 ghost use Rattle.iloc_timed.specs.Kinds.{kind};
 
-use iloc_text::Op;
+use iloc_ops::Op;
 
 /// What an operation is to the units and to the memory.
 #[derive(Clone, Copy, Debug, PartialEq, Eq)]

@@ -1,6 +1,6 @@
 //! A schedule in mid-run.
 ghost use Rattle.std.specs.Prelude.{ℕ, ◌≡◌, ◌+◌, ◌<◌, ◌≤◌, pos, [], List, ℤ, length, fold, option_to_list, All, IfOk, OnOk, IfSome, IsTrue, true};
-ghost use Rattle.iloc_text.specs.declared.op.Reg.{Reg as Register};
+ghost use Rattle.iloc_ops.specs.declared.op.Reg.{Reg as Register};
 ghost use Rattle.iloc_meaning.specs.Address.{is_good};
 ghost use Rattle.iloc_meaning.specs.Memory.{word_at};
 ghost use Rattle.iloc_meaning.specs.Registers.{value_of};
@@ -12,7 +12,7 @@ use crate::schedule::{MAX_ROWS, Schedule};
 use crate::timing::latency;
 use crate::wheel::{LONGEST, Pending, Wheel};
 use iloc_meaning::{Effect, Memory, Registers, Scratch, State};
-use iloc_text::{NoMemory, Op, defines};
+use iloc_ops::{NoMemory, Op, defines};
 use std::alloc::Global;
 
 /// Writes a result where it goes.

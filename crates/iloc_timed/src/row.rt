@@ -3,7 +3,7 @@ ghost use Rattle.std.specs.Prelude.{◌≡◌};
 ghost use Rattle.iloc_timed.specs.Rows.{kind_in};
 
 use crate::kind::Kind;
-use iloc_text::Op;
+use iloc_ops::Op;
 
 /// The operations that are issued in one cycle, by their numbers: one on each unit, or none.
 #[derive(Clone, Copy, Debug, Default, PartialEq, Eq)]

@@ -6,7 +6,7 @@ use crate::latencies::Latencies;
 use crate::schedule::Schedule;
 use crate::simulator::Simulator;
 use iloc_meaning::{Memory, Outcome};
-use iloc_text::NoMemory;
+use iloc_ops::NoMemory;
 use std::alloc::Global;
 
 /// The outcome of a schedule that starts with all registers 0 and this memory. At the start of each

@@ -6,7 +6,7 @@ ghost use Rattle.iloc_timed.specs.Schedule.{IsReason};
 use crate::build_fault::BuildFault;
 use crate::row::Row;
 use crate::slots::{first_bad_row, first_not_once};
-use iloc_text::Op;
+use iloc_ops::Op;
 use std::alloc::{AllocError, Global};
 use std::marker::Model;
 

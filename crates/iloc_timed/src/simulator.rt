@@ -8,7 +8,7 @@ use crate::latencies::Latencies;
 use crate::machine::Machine;
 use crate::schedule::Schedule;
 use iloc_meaning::{Memory, Outcome};
-use iloc_text::NoMemory;
+use iloc_ops::NoMemory;
 use std::alloc::Global;
 use std::marker::Model;
 

@@ -4,7 +4,7 @@ ghost use Rattle.iloc_timed.specs.Rows.{times_issued};
 ghost use Rattle.iloc_timed.specs.Schedule.{AreSound, AreInRange, AreOnce, IsFirstBadRow, IsFirstNotOnce};
 
 use crate::row::Row;
-use iloc_text::Op;
+use iloc_ops::Op;
 use std::alloc::{AllocError, Global};
 
 /// The first row with a number that isn't an operation's or with a broken rule of the units.

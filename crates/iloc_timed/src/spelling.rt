@@ -1,12 +1,12 @@
 //! How a row is written.
 ghost use Rattle.std.specs.Prelude.{◌≡◌, ◌≤◌, ◌+◌, ◌++◌, drop, length, OnErr, OnOk};
-ghost use Rattle.iloc_text.specs.Spelling.{spelling};
-ghost use Rattle.iloc_text.specs.declared.spelling.TheConstants.{OP_ROOM};
+ghost use Rattle.iloc_ops.specs.Spelling.{spelling};
+ghost use Rattle.iloc_ops.specs.declared.spelling.TheConstants.{OP_ROOM};
 ghost use Rattle.iloc_timed.specs.Spelling.{op_in, row_line, row_spelling};
 ghost use Rattle.iloc_timed.specs.declared.spelling.TheConstants.{ROOM};
 
 use crate::row::Row;
-use iloc_text::{NoMemory, OP_ROOM, Op, write_op, write_text};
+use iloc_ops::{NoMemory, OP_ROOM, Op, write_op, write_text};
 
 /// More bytes than a row is written with.
 const ROOM: usize = 2 * OP_ROOM + 7;

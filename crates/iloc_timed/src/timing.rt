@@ -9,7 +9,7 @@ use crate::kind::Kind;
 use crate::latencies::Latencies;
 use crate::row::Row;
 use crate::schedule::{MAX_ROWS, Schedule};
-use iloc_text::Op;
+use iloc_ops::Op;
 
 /// How many cycles after its issue the result of an operation arrives.
 pub fn latency(op: &Op, latencies: &Latencies) -> u64

@@ -3,7 +3,7 @@ ghost use Rattle.std.specs.Prelude.{◌≡◌, ◌%◌, ◌++◌, ◌∷◌, [],
 ghost use Rattle.iloc_timed.specs.Steps.Pending.{CanLand};
 ghost use Rattle.iloc_timed.specs.Steps.Wheel.{list_at};
 
-use iloc_text::{NoMemory, Reg};
+use iloc_ops::{NoMemory, Reg};
 use std::alloc::Global;
 use std::marker::Model;
 

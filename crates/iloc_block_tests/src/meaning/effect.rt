@@ -1,5 +1,5 @@
 use iloc_meaning::{Effect, Memory, Registers};
-use iloc_text::{NoMemory, Op, Reg};
+use iloc_ops::{NoMemory, Op, Reg};
 use std::alloc::Global;
 use std::test::Fail;
 

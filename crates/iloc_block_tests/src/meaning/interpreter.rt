@@ -1,7 +1,7 @@
 use crate::asserted::assert_emitted;
 use crate::written::block_of;
 use iloc_meaning::{Interpreter, Memory, Outcome, Words};
-use iloc_text::{Block, NoMemory};
+use iloc_ops::{Block, NoMemory};
 use std::alloc::Global;
 use std::process::Abort;
 use std::test::Fail;

@@ -1,6 +1,6 @@
 use crate::asserted::assert_list;
 use iloc_meaning::{Memory, Outcome, run_block};
-use iloc_text::{Block, NoMemory, Op, Ops, Reg};
+use iloc_ops::{Block, NoMemory, Op, Ops, Reg};
 use std::alloc::Global;
 use std::test::Fail;
 

@@ -3,8 +3,8 @@ ghost use Rattle.std.specs.Prelude.{◌≤◌, length, IfOk};
 
 use crate::asserted::assert_list;
 use crate::written::alone;
+use iloc_ops::{Block, MAX_OPS, Op, Ops, Reg};
 use iloc_sched::{Pair, pairs, priorities, rename, schedule};
-use iloc_text::{Block, MAX_OPS, Op, Ops, Reg};
 use iloc_timed::{Latencies, Row};
 use std::alloc::Global;
 use std::process::Abort;

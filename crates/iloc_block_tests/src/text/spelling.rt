@@ -1,5 +1,5 @@
 use crate::asserted::assert_list;
-use iloc_text::{NoMemory, OP_ROOM, Op, push_number, push_op, write_op};
+use iloc_ops::{NoMemory, OP_ROOM, Op, push_number, push_op, write_op};
 use std::process::Abort;
 use std::test::Fail;
 

@@ -1,6 +1,6 @@
 use crate::written::{Issue, Times, USUAL, block_of, build, latencies};
 use iloc_meaning::{Memory, Outcome};
-use iloc_text::NoMemory;
+use iloc_ops::NoMemory;
 use iloc_timed::{Latencies, Schedule, cycles, run_schedule};
 use std::alloc::Global;
 use std::process::Abort;

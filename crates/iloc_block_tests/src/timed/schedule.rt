@@ -1,6 +1,6 @@
 use crate::asserted::assert_list;
 use crate::written::{Issue, build, rows_of};
-use iloc_text::{Op, Reg};
+use iloc_ops::{Op, Reg};
 use iloc_timed::BuildFault::{self, BadRow, NoMemory, NotOnce};
 use std::test::Fail;
 

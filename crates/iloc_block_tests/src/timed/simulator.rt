@@ -1,7 +1,7 @@
 use crate::asserted::assert_emitted;
 use crate::written::{Issue, Times, USUAL, block_of, build, latencies};
 use iloc_meaning::{Memory, Outcome, Words};
-use iloc_text::NoMemory;
+use iloc_ops::NoMemory;
 use iloc_timed::{Latencies, Schedule, Simulator};
 use std::alloc::{AllocError, Global};
 use std::process::Abort;

@@ -1,6 +1,6 @@
 -- The numbers that workers count: of each block the cycles of its schedule.
 use Rattle.std.specs.Prelude.{◌≡◌, ℕ, List, map, slice_get, MatchOption}
-use Rattle.iloc_text.specs.declared.file.Block.{Block}
+use Rattle.iloc_ops.specs.declared.file.Block.{Block}
 use Rattle.iloc_timed.specs.declared.latencies.Latencies.{Latencies}
 use Rattle.iloc_timed.specs.Schedule.{Table}
 use Rattle.iloc_sched.specs.Greedy.{IsGreedy}

@@ -1,7 +1,7 @@
 -- The entries that workers make of blocks: what is listed of each block's schedule, and its cycles.
 use Rattle.std.specs.Prelude.{◌≡◌, ℕ, ◌+◌, List, sum_by, slice_get, MatchOption}
 use Rattle.std.specs.List.{flat_map}
-use Rattle.iloc_text.specs.declared.file.Block.{Block}
+use Rattle.iloc_ops.specs.declared.file.Block.{Block}
 use Rattle.iloc_timed.specs.declared.latencies.Latencies.{Latencies}
 use Rattle.iloc_timed.specs.Schedule.{Table}
 use Rattle.iloc_sched.specs.Greedy.{IsGreedy}

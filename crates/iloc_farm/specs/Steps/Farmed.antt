@@ -1,6 +1,6 @@
 -- Schedules that a request's workers made.
 use Rattle.std.specs.Prelude.{List}
-use Rattle.iloc_text.specs.declared.file.Block.{Block}
+use Rattle.iloc_ops.specs.declared.file.Block.{Block}
 use Rattle.iloc_timed.specs.Schedule.{Table}
 use Rattle.iloc_args.specs.declared.request.Request.{Request}
 use Rattle.iloc_farm.specs.Headline.{Headline}

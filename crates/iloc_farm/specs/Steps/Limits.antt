@@ -1,6 +1,6 @@
 -- How many cycles schedules take at most.
 use Rattle.std.specs.Prelude.{ℕ, ◌+◌, ◌*◌}
-use Rattle.iloc_text.specs.declared.limits.TheConstants.{MAX_OPS}
+use Rattle.iloc_ops.specs.declared.limits.TheConstants.{MAX_OPS}
 use Rattle.iloc_timed.specs.declared.schedule.TheConstants.{MAX_ROWS}
 use Rattle.iloc_sched.specs.declared.wheel.TheConstants.{LONGEST_DELAY}
 

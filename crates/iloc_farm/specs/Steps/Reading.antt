@@ -1,6 +1,6 @@
 -- Parts of a text that were read apart.
 use Rattle.std.specs.Prelude.{IfOk}
-use Rattle.iloc_text.specs.declared.file.IlocFile.{IlocFile}
+use Rattle.iloc_ops.specs.declared.file.IlocFile.{IlocFile}
 use Rattle.iloc_text.specs.Files.{Denotes}
 use Rattle.iloc_farm.specs.declared.reading.PartRead.{PartRead}
 

@@ -5,7 +5,7 @@ use crate::asked::asked;
 use crate::asserted::assert_list;
 use iloc_args::Request;
 use iloc_farm::{FarmFault, Finding, RunFault, run};
-use iloc_text::push_number;
+use iloc_ops::push_number;
 use std::alloc::{AllocError, Global};
 use std::process::Abort;
 use std::sync::Wait;

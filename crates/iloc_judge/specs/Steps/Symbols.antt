@@ -3,7 +3,7 @@ use Rattle.std.specs.Prelude.{ℕ, ◌≡◌, ◌≢◌, ◌%◌, Bool, not, Lis
 use Rattle.std.specs.List.{list_any}
 use Rattle.std.specs.Ordering.{nat_cmp}
 use Rattle.std.specs.BTreeMap.{get}
-use Rattle.iloc_text.specs.declared.op.Reg.{Reg}
+use Rattle.iloc_ops.specs.declared.op.Reg.{Reg}
 use Rattle.iloc_meaning.specs.declared.effect.Effect.{Effect}
 use Rattle.iloc_meaning.specs.declared.effect.Effect.TheVariants as E
 use Rattle.iloc_meaning.specs.Address.{is_good, good_address}

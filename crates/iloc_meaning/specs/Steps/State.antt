@@ -1,6 +1,6 @@
 -- A block in mid-run against the trace of what it has executed.
 use Rattle.std.specs.Prelude.{◌≡◌, Bool, true, false, List, length, ℤ}
-use Rattle.iloc_text.specs.declared.op.Reg.{Reg}
+use Rattle.iloc_ops.specs.declared.op.Reg.{Reg}
 use Rattle.iloc_meaning.specs.declared.state.State.{State}
 use Rattle.iloc_meaning.specs.declared.memory.TheConstants.{WORDS}
 use Rattle.iloc_meaning.specs.Memory.{with_words}

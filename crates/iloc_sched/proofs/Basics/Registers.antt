@@ -1,7 +1,7 @@
 -- Whether a register is the one that an operation defines; for the delays by uses.
 use Rattle.std.proofs.Common.{◌≡◌, ℕ, true, Option, Some, None, refl, ap, sym, ◌∙◌}
 use Rattle.std.proofs.lemmas.Bool.{eq-eqb, eqb-true, false≢true}
-use Rattle.iloc_text.specs.declared.op.Reg.{Reg}
+use Rattle.iloc_ops.specs.declared.op.Reg.{Reg}
 use Rattle.iloc_meaning.specs.Trace.{is_register}
 
 pub is_register_same : (r : Reg) (o : Option Reg) → is_register r o ≡ true → o ≡ Some r

@@ -5,7 +5,7 @@ use Rattle.std.specs.List.{range_with_len}
 use Rattle.std.proofs.Math.Nat.{mul-suc, mul-div-le, mul-le-mul_left}
 use Rattle.std.proofs.lemmas.Bool.{cases_lt}
 use Rattle.std.proofs.lemmas.Bool.Decides.{nat_tests}
-use Rattle.iloc_text.specs.declared.op.Op.{Op}
+use Rattle.iloc_ops.specs.declared.op.Op.{Op}
 use Rattle.iloc_meaning.specs.Trace.{op_at}
 use Rattle.iloc_timed.specs.declared.kind.Kind.{Kind}
 use Rattle.iloc_timed.specs.declared.latencies.Latencies.{Latencies}

@@ -1,7 +1,7 @@
 -- Issue and priority are at most the cycles: `laws::priorities_bound_the_cycles`, `schedule` (`least`).
 use Rattle.std.proofs.Common.{ℕ, ◌+◌, ◌<◌, ◌≤◌, zero, suc, List, map, length, inl, inr, sym, subst, arith}
 use Rattle.std.specs.List.{range_with_len}
-use Rattle.iloc_text.specs.declared.op.Op.{Op}
+use Rattle.iloc_ops.specs.declared.op.Op.{Op}
 use Rattle.iloc_meaning.specs.Trace.{op_at}
 use Rattle.iloc_timed.specs.declared.latencies.Latencies.{Latencies}
 use Rattle.iloc_timed.specs.declared.row.Row.{Row}

@@ -1,6 +1,6 @@
 -- What the tables say can be issued is what is ready; for `Waiting::step`.
 use Rattle.std.proofs.Common.{◌≡◌, ℕ, ◌+◌, ◌-◌, false, ◌<◌, ◌≤◌, List, length, None, inl, inr, sym, ◌∙◌, ap, subst, arith}
-use Rattle.iloc_text.specs.declared.op.Op.{Op}
+use Rattle.iloc_ops.specs.declared.op.Op.{Op}
 use Rattle.iloc_timed.specs.declared.latencies.Latencies.{Latencies}
 use Rattle.iloc_timed.specs.declared.row.Row.{Row}
 use Rattle.iloc_timed.specs.Rows.{slots, issue_cycle}

@@ -1,7 +1,7 @@
 -- The finished schedule by the names that callers see: `schedule` (`greedy`, `only`, `least`, `most`).
 use Rattle.std.proofs.Common.{◌≡◌, ℕ, ◌+◌, ◌<◌, ◌≤◌, List, length, sym, subst}
 use Rattle.std.specs.Prelude.{sum_by}
-use Rattle.iloc_text.specs.declared.op.Op.{Op}
+use Rattle.iloc_ops.specs.declared.op.Op.{Op}
 use Rattle.iloc_timed.specs.declared.latencies.Latencies.{Latencies}
 use Rattle.iloc_timed.specs.declared.row.Row.{Row}
 use Rattle.iloc_timed.specs.Rows.{issue_cycle}

@@ -1,6 +1,6 @@
 -- A lawful schedule has its block's outcome: `laws::lawful_schedules_keep_the_outcome`, `schedule` (`outcome`).
 use Rattle.std.proofs.Common.{◌≡◌, List, ℤ, ap, sym, ◌∙◌, subst}
-use Rattle.iloc_text.specs.declared.op.Op.{Op}
+use Rattle.iloc_ops.specs.declared.op.Op.{Op}
 use Rattle.iloc_meaning.specs.Outcome.{outcome}
 use Rattle.iloc_timed.specs.declared.latencies.Latencies.{Latencies}
 use Rattle.iloc_timed.specs.declared.row.Row.{Row}

@@ -1,10 +1,10 @@
 -- An effect depends on the used registers, and on words only where memory is read; for `TimedOutcomes`.
 use Rattle.std.proofs.Common.{◌≡◌, ℕ, ◌+ℤ◌, ℤ, Bool, true, false, ◌||◌, [], refl, ap, ◌∙◌}
 use Rattle.std.proofs.lemmas.Bool.{true≢false, false≢true}
-use Rattle.iloc_text.specs.declared.op.Reg.{Reg}
-use Rattle.iloc_text.specs.declared.op.Op.{Op}
-use Rattle.iloc_text.specs.declared.op.Op.TheVariants.{Load, Store, Output, LoadAI, StoreAI}
-use Rattle.iloc_text.specs.Registers.{used}
+use Rattle.iloc_ops.specs.declared.op.Reg.{Reg}
+use Rattle.iloc_ops.specs.declared.op.Op.{Op}
+use Rattle.iloc_ops.specs.declared.op.Op.TheVariants.{Load, Store, Output, LoadAI, StoreAI}
+use Rattle.iloc_ops.specs.Registers.{used}
 use Rattle.iloc_meaning.specs.declared.effect.Effect.TheVariants.{Gives, Writes, Emits}
 use Rattle.iloc_meaning.specs.Address.{good_address}
 use Rattle.iloc_meaning.specs.Arithmetic.{wrapped, constant}

@@ -3,7 +3,7 @@ use Rattle.std.proofs.Common.{◌≡◌, ◌≢◌, ℕ, ◌+◌, ◌<◌, ◌�
 use Rattle.std.proofs.lemmas.Bool.{eqb-true}
 use Rattle.std.specs.List.{list_any}
 use Rattle.std.proofs.lemmas.List.Folds.{list_any-append}
-use Rattle.iloc_text.specs.declared.op.Reg.{Reg}
+use Rattle.iloc_ops.specs.declared.op.Reg.{Reg}
 use Rattle.iloc_meaning.proofs.Cases.{by_bool}
 use Rattle.iloc_sched.specs.Renaming.{Source, is_source, struck, place_of}
 use Rattle.iloc_sched.specs.Renaming.Source.{Start, Result}

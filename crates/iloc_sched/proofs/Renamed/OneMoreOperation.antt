@@ -3,10 +3,10 @@ use Rattle.std.proofs.Common.{◌≡◌, ℕ, zero, suc, ◌<◌, ◌≤◌, Lis
 use Rattle.std.proofs.Math.ListN.{get_or-append}
 use Rattle.std.proofs.Math.Seq.{get_or-append_seam}
 use Rattle.std.specs.List.{list_any}
-use Rattle.iloc_text.specs.declared.op.Reg.{Reg}
-use Rattle.iloc_text.specs.declared.op.Op.{Op}
-use Rattle.iloc_text.specs.declared.op.Op.TheVariants.{Nop}
-use Rattle.iloc_text.specs.Registers.{used, defined}
+use Rattle.iloc_ops.specs.declared.op.Reg.{Reg}
+use Rattle.iloc_ops.specs.declared.op.Op.{Op}
+use Rattle.iloc_ops.specs.declared.op.Op.TheVariants.{Nop}
+use Rattle.iloc_ops.specs.Registers.{used, defined}
 use Rattle.iloc_meaning.specs.Trace.{op_at}
 use Rattle.iloc_meaning.proofs.Cases.{by_bool}
 use Rattle.iloc_sched.specs.Renaming.{Source, is_source, struck, source, own_source, mentions, mentions_before, numbering, place_of, name_of}

@@ -4,10 +4,10 @@ use Rattle.std.proofs.lemmas.List.{map-append, take_all}
 use Rattle.std.specs.List.{list_any, range_with_len}
 use Rattle.std.proofs.lemmas.List.Elements.{filter_more}
 use Rattle.std.proofs.lemmas.List.FromFn.{map-range_with_len_more}
-use Rattle.iloc_text.specs.declared.op.Reg.{Reg}
-use Rattle.iloc_text.specs.declared.op.Op.{Op}
-use Rattle.iloc_text.specs.Registers.{used, defined, with_registers}
-use Rattle.iloc_text.proofs.Renaming.{with_registers-same}
+use Rattle.iloc_ops.specs.declared.op.Reg.{Reg}
+use Rattle.iloc_ops.specs.declared.op.Op.{Op}
+use Rattle.iloc_ops.specs.Registers.{used, defined, with_registers}
+use Rattle.iloc_ops.proofs.Renaming.{with_registers-same}
 use Rattle.iloc_meaning.specs.Trace.{op_at, is_register}
 use Rattle.iloc_meaning.proofs.Cases.{by_bool}
 use Rattle.iloc_sched.specs.Renaming.{Source, is_source, source, own_source, numbering, name_of, renamed_op, renamed_by, is_nop, without_nops, renamed}

@@ -1,10 +1,10 @@
 -- A block without its `nop`s has the block's outcome; for `rename` (`outcome`).
 use Rattle.std.proofs.Common.{◌≡◌, ℕ, zero, suc, ◌+◌, ◌<◌, true, List, [], ◌∷◌, length, drop, ℤ, refl, sym, ap, ◌∙◌, arith, append-nil}
 use Rattle.std.proofs.Math.Seq.{drop-cons, drop-length}
-use Rattle.iloc_text.specs.declared.op.Reg.{Reg}
-use Rattle.iloc_text.specs.declared.op.Op.{Op}
-use Rattle.iloc_text.specs.declared.op.Op.TheVariants.{Load, Nop}
-use Rattle.iloc_text.specs.Registers.{defined, with_registers}
+use Rattle.iloc_ops.specs.declared.op.Reg.{Reg}
+use Rattle.iloc_ops.specs.declared.op.Op.{Op}
+use Rattle.iloc_ops.specs.declared.op.Op.TheVariants.{Load, Nop}
+use Rattle.iloc_ops.specs.Registers.{defined, with_registers}
 use Rattle.iloc_meaning.specs.declared.effect.Effect.{Effect}
 use Rattle.iloc_meaning.specs.Trace.{Executed, result_of, is_register, is_write_to, register_after, then_executed, before}
 use Rattle.iloc_meaning.specs.Outcome.{emitted, outcome}

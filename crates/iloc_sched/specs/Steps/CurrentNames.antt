@@ -1,6 +1,6 @@
 -- The names that registers have at a point of a walk.
 use Rattle.std.specs.Prelude.{ℕ, Option}
-use Rattle.iloc_text.specs.declared.op.Reg.{Reg}
+use Rattle.iloc_ops.specs.declared.op.Reg.{Reg}
 use Rattle.iloc_sched.specs.declared.renaming.Names.{Names}
 use Rattle.iloc_sched.specs.Steps.ByRegister.{number_at}
 

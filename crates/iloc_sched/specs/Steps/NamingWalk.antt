@@ -1,9 +1,9 @@
 -- What a walk through a block keeps while it names registers.
 use Rattle.std.specs.Prelude.{ℕ, ◌+◌, ◌≡◌, ◌≢◌, ◌<◌, ◌⊎◌, true, if◌then◌else◌, List, [], ◌∷◌, ◌++◌, length, map, Option, Some, None}
 use Rattle.std.specs.List.{list_any}
-use Rattle.iloc_text.specs.declared.op.Reg.{Reg}
-use Rattle.iloc_text.specs.declared.op.Op.{Op}
-use Rattle.iloc_text.specs.Registers.{used, defined, with_registers}
+use Rattle.iloc_ops.specs.declared.op.Reg.{Reg}
+use Rattle.iloc_ops.specs.declared.op.Op.{Op}
+use Rattle.iloc_ops.specs.Registers.{used, defined, with_registers}
 use Rattle.iloc_sched.specs.Renaming.{Source, is_source, source, numbering, place_of, name_of, renamed_op}
 use Rattle.iloc_sched.specs.Renaming.Source.{Start, Result}
 

@@ -1,8 +1,8 @@
 -- The kept edges while they are made.
 use Rattle.std.specs.Prelude.{ℕ, ◌+◌, ◌≡◌, ◌≢◌, ◌<◌, ◌≤◌, List, length, Some, Contains}
-use Rattle.iloc_text.specs.declared.op.Reg.{Reg}
-use Rattle.iloc_text.specs.declared.op.Op.{Op}
-use Rattle.iloc_text.specs.Registers.{used, defined}
+use Rattle.iloc_ops.specs.declared.op.Reg.{Reg}
+use Rattle.iloc_ops.specs.declared.op.Op.{Op}
+use Rattle.iloc_ops.specs.Registers.{used, defined}
 use Rattle.iloc_meaning.specs.Trace.{op_at}
 use Rattle.iloc_timed.specs.declared.latencies.Latencies.{Latencies}
 use Rattle.iloc_timed.specs.Latency.{latency}

@@ -1,8 +1,8 @@
 -- The registers of an operation, as the code has them.
 use Rattle.std.specs.Prelude.{◌≡◌, List, [], ◌∷◌}
-use Rattle.iloc_text.specs.declared.op.Reg.{Reg}
-use Rattle.iloc_text.specs.declared.op.Op.{Op}
-use Rattle.iloc_text.specs.Registers.{used, defined}
+use Rattle.iloc_ops.specs.declared.op.Reg.{Reg}
+use Rattle.iloc_ops.specs.declared.op.Op.{Op}
+use Rattle.iloc_ops.specs.Registers.{used, defined}
 use Rattle.iloc_sched.specs.declared.registers.Registers.{Registers}
 use Rattle.iloc_sched.specs.declared.registers.Uses.{Uses}
 use Rattle.iloc_sched.specs.declared.registers.Uses.TheVariants.{Nothing, One, Two}

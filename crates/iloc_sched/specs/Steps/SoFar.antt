@@ -1,7 +1,7 @@
 -- What holds of a schedule that is being made.
 use Rattle.std.specs.Prelude.{ℕ, ◌+◌, ◌%◌, ◌≡◌, ◌≢◌, ◌<◌, ◌++◌, ◌⊎◌, ◌||◌, List, length, map, slice_index_or, slice_set, count_by, is_none, Option, Some, None, Bool, false, if◌then◌else◌}
 use Rattle.iloc_meaning.specs.Trace.{op_at}
-use Rattle.iloc_text.specs.declared.op.Op.{Op}
+use Rattle.iloc_ops.specs.declared.op.Op.{Op}
 use Rattle.iloc_timed.specs.declared.row.Row.{Row}
 use Rattle.iloc_timed.specs.Kinds.{kind}
 use Rattle.iloc_sched.specs.Priority.{priorities}

@@ -2,8 +2,8 @@
 use Rattle.std.specs.Prelude.{List, [], ◌∷◌, ◌++◌, take, drop}
 use Rattle.iloc_text.specs.declared.copies.Copies.{Copies}
 use Rattle.iloc_text.specs.declared.copies.Waiting.{Waiting}
-use Rattle.iloc_text.specs.declared.file.Block.{Block}
-use Rattle.iloc_text.specs.declared.op.Op.{Op}
+use Rattle.iloc_ops.specs.declared.file.Block.{Block}
+use Rattle.iloc_ops.specs.declared.op.Op.{Op}
 
 -- the waiting blocks, whose operations stand one behind the other
 abbrev pub taken_apart : List Waiting → List Op → List Block

@@ -4,7 +4,7 @@ use Rattle.std.specs.Borrow.{Bor}
 use Rattle.iloc_text.specs.declared.line.Line.{Line}
 use Rattle.iloc_text.specs.declared.line.ParseFault.{ParseFault}
 use Rattle.iloc_text.specs.declared.line.ParseFault.TheVariants.{Bad, NumberTooLarge}
-use Rattle.iloc_text.specs.declared.op.Op.{Op}
+use Rattle.iloc_ops.specs.declared.op.Op.{Op}
 use Rattle.iloc_text.specs.Grammar.{◌⋅◌, Blanks, OptionalOperation, OptionalComment, OptionalIsWithinLimit, Reads, HasReading, HasWideReading}
 use Rattle.iloc_text.specs.Steps.Lines.{lines_of, lines_left}
 

@@ -1,8 +1,8 @@
 -- The opcodes that are read.
 use Rattle.std.specs.Prelude.{ℕ, List, [], Option, find}
 use Rattle.std.specs.Str.{bytes_eq}
-use Rattle.iloc_text.specs.declared.forms.Opcode.{Opcode}
-use Rattle.iloc_text.specs.Forms.{Operand, opcodes, opcode_text, operands, op_of}
+use Rattle.iloc_ops.specs.declared.forms.Opcode.{Opcode}
+use Rattle.iloc_ops.specs.Forms.{Operand, opcodes, opcode_text, operands, op_of}
 
 -- the opcode that is written so
 abbrev pub opcode_of : List ℕ → Option Opcode

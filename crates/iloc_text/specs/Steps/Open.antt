@@ -1,6 +1,6 @@
 -- The block that is being read, behind those that were handed over.
 use Rattle.std.specs.Prelude.{◌≡◌, ◌-◌, ◌<◌, List, [], ◌∷◌, ◌++◌, length}
-use Rattle.iloc_text.specs.declared.file.Block.{Block}
+use Rattle.iloc_ops.specs.declared.file.Block.{Block}
 use Rattle.iloc_text.specs.declared.open_block.OpenBlock.{OpenBlock}
 
 -- the blocks so far are those done, and behind them the open one, if one is open

@@ -3,11 +3,11 @@ use Rattle.std.specs.Prelude.{ℕ, ◌+◌, ◌-◌, ◌*◌, min, nat_lt, Bool,
 use Rattle.std.specs.List.{list_all}
 use Rattle.std.specs.Char.{is_ascii_digit, is_ascii_alphabetic}
 use Rattle.iloc_text.specs.declared.scan.TheConstants.{ABOVE_LIMIT}
-use Rattle.iloc_text.specs.declared.op.Op.{Op}
-use Rattle.iloc_text.specs.declared.forms.Opcode.{Opcode}
-use Rattle.iloc_text.specs.Forms.{Lead, Value, Operand, operands, number_of, op_of}
-use Rattle.iloc_text.specs.Forms.Lead.{space, comma, arrow}
-use Rattle.iloc_text.specs.Forms.Value.{Constant}
+use Rattle.iloc_ops.specs.declared.op.Op.{Op}
+use Rattle.iloc_ops.specs.declared.forms.Opcode.{Opcode}
+use Rattle.iloc_ops.specs.Forms.{Lead, Value, Operand, operands, number_of, op_of}
+use Rattle.iloc_ops.specs.Forms.Lead.{space, comma, arrow}
+use Rattle.iloc_ops.specs.Forms.Value.{Constant}
 use Rattle.iloc_text.specs.Grammar.{is_blank, is_word_byte}
 use Rattle.iloc_text.specs.Steps.Opcodes.{opcode_of, operands_of}
 

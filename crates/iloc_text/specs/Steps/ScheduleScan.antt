@@ -3,7 +3,7 @@ use Rattle.std.specs.Prelude.{ℕ, nat_lt, Bool, true, ◌&&◌, ◌==◌, if◌
 use Rattle.std.specs.Str.{bytes_eq}
 use Rattle.std.specs.Char.{is_ascii_alphabetic}
 use Rattle.iloc_text.specs.declared.scan.TheConstants.{ABOVE_LIMIT}
-use Rattle.iloc_text.specs.declared.op.Op.{Op}
+use Rattle.iloc_ops.specs.declared.op.Op.{Op}
 use Rattle.iloc_text.specs.Grammar.{is_word_byte}
 use Rattle.iloc_text.specs.Steps.Scan.{◌>>=◌, after_blanks, some_blanks_at, number_at, word_of, after_word, operation_at, is_end, is_within}
 use Rattle.iloc_text.specs.ScheduleLines.{Said}

@@ -1,8 +1,8 @@
 -- A schedule in mid-run against the log of what it has issued.
 use Rattle.std.specs.Prelude.{ℕ, ◌+◌, ◌≡◌, ◌<◌, nat_lt, Bool, true, false, List, [], ◌∷◌, length, filter, IsTrue, IsFalse, ℤ, pos}
-use Rattle.iloc_text.specs.declared.op.Reg.{Reg}
-use Rattle.iloc_text.specs.declared.op.Op.{Op}
-use Rattle.iloc_text.specs.Registers.{defined}
+use Rattle.iloc_ops.specs.declared.op.Reg.{Reg}
+use Rattle.iloc_ops.specs.declared.op.Op.{Op}
+use Rattle.iloc_ops.specs.Registers.{defined}
 use Rattle.iloc_meaning.specs.Address.{is_good}
 use Rattle.iloc_meaning.specs.declared.memory.TheConstants.{WORDS}
 use Rattle.iloc_meaning.specs.Memory.{word_at}

@@ -1,6 +1,6 @@
 use Rattle.std.proofs.Common.{List, map, ◌++◌}
 use Rattle.std.specs.List.{All, AllZip}
-use Rattle.iloc_text.specs.declared.file.Block.{Block}
+use Rattle.iloc_ops.specs.declared.file.Block.{Block}
 use Rattle.iloc_text.specs.Files.{Denotes}
 use Rattle.iloc_farm.specs.Steps.Reading.{HoldsItsFile}
 use Rattle.iloc_farm.proofs.reading.lists_of.Given as goal

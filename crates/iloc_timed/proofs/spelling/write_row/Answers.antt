@@ -1,5 +1,5 @@
 use Rattle.std.specs.Prelude.{drop}
-use Rattle.iloc_text.specs.Spelling.{spelling}
+use Rattle.iloc_ops.specs.Spelling.{spelling}
 use Rattle.iloc_timed.specs.Spelling.{op_in}
 use Rattle.iloc_timed.proofs.Spelled.{parts}
 use Rattle.iloc_timed.proofs.spelling.write_row.Goals as goal

@@ -1,6 +1,6 @@
 use Rattle.std.proofs.Common.{◌≡◌, ◌∙◌, refl, sym, subst, get_or, List}
 use Rattle.std.proofs.lemmas.Option.{slice_get_read}
-use Rattle.iloc_text.specs.declared.file.Block.{Block}
+use Rattle.iloc_ops.specs.declared.file.Block.{Block}
 use Rattle.iloc_farm.proofs.ListAfterList.{in_this, in_later, left_there}
 use Rattle.iloc_farm.proofs.block_lists.BlockLists.get.Goals as goal
 

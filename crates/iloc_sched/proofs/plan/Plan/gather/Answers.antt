@@ -1,5 +1,5 @@
 use Rattle.std.proofs.Common.{ℕ, ◌≡◌, ◌+◌, ◌∷◌, ◌++◌, [], List, length, take, refl, sym, ◌∙◌, ap, subst, arith}
-use Rattle.iloc_text.specs.declared.op.Op.{Op}
+use Rattle.iloc_ops.specs.declared.op.Op.{Op}
 use Rattle.iloc_sched.specs.Renaming.{without_nops, numbering, renamed_by, IsRenamed}
 use Rattle.iloc_sched.proofs.Renamed.RenamingLoop.{nop_passed, op_taken, next_pushed, all_renamed}
 use Rattle.iloc_sched.proofs.Renamed.RenamedBlocks.{renamed_is_renamed}

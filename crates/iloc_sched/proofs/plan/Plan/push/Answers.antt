@@ -1,7 +1,7 @@
 use Rattle.std.proofs.Common.{◌≡◌, ◌+◌, ◌∷◌, ◌++◌, [], List, length, ◌∙◌, ap, subst, arith}
 use Rattle.std.specs.Global.{Vec}
 use Rattle.iloc_sched.specs.declared.edges.Edge.{Edge}
-use Rattle.iloc_text.specs.declared.op.Op.{Op}
+use Rattle.iloc_ops.specs.declared.op.Op.{Op}
 use Rattle.iloc_timed.specs.Latency.{latency_of}
 use Rattle.iloc_sched.specs.Steps.Lasts.{IsLasts}
 use Rattle.iloc_sched.specs.Steps.PartialGraph.{IsPartialGraph}

@@ -1,5 +1,5 @@
 use Rattle.std.proofs.Common.{ap}
-use Rattle.iloc_text.specs.Registers.{used, defined}
+use Rattle.iloc_ops.specs.Registers.{used, defined}
 use Rattle.iloc_sched.proofs.Renamed.RenamingLoop.{placed_renamed, nothing_named, defining_named}
 use Rattle.iloc_sched.proofs.renaming.Names.rename.Goals as goal
 

@@ -1,5 +1,5 @@
 use Rattle.std.proofs.Common.{◌≡◌, ◌+◌, ◌≤◌, List, [], length, refl, sym, subst, ap, arith}
-use Rattle.iloc_text.specs.declared.op.Op.{Op}
+use Rattle.iloc_ops.specs.declared.op.Op.{Op}
 use Rattle.iloc_timed.specs.Rows.{row_at, slots}
 use Rattle.iloc_sched.specs.Renaming.{renamed}
 use Rattle.iloc_sched.specs.Greedy.{IsGreedy}

@@ -1,6 +1,6 @@
 use Rattle.std.proofs.Common.{rules, ◌≡◌, ◌∙◌, [], ◌∷◌, ◌++◌, length, refl, sym, ap, append_assoc}
 use Rattle.iloc_text.specs.declared.copies.Waiting.{Waiting}
-use Rattle.iloc_text.specs.declared.file.Block.{Block}
+use Rattle.iloc_ops.specs.declared.file.Block.{Block}
 use Rattle.iloc_text.specs.Steps.Copied.{taken_apart}
 use Rattle.iloc_text.proofs.Copied.{taken_apart-snoc}
 use Rattle.iloc_text.proofs.copies.Copies.add.Goals as goal

@@ -1,5 +1,5 @@
 use Rattle.std.proofs.Common.{◌≡◌, ◌∙◌, ◌<◌, List, Some, None, length, sym, arith}
-use Rattle.iloc_text.specs.declared.file.Block.{Block}
+use Rattle.iloc_ops.specs.declared.file.Block.{Block}
 use Rattle.iloc_text.specs.Steps.Growth.{opened, with_op, with_optional_op}
 use Rattle.iloc_text.specs.Steps.Open.{HasTaken}
 use Rattle.iloc_text.proofs.Growing.{pushed_behind, with_optional-none, with_optional-some, length-opened}

@@ -1,0 +1,7 @@
+pub mod Forms
+pub mod Operands
+pub mod Registers
+pub mod Spelling
+pub mod Columns
+pub mod Laws
+pub mod Steps

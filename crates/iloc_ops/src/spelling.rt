@@ -1,0 +1,162 @@
+//! How operations and numbers are written.
+ghost use Rattle.std.specs.Prelude.{◌≡◌, ◌++◌, OnOk, OnErr, [], ◌∷◌, drop, vec_len, vec_capacity, length, codes, ◌+◌, ◌<◌, ◌≤◌};
+ghost use Rattle.std.specs.Fmt.{decimal, signed_decimal};
+ghost use Rattle.iloc_ops.specs.Forms.{◌▹◌, opcode_text};
+ghost use Rattle.iloc_ops.specs.Forms.Lead.{space, comma, arrow};
+ghost use Rattle.iloc_ops.specs.Forms.Value.{Use, Definition, Constant};
+ghost use Rattle.iloc_ops.specs.Spelling.{spelled_operands, spelling};
+ghost use Rattle.iloc_ops.specs.Operands.{operands_in};
+ghost use Rattle.iloc_ops.specs.declared.spelling.TheConstants.{OP_ROOM};
+
+use crate::decimal::write_number;
+use crate::forms::{Opcode, Operands, form_of};
+use crate::no_memory::NoMemory;
+use crate::op::{Op, Reg};
+use itoa::Buffer;
+
+/// More bytes than an operation is spelled with.
+pub const OP_ROOM: usize = 64;
+
+/// Appends `number` in decimal, with a `-` before a negative one and no other sign.
+///
+/// Where memory is refused the text stays as it was.
+pub fn push_number(text: &mut Vec<u8>, number: i64) -> Result<(), NoMemory>
+    ensures ok { OnOk result (text.new.items ≡ text.old.items ++ signed_decimal number) }
+    ensures err { OnErr result (text.new.items ≡ text.old.items) }
+    ensures full { OnErr result
+        (vec_capacity text.old < vec_len text.old + length (signed_decimal number)) }
+{
+    let mut buffer = Buffer::new();
+    text.extend_from_slice(buffer.format(number).as_bytes())?;
+    Ok(())
+}
+
+/// Appends the spelling of `op`: one space after the opcode, `, ` between two sources and ` => `
+/// before the target.
+///
+/// Where memory is refused the text stays as it was.
+pub fn push_op(text: &mut Vec<u8>, op: &Op) -> Result<(), NoMemory>
+    ensures ok { OnOk result (text.new.items ≡ text.old.items ++ spelling op.now) }
+    ensures err { OnErr result (text.new.items ≡ text.old.items) }
+    ensures full { OnErr result
+        (vec_capacity text.old < vec_len text.old + length (spelling op.now)) }
+{
+    let mut line = [0; OP_ROOM];
+    let start = write_op(&mut line, OP_ROOM, op);
+    text.extend_from_slice(&line[start..])?;
+    Ok(())
+}
+
+/// Writes the spelling of `op`, as `push_op` has it, so that it ends at `end`, and gives where it starts.
+#[inline(always)]
+pub fn write_op(line: &mut [u8], end: usize, op: &Op) -> usize
+    requires { (OP_ROOM ≤ end) × (end ≤ length line.old) }
+    ensures room { (result ≤ end) × (end ≤ result + OP_ROOM) }
+    ensures length { length line.new ≡ length line.old }
+    ensures written { drop result line.new ≡ spelling op.now ++ drop end line.old }
+{
+    let (opcode, operands) = form_of(op);
+    let start = write_operands(line, end, operands);
+    write_opcode(line, start, opcode)
+}
+
+/// Writes the opcode so that it ends at `end`, and gives where it starts. All eight bytes before `end` are written, since a
+/// copy of so many is one step, whatever the opcode.
+#[inline(always)]
+fn write_opcode(line: &mut [u8], end: usize, opcode: Opcode) -> usize
+    requires { (8 ≤ end) × (end ≤ length line.old) }
+    ensures room { (result ≤ end) × (end ≤ result + 7) }
+    ensures length { length line.new ≡ length line.old }
+    ensures written { drop result line.new ≡ opcode_text opcode ++ drop end line.old }
+{
+    let start = write_text(line, end, opcode.padded());
+    start + 8 - opcode.text().len()
+}
+
+/// Writes the operands so that they end at `end`, the last of them first, and gives where they start.
+fn write_operands(line: &mut [u8], end: usize, operands: Operands) -> usize
+    requires { (OP_ROOM ≤ end) × (end ≤ length line.old) }
+    ensures room { (result ≤ end) × (end ≤ result + 40) }
+    ensures length { length line.new ≡ length line.old }
+    ensures written { drop result line.new ≡ spelled_operands (operands_in operands) ++ drop end line.old }
+{
+    match operands {
+        Operands::Nothing => end,
+        Operands::Constant(value) => write_operand(line, end, b" ", value),
+        Operands::Immediate(value, dest) => {
+            let end = write_operand(line, end, b" => r", dest.0);
+            write_operand(line, end, b" ", value)
+        }
+        Operands::Copied(source, dest) => write_transfer(line, end, source, dest),
+        Operands::Stored(value, addr) => write_transfer(line, end, value, addr),
+        Operands::Sources(left, right, dest) => write_two_sources(line, end, left, right, dest),
+        Operands::WithConstant(left, value, dest) => write_immediate(line, end, left, value, dest),
+        Operands::StoredAt(value, addr, offset) => {
+            let end = write_operand(line, end, b", ", offset);
+            write_transfer(line, end, value, addr)
+        }
+    }
+}
+
+/// Writes `source => target` behind a space, so that it ends at `end`, and gives where it starts.
+fn write_transfer(line: &mut [u8], end: usize, source: Reg, target: Reg) -> usize
+    requires { (34 ≤ end) × (end ≤ length line.old) }
+    ensures room { (result ≤ end) × (end ≤ result + 27) }
+    ensures length { length line.new ≡ length line.old }
+    ensures written { drop result line.new
+        ≡ codes " r" ++ (decimal source.0 ++ (codes " => r" ++ (decimal target.0 ++ drop end line.old))) }
+{
+    let start = write_operand(line, end, b" => r", target.0);
+    write_operand(line, start, b" r", source.0)
+}
+
+/// Writes `left, right => dest` behind a space, so that it ends at `end`, and gives where it starts.
+fn write_two_sources(line: &mut [u8], end: usize, left: Reg, right: Reg, dest: Reg) -> usize
+    requires { (OP_ROOM ≤ end) × (end ≤ length line.old) }
+    ensures room { (result ≤ end) × (end ≤ result + 40) }
+    ensures length { length line.new ≡ length line.old }
+    ensures written { drop result line.new
+        ≡ spelled_operands (space ▹ Use left ∷ comma ▹ Use right ∷ arrow ▹ Definition dest ∷ []) ++ drop end line.old }
+{
+    let end = write_operand(line, end, b" => r", dest.0);
+    let end = write_operand(line, end, b", r", right.0);
+    write_operand(line, end, b" r", left.0)
+}
+
+/// Writes `left, value => dest` behind a space, so that it ends at `end`, and gives where it starts.
+fn write_immediate(line: &mut [u8], end: usize, left: Reg, value: u32, dest: Reg) -> usize
+    requires { (OP_ROOM ≤ end) × (end ≤ length line.old) }
+    ensures room { (result ≤ end) × (end ≤ result + 40) }
+    ensures length { length line.new ≡ length line.old }
+    ensures written { drop result line.new
+        ≡ spelled_operands (space ▹ Use left ∷ comma ▹ Constant value ∷ arrow ▹ Definition dest ∷ []) ++ drop end line.old }
+{
+    let end = write_operand(line, end, b" => r", dest.0);
+    let end = write_operand(line, end, b", ", value);
+    write_operand(line, end, b" r", left.0)
+}
+
+/// Writes `lead` and the number so that they end at `end`, and gives where they start.
+#[inline(always)]
+fn write_operand(line: &mut [u8], end: usize, lead: &[u8], number: u32) -> usize
+    requires { (length lead.now + 10 ≤ end) × (end ≤ length line.old) }
+    ensures room { (result ≤ end) × (end ≤ result + (length lead.now + 10)) }
+    ensures length { length line.new ≡ length line.old }
+    ensures written { drop result line.new ≡ lead.now ++ (decimal number ++ drop end line.old) }
+{
+    let start = write_number(line, end, number);
+    write_text(line, start, lead)
+}
+
+/// Writes the text so that it ends at `end`, and gives where it starts.
+#[inline(always)]
+pub fn write_text(line: &mut [u8], end: usize, text: &[u8]) -> usize
+    requires { (length text.now ≤ end) × (end ≤ length line.old) }
+    ensures start { result + length text.now ≡ end }
+    ensures length { length line.new ≡ length line.old }
+    ensures written { drop result line.new ≡ text.now ++ drop end line.old }
+{
+    let start = end - text.len();
+    line[start..end].copy_from_slice(text);
+    start
+}

@@ -1,5 +1,0 @@
-use Rattle.iloc_text.proofs.Renaming.{used-with_registers}
-use Rattle.iloc_text.proofs.laws.renaming_maps_uses.Goals as goal
-
-pub returns : goal.returns
-returns c = used-with_registers

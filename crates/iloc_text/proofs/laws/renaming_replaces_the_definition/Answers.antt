@@ -1,5 +1,0 @@
-use Rattle.iloc_text.proofs.Renaming.{defined-with_registers}
-use Rattle.iloc_text.proofs.laws.renaming_replaces_the_definition.Goals as goal
-
-pub returns : goal.returns
-returns c = defined-with_registers
