@@ -1,0 +1,97 @@
+-- Logs whose entries arrive at the same cycles with the same effects, one by one.
+use Rattle.std.proofs.Common.{◌≡◌, ℕ, ℤ, Bool, true, false, ◌||◌, ◌∙◌, List, [], ◌∷◌, ◌++◌, map, Option, Some, None, inl, inr, refl, ap, ap₂, if◌then◌else◌}
+use Rattle.std.specs.Prelude.{filter, option_map, nat_le, nat_lt}
+use Rattle.std.proofs.Math.Path.{fun_ext}
+use Rattle.iloc_meaning.specs.declared.effect.Effect.{Effect}
+use Rattle.iloc_meaning.specs.declared.outcome.Outcome.TheVariants.{Finished, Fault}
+use Rattle.iloc_meaning.specs.Memory.{word_at, with_words}
+use Rattle.iloc_meaning.specs.Trace.{Executed, is_write_to, writes_to, written_by, written_or}
+use Rattle.iloc_meaning.specs.Outcome.{is_fault, emitted_by, has_fault, emitted}
+use Rattle.iloc_meaning.proofs.Cases.{by_bool}
+use Rattle.iloc_timed.specs.Timed.{Issued, arrived, later, last_due, last_that, word_in, executed_in, timed_outcome_of}
+use Rattle.iloc_sched.specs.Steps.Members.{In}
+
+pub record Alike (x y : Issued) : Type 0 where
+  pub due : x.due ≡ y.due
+  pub effect : x.executed.effect ≡ y.executed.effect
+
+abbrev pub AlikeAll : List Issued → List Issued → Type 0
+AlikeAll [] [] = Unit {0}
+AlikeAll [] (y ∷ ys) = ⊥
+AlikeAll (x ∷ xs) [] = ⊥
+AlikeAll (x ∷ xs) (y ∷ ys) = Alike x y × AlikeAll xs ys
+
+abbrev AlikeOption : Option Issued → Option Issued → Type 0
+AlikeOption None None = Unit {0}
+AlikeOption None (Some y) = ⊥
+AlikeOption (Some x) None = ⊥
+AlikeOption (Some x) (Some y) = Alike x y
+
+pub alike_map : (f g : ℕ → Issued) (ks : List ℕ) → ((k : ℕ) → In ks k → Alike (f k) (g k)) → AlikeAll (map f ks) (map g ks)
+alike_map f g [] each = tt
+alike_map f g (k ∷ ks) each = (each k (inl refl), alike_map f g ks (λ j there. each j (inr there)))
+
+filter_alike : (p : Issued → Bool) → ((x y : Issued) → Alike x y → p x ≡ p y) → (xs ys : List Issued) → AlikeAll xs ys
+    → AlikeAll (filter p xs) (filter p ys)
+filter_alike p same [] [] all = tt
+filter_alike p same [] (y ∷ ys) all = absurd all
+filter_alike p same (x ∷ xs) [] all = absurd all
+filter_alike p same (x ∷ xs) (y ∷ ys) all =
+    let rest = filter_alike p same xs ys all.1 in
+    by_bool (p y)
+    (λ t. rw (same x y all.0, t) (all.0, rest))
+    (λ t. rw (same x y all.0, t) rest)
+
+later_alike : (x y : Issued) (o o' : Option Issued) → Alike x y → AlikeOption o o' → Alike (later x o) (later y o')
+later_alike x y None None one others = one
+later_alike x y None (Some f) one others = absurd others
+later_alike x y (Some f) None one others = absurd others
+later_alike x y (Some f) (Some f') one others =
+    let same : nat_lt x.due f.due ≡ nat_lt y.due f'.due = ap₂ (λ a b. nat_lt a b) one.due others.due in
+    by_bool (nat_lt y.due f'.due)
+    (λ t. let first : nat_lt x.due f.due ≡ true = same ∙ t in rw (first, t) others)
+    (λ t. let first : nat_lt x.due f.due ≡ false = same ∙ t in rw (first, t) one)
+
+last_alike : (xs ys : List Issued) → AlikeAll xs ys → AlikeOption (last_due xs) (last_due ys)
+last_alike [] [] all = tt
+last_alike [] (y ∷ ys) all = absurd all
+last_alike (x ∷ xs) [] all = absurd all
+last_alike (x ∷ xs) (y ∷ ys) all = later_alike x y (last_due xs) (last_due ys) all.0 (last_alike xs ys all.1)
+
+written_alike : (word : ℤ) (o o' : Option Issued) → AlikeOption o o'
+    → written_or word (option_map (λ (e : Issued). e.executed) o) ≡ written_or word (option_map (λ (e : Issued). e.executed) o')
+written_alike word None None same = refl
+written_alike word None (Some f) same = absurd same
+written_alike word (Some f) None same = absurd same
+written_alike word (Some f) (Some f') same = ap written_by same.effect
+
+pub words_alike : (memory : List ℤ) (xs ys : List Issued) (a : ℕ) → AlikeAll xs ys
+    → word_in memory xs a ≡ word_in memory ys a
+words_alike memory xs ys a all =
+    written_alike (word_at memory a) _ _ (last_alike _ _ (filter_alike (λ (e : Issued). writes_to a e.executed)
+    (λ x y same. ap (is_write_to a) same.effect) xs ys all))
+
+pub arrived_alike : (c : ℕ) (xs ys : List Issued) → AlikeAll xs ys → AlikeAll (arrived c xs) (arrived c ys)
+arrived_alike c xs ys all =
+    filter_alike (λ (e : Issued). nat_le e.due c) (λ x y same. ap (λ d. nat_le d c) same.due) xs ys all
+
+faults_alike : (xs ys : List Issued) → AlikeAll xs ys → has_fault (executed_in xs) ≡ has_fault (executed_in ys)
+faults_alike [] [] all = refl
+faults_alike [] (y ∷ ys) all = absurd all
+faults_alike (x ∷ xs) [] all = absurd all
+faults_alike (x ∷ xs) (y ∷ ys) all =
+    ap₂ (λ (b b' : Bool). b || b') (ap is_fault all.0.effect) (faults_alike xs ys all.1)
+
+emitted_alike : (xs ys : List Issued) → AlikeAll xs ys → emitted (executed_in xs) ≡ emitted (executed_in ys)
+emitted_alike [] [] all = refl
+emitted_alike [] (y ∷ ys) all = absurd all
+emitted_alike (x ∷ xs) [] all = absurd all
+emitted_alike (x ∷ xs) (y ∷ ys) all =
+    ap₂ (λ (ws ws' : List ℤ). ws ++ ws') (emitted_alike xs ys all.1) (ap emitted_by all.0.effect)
+
+pub outcome_alike : (memory : List ℤ) (xs ys : List Issued) → AlikeAll xs ys
+    → timed_outcome_of memory xs ≡ timed_outcome_of memory ys
+outcome_alike memory xs ys all =
+    rw (faults_alike xs ys all, emitted_alike xs ys all)
+    (ap (λ (words : ℕ → ℤ). if has_fault (executed_in ys) then Fault
+    else Finished (emitted (executed_in ys)) (with_words memory words)) (fun_ext (λ a. words_alike memory xs ys a all)))

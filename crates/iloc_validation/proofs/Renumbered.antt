@@ -1,0 +1,116 @@
+-- Rows in which each number is another, one to one: what stands where stays.
+use Rattle.std.proofs.Common.{◌≡◌, ◌≢◌, ℕ, zero, suc, ◌+◌, ◌<◌, Bool, true, false, ◌==◌, cond, List, [], ◌∷◌, ◌++◌, map, length, Option, Some, None, option_map, option_to_list, inl, inr, refl, ap, ap₂, sym, ◌∙◌, eq-eqb, ne_eqb, arith}
+use Rattle.std.specs.Prelude.{count_by}
+use Rattle.std.specs.List.{list_any}
+use Rattle.std.proofs.lemmas.Bool.{cases_eq}
+use Rattle.std.proofs.lemmas.List.{map-append}
+use Rattle.iloc_ops.specs.declared.op.Op.{Op}
+use Rattle.iloc_meaning.specs.Trace.{op_at}
+use Rattle.iloc_meaning.proofs.Cases.{by_bool}
+use Rattle.iloc_timed.specs.declared.row.Row.{Row}
+use Rattle.iloc_timed.specs.Kinds.{kind}
+use Rattle.iloc_timed.specs.Rows.{row_at, slots, holds, issue_cycle, times_issued, kind_in, keeps_units}
+use Rattle.iloc_sched.specs.Steps.Members.{In}
+use Rattle.iloc_sched.proofs.Basics.Members.{in_left, in_right}
+use Rattle.iloc_sched.proofs.Basics.Slots.{numbers_before, count_in, count_by-cons, times_issued-cons}
+
+abbrev pub renumber : (ℕ → ℕ) → Row → Row
+renumber f row = record { zero = option_map f row.zero; one = option_map f row.one }
+
+slots_of : (f : ℕ → ℕ) (one zero : Option ℕ)
+    → option_to_list (option_map f one) ++ option_to_list (option_map f zero)
+    ≡ map f (option_to_list one ++ option_to_list zero)
+slots_of f None None = refl
+slots_of f None (Some z) = refl
+slots_of f (Some o) None = refl
+slots_of f (Some o) (Some z) = refl
+
+pub slots-renumber : (f : ℕ → ℕ) (row : Row) → slots (renumber f row) ≡ map f (slots row)
+slots-renumber f row = slots_of f row.one row.zero
+
+pub row_at-map : (f : ℕ → ℕ) (rows : List Row) (c : ℕ) → row_at (map (renumber f) rows) c ≡ renumber f (row_at rows c)
+row_at-map f [] c = refl
+row_at-map f (row ∷ rows) zero = refl
+row_at-map f (row ∷ rows) (suc c) = row_at-map f rows c
+
+pub length-renumber : (f : ℕ → ℕ) (rows : List Row) → length (map (renumber f) rows) ≡ length rows
+length-renumber f [] = refl
+length-renumber f (row ∷ rows) = ap suc (length-renumber f rows)
+
+pub slots_at-map : (f : ℕ → ℕ) (rows : List Row) (c : ℕ) → slots (row_at (map (renumber f) rows) c)
+    ≡ map f (slots (row_at rows c))
+slots_at-map f rows c = ap slots (row_at-map f rows c) ∙ slots-renumber f (row_at rows c)
+
+pub numbers_before-map : (f : ℕ → ℕ) (rows : List Row) (c : ℕ)
+    → numbers_before (map (renumber f) rows) c ≡ map f (numbers_before rows c)
+numbers_before-map f rows zero = refl
+numbers_before-map f rows (suc c) =
+    ap₂ (λ xs ys. xs ++ ys) (slots_at-map f rows c) (numbers_before-map f rows c)
+    ∙ sym (map-append f (slots (row_at rows c)) (numbers_before rows c))
+
+-- numbers below n have numbers of their own
+abbrev pub AreApartBelow : ℕ → (ℕ → ℕ) → Type 0
+AreApartBelow n f = (j k : ℕ) → j < n → k < n → f j ≡ f k → j ≡ k
+
+-- all numbers in the rows are below n
+abbrev pub AreBelow : ℕ → List Row → Type 0
+AreBelow n rows = (c k : ℕ) → In (slots (row_at rows c)) k → k < n
+
+module _ (n : ℕ) (f : ℕ → ℕ) (apart : AreApartBelow n f) (k : ℕ) (below : k < n) where
+  test_same : (j : ℕ) → j < n → (f k == f j) ≡ (k == j)
+  test_same j within = elim (cases_eq k j) [
+    | inl same ↦ eq-eqb (f k) (f j) (ap f same) ∙ sym (eq-eqb k j same)
+    | inr differs ↦
+        ne_eqb (f k) (f j) (λ level. differs (apart k j below within level)) ∙ sym (ne_eqb k j differs)
+  ]
+
+  any_same : (xs : List ℕ) → ((j : ℕ) → In xs j → j < n) → list_any (λ j. f k == j) (map f xs) ≡ list_any (λ j. k == j) xs
+  any_same [] within = refl
+  any_same (x ∷ xs) within =
+      rw (test_same x (within x (inl refl)), any_same xs (λ j there. within j (inr there))) refl
+
+  count_same : (xs : List ℕ) → ((j : ℕ) → In xs j → j < n) → count_by (λ j. f k == j) (map f xs) ≡ count_by (λ j. k == j) xs
+  count_same [] within = refl
+  count_same (x ∷ xs) within =
+      count_by-cons (λ j. f k == j) (f x) (map f xs)
+      ∙ ap₂ (λ b m. cond b 1 0 + m) (test_same x (within x (inl refl))) (count_same xs (λ j there. within j (inr there)))
+      ∙ sym (count_by-cons (λ j. k == j) x xs)
+
+  pub times_same : (rows : List Row) → AreBelow n rows → times_issued (map (renumber f) rows) (f k) ≡ times_issued rows k
+  times_same [] within = refl
+  times_same (row ∷ rows) within =
+      times_issued-cons (renumber f row) (map (renumber f) rows) (f k)
+      ∙ ap₂ (λ x y. x + y)
+      (ap (count_by (λ j. f k == j)) (slots-renumber f row) ∙ count_same (slots row) (λ j there. within 0 j there))
+      (times_same rows (λ c j there. within (suc c) j there))
+      ∙ sym (times_issued-cons row rows k)
+
+  pub cycle_same : (rows : List Row) → AreBelow n rows → issue_cycle (map (renumber f) rows) (f k) ≡ issue_cycle rows k
+  cycle_same [] within = refl
+  cycle_same (row ∷ rows) within =
+      let first : holds (renumber f row) (f k) ≡ holds row k =
+      ap (list_any (λ j. f k == j)) (slots-renumber f row) ∙ any_same (slots row) (λ j there. within 0 j there) in
+      let rest : issue_cycle (map (renumber f) rows) (f k) ≡ issue_cycle rows k =
+      cycle_same rows (λ c j there. within (suc c) j there) in
+      rw (first, rest) refl
+
+kind_same : (ops ops' : List Op) (f : ℕ → ℕ) (slot : Option ℕ)
+    → ((k : ℕ) → slot ≡ Some k → kind (op_at ops' (f k)) ≡ kind (op_at ops k)) → kind_in ops' (option_map f slot) ≡ kind_in ops slot
+kind_same ops ops' f None same = refl
+kind_same ops ops' f (Some k) same = ap Some (same k refl)
+
+pub units_same : (ops ops' : List Op) (f : ℕ → ℕ) (row : Row)
+    → ((k : ℕ) → In (slots row) k → kind (op_at ops' (f k)) ≡ kind (op_at ops k))
+    → keeps_units ops' (renumber f row) ≡ keeps_units ops row
+units_same ops ops' f row same =
+    let zero : kind_in ops' (option_map f row.zero) ≡ kind_in ops row.zero =
+    kind_same ops ops' f row.zero (λ k is. same k (in_zero k is)) in
+    let one : kind_in ops' (option_map f row.one) ≡ kind_in ops row.one =
+    kind_same ops ops' f row.one (λ k is. same k (in_one k is)) in
+    rw (zero, one) refl
+  where
+    in_zero : (k : ℕ) → row.zero ≡ Some k → In (slots row) k
+    in_zero k is = in_right (option_to_list row.one) (option_to_list row.zero) k (rw is (inl refl))
+
+    in_one : (k : ℕ) → row.one ≡ Some k → In (slots row) k
+    in_one k is = in_left (option_to_list row.one) (option_to_list row.zero) k (rw is (inl refl))

@@ -1,0 +1,26 @@
+-- What holds of rows by the book.
+use Rattle.std.specs.Prelude.{◌≡◌, ◌≤◌, List, ℤ}
+use Rattle.iloc_ops.specs.declared.op.Op.{Op}
+use Rattle.iloc_meaning.specs.Outcome.{outcome}
+use Rattle.iloc_timed.specs.declared.latencies.Latencies.{Latencies}
+use Rattle.iloc_timed.specs.declared.row.Row.{Row}
+use Rattle.iloc_timed.specs.Cycles.{cycles}
+use Rattle.iloc_timed.specs.Timed.{timed_outcome}
+use Rattle.iloc_sched.specs.Lawful.{IsLawful}
+use Rattle.iloc_sched.specs.Least.{least}
+use Rattle.iloc_validation.specs.ByTheBook.{IsByTheBook}
+
+-- on every memory they have the block's outcome
+abbrev pub ByTheBookKeepsTheOutcome : Type 0
+ByTheBookKeepsTheOutcome = (lat : Latencies) (block ops : List Op) (rows : List Row) (memory : List ℤ)
+    → IsByTheBook lat block ops rows → timed_outcome lat ops rows memory ≡ outcome block memory
+
+-- they take no fewer cycles than a lawful schedule
+abbrev pub ByTheBookTakesTheLeast : Type 0
+ByTheBookTakesTheLeast = (lat : Latencies) (block ops : List Op) (rows : List Row)
+    → IsByTheBook lat block ops rows → least lat block ≤ cycles lat ops rows
+
+-- each lawful schedule is by the book
+abbrev pub LawfulSchedulesAreByTheBook : Type 0
+LawfulSchedulesAreByTheBook = (lat : Latencies) (block ops : List Op) (rows : List Row)
+    → IsLawful lat block ops rows → IsByTheBook lat block ops rows

@@ -1,0 +1,2 @@
+pub mod ByTheBook
+pub mod Laws
