@@ -2,13 +2,10 @@
 import os
 import shutil
 import subprocess
-import sys
 import tempfile
 import threading
 
-HERE = os.path.dirname(os.path.abspath(__file__))
-sys.path.append(f"{os.path.dirname(HERE)}/launcher")
-from crates import PARTS, crates_of, listed  # noqa: E402  (it stands in launcher/)
+from crates import PARTS, crates_of, listed
 
 BUILDING, BUILT = threading.Lock(), set()
 
@@ -21,11 +18,11 @@ def newest(folder):
 
 
 class Prover:
-    """For the functions of one crate, over the libraries below it."""
+    """For the functions of one crate, over the libraries below it: in the gate those that rt ci has just left there."""
 
-    def __init__(self, top, name):
+    def __init__(self, top, name, in_the_gate):
         self.folder, self.name, self.uses = f"{top}/crates", name, listed(top)[name][1]
-        self.below = crates_of(top, name)[:-1]
+        self.below, self.in_the_gate = crates_of(top, name)[:-1], in_the_gate
         self.kit = os.path.dirname(os.path.dirname(os.path.realpath(shutil.which("rt"))))
 
     def rlib(self, name):
@@ -36,7 +33,7 @@ class Prover:
         made = f"{self.rlib(crate.name)}/format"
         if os.path.exists(f"{self.folder}/{crate.name}/out/rlib/stamp") or not os.path.exists(made):
             return False
-        return all(newest(f"{self.folder}/{it.name}") < os.path.getmtime(made) for it in [*crate.below(), crate])
+        return self.in_the_gate or all(newest(f"{self.folder}/{it.name}") < os.path.getmtime(made) for it in [*crate.below(), crate])
 
     def build(self, crate):
         """Builds a library that isn't built. Gives what rt said where it couldn't."""

@@ -42,21 +42,3 @@ def crates_of(top, program):
     last = crate(program)
     return [*last.below(), last]
 
-
-def lines_of_code(folder):
-    """How much there is to prove in the crate there, roughly, and at least one."""
-    count = 1
-    for at, _, names in os.walk(f"{folder}/src"):
-        for name in names:
-            with open(f"{at}/{name}", "rb") as file:
-                count += file.read().count(b"\n")
-    return count
-
-
-def work_behind(top, crates):
-    """For each crate the lines of the longest chain of crates that begins with it and goes up."""
-    behind = {}
-    for it in reversed(crates):
-        above = [behind[other] for other in behind if it in other.below()]
-        behind[it] = lines_of_code(f"{top}/crates/{it.name}") + max(above, default=0)
-    return behind

@@ -1,0 +1,50 @@
+# What ilocfarm and build share. Both may be started anywhere, also by links, and work at the top of the repository.
+say() {
+    echo "ilocfarm: $*" >&2
+}
+
+fail() {
+    say "$*"
+    exit 125
+}
+
+# Lists what the program is made from, and the program: the toolchain's command, and of each file its name, device,
+# inode, size and time of change, which no tool sets back.
+made_from() {
+    kit=${rt%/bin/*}/KIT-ID
+    echo "$rt"
+    [ -f "$kit" ] || "$rt" version
+    find "$kit" crates.txt HANDLES crates/*/src crates/*/specs crates/*/proofs out/ilocfarm \
+        -type f -printf '%p %D %i %s %C@\n' 2>/dev/null
+}
+
+# Whether all is as it was when the program was built; where rt isn't on the PATH, with the toolchain of then.
+is_built() {
+    [ -f out/built ] || return
+    [ -n "$rt" ] || read -r rt <out/built
+    made_from | cmp -s - out/built
+}
+
+# Makes the folder $room, which is removed when the script ends.
+make_room() {
+    room=$(mktemp -dt ilocfarm.XXXXXX) || fail "no temporary folder can be made: free some space, or set TMPDIR"
+    job=
+    trap 'rm -rf "$room" 2>/dev/null || { sleep 1; rm -rf "$room"; }' EXIT
+    trap stopped HUP INT TERM
+}
+
+# Waits for what was started last. That runs in the background, so that a signal is seen at once.
+finish() {
+    job=$!
+    wait "$job"
+}
+
+stopped() {
+    trap '' HUP INT TERM
+    [ -z "$job" ] || { kill "$job"; wait "$job"; } 2>/dev/null
+    fail "stopped. $advice"
+}
+
+top=${self%/*}
+rt=$(command -v rt) && rt=$(readlink -f -- "$rt")
+cd -- "$top" && [ -f crates.txt ] || fail "no crates.txt in $top: start this in its repository, or by a link to it"
