@@ -32,9 +32,11 @@ Exit status:
 Manual:
   man ilocfarm; in the repository man/ilocfarm.1 and docs/LANGUAGE.md";
 
-/// How a word is given that stands for a negative number.
-const NEGATIVE_WORDS: &str = "\
-A negative WORD is given by its pattern of 32 bits, a number above 2147483647: 4294967295 is -1";
+/// What stands above the list of commands.
+const ABOUT: &str = "\
+List scheduler and simulator for ILOC blocks, which it reads from standard input:
+
+  ilocfarm run 3 4 < task.iloc";
 
 /// `--NAME N`, a number that this parser takes.
 fn number_arg<'a>(
@@ -73,7 +75,7 @@ fn words_arg<'a>(alloc: Global) -> Arg<'a>
 {
     Arg::new(alloc, "words")
         .value_name("WORD")
-        .help("What memory holds from there on, 0 to 4294967295 each; all else is 0")
+        .help("What memory holds from there on, 0 to 4294967295 (for -1) each; all else is 0")
         .num_args(0..)
         .action(ArgAction::Append)
         .value_parser(value_parser!(u32))
@@ -148,11 +150,18 @@ fn with_latencies<'a>(
         .arg(mult_arg(alloc))
 }
 
-/// `NAME`
-fn bare_command<'a>(alloc: Global, name: &'a str, about: &'a str) -> Command<'a>
+/// `NAME`, with what it is about and how it is used.
+fn bare_command<'a>(
+    alloc: Global,
+    name: &'a str,
+    about: &'a str,
+    usage: &'a str,
+) -> Command<'a>
     ensures { HasApp (alone (new_shape name.entry.now)) result }
 {
-    Command::new(alloc, name).about(about)
+    Command::new(alloc, name)
+        .about(about)
+        .override_usage(usage)
 }
 
 /// `NAME [--at N] [WORD]...`
@@ -160,11 +169,11 @@ fn memory_command<'a>(
     alloc: Global,
     name: &'a str,
     about: &'a str,
+    usage: &'a str,
 ) -> Result<Command<'a>, AllocError>
     ensures { IfOk result (HasApp (alone (memory_shape name.entry.now))) }
 {
-    bare_command(alloc, name, about)
-        .after_help(NEGATIVE_WORDS)
+    bare_command(alloc, name, about, usage)
         .arg(at_arg(alloc))?
         .arg(words_arg(alloc))
 }
@@ -174,21 +183,20 @@ fn workers_command<'a>(
     alloc: Global,
     name: &'a str,
     about: &'a str,
+    usage: &'a str,
 ) -> Result<Command<'a>, AllocError>
     ensures { IfOk result (HasApp (alone (workers_shape name.entry.now))) }
 {
-    bare_command(alloc, name, about).arg(workers_arg(alloc))
+    bare_command(alloc, name, about, usage).arg(workers_arg(alloc))
 }
 
 /// `run [--at N] [WORD]...`
 fn run_command<'a>(alloc: Global) -> Result<Command<'a>, AllocError>
     ensures { IfOk result (HasApp (app run_entry)) }
 {
-    memory_command(
-        alloc,
-        "run",
-        "Run each block, one operation after the other",
-    )
+    let about = "Run each block, one operation after the other";
+    let usage = "ilocfarm run [OPTIONS] [WORD]... < BLOCKS";
+    memory_command(alloc, "run", about, usage)
 }
 
 /// `simulate [--at N] [WORD]... [--load N] [--store N] [--mult N]`
@@ -196,7 +204,8 @@ fn simulate_command<'a>(alloc: Global) -> Result<Command<'a>, AllocError>
     ensures { IfOk result (HasApp (app simulate_entry)) }
 {
     let about = "Schedule each block, and run the schedule";
-    with_latencies(alloc, memory_command(alloc, "simulate", about))
+    let usage = "ilocfarm simulate [OPTIONS] [WORD]... < BLOCKS";
+    with_latencies(alloc, memory_command(alloc, "simulate", about, usage))
 }
 
 /// `schedule [--workers N] [--load N] [--store N] [--mult N]`
@@ -204,7 +213,8 @@ fn schedule_command<'a>(alloc: Global) -> Result<Command<'a>, AllocError>
     ensures { IfOk result (HasApp (app schedule_entry)) }
 {
     let about = "Schedule each block, and print the schedule";
-    with_latencies(alloc, workers_command(alloc, "schedule", about))
+    let usage = "ilocfarm schedule [OPTIONS] < BLOCKS";
+    with_latencies(alloc, workers_command(alloc, "schedule", about, usage))
 }
 
 /// `counts [--workers N] [--load N] [--store N] [--mult N]`
@@ -212,7 +222,8 @@ fn counts_command<'a>(alloc: Global) -> Result<Command<'a>, AllocError>
     ensures { IfOk result (HasApp (app counts_entry)) }
 {
     let about = "Schedule each block, and print how many cycles the schedule takes";
-    with_latencies(alloc, workers_command(alloc, "counts", about))
+    let usage = "ilocfarm counts [OPTIONS] < BLOCKS";
+    with_latencies(alloc, workers_command(alloc, "counts", about, usage))
 }
 
 /// `explain [--load N] [--store N] [--mult N]`
@@ -220,24 +231,25 @@ fn explain_command<'a>(alloc: Global) -> Result<Command<'a>, AllocError>
     ensures { IfOk result (HasApp (app explain_entry)) }
 {
     let about = "Schedule each block, and print why the schedule takes its cycles";
-    with_latencies(alloc, Ok(bare_command(alloc, "explain", about)))
+    let usage = "ilocfarm explain [OPTIONS] < BLOCKS";
+    with_latencies(alloc, Ok(bare_command(alloc, "explain", about, usage)))
 }
 
 /// `check [--at N] [WORD]... [--load N] [--store N] [--mult N]`
 fn check_command<'a>(alloc: Global) -> Result<Command<'a>, AllocError>
     ensures { IfOk result (HasApp (app check_entry)) }
 {
-    let about = "Judge schedules of the blocks that stand behind them";
-    with_latencies(alloc, memory_command(alloc, "check", about))
+    let about = "Judge schedules that others made, given after their blocks";
+    let usage = "ilocfarm check [OPTIONS] [WORD]... < BLOCKS_AND_ROWS";
+    with_latencies(alloc, memory_command(alloc, "check", about, usage))
 }
 
 /// The program without its commands.
 fn top_command<'a>(alloc: Global) -> Result<Command<'a>, AllocError>
     ensures { IfOk result (HasApp (alone top_shape)) }
 {
-    let about = "List scheduler and simulator for ILOC blocks, which it reads from standard input";
     Ok(
-        bare_command(alloc, "ilocfarm", about)
+        bare_command(alloc, "ilocfarm", ABOUT, "ilocfarm <COMMAND> < BLOCKS")
             .bin_name("ilocfarm")?
             .no_binary_name(true)
             .subcommand_required(true)

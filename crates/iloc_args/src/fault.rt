@@ -10,6 +10,10 @@ use std::alloc::{AllocError, AllocFailed, Global};
 use std::error::Error;
 use std::fmt::{self, Display, Formatter};
 
+/// What is said below a WORD that is none: it may be a file, or a negative number.
+const WORDS_AND_BLOCKS: &str = "\
+A WORD is a number, 4294967295 for -1. Blocks come from standard input: ilocfarm run < FILE\n";
+
 /// Why a command line gives no request. Its `Display` is the text for the user.
 #[derive(Debug, Drop, PartialEq, Eq)]
 pub enum LineFault {
@@ -52,6 +56,13 @@ impl LineFault {
             ErrorKind::OutOfMemory => LineFault::NoMemory,
             ErrorKind::DisplayHelp | ErrorKind::DisplayVersion => {
                 LineFault::Help(error.to_string(alloc)?)
+            }
+            ErrorKind::ValueValidation => {
+                let mut text = error.to_string(alloc)?;
+                if text.as_str().contains("for '[WORD]...'") {
+                    text.push_str(WORDS_AND_BLOCKS)?;
+                }
+                LineFault::Refused(text)
             }
             _ => LineFault::Refused(error.to_string(alloc)?),
         })
