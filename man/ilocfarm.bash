@@ -2,7 +2,7 @@
 _ilocfarm() {
     local words
     COMPREPLY=()
-    case $COMP_CWORD,${COMP_WORDS[COMP_CWORD - 1]} in *,--at|*,--load|*,--mult|*,--store|*,--workers) return ;; esac
+    case $COMP_CWORD,${COMP_WORDS[COMP_CWORD - 1]} in *,[\<\>]*|*,--at|*,--load|*,--mult|*,--store|*,--workers) return ;; esac
     case $COMP_CWORD,${COMP_WORDS[1]} in
     1,*) words="run simulate schedule counts explain check help --help --version" ;;
     *,run) words="--at --help" ;;
@@ -16,4 +16,4 @@ _ilocfarm() {
     esac
     mapfile -t COMPREPLY < <(compgen -W "$words" -- "${COMP_WORDS[COMP_CWORD]}")
 }
-complete -F _ilocfarm ilocfarm
+complete -o bashdefault -o default -F _ilocfarm ilocfarm

@@ -1,9 +1,11 @@
 """Cases of man/, of ./install and of what is asked of the program by --help, --version and help."""
 import os
 import re
+import subprocess
 
 from place import TOP, Failed, expect, needs
 from shown import examples_of
+from terminal import terminal
 
 PAGE = f"{TOP}/man/ilocfarm.1"
 LITERAL = re.compile(r"^\.Bd -literal.*\n((?:(?!\.Ed).*\n)*)\.Ed\n", re.MULTILINE)
@@ -18,12 +20,32 @@ COMPLETIONS = (
     (["check", "--"], "--at --load --store --mult --help"),
     (["help", "c"], "counts check"),
     (["run", "--at", "4", "1"], ""),
+    (["run", "<", ""], ""),
+    (["<", "first.iloc"], ""),
+)
+# How a shell is started, and what it reads the completions by; then what is typed, and what stands there.
+SHELLS = {
+    "bash": (["bash", "--norc", "-i"], "source man/ilocfarm.bash"),
+    "zsh": (["zsh", "-f", "-i"], "unset zle_bracketed_paste; fpath=($PWD $fpath); autoload compinit; compinit -u -D"),
+}
+TYPED = (
+    ("ilocfarm run < examples/fir\t", "> ilocfarm run < examples/first.iloc"),
+    ("ilocfarm si\t", "> ilocfarm simulate"),
+    ("ilocfarm counts --wo\t", "> ilocfarm counts --workers"),
+    ("ilocfarm check --mu\t", "> ilocfarm check --mult"),
+)
+IN_FISH = (
+    ("ilocfarm si", "simulate\tSchedule each block, and run the schedule\n"),
+    ("ilocfarm counts --wo", "--workers\tHow many workers share the blocks, 1 to 8 [default: 2]\n"),
+    ("ilocfarm run < examples/fir", "examples/first.iloc\n"),
 )
 COMPLETE = ('source "$0"; COMP_WORDS=(ilocfarm "$@"); COMP_CWORD=$#; _ilocfarm; echo "${COMPREPLY[*]}"')
-INSTALLED = ("bin/ilocfarm", "share/bash-completion/completions/ilocfarm", "share/ilocfarm/charts/compare",
-             "share/ilocfarm/charts/svg.py", "share/ilocfarm/charts/timeline", "share/ilocfarm/cluster/job",
-             "share/ilocfarm/cluster/join", "share/ilocfarm/cluster/split", "share/ilocfarm/examples/class/ada.iloc",
-             "share/ilocfarm/examples/first.iloc", "share/man/man1/ilocfarm.1")
+INSTALLED = {"bin/ilocfarm", "share/man/man1/ilocfarm.1", "share/bash-completion/completions/ilocfarm",
+             "share/zsh/site-functions/_ilocfarm", "share/fish/vendor_completions.d/ilocfarm.fish",
+             "share/doc/ilocfarm/README.md", "share/doc/ilocfarm/CHANGELOG.md"}
+# Folders of the repository of which all is installed, and where.
+WHOLE = {"charts": "share/ilocfarm/charts", "cluster": "share/ilocfarm/cluster", "examples": "share/ilocfarm/examples",
+         "docs": "share/doc/ilocfarm/docs"}
 
 
 def read(path):
@@ -41,7 +63,7 @@ def page_is_the_helps(place):
     """The page and the completions are what man/make makes of the program's help."""
     os.mkdir(place.path("made"))
     expect("man/make", place.run("man/make", "bin/ilocfarm", "made"), (0, b"", b""))
-    for name in ("ilocfarm.1", "ilocfarm.bash"):
+    for name in ("ilocfarm.1", "ilocfarm.bash", "ilocfarm.zsh", "ilocfarm.fish"):
         if place.read(f"made/{name}") != read(f"{TOP}/man/{name}"):
             raise Failed(f"man/{name} is not what `man/make PROGRAM man` writes")
 
@@ -79,6 +101,32 @@ def completes(place):
         expect(f"completions of {words}", done, (0, f"{offered}\n".encode(), b""))
 
 
+def completes_on_a_terminal(place):
+    os.symlink("man/ilocfarm.zsh", place.path("_ilocfarm"))
+    for name, (words, source) in SHELLS.items():
+        needs(name)
+        with terminal() as (screen, slave):
+            shell = subprocess.Popen(words, cwd=place.folder, env={**place.environment, "TERM": "dumb"}, stdin=slave,
+                                     stdout=slave, stderr=slave, start_new_session=True)
+            try:
+                screen.type(f"{source}; PS1='> '\n")
+                for typed, there in TYPED:
+                    screen.until(">")
+                    screen.type(typed)
+                    screen.until(there)
+                    screen.type("\x15\n")      # an empty line, and the next prompt
+            finally:
+                shell.kill()
+                shell.wait()
+
+
+def completes_in_fish(place):
+    needs("fish")
+    for typed, offered in IN_FISH:
+        told = place.run("fish", "--no-config", "-c", f"source man/ilocfarm.fish; complete -C '{typed}'", HOME=place.folder)
+        expect(f"fish completes {typed}", told, (0, offered.encode(), b""))
+
+
 def files_below(folder):
     return {os.path.relpath(f"{at}/{name}", folder) for at, _, names in os.walk(folder) for name in names}
 
@@ -86,19 +134,18 @@ def files_below(folder):
 def installs(place):
     version = place.run("ilocfarm", "--version")
     expect("install", place.run("./install", place.path("a prefix"), "bin/ilocfarm"), version)
-    expect("files that were left out", set(INSTALLED) - files_below(place.path("a prefix")), set())
+    wanted = INSTALLED | {f"{at}/{it}" for folder, at in WHOLE.items() for it in files_below(f"{TOP}/{folder}")}
+    expect("files", sorted(files_below(place.path("a prefix"))), sorted(wanted))
     for made, source in (("bin/ilocfarm", place.program), ("share/man/man1/ilocfarm.1", PAGE),
                          ("share/ilocfarm/cluster/join", f"{TOP}/cluster/join")):
         expect(f"{made} as it stands", place.read(f"a prefix/{made}") == read(source), True)
     listing = place.run("ilocfarm", "schedule", given=place.read("examples/dot.iloc"))[1]
     expect("timeline", place.run("a prefix/share/ilocfarm/charts/timeline", given=listing),
            place.run("charts/timeline", given=listing))
-    expect("files of the charts", sorted(os.listdir(place.path("a prefix/share/ilocfarm/charts"))),
-           ["compare", "svg.py", "timeline"])
     given = place.read("examples/first.iloc")
     expect("run", place.run("a prefix/bin/ilocfarm", "run", given=given), (0, b"block 1 -\n7\n", b""))
     expect("DESTDIR", place.run("./install", "/usr", "bin/ilocfarm", DESTDIR=place.path("root")), version)
-    expect("files", files_below(place.path("root/usr")), files_below(place.path("a prefix")))
+    expect("files below DESTDIR", files_below(place.path("root/usr")), files_below(place.path("a prefix")))
 
 
 def installs_nothing_by_mistake(place):
@@ -119,5 +166,6 @@ def tests_want_a_program(place):
             expect(f"tests/{name} {words}", usage if message is None else err.decode(), message or True)
 
 
-MANUAL_CASES = (page_is_the_helps, page_has_no_slips, page_examples, help_in_three_ways, completes, installs,
+MANUAL_CASES = (page_is_the_helps, page_has_no_slips, page_examples, help_in_three_ways, completes,
+                completes_on_a_terminal, completes_in_fish, installs,
                 installs_nothing_by_mistake, tests_want_a_program)

@@ -3,12 +3,10 @@ import os
 import shutil
 import subprocess
 
+from waiting import Failed
+
 TOP = os.path.dirname(os.path.dirname(os.path.abspath(__file__)))
 SECONDS = 120
-
-
-class Failed(Exception):
-    """A case has another result than it must have."""
 
 
 class Missing(Exception):
@@ -38,7 +36,7 @@ class Place:
         self.program, self.folder = program, folder
         os.mkdir(self.path("bin"))
         os.symlink(program, self.path("bin/ilocfarm"))
-        for name in ("charts", "cluster", "examples", "install", "man"):
+        for name in ("charts", "cluster", "docs", "examples", "install", "man", "CHANGELOG.md", "README.md"):
             if os.path.exists(f"{TOP}/{name}"):
                 os.symlink(f"{TOP}/{name}", self.path(name))
         self.environment = {**os.environ, "PATH": f"{self.path('bin')}:{os.environ['PATH']}", "LC_ALL": "C.UTF-8"}

@@ -12,6 +12,9 @@ class Terminal:
         self.master, self.written = master, b""
         os.set_blocking(master, False)
 
+    def type(self, text):
+        os.write(self.master, text.encode())
+
     def lines(self):
         try:
             while more := os.read(self.master, 65536):

@@ -7,7 +7,7 @@ SECONDS = 60
 
 
 class Failed(Exception):
-    pass
+    """A case has another result than it must have."""
 
 
 def expect(what, got, wanted):

@@ -1,0 +1,49 @@
+#compdef ilocfarm
+# Completions of ilocfarm for zsh, made by man/make from the help of the program.
+local -a commands=(
+    'run:Run each block, one operation after the other'
+    'simulate:Schedule each block, and run the schedule'
+    'schedule:Schedule each block, and print the schedule'
+    'counts:Schedule each block, and print how many cycles the schedule takes'
+    'explain:Schedule each block, and print why the schedule takes its cycles'
+    'check:Judge schedules that others made, given after their blocks'
+    'help:Print this message or the help of the given subcommand(s)'
+)
+if (( CURRENT == 2 )) || [[ $words[2] = help && $CURRENT = 3 ]]; then
+    _describe command commands
+    return
+fi
+case $words[2] in
+run) shift words; (( CURRENT-- ))
+    _arguments '--at[Address of the first WORD, a multiple of 4 up to 65532 \[default\: 1024\]]:N:' \
+        '--help[Print help]' ;;
+simulate) shift words; (( CURRENT-- ))
+    _arguments '--at[Address of the first WORD, a multiple of 4 up to 65532 \[default\: 1024\]]:N:' \
+        '--load[Cycles that load and loadAI take, 1 to 16 \[default\: 5\]]:N:' \
+        '--store[Cycles that store and storeAI take, 1 to 16 \[default\: 5\]]:N:' \
+        '--mult[Cycles that mult and multI take, 1 to 16 \[default\: 3\]]:N:' \
+        '--help[Print help]' ;;
+schedule) shift words; (( CURRENT-- ))
+    _arguments '--workers[How many workers share the blocks, 1 to 8 \[default\: 2\]]:N:' \
+        '--load[Cycles that load and loadAI take, 1 to 16 \[default\: 5\]]:N:' \
+        '--store[Cycles that store and storeAI take, 1 to 16 \[default\: 5\]]:N:' \
+        '--mult[Cycles that mult and multI take, 1 to 16 \[default\: 3\]]:N:' \
+        '--help[Print help]' ;;
+counts) shift words; (( CURRENT-- ))
+    _arguments '--workers[How many workers share the blocks, 1 to 8 \[default\: 2\]]:N:' \
+        '--load[Cycles that load and loadAI take, 1 to 16 \[default\: 5\]]:N:' \
+        '--store[Cycles that store and storeAI take, 1 to 16 \[default\: 5\]]:N:' \
+        '--mult[Cycles that mult and multI take, 1 to 16 \[default\: 3\]]:N:' \
+        '--help[Print help]' ;;
+explain) shift words; (( CURRENT-- ))
+    _arguments '--load[Cycles that load and loadAI take, 1 to 16 \[default\: 5\]]:N:' \
+        '--store[Cycles that store and storeAI take, 1 to 16 \[default\: 5\]]:N:' \
+        '--mult[Cycles that mult and multI take, 1 to 16 \[default\: 3\]]:N:' \
+        '--help[Print help]' ;;
+check) shift words; (( CURRENT-- ))
+    _arguments '--at[Address of the first WORD, a multiple of 4 up to 65532 \[default\: 1024\]]:N:' \
+        '--load[Cycles that load and loadAI take, 1 to 16 \[default\: 5\]]:N:' \
+        '--store[Cycles that store and storeAI take, 1 to 16 \[default\: 5\]]:N:' \
+        '--mult[Cycles that mult and multI take, 1 to 16 \[default\: 3\]]:N:' \
+        '--help[Print help]' ;;
+esac
