@@ -1,4 +1,5 @@
 """What the charts share: the parts of an SVG picture, in colours that read on light and on dark ground."""
+import sys
 from html import escape
 
 # Text, lines and grid stand on the page's own ground, so they are neither light nor dark.
@@ -11,6 +12,10 @@ STYLE = ("text { font: 12px ui-monospace, 'DejaVu Sans Mono', Menlo, Consolas, m
          f" .grid {{ stroke: {GRID}; }} .axis {{ stroke: {INK}; }}")
 # No letter of the fonts above is wider.
 LETTER = 7.4
+
+
+class Unread(Exception):
+    """A text is no listing that can be drawn."""
 
 
 def number(value):
@@ -37,6 +42,18 @@ def line(x1, y1, x2, y2, **attributes):
     return element("line", x1=float(x1), y1=float(y1), x2=float(x2), y2=float(y2), **attributes)
 
 
+def mark(shape, x, y, colour, size=5):
+    """A dot, square, diamond, two triangles or a cross: columns are told apart by the shape too, and not by colours alone."""
+    half = size - 0.5
+    corners = ([(-half, -half), (half, -half), (half, half), (-half, half)], [(0, -size), (size, 0), (0, size), (-size, 0)],
+               [(0, -size), (size, half), (-size, half)], [(0, size), (size, -half), (-size, -half)],
+               [(-half, -half), (0, -1), (half, -half), (1, 0), (half, half), (0, 1), (-half, half), (-1, 0)])
+    if shape == 0:
+        return element("circle", cx=float(x), cy=float(y), r=size, fill=colour)
+    points = " ".join(f"{number(x + dx)},{number(y + dy)}" for dx, dy in corners[shape - 1])
+    return element("polygon", points=points, fill=colour)
+
+
 def group(tooltip, *parts):
     """Parts with one tooltip."""
     return element("g", element("title", escape(tooltip)) + "".join(parts))
@@ -50,3 +67,18 @@ def picture(width, height, title, parts):
     head = (f'<svg xmlns="http://www.w3.org/2000/svg" width="{number(width)}" height="{number(height)}" '
             f'viewBox="0 0 {number(width)} {number(height)}" role="img">')
     return "\n".join([head, element("title", escape(title)), element("style", STYLE), *parts, "</svg>"]) + "\n"
+
+
+def draw(script, drawn):
+    """Writes the picture that `drawn` makes, and gives the status of the script."""
+    try:
+        made = drawn()
+        with open(1, "w", encoding="utf-8", closefd=False) as out:
+            out.write(made)
+    except Unread as why:
+        print(f"{script}: {why}", file=sys.stderr)
+        return 1
+    except OSError as why:
+        print(f"{script}: {why}", file=sys.stderr)
+        return 4
+    return 0

@@ -84,6 +84,17 @@ def timeline_of_many(place):
     expect("tooltips", tooltips(root), issued)
 
 
+def timeline_of_rows_alone(place):
+    """Rows as a student hands them in: comments, no header, any claim of cycles or none, operations that come early."""
+    for rows, cycles in ((place.read("examples/class/schedules/ada.rows"), 16),
+                         (place.read("examples/class/schedules/fay.rows"), 21),
+                         (b"[ loadI 1 => r1;nop ]  // one\r\n\n[ nop ; add r1, r1 => r1 ]\n", 2)):
+        root = picture(place, "charts/timeline", given=rows)
+        expect("title", root.find(f"{SVG}title").text, f"block 1: {cycles} cycles")
+    expect("tooltips", tooltips(root), ["loadI 1 => r1\nunit 0, issued at 0, arrives at 1",
+                                        "add r1, r1 => r1\nunit 1, issued at 1, arrives at 2"])
+
+
 def timeline_refuses(place):
     listing = place.run("ilocfarm", "schedule", "--load", "2", given=BLOCK)[1]
     for words, given, said in (
@@ -113,8 +124,64 @@ def compare_checked(place):
     place.write("ada", CHECKED)
     place.write("dan", CHECKED.replace(b"differs", b"same").replace(b"cycles 14", b"cycles 24"))
     root = picture(place, "charts/compare", "ada", "dan")
-    expect("tooltips", tooltips(root), ["1 sum\nada: 14\ndan: 24\nours: 14\nbound: 13",
-                                        "2 dot\nada: 19\ndan: 19\nours: 22\nbound: 20\nada: differs"])
+    expect("tooltips", tooltips(root), ["1 sum\nada: 14\ndan: 24\nours: 14\nleast: 13",
+                                        "2 dot\nada: 19\ndan: 19\nours: 22\nleast: 20\nada: differs"])
+
+
+def compare_leaves_wrong_ones_out(place):
+    """Of a block with another verdict than `same` nothing is in a total, whichever listing has it."""
+    place.write("ada", CHECKED)
+    place.write("dan", b"block 1 x cycles 15\nblock 2 y cycles 20\ntotal 35\n")
+    root = picture(place, "charts/compare", "ada", "dan")
+    texts = [it.text for it in root.iter(f"{SVG}text")]
+    expect("totals", texts[-6:], ["total", "14", "15", "14", "13", "without those that aren't same"])
+
+
+def compare_tells_columns_apart(place):
+    """Of 36 listings no two have a mark of one shape and colour; a 37th is refused."""
+    for k in range(37):
+        place.write(f"l{k}", b"block 1 - cycles %d\n" % k)
+    root = picture(place, "charts/compare", *(f"l{k}" for k in range(36)))
+    row = next(root.iter(f"{SVG}g"))
+    marks = {(it.tag, it.get("fill"), shape(it)) for it in row if it.get("fill")}
+    expect("marks", len(marks), 36)
+    expect("status", place.run("charts/compare", *(f"l{k}" for k in range(37))),
+           (1, b"", b"charts/compare: more than 36 listings can't be told apart\n"))
+
+
+def shape(mark):
+    """The corners of a mark, from the first on."""
+    corners = [tuple(map(float, it.split(","))) for it in (mark.get("points") or "").split()]
+    return tuple((round(x - corners[0][0], 1), round(y - corners[0][1], 1)) for x, y in corners)
+
+
+def compare_of_many(place):
+    """Above sixty blocks ratios, not rows: a curve a listing, and a table."""
+    checked = [b"block %d - %s cycles %d ours 20 least 20\n" % (k, b"differs" if k == 100 else b"same", 20 + k % 4)
+               for k in range(1, 101)]
+    place.write("ada", b"".join(checked) + b"total 1\n")
+    place.write("dan", b"".join(b"block %d - cycles 20\n" % k for k in range(1, 101)))
+    root = picture(place, "charts/compare", "ada", "dan")
+    texts = [it.text for it in root.iter(f"{SVG}text")]
+    expect("blocks", "99 blocks, 1 left out that aren't same" in texts, True)
+    told = tooltips(root)
+    expect("curves", told, ["ada: 2130 cycles, 24 % as few, 1.074 mean, 1.150 9 in 10, 1.150 worst",
+                            *(f"{it}: 1980 cycles, 100 % as few, 1.000 mean, 1.000 9 in 10, 1.000 worst"
+                              for it in ("dan", "ours"))])
+    expect("height", float(root.get("height")) < 600, True)
+
+
+def devices_fail(place):
+    """A full disk and closed streams are said, with status 4."""
+    place.write("one", b"block 1 - cycles 4\n")
+    place.write("rows", b"[ loadI 1 => r1 ; nop ]\n")
+    for script, words, given in (("timeline", "", "< rows"), ("compare", "one one", "")):
+        for broken, said in (("> /dev/full", "[Errno 28] No space left on device"),
+                             (">&-", "[Errno 9] Bad file descriptor")):
+            errors = place.shell(f"charts/{script} {words} {given} 2> said {broken}; echo $?; cat said")[1]
+            expect(f"{script} {broken}", errors.decode(), f"4\ncharts/{script}: {said}\n")
+    errors = place.shell("charts/timeline <&- > drawn; echo $?")[1].decode()
+    expect("timeline <&-", errors, "charts/timeline: [Errno 9] Bad file descriptor\n4\n")
 
 
 def compare_refuses(place):
@@ -130,5 +197,6 @@ def compare_refuses(place):
     expect("status", place.run("charts/compare", "one", "nowhere")[0], 4)
 
 
-CHART_CASES = (timeline, timeline_explained, timeline_of_many, timeline_refuses, compare, compare_checked,
-               compare_refuses)
+CHART_CASES = (timeline, timeline_explained, timeline_of_many, timeline_of_rows_alone, timeline_refuses, compare,
+               compare_checked, compare_leaves_wrong_ones_out, compare_tells_columns_apart, compare_of_many,
+               compare_refuses, devices_fail)
