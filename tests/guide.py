@@ -17,6 +17,13 @@ def guide(place):
                 raise Failed(f"docs/{name} is not what the guide's commands make")
 
 
+def book(place):
+    """README's picture of the book's example, which takes the book's 13 cycles."""
+    words = ("--load", "3", "--store", "3", "--mult", "2")
+    explained = place.run("ilocfarm", "explain", *words, given=place.read("examples/book.iloc"))[1]
+    expect("docs/book.svg", place.run("charts/timeline", *words, given=explained)[1], place.read("docs/book.svg"))
+
+
 def marks_several_blocks(place):
     """The points are for all blocks together; one that is wrong takes all away; a hand-in can't add to the task."""
     os.mkdir(place.path("class"))
@@ -48,4 +55,4 @@ def marks_nothing_by_mistake(place):
             os.remove(place.path(f"class/{name}"))
 
 
-GUIDE_CASES = (guide, marks_several_blocks, marks_nothing_by_mistake)
+GUIDE_CASES = (guide, book, marks_several_blocks, marks_nothing_by_mistake)
