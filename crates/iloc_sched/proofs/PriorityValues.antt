@@ -1,4 +1,11 @@
 -- The priorities.
 pub mod Longest
 pub mod Small
+pub mod Starts
+pub mod StartsFound
 pub mod Raised
+pub mod Dependents
+pub mod DependentsFound
+pub mod DependentsCounted
+pub mod Named
+pub mod Slacks

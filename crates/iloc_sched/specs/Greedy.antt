@@ -61,9 +61,13 @@ chosen_with ops prios candidates (Some a) =
 abbrev pub chosen : List Op → List ℕ → List ℕ → Row
 chosen ops prios candidates = chosen_with ops prios candidates (first_of_all prios candidates)
 
--- These operations in these rows are the greedy schedule of the block: they are lawful, the last row is not empty,
--- and each row is the choice from what is ready.
-pub record IsGreedy (lat : Latencies) (block ops : List Op) (rows : List Row) : Type 0 where
+-- These operations in these rows are the schedule of the block that is greedy by these priorities, one for each
+-- renamed operation: they are lawful, the last row is not empty, and each row is the choice from what is ready.
+pub record IsGreedyBy (prios : List ℕ) (lat : Latencies) (block ops : List Op) (rows : List Row) : Type 0 where
   pub lawful : IsLawful lat block ops rows
   pub last : (c : ℕ) → length rows ≡ c + 1 → slots (row_at rows c) ≢ []
-  pub each : (c : ℕ) → c < length rows → row_at rows c ≡ chosen ops (priorities lat ops) (ready lat ops rows c)
+  pub each : (c : ℕ) → c < length rows → row_at rows c ≡ chosen ops prios (ready lat ops rows c)
+
+-- the greedy schedule of the block: by the longest chains of delays
+abbrev pub IsGreedy : Latencies → List Op → List Op → List Row → Type 0
+IsGreedy lat block ops rows = IsGreedyBy (priorities lat ops) lat block ops rows

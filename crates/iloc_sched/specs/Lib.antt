@@ -4,6 +4,7 @@ pub mod Pairs
 pub mod Priority
 pub mod Lawful
 pub mod Greedy
+pub mod Heuristics
 pub mod Least
 pub mod Laws
 pub mod Steps

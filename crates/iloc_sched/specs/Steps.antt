@@ -11,6 +11,8 @@ pub mod Order
 pub mod Changes
 pub mod Classes
 pub mod Shares
+pub mod Starts
+pub mod Dependents
 pub mod Queued
 pub mod SoFar
 pub mod Opening

@@ -3,13 +3,14 @@ ghost use Rattle.std.specs.Prelude.{◌≡◌, ◌+◌, ◌<◌, ◌≤◌, [], 
 ghost use Rattle.iloc_timed.specs.Kinds.{kind};
 ghost use Rattle.iloc_timed.specs.Latency.{latency};
 ghost use Rattle.iloc_sched.specs.Renaming.{renamed, IsRenamed};
+ghost use Rattle.iloc_sched.specs.Heuristics.{priorities_by};
 
 use crate::candidate::Candidate;
 use crate::class::Class;
 use crate::edges::Edges;
+use crate::heuristic::{Heuristic, rank_by};
 use crate::kinds::{Operations, latency_of};
 use crate::lasts::Lasts;
-use crate::priority::raise_priorities;
 use crate::registers::Registers;
 use crate::renaming::{Names, is_nop};
 use iloc_ops::{Block, MAX_OPS, NoMemory, Op};
@@ -121,22 +122,49 @@ impl Plan {
         Ok(())
     }
 
-    /// Becomes the plan of a block.
+    /// Becomes the plan of a block, by a heuristic.
+    #[inline(always)]
     pub fn fill(
         &mut self,
         names: &mut Names,
         lasts: &mut Lasts,
         block: &Block,
         latencies: &Latencies,
+        heuristic: Heuristic,
+        alloc: Global,
     ) -> Result<(), NoMemory>
         requires { length block.now.ops ≤ MAX_OPS }
         ensures plan { OnOk result (IsPlan self.new) }
         ensures ops { OnOk result (self.new.ops.items ≡ renamed block.now.ops) }
         ensures latencies { OnOk result (self.new.latencies ≡ latencies.now) }
+        ensures priorities { OnOk result
+            (self.new.priorities.items ≡ priorities_by heuristic self.new.latencies self.new.ops.items) }
     {
         self.latencies = *latencies;
         self.gather(names, lasts, block)?;
-        raise_priorities(&mut self.priorities, &self.edges);
+        rank_by(heuristic, alloc, &mut self.priorities, &self.edges)?;
+        Ok(())
+    }
+
+    /// Becomes the plan of a block, by these priorities of its renamed operations.
+    pub fn fill_by(
+        &mut self,
+        names: &mut Names,
+        lasts: &mut Lasts,
+        block: &Block,
+        latencies: &Latencies,
+        priorities: &[u32],
+    ) -> Result<(), NoMemory>
+        requires few { length block.now.ops ≤ MAX_OPS }
+        requires priorities { length priorities.now ≡ length (renamed block.now.ops) }
+        ensures plan { OnOk result (IsPlan self.new) }
+        ensures ops { OnOk result (self.new.ops.items ≡ renamed block.now.ops) }
+        ensures latencies { OnOk result (self.new.latencies ≡ latencies.now) }
+        ensures priorities { OnOk result (self.new.priorities.items ≡ priorities.now) }
+    {
+        self.latencies = *latencies;
+        self.gather(names, lasts, block)?;
+        self.priorities.copy_from_slice(priorities);
         Ok(())
     }
 

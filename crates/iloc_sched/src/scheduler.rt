@@ -10,9 +10,11 @@ ghost use Rattle.iloc_timed.specs.Timed.{timed_outcome};
 ghost use Rattle.iloc_sched.specs.Renaming.{renamed};
 ghost use Rattle.iloc_sched.specs.Priority.{priority};
 ghost use Rattle.iloc_sched.specs.Lawful.{IsLawful};
-ghost use Rattle.iloc_sched.specs.Greedy.{IsGreedy};
+ghost use Rattle.iloc_sched.specs.Greedy.{IsGreedy, IsGreedyBy};
+ghost use Rattle.iloc_sched.specs.Heuristics.{priorities_by};
 ghost use Rattle.iloc_sched.specs.Steps.SoFar.{IsPlan};
 
+use crate::heuristic::Heuristic;
 use crate::lasts::Lasts;
 use crate::plan::Plan;
 use crate::queues::Queues;
@@ -83,8 +85,129 @@ impl Scheduler {
             issue_cycle s.rows i + priority latencies.now s.ops i ≤ cycles latencies.now s.ops s.rows) }
         ensures most { IfOk result (λ s. cycles latencies.now s.ops s.rows ≤ sum_by (latency latencies.now) s.ops) }
     {
-        self.plan
-            .fill(&mut self.names, &mut self.lasts, block, latencies)?;
+        self.lend_as(block, latencies, Heuristic::Chain)
+    }
+
+    /// The schedule of a block that is greedy by a heuristic.
+    pub fn schedule_as(
+        &mut self,
+        block: &Block,
+        latencies: &Latencies,
+        heuristic: Heuristic,
+    ) -> Result<Schedule, NoMemory>
+        requires { length block.now.ops ≤ MAX_OPS }
+        ensures greedy { IfOk result (λ s.
+            IsGreedyBy (priorities_by heuristic latencies.now s.ops) latencies.now block.now.ops s.ops s.rows) }
+        ensures only { IfOk result (λ s. (ops : List Op) (rows : List Row) →
+            IsGreedyBy (priorities_by heuristic latencies.now ops) latencies.now block.now.ops ops rows
+            → (ops ≡ s.ops) × (rows ≡ s.rows)) }
+        ensures outcome { OnOk result ((ops : List Op) (rows : List Row) (memory : List ℤ) →
+            IsLawful latencies.now block.now.ops ops rows
+            → timed_outcome latencies.now ops rows memory ≡ outcome block.now.ops memory) }
+        ensures least { IfOk result (λ s. (i : ℕ) → i < length s.ops →
+            issue_cycle s.rows i + priority latencies.now s.ops i ≤ cycles latencies.now s.ops s.rows) }
+        ensures most { IfOk result (λ s. cycles latencies.now s.ops s.rows ≤ sum_by (latency latencies.now) s.ops) }
+    {
+        let own = self.lend_as(block, latencies, heuristic)?;
+        let schedule = own.clone()?;
+        self.take_back(own);
+        Ok(schedule)
+    }
+
+    /// The schedule of a block that is greedy by a heuristic, as `schedule_as` has it, in the scheduler's own room, which
+    /// `take_back` takes back.
+    pub fn lend_as(
+        &mut self,
+        block: &Block,
+        latencies: &Latencies,
+        heuristic: Heuristic,
+    ) -> Result<Schedule, NoMemory>
+        requires { length block.now.ops ≤ MAX_OPS }
+        ensures greedy { IfOk result (λ s.
+            IsGreedyBy (priorities_by heuristic latencies.now s.ops) latencies.now block.now.ops s.ops s.rows) }
+        ensures only { IfOk result (λ s. (ops : List Op) (rows : List Row) →
+            IsGreedyBy (priorities_by heuristic latencies.now ops) latencies.now block.now.ops ops rows
+            → (ops ≡ s.ops) × (rows ≡ s.rows)) }
+        ensures outcome { OnOk result ((ops : List Op) (rows : List Row) (memory : List ℤ) →
+            IsLawful latencies.now block.now.ops ops rows
+            → timed_outcome latencies.now ops rows memory ≡ outcome block.now.ops memory) }
+        ensures least { IfOk result (λ s. (i : ℕ) → i < length s.ops →
+            issue_cycle s.rows i + priority latencies.now s.ops i ≤ cycles latencies.now s.ops s.rows) }
+        ensures most { IfOk result (λ s. cycles latencies.now s.ops s.rows ≤ sum_by (latency latencies.now) s.ops) }
+    {
+        self.plan.fill(
+            &mut self.names,
+            &mut self.lasts,
+            block,
+            latencies,
+            heuristic,
+            self.alloc,
+        )?;
+        self.lend_planned()
+    }
+
+    /// The schedule of a block that is greedy by these priorities, as `schedule_by` has it.
+    pub fn schedule_by(
+        &mut self,
+        block: &Block,
+        latencies: &Latencies,
+        priorities: &[u32],
+    ) -> Result<Schedule, NoMemory>
+        requires few { length block.now.ops ≤ MAX_OPS }
+        requires priorities { length priorities.now ≡ length (renamed block.now.ops) }
+        ensures greedy { IfOk result (λ s. IsGreedyBy priorities.now latencies.now block.now.ops s.ops s.rows) }
+        ensures only { IfOk result (λ s. (ops : List Op) (rows : List Row) →
+            IsGreedyBy priorities.now latencies.now block.now.ops ops rows → (ops ≡ s.ops) × (rows ≡ s.rows)) }
+        ensures outcome { OnOk result ((ops : List Op) (rows : List Row) (memory : List ℤ) →
+            IsLawful latencies.now block.now.ops ops rows
+            → timed_outcome latencies.now ops rows memory ≡ outcome block.now.ops memory) }
+        ensures least { IfOk result (λ s. (i : ℕ) → i < length s.ops →
+            issue_cycle s.rows i + priority latencies.now s.ops i ≤ cycles latencies.now s.ops s.rows) }
+        ensures most { IfOk result (λ s. cycles latencies.now s.ops s.rows ≤ sum_by (latency latencies.now) s.ops) }
+    {
+        let own = self.lend_by(block, latencies, priorities)?;
+        let schedule = own.clone()?;
+        self.take_back(own);
+        Ok(schedule)
+    }
+
+    /// The schedule of a block that is greedy by these priorities, as `schedule_by` has it, in the scheduler's own room,
+    /// which `take_back` takes back.
+    pub fn lend_by(
+        &mut self,
+        block: &Block,
+        latencies: &Latencies,
+        priorities: &[u32],
+    ) -> Result<Schedule, NoMemory>
+        requires few { length block.now.ops ≤ MAX_OPS }
+        requires priorities { length priorities.now ≡ length (renamed block.now.ops) }
+        ensures greedy { IfOk result (λ s. IsGreedyBy priorities.now latencies.now block.now.ops s.ops s.rows) }
+        ensures only { IfOk result (λ s. (ops : List Op) (rows : List Row) →
+            IsGreedyBy priorities.now latencies.now block.now.ops ops rows → (ops ≡ s.ops) × (rows ≡ s.rows)) }
+        ensures outcome { OnOk result ((ops : List Op) (rows : List Row) (memory : List ℤ) →
+            IsLawful latencies.now block.now.ops ops rows
+            → timed_outcome latencies.now ops rows memory ≡ outcome block.now.ops memory) }
+        ensures least { IfOk result (λ s. (i : ℕ) → i < length s.ops →
+            issue_cycle s.rows i + priority latencies.now s.ops i ≤ cycles latencies.now s.ops s.rows) }
+        ensures most { IfOk result (λ s. cycles latencies.now s.ops s.rows ≤ sum_by (latency latencies.now) s.ops) }
+    {
+        self.plan.fill_by(
+            &mut self.names,
+            &mut self.lasts,
+            block,
+            latencies,
+            priorities,
+        )?;
+        self.lend_planned()
+    }
+
+    /// The greedy schedule of the plan, in the scheduler's own room.
+    fn lend_planned(&mut self) -> Result<Schedule, NoMemory>
+        requires plan { IsPlan self.old.plan }
+        requires named { (block : List Op) × (self.old.plan.ops.items ≡ renamed block) }
+        ensures { IfOk result (λ s. (block : List Op) → self.old.plan.ops.items ≡ renamed block
+            → IsGreedyBy self.old.plan.priorities.items self.old.plan.latencies block s.ops s.rows) }
+    {
         self.fill_rows()?;
         let ops = mem::replace(&mut self.plan.ops, Vec::new(self.alloc));
         let rows = mem::replace(&mut self.rows, Vec::new(self.alloc));
@@ -100,7 +223,8 @@ impl Scheduler {
     fn fill_rows(&mut self) -> Result<(), NoMemory>
         requires { IsPlan self.old.plan }
         ensures greedy { OnOk result ((block : List Op) → self.old.plan.ops.items ≡ renamed block
-            → IsGreedy self.old.plan.latencies block self.old.plan.ops.items self.new.rows.items) }
+            → IsGreedyBy self.old.plan.priorities.items self.old.plan.latencies block self.old.plan.ops.items
+            self.new.rows.items) }
         ensures few { OnOk result (length self.new.rows.items ≤ LONGEST_DELAY * MAX_OPS + 1) }
         ensures plan { self.new.plan ≡ self.old.plan }
     {
@@ -136,4 +260,31 @@ pub fn schedule(alloc: Global, block: &Block, latencies: &Latencies) -> Result<S
     ensures most { IfOk result (λ s. cycles latencies.now s.ops s.rows ≤ sum_by (latency latencies.now) s.ops) }
 {
     Scheduler::new(alloc).schedule(block, latencies)
+}
+
+/// The schedule of a block, of at most `MAX_OPS` operations, that is greedy by these priorities, one for each renamed
+/// operation (`rename`): in each cycle the first of the ready operations is issued, with the first of the others that
+/// can go beside it, in order of falling priority, then of number.
+///
+/// It is the only one that is greedy by them, and like every lawful schedule of the block it has the block's outcome.
+/// Its cycles lie between the bounds that hold of `schedule`, whose priorities are the longest chains of delays.
+pub fn schedule_by(
+    alloc: Global,
+    block: &Block,
+    latencies: &Latencies,
+    priorities: &[u32],
+) -> Result<Schedule, NoMemory>
+    requires few { length block.now.ops ≤ MAX_OPS }
+    requires priorities { length priorities.now ≡ length (renamed block.now.ops) }
+    ensures greedy { IfOk result (λ s. IsGreedyBy priorities.now latencies.now block.now.ops s.ops s.rows) }
+    ensures only { IfOk result (λ s. (ops : List Op) (rows : List Row) →
+        IsGreedyBy priorities.now latencies.now block.now.ops ops rows → (ops ≡ s.ops) × (rows ≡ s.rows)) }
+    ensures outcome { OnOk result ((ops : List Op) (rows : List Row) (memory : List ℤ) →
+        IsLawful latencies.now block.now.ops ops rows
+        → timed_outcome latencies.now ops rows memory ≡ outcome block.now.ops memory) }
+    ensures least { IfOk result (λ s. (i : ℕ) → i < length s.ops →
+        issue_cycle s.rows i + priority latencies.now s.ops i ≤ cycles latencies.now s.ops s.rows) }
+    ensures most { IfOk result (λ s. cycles latencies.now s.ops s.rows ≤ sum_by (latency latencies.now) s.ops) }
+{
+    Scheduler::new(alloc).schedule_by(block, latencies, priorities)
 }

@@ -14,7 +14,7 @@ use Rattle.iloc_timed.specs.Cycles.{cycles}
 use Rattle.iloc_meaning.proofs.Cases.{by_bool}
 use Rattle.iloc_sched.specs.Delays.{delays}
 use Rattle.iloc_sched.specs.Priority.{priorities}
-use Rattle.iloc_sched.specs.Greedy.{is_ready, ready, chosen, IsGreedy}
+use Rattle.iloc_sched.specs.Greedy.{is_ready, ready, chosen, IsGreedy, IsGreedyBy}
 use Rattle.iloc_sched.specs.Steps.Choosing.{IsChosenSoFar}
 use Rattle.iloc_sched.specs.Steps.Members.{In}
 use Rattle.iloc_sched.proofs.Basics.Members.{contains_from, not_all, in_filter, from_map, in_range_from, from_range}
@@ -59,7 +59,8 @@ some_member (i ∷ is) some = (i, inl refl)
 le_self : (n : ℕ) → n ≤ n
 le_self n = omega arith
 
-module _ (lat : Latencies) (ops : List Op) (rows : List Row) (so_far : IsChosenSoFar lat ops rows) where
+module _ (prios : List ℕ) (lat : Latencies) (ops : List Op) (rows : List Row)
+    (so_far : IsChosenSoFar prios lat ops rows) where
   size : ℕ → ℕ
   size h = latency lat (op_at ops h)
 
@@ -68,12 +69,12 @@ module _ (lat : Latencies) (ops : List Op) (rows : List Row) (so_far : IsChosenS
       → Covered (issue_cycle rows) size (length ops) c
   unfolding size
   covered_by_ready c i below is =
-      let row_is : row_at rows c ≡ chosen ops (priorities lat ops) (ready lat ops rows c) = so_far c below in
+      let row_is : row_at rows c ≡ chosen ops prios (ready lat ops rows c) = so_far c below in
       let member = some_member (slots (row_at rows c))
-      (λ empty. chosen_some ops (priorities lat ops) (ready lat ops rows c) i (ready_from lat ops rows c i is)
+      (λ empty. chosen_some ops prios (ready lat ops rows c) i (ready_from lat ops rows c i is)
       (sym (ap slots row_is) ∙ empty)) in
       let early : issue_cycle rows member.0 ≤ c = issued_by rows c member.0 member.1 in
-      let was = was_ready lat ops rows so_far c member.0 member.1 in
+      let was = was_ready prios lat ops rows so_far c member.0 member.1 in
       let late : c ≤ issue_cycle rows member.0 = was.waiting in
       let some : 1 ≤ latency lat (op_at ops member.0) = some_latency lat (kind (op_at ops member.0)) in
       record { by = member.0; within = was.within; begun = early; goes_on = omega arith }
@@ -149,12 +150,16 @@ module _ (lat : Latencies) (ops : List Op) (rows : List Row) (so_far : IsChosenS
             (subst (λ n. cycles lat ops rows ≤ n) (sym at.2) (le_self (cycles lat ops rows)))))
       ]
 
-pub rows_bound : (lat : Latencies) (ops : List Op) (rows : List Row) (i : ℕ) → IsChosenSoFar lat ops rows
+pub rows_bound : (prios : List ℕ) (lat : Latencies) (ops : List Op) (rows : List Row) (i : ℕ) → IsChosenSoFar prios lat ops rows
     → i < length ops → length rows ≤ issue_cycle rows i → length rows ≤ sum_by (latency lat) ops
-rows_bound lat ops rows i so_far within waits = rows_bound_at lat ops rows so_far i within waits
+rows_bound prios lat ops rows i so_far within waits = rows_bound_at prios lat ops rows so_far i within waits
 
--- a greedy schedule takes no more cycles than its operations one after another
+-- a greedy schedule takes no more cycles than its operations one after another, whatever the priorities
+pub busy_bound_by : (prios : List ℕ) (lat : Latencies) (block ops : List Op) (rows : List Row)
+    → IsGreedyBy prios lat block ops rows → cycles lat ops rows ≤ sum_by (latency lat) ops
+busy_bound_by prios lat block ops rows greedy = cycles_bound prios lat ops rows greedy.each
+    (λ i within. issued_within ops rows greedy.lawful.table i within)
+
 pub busy_bound : (lat : Latencies) (block ops : List Op) (rows : List Row) → IsGreedy lat block ops rows
     → cycles lat ops rows ≤ sum_by (latency lat) ops
-busy_bound lat block ops rows greedy = cycles_bound lat ops rows greedy.each
-    (λ i within. issued_within ops rows greedy.lawful.table i within)
+busy_bound lat block ops rows greedy = busy_bound_by (priorities lat ops) lat block ops rows greedy

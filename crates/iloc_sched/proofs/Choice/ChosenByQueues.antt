@@ -8,7 +8,6 @@ use Rattle.iloc_timed.specs.declared.kind.Kind.TheVariants as K
 use Rattle.iloc_timed.specs.declared.row.Row.{Row}
 use Rattle.iloc_timed.specs.Kinds.{kind, is_mult, is_memory}
 use Rattle.iloc_timed.specs.Rows.{is_some_kind, kind_in}
-use Rattle.iloc_sched.specs.Priority.{priorities}
 use Rattle.iloc_sched.specs.Greedy.{ready, first_of_all, may_stand_beside, on_units, chosen_with, chosen}
 use Rattle.iloc_sched.specs.declared.candidate.Candidate.{Candidate}
 use Rattle.iloc_sched.specs.declared.class.Class.{Class}
@@ -16,7 +15,7 @@ use Rattle.iloc_sched.specs.declared.plan.Plan.{Plan}
 use Rattle.iloc_sched.specs.declared.queues.Queues.{Queues}
 use Rattle.iloc_sched.specs.declared.queues.Choice.{Choice}
 use Rattle.iloc_sched.specs.declared.waiting.Waiting.{Waiting}
-use Rattle.iloc_sched.specs.Steps.Choosing.{IsChosenSoFar, GoesBefore}
+use Rattle.iloc_sched.specs.Steps.Choosing.{IsChosenSoFar}
 use Rattle.iloc_sched.specs.Steps.Members.{In}
 use Rattle.iloc_sched.specs.Steps.Order.{IsFirst, candidate_at}
 use Rattle.iloc_sched.specs.Steps.Classes.{class_of, excludes, is_memory_class, is_product_class}
@@ -102,7 +101,7 @@ row_zero a b = record { zero = Some a.candidate.number; one = number_of b }
 module _ (p : Plan) (w : Waiting) (q : Queues) (rows : List Row) (plan : IsPlan p)
     (under : IsUnderWay p w q (length rows + 1))
     (matches : MatchesRows (length p.ops.items) rows (progress_of w).issued)
-    (each : IsChosenSoFar p.latencies p.ops.items rows) where
+    (each : IsChosenSoFar p.priorities.items p.latencies p.ops.items rows) where
   -- who is ready stands in the queue of its class
   ready_queued : (j : ℕ) → In (ready p.latencies p.ops.items rows (length rows)) j
       → In (candidates q (class_at p.ops.items j)) (candidate_at p.priorities.items j)
@@ -113,31 +112,26 @@ module _ (p : Plan) (w : Waiting) (q : Queues) (rows : List Row) (plan : IsPlan 
   queued_ready : (k : Class) (c : Candidate) → In (candidates q k) c
       → In (ready p.latencies p.ops.items rows (length rows)) c.number
   queued_ready k c held = ready_when p.latencies p.ops.items (graph_of p.edges) (progress_of w) rows plan.graph
-      under.waits matches each c.number (under.queued.only k c held).0
+      under.waits matches p.priorities.items each c.number (under.queued.only k c held).0
 
-  -- the priorities of the plan are the priorities
-  by_priorities : (i j : ℕ) → IsFirst (candidate_at p.priorities.items i) (candidate_at p.priorities.items j)
-      → GoesBefore (priorities p.latencies p.ops.items) i j
-  by_priorities i j first = subst (λ prios. GoesBefore prios i j) plan.priorities first
-
-  pub chosen_none : IsBest q None None → first_of_all (priorities p.latencies p.ops.items)
+  pub chosen_none : IsBest q None None → first_of_all p.priorities.items
       (ready p.latencies p.ops.items rows (length rows)) ≡ None
-  chosen_none none = first_none (priorities p.latencies p.ops.items) (ready p.latencies p.ops.items rows (length rows))
+  chosen_none none = first_none p.priorities.items (ready p.latencies p.ops.items rows (length rows))
       (λ j held. none (class_at p.ops.items j) (candidate_at p.priorities.items j) (refl, ready_queued j held))
 
   pub chosen_first : (a : Choice) → IsBest q None (Some a)
-      → first_of_all (priorities p.latencies p.ops.items) (ready p.latencies p.ops.items rows (length rows))
+      → first_of_all p.priorities.items (ready p.latencies p.ops.items rows (length rows))
       ≡ Some a.candidate.number
   chosen_first a best =
       let is : a.candidate ≡ candidate_at p.priorities.items a.candidate.number =
       (under.queued.only a.class a.candidate best.0.1).2 in
-      first_is (priorities p.latencies p.ops.items) (ready p.latencies p.ops.items rows (length rows))
+      first_is p.priorities.items (ready p.latencies p.ops.items rows (length rows))
       a.candidate.number
       (ready_rises p.latencies p.ops.items rows (length rows))
       (queued_ready a.class a.candidate best.0.1)
-      (λ j held. by_priorities a.candidate.number j
-      (subst (λ c. IsFirst c (candidate_at p.priorities.items j)) is
-      (best.1 (class_at p.ops.items j) (candidate_at p.priorities.items j) (refl, ready_queued j held))))
+      (λ j held.
+      subst (λ c. IsFirst c (candidate_at p.priorities.items j)) is
+      (best.1 (class_at p.ops.items j) (candidate_at p.priorities.items j) (refl, ready_queued j held)))
 
   module _ (q1 : Queues) (a : Choice) (held_a : In (candidates q a.class) a.candidate) (takes : Takes q q1 a) where
     class_a : class_at p.ops.items a.candidate.number ≡ a.class
@@ -182,22 +176,22 @@ module _ (p : Plan) (w : Waiting) (q : Queues) (rows : List Row) (plan : IsPlan 
         (open_beside c.number ∙ ap (λ l. not (excludes a.class l)) class_c ∙ ap not free))
 
     pub chosen_second : (b : Option Choice) → IsBest q1 (Some a.class) b
-        → first_of_all (priorities p.latencies p.ops.items)
+        → first_of_all p.priorities.items
         (filter beside (ready p.latencies p.ops.items rows (length rows))) ≡ number_of b
-    chosen_second None none = first_none (priorities p.latencies p.ops.items)
+    chosen_second None none = first_none p.priorities.items
         (filter beside (ready p.latencies p.ops.items rows (length rows)))
         (λ j held. none (class_at p.ops.items j) (candidate_at p.priorities.items j) (left_open j held))
     chosen_second (Some b) best =
         let is : b.candidate ≡ candidate_at p.priorities.items b.candidate.number =
         (under.queued.only b.class b.candidate (takes.was b.class b.candidate best.0.1).0).2 in
-        first_is (priorities p.latencies p.ops.items) (filter beside (ready p.latencies p.ops.items rows (length rows)))
+        first_is p.priorities.items (filter beside (ready p.latencies p.ops.items rows (length rows)))
         b.candidate.number
         (rises_filter beside (ready p.latencies p.ops.items rows (length rows))
         (ready_rises p.latencies p.ops.items rows (length rows)))
         (open_left b.class b.candidate best.0.0 best.0.1)
-        (λ j held. by_priorities b.candidate.number j
-        (subst (λ c. IsFirst c (candidate_at p.priorities.items j)) is
-        (best.1 (class_at p.ops.items j) (candidate_at p.priorities.items j) (left_open j held))))
+        (λ j held.
+        subst (λ c. IsFirst c (candidate_at p.priorities.items j)) is
+        (best.1 (class_at p.ops.items j) (candidate_at p.priorities.items j) (left_open j held)))
 
     memory_beside : (b : Option Choice) → IsBest q1 (Some a.class) b
         → is_some_kind is_memory (kind_in p.ops.items (number_of b)) ≡ is_memory_choice b
@@ -206,7 +200,7 @@ module _ (p : Plan) (w : Waiting) (q : Queues) (rows : List Row) (plan : IsPlan 
         ∙ ap is_memory_class (under.queued.only b.class b.candidate (takes.was b.class b.candidate best.0.1).0).1
 
     pub chosen_row : (b : Option Choice) → IsBest q None (Some a) → IsBest q1 (Some a.class) b
-        → row_with a b ≡ chosen p.ops.items (priorities p.latencies p.ops.items)
+        → row_with a b ≡ chosen p.ops.items p.priorities.items
         (ready p.latencies p.ops.items rows (length rows))
     chosen_row b first second =
         let product : is_mult (kind (op_at p.ops.items a.candidate.number)) ≡ is_product_class a.class =
@@ -216,7 +210,7 @@ module _ (p : Plan) (w : Waiting) (q : Queues) (rows : List Row) (plan : IsPlan 
         product
         ∙ ap (λ t. if is_product_class a.class || t then row_one a b else row_zero a b) (memory_beside b second) in
         sym
-        (ap (chosen_with p.ops.items (priorities p.latencies p.ops.items)
+        (ap (chosen_with p.ops.items p.priorities.items
         (ready p.latencies p.ops.items rows (length rows))) (chosen_first a first)
         ∙ ap (on_units p.ops.items a.candidate.number) (chosen_second b second)
         ∙ row)

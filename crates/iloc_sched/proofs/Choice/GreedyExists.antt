@@ -12,7 +12,7 @@ use Rattle.iloc_timed.specs.Rows.{row_at, slots, issue_cycle}
 use Rattle.iloc_meaning.proofs.Cases.{by_bool}
 use Rattle.iloc_sched.specs.Renaming.{renamed}
 use Rattle.iloc_sched.specs.Priority.{priorities}
-use Rattle.iloc_sched.specs.Greedy.{ready, chosen, IsGreedy}
+use Rattle.iloc_sched.specs.Greedy.{ready, chosen, IsGreedy, IsGreedyBy}
 use Rattle.iloc_sched.specs.Steps.Choosing.{IsChosenSoFar}
 use Rattle.iloc_sched.specs.Steps.Members.{In}
 use Rattle.iloc_sched.proofs.Basics.Members.{from_all, not_all, in_range_from, from_range}
@@ -28,8 +28,8 @@ record WaitsAt (ops : List Op) (rows : List Row) (c : ℕ) : Type 0 where
   waiting : c ≤ issue_cycle rows by
 
 -- rows that were chosen, the last while an operation waited
-record IsBegun (lat : Latencies) (ops : List Op) (rows : List Row) : Type 0 where
-  so_far : IsChosenSoFar lat ops rows
+record IsBegun (prios : List ℕ) (lat : Latencies) (ops : List Op) (rows : List Row) : Type 0 where
+  so_far : IsChosenSoFar prios lat ops rows
   last : (c : ℕ) → length rows ≡ c + 1 → WaitsAt ops rows c
 
 -- each operation is issued in one of the rows
@@ -47,15 +47,15 @@ issued_or_waits ops rows =
     let place : (0 ≤ one.0) × (one.0 < 0 + length ops) = from_range 0 (length ops) one.0 one.1 in
     inr (record { by = one.0; within = omega arith; waiting = ltb-false (issue_cycle rows one.0) (length rows) one.2 }))
 
-module _ (lat : Latencies) (ops : List Op) where
+module _ (prios : List ℕ) (lat : Latencies) (ops : List Op) where
   next_row : List Row → Row
-  next_row rows = chosen ops (priorities lat ops) (ready lat ops rows (length rows))
+  next_row rows = chosen ops prios (ready lat ops rows (length rows))
 
-  one_more : (rows : List Row) → IsBegun lat ops rows → WaitsAt ops rows (length rows)
-      → IsBegun lat ops (rows ++ next_row rows ∷ [])
+  one_more : (rows : List Row) → IsBegun prios lat ops rows → WaitsAt ops rows (length rows)
+      → IsBegun prios lat ops (rows ++ next_row rows ∷ [])
   unfolding next_row
   one_more rows begun waits = record {
-    so_far = chosen_more lat ops rows (next_row rows) begun.so_far refl;
+    so_far = chosen_more prios lat ops rows (next_row rows) begun.so_far refl;
     last = λ c is.
         let longer : length (rows ++ next_row rows ∷ []) ≡ length rows + 1 = length_push rows (next_row rows) in
         let back : issue_cycle (rows ++ next_row rows ∷ []) waits.by ≡ length rows + issue_cycle (next_row rows ∷ [])
@@ -63,13 +63,13 @@ module _ (lat : Latencies) (ops : List Op) where
         record { by = waits.by; within = waits.within; waiting = subst (λ n. c ≤ n) (sym back) (omega arith) };
   }
 
-  to_the_end : (fuel : ℕ) (rows : List Row) → IsBegun lat ops rows → sum_by (latency lat) ops < length rows + fuel
-      → (all : List Row) × IsBegun lat ops all × AllIssued ops all
+  to_the_end : (fuel : ℕ) (rows : List Row) → IsBegun prios lat ops rows → sum_by (latency lat) ops < length rows + fuel
+      → (all : List Row) × IsBegun prios lat ops all × AllIssued ops all
   to_the_end zero rows begun enough = elim (issued_or_waits ops rows) [
     | inl done ↦ (rows, begun, done)
     | inr waits ↦
         let bound : length rows ≤ sum_by (latency lat) ops =
-        rows_bound lat ops rows waits.by begun.so_far waits.within waits.waiting in
+        rows_bound prios lat ops rows waits.by begun.so_far waits.within waits.waiting in
         absurd (omega arith)
   ]
   to_the_end (suc fuel) rows begun enough = elim (issued_or_waits ops rows) [
@@ -80,7 +80,7 @@ module _ (lat : Latencies) (ops : List Op) where
         (subst (λ n. sum_by (latency lat) ops < n + fuel) (sym longer) (omega arith))
   ]
 
-  last_row_some : (rows : List Row) → IsBegun lat ops rows → AllIssued ops rows → (c : ℕ) → length rows ≡ c + 1
+  last_row_some : (rows : List Row) → IsBegun prios lat ops rows → AllIssued ops rows → (c : ℕ) → length rows ≡ c + 1
       → slots (row_at rows c) ≢ []
   last_row_some rows begun done c is empty =
       let waits = begun.last c is in
@@ -90,9 +90,13 @@ module _ (lat : Latencies) (ops : List Op) where
       subst (λ is. In is waits.by) empty (subst (λ k. In (slots (row_at rows k)) waits.by) at
       (stands_there rows waits.by issued))
 
-pub greedy_exists : (lat : Latencies) (block : List Op) → (rows : List Row) × IsGreedy lat block (renamed block) rows
-greedy_exists lat block =
+pub greedy_exists_by : (prios : List ℕ) (lat : Latencies) (block : List Op)
+    → (rows : List Row) × IsGreedyBy prios lat block (renamed block) rows
+greedy_exists_by prios lat block =
     let ops : List Op = renamed block in
-    let end = to_the_end lat ops (sum_by (latency lat) ops + 1) []
+    let end = to_the_end prios lat ops (sum_by (latency lat) ops + 1) []
     (record { so_far = λ c below. absurd (omega arith); last = λ c is. absurd (omega arith) }) (omega arith) in
-    (end.0, chosen_is_greedy lat block ops end.0 refl end.1.so_far end.2 (last_row_some lat ops end.0 end.1 end.2))
+    (end.0, chosen_is_greedy prios lat block ops end.0 refl end.1.so_far end.2 (last_row_some prios lat ops end.0 end.1 end.2))
+
+pub greedy_exists : (lat : Latencies) (block : List Op) → (rows : List Row) × IsGreedy lat block (renamed block) rows
+greedy_exists lat block = greedy_exists_by (priorities lat (renamed block)) lat block

@@ -5,7 +5,6 @@ use Rattle.iloc_timed.specs.declared.latencies.Latencies.{Latencies}
 use Rattle.iloc_timed.specs.declared.row.Row.{Row}
 use Rattle.iloc_timed.specs.Rows.{slots, issue_cycle}
 use Rattle.iloc_sched.specs.Delays.{IsDelayPair}
-use Rattle.iloc_sched.specs.Priority.{priorities}
 use Rattle.iloc_sched.specs.Greedy.{ready}
 use Rattle.iloc_sched.specs.Steps.Choosing.{IsChosenSoFar}
 use Rattle.iloc_sched.specs.Steps.Members.{In}
@@ -21,12 +20,12 @@ use Rattle.iloc_sched.proofs.Walking.UnmetEdges.{count_none, count_some}
 use Rattle.iloc_sched.proofs.Graph.FarPairs.{near_is_over}
 
 -- what was issued had waited for its delays
-pub waited : (lat : Latencies) (ops : List Op) (rows : List Row) → IsChosenSoFar lat ops rows → (i h d : ℕ)
+pub waited : (prios : List ℕ) (lat : Latencies) (ops : List Op) (rows : List Row) → IsChosenSoFar prios lat ops rows → (i h d : ℕ)
     → IsDelayPair lat ops i h d → issue_cycle rows h < length rows → issue_cycle rows i + d ≤ issue_cycle rows h
-waited lat ops rows each i h d pair below =
+waited prios lat ops rows each i h d pair below =
     let c : ℕ = issue_cycle rows h in
     let there : In (ready lat ops rows c) h =
-    chosen_in ops (priorities lat ops) (ready lat ops rows c) h
+    chosen_in ops prios (ready lat ops rows c) h
     (subst (λ row. In (slots row) h) (each c below) (stands_there rows h below)) in
     (ready_means lat ops rows c h there).over i d pair
 
@@ -61,13 +60,13 @@ module _ (lat : Latencies) (ops : List Op) (graph : Graph) (w : Progress) (rows 
       let soon : w.earliest j < length rows + 1 = can.soon in
       omega arith
 
-  pub ready_when : IsChosenSoFar lat ops rows → (j : ℕ) → CanIssue graph w (length rows + 1) j
+  pub ready_when : (prios : List ℕ) → IsChosenSoFar prios lat ops rows → (j : ℕ) → CanIssue graph w (length rows + 1) j
       → In (ready lat ops rows (length rows)) j
-  ready_when each j can =
+  ready_when prios each j can =
       ready_from lat ops rows (length rows) j (record {
         within = within_ops j can.there;
         waiting = matches.waiting j (within_ops j can.there) can.waiting;
-        over = near_is_over lat ops (issue_cycle rows) (length rows) j (waited lat ops rows each) (near_over j can);
+        over = near_is_over lat ops (issue_cycle rows) (length rows) j (waited prios lat ops rows each) (near_over j can);
       })
 
   pub when_ready : (j : ℕ) → In (ready lat ops rows (length rows)) j → CanIssue graph w (length rows + 1) j

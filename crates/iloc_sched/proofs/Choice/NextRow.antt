@@ -9,8 +9,7 @@ use Rattle.iloc_timed.specs.Latency.{latency}
 use Rattle.iloc_timed.specs.declared.row.Row.{Row}
 use Rattle.iloc_timed.specs.Rows.{empty_row, row_at, slots, issue_cycle, holds}
 use Rattle.iloc_sched.specs.Renaming.{renamed}
-use Rattle.iloc_sched.specs.Priority.{priorities}
-use Rattle.iloc_sched.specs.Greedy.{ready, chosen_with, IsGreedy}
+use Rattle.iloc_sched.specs.Greedy.{ready, chosen_with, IsGreedyBy}
 use Rattle.iloc_sched.specs.declared.plan.Plan.{Plan}
 use Rattle.iloc_sched.specs.declared.queues.Queues.{Queues}
 use Rattle.iloc_sched.specs.declared.queues.Choice.{Choice}
@@ -111,8 +110,8 @@ so_far_none p w w1 w2 q q1 q2 rows rows' row plan so_far same under best issues 
       under_way = subst (λ n. IsUnderWay p w2 q2 n) (sym size) issues.0;
       matches = matches_more (length p.ops.items) rows empty_row (progress_of w1).issued (progress_of w2).issued matches
           (λ j stands. absurd stands) (λ j misses. ap (λ xs. get_or xs j None) issues.1);
-      each = chosen_more p.latencies p.ops.items rows empty_row so_far.each
-          (sym (ap (chosen_with p.ops.items (priorities p.latencies p.ops.items)
+      each = chosen_more p.priorities.items p.latencies p.ops.items rows empty_row so_far.each
+          (sym (ap (chosen_with p.ops.items p.priorities.items
           (ready p.latencies p.ops.items rows (length rows)))
           (chosen_none p w1 q1 rows plan under matches so_far.each best)));
     })
@@ -229,7 +228,7 @@ so_far_row p w w1 w2 w3 q q1 q2 q3 rows rows' row a b plan so_far same under bes
           (λ e. misses (subst (λ k. In (slots (row_with a b)) k) (sym e) (in_first a b)))
           (λ x some e. misses (subst (λ k. In (slots (row_with a b)) k) (sym e)
           (subst (λ o. In (slots (row_with a o)) x.candidate.number) (sym some) (in_second a x)))));
-      each = chosen_more p.latencies p.ops.items rows (row_with a b) so_far.each
+      each = chosen_more p.priorities.items p.latencies p.ops.items rows (row_with a b) so_far.each
           (chosen_row p w1 q1 rows plan under matches so_far.each q2 a best_a.0.1 issues_a.takes b best_a best_b);
     })
 
@@ -300,7 +299,7 @@ few_rows p w q rows plan so_far some =
     let size : length p.edges.heads.items ≡ length p.ops.items = plan.graph.size in
     let short : length p.edges.heads.items ≤ 10000 = p.edges.short in
     let bound : length rows ≤ sum_by (latency p.latencies) p.ops.items =
-    rows_bound p.latencies p.ops.items rows found.0 so_far.each (omega arith)
+    rows_bound p.priorities.items p.latencies p.ops.items rows found.0 so_far.each (omega arith)
     (so_far.matches.waiting found.0 (omega arith) found.2) in
     let sum : sum_by (latency p.latencies) p.ops.items ≤ length p.ops.items * 16 = short_sum p.latencies p.ops.items in
     omega arith
@@ -322,11 +321,11 @@ none_waits xs none j below = by_option (get_or xs j None)
 pub greedy_at_end : (p : Plan) (w : Waiting) (q : Queues) (rows : List Row) (block : List Op) → IsPlan p
     → IsSoFar p w q rows → waiting_count w ≡ 0
     → ((c : ℕ) → length rows ≡ c + 1 → slots (row_at rows c) ≡ [] → ⊥) → p.ops.items ≡ renamed block
-    → IsGreedy p.latencies block p.ops.items rows
+    → IsGreedyBy p.priorities.items p.latencies block p.ops.items rows
 greedy_at_end p w q rows block plan so_far none last is =
     let table : length (issued_list w) ≡ length p.edges.heads.items = issued_size p.edges w so_far.under_way.sized in
     let size : length p.edges.heads.items ≡ length p.ops.items = plan.graph.size in
-    chosen_is_greedy p.latencies block p.ops.items rows is so_far.each
+    chosen_is_greedy p.priorities.items p.latencies block p.ops.items rows is so_far.each
     (λ i below.
     let found : (t : ℕ) × (get_or (issued_list w) i None ≡ Some t) = none_waits (issued_list w) none i (omega arith) in
     let at : (issue_cycle rows i ≡ found.0) × (found.0 < length rows) = so_far.matches.done i found.0 below found.1 in

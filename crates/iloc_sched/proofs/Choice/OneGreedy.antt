@@ -8,7 +8,7 @@ use Rattle.iloc_timed.specs.declared.row.Row.{Row}
 use Rattle.iloc_timed.specs.Rows.{empty_row, row_at, slots, holds, issue_cycle}
 use Rattle.iloc_meaning.proofs.Cases.{by_bool}
 use Rattle.iloc_sched.specs.Priority.{priorities}
-use Rattle.iloc_sched.specs.Greedy.{chosen, IsGreedy}
+use Rattle.iloc_sched.specs.Greedy.{chosen, IsGreedy, IsGreedyBy}
 use Rattle.iloc_sched.proofs.Basics.Members.{empty_from}
 use Rattle.iloc_sched.proofs.Basics.Slots.{issued_within}
 use Rattle.iloc_sched.proofs.Choice.Ready.{SameBelow, ready_same}
@@ -40,8 +40,8 @@ cycles_agree (row ∷ rows) (row' ∷ rows') (suc c) i within within' same =
       let second : c ≤ issue_cycle rows' i = none.1 in omega arith,
     )
 
-module _ (lat : Latencies) (block ops : List Op) (rows rows' : List Row) (greedy : IsGreedy lat block ops rows)
-    (greedy' : IsGreedy lat block ops rows') where
+module _ (prios : List ℕ) (lat : Latencies) (block ops : List Op) (rows rows' : List Row) (greedy : IsGreedyBy prios lat block ops rows)
+    (greedy' : IsGreedyBy prios lat block ops rows') where
   rows_agree : (c : ℕ) → c ≤ length rows → c ≤ length rows' → (k : ℕ) → k < c → row_at rows k ≡ row_at rows' k
   rows_agree zero within within' k below = absurd (omega arith)
   rows_agree (suc c) within within' k below =
@@ -49,7 +49,7 @@ module _ (lat : Latencies) (block ops : List Op) (rows rows' : List Row) (greedy
         | inl here ↦
             subst (λ n. row_at rows n ≡ row_at rows' n) (sym here)
             (greedy.each c (omega arith)
-            ∙ ap (chosen ops (priorities lat ops))
+            ∙ ap (chosen ops prios)
             (ready_same lat ops rows rows' c (λ i. cycles_agree rows rows' c i (omega arith) (omega arith)
             (rows_agree c (omega arith) (omega arith))))
             ∙ sym (greedy'.each c (omega arith)))
@@ -61,7 +61,7 @@ module _ (lat : Latencies) (block ops : List Op) (rows rows' : List Row) (greedy
   not_longer shorter =
       greedy'.last (length rows' - 1) (omega arith)
       (empty_from (slots (row_at rows' (length rows' - 1))) (λ i there.
-      let was = was_ready lat ops rows' greedy'.each (length rows' - 1) i there in
+      let was = was_ready prios lat ops rows' greedy'.each (length rows' - 1) i there in
       let waiting : length rows' - 1 ≤ issue_cycle rows' i = was.waiting in
       let issued : issue_cycle rows i < length rows = issued_within ops rows greedy.lawful.table i was.within in
       elim (cycles_agree rows rows' (length rows) i (omega arith) (omega arith)
@@ -70,22 +70,35 @@ module _ (lat : Latencies) (block ops : List Op) (rows rows' : List Row) (greedy
         | inr none ↦ let far : length rows ≤ issue_cycle rows i = none.0 in omega arith
       ]))
 
-greedy_rows : (lat : Latencies) (block ops : List Op) (rows rows' : List Row) → IsGreedy lat block ops rows
-    → IsGreedy lat block ops rows' → rows ≡ rows'
-greedy_rows lat block ops rows rows' greedy greedy' = ext_get_or empty_row rows rows' same_length (λ c below.
-    rows_agree lat block ops rows rows' greedy greedy' (length rows) (omega arith) (omega (arith, same_length)) c below)
+greedy_rows : (prios : List ℕ) (lat : Latencies) (block ops : List Op) (rows rows' : List Row) → IsGreedyBy prios lat block ops rows
+    → IsGreedyBy prios lat block ops rows' → rows ≡ rows'
+greedy_rows prios lat block ops rows rows' greedy greedy' = ext_get_or empty_row rows rows' same_length (λ c below.
+    rows_agree prios lat block ops rows rows' greedy greedy' (length rows) (omega arith) (omega (arith, same_length)) c below)
   where
     same_length : length rows ≡ length rows'
     same_length = elim (cases_order (length rows) (length rows')) [
       | inl same ↦ same
       | inr differs ↦ elim differs [
-        | inl shorter ↦ absurd (not_longer lat block ops rows rows' greedy greedy' shorter)
-        | inr longer ↦ absurd (not_longer lat block ops rows' rows greedy' greedy longer)
+        | inl shorter ↦ absurd (not_longer prios lat block ops rows rows' greedy greedy' shorter)
+        | inr longer ↦ absurd (not_longer prios lat block ops rows' rows greedy' greedy longer)
       ]
     ]
 
+pub greedy_same_by : (prios : List ℕ) (lat : Latencies) (block ops ops' : List Op) (rows rows' : List Row) → IsGreedyBy prios lat block ops rows
+    → IsGreedyBy prios lat block ops' rows' → (ops ≡ ops') × (rows ≡ rows')
+greedy_same_by prios lat block ops ops' rows rows' greedy greedy' =
+    let same : ops ≡ ops' = greedy.lawful.names ∙ sym greedy'.lawful.names in
+    (same, greedy_rows prios lat block ops rows rows' greedy (subst (λ os. IsGreedyBy prios lat block os rows') (sym same) greedy'))
+
+-- and by priorities that the operations determine
+pub greedy_same_as : (prios : List Op → List ℕ) (lat : Latencies) (block ops ops' : List Op) (rows rows' : List Row)
+    → IsGreedyBy (prios ops) lat block ops rows → IsGreedyBy (prios ops') lat block ops' rows'
+    → (ops ≡ ops') × (rows ≡ rows')
+greedy_same_as prios lat block ops ops' rows rows' greedy greedy' =
+    let same : ops ≡ ops' = greedy.lawful.names ∙ sym greedy'.lawful.names in
+    greedy_same_by (prios ops) lat block ops ops' rows rows' greedy
+    (subst (λ os. IsGreedyBy (prios os) lat block ops' rows') (sym same) greedy')
+
 pub greedy_same : (lat : Latencies) (block ops ops' : List Op) (rows rows' : List Row) → IsGreedy lat block ops rows
     → IsGreedy lat block ops' rows' → (ops ≡ ops') × (rows ≡ rows')
-greedy_same lat block ops ops' rows rows' greedy greedy' =
-    let same : ops ≡ ops' = greedy.lawful.names ∙ sym greedy'.lawful.names in
-    (same, greedy_rows lat block ops rows rows' greedy (subst (λ os. IsGreedy lat block os rows') (sym same) greedy'))
+greedy_same lat = greedy_same_as (priorities lat) lat

@@ -8,8 +8,7 @@ use Rattle.iloc_timed.specs.declared.latencies.Latencies.{Latencies}
 use Rattle.iloc_timed.specs.declared.row.Row.{Row}
 use Rattle.iloc_timed.specs.Rows.{row_at, slots, issue_cycle, times_issued, keeps_units, IsTable}
 use Rattle.iloc_sched.specs.Renaming.{renamed}
-use Rattle.iloc_sched.specs.Priority.{priorities}
-use Rattle.iloc_sched.specs.Greedy.{ready, chosen, IsGreedy}
+use Rattle.iloc_sched.specs.Greedy.{ready, chosen, IsGreedyBy}
 use Rattle.iloc_sched.specs.Steps.Choosing.{IsChosenSoFar}
 use Rattle.iloc_sched.specs.Steps.Members.{In}
 use Rattle.iloc_sched.proofs.Basics.Members.{in_from}
@@ -19,45 +18,46 @@ use Rattle.iloc_sched.proofs.Choice.Ready.{IsReady, ready_means, ready_kept}
 use Rattle.iloc_sched.proofs.Choice.ChosenRows.{chosen_units, chosen_in, once_in}
 use Rattle.iloc_sched.proofs.DelayPairs.WaitedFor.{Waits}
 
-pub chosen_more : (lat : Latencies) (ops : List Op) (rows : List Row) (row : Row) → IsChosenSoFar lat ops rows
-    → row ≡ chosen ops (priorities lat ops) (ready lat ops rows (length rows))
-    → IsChosenSoFar lat ops (rows ++ row ∷ [])
-chosen_more lat ops rows row so_far is c below =
+pub chosen_more : (prios : List ℕ) (lat : Latencies) (ops : List Op) (rows : List Row) (row : Row) → IsChosenSoFar prios lat ops rows
+    → row ≡ chosen ops prios (ready lat ops rows (length rows))
+    → IsChosenSoFar prios lat ops (rows ++ row ∷ [])
+chosen_more prios lat ops rows row so_far is c below =
     let longer : length (rows ++ row ∷ []) ≡ length rows + 1 = length_push rows row in
     elim (cases_lt c (length rows)) [
       | inl before ↦
           row_at_more rows row c before
           ∙ so_far c before
-          ∙ ap (chosen ops (priorities lat ops)) (sym (ready_kept lat ops rows row c (omega arith)))
+          ∙ ap (chosen ops prios) (sym (ready_kept lat ops rows row c (omega arith)))
       | inr last ↦
           let here : c ≡ length rows = omega arith in
           ap (row_at (rows ++ row ∷ [])) here
           ∙ row_at_last rows row
           ∙ is
-          ∙ ap (chosen ops (priorities lat ops)) (sym (ready_kept lat ops rows row (length rows) (omega arith)))
-          ∙ ap (λ k. chosen ops (priorities lat ops) (ready lat ops (rows ++ row ∷ []) k)) (sym here)
+          ∙ ap (chosen ops prios) (sym (ready_kept lat ops rows row (length rows) (omega arith)))
+          ∙ ap (λ k. chosen ops prios (ready lat ops (rows ++ row ∷ []) k)) (sym here)
     ]
 
-module _ (lat : Latencies) (ops : List Op) (rows : List Row) (so_far : IsChosenSoFar lat ops rows) where
+module _ (prios : List ℕ) (lat : Latencies) (ops : List Op) (rows : List Row)
+    (so_far : IsChosenSoFar prios lat ops rows) where
   -- what stands in a row was ready
   pub was_ready : (c i : ℕ) → In (slots (row_at rows c)) i → IsReady lat ops rows c i
   was_ready c i there = elim (cases_lt c (length rows)) [
     | inl below ↦
         ready_means lat ops rows c i
-        (chosen_in ops (priorities lat ops) (ready lat ops rows c) i
+        (chosen_in ops prios (ready lat ops rows c) i
         (subst (λ row. In (slots row) i) (so_far c below) there))
     | inr past ↦ absurd (subst (λ row. In (slots row) i) (row_at_past rows c past) there)
   ]
 
   stands_once : (c i : ℕ) → c < length rows → In (slots (row_at rows c)) i → count_in (row_at rows c) i ≡ 1
   stands_once c i below there =
-      let row_is : row_at rows c ≡ chosen ops (priorities lat ops) (ready lat ops rows c) = so_far c below in
-      ap (λ row. count_in row i) row_is ∙ once_in ops (priorities lat ops) (ready lat ops rows c) i
+      let row_is : row_at rows c ≡ chosen ops prios (ready lat ops rows c) = so_far c below in
+      ap (λ row. count_in row i) row_is ∙ once_in ops prios (ready lat ops rows c) i
       (subst (λ row. In (slots row) i) row_is there)
 
   units_kept : (c : ℕ) → IsTrue (keeps_units ops (row_at rows c))
   units_kept c = elim (cases_lt c (length rows)) [
-    | inl below ↦ ap (keeps_units ops) (so_far c below) ∙ chosen_units ops (priorities lat ops) (ready lat ops rows c)
+    | inl below ↦ ap (keeps_units ops) (so_far c below) ∙ chosen_units ops prios (ready lat ops rows c)
     | inr past ↦ ap (keeps_units ops) (row_at_past rows c past)
   ]
 
@@ -79,14 +79,14 @@ module _ (lat : Latencies) (ops : List Op) (rows : List Row) (so_far : IsChosenS
       units = units_kept;
     }
 
-pub chosen_is_greedy : (lat : Latencies) (block ops : List Op) (rows : List Row) → ops ≡ renamed block
-    → IsChosenSoFar lat ops rows → ((i : ℕ) → i < length ops → issue_cycle rows i < length rows)
-    → ((c : ℕ) → length rows ≡ c + 1 → slots (row_at rows c) ≢ []) → IsGreedy lat block ops rows
-chosen_is_greedy lat block ops rows names so_far all_issued last = record {
+pub chosen_is_greedy : (prios : List ℕ) (lat : Latencies) (block ops : List Op) (rows : List Row) → ops ≡ renamed block
+    → IsChosenSoFar prios lat ops rows → ((i : ℕ) → i < length ops → issue_cycle rows i < length rows)
+    → ((c : ℕ) → length rows ≡ c + 1 → slots (row_at rows c) ≢ []) → IsGreedyBy prios lat block ops rows
+chosen_is_greedy prios lat block ops rows names so_far all_issued last = record {
   lawful = record {
     names = names;
-    table = is_table lat ops rows so_far all_issued;
-    waits = waited lat ops rows so_far all_issued;
+    table = is_table prios lat ops rows so_far all_issued;
+    waits = waited prios lat ops rows so_far all_issued;
   };
   last = last;
   each = so_far;

@@ -4,7 +4,6 @@ use Rattle.iloc_meaning.specs.Trace.{op_at}
 use Rattle.iloc_ops.specs.declared.op.Op.{Op}
 use Rattle.iloc_timed.specs.declared.row.Row.{Row}
 use Rattle.iloc_timed.specs.Kinds.{kind}
-use Rattle.iloc_sched.specs.Priority.{priorities}
 use Rattle.iloc_sched.specs.declared.candidate.Candidate.{Candidate}
 use Rattle.iloc_sched.specs.declared.class.Class.{Class}
 use Rattle.iloc_sched.specs.declared.plan.Plan.{Plan}
@@ -24,11 +23,11 @@ use Rattle.iloc_sched.specs.Steps.Views.{graph_of, issued_list, progress_of, IsS
 abbrev pub class_at : List Op → ℕ → Class
 class_at ops i = class_of (kind (op_at ops i))
 
--- a plan has the kinds, the edges and the priorities of its operations
+-- a plan has the kinds and the edges of its operations, and a priority for each
 pub record IsPlan (p : Plan) : Type 0 where
   pub kinds : p.kinds.items ≡ map kind p.ops.items
   pub graph : IsGraphOf p.latencies p.ops.items (graph_of p.edges)
-  pub priorities : p.priorities.items ≡ priorities p.latencies p.ops.items
+  pub priorities : length p.priorities.items ≡ length p.ops.items
   pub starts : length p.edges.starts.items ≡ length p.edges.heads.items + 1
 
 -- the queues have just what can be issued, by class
@@ -61,7 +60,7 @@ pub record IsUnderWay (p : Plan) (w : Waiting) (q : Queues) (f : ℕ) : Type 0 w
 pub record IsSoFar (p : Plan) (w : Waiting) (q : Queues) (rows : List Row) : Type 0 where
   pub under_way : IsUnderWay p w q (length rows)
   pub matches : MatchesRows (length p.ops.items) rows (progress_of w).issued
-  pub each : IsChosenSoFar p.latencies p.ops.items rows
+  pub each : IsChosenSoFar p.priorities.items p.latencies p.ops.items rows
 
 -- the choice was taken, and issued at cycle c
 pub record Issues (p : Plan) (w w' : Waiting) (q q' : Queues) (c : ℕ) (choice : Choice) : Type 0 where

@@ -2,7 +2,7 @@ use Rattle.std.proofs.Common.{◌≡◌, ◌+◌, ◌≤◌, List, [], length, r
 use Rattle.iloc_ops.specs.declared.op.Op.{Op}
 use Rattle.iloc_timed.specs.Rows.{row_at, slots}
 use Rattle.iloc_sched.specs.Renaming.{renamed}
-use Rattle.iloc_sched.specs.Greedy.{IsGreedy}
+use Rattle.iloc_sched.specs.Greedy.{IsGreedyBy}
 use Rattle.iloc_sched.specs.declared.plan.Plan.{Plan}
 use Rattle.iloc_sched.specs.Steps.SoFar.{IsSoFar, waiting_count}
 use Rattle.iloc_sched.proofs.Choice.NextRow.{few_rows, greedy_at_end}
@@ -53,6 +53,6 @@ returns-clause-greedy c =
     let inv = c.loop-left.invariant in
     let left : c.loop-left.left ≡ waiting_count c.loop-left.self.waiting = inv.left in
     subst (λ (p : Plan). (block : List Op) → p.ops.items ≡ renamed block
-    → IsGreedy p.latencies block p.ops.items c.loop-left.self.rows.items) inv.same
+    → IsGreedyBy p.priorities.items p.latencies block p.ops.items c.loop-left.self.rows.items) inv.same
     (λ block is. greedy_at_end c.loop-left.self.plan c.loop-left.self.waiting c.loop-left.self.queues
     c.loop-left.self.rows.items block inv.plan inv.so_far (omega arith) (inv.last (omega arith)) is)

@@ -1,10 +1,9 @@
-use Rattle.std.proofs.Common.{◌≡◌, ◌<◌, ◌≤◌, length, ap, sym, subst, ◌∙◌, arith}
+use Rattle.std.proofs.Common.{◌≡◌, ◌<◌, ◌≤◌, length, ap, sym, subst, arith}
 use Rattle.iloc_sched.specs.declared.candidate.Candidate.{Candidate}
 use Rattle.iloc_sched.specs.declared.waiting.Waiting.{Waiting}
 use Rattle.iloc_sched.specs.Steps.Changes.{HasNone}
 use Rattle.iloc_sched.specs.Steps.Queued.{candidates}
 use Rattle.iloc_sched.specs.Steps.SoFar.{IsReleasing}
-use Rattle.iloc_sched.proofs.PriorityValues.Longest.{length-priorities}
 use Rattle.iloc_sched.proofs.Choice.IssuedChoice.{due_linked, taken_there, taken_new, releasing_more, released}
 use Rattle.iloc_sched.proofs.waiting.Waiting.release.Goals as goal
 
@@ -26,8 +25,7 @@ candidate-candidate-requires c =
     let there : c.in-Some.j < length p.ops.items =
     taken_there p c.args.self.now c.loop-j.self c.args.queues.now c.loop-j.queues c.args.cycle
     c.requires.plan c.requires.under_way c.loop-j.invariant c.take.new.self c.in-Some.j c.in-Some.ensures.taken in
-    let size : length p.priorities.items ≡ length p.ops.items =
-    ap length c.requires.plan.priorities ∙ length-priorities p.latencies p.ops.items in
+    let size : length p.priorities.items ≡ length p.ops.items = c.requires.plan.priorities in
     omega arith
 
 pub insert-requires : goal.insert-requires

@@ -1,0 +1,155 @@
+-- Which operations depend on which, step by step; for `Heuristic::Descendants`.
+use Rattle.std.proofs.Common.{◌≡◌, ℕ, ◌+◌, ◌<◌, ◌≤◌, zero, suc, Bool, true, false, ◌==◌, ◌||◌, ◌&&◌, List, [], ◌∷◌, length, ◌⊎◌, inl, inr, refl, sym, arith}
+use Rattle.std.specs.Prelude.{nat_lt}
+use Rattle.std.specs.List.{range_with_len}
+use Rattle.std.proofs.lemmas.Bool.{ltb-true, lt-ltb, and_parts, eq-eqb, true≢false}
+use Rattle.iloc_ops.specs.declared.op.Op.{Op}
+use Rattle.iloc_meaning.specs.Trace.{op_at}
+use Rattle.iloc_timed.specs.declared.latencies.Latencies.{Latencies}
+use Rattle.iloc_sched.specs.Delays.{delays, IsDelayPair}
+use Rattle.iloc_sched.specs.Heuristics.{waits_for, depends, depends_on}
+use Rattle.iloc_sched.specs.Steps.Members.{In}
+use Rattle.iloc_sched.specs.Steps.Dependents.{Reaches}
+use Rattle.iloc_sched.proofs.Basics.Members.{contains_from, in_from, any_at, from_any, in_range_from, from_range}
+use Rattle.std.proofs.lemmas.Bool.{eqb-true}
+
+both : (a b : Bool) → a ≡ true → b ≡ true → (a && b) ≡ true
+both true b first second = second
+both false b first second = absurd (true≢false (sym first))
+
+either : (a b : Bool) → (a ≡ true) ⊎ (b ≡ true) → (a || b) ≡ true
+either true b one = refl
+either false b (inl first) = absurd (true≢false (sym first))
+either false b (inr second) = second
+
+from_either : (a b : Bool) → (a || b) ≡ true → (a ≡ true) ⊎ (b ≡ true)
+from_either true b one = inl refl
+from_either false b one = inr one
+
+-- a list with a member isn't empty, and the other way round
+not_empty : (ds : List ℕ) (d : ℕ) → In ds d → nat_lt 0 (length ds) ≡ true
+not_empty [] d there = absurd there
+not_empty (x ∷ ds) d there = lt-ltb 0 (length (x ∷ ds)) (omega arith)
+
+some_delay : (ds : List ℕ) → nat_lt 0 (length ds) ≡ true → (d : ℕ) × In ds d
+some_delay [] some = absurd (true≢false (sym some))
+some_delay (d ∷ ds) some = (d, inl refl)
+
+pair_waits : (lat : Latencies) (ops : List Op) (i k d : ℕ) → IsDelayPair lat ops i k d → waits_for lat ops i k ≡ true
+pair_waits lat ops i k d pair =
+    both (nat_lt i k) (nat_lt 0 (length (delays lat (op_at ops i) (op_at ops k)))) (lt-ltb i k pair.order)
+    (not_empty (delays lat (op_at ops i) (op_at ops k)) d (in_from (delays lat (op_at ops i) (op_at ops k)) d pair.delay))
+
+waits_pair : (lat : Latencies) (ops : List Op) (i k : ℕ) → k < length ops → waits_for lat ops i k ≡ true
+    → (d : ℕ) × IsDelayPair lat ops i k d
+waits_pair lat ops i k within waits =
+    let parts = and_parts (nat_lt i k) (nat_lt 0 (length (delays lat (op_at ops i) (op_at ops k)))) waits in
+    let found = some_delay (delays lat (op_at ops i) (op_at ops k)) parts.1 in (
+      found.0,
+      record {
+        order = ltb-true i k parts.0;
+        within = within;
+        delay = contains_from (delays lat (op_at ops i) (op_at ops k)) found.0 found.1;
+      },
+    )
+
+-- operation j is operation k, or at most n delays lead there
+abbrev ReachesBy : Latencies → List Op → ℕ → ℕ → ℕ → Type 0
+ReachesBy lat ops n k j = (k ≡ j) ⊎ (depends lat ops n k j ≡ true)
+
+one_more : (lat : Latencies) (ops : List Op) (n i k j d : ℕ) → IsDelayPair lat ops i k d → ReachesBy lat ops n k j
+    → depends lat ops (suc n) i j ≡ true
+one_more lat ops n i k j d pair rest =
+    any_at (λ m. waits_for lat ops i m && ((m == j) || depends lat ops n m j)) (range_with_len 0 (length ops)) k
+    (in_range_from 0 (length ops) k (omega arith) (let within : k < length ops = pair.within in omega arith))
+    (both (waits_for lat ops i k) ((k == j) || depends lat ops n k j) (pair_waits lat ops i k d pair)
+    (either (k == j) (depends lat ops n k j)
+    (elim rest [ inl same ↦ inl (eq-eqb k j same) | inr further ↦ inr further ])))
+
+-- the first delay of a chain
+record Begins (lat : Latencies) (ops : List Op) (n i j : ℕ) : Type 0 where
+  to : ℕ
+  delay : ℕ
+  pair : IsDelayPair lat ops i to delay
+  rest : ReachesBy lat ops n to j
+
+one_less : (lat : Latencies) (ops : List Op) (n i j : ℕ) → depends lat ops (suc n) i j ≡ true → Begins lat ops n i j
+one_less lat ops n i j is =
+    let found = from_any (λ m. waits_for lat ops i m && ((m == j) || depends lat ops n m j))
+    (range_with_len 0 (length ops)) is in
+    let k : ℕ = found.0 in
+    let place : (0 ≤ k) × (k < 0 + length ops) = from_range 0 (length ops) k found.1 in
+    let parts = and_parts (waits_for lat ops i k) ((k == j) || depends lat ops n k j) found.2 in
+    let pair = waits_pair lat ops i k (let below : k < 0 + length ops = place.1 in omega arith) parts.0 in
+    record {
+      to = k;
+      delay = pair.0;
+      pair = pair.1;
+      rest = elim (from_either (k == j) (depends lat ops n k j) parts.1) [
+        | inl same ↦ inl (eqb-true k j same)
+        | inr further ↦ inr further
+      ];
+    }
+
+later : (lat : Latencies) (ops : List Op) (n i j : ℕ) → depends lat ops n i j ≡ true → (i < j) × (j < length ops)
+later lat ops zero i j is = absurd (true≢false (sym is))
+later lat ops (suc n) i j is =
+    let first = one_less lat ops n i j is in
+    let order : i < first.to = first.pair.order in
+    let within : first.to < length ops = first.pair.within in
+    elim first.rest [
+      | inl same ↦ (omega (arith, same), omega (arith, same))
+      | inr further ↦
+          let rest : (first.to < j) × (j < length ops) = later lat ops n first.to j further in
+          let after : first.to < j = rest.0 in (omega arith, rest.1)
+    ]
+
+-- as many delays as there are operations between are enough
+enough : (lat : Latencies) (ops : List Op) (n m i j : ℕ) → depends lat ops n i j ≡ true → j ≤ i + m
+    → depends lat ops m i j ≡ true
+enough lat ops zero m i j is few = absurd (true≢false (sym is))
+enough lat ops (suc n) zero i j is few =
+    let after : i < j = (later lat ops (suc n) i j is).0 in absurd (omega arith)
+enough lat ops (suc n) (suc m) i j is few =
+    let first = one_less lat ops n i j is in
+    let order : i < first.to = first.pair.order in
+    one_more lat ops m i first.to j first.delay first.pair (elim first.rest [
+      | inl same ↦ inl same
+      | inr further ↦ inr (enough lat ops n m first.to j further (omega arith))
+    ])
+
+-- what depends on what waits for operation i depends on i
+pub by_pair : (lat : Latencies) (ops : List Op) (i k j d : ℕ) → IsDelayPair lat ops i k d → Reaches lat ops k j
+    → depends_on lat ops i j ≡ true
+by_pair lat ops i k j d pair rest =
+    let is : depends lat ops (suc (length ops)) i j ≡ true = one_more lat ops (length ops) i k j d pair rest in
+    let within : j < length ops = (later lat ops (suc (length ops)) i j is).1 in
+    enough lat ops (suc (length ops)) (length ops) i j is (omega arith)
+
+-- and the other way round
+pub record FirstPair (lat : Latencies) (ops : List Op) (i j : ℕ) : Type 0 where
+  pub to : ℕ
+  pub delay : ℕ
+  pub pair : IsDelayPair lat ops i to delay
+  pub rest : Reaches lat ops to j
+
+first_of : (lat : Latencies) (ops : List Op) (n i j : ℕ) → depends lat ops n i j ≡ true → FirstPair lat ops i j
+first_of lat ops zero i j is = absurd (true≢false (sym is))
+first_of lat ops (suc n) i j is =
+    let first = one_less lat ops n i j is in
+    let within : j < length ops = (later lat ops (suc n) i j is).1 in
+    record {
+      to = first.to;
+      delay = first.delay;
+      pair = first.pair;
+      rest = elim first.rest [
+        | inl same ↦ inl same
+        | inr further ↦ inr (enough lat ops n (length ops) first.to j further (omega arith))
+      ];
+    }
+
+pub first_pair : (lat : Latencies) (ops : List Op) (i j : ℕ) → depends_on lat ops i j ≡ true → FirstPair lat ops i j
+first_pair lat ops i j is = first_of lat ops (length ops) i j is
+
+pub depends_within : (lat : Latencies) (ops : List Op) (i j : ℕ) → depends_on lat ops i j ≡ true → j < length ops
+depends_within lat ops i j is = (later lat ops (length ops) i j is).1

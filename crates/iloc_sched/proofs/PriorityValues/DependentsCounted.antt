@@ -1,0 +1,119 @@
+-- The bits of the sets are counted, 64 operations at a time; for `Heuristic::Descendants`.
+use Rattle.std.proofs.Common.{◌≡◌, ℕ, zero, suc, ◌+◌, ◌<◌, ◌≤◌, ◌^◌, Bool, true, false, cond, List, map, length, get_or, inl, inr, refl, sym, ◌∙◌, ap, ◌-◌, arith, count_ones}
+use Rattle.std.specs.Prelude.{count_by}
+use Rattle.std.specs.List.{range_with_len}
+use Rattle.std.specs.Int.{bit_at}
+use Rattle.std.specs.Simd.Lanes.{mask_l}
+use Rattle.std.proofs.lemmas.Nat.Bits.{bit_at-lt, bit_at_above, same_from_bits}
+use Rattle.std.proofs.lemmas.Simd.{ones-mask_l, bit_mask_l}
+use Rattle.std.proofs.lemmas.Bool.{cases_lt, true≢false}
+use Rattle.std.proofs.lemmas.List.{get_or_past}
+use Rattle.std.proofs.lemmas.List.Sums.{sum_by-cons}
+use Rattle.std.proofs.lemmas.List.FromFn.{length-map-range_with_len, get_or-map-range_with_len}
+use Rattle.iloc_ops.specs.declared.op.Op.{Op}
+use Rattle.iloc_timed.specs.declared.latencies.Latencies.{Latencies}
+use Rattle.iloc_meaning.proofs.Cases.{by_bool}
+use Rattle.iloc_sched.specs.Heuristics.{depends_on, descendants}
+use Rattle.iloc_sched.specs.Steps.Dependents.{AreMarked}
+use Rattle.iloc_sched.proofs.PriorityValues.Dependents.{depends_within}
+
+count_first : (p : ℕ → Bool) (a n : ℕ) → count_by p (range_with_len a (suc n))
+    ≡ cond (p a) 1 0 + count_by p (range_with_len (suc a) n)
+count_first p a n =
+    let next : a + 1 ≡ suc a = omega arith in
+    sum_by-cons (λ k. cond (p k) 1 0) a (range_with_len (a + 1) n)
+    ∙ ap (λ k. cond (p a) 1 0 + count_by p (range_with_len k n)) next
+
+-- the numbers of a range, up to b and from b on
+count_range : (p : ℕ → Bool) (a m n b : ℕ) → a + m ≡ b → count_by p (range_with_len a (m + n))
+    ≡ count_by p (range_with_len a m) + count_by p (range_with_len b n)
+count_range p a zero n b end =
+    let same : a ≡ b = omega arith in
+    let size : 0 + n ≡ n = omega arith in
+    let left : count_by p (range_with_len a (0 + n)) ≡ count_by p (range_with_len a n) =
+    ap (λ k. count_by p (range_with_len a k)) size in
+    let right : count_by p (range_with_len a n) ≡ count_by p (range_with_len b n) =
+    ap (λ k. count_by p (range_with_len k n)) same in
+    let none : count_by p (range_with_len a 0) ≡ 0 = refl in
+    omega arith
+count_range p a (suc m) n b end =
+    let rest : count_by p (range_with_len (suc a) (m + n))
+    ≡ count_by p (range_with_len (suc a) m) + count_by p (range_with_len b n) =
+    count_range p (suc a) m n b (omega arith) in
+    let size : suc m + n ≡ suc (m + n) = omega arith in
+    let more : count_by p (range_with_len a (suc m + n)) ≡ count_by p (range_with_len a (suc (m + n))) =
+    ap (λ k. count_by p (range_with_len a k)) size in
+    let left = count_first p a (m + n) in
+    let right = count_first p a m in
+    omega arith
+
+none_in_range : (p : ℕ → Bool) (a n : ℕ) → ((k : ℕ) → a ≤ k → p k ≡ false) → count_by p (range_with_len a n) ≡ 0
+none_in_range p a zero none = refl
+none_in_range p a (suc n) none =
+    let rest : count_by p (range_with_len (suc a) n) ≡ 0 = none_in_range p (suc a) n (λ k after. none k (omega arith)) in
+    let not : p a ≡ false = none a (omega arith) in
+    let first : cond {A = ℕ} (p a) 1 0 ≡ 0 = ap (λ (v : Bool). cond {A = ℕ} v 1 0) not in
+    let all : count_by p (range_with_len a (suc n)) ≡ cond {A = ℕ} (p a) 1 0 + count_by p (range_with_len (suc a) n) =
+    count_first p a n in
+    omega arith
+
+-- a set of 64 bits is the mask of what depends on the operation
+mask_is : (p : ℕ → Bool) (base m : ℕ) → m < 2 ^ 64 → ((b : ℕ) → b < 64 → bit_at m b ≡ 1 → p (base + b) ≡ true)
+    → ((b : ℕ) → b < 64 → p (base + b) ≡ true → bit_at m b ≡ 1) → m ≡ mask_l (map p (range_with_len base 64))
+mask_is p base m small only all = same_from_bits m (mask_l (map p (range_with_len base 64))) (λ b.
+    bit b ∙ sym (bit_mask_l (map p (range_with_len base 64)) b))
+  where
+    bit : (b : ℕ) → bit_at m b ≡ cond (get_or (map p (range_with_len base 64)) b false) 1 0
+    bit b = elim (cases_lt b 64) [
+      | inl below ↦
+          by_bool (p (base + b))
+          (λ t. all b below t ∙ sym (ap (λ v. cond v 1 0) (at b below ∙ t)))
+          (λ f. not_set b below f ∙ sym (ap (λ v. cond v 1 0) (at b below ∙ f)))
+      | inr above ↦
+          bit_at_above m 64 b small above
+          ∙ sym (ap (λ v. cond v 1 0) (get_or_past (map p (range_with_len base 64)) b false
+          (let size : length (map p (range_with_len base 64)) ≡ 64 = length-map-range_with_len p base 64 in omega arith)))
+    ]
+      where
+        at : (b : ℕ) → b < 64 → get_or (map p (range_with_len base 64)) b false ≡ p (base + b)
+        at b below = get_or-map-range_with_len p base 64 b (base + b) false below refl
+
+        not_set : (b : ℕ) → b < 64 → p (base + b) ≡ false → bit_at m b ≡ 0
+        not_set b below f =
+            let two : bit_at m b < 2 = bit_at-lt m b in
+            elim (cases_lt (bit_at m b) 1) [
+              | inl none ↦ omega arith
+              | inr one ↦ absurd (let is : p (base + b) ≡ true = only b below (omega arith) in
+                  true≢false (sym is ∙ f))
+            ]
+
+pub counted_more : (lat : Latencies) (ops : List Op) (base i : ℕ) (masks : List ℕ) → AreMarked lat ops base masks
+    → i < length ops → get_or masks i 0 < 2 ^ 64
+    → count_by (depends_on lat ops i) (range_with_len 0 base) + count_ones (get_or masks i 0)
+    ≡ count_by (depends_on lat ops i) (range_with_len 0 (base + 64))
+counted_more lat ops base i masks marked within small =
+    let ones : count_ones (get_or masks i 0) ≡ count_by (depends_on lat ops i) (range_with_len base 64) =
+    ap count_ones (mask_is (depends_on lat ops i) base (get_or masks i 0) small
+    (λ b below. marked.only i b within below) (λ b below. marked.all i b within below))
+    ∙ ones-mask_l (depends_on lat ops i) (range_with_len base 64) in
+    let all : count_by (depends_on lat ops i) (range_with_len 0 (base + 64))
+    ≡ count_by (depends_on lat ops i) (range_with_len 0 base) + count_by (depends_on lat ops i) (range_with_len base 64) =
+    count_range (depends_on lat ops i) 0 base 64 base (omega arith) in
+    omega arith
+
+pub counted_all : (lat : Latencies) (ops : List Op) (i n : ℕ) → length ops ≤ n
+    → count_by (depends_on lat ops i) (range_with_len 0 n) ≡ descendants lat ops i
+counted_all lat ops i n enough =
+    let rest : ℕ = n - length ops in
+    let all : count_by (depends_on lat ops i) (range_with_len 0 (length ops + rest))
+    ≡ count_by (depends_on lat ops i) (range_with_len 0 (length ops))
+    + count_by (depends_on lat ops i) (range_with_len (length ops) rest) =
+    count_range (depends_on lat ops i) 0 (length ops) rest (length ops) (omega arith) in
+    let none : count_by (depends_on lat ops i) (range_with_len (length ops) rest) ≡ 0 =
+    none_in_range (depends_on lat ops i) (length ops) rest (λ k after. by_bool (depends_on lat ops i k)
+    (λ t. let below : k < length ops = depends_within lat ops i k t in absurd (omega arith)) (λ f. f)) in
+    let size : n ≡ length ops + rest = omega arith in
+    let same : count_by (depends_on lat ops i) (range_with_len 0 n)
+    ≡ count_by (depends_on lat ops i) (range_with_len 0 (length ops + rest)) =
+    ap (λ k. count_by (depends_on lat ops i) (range_with_len 0 k)) size in
+    omega arith

@@ -1,0 +1,151 @@
+-- Sets that are joined along the kept edges, the last first, have just the operations that depend on each; for
+-- `Heuristic::Descendants`.
+use Rattle.std.proofs.Common.{◌≡◌, ◌≢◌, ℕ, zero, suc, ◌+◌, ◌<◌, ◌≤◌, max, true, List, length, set, get_or, ◌⊎◌, inl, inr, sym, ◌∙◌, ap, subst, arith}
+use Rattle.std.specs.Prelude.{replicate}
+use Rattle.std.specs.Int.{bit_at}
+use Rattle.std.specs.Int.Bits.{bit_or}
+use Rattle.std.proofs.lemmas.List.{get_or-set_same, get_or-set_other, length-set, get_or-replicate, length-replicate}
+use Rattle.std.proofs.lemmas.Nat.Bits.{bit_at_or, bit_at-lt, bit_at-zero}
+use Rattle.std.proofs.lemmas.Bool.{cases_lt}
+use Rattle.iloc_ops.specs.declared.op.Op.{Op}
+use Rattle.iloc_timed.specs.declared.latencies.Latencies.{Latencies}
+use Rattle.iloc_sched.specs.Delays.{IsDelayPair}
+use Rattle.iloc_sched.specs.Heuristics.{depends_on}
+use Rattle.iloc_sched.specs.Steps.Graph.{Graph, IsGraphOf}
+use Rattle.iloc_sched.specs.Steps.Dependents.{Reaches, IsMarked, AreMarked}
+use Rattle.iloc_sched.proofs.PriorityValues.Dependents.{by_pair, first_pair}
+use Rattle.iloc_sched.proofs.Basics.Cases.{by_eq}
+use Rattle.iloc_sched.proofs.Graph.FarPairs.{near_or_by_way}
+
+in_left_set : (a b i : ℕ) → bit_at a i ≡ 1 → bit_at (bit_or a b) i ≡ 1
+in_left_set a b i is =
+    let or : bit_at (bit_or a b) i ≡ max (bit_at a i) (bit_at b i) = bit_at_or a b i in
+    let small : bit_at b i < 2 = bit_at-lt b i in
+    omega arith
+
+in_right_set : (a b i : ℕ) → bit_at b i ≡ 1 → bit_at (bit_or a b) i ≡ 1
+in_right_set a b i is =
+    let or : bit_at (bit_or a b) i ≡ max (bit_at a i) (bit_at b i) = bit_at_or a b i in
+    let small : bit_at a i < 2 = bit_at-lt a i in
+    omega arith
+
+from_sets : (a b i : ℕ) → bit_at (bit_or a b) i ≡ 1 → (bit_at a i ≡ 1) ⊎ (bit_at b i ≡ 1)
+from_sets a b i is =
+    let or : bit_at (bit_or a b) i ≡ max (bit_at a i) (bit_at b i) = bit_at_or a b i in
+    let first : bit_at a i < 2 = bit_at-lt a i in
+    let second : bit_at b i < 2 = bit_at-lt b i in
+    elim (cases_lt (bit_at a i) 1) [ inl none ↦ inr (omega arith) | inr one ↦ inl (omega arith) ]
+
+module _ (lat : Latencies) (ops : List Op) (graph : Graph) (is : IsGraphOf lat ops graph) (base : ℕ) where
+  pub marked_none : (masks : List ℕ) → masks ≡ replicate graph.ops 0 → IsMarked lat ops graph base masks graph.count
+  marked_none masks are =
+      let size : graph.ops ≡ length ops = is.size in
+      record {
+        size = ap length are ∙ length-replicate graph.ops 0 ∙ is.size;
+        only = λ i b below small one.
+            let none : get_or masks i 0 ≡ 0 =
+            ap (λ xs. get_or xs i 0) are ∙ get_or-replicate graph.ops i 0 0 (omega arith) in
+            let no_bit : bit_at (get_or masks i 0) b ≡ 0 = ap (λ m. bit_at m b) none ∙ bit_at-zero b in
+            absurd (omega arith);
+        over = λ y b after below small reaches. absurd (omega arith);
+      }
+
+  -- what a delay pair leads to is in the set of its source
+  pair_marked : (masks : List ℕ) (x i b : ℕ) → IsMarked lat ops graph base masks x → x ≤ graph.start (i + 1) → b < 64
+      → (n k d : ℕ) → k ≤ i + n → IsDelayPair lat ops i k d → Reaches lat ops k (base + b)
+      → bit_at (get_or masks i 0) b ≡ 1
+  pair_marked masks x i b marked after small zero k d few pair reaches =
+      let order : i < k = pair.order in absurd (omega arith)
+  pair_marked masks x i b marked after small (suc n) k d few pair reaches = elim (near_or_by_way lat ops i k d pair) [
+    | inl near ↦
+        let edge : (y : ℕ) × (y < graph.count) × (graph.to y ≡ k) × (graph.from y ≡ i) × (d ≤ graph.delay y) =
+        is.all i k d pair near in
+        let place : (graph.to edge.0 < graph.ops) × (graph.start (graph.to edge.0) ≤ edge.0)
+        × (edge.0 < graph.start (graph.to edge.0 + 1)) = is.is_graph.to_there edge.0 edge.1 in
+        let order : i < k = pair.order in
+        let to_k : graph.to edge.0 ≡ k = edge.2 in
+        let there : graph.to edge.0 < graph.ops = place.0 in
+        let up : graph.start (i + 1) ≤ graph.start (graph.to edge.0) =
+        is.is_graph.rises (i + 1) (graph.to edge.0) (omega arith) (omega arith) in
+        let first : graph.start (graph.to edge.0) ≤ edge.0 = place.1 in
+        subst (λ f. bit_at (get_or masks f 0) b ≡ 1) edge.3
+        (marked.over edge.0 b (omega arith) edge.1 small (subst (λ t. Reaches lat ops t (base + b)) (sym to_k) reaches))
+    | inr by ↦
+        let order : by.way < k = by.second.order in
+        pair_marked masks x i b marked after small n by.way by.first_delay (omega arith) by.first
+        (inr (by_pair lat ops by.way k (base + b) by.second_delay by.second reaches))
+  ]
+
+  -- the set of i is whole once all edges out of it are done
+  pub marked_from : (masks : List ℕ) (x i b : ℕ) → IsMarked lat ops graph base masks x → x ≤ graph.start (i + 1)
+      → b < 64 → depends_on lat ops i (base + b) ≡ true → bit_at (get_or masks i 0) b ≡ 1
+  marked_from masks x i b marked after small depends =
+      let first = first_pair lat ops i (base + b) depends in
+      pair_marked masks x i b marked after small first.to first.to first.delay (omega arith) first.pair first.rest
+
+  -- edge x is done
+  pub marked_more : (masks masks' : List ℕ) (x from to own : ℕ) → IsMarked lat ops graph base masks (x + 1)
+      → x < graph.count → from ≡ graph.from x → to ≡ graph.to x
+      → ((b : ℕ) → b < 64 → bit_at own b ≡ 1 → to ≡ base + b) → ((b : ℕ) → b < 64 → to ≡ base + b → bit_at own b ≡ 1)
+      → masks' ≡ set masks from (bit_or (get_or masks from 0) (bit_or (get_or masks to 0) own))
+      → IsMarked lat ops graph base masks' x
+  marked_more masks masks' x from to own marked below from_is to_is own_only own_all are =
+      let place : (graph.to x < graph.ops) × (graph.start (graph.to x) ≤ x) × (x < graph.start (graph.to x + 1)) =
+      is.is_graph.to_there x below in
+      let ops_size : graph.ops ≡ length ops = is.size in
+      let size : length masks ≡ length ops = marked.size in
+      let there : graph.to x < graph.ops = place.0 in
+      let earlier : graph.from x < graph.to x = is.is_graph.earlier x below in
+      let late : x < graph.start (graph.to x + 1) = place.2 in
+      let value : get_or masks' from 0 ≡ bit_or (get_or masks from 0) (bit_or (get_or masks to 0) own) =
+      ap (λ xs. get_or xs from 0) are ∙ get_or-set_same masks from _ 0 (omega arith) in
+      let other : (k : ℕ) → k ≢ from → get_or masks' k 0 ≡ get_or masks k 0 =
+      (λ k apart. ap (λ xs. get_or xs k 0) are ∙ get_or-set_other masks from k _ 0 apart) in
+      let grown : (k b : ℕ) → bit_at (get_or masks k 0) b ≡ 1 → bit_at (get_or masks' k 0) b ≡ 1 =
+      (λ k b one. by_eq k from
+      (λ same. ap (λ n. bit_at (get_or masks' n 0) b) same ∙ ap (λ m. bit_at m b) value
+      ∙ in_left_set (get_or masks from 0) (bit_or (get_or masks to 0) own) b
+      (ap (λ n. bit_at (get_or masks n 0) b) (sym same) ∙ one))
+      (λ apart. ap (λ m. bit_at m b) (other k apart) ∙ one)) in
+      let pair : IsDelayPair lat ops from to (graph.delay x) =
+      subst (λ f. IsDelayPair lat ops f to (graph.delay x)) (sym from_is)
+      (subst (λ t. IsDelayPair lat ops (graph.from x) t (graph.delay x)) (sym to_is) (is.sound x below)) in
+      record {
+        size = ap length are ∙ length-set masks from _ ∙ size;
+        only = λ i b within small one. by_eq i from
+            (λ same.
+            elim (from_sets (get_or masks from 0) (bit_or (get_or masks to 0) own) b
+            (sym (ap (λ m. bit_at m b) value) ∙ ap (λ n. bit_at (get_or masks' n 0) b) (sym same) ∙ one)) [
+              | inl old ↦ marked.only i b within small (ap (λ n. bit_at (get_or masks n 0) b) same ∙ old)
+              | inr new ↦
+                  ap (λ n. depends_on lat ops n (base + b)) same
+                  ∙ by_pair lat ops from to (base + b) (graph.delay x) pair
+                  (elim (from_sets (get_or masks to 0) own b new) [
+                    | inl behind ↦ inr (marked.only to b (omega arith) small behind)
+                    | inr itself ↦ inl (own_only b small itself)
+                  ])
+            ])
+            (λ apart. marked.only i b within small (ap (λ m. bit_at m b) (sym (other i apart)) ∙ one));
+        over = λ y b after within small reaches. by_eq y x
+            (λ same.
+            let at_to : Reaches lat ops to (base + b) =
+            subst (λ t. Reaches lat ops t (base + b)) (ap graph.to same ∙ sym to_is) reaches in
+            let behind : bit_at (bit_or (get_or masks to 0) own) b ≡ 1 = elim at_to [
+              | inl itself ↦ in_right_set (get_or masks to 0) own b (own_all b small itself)
+              | inr depends ↦ in_left_set (get_or masks to 0) own b
+                  (marked_from masks (x + 1) to b marked
+                  (subst (λ t. x + 1 ≤ graph.start (t + 1)) (sym to_is) (omega arith)) small depends)
+            ] in
+            ap (λ n. bit_at (get_or masks' n 0) b) (ap graph.from same ∙ sym from_is)
+            ∙ ap (λ m. bit_at m b) value
+            ∙ in_right_set (get_or masks from 0) (bit_or (get_or masks to 0) own) b behind)
+            (λ apart. grown (graph.from y) b (marked.over y b (omega arith) within small reaches));
+      }
+
+  -- all edges are done
+  pub marked_all : (masks : List ℕ) → IsMarked lat ops graph base masks 0 → AreMarked lat ops base masks
+  marked_all masks marked = record {
+    size = marked.size;
+    only = marked.only;
+    all = λ i b within small depends. marked_from masks 0 i b marked (omega arith) small depends;
+  }
