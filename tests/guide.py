@@ -1,5 +1,6 @@
 """Cases of docs/GRADING.md: its commands print what is shown, and make the pictures that it shows; and of its scripts."""
 import os
+import re
 
 from place import TOP, Failed, expect
 from shown import run_shown
@@ -22,6 +23,25 @@ def book(place):
     words = ("--load", "3", "--store", "3", "--mult", "2")
     explained = place.run("ilocfarm", "explain", *words, given=place.read("examples/book.iloc"))[1]
     expect("docs/book.svg", place.run("charts/timeline", *words, given=explained)[1], place.read("docs/book.svg"))
+
+
+def library(_):
+    """docs/LIBRARY.md shows the program of crates/iloc_least, and the lines of crates.txt that it needs."""
+    with open(f"{TOP}/docs/LIBRARY.md", encoding="utf-8") as file:
+        text = file.read()
+    with open(f"{TOP}/crates/iloc_least/src/main.rt", encoding="utf-8") as file:
+        program = "".join(f"    {it}".rstrip() + "\n" for it in file.read().splitlines())
+    expect("the program is shown", program in text, True)
+    with open(f"{TOP}/crates.txt", encoding="utf-8") as file:
+        needs = dict(re.findall(r"^(\w+): (.*)$", file.read(), re.MULTILINE))
+    wanted, left = set(), ["iloc_least"]
+    while left:
+        below = {it for it in needs[left.pop()].split() if it in needs} - wanted
+        wanted |= below
+        left += below
+    shown = dict(re.findall(r"^    (iloc_\w+): (.*)$", text, re.MULTILINE))
+    expect("the crates below", shown, {it: needs[it] for it in wanted})
+    expect("what yours needs", re.findall(r"^    yours: (.*)$", text, re.MULTILINE), [needs["iloc_least"]])
 
 
 def marks_several_blocks(place):
@@ -55,4 +75,4 @@ def marks_nothing_by_mistake(place):
             os.remove(place.path(f"class/{name}"))
 
 
-GUIDE_CASES = (guide, book, marks_several_blocks, marks_nothing_by_mistake)
+GUIDE_CASES = (guide, book, library, marks_several_blocks, marks_nothing_by_mistake)

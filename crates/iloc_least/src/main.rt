@@ -1,0 +1,26 @@
+//! Prints the least cycles that a lawful schedule of each block takes.
+#![tactic(auto)]
+
+use iloc_sched::least;
+use iloc_text::{MAX_OPS, read_file_from};
+use iloc_timed::Latencies;
+use std::process::ExitCode;
+
+fn main(rt: HostRuntime) -> ExitCode {
+    let file = match read_file_from(rt.alloc(), &mut rt.stdin()) {
+        Ok(file) => file,
+        Err(fault) => {
+            let _ = eprintln!(rt; "{fault:?}");
+            return ExitCode::FAILURE;
+        }
+    };
+    for block in file.blocks.as_slice() {
+        if block.ops.as_slice().len() <= MAX_OPS {
+            match least(rt.alloc(), block, &Latencies::usual()) {
+                Ok(cycles) if println!(rt; "{cycles}").is_ok() => {}
+                _ => return ExitCode::FAILURE,
+            }
+        }
+    }
+    ExitCode::SUCCESS
+}
