@@ -1,8 +1,12 @@
 """Cases of charts/: what is drawn, by the tooltips of the pictures, and the pictures that docs/ shows."""
+import random
 import re
 from xml.etree import ElementTree
 
-from place import expect
+from blocks import USUAL
+from explained import Explained
+from labs import lab_block
+from place import expect, needs
 
 SVG = "{http://www.w3.org/2000/svg}"
 # The example of docs/LANGUAGE.md, whose table there gives cycles and reasons.
@@ -107,6 +111,70 @@ def timeline_refuses(place):
     expect("status", place.run("charts/timeline", "--load", "17", given=listing)[0], 2)
 
 
+EDGE = re.compile(r'        b(\d+)_(\d+) -> b\1_(\d+) \[label="(\d+)"')
+
+
+def longest_ways(edges, count):
+    """By two operations the cycles of the longest way from one to the other, where there is a way."""
+    ways = [{j: 0} for j in range(count)]
+    for i, j, d in sorted(edges, key=lambda it: it[1]):
+        for start in range(i + 1):
+            if i in ways[start]:
+                ways[start][j] = max(ways[start].get(j, 0), ways[start][i] + d)
+    return ways
+
+
+def graph(place):
+    """Each edge is the longest delay between its ends, and what waits for the edges waits for all delays; dot reads it."""
+    needs("dot")
+    chance = random.Random(48)
+    made = [lab_block(chance) for _ in range(40)]
+    text = "".join(f"b{k}:\n" + "".join(f"{op}\n" for op in ops) for k, ops in enumerate(made, 1)).encode()
+    dot = place.run("charts/graph", given=place.run("ilocfarm", "explain", given=text)[1])[1]
+    found = {}
+    for block, *edge in EDGE.findall(dot.decode()):
+        found.setdefault(int(block), []).append(tuple(map(int, edge)))
+    for k, ops in enumerate(made, 1):
+        told, edges = Explained(ops, USUAL), found.get(k, [])
+        longest = {}
+        for i, j, d in told.pairs:
+            longest[i, j] = max(d, longest.get((i, j), 0))
+        expect(f"block {k}: edges that are no delay", [it for it in edges if longest.get(it[:2]) != it[2]], [])
+        ways = longest_ways(edges, len(told.ops))
+        expect(f"block {k}: delays that no way keeps", [it for it in longest if ways[it[0]].get(it[1], -1) < longest[it]], [])
+        expect(f"block {k}: edges given twice", len(set(edges)), len(edges))
+    drawn = place.run("dot", "-Tsvg", given=dot)[1].decode()
+    expect("nodes", drawn.count('class="node"'), sum(op.opcode != "nop" for ops in made for op in ops))
+    expect("edges", drawn.count('class="edge"'), sum(map(len, found.values())))
+
+
+def graph_in_readme(place):
+    """The picture of the book's example has the nodes and edges that the script writes today; dot laid it out once."""
+    words = ("--load", "3", "--store", "3", "--mult", "2")
+    explained = place.run("ilocfarm", "explain", *words, given=place.read("examples/book.iloc"))[1]
+    dot = place.run("charts/graph", *words, given=explained)[1].decode()
+    root = ElementTree.fromstring(place.read("docs/graph.svg"))
+    titles = [it.find(f"{SVG}title").text for it in root.iter(f"{SVG}g") if it.get("class") in ("node", "edge")]
+    expect("edges", sorted(it for it in titles if ">" in it), sorted(f"b{k}_{i}->b{k}_{j}" for k, i, j, _ in EDGE.findall(dot)))
+    expect("nodes", sorted(it for it in titles if ">" not in it), sorted(re.findall(r"^        (\w+) \[", dot, re.MULTILINE)))
+
+
+def graph_of_near_edges(place):
+    """The nearest edges alone: the second load waits for the second store, and not for the first."""
+    text = b"storeAI r1 => r0, 0\nstoreAI r2 => r0, 4\nload r0 => r3\nloadAI r0, 4 => r4\nstore r3 => r0\n"
+    explained = place.run("ilocfarm", "explain", given=text)[1]
+    edges = EDGE.findall(place.run("charts/graph", given=explained)[1].decode())
+    expect("edges", [tuple(map(int, it[1:])) for it in edges],
+           [(0, 1, 1), (1, 2, 5), (1, 3, 5), (1, 4, 1), (2, 4, 5), (3, 4, 1)])
+    listing = place.run("ilocfarm", "schedule", given=text)[1]
+    for words, given, said in (([], listing, b"only a listing of explain can be drawn as a graph"),
+                               (["--block", "2"], explained, b"the listing has no block 2"),
+                               (["--load", "9"], explained,
+                                b"these are not the latencies of the listing: give them by --load, --store and --mult")):
+        expect(f"graph {words}", place.run("charts/graph", *words, given=given),
+               (1, b"", b"charts/graph: " + said + b"\n"))
+
+
 def compare(place):
     place.write("one", b"block 1 - cycles 4\nblock 2 b cycles 20\ntotal 24\n")
     place.write("two", b"block 1 x cycles 6\nblock 2 y cycles 0\ntotal 6\n")
@@ -197,6 +265,7 @@ def compare_refuses(place):
     expect("status", place.run("charts/compare", "one", "nowhere")[0], 4)
 
 
-CHART_CASES = (timeline, timeline_explained, timeline_of_many, timeline_of_rows_alone, timeline_refuses, compare,
+CHART_CASES = (timeline, timeline_explained, timeline_of_many, timeline_of_rows_alone, timeline_refuses, graph,
+               graph_in_readme, graph_of_near_edges, compare,
                compare_checked, compare_leaves_wrong_ones_out, compare_tells_columns_apart, compare_of_many,
                compare_refuses, devices_fail)

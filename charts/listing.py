@@ -1,0 +1,150 @@
+"""Listings of `schedule` and `explain`, and rows as `check` reads them, for the scripts that draw them."""
+import argparse
+import re
+from dataclasses import dataclass, field
+
+from svg import Unread
+
+USUAL = {"load": 5, "store": 5, "mult": 3}
+COLOURS = {"load": "#6cb6ff", "store": "#b392f0", "product": "#f0a35e", "output": "#6fce7c", "other": "#b9c0c8"}
+CHAIN = "#e5484d"
+HEADER = re.compile(r"block (\d+) (\S+)")
+ROW = re.compile(r"\[ *(.+?) *; *(.+?) *\]")
+COMMENT = re.compile(r"//.*")
+CYCLES = re.compile(r"cycles (\d+)(?: least (\d+).*)?")
+CHAINED = re.compile(r"chain (?:-|(\d+(?: \d+)*))")
+EXPLAINED = re.compile(r"(\d+) cycle (\d+) unit ([01]) ready (\d+) after (-|\d+(?:,\d+)*) priority (\d+) "
+                       r"(.+?) ; (.+)")
+REGISTER = re.compile(r"\br\d+\b")
+NOTHING = re.compile(r"total \d+.*")
+
+
+@dataclass
+class Operation:
+    spelling: str       # as renamed
+    cycle: int
+    unit: int
+    number: int = -1    # in the block; what follows is an `explain`'s alone
+    source: str = ""    # as it stands in the block
+    ready: int = 0
+    after: str = ""
+    priority: int = 0
+
+    def opcode(self):
+        return self.spelling.split()[0]
+
+    def kind(self):
+        name = self.opcode()
+        kinds = {"load": "load", "loadAI": "load", "store": "store", "storeAI": "store", "mult": "product",
+                 "multI": "product", "output": "output"}
+        return kinds.get(name, "other")
+
+    def arrival(self, latencies):
+        return self.cycle + latencies.get(self.kind(), 1)
+
+    def registers(self):
+        """Those left of the arrow, and those right of it."""
+        left, _, right = self.spelling.partition("=>")
+        return REGISTER.findall(left), REGISTER.findall(right)
+
+    def defined(self):
+        return None if self.kind() == "store" else next(iter(self.registers()[1]), None)
+
+    def used(self):
+        left, right = self.registers()
+        return left + right if self.kind() == "store" else left
+
+    def label(self):
+        return self.spelling if self.number < 0 else f"{self.number}: {self.spelling}"
+
+    def told(self, latencies):
+        lines = [self.spelling, f"unit {self.unit}, issued at {self.cycle}, arrives at {self.arrival(latencies)}"]
+        if self.number >= 0:
+            waited = "none" if self.after == "-" else self.after.replace(",", " and ")
+            lines += [f"number {self.number}: {self.source}", f"ready at {self.ready}, waited last for {waited}",
+                      f"priority {self.priority}"]
+        return "\n".join(lines)
+
+
+@dataclass
+class Listed:
+    """A block of a listing."""
+    number: int
+    name: str
+    operations: list = field(default_factory=list)
+    rows: int = 0
+    is_headed: bool = True
+    cycles: int = 0
+    least: str = ""
+    chain: list = field(default_factory=list)
+
+    def take(self, line):
+        """Reads a line below the block's header, and says whether it is one."""
+        if found := ROW.fullmatch(line):
+            for unit, spelling in enumerate(found.groups()):
+                if spelling != "nop":
+                    self.operations.append(Operation(spelling, self.rows, unit))
+            self.rows += 1
+        elif found := EXPLAINED.fullmatch(line):
+            number, cycle, unit, ready, after, priority, source, spelling = found.groups()
+            self.operations.append(Operation(spelling, int(cycle), int(unit), int(number), source, int(ready), after,
+                                             int(priority)))
+            self.rows = max(self.rows, int(cycle) + 1)
+        elif found := CYCLES.fullmatch(line):
+            self.cycles, self.least = int(found[1]), found[2] or ""
+        elif found := CHAINED.fullmatch(line):
+            self.chain = [int(it) for it in (found[1] or "").split()]
+        else:
+            return False
+        return True
+
+
+    def end(self, latencies):
+        return max((it.arrival(latencies) for it in self.operations), default=0)
+
+    def check(self, latencies):
+        """Refuses latencies that the listing can't have: it has other cycles then, or reads a register too early."""
+        arrivals = {it.defined(): it.arrival(latencies) for it in self.operations}
+        too_early = any(arrivals.get(name, 0) > it.cycle for it in self.operations for name in it.used())
+        if too_early or self.end(latencies) != self.cycles:
+            raise Unread("these are not the latencies of the listing: give them by --load, --store and --mult")
+
+
+def read_blocks(lines):
+    """The blocks one after the other; rows without a header are block 1."""
+    block = Listed(1, "-", is_headed=False)
+    for at, line in enumerate(lines, 1):
+        text = " ".join(COMMENT.sub("", line).split())
+        if found := HEADER.fullmatch(text):
+            if block.is_headed or block.rows:
+                yield block
+            block = Listed(int(found[1]), found[2])
+        elif text and not block.take(text) and not NOTHING.fullmatch(text):
+            raise Unread(f"line {at} is none of a listing of schedule or explain: {line}")
+    if block.is_headed or block.rows:
+        yield block
+
+
+def read_block(lines, wanted):
+    found = next((it for it in read_blocks(lines) if it.number == wanted), None)
+    if not found:
+        raise Unread(f"the listing has no block {wanted}")
+    return found
+
+
+def parser(name, usage):
+    """A command line with the latencies."""
+    made = argparse.ArgumentParser(prog=name, description=usage, formatter_class=argparse.RawDescriptionHelpFormatter)
+    for option, usual in USUAL.items():
+        made.add_argument(f"--{option}", metavar="N", type=int, choices=range(1, 17), default=usual)
+    return made
+
+
+def latencies(asked):
+    return {"load": asked.load, "store": asked.store, "product": asked.mult}
+
+
+def lines():
+    """Those of standard input."""
+    with open(0, encoding="utf-8", errors="replace", closefd=False) as given:
+        return given.read().splitlines()
