@@ -156,6 +156,12 @@ def installs_nothing_by_mistake(place):
     expect("install", (status == 0, out, bool(err)), (False, b"", True))
 
 
+def changes_have_the_version(place):
+    """The first version in CHANGELOG.md is the one that the program names."""
+    first = re.search(r"^## (\S+)", read(f"{TOP}/CHANGELOG.md").decode(), re.MULTILINE)[1]
+    expect("--version", place.run("ilocfarm", "--version"), (0, f"ilocfarm {first}\n".encode(), b""))
+
+
 def tests_want_a_program(place):
     """The scripts of tests/ that take a program end with a message where they are given none."""
     for name in ("run", "cluster", "beside"):
@@ -168,4 +174,4 @@ def tests_want_a_program(place):
 
 MANUAL_CASES = (page_is_the_helps, page_has_no_slips, page_examples, help_in_three_ways, completes,
                 completes_on_a_terminal, completes_in_fish, installs,
-                installs_nothing_by_mistake, tests_want_a_program)
+                installs_nothing_by_mistake, changes_have_the_version, tests_want_a_program)
