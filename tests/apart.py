@@ -1,9 +1,8 @@
 """Long texts, which as many threads read as there are workers: whatever their number, each text ends as by one."""
 import inputs
 from check import Check, told
+from limits import MOST_BLOCKS, MOST_OPERATIONS
 
-MOST_BLOCKS = inputs.MAX_BLOCKS
-MOST_OPERATIONS = inputs.MAX_OPERATIONS
 REGISTERS = [f"r{number}" for number in range(24)]
 COUNT = 900
 

@@ -9,6 +9,7 @@ from typing import Optional
 
 from case import Case, listed, refused
 from check import COMMANDS
+from limits import MOST_BLOCKS
 from stored import CASES
 
 
@@ -26,7 +27,6 @@ BAD = b"nop\nnop nop\n"
 LONG = b"A:\n" * 10_000
 UNREAD = b"reading failed"
 UNWRITTEN = b"writing failed"
-MOST_BLOCKS = 65_535
 MOST_KIB = 64 * 1024
 
 

@@ -1,8 +1,9 @@
 """Rows whose verdicts stand here beside their blocks, and lines of schedules that are refused; 9 stands at 4, else 0."""
 from blocks import USUAL
 from case import Case
+from limits import MOST_BLOCKS, MOST_BYTES, MOST_OPERATIONS
 from machine import row_text, words_from
-from reading import MOST_BLOCKS, MOST_BYTES, MOST_OPERATIONS, read
+from reading import read
 from verdicts import ENTRY, NOT_SAME, entries_of, total
 
 WORDS = ["check", "--at", "4", "9"]

@@ -1,9 +1,9 @@
 """Blocks as students get them, what is known of their words and addresses, and a plain list scheduler."""
 from blocks import Op, beside, delays
+from limits import MAX_NUMBER
 from machine import COMPUTED, MASK
 
 FREE = ("add", "sub", "mult", "lshift", "rshift")
-MAX_NUMBER = 2_147_483_647
 
 
 def lab_block(chance):

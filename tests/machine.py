@@ -1,6 +1,6 @@
 """What blocks and rows of operations do on a memory: run plainly, and on the timed machine with its two units."""
+from limits import WORDS
 
-WORDS = 16_384
 MASK = 0xFFFF_FFFF
 
 

@@ -1,10 +1,7 @@
 """Inputs at the limits, which are too long to store."""
 from case import listed, refused
+from limits import MOST_BLOCKS, MOST_BYTES, MOST_OPERATIONS, WORDS
 
-LONGEST = 16_777_216
-MOST_BLOCKS = 65_535
-MOST_OPERATIONS = 10_000
-MOST_WORDS = 16_384
 DIGITS = 1_000_000
 
 
@@ -19,10 +16,10 @@ def made_cases():
 
 def texts():
     too_long = b"input longer than 16777216 bytes"
-    yield listed("made/longest_text", b"\n" * LONGEST, b"")
-    yield refused("made/text_too_long", b"\n" * (LONGEST + 1), too_long)
-    yield refused("made/long_bad_line", b"." * LONGEST, b"line 1: not understood")
-    yield refused("made/too_long_and_bad", b"." * (LONGEST + 1), too_long)
+    yield listed("made/longest_text", b"\n" * MOST_BYTES, b"")
+    yield refused("made/text_too_long", b"\n" * (MOST_BYTES + 1), too_long)
+    yield refused("made/long_bad_line", b"." * MOST_BYTES, b"line 1: not understood")
+    yield refused("made/too_long_and_bad", b"." * (MOST_BYTES + 1), too_long)
 
 
 def numbers():
@@ -75,7 +72,7 @@ def schedules():
 
 
 def words():
-    numbers = [str(k) for k in range(MOST_WORDS)]
+    numbers = [str(k) for k in range(WORDS)]
     ends = b"output 0\noutput 4\noutput 65532\n"
     misfit = b"the words do not fit into memory"
     yield listed("made/memory_full_of_words", ends, b"block 1 -\n0\n1\n16383\n", ["run", "--at", "0", *numbers])

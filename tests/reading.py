@@ -3,8 +3,8 @@ import re
 from dataclasses import dataclass, field
 
 from blocks import FORMS, Op
+from limits import MAX_NUMBER, MOST_BLOCKS, MOST_BYTES, MOST_OPERATIONS
 
-MOST_BYTES, MOST_BLOCKS, MOST_OPERATIONS, MAX_NUMBER = 16_777_216, 65_535, 10_000, 2_147_483_647
 BLANKS = b" \t\r"
 NAME = rb"[A-Za-z][A-Za-z0-9_]*"
 TOKENS = {"u": rb"r([0-9]+)", "d": rb"r([0-9]+)", "c": rb"([0-9]+)", ", ": rb"[ \t\r]*,[ \t\r]*",

@@ -11,7 +11,7 @@ import inputs
 import measure
 from check import COMMANDS, Check, told
 from judging import TOO_MANY
-from made import LONGEST, MOST_BLOCKS, MOST_OPERATIONS
+from limits import MOST_BLOCKS, MOST_BYTES, MOST_OPERATIONS
 from measure import contents
 from refusals import NO_MEMORY
 from verdicts import NOT_SAME
@@ -46,7 +46,7 @@ def refused(name, make, line, commands=COMMANDS):
 
 
 def filled(part):
-    return part * (LONGEST // len(part))
+    return part * (MOST_BYTES // len(part))
 
 
 def blocks_of(*lines):
@@ -71,13 +71,13 @@ def plain_inputs():
     many_loads = f"line {MOST_OPERATIONS + 1}: more than 10000 operations in a block"
     many_blocks = f"line {MOST_BLOCKS + 1}: more than 65535 blocks"
     bad = "line 1: not understood"
-    yield taken("line ends", lambda: b"\n" * LONGEST, *nothing)
-    yield taken("blanks", lambda: b" \t\r " * (LONGEST // 4), *nothing)
-    yield taken("slashes", lambda: b"/" * LONGEST, *nothing)
-    yield refused("digits", lambda: b"7" * LONGEST, bad)
-    yield refused("a word", lambda: b"A" * LONGEST, bad)
-    yield taken("a name", lambda: b"A" * (LONGEST - 1) + b":", *long_name)
-    yield taken("a number", lambda: b"loadI " + b"0" * (LONGEST - 14) + b"8 => r1\n", "block 1 -\n",
+    yield taken("line ends", lambda: b"\n" * MOST_BYTES, *nothing)
+    yield taken("blanks", lambda: b" \t\r " * (MOST_BYTES // 4), *nothing)
+    yield taken("slashes", lambda: b"/" * MOST_BYTES, *nothing)
+    yield refused("digits", lambda: b"7" * MOST_BYTES, bad)
+    yield refused("a word", lambda: b"A" * MOST_BYTES, bad)
+    yield taken("a name", lambda: b"A" * (MOST_BYTES - 1) + b":", *long_name)
+    yield taken("a number", lambda: b"loadI " + b"0" * (MOST_BYTES - 14) + b"8 => r1\n", "block 1 -\n",
                 "block 1 -\n[ loadI 8 => r0 ; nop ]\ncycles 1\n", "block 1 - cycles 1\n",
                 "block 1 -\n0 cycle 0 unit 0 ready 0 after - priority 1 loadI 8 => r1 ; loadI 8 => r0\n")
     yield refused("labels", lambda: filled(b"A:\n"), many_blocks)
@@ -149,10 +149,10 @@ def judged_inputs(place):
         b"A:\nload r0 => r1\n" + b"store r1 => r1\nload r1 => r1\n" * 4999), same)
     yield judged("own rows, a table", lambda: own(b"A:\nload r0 => r1\n" + b"".join(
         b"storeAI r1 => r1, %d\nloadAI r1, %d => r2\n" % (4 * k, 4 * (k - k % 7)) for k in range(4999))), same)
-    yield judged("empty rows", lambda: rows(empty * ((LONGEST - 3) // len(empty))), same)
+    yield judged("empty rows", lambda: rows(empty * ((MOST_BYTES - 3) // len(empty))), same)
     yield judged("65,535 heads", lambda: b"A:\n" * MOST_BLOCKS + b"".join(
         b"block %d A\n" % k for k in range(1, MOST_BLOCKS + 1)), same)
-    yield judged("most claims", lambda: rows(b"cycles 7\n" * ((LONGEST - 3) // 9)),
+    yield judged("most claims", lambda: rows(b"cycles 7\n" * ((MOST_BYTES - 3) // 9)),
                  same + b"cycles 0 ours 0 least 0 claimed 7")
     yield judged("a load on the wrong unit", lambda: rows(load * 5000, b"[ nop ; load r0 => r1 ]\n", load * 4999),
                  b"block 1 A units cycles 10004 ours 0 least 0\n  row 5001: [ nop ; load r0 => r1 ]\n")
@@ -161,8 +161,8 @@ def judged_inputs(place):
                   ["check"])
     yield refused("65,535 heads of one block", lambda: rows(b"block 1 A\n" * MOST_BLOCKS), "line 3: no such block",
                   ["check"])
-    yield refused("a row without an end", lambda: b"A:\n[" + b" " * (LONGEST - 4), "line 2: not understood", ["check"])
-    yield refused("a long number", lambda: b"A:\ncycles " + b"9" * (LONGEST - 10), "line 2: number above 2147483647",
+    yield refused("a row without an end", lambda: b"A:\n[" + b" " * (MOST_BYTES - 4), "line 2: not understood", ["check"])
+    yield refused("a long number", lambda: b"A:\ncycles " + b"9" * (MOST_BYTES - 10), "line 2: number above 2147483647",
                   ["check"])
 
 

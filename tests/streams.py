@@ -4,7 +4,7 @@ import resource
 import subprocess
 
 from check import COMMANDS, SECONDS, Check, told
-from made import LONGEST
+from limits import MOST_BYTES
 
 UNREAD = (4, b"", b"ilocfarm: reading failed\n")
 STORES_7 = b"loadI 1024 => r0\nloadI 7 => r1\nstore r1 => r0\noutput 1024\n"
@@ -94,7 +94,7 @@ def words_alone_decide(place):
 
 def reads_one_byte_too_many(place):
     """Of an input that is too long one byte more is read than a text may have, and no further one."""
-    path = place.stored("given", b"\n" * (LONGEST + 100_000))
+    path = place.stored("given", b"\n" * (MOST_BYTES + 100_000))
     file = os.open(path, os.O_RDONLY)
     try:
         done = subprocess.run([place.program, "run"], stdin=file, capture_output=True, timeout=SECONDS)
@@ -103,7 +103,7 @@ def reads_one_byte_too_many(place):
         os.close(file)
     due = (1, b"", b"ilocfarm: input longer than 16777216 bytes\n")
     yield from differs((done.returncode, done.stdout, done.stderr), due)
-    if read != LONGEST + 1:
+    if read != MOST_BYTES + 1:
         yield f"{read} bytes were read"
 
 

@@ -2,9 +2,9 @@
 (labs.Given), and gives rows, or None where there is nothing of its kind to do."""
 from blocks import Op
 from labs import pairs_of, put, scheduled
-from machine import COMPUTED, WORDS
+from limits import MAX_NUMBER, WORDS
+from machine import COMPUTED
 
-MAX_NUMBER = 2_147_483_647
 MEMORY = ("load", "store")
 
 

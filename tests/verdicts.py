@@ -10,6 +10,7 @@ from functools import cache
 from blocks import words_for
 from check import told
 from explained import Explained
+from limits import WORDS
 from machine import bad_row, cycles, difference, memories, row_text, words_from
 from reading import Refused, read
 
@@ -89,7 +90,7 @@ class Entry:
         """What is wrong with a difference on a memory that the judge made up."""
         made = MADE_UP.fullmatch(detail)
         at, words = (int(made[2]), [*map(int, made[3].split())]) if made else (0, [])
-        if not made or at % 4 or at // 4 + len(words) > 16_384 or self.differs_on(words_from(at, words)) != made[1]:
+        if not made or at % 4 or at // 4 + len(words) > WORDS or self.differs_on(words_from(at, words)) != made[1]:
             yield f"{detail!r} isn't so"
 
 
