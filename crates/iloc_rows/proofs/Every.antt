@@ -9,7 +9,7 @@ use Rattle.iloc_text.specs.Files as files
 use Rattle.iloc_text.specs.Files.{AreLines}
 use Rattle.iloc_text.specs.ScheduleLines.{Said, Says, IsScheduleLine}
 use Rattle.iloc_text.specs.ScheduleLines.Said.{nothing, row, head, cycles, total}
-use Rattle.iloc_text.specs.Steps.Lines.{lines_of}
+use Rattle.iloc_text.specs.Lines.{lines_of}
 use Rattle.iloc_text.specs.Steps.ScheduleScan.{schedule_line_at, is_said_within}
 use Rattle.iloc_text.proofs.Every as files_every
 use Rattle.iloc_text.proofs.ScheduleLines.{said_bad, said_good, said_large}

@@ -8,7 +8,7 @@ use Rattle.iloc_text.specs.declared.fault.ReadFault.TheVariants.{InputTooLong, B
 use Rattle.iloc_text.specs.Files as files
 use Rattle.iloc_text.specs.Files.{AreLines}
 use Rattle.iloc_text.specs.ScheduleLines.{Said, Says}
-use Rattle.iloc_text.specs.Steps.Lines.{lines_of, lines_left}
+use Rattle.iloc_text.specs.Lines.{lines_of, lines_left}
 use Rattle.iloc_text.proofs.Splitting.{lines_are, lines_few}
 use Rattle.iloc_timed.specs.declared.schedule.TheConstants.{MAX_ROWS}
 use Rattle.iloc_rows.specs.declared.fault.RowsFault.{RowsFault}

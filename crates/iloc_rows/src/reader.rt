@@ -1,7 +1,7 @@
 //! The reader: from bytes to blocks and what is proposed for them.
 ghost use Rattle.std.specs.Prelude.{◌≢◌, ◌≤◌, ◌+◌, length, IfOk, IfErr};
 ghost use Rattle.iloc_text.specs.declared.fault.ReadFault.TheVariants.{NoMemory as no_memory};
-ghost use Rattle.iloc_text.specs.Steps.Lines.{lines_left};
+ghost use Rattle.iloc_text.specs.Lines.{lines_left};
 ghost use Rattle.iloc_rows.specs.declared.fault.RowsFault.TheVariants.{Read as read};
 ghost use Rattle.iloc_rows.specs.Submissions.{Denotes, IsRefused, Propose, HaveFirstFault};
 

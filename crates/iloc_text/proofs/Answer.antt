@@ -10,7 +10,7 @@ use Rattle.iloc_text.specs.declared.fault.ReadFault.{ReadFault}
 use Rattle.iloc_text.specs.declared.fault.ReadFault.TheVariants.{InputTooLong, BadLine, NumberTooLarge, TooManyBlocks, TooManyOperations, NoMemory}
 use Rattle.iloc_text.specs.Grammar.{Reads, HasReading, HasWideReading}
 use Rattle.iloc_text.specs.Steps.Scan.{line_at, is_within}
-use Rattle.iloc_text.specs.Steps.Lines.{is_line_end, lines_of}
+use Rattle.iloc_text.specs.Lines.{is_line_end, lines_of}
 use Rattle.iloc_text.specs.Steps.Growth.{with_line, limited}
 use Rattle.iloc_text.specs.Steps.Verdicts.{verdict_on, verdict, answer_from, on_verdict}
 use Rattle.iloc_text.specs.Files.{HasNoLineEnd, AreLines, Reading, ReadAs, fronts, file_of, IsWithin, Denotes, IsFaulty, HasFirstFault, IsRefused}

@@ -11,7 +11,7 @@ use Rattle.iloc_text.specs.Grammar.{Reads}
 use Rattle.iloc_text.specs.Files.{Denotes}
 use Rattle.iloc_text.specs.Parts.{BeginsLabelled}
 use Rattle.iloc_text.specs.Laws.{PartsAreReadApart}
-use Rattle.iloc_text.specs.Steps.Lines.{is_line_end, lines_of}
+use Rattle.iloc_text.specs.Lines.{is_line_end, lines_of}
 use Rattle.iloc_text.specs.Steps.Scan.{line_at, is_within}
 use Rattle.iloc_text.specs.Steps.Growth.{opened, with_op, with_optional_op, with_line, last_ops, limited}
 use Rattle.iloc_text.proofs.Splitting.{lines_are}

@@ -11,7 +11,7 @@ use Rattle.iloc_text.specs.Grammar.{Reads}
 use Rattle.iloc_text.specs.Files.{AreLines, Reading, ReadAs, fronts, file_of, IsWithin, NoneFaulty, Denotes, IsFaulty, HasFirstFault, IsRefused}
 use Rattle.iloc_text.specs.Laws.{TextsHaveAnAnswer}
 use Rattle.iloc_text.specs.Steps.Scan.{line_at, is_within}
-use Rattle.iloc_text.specs.Steps.Lines.{lines_of}
+use Rattle.iloc_text.specs.Lines.{lines_of}
 use Rattle.iloc_text.specs.Steps.Growth.{with_line, last_ops, limited}
 use Rattle.iloc_text.proofs.Lines.{line_bad, line_good, line_large}
 use Rattle.iloc_text.proofs.Splitting.{lines_are}

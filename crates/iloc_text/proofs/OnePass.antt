@@ -8,7 +8,7 @@ use Rattle.iloc_ops.specs.declared.forms.Opcode.{Opcode}
 use Rattle.iloc_ops.specs.Forms.{opcode_text}
 use Rattle.iloc_text.specs.Grammar.{◌⋅◌, Blanks, OptionalLabel, OptionalComment, IsWithinLimit, ReadsWidely, Reads}
 use Rattle.iloc_text.specs.Files.{HasNoLineEnd}
-use Rattle.iloc_text.specs.Steps.Lines.{lines_of, lines_left}
+use Rattle.iloc_text.specs.Lines.{lines_of, lines_left}
 use Rattle.iloc_text.specs.Steps.LineReads.{FirstIs, FirstBody}
 use Rattle.iloc_text.specs.Steps.Scan.{after_blanks, called_at, is_within, is_within_limit}
 use Rattle.iloc_text.proofs.Parts.{Before}

@@ -11,7 +11,7 @@ use Rattle.iloc_text.specs.declared.fault.ReadFault.{ReadFault}
 use Rattle.iloc_text.specs.declared.fault.ReadFault.TheVariants.{BadLine, NumberTooLarge, NoMemory}
 use Rattle.iloc_text.specs.declared.line.ParseFault.TheVariants as faults
 use Rattle.iloc_text.specs.Grammar.{is_word_byte, IsName, Reads}
-use Rattle.iloc_text.specs.Steps.Lines.{lines_of, lines_left}
+use Rattle.iloc_text.specs.Lines.{lines_of, lines_left}
 use Rattle.iloc_text.specs.Steps.LineReads.{FirstIs, FirstLine}
 use Rattle.iloc_text.specs.Steps.Growth.{with_line, limited}
 use Rattle.iloc_text.specs.Files.{block_names, file_of, Denotes, IsRefused}

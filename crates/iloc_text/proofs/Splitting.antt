@@ -6,7 +6,7 @@ use Rattle.memchr.specs.Find.{IsFirstByte, is_byte}
 use Rattle.std.proofs.lemmas.List.Splits.{slice_split_first, length-slice_split, join_with_byte-slice_split}
 use Rattle.std.proofs.lemmas.List.Sums.{count_by-le-length}
 use Rattle.std.proofs.lemmas.Bool.Decides.{nat_tests}
-use Rattle.iloc_text.specs.Steps.Lines.{is_line_end, line_end, lines_of}
+use Rattle.iloc_text.specs.Lines.{is_line_end, line_end, lines_of}
 use Rattle.iloc_text.specs.Files.{HasNoLineEnd, AreLines}
 
 -- what passes no test fails it

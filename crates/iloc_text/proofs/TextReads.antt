@@ -8,7 +8,7 @@ use Rattle.iloc_text.specs.declared.fault.ReadFault.{ReadFault}
 use Rattle.iloc_text.specs.declared.fault.ReadFault.TheVariants.{NoMemory}
 use Rattle.iloc_text.specs.declared.text_reader.TextReader.{TextReader}
 use Rattle.iloc_text.specs.Files.{IsRefused}
-use Rattle.iloc_text.specs.Steps.Lines.{lines_of}
+use Rattle.iloc_text.specs.Lines.{lines_of}
 use Rattle.iloc_text.specs.Steps.TextReads.{GoesOn, HasFault}
 use Rattle.iloc_text.specs.Steps.Open.{HasTaken}
 use Rattle.iloc_text.specs.Steps.Verdicts.{verdict, answer_from, on_verdict}

@@ -1,3 +1,4 @@
+pub mod Lines
 pub mod Grammar
 pub mod Fault
 pub mod Files

@@ -1,6 +1,5 @@
 -- What the code does piece by piece, as steps of proof: no contract of a public function names them.
 pub mod LineReads
-pub mod Lines
 pub mod Opcodes
 pub mod Scan
 pub mod ScheduleScan

@@ -28,6 +28,7 @@ pub use iloc_ops::{
     write_op, write_text,
 };
 pub use line::ParseFault;
+pub use line_ends::split_line;
 pub use reader::{read_blocks, read_file};
 pub use schedule_line::{ScheduleLine, read_schedule_line};
 pub use stream::{read_blocks_from, read_file_from};

@@ -1,6 +1,6 @@
 //! The lines of a text.
 ghost use Rattle.std.specs.Prelude.{◌≡◌, ◌∷◌};
-ghost use Rattle.iloc_text.specs.Steps.Lines.{line_end, lines_of, lines_left};
+ghost use Rattle.iloc_text.specs.Lines.{line_end, lines_of, lines_left};
 
 use memchr::memchr;
 

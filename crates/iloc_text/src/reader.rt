@@ -3,7 +3,7 @@ ghost use Rattle.std.specs.Prelude.{◌≡◌, ◌≢◌, ◌+◌, ◌<◌, ◌^
 ghost use Rattle.iloc_ops.specs.declared.file.Block.{Block};
 ghost use Rattle.iloc_text.specs.declared.fault.ReadFault.TheVariants.{NoMemory as no_memory};
 ghost use Rattle.iloc_text.specs.Steps.LineReads.{FirstLine};
-ghost use Rattle.iloc_text.specs.Steps.Lines.{lines_of};
+ghost use Rattle.iloc_text.specs.Lines.{lines_of};
 ghost use Rattle.iloc_text.specs.Steps.Open.{HasTaken};
 ghost use Rattle.iloc_text.specs.Steps.Verdicts.{Answered, answer_from};
 ghost use Rattle.iloc_text.specs.Files.{Denotes, IsRefused};

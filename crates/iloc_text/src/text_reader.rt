@@ -31,7 +31,7 @@ pub struct TextReader<T> {
 }
 
 impl<T: TakeBlocks + Drop> TextReader<T> {
-    ghost use Rattle.iloc_text.specs.Steps.Lines.{lines_of};
+    ghost use Rattle.iloc_text.specs.Lines.{lines_of};
     ghost use Rattle.iloc_text.specs.Steps.Open.{HasTaken};
     ghost use Rattle.iloc_text.specs.Steps.TextReads.{GoesOn, HasFault, HasRead};
     ghost use Rattle.iloc_text.specs.Steps.Verdicts.{Answered, answer_from};

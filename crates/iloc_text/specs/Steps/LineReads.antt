@@ -6,7 +6,7 @@ use Rattle.iloc_text.specs.declared.line.ParseFault.{ParseFault}
 use Rattle.iloc_text.specs.declared.line.ParseFault.TheVariants.{Bad, NumberTooLarge}
 use Rattle.iloc_ops.specs.declared.op.Op.{Op}
 use Rattle.iloc_text.specs.Grammar.{◌⋅◌, Blanks, OptionalOperation, OptionalComment, OptionalIsWithinLimit, Reads, HasReading, HasWideReading}
-use Rattle.iloc_text.specs.Steps.Lines.{lines_of, lines_left}
+use Rattle.iloc_text.specs.Lines.{lines_of, lines_left}
 
 abbrev pub label_of : Line → Option (List ℕ)
 label_of line = option_map (λ name. name.now) line.label

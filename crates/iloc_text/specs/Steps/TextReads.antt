@@ -4,7 +4,7 @@ use Rattle.iloc_ops.specs.declared.limits.TheConstants.{MAX_INPUT}
 use Rattle.iloc_ops.specs.declared.file.Block.{Block}
 use Rattle.iloc_text.specs.declared.fault.ReadFault.{ReadFault}
 use Rattle.iloc_text.specs.declared.text_reader.TextReader.{TextReader}
-use Rattle.iloc_text.specs.Steps.Lines.{lines_of}
+use Rattle.iloc_text.specs.Lines.{lines_of}
 use Rattle.iloc_text.specs.Steps.Open.{HasTaken}
 use Rattle.iloc_text.specs.Steps.Verdicts.{answer_from}
 

@@ -1,5 +1,5 @@
 use Rattle.std.proofs.Common.{length}
-use Rattle.iloc_text.specs.Steps.Lines.{lines_left}
+use Rattle.iloc_text.specs.Lines.{lines_left}
 use Rattle.iloc_rows.proofs.Ends.{AreBlocks}
 use Rattle.iloc_rows.proofs.blocks_end.parts_of.Given as goal
 

@@ -2,7 +2,7 @@ use Rattle.std.proofs.Common.{◌∙◌, ◌+◌, Some, None, Err, refl, ap, len
 use Rattle.std.proofs.lemmas.Result.{err_from_is_err_and}
 use Rattle.iloc_text.specs.declared.fault.ReadFault.TheVariants.{BadLine, NumberTooLarge}
 use Rattle.iloc_text.specs.ScheduleLines.{Says, SaysSomething, SaysSomethingWidely, said_of}
-use Rattle.iloc_text.specs.Steps.Lines.{lines_left}
+use Rattle.iloc_text.specs.Lines.{lines_left}
 use Rattle.iloc_rows.specs.declared.fault.RowsFault.TheVariants.{Read}
 use Rattle.iloc_rows.specs.Submissions.{Propose, HaveFirstFault}
 use Rattle.iloc_rows.proofs.Reading.{Progress, progress_begins, progress_step, progress_number, progress_room, progress_ends, fault_here, added_faulty, err_is}

@@ -1,6 +1,6 @@
 use Rattle.std.proofs.Common.{◌∙◌, Err, ap, subst, arith}
 use Rattle.std.proofs.lemmas.Result.{err_from_is_err_and}
-use Rattle.iloc_text.specs.Steps.Lines.{lines_left}
+use Rattle.iloc_text.specs.Lines.{lines_left}
 use Rattle.iloc_rows.specs.declared.fault.RowsFault.TheVariants.{Read}
 use Rattle.iloc_rows.specs.Submissions.{IsRefused, Propose, HaveFirstFault}
 use Rattle.iloc_rows.proofs.Reading.{err_is, parts_number, denoted, blocks_refused, rows_refused}

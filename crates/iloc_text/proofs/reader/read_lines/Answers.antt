@@ -2,7 +2,7 @@ use Rattle.std.proofs.Common.{◌∙◌, ◌+◌, None, Ok, Err, length, refl, a
 use Rattle.std.proofs.lemmas.Result.{err_from_is_err_and}
 use Rattle.iloc_text.specs.Steps.LineReads.{label_of, FirstLine}
 use Rattle.iloc_text.specs.Steps.Growth.{with_line}
-use Rattle.iloc_text.specs.Steps.Lines.{lines_left}
+use Rattle.iloc_text.specs.Lines.{lines_left}
 use Rattle.iloc_text.specs.Steps.Verdicts.{answer_from, on_verdict}
 use Rattle.iloc_text.proofs.Growing.{so_far_within}
 use Rattle.iloc_text.proofs.OnePass.{body_first}

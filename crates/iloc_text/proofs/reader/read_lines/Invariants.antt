@@ -1,6 +1,6 @@
 use Rattle.std.proofs.Common.{◌≡◌, ◌+◌, List, length}
 use Rattle.iloc_ops.specs.declared.file.Block.{Block}
-use Rattle.iloc_text.specs.Steps.Lines.{lines_of, lines_left}
+use Rattle.iloc_text.specs.Lines.{lines_of, lines_left}
 use Rattle.iloc_text.specs.Steps.Open.{HasTaken}
 use Rattle.iloc_text.specs.Steps.Verdicts.{answer_from}
 use Rattle.iloc_text.proofs.reader.read_lines.Given as goal

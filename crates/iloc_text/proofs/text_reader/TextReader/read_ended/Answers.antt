@@ -1,7 +1,7 @@
 use Rattle.std.proofs.Common.{◌∙◌, ◌≡◌, ◌+◌, ◌-◌, ◌++◌, Err, length, take, drop, ap, ap₂, sym, length-append, length-take, length-drop, arith}
 use Rattle.std.proofs.lemmas.List.{take_all}
 use Rattle.std.proofs.lemmas.Result.{err_from_is_err_and}
-use Rattle.iloc_text.specs.Steps.Lines.{lines_of}
+use Rattle.iloc_text.specs.Lines.{lines_of}
 use Rattle.iloc_text.specs.Steps.Verdicts.{answer_from}
 use Rattle.iloc_text.proofs.Splitting.{lines_few}
 use Rattle.iloc_text.proofs.TextReads.{err_further, goes_further, split_at, taken_as}

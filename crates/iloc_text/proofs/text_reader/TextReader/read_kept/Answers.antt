@@ -1,5 +1,5 @@
 use Rattle.std.proofs.Common.{◌+◌, subst}
-use Rattle.iloc_text.specs.Steps.Lines.{lines_of}
+use Rattle.iloc_text.specs.Lines.{lines_of}
 use Rattle.iloc_text.specs.Steps.Open.{HasTaken}
 use Rattle.iloc_text.specs.Steps.Verdicts.{Answered, answer_from}
 use Rattle.iloc_text.proofs.text_reader.TextReader.read_kept.Goals as goal
