@@ -1,12 +1,12 @@
 //! The names of blocks.
-ghost use Rattle.std.specs.Prelude.{◌≡◌, IfOk};
+ghost use Rattle.std.specs.Prelude.{◌≡◌, IfOk, string_bytes};
 
 use crate::no_memory::NoMemory;
 use arrayvec::ArrayString;
 use std::alloc::Global;
 use std::marker::Model;
 
-/// Names up to this length need no memory of their own.
+/// Copies up to this length take no memory of their own.
 const SHORT: usize = 16;
 
 /// The text of a name.
@@ -34,23 +34,21 @@ impl Model for Name {
 
 impl Name {
     /// The name with this text.
-    pub fn new(alloc: Global, text: &str) -> Result<Name, NoMemory>
+    pub fn new(text: String) -> Name
+        ensures { result ≡ string_bytes text }
+    {
+        Name {
+            text: Text::Long(text),
+        }
+    }
+
+    /// The name with a copy of this text; a short one takes no memory of its own.
+    pub fn from_str(alloc: Global, text: &str) -> Result<Name, NoMemory>
         ensures { IfOk result (λ name. name ≡ text.now) }
     {
         let text = match ArrayString::from(text) {
             Ok(short) => Text::Short(short),
             Err(_) => Text::Long(String::from_str(alloc, text)?),
-        };
-        Ok(Name { text })
-    }
-
-    /// A copy of the name.
-    pub fn copied(&self, alloc: Global) -> Result<Name, NoMemory>
-        ensures { IfOk result (λ name. name ≡ self.now) }
-    {
-        let text = match &self.text {
-            Text::Short(text) => Text::Short(*text),
-            Text::Long(text) => Text::Long(String::from_str(alloc, text)?),
         };
         Ok(Name { text })
     }

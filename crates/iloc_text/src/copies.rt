@@ -35,7 +35,7 @@ fn copy_of_name(alloc: Global, name: Option<&Name>) -> Result<Option<Name>, NoMe
     ensures { IfOk result (λ copy. copy ≡ option_copied name.entry) }
 {
     match name {
-        Some(name) => Ok(Some(name.copied(alloc)?)),
+        Some(name) => Ok(Some(Name::from_str(alloc, name.as_str())?)),
         None => Ok(None),
     }
 }

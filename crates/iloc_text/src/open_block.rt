@@ -37,7 +37,7 @@ fn name_of(alloc: Global, text: Option<&str>) -> Result<Option<Name>, NoMemory>
     ensures { IfOk result (λ name. name ≡ option_copied text.entry) }
 {
     match text {
-        Some(text) => Ok(Some(Name::new(alloc, text)?)),
+        Some(text) => Ok(Some(Name::from_str(alloc, text)?)),
         None => Ok(None),
     }
 }

@@ -10,8 +10,9 @@ fn lends_the_text_of_a_name(rt: HostRuntime) -> Result<(), Fail> {
         "seventeen_bytes_a",
         "a_name_that_is_far_longer_than_most_are",
     ] {
-        let name = Name::new(rt.alloc(), text)?;
-        assert!(rt; name.as_str() == text);
+        let copy = Name::from_str(rt.alloc(), text)?;
+        let name = Name::new(String::from_str(rt.alloc(), text)?);
+        assert!(rt; copy.as_str() == text && name.as_str() == text);
     }
     Ok(())
 }
