@@ -34,6 +34,7 @@ impl State {
 
     /// All registers 0, this memory, no output: a run without operations, at its end.
     pub fn new(alloc: Global, memory: Memory) -> Result<State, NoMemory>
+        ensures registers { IfOk result (λ state. (r : Reg) → value_of state.registers r ≡ pos 0) }
         ensures memory { IfOk result (λ state. state.memory ≡ record { first = memory; words = memory }) }
         ensures outputs { IfOk result (λ state. state.outputs.items ≡ []) }
         ensures finished { IfOk result (λ state. state.finished ≡ true) }
