@@ -19,6 +19,8 @@ use Rattle.clap.specs.declared.builder.value_parser.Reading.TheVariants.{Without
 use Rattle.clap.specs.declared.builder.value_parser.ValueParser.TheVariants.{Signed}
 use Rattle.clap.specs.declared.parser.matches.ArgMatches.TheViews.{out-SubCommand}
 use Rattle.clap.specs.declared.parser.matches.SubCommand.{SubCommand}
+use Rattle.iloc_meaning.specs.Address.{LAST_ADDRESS}
+use Rattle.iloc_timed.specs.Limits.{LONGEST_LATENCY}
 use Rattle.iloc_args.specs.Asked.{asked, asked_as, asked_by, task_named}
 use Rattle.iloc_args.specs.Command.{Entry, entries, explain_entry, farm_app, run_entry, schedule_entry, shape, simulate_entry}
 use Rattle.iloc_args.specs.Due.{faults_in}
@@ -80,11 +82,11 @@ built_of e = built_leaf (inherited farm_app.top (shape e))
 pub record IsFit (rules : List Rule) : Type 0 where
   pub ours : AllOurs rules
   pub workers : TakesIn 1 8 (codes "workers") rules
-  pub at : TakesIn 0 65532 (codes "at") rules
+  pub at : TakesIn 0 LAST_ADDRESS (codes "at") rules
   pub words : TakesIn 0 4294967295 (codes "words") rules
-  pub load : TakesIn 1 16 (codes "load") rules
-  pub store : TakesIn 1 16 (codes "store") rules
-  pub mult : TakesIn 1 16 (codes "mult") rules
+  pub load : TakesIn 1 LONGEST_LATENCY (codes "load") rules
+  pub store : TakesIn 1 LONGEST_LATENCY (codes "store") rules
+  pub mult : TakesIn 1 LONGEST_LATENCY (codes "mult") rules
 
 leaf_holds : (s : Shape) (words : List Text) → IsFit s.rules → level_fault s [] nothing_held words false [] ≡ []
     → HoldNumbers (rows_after s.rules [] words)
@@ -95,12 +97,12 @@ leaf_holds s words fit e =
     λ low high id takes. option_read low high id s.rules (row_in id rows) takes (found_kept s.rules id rows kept) in
     record {
       workers = holds 1 8 (codes "workers") fit.workers;
-      at = holds 0 65532 (codes "at") fit.at;
+      at = holds 0 LAST_ADDRESS (codes "at") fit.at;
       words = values_read 0 4294967295 (codes "words") s.rules (row_in (codes "words") rows) fit.words
           (found_kept s.rules (codes "words") rows kept);
-      load = holds 1 16 (codes "load") fit.load;
-      store = holds 1 16 (codes "store") fit.store;
-      mult = holds 1 16 (codes "mult") fit.mult;
+      load = holds 1 LONGEST_LATENCY (codes "load") fit.load;
+      store = holds 1 LONGEST_LATENCY (codes "store") fit.store;
+      mult = holds 1 LONGEST_LATENCY (codes "mult") fit.mult;
     }
 
 run_fit : IsFit (built_of run_entry).rules

@@ -5,6 +5,8 @@ use Rattle.clap.specs.declared.builder.value_parser.ValueParser.TheVariants.{Sig
 use Rattle.clap.specs.Lexer.{usize_max}
 use Rattle.clap.specs.Words.{App, Rule, Shape, Text, new_rule}
 use Rattle.clap.specs.Simple.{new_shape}
+use Rattle.iloc_meaning.specs.Address.{LAST_ADDRESS}
+use Rattle.iloc_timed.specs.Limits.{LONGEST_LATENCY}
 use Rattle.iloc_args.specs.declared.request.Task.{Task}
 use Rattle.iloc_args.specs.declared.request.Task.TheVariants.{Run, Simulate, Schedule, Counts, Explain, Check}
 
@@ -18,14 +20,14 @@ number_rule name default low high = record (new_rule name) {
 }
 
 abbrev pub at_rule : Rule
-at_rule = number_rule (codes "at") (codes "1024") 0 65532
+at_rule = number_rule (codes "at") (codes "1024") 0 LAST_ADDRESS
 
 abbrev pub workers_rule : Rule
 workers_rule = number_rule (codes "workers") (codes "2") 1 8
 
 -- the latency of an operation, in cycles
 abbrev pub latency_rule : Text → Text → Rule
-latency_rule name usual = number_rule name usual 1 16
+latency_rule name usual = number_rule name usual 1 LONGEST_LATENCY
 
 -- `[--load N] [--store N] [--mult N]`
 abbrev pub latency_rules : List Rule

@@ -5,6 +5,7 @@ use Rattle.clap.specs.Kinds.{IsAmong, Kinds}
 use Rattle.clap.specs.Words.{Text, fault_of}
 use Rattle.clap.specs.declared.error.kind.ErrorKind.{ErrorKind}
 use Rattle.clap.specs.declared.error.kind.ErrorKind.TheVariants.{DisplayHelp, DisplayVersion}
+use Rattle.iloc_meaning.specs.Memory.{WORDS}
 use Rattle.iloc_args.specs.Asked.{Asked, asked}
 use Rattle.iloc_args.specs.Command.{farm_app}
 use Rattle.iloc_args.specs.declared.fault.LineFault.{LineFault}
@@ -26,10 +27,10 @@ pub record StartsAmiss (at : ℕ) (a : Asked) : Type 0 where
   pub start : a.at ≡ at
   pub amiss : a.at % 4 ≢ 0
 
--- the start is a multiple of 4, and the words reach beyond the 65536 bytes of memory
+-- the start is a multiple of 4, and the words reach beyond the memory
 pub record Overflows (a : Asked) : Type 0 where
   pub aligned : a.at % 4 ≡ 0
-  pub beyond : 65536 < a.at + 4 * length a.words
+  pub beyond : 4 * WORDS < a.at + 4 * length a.words
 
 -- an error of this kind is a text that was asked for
 abbrev pub IsAskedFor : ErrorKind → Type 0

@@ -11,6 +11,8 @@ ghost use Rattle.iloc_args.specs.Steps.Building.{memory_shape, option_rule, work
 
 use clap::builder::ValueParser;
 use clap::{Arg, ArgAction, Command, value_parser};
+use iloc_meaning::LAST_ADDRESS;
+use iloc_timed::LONGEST_LATENCY;
 use std::alloc::{AllocError, Global};
 
 /// The version of the program.
@@ -64,7 +66,7 @@ fn at_arg<'a>(alloc: Global) -> Arg<'a>
         alloc,
         "at",
         "Address of the first WORD, a multiple of 4 up to 65532",
-        value_parser!(u32).range(0..=65532),
+        value_parser!(u32).range(0..=LAST_ADDRESS as i64),
         "1024",
     )
 }
@@ -98,7 +100,13 @@ fn workers_arg<'a>(alloc: Global) -> Arg<'a>
 fn latency_arg<'a>(alloc: Global, name: &'a str, help: &'a str, usual: &'a str) -> Arg<'a>
     ensures { HasRule (latency_rule name.entry.now usual.entry.now) result }
 {
-    number_arg(alloc, name, help, value_parser!(u32).range(1..=16), usual)
+    number_arg(
+        alloc,
+        name,
+        help,
+        value_parser!(u32).range(1..=LONGEST_LATENCY as i64),
+        usual,
+    )
 }
 
 /// `--load N`
@@ -151,17 +159,10 @@ fn with_latencies<'a>(
 }
 
 /// `NAME`, with what it is about and how it is used.
-fn bare_command<'a>(
-    alloc: Global,
-    name: &'a str,
-    about: &'a str,
-    usage: &'a str,
-) -> Command<'a>
+fn bare_command<'a>(alloc: Global, name: &'a str, about: &'a str, usage: &'a str) -> Command<'a>
     ensures { HasApp (alone (new_shape name.entry.now)) result }
 {
-    Command::new(alloc, name)
-        .about(about)
-        .override_usage(usage)
+    Command::new(alloc, name).about(about).override_usage(usage)
 }
 
 /// `NAME [--at N] [WORD]...`

@@ -13,12 +13,10 @@ use crate::command::farm_command;
 use crate::fault::LineFault;
 use crate::request::{Request, Task};
 use clap::ArgMatches;
-use iloc_timed::Latencies;
+use iloc_meaning::{LAST_ADDRESS, WORDS};
+use iloc_timed::{LONGEST_LATENCY, Latencies};
 use std::alloc::{AllocFailed, Global};
 use std::convert::AsStr;
-
-/// The bytes of memory, which has the addresses from 0 on.
-const MEMORY_SIZE: u64 = 65536;
 
 /// The address of the first word where the command does not take the option.
 const DEFAULT_START: u32 = 1024;
@@ -86,7 +84,7 @@ fn request_in(alloc: Global, task: Task, given: &ArgMatches<'_>) -> Result<Reque
     if at % 4 != 0 {
         return Err(LineFault::BadStart(at));
     }
-    if u64::from(at) + 4 * (words.len() as u64) > MEMORY_SIZE {
+    if u64::from(at) + 4 * (words.len() as u64) > 4 * WORDS as u64 {
         return Err(LineFault::TooManyWords);
     }
     Ok(Request {
@@ -124,7 +122,7 @@ fn latencies_in(given: &ArgMatches<'_>) -> Latencies
 
 /// The latency that an option sets, the usual one where the command does not take it.
 fn latency_in(given: &ArgMatches<'_>, option: &str, usual: u32) -> u32
-    requires held { HoldsIn 1 16 option.now (rows_of (found_of given.now)) }
+    requires held { HoldsIn 1 LONGEST_LATENCY option.now (rows_of (found_of given.now)) }
     requires known { IsLatency usual }
     ensures value { result ≡ number_or usual option.now (rows_of (found_of given.now)) }
     ensures within { IsLatency result }
@@ -136,7 +134,7 @@ fn latency_in(given: &ArgMatches<'_>, option: &str, usual: u32) -> u32
 fn start_in(given: &ArgMatches<'_>) -> u32
     requires { HoldNumbers (rows_of (found_of given.now)) }
     ensures value { result ≡ number_or 1024 (codes "at") (rows_of (found_of given.now)) }
-    ensures in_memory { result ≤ 65532 }
+    ensures in_memory { result ≤ LAST_ADDRESS }
 {
     given.get_one("at").unwrap_or(DEFAULT_START)
 }

@@ -1,5 +1,7 @@
 //! What a command line asks the program to do.
 ghost use Rattle.std.specs.Prelude.{◌≡◌, ◌+◌, ◌*◌, ◌%◌, ◌≤◌, length};
+ghost use Rattle.iloc_meaning.specs.Address.{LAST_ADDRESS};
+ghost use Rattle.iloc_meaning.specs.Memory.{WORDS};
 
 use iloc_timed::Latencies;
 
@@ -36,6 +38,6 @@ pub struct Request {
     ghost some_worker: { 1 ≤ workers },
     ghost few_workers: { workers ≤ 8 },
     ghost aligned: { at % 4 ≡ 0 },
-    ghost in_memory: { at ≤ 65532 },
-    ghost fits: { at + 4 * length words.items ≤ 65536 },
+    ghost in_memory: { at ≤ LAST_ADDRESS },
+    ghost fits: { at + 4 * length words.items ≤ 4 * WORDS },
 }

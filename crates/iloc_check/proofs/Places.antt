@@ -4,7 +4,7 @@ use Rattle.std.specs.Prelude.{ℤ, slice_get, map}
 use Rattle.std.proofs.lemmas.Bool.{cases_lt}
 use Rattle.std.proofs.lemmas.List.{length-map}
 use Rattle.std.proofs.lemmas.Option.{slice_get_past}
-use Rattle.iloc_ops.specs.declared.limits.TheConstants.{MAX_OPS}
+use Rattle.iloc_ops.specs.Limits.{MAX_OPS}
 use Rattle.iloc_ops.specs.declared.op.Op.{Op}
 use Rattle.iloc_meaning.specs.declared.effect.Effect.{Effect}
 use Rattle.iloc_meaning.specs.declared.effect.Effect.TheVariants.{Faults, Gives, Writes, Emits, Nothing}
@@ -13,7 +13,7 @@ use Rattle.iloc_meaning.specs.declared.outcome.Outcome.TheVariants as O
 use Rattle.iloc_meaning.specs.Outcome.{outcome, has_fault, emitted, emitted_by}
 use Rattle.iloc_meaning.specs.Trace.{Executed, before, op_at}
 use Rattle.iloc_meaning.proofs.Cases.{by_bool}
-use Rattle.iloc_timed.specs.declared.schedule.TheConstants.{MAX_ROWS}
+use Rattle.iloc_timed.specs.Limits.{MAX_ROWS}
 use Rattle.iloc_timed.specs.declared.latencies.Latencies.{Latencies}
 use Rattle.iloc_timed.specs.declared.row.Row.{Row}
 use Rattle.iloc_timed.specs.Rows.{row_at, slots}

@@ -1,7 +1,7 @@
 -- The schedules of a file's blocks.
 use Rattle.std.specs.Prelude.{◌≡◌, ℕ, ◌≤◌, ℤ, List, length, [], ◌∷◌, map, slice_get, IfSome}
 use Rattle.std.specs.List.{AllByRecursion}
-use Rattle.iloc_ops.specs.declared.limits.TheConstants.{MAX_BLOCKS, MAX_OPS}
+use Rattle.iloc_ops.specs.Limits.{MAX_BLOCKS, MAX_OPS}
 use Rattle.iloc_ops.specs.declared.file.Block.{Block}
 use Rattle.iloc_meaning.specs.declared.outcome.Outcome.{Outcome}
 use Rattle.iloc_meaning.specs.Outcome.{outcome}

@@ -1,7 +1,7 @@
 //! The blocks of a file as the jobs of a board.
 ghost use Rattle.std.specs.Prelude.{◌≤◌, length};
 ghost use Rattle.std.specs.List.{All};
-ghost use Rattle.iloc_ops.specs.declared.limits.TheConstants.{MAX_BLOCKS, MAX_OPS};
+ghost use Rattle.iloc_ops.specs.Limits.{MAX_BLOCKS, MAX_OPS};
 
 use iloc_board::{Jobs, NoMemory};
 use iloc_ops::Block;

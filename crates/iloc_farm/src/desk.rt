@@ -1,6 +1,6 @@
 //! A desk, at which blocks are scheduled one after another.
 ghost use Rattle.std.specs.Prelude.{◌≡◌, ◌↔◌, ◌≤◌, ◌<◌, ◌+◌, ◌*◌, ◌^◌, length, IfOk, IsTrue};
-ghost use Rattle.iloc_ops.specs.declared.limits.TheConstants.{MAX_OPS};
+ghost use Rattle.iloc_ops.specs.Limits.{MAX_OPS};
 ghost use Rattle.iloc_farm.specs.Listing as listed;
 ghost use Rattle.iloc_farm.specs.Steps.Counts.{IsCount};
 ghost use Rattle.iloc_farm.specs.Steps.Entries.{IsEntry};

@@ -1,6 +1,6 @@
 //! The desks at which workers schedule blocks.
 ghost use Rattle.std.specs.Prelude.{◌≡◌, ◌≤◌, ◌<◌, ◌^◌, length, IfOk};
-ghost use Rattle.iloc_ops.specs.declared.limits.TheConstants.{MAX_OPS};
+ghost use Rattle.iloc_ops.specs.Limits.{MAX_OPS};
 ghost use Rattle.iloc_farm.specs.Steps.Counts.{IsCount};
 ghost use Rattle.iloc_farm.specs.Steps.Entries.{IsEntry};
 

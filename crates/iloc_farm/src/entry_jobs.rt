@@ -1,7 +1,7 @@
 //! The entries of a file's blocks in a listing of schedules as the jobs of a board.
 ghost use Rattle.std.specs.Prelude.{◌≡◌, ◌≤◌, length, IfOk};
 ghost use Rattle.std.specs.List.{All};
-ghost use Rattle.iloc_ops.specs.declared.limits.TheConstants.{MAX_BLOCKS, MAX_OPS};
+ghost use Rattle.iloc_ops.specs.Limits.{MAX_BLOCKS, MAX_OPS};
 
 use crate::block_lists::BlockLists;
 use crate::desk::Desk;
@@ -25,7 +25,7 @@ pub struct EntryJobs<'f, 'd, 'r> {
 impl<'f, 'd, 'r> Model for EntryJobs<'f, 'd, 'r> {
     ghost use Rattle.std.specs.Prelude.{◌≤◌, length};
     ghost use Rattle.std.specs.List.{All};
-    ghost use Rattle.iloc_ops.specs.declared.limits.TheConstants.{MAX_BLOCKS, MAX_OPS};
+    ghost use Rattle.iloc_ops.specs.Limits.{MAX_BLOCKS, MAX_OPS};
     ghost use Rattle.iloc_farm.specs.Steps.ToSchedule.{ToSchedule};
 
     ghost Value = { ToSchedule };

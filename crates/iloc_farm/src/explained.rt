@@ -1,6 +1,6 @@
 //! The listing of why the schedules of a file's blocks take their cycles.
 ghost use Rattle.std.specs.Prelude.{◌≤◌, ◌<◌, ◌^◌, length, IfOk};
-ghost use Rattle.iloc_ops.specs.declared.limits.TheConstants.{MAX_OPS};
+ghost use Rattle.iloc_ops.specs.Limits.{MAX_OPS};
 ghost use Rattle.iloc_farm.specs.Explaining.{ListsExplained};
 ghost use Rattle.iloc_farm.specs.Schedules.{IsWithinLimits};
 ghost use Rattle.iloc_farm.specs.Steps.Explaining.{Explains};

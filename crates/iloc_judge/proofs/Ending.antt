@@ -3,8 +3,7 @@ use Rattle.std.proofs.Common.{◌≡◌, ◌<◌, ℕ, ◌*◌, true, false, Lis
 use Rattle.std.proofs.lemmas.Bool.Decides.{nat_tests}
 use Rattle.std.proofs.lemmas.List.FromFn.{get_or-map-range_with_len, length-map-range_with_len, fill_by_all}
 use Rattle.iloc_meaning.specs.Address.{is_good}
-use Rattle.iloc_meaning.specs.Memory.{with_words}
-use Rattle.iloc_meaning.specs.declared.memory.TheConstants.{WORDS}
+use Rattle.iloc_meaning.specs.Memory.{WORDS, with_words}
 use Rattle.iloc_meaning.specs.Outcome.{has_fault, emitted}
 use Rattle.iloc_timed.specs.Timed.{Issued, word_in, executed_in, timed_outcome_of}
 use Rattle.iloc_judge.specs.declared.symbols.Symbols.{Symbols}

@@ -1,8 +1,7 @@
 -- Memories: what a memory is, and the ones that the judge makes up.
 use Rattle.std.specs.Prelude.{◌≡◌, List, All, length, ℤ, FitsSigned}
 use Rattle.std.specs.Int.{w32}
-use Rattle.iloc_meaning.specs.declared.memory.TheConstants.{WORDS}
-use Rattle.iloc_meaning.specs.Memory.{words_from}
+use Rattle.iloc_meaning.specs.Memory.{WORDS, words_from}
 use Rattle.iloc_judge.specs.declared.probe.Probe.{Probe}
 
 -- 16,384 words of 32 bits

@@ -3,9 +3,11 @@ use Rattle.std.proofs.Common.{◌≡◌, ◌≢◌, ℕ, ◌*◌, ◌/◌, ◌<�
 use Rattle.std.proofs.lemmas.Bool.Decides.{nat_tests}
 use Rattle.std.proofs.lemmas.Bool.{cases_eq}
 use Rattle.std.proofs.lemmas.List.FromFn.{get_or-map-range_with_len, length-map-range_with_len, fill_by_all}
-use Rattle.iloc_meaning.specs.declared.memory.TheConstants.{WORDS}
+use Rattle.iloc_meaning.specs.Memory.{WORDS, word_at, with_words}
 use Rattle.iloc_meaning.specs.Address.{is_good}
-use Rattle.iloc_meaning.specs.Memory.{word_at, with_words}
+
+pub good_word : (k : ℕ) → k < WORDS → is_good (pos (4 * k)) ≡ true
+good_word k within = grind (arith, nat_tests)
 
 -- a good address is four times the number of its word
 pub four_times : (a : ℕ) → is_good (pos a) ≡ true → 4 * (a / 4) ≡ a

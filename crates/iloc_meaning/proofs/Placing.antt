@@ -2,11 +2,11 @@
 use Rattle.std.proofs.Common.{◌≡◌, ℕ, ◌+◌, ◌-◌, ◌/◌, ◌<◌, ◌≤◌, List, [], ◌∷◌, ◌++◌, length, map, replicate, set, take, get_or, ℤ, pos, arith, refl, ap, sym, ◌∙◌, add-one, append_assoc, append-nil, length-append, length-take-le}
 use Rattle.std.specs.Int.{w32, cast_signed}
 use Rattle.std.proofs.lemmas.List.{length-map, length-replicate, replicate-append-replicate, set_at, map_more}
-use Rattle.iloc_meaning.specs.declared.memory.TheConstants.{WORDS}
-use Rattle.iloc_meaning.specs.Memory.{words_from, zeros}
+use Rattle.iloc_meaning.specs.Address.{LAST_ADDRESS}
+use Rattle.iloc_meaning.specs.Memory.{WORDS, words_from, zeros}
 
 -- without words there are zeros alone
-pub placed_none : (at : ℕ) → at ≤ 65532 → zeros ≡ words_from at []
+pub placed_none : (at : ℕ) → at ≤ LAST_ADDRESS → zeros ≡ words_from at []
 unfolding zeros
 placed_none at within =
     let size : at / 4 + (WORDS - (at / 4 + 0)) ≡ WORDS = omega arith in

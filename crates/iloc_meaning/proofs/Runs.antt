@@ -2,13 +2,12 @@
 use Rattle.std.proofs.Common.{◌≡◌, ℕ, zero, suc, ◌+◌, ◌*◌, ◌/◌, ◌<◌, ◌||◌, Bool, true, false, List, [], length, get_or, ℤ, pos, arith, refl, ap, sym, ◌∙◌, add-one, add-zero, add-suc, ◌-◌}
 use Rattle.std.proofs.lemmas.List.FromFn.{fill_by_all}
 use Rattle.std.proofs.lemmas.List.{get_or_default}
-use Rattle.iloc_meaning.specs.declared.memory.TheConstants.{WORDS}
+use Rattle.iloc_meaning.specs.Memory.{WORDS, word_at, with_words}
 use Rattle.iloc_ops.specs.declared.op.Reg.{Reg}
 use Rattle.iloc_ops.specs.declared.op.Op.{Op}
 use Rattle.iloc_ops.specs.declared.op.Op.TheVariants.{Nop}
 use Rattle.iloc_meaning.specs.declared.state.State.{State}
 use Rattle.iloc_meaning.specs.declared.outcome.Outcome.TheVariants.{Fault}
-use Rattle.iloc_meaning.specs.Memory.{word_at, with_words}
 use Rattle.iloc_meaning.specs.Trace.{then_executed, before}
 use Rattle.iloc_meaning.specs.Outcome.{has_fault, outcome}
 use Rattle.iloc_meaning.specs.Registers.{value_of}

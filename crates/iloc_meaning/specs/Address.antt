@@ -1,9 +1,13 @@
 -- Which addresses have a word.
 use Rattle.std.specs.Prelude.{ℕ, ◌%◌, ◌&&◌, ◌==◌, nat_le, Bool, false, if◌then◌else◌, Option, Some, None, ℤ, pos, negsuc}
 
--- a multiple of 4 from 0 to 65532
+-- the address of the last word
+abbrev pub LAST_ADDRESS : ℕ
+LAST_ADDRESS = 65532
+
+-- a multiple of 4 from 0 to the last
 abbrev pub is_good : ℤ → Bool
-is_good (pos a) = (a % 4 == 0) && nat_le a 65532
+is_good (pos a) = (a % 4 == 0) && nat_le a LAST_ADDRESS
 is_good (negsuc n) = false
 
 -- the address that a value stands for, if it is good

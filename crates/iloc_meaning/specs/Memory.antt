@@ -2,7 +2,10 @@
 use Rattle.std.specs.Prelude.{ℕ, ◌+◌, ◌-◌, ◌*◌, ◌/◌, List, ◌++◌, length, map, replicate, slice_index_or, ℤ, pos}
 use Rattle.std.specs.Int.{w32, cast_signed}
 use Rattle.std.specs.List.{range_with_len}
-use Rattle.iloc_meaning.specs.declared.memory.TheConstants.{WORDS}
+
+-- how many words a memory has
+abbrev pub WORDS : ℕ
+WORDS = 16384
 
 -- the memory of zeros
 unfoldable pub zeros : List ℤ

@@ -15,7 +15,7 @@ mod words;
 
 pub use effect::Effect;
 pub use interpreter::Interpreter;
-pub use memory::{Memory, WORDS};
+pub use memory::{LAST_ADDRESS, Memory, WORDS};
 pub use outcome::Outcome;
 pub use registers::Registers;
 pub use run::run_block;

@@ -11,7 +11,7 @@ use std::marker::Model;
 pub const WORDS: usize = 16_384;
 
 /// The address of the last word.
-const LAST_ADDRESS: i32 = 65_532;
+pub const LAST_ADDRESS: u32 = 65_532;
 
 /// A memory of 16,384 words.
 #[derive(Debug, Drop)]
@@ -21,7 +21,7 @@ pub struct Memory {
 
 impl Model for Memory {
     ghost use Rattle.std.specs.Prelude.{◌≡◌, List, ℤ, vec_len};
-    ghost use Rattle.iloc_meaning.specs.declared.memory.TheConstants.{WORDS};
+    ghost use Rattle.iloc_meaning.specs.Memory.{WORDS};
 
     ghost Value = { List ℤ };
 
@@ -44,8 +44,8 @@ impl Memory {
     /// The memory that has these words, as patterns of 32 bits, from the address `at` on, and else zeros.
     pub fn with_words(alloc: Global, at: u32, words: &[u32]) -> Result<Memory, NoMemory>
         requires aligned { at % 4 ≡ 0 }
-        requires start { at ≤ 65532 }
-        requires fits { at + 4 * length words.now ≤ 65536 }
+        requires start { at ≤ LAST_ADDRESS }
+        requires fits { at + 4 * length words.now ≤ 4 * WORDS }
         ensures { IfOk result (λ memory. memory ≡ words_from at words.now) }
     {
         let mut memory = Memory::zero(alloc)?;
@@ -77,7 +77,7 @@ impl Memory {
     pub fn is_good(address: i32) -> bool
         ensures { result ≡ is_good address }
     {
-        (0..=LAST_ADDRESS).contains(&address) && address % 4 == 0
+        (0..=LAST_ADDRESS as i32).contains(&address) && address % 4 == 0
     }
 
     /// The word at a good address.

@@ -1,5 +1,5 @@
-//! Laws of operations, as contracts of functions that do nothing.
-ghost use Rattle.iloc_ops.specs.Laws.{RenamingMapsUses, RenamingReplacesTheDefinition};
+//! Laws of operations and limits, as contracts of functions that do nothing.
+ghost use Rattle.iloc_ops.specs.Laws.{LimitsAreThese, RenamingMapsUses, RenamingReplacesTheDefinition};
 
 /// An operation with other registers uses the new ones, in the order of its own.
 pub fn renaming_maps_uses()
@@ -9,4 +9,9 @@ pub fn renaming_maps_uses()
 /// An operation with other registers defines the new one if it defines one, and else none.
 pub fn renaming_replaces_the_definition()
     ensures { RenamingReplacesTheDefinition }
+{}
+
+/// The limits that the code takes are those that the definitions state.
+pub fn limits_are_these()
+    ensures { LimitsAreThese }
 {}

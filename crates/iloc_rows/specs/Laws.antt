@@ -2,7 +2,7 @@
 use Rattle.std.specs.Prelude.{◌≡◌, ℕ, ◌≤◌, ◌⊎◌, List, length}
 use Rattle.std.specs.List.{AllByRecursion}
 use Rattle.iloc_ops.specs.declared.file.Block.{Block}
-use Rattle.iloc_ops.specs.declared.limits.TheConstants.{MAX_BLOCKS, MAX_OPS}
+use Rattle.iloc_ops.specs.Limits.{MAX_BLOCKS, MAX_OPS}
 use Rattle.iloc_timed.specs.Schedule.{AreOnce, AreInRange}
 use Rattle.iloc_rows.specs.declared.fault.RowsFault.{RowsFault}
 use Rattle.iloc_rows.specs.declared.proposal.Proposal.{Proposal}

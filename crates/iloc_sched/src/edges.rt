@@ -4,7 +4,7 @@
 //! kept, since every other goes by way of an operation between: from the last store, from the last output, and to a
 //! store from each load since the last one.
 ghost use Rattle.std.specs.Prelude.{ℕ, ◌≡◌, ◌+◌, ◌*◌, ◌≤◌, ◌<◌, length, map, List, Some, OnOk, Contains};
-ghost use Rattle.iloc_ops.specs.declared.limits.TheConstants.{MAX_OPS};
+ghost use Rattle.iloc_ops.specs.Limits.{MAX_OPS};
 ghost use Rattle.iloc_ops.specs.declared.op.Op.{Op};
 ghost use Rattle.iloc_ops.specs.Registers.{used};
 ghost use Rattle.iloc_timed.specs.declared.latencies.Latencies.{Latencies};

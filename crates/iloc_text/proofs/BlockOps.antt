@@ -5,17 +5,17 @@ use Rattle.iloc_ops.specs.declared.op.Op.{Op}
 use Rattle.iloc_text.specs.Files.{Reading, block_count, fronts, last_op, ops_of}
 use Rattle.iloc_text.proofs.Counts.{fronts-snoc, last_op-snoc, count-snoc}
 
-pub one_or_none : (b : Bool) (front : List Reading) (op : Option Op) → last_op front ≡ op
-    → option_to_list (cond b (last_op front) None) ≡ cond b (option_to_list op) []
-one_or_none true front op h = ap option_to_list h
-one_or_none false front op h = refl
+pub one_or_none : {A : Type 0} (b : Bool) (o p : Option A) → o ≡ p
+    → option_to_list (cond b o None) ≡ cond b (option_to_list p) []
+one_or_none true o p h = ap option_to_list h
+one_or_none false o p h = refl
 
-pub filter_map-one : {A : Type 0} (f : A → Option Op) (x : A) → filter_map f (x ∷ []) ≡ option_to_list (f x)
-filter_map-one f x = by (f x) refl
+pub filter_map-one : {A B : Type 0} (f : A → Option B) (x : A) → filter_map f (x ∷ []) ≡ option_to_list (f x)
+filter_map-one {A} {B} f x = by (f x) refl
   where
-    by : (o : Option Op) → f x ≡ o → filter_map f (x ∷ []) ≡ option_to_list o
+    by : (o : Option B) → f x ≡ o → filter_map f (x ∷ []) ≡ option_to_list o
     by None e = rw e refl
-    by (Some op) e = rw e refl
+    by (Some y) e = rw e refl
 
 pub ops_of-snoc : (k : ℕ) (rs : List Reading) (r : Reading)
     → ops_of k (rs ++ r ∷ []) ≡ ops_of k rs ++ cond (block_count (rs ++ r ∷ []) == k) (option_to_list r.op) []
@@ -24,7 +24,7 @@ ops_of-snoc k rs r =
     let f : List Reading → Option Op = λ front. cond (block_count front == k) (last_op front) None in
     ap (filter_map f) (fronts-snoc rs r) ∙ filter_map-append f (fronts rs) ((rs ++ r ∷ []) ∷ [])
     ∙ ap (λ o. filter_map f (fronts rs) ++ o)
-    (filter_map-one f (rs ++ r ∷ []) ∙ one_or_none (block_count (rs ++ r ∷ []) == k) (rs ++ r ∷ []) r.op
+    (filter_map-one f (rs ++ r ∷ []) ∙ one_or_none (block_count (rs ++ r ∷ []) == k) (last_op (rs ++ r ∷ [])) r.op
     (last_op-snoc rs r))
 
 pub ops_of-here : (k : ℕ) (rs : List Reading) (r : Reading) → block_count (rs ++ r ∷ []) ≡ k

@@ -1,6 +1,7 @@
 -- The scanner reads the lines of the grammar, and each of them.
-use Rattle.std.proofs.Common.{◌≡◌, ◌∙◌, ℕ, nat_lt, true, false, List, ◌++◌, refl, sym, ap, subst, Option, Some, None, IfSome, option_map, unwrap_or}
+use Rattle.std.proofs.Common.{◌≡◌, ◌∙◌, ℕ, nat_lt, true, false, List, ◌++◌, refl, sym, ap, subst, Option, Some, None, IfSome, option_map}
 use Rattle.std.specs.List.{list_all}
+use Rattle.std.proofs.lemmas.Option.{same_Some}
 use Rattle.iloc_text.specs.declared.scan.TheConstants.{ABOVE_LIMIT}
 use Rattle.iloc_ops.specs.declared.op.Op.{Op}
 use Rattle.iloc_ops.specs.Forms.{operands, numbers}
@@ -104,13 +105,10 @@ found_reads bytes label (Some op) r = (
 pub line_bad : (bytes : List ℕ) → line_at bytes ≡ None → HasWideReading bytes → ⊥
 line_bad bytes e r = let found = sym e ∙ line_again bytes r.0 r.1 r.2 in cc
 
-some_same : {A : Type 0} (x y : A) → Some x ≡ Some y → x ≡ y
-some_same x y e = ap (λ o. unwrap_or o x) e
-
 found_at : (bytes : List ℕ) (found : Option (Option (List ℕ) × Option Op)) (label : Option (List ℕ)) (op : Option Op)
     → found ≡ Some (label, op) → IfSome found (FindsLine bytes) → FindsLine bytes (label, op)
 found_at bytes None label op e f = cc
-found_at bytes (Some x) label op e f = let same = some_same x (label, op) e in subst (FindsLine bytes) same f
+found_at bytes (Some x) label op e f = let same = same_Some x (label, op) e in subst (FindsLine bytes) same f
 
 pub line_good : (bytes : List ℕ) (label : Option (List ℕ)) (op : Option Op) → line_at bytes ≡ Some (label, op)
     → is_within op ≡ true → Reads bytes label op
@@ -126,7 +124,7 @@ line_large bytes label op e h =
       λ r.
           let found = found_reads bytes r.0 r.1 r.2 in
           let both : ◌≡◌ {A = Option (List ℕ) × Option Op} (label, op) (r.0, r.1) =
-          some_same (label, op) (r.0, r.1) (sym e ∙ found.0) in
+          same_Some (label, op) (r.0, r.1) (sym e ∙ found.0) in
           let same : op ≡ r.1 = ap (λ p. p.1) both in
           let within = found.1 in cc,
     )
@@ -136,5 +134,5 @@ pub one_reading : (bytes : List ℕ) (l m : Option (List ℕ)) (a b : Option Op)
     → (l ≡ m) × (a ≡ b)
 one_reading bytes l m a b r s =
     let both : ◌≡◌ {A = Option (List ℕ) × Option Op} (l, a) (m, b) =
-    some_same (l, a) (m, b) (sym (found_reads bytes l a r).0 ∙ (found_reads bytes m b s).0) in
+    same_Some (l, a) (m, b) (sym (found_reads bytes l a r).0 ∙ (found_reads bytes m b s).0) in
     (ap (λ p. p.0) both, ap (λ p. p.1) both)

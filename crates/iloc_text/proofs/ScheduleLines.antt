@@ -1,10 +1,11 @@
 -- The scanner reads what the lines of a schedule say, and each such line.
-use Rattle.std.proofs.Common.{◌≡◌, ◌≢◌, ◌∙◌, ℕ, ◌≤◌, nat_lt, Bool, true, false, cond, ◌&&◌, ◌==◌, List, [], ◌∷◌, ◌++◌, codes, refl, sym, ap, ap₂, subst, Option, Some, None, IfSome, unwrap_or, bytes_eq, arith}
+use Rattle.std.proofs.Common.{◌≡◌, ◌≢◌, ◌∙◌, ℕ, ◌≤◌, nat_lt, Bool, true, false, cond, ◌&&◌, ◌==◌, List, [], ◌∷◌, ◌++◌, codes, refl, sym, ap, ap₂, subst, Option, Some, None, IfSome, bytes_eq, arith}
 use Rattle.std.specs.List.{AllByRecursion, list_all}
 use Rattle.std.specs.Char.{is_ascii_digit, is_ascii_alphabetic}
 use Rattle.std.proofs.lemmas.Bool.Decides.{nat_tests}
 use Rattle.std.proofs.lemmas.Slice.Eq.{bytes_eq-Decides}
-use Rattle.iloc_ops.specs.declared.limits.TheConstants.{MAX_NUMBER}
+use Rattle.std.proofs.lemmas.Option.{same_Some}
+use Rattle.iloc_ops.specs.Limits.{MAX_NUMBER}
 use Rattle.iloc_text.specs.declared.scan.TheConstants.{ABOVE_LIMIT}
 use Rattle.iloc_ops.specs.declared.op.Op.{Op}
 use Rattle.iloc_ops.specs.Forms.{numbers, operands}
@@ -488,9 +489,6 @@ said_good bytes said e h =
     let same : said ≡ f.0 = f.2 ∙ (within_said f.0 small).0 in
     subst (Says bytes) (sym same) (f.1, small)
 
-some_same : {A : Type 0} (x y : A) → Some x ≡ Some y → x ≡ y
-some_same x y e = ap (λ o. unwrap_or o x) e
-
 pub said_large : (bytes : List ℕ) (said : Said) → schedule_line_at bytes ≡ Some said → is_said_within said ≡ false
     → SaysSomethingWidely bytes × (SaysSomething bytes → ⊥)
 said_large bytes said e h =
@@ -498,13 +496,13 @@ said_large bytes said e h =
       (f.0, f.1),
       λ r.
           let found = found_says bytes r.0 r.1 in
-          let same : said ≡ r.0 = some_same said r.0 (sym e ∙ found.0) in
+          let same : said ≡ r.0 = same_Some said r.0 (sym e ∙ found.0) in
           let within = found.1 in cc,
     )
 
 -- a line says one thing at most
 pub one_said : (bytes : List ℕ) (said said' : Said) → Says bytes said → Says bytes said' → said ≡ said'
-one_said bytes said said' r s = some_same said said' (sym (found_says bytes said r).0 ∙ (found_says bytes said' s).0)
+one_said bytes said said' r s = same_Some said said' (sym (found_says bytes said r).0 ∙ (found_says bytes said' s).0)
 
 -- a line that says nothing says nothing else
 pub nothing_alone : (bytes : List ℕ) (said : Said) → SaysWidely bytes nothing → SaysWidely bytes said → said ≡ nothing

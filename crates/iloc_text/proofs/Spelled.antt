@@ -2,7 +2,7 @@
 use Rattle.std.proofs.Common.{ℕ, ◌≤◌, ◌<◌, ◌^◌, length, List, [], ◌∷◌, ◌++◌, map, refl, sym, Some, None, codes, decimal, arith}
 use Rattle.std.specs.List.{AllByRecursion}
 use Rattle.std.proofs.lemmas.Fmt.{decimal_is_IsNumeral}
-use Rattle.iloc_ops.specs.declared.limits.TheConstants.{MAX_NUMBER}
+use Rattle.iloc_ops.specs.Limits.{MAX_NUMBER}
 use Rattle.iloc_ops.specs.declared.op.Op.{Op}
 use Rattle.iloc_ops.specs.Forms.{Lead, Value, Operand, number_in, number_of, opcode, operands, opcode_text}
 use Rattle.iloc_ops.specs.Forms.Lead.{space, comma, arrow}

@@ -1,7 +1,7 @@
 -- A file that a text denotes is within the limits.
 use Rattle.std.proofs.Common.{ℕ, ◌≤◌, List, [], ◌∷◌, ◌++◌, length, sym, ap, subst, Option, Some, None, arith}
 use Rattle.std.specs.List.{AllByRecursion}
-use Rattle.iloc_ops.specs.declared.limits.TheConstants.{MAX_BLOCKS, MAX_OPS}
+use Rattle.iloc_ops.specs.Limits.{MAX_BLOCKS, MAX_OPS}
 use Rattle.iloc_ops.specs.declared.op.Op.{Op}
 use Rattle.iloc_ops.specs.declared.file.Block.{Block}
 use Rattle.iloc_text.specs.Files.{Reading, block_count, block_names, fronts, file_of, IsWithin, NoneFaulty}

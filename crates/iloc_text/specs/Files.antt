@@ -6,7 +6,7 @@ use Rattle.iloc_ops.specs.declared.file.Block.{Block}
 use Rattle.iloc_text.specs.declared.fault.ReadFault.{ReadFault}
 use Rattle.iloc_text.specs.declared.fault.ReadFault.TheVariants.{InputTooLong, BadLine, NumberTooLarge, TooManyBlocks, TooManyOperations, NoMemory}
 use Rattle.iloc_text.specs.Grammar.{Reads, HasReading, HasWideReading}
-use Rattle.iloc_ops.specs.declared.limits.TheConstants.{MAX_INPUT, MAX_BLOCKS, MAX_OPS}
+use Rattle.iloc_ops.specs.Limits.{MAX_INPUT, MAX_BLOCKS, MAX_OPS}
 
 -- Lines
 

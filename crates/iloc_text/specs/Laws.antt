@@ -9,7 +9,7 @@ use Rattle.iloc_ops.specs.Spelling.{spelling}
 use Rattle.iloc_text.specs.Files.{Denotes, IsRefused}
 use Rattle.iloc_text.specs.Parts.{AreParts}
 use Rattle.iloc_text.specs.ScheduleLines.{Said, Says}
-use Rattle.iloc_ops.specs.declared.limits.TheConstants.{MAX_INPUT, MAX_BLOCKS, MAX_OPS}
+use Rattle.iloc_ops.specs.Limits.{MAX_INPUT, MAX_BLOCKS, MAX_OPS}
 
 -- a line has at most one reading
 abbrev pub LinesHaveOneReading : Type 0

@@ -1,7 +1,7 @@
 -- Texts that a stream gives.
 use Rattle.std.specs.Prelude.{◌≢◌, ℕ, ◌+◌, ◌≤◌, List, Option, length}
 use Rattle.std.specs.Io.KnownBytes.{Consumes, IsAtEnd}
-use Rattle.iloc_ops.specs.declared.limits.TheConstants.{MAX_INPUT}
+use Rattle.iloc_ops.specs.Limits.{MAX_INPUT}
 use Rattle.iloc_text.specs.declared.fault.ReadFault.TheVariants.{NoMemory}
 use Rattle.iloc_text.specs.declared.fault.StreamFault.{StreamFault}
 use Rattle.iloc_text.specs.declared.fault.StreamFault.TheVariants.{ReadFailed, Text}

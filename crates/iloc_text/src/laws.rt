@@ -1,7 +1,7 @@
 //! Laws of the language, as contracts of functions that do nothing.
 ghost use Rattle.iloc_text.specs.Laws.{LinesHaveOneReading, ScheduleLinesSayOneThing, SpellingsReadBack, TextsHaveAnAnswer, TextsHaveOneAnswer, FilesAreWithinLimits, PartsAreReadApart};
 
-pub use iloc_ops::laws::{renaming_maps_uses, renaming_replaces_the_definition};
+pub use iloc_ops::laws::{limits_are_these, renaming_maps_uses, renaming_replaces_the_definition};
 
 /// A line has at most one reading.
 pub fn lines_have_one_reading()

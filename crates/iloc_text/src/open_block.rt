@@ -2,7 +2,7 @@
 ghost use Rattle.std.specs.Prelude.{◌≡◌, ◌<◌, ◌≤◌, [], List, IsUtf8, None, IfOk, OnOk, length};
 ghost use Rattle.std.specs.Option.{ForSome, option_copied};
 ghost use Rattle.iloc_ops.specs.declared.file.Block.{Block as block_value};
-ghost use Rattle.iloc_ops.specs.declared.limits.TheConstants.{MAX_BLOCKS, MAX_OPS};
+ghost use Rattle.iloc_ops.specs.Limits.{MAX_BLOCKS, MAX_OPS};
 ghost use Rattle.iloc_text.specs.Steps.LineReads.{label_of};
 ghost use Rattle.iloc_text.specs.Steps.Growth.{opened, with_op, with_optional_op, with_line, Grows};
 

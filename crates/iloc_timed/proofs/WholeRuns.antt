@@ -9,8 +9,9 @@ use Rattle.iloc_ops.specs.declared.op.Op.{Op}
 use Rattle.iloc_ops.specs.declared.op.Op.TheVariants.{Nop}
 use Rattle.iloc_meaning.specs.declared.outcome.Outcome.TheVariants.{Finished, Fault}
 use Rattle.iloc_meaning.specs.Address.{is_good}
-use Rattle.iloc_meaning.specs.Memory.{word_at, with_words}
+use Rattle.iloc_meaning.specs.Memory.{WORDS, word_at, with_words}
 use Rattle.iloc_meaning.specs.Registers.{value_of}
+use Rattle.iloc_meaning.proofs.MemoryWords.{good_word}
 use Rattle.iloc_meaning.specs.Trace.{op_at}
 use Rattle.iloc_meaning.specs.Effect.{effect}
 use Rattle.iloc_meaning.specs.Outcome.{is_fault, has_fault}
@@ -23,7 +24,7 @@ use Rattle.iloc_timed.specs.Kinds.{kind}
 use Rattle.iloc_timed.specs.Latency.{latency, latency_of}
 use Rattle.iloc_timed.specs.Rows.{row_at, slots}
 use Rattle.iloc_timed.specs.Timed.{Issued, arrived, register_in, word_in, issue, issue_all, issued_before, executed_in, timed_outcome, timed_outcome_of}
-use Rattle.iloc_timed.specs.Steps.Wheel.{list_at}
+use Rattle.iloc_timed.specs.Wheel.{list_at}
 use Rattle.iloc_timed.specs.Steps.Machine.{landed, AllLand, Follows, After, then_issued}
 use Rattle.iloc_timed.proofs.Landing.{landed_all, landed_is_arrived}
 
@@ -41,7 +42,7 @@ some_latency lat K.Output = omega arith
 some_latency lat K.Other = omega arith
 
 -- a schedule begins with all registers 0, the memory handed in, no output and nothing under way
-pub begins : (machine : Machine) (memory : List ℤ) → length memory ≡ 16384
+pub begins : (machine : Machine) (memory : List ℤ) → length memory ≡ WORDS
     → ((r : Reg) → value_of machine.state.registers r ≡ pos 0) → machine.state.memory ≡ record { first = memory; words = memory }
     → machine.state.outputs.items ≡ [] → length machine.wheel ≡ 16 → ((c : ℕ) → list_at machine.wheel c ≡ [])
     → Follows memory 0 [] machine
@@ -140,9 +141,6 @@ no_fault c [] all = refl
 no_fault c (e ∷ earlier) all = or_from (is_fault e.executed.effect) (has_fault (executed_in earlier)) all.1.no_fault
     (no_fault c earlier all.2)
 
-good_word : (k : ℕ) → k < 16384 → is_good (pos (4 * k)) ≡ true
-good_word k within = grind (arith, nat_tests)
-
 -- a run whose results have all landed
 pub finishes : (memory : List ℤ) (n : ℕ) (log : List Issued) (machine : Machine) → AllLand n log
     → Follows memory n log machine → Finished machine.state.outputs.items machine.state.memory.words ≡ timed_outcome_of memory log
@@ -151,7 +149,7 @@ finishes memory n log machine all follows =
     let words : machine.state.memory.words ≡ with_words memory (word_in memory log) =
     fill_by_all (λ k. word_in memory log (4 * k)) machine.state.memory.words (length memory) (pos 0) (follows.same_size
     ∙ sym follows.size) (λ k below.
-    let small : k < 16384 = rw follows.size at below in
+    let small : k < WORDS = rw follows.size at below in
     let number : 4 * k / 4 ≡ k = omega arith in
     ap (λ j. get_or machine.state.memory.words j (pos 0)) (sym number) ∙ follows.words (4 * k) (good_word k small)
     ∙ ap (λ l. word_in memory l (4 * k)) everything) in

@@ -4,11 +4,12 @@ use Rattle.iloc_ops.specs.declared.op.Op.{Op}
 use Rattle.iloc_timed.specs.declared.kind.Kind.{Kind}
 use Rattle.iloc_timed.specs.declared.kind.Kind.TheVariants as K
 use Rattle.iloc_timed.specs.declared.latencies.Latencies.{Latencies}
+use Rattle.iloc_timed.specs.Limits.{LONGEST_LATENCY}
 use Rattle.iloc_timed.specs.Kinds.{kind}
 
 -- what a latency may be
 abbrev pub IsLatency : ℕ → Type 0
-IsLatency n = (1 ≤ n) × (n ≤ 16)
+IsLatency n = (1 ≤ n) × (n ≤ LONGEST_LATENCY)
 
 abbrev pub latency_of : Latencies → Kind → ℕ
 latency_of lat K.Load = lat.load

@@ -1,5 +1,11 @@
 //! How many cycles operations take.
 ghost use Rattle.std.specs.Prelude.{◌≡◌, ◌≤◌, ◌↔◌, IsSome, IfSome};
+ghost use Rattle.iloc_timed.specs.Limits.{LONGEST_LATENCY};
+
+use crate::kind::Kind;
+
+/// The longest that a latency may be, in cycles.
+pub const LONGEST_LATENCY: u32 = 16;
 
 /// The latencies of loads, stores and products, in cycles, each from 1 to 16. Every other operation
 /// takes one cycle.
@@ -12,15 +18,15 @@ pub struct Latencies {
     /// Of `mult` and `multI`.
     pub mult: u32,
     pub ghost some_load: { 1 ≤ load },
-    pub ghost short_load: { load ≤ 16 },
+    pub ghost short_load: { load ≤ LONGEST_LATENCY },
     pub ghost some_store: { 1 ≤ store },
-    pub ghost short_store: { store ≤ 16 },
+    pub ghost short_store: { store ≤ LONGEST_LATENCY },
     pub ghost some_mult: { 1 ≤ mult },
-    pub ghost short_mult: { mult ≤ 16 },
+    pub ghost short_mult: { mult ≤ LONGEST_LATENCY },
 }
 
 impl Latencies {
-    ghost use Rattle.iloc_timed.specs.Latency.{IsLatency};
+    ghost use Rattle.iloc_timed.specs.Latency.{IsLatency, latency_of};
     ghost use Rattle.iloc_timed.specs.Steps.Longest.{longest};
 
     /// These latencies; `None` where one of them isn't from 1 to 16.
@@ -30,7 +36,7 @@ impl Latencies {
         ensures store { IfSome result (λ latencies. latencies.store ≡ store) }
         ensures mult { IfSome result (λ latencies. latencies.mult ≡ mult) }
     {
-        let within = |latency: u32| (1..=16).contains(&latency);
+        let within = |latency: u32| (1..=LONGEST_LATENCY).contains(&latency);
         if within(load) && within(store) && within(mult) {
             Some(Latencies { load, store, mult })
         } else {
@@ -50,6 +56,21 @@ impl Latencies {
             mult: 3,
         }
     }
+
+    /// How many cycles after its issue the result of an operation of this kind arrives.
+    #[inline(always)]
+    pub fn of(&self, kind: Kind) -> u32
+        ensures latency { result ≡ latency_of self.now kind }
+        ensures within { IsLatency result }
+    {
+        match kind {
+            Kind::Load => self.load,
+            Kind::Store => self.store,
+            Kind::Mult => self.mult,
+            Kind::Output | Kind::Other => 1,
+        }
+    }
+
     /// The longest: no operation takes more cycles.
     pub(crate) fn longest(&self) -> u32
         ensures { result ≡ longest self.now }

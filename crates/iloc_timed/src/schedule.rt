@@ -25,8 +25,8 @@ pub struct Schedule {
 impl Model for Schedule {
     ghost use Rattle.std.specs.Prelude.{◌≤◌, vec_len};
     ghost use Rattle.iloc_timed.specs.Rows.{IsTable};
+    ghost use Rattle.iloc_timed.specs.Limits.{MAX_ROWS};
     ghost use Rattle.iloc_timed.specs.Schedule.{Table};
-    ghost use Rattle.iloc_timed.specs.declared.schedule.TheConstants.{MAX_ROWS};
 
     ghost Value = { Table };
 

@@ -16,8 +16,7 @@ pub fn latency(op: &Op, latencies: &Latencies) -> u64
     ensures latency { result ≡ latency latencies.now op.now }
     ensures within { IsLatency result }
 {
-    let by_kind = [latencies.load, latencies.store, latencies.mult, 1, 1];
-    u64::from(by_kind[Kind::of(op) as usize])
+    u64::from(latencies.of(Kind::of(op)))
 }
 
 /// When the result of what is issued in a slot arrives; 0 for an empty slot.

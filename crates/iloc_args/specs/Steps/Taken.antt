@@ -2,6 +2,8 @@
 use Rattle.std.specs.Prelude.{ℕ, ◌≤◌, List, [], ◌∷◌, IfSome, codes, unwrap_or}
 use Rattle.std.specs.Str.Parse.{IsNumeral, without_leading_plus}
 use Rattle.clap.specs.Words.{Row, Text, many_of, one_of}
+use Rattle.iloc_meaning.specs.Address.{LAST_ADDRESS}
+use Rattle.iloc_timed.specs.Limits.{LONGEST_LATENCY}
 use Rattle.iloc_args.specs.Asked.{number_of}
 
 -- the text writes a number within these bounds
@@ -22,8 +24,8 @@ HoldsIn low high id rows = IfSome (one_of id rows) (IsNumberIn low high)
 -- each option that the matches have is in its range, and each word has 32 bits
 pub record HoldNumbers (rows : List Row) : Type 0 where
   pub workers : HoldsIn 1 8 (codes "workers") rows
-  pub at : HoldsIn 0 65532 (codes "at") rows
+  pub at : HoldsIn 0 LAST_ADDRESS (codes "at") rows
   pub words : AreNumbersIn 0 4294967295 (unwrap_or (many_of (codes "words") rows) [])
-  pub load : HoldsIn 1 16 (codes "load") rows
-  pub store : HoldsIn 1 16 (codes "store") rows
-  pub mult : HoldsIn 1 16 (codes "mult") rows
+  pub load : HoldsIn 1 LONGEST_LATENCY (codes "load") rows
+  pub store : HoldsIn 1 LONGEST_LATENCY (codes "store") rows
+  pub mult : HoldsIn 1 LONGEST_LATENCY (codes "mult") rows

@@ -1,7 +1,7 @@
 -- How many cycles schedules take at most.
 use Rattle.std.specs.Prelude.{ℕ, ◌+◌, ◌*◌}
-use Rattle.iloc_ops.specs.declared.limits.TheConstants.{MAX_OPS}
-use Rattle.iloc_timed.specs.declared.schedule.TheConstants.{MAX_ROWS}
+use Rattle.iloc_ops.specs.Limits.{MAX_OPS}
+use Rattle.iloc_timed.specs.Limits.{MAX_ROWS}
 use Rattle.iloc_sched.specs.declared.wheel.TheConstants.{LONGEST_DELAY}
 
 -- the greedy schedule of a block: the longest latency for each operation

@@ -2,8 +2,7 @@
 use Rattle.std.specs.Prelude.{◌≡◌, Bool, true, false, List, length, ℤ}
 use Rattle.iloc_ops.specs.declared.op.Reg.{Reg}
 use Rattle.iloc_meaning.specs.declared.state.State.{State}
-use Rattle.iloc_meaning.specs.declared.memory.TheConstants.{WORDS}
-use Rattle.iloc_meaning.specs.Memory.{with_words}
+use Rattle.iloc_meaning.specs.Memory.{WORDS, with_words}
 use Rattle.iloc_meaning.specs.Registers.{value_of}
 use Rattle.iloc_meaning.specs.Trace.{Executed, register_after, word_after}
 use Rattle.iloc_meaning.specs.Outcome.{has_fault, emitted}

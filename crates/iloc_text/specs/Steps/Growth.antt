@@ -4,7 +4,7 @@ use Rattle.iloc_ops.specs.declared.op.Op.{Op}
 use Rattle.iloc_ops.specs.declared.file.Block.{Block}
 use Rattle.iloc_text.specs.declared.fault.ReadFault.{ReadFault}
 use Rattle.iloc_text.specs.declared.fault.ReadFault.TheVariants.{TooManyBlocks, TooManyOperations, NoMemory}
-use Rattle.iloc_ops.specs.declared.limits.TheConstants.{MAX_BLOCKS, MAX_OPS}
+use Rattle.iloc_ops.specs.Limits.{MAX_BLOCKS, MAX_OPS}
 
 -- a block without operations stands behind the others
 abbrev pub opened : Option (List ℕ) → List Block → List Block

@@ -1,6 +1,6 @@
 -- What a reader has read of a text that comes piece by piece.
 use Rattle.std.specs.Prelude.{◌≡◌, ℕ, ◌+◌, ◌≤◌, ◌-◌, ◌^◌, min, Option, Some, None, Err, List, [], ◌++◌, length}
-use Rattle.iloc_ops.specs.declared.limits.TheConstants.{MAX_INPUT}
+use Rattle.iloc_ops.specs.Limits.{MAX_INPUT}
 use Rattle.iloc_ops.specs.declared.file.Block.{Block}
 use Rattle.iloc_text.specs.declared.fault.ReadFault.{ReadFault}
 use Rattle.iloc_text.specs.declared.text_reader.TextReader.{TextReader}

@@ -1,6 +1,6 @@
 use Rattle.std.proofs.Common.{◌≤◌, ap, sym, subst, length, map, arith}
 use Rattle.std.specs.List.{AllZip, flat_map}
-use Rattle.iloc_ops.specs.declared.limits.TheConstants.{MAX_BLOCKS}
+use Rattle.iloc_ops.specs.Limits.{MAX_BLOCKS}
 use Rattle.iloc_text.specs.Files.{Denotes}
 use Rattle.iloc_farm.specs.declared.reading.Part.{Part}
 use Rattle.iloc_farm.specs.Steps.Reading.{HoldsItsFile}

@@ -1,7 +1,7 @@
 use Rattle.std.proofs.Common.{◌≡◌, ◌+◌, ℕ, List, [], length}
 use Rattle.std.specs.Io.KnownBytes.{Consumes}
 use Rattle.iloc_text.specs.Steps.TextReads.{HasRead}
-use Rattle.iloc_ops.specs.declared.limits.TheConstants.{MAX_INPUT}
+use Rattle.iloc_ops.specs.Limits.{MAX_INPUT}
 use Rattle.iloc_text.proofs.stream.read_all.Given as goal
 
 -- what came so far, which the reader of the text has read

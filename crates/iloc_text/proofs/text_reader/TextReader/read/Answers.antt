@@ -1,5 +1,5 @@
 use Rattle.std.proofs.Common.{◌∙◌, ◌-◌, ◌≤◌, ◌^◌, min, ap, refl, sym, subst, length, length-append, arith}
-use Rattle.iloc_ops.specs.declared.limits.TheConstants.{MAX_INPUT}
+use Rattle.iloc_ops.specs.Limits.{MAX_INPUT}
 use Rattle.iloc_text.specs.Steps.TextReads.{StandsAt}
 use Rattle.iloc_text.proofs.TextReads.{goes_as, count_further, none_where_not_some}
 use Rattle.iloc_text.proofs.text_reader.TextReader.read.Goals as goal
