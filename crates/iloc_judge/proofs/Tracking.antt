@@ -16,7 +16,8 @@ use Rattle.iloc_meaning.proofs.Cases.{by_bool}
 use Rattle.iloc_meaning.proofs.Effects.{effect_same, results_go}
 use Rattle.iloc_timed.specs.Timed.{Issued, register_in, word_in, executed_in}
 use Rattle.iloc_timed.specs.Steps.Pending.{sent_by, landed_in_register, landed_in_word}
-use Rattle.iloc_timed.specs.Steps.Wheel.{list_at, due_at, AreUnderWay}
+use Rattle.iloc_timed.specs.Wheel.{list_at}
+use Rattle.iloc_timed.specs.Steps.Wheel.{due_at, AreUnderWay}
 use Rattle.iloc_timed.specs.Steps.Machine.{landed, AllLand, then_issued}
 use Rattle.iloc_timed.proofs.Turning.{cleared, pushed, not_pushed}
 use Rattle.iloc_timed.proofs.Landing.{register_more, word_more, landed-later}

@@ -18,7 +18,8 @@ use Rattle.iloc_timed.specs.declared.wheel.Pending.{Pending}
 use Rattle.iloc_timed.specs.declared.wheel.Pending.TheVariants.{Register, Word}
 use Rattle.iloc_timed.specs.Timed.{Issued, register_in, word_in, executed_in}
 use Rattle.iloc_timed.specs.Steps.Pending.{landed_in_register, landed_in_word}
-use Rattle.iloc_timed.specs.Steps.Wheel.{list_at, due_at, AreUnderWay}
+use Rattle.iloc_timed.specs.Wheel.{list_at}
+use Rattle.iloc_timed.specs.Steps.Wheel.{due_at, AreUnderWay}
 use Rattle.iloc_timed.specs.Steps.Machine.{landed, AllLand, Follows, then_issued}
 use Rattle.iloc_timed.proofs.Turning.{cleared, pushed, not_pushed}
 use Rattle.iloc_timed.proofs.Landing.{register_more, word_more, landed-later}
@@ -30,7 +31,7 @@ pub effect_now : (memory : List ℤ) (c : ℕ) (log : List Issued) (machine : Ma
 effect_now memory c log machine op follows =
     effect_same op _ _ _ _ (λ r used. sym (follows.registers r)) (λ a good. sym (follows.words a good))
 
-all_land_later : (c d : ℕ) (log : List Issued) → c ≤ d → AllLand c log → AllLand d log
+pub all_land_later : (c d : ℕ) (log : List Issued) → c ≤ d → AllLand c log → AllLand d log
 all_land_later c d [] later all = tt
 all_land_later c d (e ∷ earlier) later all = (omega (arith, all.0), all.1, all_land_later c d earlier later all.2)
 

@@ -5,20 +5,21 @@ use Rattle.std.proofs.lemmas.List.{get_or-map, map-set}
 use Rattle.iloc_timed.specs.declared.wheel.Pending.{Pending}
 use Rattle.iloc_timed.specs.Timed.{Issued}
 use Rattle.iloc_timed.specs.Steps.Pending.{sent}
-use Rattle.iloc_timed.specs.Steps.Wheel.{list_at, due_at, AreUnderWay}
+use Rattle.iloc_timed.specs.Wheel.{list_at}
+use Rattle.iloc_timed.specs.Steps.Wheel.{due_at, AreUnderWay}
 use Rattle.iloc_timed.specs.Steps.Machine.{AllLand}
 
 -- one list of a `Vec` of lists, read and written
-pub items_set : (lists : List (Vec Pending Global)) (now : List (List Pending)) (k : ℕ) (list : Vec Pending Global)
+pub items_set : {A : Type 0} (lists : List (Vec A Global)) (now : List (List A)) (k : ℕ) (list : Vec A Global)
     → map (λ l. l.items) lists ≡ now → map (λ l. l.items) (set lists k list) ≡ set now k list.items
-items_set lists now k list same = map-set (λ (l : Vec Pending Global). l.items) lists k list
+items_set {A} lists now k list same = map-set (λ (l : Vec A Global). l.items) lists k list
     ∙ ap (λ n. set n k list.items) same
 
-pub items_at : (lists : List (Vec Pending Global)) (now : List (List Pending)) (k : ℕ) (list : Vec Pending Global)
+pub items_at : {A : Type 0} (lists : List (Vec A Global)) (now : List (List A)) (k : ℕ) (list : Vec A Global)
     → map (λ l. l.items) lists ≡ now → k < length lists → list ≡ get_or lists k list → get_or now k [] ≡ list.items
-items_at lists now k list same within is =
-    ap (λ n. get_or n k []) (sym same) ∙ get_or-map (λ (l : Vec Pending Global). l.items) lists k list [] within
-    ∙ ap (λ (l : Vec Pending Global). l.items) (sym is)
+items_at {A} lists now k list same within is =
+    ap (λ n. get_or n k []) (sym same) ∙ get_or-map (λ (l : Vec A Global). l.items) lists k list [] within
+    ∙ ap (λ (l : Vec A Global). l.items) (sym is)
 
 -- two of 16 cycles in a row have two lists
 apart : (c d : ℕ) → c < d → d < c + 16 → d % 16 ≢ c % 16

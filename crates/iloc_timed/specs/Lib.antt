@@ -7,4 +7,5 @@ pub mod Schedule
 pub mod Cycles
 pub mod Spelling
 pub mod Timed
+pub mod Wheel
 pub mod Steps

@@ -24,3 +24,4 @@ pub use schedule::{MAX_ROWS, Schedule};
 pub use simulator::Simulator;
 pub use spelling::{push_row, push_row_line};
 pub use timing::{cycles, cycles_of, latency};
+pub use wheel::{LONGEST, Lands, Wheel};

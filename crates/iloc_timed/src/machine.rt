@@ -60,7 +60,7 @@ fn land_all(
 #[derive(Drop)]
 pub(crate) struct Machine {
     pub(crate) state: State,
-    wheel: Wheel,
+    wheel: Wheel<Pending>,
 }
 
 impl Machine {

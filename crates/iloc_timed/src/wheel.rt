@@ -1,8 +1,8 @@
 //! Results on their way to where they are written.
-ghost use Rattle.std.specs.Prelude.{◌≡◌, ◌%◌, ◌++◌, ◌∷◌, [], ℕ, List, length, replicate, slice_set, All, IfOk, OnOk};
-ghost use Rattle.iloc_timed.specs.Steps.Pending.{CanLand};
-ghost use Rattle.iloc_timed.specs.Steps.Wheel.{list_at};
+ghost use Rattle.std.specs.Prelude.{◌≡◌, ◌%◌, ◌++◌, ◌∷◌, [], ℕ, length, replicate, slice_set, All, IfOk, OnOk};
+ghost use Rattle.iloc_timed.specs.Wheel.{list_at};
 
+use crate::latencies::LONGEST_LATENCY;
 use iloc_ops::{NoMemory, Reg};
 use std::alloc::Global;
 use std::marker::Model;
@@ -16,31 +16,41 @@ pub(crate) enum Pending {
     Word { address: u32, word: i32 },
 }
 
-/// How many cycles a result may be under way.
-pub(crate) const LONGEST: usize = 16;
-
-/// The results under way, in order of issue, by the cycle at which they are due, modulo 16.
-#[derive(Drop)]
-pub(crate) struct Wheel {
-    lists: Vec<Vec<Pending>>,
+/// What goes round on a wheel.
+pub trait Lands {
+    // It may be written where it goes.
+    ghost can_land: { Self → Type 0 };
 }
 
-impl Model for Wheel {
-    ghost use Rattle.std.specs.Prelude.{◌≡◌, List, map, vec_len, Vec};
-    ghost use Rattle.std.specs.List.{All};
-    ghost use Rattle.iloc_timed.specs.declared.wheel.Pending.{Pending};
+impl Lands for Pending {
     ghost use Rattle.iloc_timed.specs.Steps.Pending.{CanLand};
 
-    ghost Value = { List (List Pending) };
+    ghost can_land = { CanLand };
+}
+
+/// How many cycles a result may be under way.
+pub const LONGEST: usize = LONGEST_LATENCY as usize;
+
+/// The results under way, in order of issue, by the cycle at which they are due, modulo the longest latency.
+#[derive(Drop)]
+pub struct Wheel<T: Lands> {
+    lists: Vec<Vec<T>>,
+}
+
+impl<T: Lands> Model for Wheel<T> {
+    ghost use Rattle.std.specs.Prelude.{◌≡◌, List, map, vec_len};
+    ghost use Rattle.std.specs.List.{All};
+
+    ghost Value = { List (List T) };
 
     ghost view = { λ wheel. map (λ list. list.items) wheel.lists.items };
 
-    ghost invariant = { λ wheel. (vec_len wheel.lists ≡ 16) × All (λ list. All CanLand list.items) wheel.lists.items };
+    ghost invariant = { λ wheel. (vec_len wheel.lists ≡ 16) × All (λ list. All T.can_land list.items) wheel.lists.items };
 }
 
-impl Wheel {
+impl<T: Lands + Drop> Wheel<T> {
     /// Nothing under way.
-    pub(crate) fn new(alloc: Global) -> Result<Wheel, NoMemory>
+    pub fn new(alloc: Global) -> Result<Wheel<T>, NoMemory>
         ensures { IfOk result (λ wheel. wheel ≡ replicate 16 []) }
     {
         let mut lists = Vec::with_capacity(alloc, LONGEST)?;
@@ -51,16 +61,16 @@ impl Wheel {
     }
 
     /// What is due at a cycle.
-    pub(crate) fn due(&self, cycle: usize) -> &[Pending]
+    pub fn due(&self, cycle: usize) -> &[T]
         ensures due { result.now ≡ list_at self.now cycle }
-        ensures can_land { All CanLand result.now }
+        ensures can_land { All T.can_land result.now }
     {
         self.lists[cycle % LONGEST].as_slice()
     }
 
     /// Adds a result that is due at a cycle.
-    pub(crate) fn push(&mut self, cycle: usize, pending: Pending) -> Result<(), NoMemory>
-        requires { CanLand pending }
+    pub fn push(&mut self, cycle: usize, pending: T) -> Result<(), NoMemory>
+        requires { T.can_land pending }
         ensures { OnOk result (self.new ≡ slice_set self.old (cycle % 16) (list_at self.old cycle ++ pending ∷ [])) }
     {
         self.lists[cycle % LONGEST].push(pending)?;
@@ -68,14 +78,14 @@ impl Wheel {
     }
 
     /// Takes out what was due at a cycle.
-    pub(crate) fn clear(&mut self, cycle: usize)
+    pub fn clear(&mut self, cycle: usize)
         ensures { self.new ≡ slice_set self.old (cycle % 16) [] }
     {
         self.lists[cycle % LONGEST].clear();
     }
 
     /// Takes out all.
-    pub(crate) fn clear_all(&mut self)
+    pub fn clear_all(&mut self)
         ensures count { length self.new ≡ 16 }
         ensures empty { (cycle : ℕ) → list_at self.new cycle ≡ [] }
     {

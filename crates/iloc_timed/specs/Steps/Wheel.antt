@@ -1,12 +1,9 @@
--- The wheel of what is under way: a list for each cycle, modulo 16.
-use Rattle.std.specs.Prelude.{ℕ, ◌+◌, ◌%◌, ◌≡◌, ◌<◌, ◌≤◌, ◌==◌, if◌then◌else◌, List, [], ◌∷◌, ◌++◌, length, slice_index_or, option_to_list}
+-- What is under way on the wheel.
+use Rattle.std.specs.Prelude.{ℕ, ◌+◌, ◌≡◌, ◌<◌, ◌≤◌, ◌==◌, if◌then◌else◌, List, [], ◌∷◌, ◌++◌, length, option_to_list}
 use Rattle.iloc_timed.specs.declared.wheel.Pending.{Pending}
 use Rattle.iloc_timed.specs.Timed.{Issued}
+use Rattle.iloc_timed.specs.Wheel.{list_at}
 use Rattle.iloc_timed.specs.Steps.Pending.{sent}
-
--- the list of cycle c
-abbrev pub list_at : List (List Pending) → ℕ → List Pending
-list_at lists c = slice_index_or lists (c % 16) []
 
 -- what is due at cycle c, in order of issue
 abbrev pub due_at : ℕ → List Issued → List Pending

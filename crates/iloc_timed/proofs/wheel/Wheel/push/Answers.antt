@@ -3,7 +3,7 @@ use Rattle.iloc_timed.proofs.Turning.{items_at, items_set}
 use Rattle.iloc_timed.proofs.wheel.Wheel.push.Goals as goal
 
 pub returns : goal.returns
-returns c =
+returns g c =
     let within : c.args.cycle % 16 < length c.self.inside.lists.items =
     rw (← c.self.inside.lists.ok.0, c.self.invariant.0) (omega arith) in
     items_set c.self.inside.lists.items _ _ c.push.new.self c.self.view_is
