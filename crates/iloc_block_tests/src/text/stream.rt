@@ -100,6 +100,15 @@ fn counts_the_bytes_behind_a_fault(rt: HostRuntime) {
 }
 
 #[test]
+fn reads_nothing_behind_one_byte_too_many(rt: HostRuntime) {
+    let mut source = giving(b"", usize::MAX);
+    source.blanks = MAX_INPUT + 1;
+    source.end = Some(ErrorKind::Other);
+    let told = read_file_from(rt.alloc(), &mut source).err();
+    assert!(rt; told == Some(StreamFault::Text(ReadFault::InputTooLong)));
+}
+
+#[test]
 fn tells_that_a_read_failed_before_a_fault(rt: HostRuntime) {
     let mut source = giving(b"not\n", 3);
     source.end = Some(ErrorKind::Other);

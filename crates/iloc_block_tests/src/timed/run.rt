@@ -169,3 +169,13 @@ fn emits_what_has_arrived_in_order_of_issue(rt: HostRuntime) -> Result<(), Fail>
     }
     Ok(())
 }
+
+#[test]
+fn emits_from_either_unit(rt: HostRuntime) -> Result<(), Fail> {
+    let issues = [(0, Some(0), None), (1, None, Some(1))];
+    let schedule = issued(rt.alloc(), OUTPUTS, &issues)?;
+    let zero = Memory::zero(rt.alloc())?;
+    let outcome = run_schedule(rt.alloc(), &schedule, &Latencies::usual(), zero)?;
+    assert!(rt; left(&outcome) == Some((&[0, 0], 0)));
+    Ok(())
+}
