@@ -20,6 +20,8 @@ FORWARDED = TWO_STORES + "store r2 => r1\n"
 UNUSED_LOAD = LOADED + "load r2 => r3\noutput 8\n"
 TWO_OUTPUTS = "output 4\noutput 8\n"
 FAULTS_FIRST = "output 1\noutput 8\n"
+# It faults on every memory.
+BIG_ADDRESS = "loadI 100000 => r0\nloadI 6 => r1\nloadI 7 => r2\nmult r1, r2 => r3\nstore r3 => r0\noutput 100000\n"
 # The words of memories that are made up.
 COUNTED = " ".join(map(str, range(1, 65)))
 ADDRESSES = " ".join(map(str, range(8, 264, 4)))
@@ -38,8 +40,7 @@ SAME = {
                                                          "storeAI r1 => r2, 4\nstore r3 => r1\n"),
     "word_that_was_stored": (TWO_STORES + "loadAI r2, 8 => r3\nstore r3 => r1\n", FORWARDED),
     "load_that_cannot_fault": (LOADED + "output 8\n", "output 8\n"),
-    # Whatever stands behind a fault that always comes isn't done.
-    "another_fault": (FAULTS_FIRST, "loadI 1 => r1\nload r1 => r2\n"),
+    "itself_with_a_fault": (BIG_ADDRESS, BIG_ADDRESS),
     "outputs": (TWO_OUTPUTS, TWO_OUTPUTS),
     "square": (SQUARE, SQUARE),
 }
@@ -68,6 +69,10 @@ VERDICTS = {
     "word_too_many": (SQUARE, SQUARE + "loadI 0 => r4\nstore r3 => r4\n", "differs", "word 0: 81 for 0"),
     "fault": (SQUARE, "loadI 4 => r1\nload r1 => r2\nload r2 => r3\noutput 4\n", "differs", "fault"),
     "no_fault": ("output 1\n", "output 8\n", "differs", "no fault"),
+    # Whatever is after a fault that always comes isn't done; but who faults otherwise, or does less, isn't passed.
+    "another_fault": (FAULTS_FIRST, "loadI 1 => r1\nload r1 => r2\n", "agrees", ""),
+    "fault_without_the_product": (BIG_ADDRESS, "loadI 100000 => r0\noutput 100000\n", "agrees", ""),
+    "fault_with_another_product": (BIG_ADDRESS, BIG_ADDRESS.replace("loadI 7", "loadI 8"), "agrees", ""),
     # The product of 9 and 9, but of nothing else.
     "refuted_product": (SQUARE, SQUARE.replace("mult r2, r2", "multI r2, 9"), "differs",
                         f"output 1: 9 for 1 with --at 4 {COUNTED}"),

@@ -10,7 +10,7 @@ use Rattle.iloc_judge.specs.declared.symbols.Symbols.{Symbols}
 use Rattle.iloc_judge.specs.Steps.Terms.{Meaning}
 use Rattle.iloc_judge.specs.Steps.Symbols.{some_bad}
 use Rattle.iloc_judge.specs.Steps.Tracking.{Stands, Ends}
-use Rattle.iloc_judge.specs.Steps.Agreement.{AreSame, Agree}
+use Rattle.iloc_judge.specs.Steps.Agreement.{AreSame}
 
 good_word : (k : ℕ) → k < WORDS → is_good (pos (4 * k)) ≡ true
 good_word k within = grind (arith, nat_tests)
@@ -49,18 +49,14 @@ both_stand memory d log log' one other size first second same =
     rw (first.no_fault, second.no_fault, outputs, words) refl
 
 pub same_outcome : (memory : List ℤ) (d : Meaning) (log log' : List Issued) (one other : Symbols)
-    → length memory ≡ WORDS → Ends memory d log one → Ends memory d log' other → Agree d one other
+    → length memory ≡ WORDS → Ends memory d log one → Ends memory d log' other → AreSame d one other
     → timed_outcome_of memory log ≡ timed_outcome_of memory log'
-same_outcome memory d log log' one other size ended ended' agree = elim agree [
-  | inl bad ↦ both_fault memory log log' (faults memory d log one ended bad.first)
-      (faults memory d log' other ended' bad.second)
-  | inr same ↦ elim ended [
-    | inl faulted ↦ both_fault memory log log' faulted.fault
-        (faults memory d log' other ended' (same.there faulted.bad))
-    | inr stands ↦ elim ended' [
-      | inl faulted' ↦ both_fault memory log log'
-          (faults memory d log one (inr stands) (same.back faulted'.bad)) faulted'.fault
-      | inr stands' ↦ both_stand memory d log log' one other size stands stands' same
-    ]
+same_outcome memory d log log' one other size ended ended' same = elim ended [
+  | inl faulted ↦ both_fault memory log log' faulted.fault
+      (faults memory d log' other ended' (same.there faulted.bad))
+  | inr stands ↦ elim ended' [
+    | inl faulted' ↦ both_fault memory log log'
+        (faults memory d log one (inr stands) (same.back faulted'.bad)) faulted'.fault
+    | inr stands' ↦ both_stand memory d log log' one other size stands stands' same
   ]
 ]

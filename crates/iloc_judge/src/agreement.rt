@@ -1,9 +1,7 @@
 //! Whether two runs in terms end with the same.
 ghost use Rattle.std.specs.Prelude.{◌≡◌, ◌⊎◌, true, false, List, ℤ, slice_index_or, IfOk};
-ghost use Rattle.iloc_meaning.specs.Address.{is_good};
 ghost use Rattle.iloc_judge.specs.Steps.Terms.{Meaning, IsMeaning};
-ghost use Rattle.iloc_judge.specs.Steps.Symbols.{some_bad};
-ghost use Rattle.iloc_judge.specs.Steps.Agreement.{AreMarks, IsSurelyGood, BadThere, Agree};
+ghost use Rattle.iloc_judge.specs.Steps.Agreement.{AreMarks, IsSurelyGood, BadThere, AreSame};
 
 use crate::node::Node;
 use crate::symbols::Symbols;
@@ -12,25 +10,14 @@ use iloc_meaning::Memory;
 use iloc_ops::NoMemory;
 use std::alloc::Global;
 
-/// Whether an address is known, and good or not as asked.
-fn is_known(table: &Table, address: u32, good: bool) -> bool
-    ensures { result ≡ true → (memory : List ℤ) (d : Meaning) → IsMeaning memory table.now d
-        → is_good (d.word address) ≡ good }
+/// Whether an address is known and good.
+fn is_known(table: &Table, address: u32) -> bool
+    ensures { result ≡ true → IsSurelyGood table.now address }
 {
     match table.node(address) {
-        Some(Node::Known(word)) => Memory::is_good(word) == good,
+        Some(Node::Known(word)) => Memory::is_good(word),
         _ => false,
     }
-}
-
-/// Whether one of these addresses is known and isn't good.
-fn has_known_bad(table: &Table, addresses: &[u32]) -> bool
-    ensures { result ≡ true → (memory : List ℤ) (d : Meaning) → IsMeaning memory table.now d →
-        some_bad d addresses.now ≡ true }
-{
-    addresses
-        .iter()
-        .any(|&address| is_known(table, address, false))
 }
 
 /// For each of so many numbers whether it stands in a list.
@@ -57,7 +44,7 @@ pub(crate) fn is_marked(marks: &[bool], number: u32) -> bool
 fn is_settled(table: &Table, marks: &[bool], address: u32) -> bool
     ensures { result ≡ true → (slice_index_or marks.now address false ≡ true) ⊎ IsSurelyGood table.now address }
 {
-    is_marked(marks, address) || is_known(table, address, true)
+    is_marked(marks, address) || is_known(table, address)
 }
 
 /// Whether each of these addresses is surely good or stands among those: where one of these is bad, one
@@ -79,8 +66,8 @@ fn is_bad_there(
     Ok(true)
 }
 
-/// Whether two runs end with the same outputs and memory and the same unknown addresses, or both have a
-/// known bad one.
+/// Whether two runs end with the same outputs and memory, and do something at the same addresses but for known
+/// good ones. Of a block that is known to fault, too, the rows have to do all else alike.
 pub(crate) fn agree(
     alloc: Global,
     table: &Table,
@@ -88,17 +75,12 @@ pub(crate) fn agree(
     other: &Symbols,
 ) -> Result<bool, NoMemory>
     ensures { IfOk result (λ yes. yes ≡ true → (memory : List ℤ) (d : Meaning) →
-        IsMeaning memory table.now d → Agree d one.now other.now) }
+        IsMeaning memory table.now d → AreSame d one.now other.now) }
 {
-    let faults = has_known_bad(table, &one.addresses);
-    if faults != has_known_bad(table, &other.addresses) {
-        return Ok(false);
-    }
     Ok(
-        faults
-            || one.outputs == other.outputs
-                && one.memory == other.memory
-                && is_bad_there(alloc, table, &one.addresses, &other.addresses)?
-                && is_bad_there(alloc, table, &other.addresses, &one.addresses)?,
+        one.outputs == other.outputs
+            && one.memory == other.memory
+            && is_bad_there(alloc, table, &one.addresses, &other.addresses)?
+            && is_bad_there(alloc, table, &other.addresses, &one.addresses)?,
     )
 }

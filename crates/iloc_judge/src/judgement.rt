@@ -53,23 +53,3 @@ pub(crate) fn has_lists(schedule: &Schedule, ops: &[Op], rows: &[Row]) -> bool
 {
     schedule.ops() == ops && schedule.rows() == rows
 }
-
-/// Whether two schedules are seen to do the same: where it answers `true`, their timed outcomes are equal
-/// on every memory of 16,384 words of 32 bits. Of `false` nothing follows but that they aren't one schedule.
-pub fn same(
-    alloc: Global,
-    ours: &Schedule,
-    theirs: &Schedule,
-    latencies: &Latencies,
-) -> Result<bool, NoMemory>
-    ensures sound { IfOk result (λ yes. yes ≡ true → (memory : List ℤ) → IsMemory memory
-        → timed_outcome latencies.now ours.now.ops ours.now.rows memory
-        ≡ timed_outcome latencies.now theirs.now.ops theirs.now.rows memory) }
-    ensures itself { IfOk result (λ yes.
-        ours.now.ops ≡ theirs.now.ops → ours.now.rows ≡ theirs.now.rows → yes ≡ true) }
-{
-    if has_lists(ours, theirs.ops(), theirs.rows()) {
-        return Ok(true);
-    }
-    Ok(clues(alloc, ours, theirs, latencies)?.is_none())
-}

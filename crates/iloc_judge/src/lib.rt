@@ -19,7 +19,6 @@ mod verdict;
 mod wheel;
 mod words;
 
-pub use judgement::same;
 pub use place::Place;
 pub use probe::Probe;
 pub use verdict::{Verdict, judge};

@@ -21,6 +21,14 @@ pub(crate) enum Pattern {
     AddressesAndConstants,
     /// A known constant and a known address in turn.
     ConstantsAndAddresses,
+    /// The bases in turn, from the second on.
+    Bases,
+    /// The bases in turn, from the third on.
+    LaterBases,
+    /// The known addresses in turn, from the fourth on.
+    LaterAddresses,
+    /// As far below one known address as the second offset says.
+    OneBase,
 }
 
 /// An odd number, so that its multiples modulo 2^32 are distinct.
@@ -33,7 +41,7 @@ fn in_turn(words: &[u32], place: u32) -> u32 {
 }
 
 impl Pattern {
-    pub(crate) const ALL: [Pattern; 8] = [
+    pub(crate) const ALL: [Pattern; 12] = [
         Pattern::Small,
         Pattern::Large,
         Pattern::OwnAddresses,
@@ -42,12 +50,17 @@ impl Pattern {
         Pattern::OneAddress,
         Pattern::AddressesAndConstants,
         Pattern::ConstantsAndAddresses,
+        Pattern::Bases,
+        Pattern::LaterBases,
+        Pattern::LaterAddresses,
+        Pattern::OneBase,
     ];
 
     /// The word at a place of a made-up memory, from 0, that starts at an address.
     pub(crate) fn word(self, clues: &Clues, start: u32, place: u32) -> u32 {
         let address = |place: u32| in_turn(&clues.addresses, place);
         let constant = |place: u32| in_turn(&clues.constants, place);
+        let base = |place: u32| in_turn(&clues.bases, place);
         let is_even = place % 2 == 0;
         match self {
             Pattern::Small => place.wrapping_add(1),
@@ -56,6 +69,10 @@ impl Pattern {
             Pattern::Addresses => address(place),
             Pattern::OneAddress => address(0),
             Pattern::Constants => constant(place),
+            Pattern::Bases => base(place.wrapping_add(1)),
+            Pattern::LaterBases => base(place.wrapping_add(2)),
+            Pattern::LaterAddresses => address(place.wrapping_add(3)),
+            Pattern::OneBase => address(0).wrapping_sub(in_turn(&clues.offsets, 1)),
             Pattern::AddressesAndConstants if is_even => address(place / 2),
             Pattern::ConstantsAndAddresses if !is_even => address(place / 2),
             Pattern::AddressesAndConstants | Pattern::ConstantsAndAddresses => constant(place / 2),

@@ -1,5 +1,5 @@
 -- The same terms at the ends of two schedules.
-use Rattle.std.specs.Prelude.{ℕ, ◌≡◌, ◌⊎◌, ◌==◌, Bool, true, false, List, slice_index_or, ℤ}
+use Rattle.std.specs.Prelude.{ℕ, ◌≡◌, ◌==◌, Bool, true, false, List, slice_index_or, ℤ}
 use Rattle.std.specs.List.{list_any}
 use Rattle.iloc_meaning.specs.Address.{is_good}
 use Rattle.iloc_judge.specs.declared.symbols.Symbols.{Symbols}
@@ -25,11 +25,6 @@ abbrev pub BadThere : List Node → List ℕ → List ℕ → Type 0
 BadThere nodes these those =
     (memory : List ℤ) (d : Meaning) → IsMeaning memory nodes d → some_bad d these ≡ true → some_bad d those ≡ true
 
--- an address of each is bad
-pub record AreBad (d : Meaning) (one other : Symbols) : Type 0 where
-  pub first : some_bad d one.addresses.items ≡ true
-  pub second : some_bad d other.addresses.items ≡ true
-
 -- the same outputs and memory, and where one has a bad address the other has
 pub record AreSame (d : Meaning) (one other : Symbols) : Type 0 where
   pub outputs : one.outputs.items ≡ other.outputs.items
@@ -37,10 +32,7 @@ pub record AreSame (d : Meaning) (one other : Symbols) : Type 0 where
   pub there : some_bad d one.addresses.items ≡ true → some_bad d other.addresses.items ≡ true
   pub back : some_bad d other.addresses.items ≡ true → some_bad d one.addresses.items ≡ true
 
-abbrev pub Agree : Meaning → Symbols → Symbols → Type 0
-Agree d one other = AreBad d one other ⊎ AreSame d one other
-
 -- the terms are in order, and the ends agree, whatever they mean
 pub record SeenSame (nodes : List Node) (one other : Symbols) : Type 0 where
   pub ordered : IsOrdered nodes
-  pub agreed : (memory : List ℤ) (d : Meaning) → IsMeaning memory nodes d → Agree d one other
+  pub agreed : (memory : List ℤ) (d : Meaning) → IsMeaning memory nodes d → AreSame d one other
