@@ -2,14 +2,17 @@
 import os
 import shutil
 import subprocess
+import tempfile
+import unittest
 
+import counted
 from waiting import Failed
 
 TOP = os.path.dirname(os.path.dirname(os.path.abspath(__file__)))
 SECONDS = 120
 
 
-class Missing(Exception):
+class Missing(unittest.SkipTest):
     """What a case needs isn't there."""
 
 
@@ -85,3 +88,18 @@ class Place:
             except subprocess.TimeoutExpired:
                 process.kill()
                 process.wait()
+
+
+class InPlace(counted.Case):
+    """A case that gets a place of its own."""
+
+    def __init__(self, suite, program, call):
+        super().__init__(f"{suite}/{call.__name__}", call)
+        self.program = program
+
+    def runTest(self):
+        folder = tempfile.TemporaryDirectory(prefix="ilocfarm-")
+        self.addCleanup(folder.cleanup)
+        place = Place(self.program, os.path.realpath(folder.name))
+        self.addCleanup(place.close)
+        self.call(place)

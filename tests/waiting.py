@@ -6,7 +6,7 @@ import time
 SECONDS = 60
 
 
-class Failed(Exception):
+class Failed(AssertionError):
     """A case has another result than it must have."""
 
 
