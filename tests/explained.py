@@ -2,6 +2,7 @@
 import random
 
 from blocks import FORMS, ODD, ROLES, USUAL, Op, beside, delays, renamed, text_of, words_for
+from bound import least_of
 from case import Case
 from reading import read
 
@@ -84,13 +85,7 @@ class Explained:
         return max([0, *(self.places[j][0] + op.latency(self.latencies) for j, op in enumerate(self.ops))])
 
     def least(self):
-        """The greatest over the shares of a row: of operations by falling priority, row and priority together."""
-        bounds = [0]
-        for share, width in (({"load", "store"}, 1), ({"mult"}, 1), ({"output"}, 1), (None, 2)):
-            of_share = (p for op, p in zip(self.ops, self.priorities) if not share or op.kind in share)
-            shared = sorted(of_share, reverse=True)
-            bounds += [j // width + p for j, p in enumerate(shared)]
-        return max(bounds)
+        return least_of(self.ops, self.pairs, self.latencies)
 
     def lines(self):
         for j, op in enumerate(self.ops):

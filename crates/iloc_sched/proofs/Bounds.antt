@@ -3,6 +3,9 @@ pub mod PriorityBound
 pub mod CoveredCycles
 pub mod BusyCycles
 pub mod Counting
-pub mod NeededCycles
-pub mod SharedPriorities
+pub mod Packing
+pub mod Swept
+pub mod SharedMembers
+pub mod RowsHold
+pub mod TailBound
 pub mod LeastBound

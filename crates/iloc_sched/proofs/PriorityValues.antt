@@ -9,3 +9,5 @@ pub mod DependentsFound
 pub mod DependentsCounted
 pub mod Named
 pub mod Slacks
+pub mod Tails
+pub mod TailsFound

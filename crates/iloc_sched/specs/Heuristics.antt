@@ -1,5 +1,5 @@
 -- Other priorities, by which the same choice is made.
-use Rattle.std.specs.Prelude.{ℕ, zero, suc, ◌+◌, ◌-◌, max, nat_lt, ◌==◌, ◌||◌, ◌&&◌, Bool, false, List, [], ◌∷◌, ◌++◌, length, map, fold, count_by, slice_index}
+use Rattle.std.specs.Prelude.{ℕ, zero, suc, ◌+◌, ◌-◌, max, nat_lt, ◌==◌, ◌||◌, ◌&&◌, Bool, false, List, length, map, fold, count_by}
 use Rattle.std.specs.List.{list_any, range_with_len}
 use Rattle.iloc_ops.specs.declared.op.Op.{Op}
 use Rattle.iloc_meaning.specs.Trace.{op_at}
@@ -9,29 +9,7 @@ use Rattle.iloc_sched.specs.declared.heuristic.Heuristic.{Heuristic}
 use Rattle.iloc_sched.specs.declared.heuristic.Heuristic.TheVariants.{Chain, Order, Latency, Slack, Descendants}
 use Rattle.iloc_sched.specs.Delays.{delays}
 use Rattle.iloc_sched.specs.Priority.{priorities, priority}
-
--- when the delays to operation j from the operations before operation i are over, by the starts of these
-abbrev pub arrivals : Latencies → List Op → List ℕ → ℕ → ℕ → List ℕ
-arrivals lat ops starts j zero = []
-arrivals lat ops starts j (suc i) =
-    arrivals lat ops starts j i ++ map (λ d. d + slice_index starts i) (delays lat (op_at ops i) (op_at ops j))
-
--- the starts of the operations before operation j, and behind them that of operation j
-abbrev pub with_start : Latencies → List Op → ℕ → List ℕ → List ℕ
-with_start lat ops j starts = starts ++ fold max 0 (arrivals lat ops starts j j) ∷ []
-
-abbrev pub starts_before : Latencies → List Op → ℕ → List ℕ
-starts_before lat ops zero = []
-starts_before lat ops (suc j) = with_start lat ops j (starts_before lat ops j)
-
--- by operation the earliest cycle that its delays leave: the greatest of 0 and of all d + start(i) over the delay pairs
--- (i, j, d)
-abbrev pub starts : Latencies → List Op → List ℕ
-starts lat ops = starts_before lat ops (length ops)
-
--- the start of operation i
-abbrev pub start : Latencies → List Op → ℕ → ℕ
-start lat ops i = slice_index (starts lat ops) i
+use Rattle.iloc_sched.specs.Starts.{start}
 
 -- the length of the longest chain of delays through operation i
 abbrev pub through : Latencies → List Op → ℕ → ℕ

@@ -42,6 +42,12 @@ abbrev pub LeastBoundsTheCycles : Type 0
 LeastBoundsTheCycles = (lat : Latencies) (block ops : List Op) (rows : List Row)
     → IsLawful lat block ops rows → least lat block ≤ cycles lat ops rows
 
+-- where a lawful schedule of a block takes just so many, no other takes fewer
+abbrev pub BoundsProveTheOptimum : Type 0
+BoundsProveTheOptimum = (lat : Latencies) (block ops ops' : List Op) (rows rows' : List Row)
+    → IsLawful lat block ops rows → cycles lat ops rows ≡ least lat block
+    → IsLawful lat block ops' rows' → cycles lat ops rows ≤ cycles lat ops' rows'
+
 -- the cycles of a greedy schedule are at most the latencies of its operations together
 abbrev pub LatenciesBoundTheCycles : Type 0
 LatenciesBoundTheCycles = (lat : Latencies) (block ops : List Op) (rows : List Row)

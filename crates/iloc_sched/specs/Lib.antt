@@ -2,6 +2,7 @@ pub mod Renaming
 pub mod Delays
 pub mod Pairs
 pub mod Priority
+pub mod Starts
 pub mod Lawful
 pub mod Greedy
 pub mod Heuristics

@@ -10,8 +10,10 @@ pub mod Views
 pub mod Order
 pub mod Changes
 pub mod Classes
+pub mod Packing
 pub mod Shares
 pub mod Starts
+pub mod Tails
 pub mod Dependents
 pub mod Queued
 pub mod SoFar

@@ -1,5 +1,5 @@
 //! Laws of schedules, as contracts of functions that do nothing.
-ghost use Rattle.iloc_sched.specs.Laws.{LawfulSchedulesKeepTheOutcome, BlocksHaveOneGreedySchedule, PrioritiesHaveOneGreedySchedule, PrioritiesBoundTheCycles, LeastBoundsTheCycles, LatenciesBoundTheCycles, LatenciesBoundTheCyclesByPriorities, LessSlackIsALongerChain};
+ghost use Rattle.iloc_sched.specs.Laws.{LawfulSchedulesKeepTheOutcome, BlocksHaveOneGreedySchedule, PrioritiesHaveOneGreedySchedule, PrioritiesBoundTheCycles, LeastBoundsTheCycles, BoundsProveTheOptimum, LatenciesBoundTheCycles, LatenciesBoundTheCyclesByPriorities, LessSlackIsALongerChain};
 
 /// Whatever schedule of a block is lawful: on every memory, with all registers 0, it has the block's
 /// outcome. It emits the same words and leaves the same memory, or it faults where the block does.
@@ -26,6 +26,12 @@ pub fn priorities_bound_the_cycles()
 /// No lawful schedule of a block takes fewer cycles than its `least`.
 pub fn least_bounds_the_cycles()
     ensures { LeastBoundsTheCycles }
+{}
+
+/// A lawful schedule that takes just as many cycles as its block's `least` is optimal among the lawful schedules of the
+/// block: none takes fewer.
+pub fn bounds_prove_the_optimum()
+    ensures { BoundsProveTheOptimum }
 {}
 
 /// A greedy schedule takes at most as many cycles as the latencies of its operations together.

@@ -13,6 +13,7 @@ mod kinds;
 mod lasts;
 pub mod laws;
 mod lower_bound;
+mod packing;
 mod plan;
 mod priority;
 mod queue;
@@ -21,6 +22,8 @@ mod registers;
 mod renaming;
 mod scheduler;
 mod slack;
+mod starts;
+mod tails;
 mod waiting;
 mod wheel;
 

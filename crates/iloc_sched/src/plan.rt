@@ -122,6 +122,24 @@ impl Plan {
         Ok(())
     }
 
+    /// Takes the operations of a block, as `gather` does, for these latencies.
+    pub fn open(
+        &mut self,
+        names: &mut Names,
+        lasts: &mut Lasts,
+        block: &Block,
+        latencies: &Latencies,
+    ) -> Result<(), NoMemory>
+        requires { length block.now.ops ≤ MAX_OPS }
+        ensures kinds { OnOk result (self.new.kinds.items ≡ map kind self.new.ops.items) }
+        ensures graph { OnOk result (IsGraphOf latencies.now self.new.ops.items (graph_of self.new.edges)) }
+        ensures starts { OnOk result (length self.new.edges.starts.items ≡ length self.new.edges.heads.items + 1) }
+        ensures ops { OnOk result (self.new.ops.items ≡ renamed block.now.ops) }
+    {
+        self.latencies = *latencies;
+        self.gather(names, lasts, block)
+    }
+
     /// Becomes the plan of a block, by a heuristic.
     #[inline(always)]
     pub fn fill(

@@ -16,7 +16,11 @@ use iloc_timed::{Kind, Latencies};
 use std::alloc::Global;
 
 /// Fills a list with the latency of each operation, by their kinds.
-fn fill_latencies(own: &mut Vec<u32>, kinds: &[Kind], latencies: &Latencies) -> Result<(), NoMemory>
+pub(crate) fn fill_latencies(
+    own: &mut Vec<u32>,
+    kinds: &[Kind],
+    latencies: &Latencies,
+) -> Result<(), NoMemory>
     ensures { OnOk result (own.new.items ≡ map (latency_of latencies.now) kinds.now) }
 {
     own.clear();

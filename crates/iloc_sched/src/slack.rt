@@ -4,30 +4,15 @@ ghost use Rattle.std.specs.List.{range_with_len};
 ghost use Rattle.iloc_ops.specs.declared.op.Op.{Op};
 ghost use Rattle.iloc_timed.specs.declared.latencies.Latencies.{Latencies};
 ghost use Rattle.iloc_timed.specs.Latency.{latency};
-ghost use Rattle.iloc_sched.specs.Heuristics.{starts, through};
+ghost use Rattle.iloc_sched.specs.Heuristics.{through};
 ghost use Rattle.iloc_sched.specs.Steps.Graph.{IsGraphOf, AreLatencies};
 ghost use Rattle.iloc_sched.specs.Steps.Views.{graph_of};
 
 use crate::edges::Edges;
 use crate::priority::raise_priorities;
+use crate::starts::raise_starts;
 use iloc_ops::NoMemory;
 use std::alloc::Global;
-
-/// Raises zeros to the starts of operations by the kept edges: an operation's is final once the edges into it are gone
-/// through, which all lie before those out of it.
-fn raise_starts(found: &mut Vec<u32>, edges: &Edges)
-    requires graph { (lat : Latencies) × (ops : List Op) × IsGraphOf lat ops (graph_of edges.now) }
-    requires zeros { found.old.items ≡ replicate (length edges.now.heads.items) 0 }
-    ensures { (lat : Latencies) (ops : List Op) → IsGraphOf lat ops (graph_of edges.now)
-        → found.new.items ≡ starts lat ops }
-{
-    for x in 0..edges.edge_count() {
-        let edge = edges.get(x);
-        let arrival = edge.delay + found[edge.from as usize];
-        let target = edge.to as usize;
-        found[target] = found[target].max(arrival);
-    }
-}
 
 /// Adds other numbers to these, each to the one in its place.
 fn add_each(sums: &mut Vec<u32>, others: &[u32])

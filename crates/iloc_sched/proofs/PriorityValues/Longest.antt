@@ -16,7 +16,7 @@ pub length-priorities : (lat : Latencies) (ops : List Op) → length (priorities
 length-priorities lat [] = refl
 length-priorities lat (op ∷ later) = ap suc (length-priorities lat later)
 
-in_reaches : (lat : Latencies) (op : Op) (later : List Op) (prios : List ℕ) (j d : ℕ) → length prios ≡ length later
+pub in_reaches : (lat : Latencies) (op : Op) (later : List Op) (prios : List ℕ) (j d : ℕ) → length prios ≡ length later
     → j < length later → In (delays lat op (op_at later j)) d
     → In (reaches lat op later prios) (d + slice_index prios j)
 in_reaches lat op [] prios j d same within there = absurd (omega arith)
@@ -29,14 +29,14 @@ in_reaches lat op (next ∷ later) (prio ∷ prios) (suc j) d same within there 
     (in_reaches lat op later prios j d (omega arith) (omega arith) there)
 
 -- a delay to a later operation with its priority
-record Reached (lat : Latencies) (op : Op) (later : List Op) (prios : List ℕ) (x : ℕ) : Type 0 where
-  to : ℕ
-  delay : ℕ
-  within : to < length later
-  there : In (delays lat op (op_at later to)) delay
-  is : x ≡ delay + slice_index prios to
+pub record Reached (lat : Latencies) (op : Op) (later : List Op) (prios : List ℕ) (x : ℕ) : Type 0 where
+  pub to : ℕ
+  pub delay : ℕ
+  pub within : to < length later
+  pub there : In (delays lat op (op_at later to)) delay
+  pub is : x ≡ delay + slice_index prios to
 
-from_reaches : (lat : Latencies) (op : Op) (later : List Op) (prios : List ℕ) (x : ℕ)
+pub from_reaches : (lat : Latencies) (op : Op) (later : List Op) (prios : List ℕ) (x : ℕ)
     → In (reaches lat op later prios) x → Reached lat op later prios x
 from_reaches lat op [] prios x there = absurd there
 from_reaches lat op (next ∷ later) [] x there = absurd there
@@ -65,14 +65,14 @@ own_latency lat (op ∷ later) zero within = fold_max_start (latency lat op) (re
 own_latency lat (op ∷ later) (suc i) within = own_latency lat later i (omega arith)
 
 -- a delay pair of what follows the first operation
-inner_pair : (lat : Latencies) (op : Op) (later : List Op) (i j d : ℕ) → IsDelayPair lat (op ∷ later) (suc i) (suc j) d
+pub inner_pair : (lat : Latencies) (op : Op) (later : List Op) (i j d : ℕ) → IsDelayPair lat (op ∷ later) (suc i) (suc j) d
     → IsDelayPair lat later i j d
 inner_pair lat op later i j d pair =
     let order : suc i < suc j = pair.order in
     let within : suc j < suc (length later) = pair.within in
     record { order = omega arith; within = omega arith; delay = pair.delay }
 
-outer_pair : (lat : Latencies) (op : Op) (later : List Op) (i j d : ℕ) → IsDelayPair lat later i j d
+pub outer_pair : (lat : Latencies) (op : Op) (later : List Op) (i j d : ℕ) → IsDelayPair lat later i j d
     → IsDelayPair lat (op ∷ later) (suc i) (suc j) d
 outer_pair lat op later i j d pair =
     let order : i < j = pair.order in

@@ -9,7 +9,7 @@ use Rattle.iloc_timed.specs.Kinds.{kind}
 use Rattle.iloc_timed.specs.Latency.{latency}
 use Rattle.iloc_timed.proofs.WholeRuns.{short_latency}
 use Rattle.iloc_sched.specs.Delays.{delays, IsDelayPair}
-use Rattle.iloc_sched.specs.Heuristics.{arrivals, starts_before, starts, start}
+use Rattle.iloc_sched.specs.Starts.{arrivals, starts_before, starts, start}
 use Rattle.iloc_sched.specs.Steps.Members.{In}
 use Rattle.iloc_sched.specs.Steps.Starts.{IsStart}
 use Rattle.std.proofs.lemmas.Bool.{cases_eq}

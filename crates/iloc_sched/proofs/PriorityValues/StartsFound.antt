@@ -5,7 +5,7 @@ use Rattle.std.proofs.lemmas.List.{get_or-set_same, get_or-set_other, length-set
 use Rattle.iloc_ops.specs.declared.op.Op.{Op}
 use Rattle.iloc_timed.specs.declared.latencies.Latencies.{Latencies}
 use Rattle.iloc_sched.specs.Delays.{IsDelayPair}
-use Rattle.iloc_sched.specs.Heuristics.{starts, start}
+use Rattle.iloc_sched.specs.Starts.{starts, start}
 use Rattle.iloc_sched.specs.Steps.Graph.{Graph, IsGraphOf}
 use Rattle.iloc_sched.specs.Steps.Starts.{IsStarted}
 use Rattle.iloc_sched.proofs.PriorityValues.Starts.{is_start, length-starts, start_most}

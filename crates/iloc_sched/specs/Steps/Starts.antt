@@ -3,7 +3,7 @@ use Rattle.std.specs.Prelude.{ℕ, ◌+◌, ◌≡◌, ◌<◌, ◌≤◌, ◌�
 use Rattle.iloc_ops.specs.declared.op.Op.{Op}
 use Rattle.iloc_timed.specs.declared.latencies.Latencies.{Latencies}
 use Rattle.iloc_sched.specs.Delays.{IsDelayPair}
-use Rattle.iloc_sched.specs.Heuristics.{start}
+use Rattle.iloc_sched.specs.Starts.{start}
 use Rattle.iloc_sched.specs.Steps.Graph.{Graph}
 
 -- the start of an operation is at least each d + start(i), and it is 0 or one of these

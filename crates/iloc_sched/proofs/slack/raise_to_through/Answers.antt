@@ -2,7 +2,8 @@ use Rattle.std.proofs.Common.{◌≡◌, ◌+◌, ◌*◌, ◌≤◌, length, ma
 use Rattle.std.specs.List.{range_with_len}
 use Rattle.std.proofs.lemmas.List.FromFn.{length-map-range_with_len, get_or-map-range_with_len}
 use Rattle.iloc_sched.specs.Priority.{priorities, priority}
-use Rattle.iloc_sched.specs.Heuristics.{starts, start, through}
+use Rattle.iloc_sched.specs.Starts.{starts, start}
+use Rattle.iloc_sched.specs.Heuristics.{through}
 use Rattle.iloc_sched.proofs.PriorityValues.Longest.{length-priorities}
 use Rattle.iloc_sched.proofs.PriorityValues.Small.{priority_most}
 use Rattle.iloc_sched.proofs.PriorityValues.Starts.{length-starts, start_most}

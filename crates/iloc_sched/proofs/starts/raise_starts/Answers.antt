@@ -5,7 +5,7 @@ use Rattle.iloc_sched.specs.Steps.Graph.{Graph}
 use Rattle.iloc_sched.specs.Steps.Starts.{IsStarted}
 use Rattle.iloc_sched.specs.Steps.Views.{graph_of, edge_at}
 use Rattle.iloc_sched.proofs.PriorityValues.StartsFound.{started_none, started_more, started_all, started_small}
-use Rattle.iloc_sched.proofs.slack.raise_starts.Goals as goal
+use Rattle.iloc_sched.proofs.starts.raise_starts.Goals as goal
 
 pub loop-x-init : goal.loop-x-init
 loop-x-init c = record {

@@ -4,7 +4,7 @@ use Rattle.iloc_timed.specs.declared.latencies.Latencies.{Latencies}
 use Rattle.iloc_sched.specs.Steps.Graph.{IsGraphOf}
 use Rattle.iloc_sched.specs.Steps.Starts.{IsStarted}
 use Rattle.iloc_sched.specs.Steps.Views.{graph_of}
-use Rattle.iloc_sched.proofs.slack.raise_starts.Given as goal
+use Rattle.iloc_sched.proofs.starts.raise_starts.Given as goal
 
 abbrev pub invariant-loop-x : goal.invariant-loop-x
 invariant-loop-x l = record {

@@ -1,0 +1,420 @@
+-- Packed numbers reach just as far as `needed` says; for `least`, by `Packing`.
+use Rattle.std.proofs.Common.{◌≡◌, ◌≢◌, ◌∙◌, ℕ, ◌+◌, ◌-◌, ◌<◌, ◌≤◌, ◌/◌, max, zero, suc, Bool, true, false, cond, not, List, [], ◌∷◌, ◌++◌, length, map, set, refl, sym, ap, inl, inr, arith}
+use Rattle.std.specs.Prelude.{nat_le, ◌==◌}
+use Rattle.std.specs.List.{range_with_len}
+use Rattle.std.proofs.Math.Nat.{div-one}
+use Rattle.std.proofs.lemmas.Bool.Decides.{nat_tests}
+use Rattle.std.proofs.lemmas.List.{get_or-set_same, get_or-set_other, length-set, get_or_append_left, get_or_push, get_or_past, length_push}
+use Rattle.iloc_meaning.proofs.Cases.{by_bool}
+use Rattle.iloc_sched.specs.Least.{count_from, cycles_from, needed}
+use Rattle.iloc_sched.specs.Steps.Members.{In}
+use Rattle.iloc_sched.specs.Steps.Packing.{taken_in, IsPacked, link, is_taken, IsLinked}
+use Rattle.iloc_sched.proofs.Basics.Cases.{by_eq, by_lt}
+use Rattle.iloc_sched.proofs.Basics.Members.{in_map, from_map}
+use Rattle.iloc_sched.proofs.Basics.Maxima.{fold_max_each, fold_max_reached}
+use Rattle.iloc_sched.proofs.Basics.Slots.{count_by-cons, count_some}
+use Rattle.iloc_sched.proofs.Bounds.Counting.{count-mono, div-mono}
+
+-- Numbers that are at least s
+
+low_yes : (s x : ℕ) → s ≤ x → nat_le s x ≡ true
+low_yes s x le = grind (arith, nat_tests)
+
+low_no : (s x : ℕ) → x < s → nat_le s x ≡ false
+low_no s x lt = grind (arith, nat_tests)
+
+low_from : (s x : ℕ) → nat_le s x ≡ true → s ≤ x
+low_from s x h = grind (arith, nat_tests)
+
+pub count_yes : (s x : ℕ) (xs : List ℕ) → s ≤ x → count_from (x ∷ xs) s ≡ 1 + count_from xs s
+count_yes s x xs le = count_by-cons (λ p. nat_le s p) x xs
+    ∙ ap (λ b. cond {A = ℕ} b 1 0 + count_from xs s) (low_yes s x le)
+
+pub count_no : (s x : ℕ) (xs : List ℕ) → x < s → count_from (x ∷ xs) s ≡ 0 + count_from xs s
+count_no s x xs lt = count_by-cons (λ p. nat_le s p) x xs
+    ∙ ap (λ b. cond {A = ℕ} b 1 0 + count_from xs s) (low_no s x lt)
+
+pub count_falls : (xs : List ℕ) (a b : ℕ) → a ≤ b → count_from xs b ≤ count_from xs a
+count_falls xs a b le = count-mono (λ p. nat_le b p) (λ p. nat_le a p) xs (λ x there passes.
+    let high : b ≤ x = low_from b x passes in
+    low_yes a x (omega arith))
+
+-- the lowest number from s on
+record IsLowest (xs : List ℕ) (s : ℕ) : Type 0 where
+  number : ℕ
+  there : In xs number
+  from : s ≤ number
+  many : count_from xs s ≤ count_from xs number
+
+lowest : (xs : List ℕ) (s : ℕ) → 0 < count_from xs s → IsLowest xs s
+lowest [] s some = absurd (let none : count_from [] s ≡ 0 = refl in omega arith)
+lowest (x ∷ xs) s some = by_lt 0 (count_from xs s) (λ more. later (lowest xs s more)) (λ none. alone none)
+  where
+    alone : count_from xs s ≤ 0 → IsLowest (x ∷ xs) s
+    alone none = by_lt x s
+        (λ less. absurd (let same = count_no s x xs less in omega arith))
+        (λ up. let here = count_yes s x xs up in
+        let own = count_yes x x xs (omega arith) in
+        record { number = x; there = inl refl; from = up; many = omega arith })
+
+    later : IsLowest xs s → IsLowest (x ∷ xs) s
+    later l =
+        let b : ℕ = l.number in
+        let from : s ≤ b = l.from in
+        let many : count_from xs s ≤ count_from xs b = l.many in
+        by_lt x s
+        (λ less.
+        let here = count_no s x xs less in
+        let own = count_no b x xs (omega arith) in
+        record { number = b; there = inr l.there; from = from; many = omega arith })
+        (λ up. let here = count_yes s x xs up in
+        by_lt x b
+        (λ lower.
+        let own = count_yes x x xs (omega arith) in
+        let falls = count_falls xs x b (omega arith) in
+        record { number = x; there = inl refl; from = up; many = omega arith })
+        (λ higher.
+        let own = count_yes b x xs higher in
+        record { number = b; there = inr l.there; from = from; many = omega arith }))
+
+-- so many numbers from s on need as much from there
+pub needed_from : (xs : List ℕ) (s : ℕ) → 0 < count_from xs s → s + count_from xs s ≤ needed 1 xs + 1
+needed_from xs s some =
+    let l = lowest xs s some in
+    let b : ℕ = l.number in
+    let from : s ≤ b = l.from in
+    let many : count_from xs s ≤ count_from xs b = l.many in
+    let value : cycles_from 1 xs b ≤ needed 1 xs =
+    fold_max_each 0 (map (cycles_from 1 xs) xs) (cycles_from 1 xs b) (in_map (cycles_from 1 xs) xs b l.there) in
+    let whole : (count_from xs b - 1) / 1 ≡ count_from xs b - 1 = div-one (count_from xs b - 1) in
+    omega arith
+
+-- where each number is matched by one as high, as much is needed
+pub needed_mono : (width : ℕ) (xs ys : List ℕ) → 0 < width → ((b : ℕ) → count_from xs b ≤ count_from ys b)
+    → needed width xs ≤ needed width ys
+needed_mono width xs ys some more = elim (fold_max_reached 0 (map (cycles_from width xs) xs)) [
+  | inl none ↦ omega arith
+  | inr there ↦
+      (let found = from_map (cycles_from width xs) xs (needed width xs) there in
+      let b : ℕ = found.0 in
+      let any : 1 ≤ count_from xs b = count_some (λ p. nat_le b p) xs b found.1 (low_yes b b (omega arith)) in
+      let as_many : count_from xs b ≤ count_from ys b = more b in
+      let l = lowest ys b (omega arith) in
+      let low : b ≤ l.number = l.from in
+      let many : count_from ys b ≤ count_from ys l.number = l.many in
+      let value : cycles_from width ys l.number ≤ needed width ys =
+      fold_max_each 0 (map (cycles_from width ys) ys) (cycles_from width ys l.number)
+      (in_map (cycles_from width ys) ys l.number l.there) in
+      let quotient : (count_from xs b - 1) / width ≤ (count_from ys l.number - 1) / width =
+      div-mono width (count_from xs b - 1) (count_from ys l.number - 1) some (omega arith) in
+      let is = found.2 in
+      omega arith)
+]
+
+count_more : (x : ℕ) (xs : List ℕ) (b : ℕ) → count_from xs b ≤ count_from (x ∷ xs) b
+count_more x xs b = let here = count_by-cons (λ p. nat_le b p) x xs in omega arith
+
+-- a number more needs as much, and at least itself
+pub needed_more : (x : ℕ) (xs : List ℕ) → needed 1 xs ≤ needed 1 (x ∷ xs)
+needed_more x xs = needed_mono 1 xs (x ∷ xs) (omega arith) (count_more x xs)
+
+pub needed_own : (x : ℕ) (xs : List ℕ) → x ≤ needed 1 (x ∷ xs)
+needed_own x xs =
+    let one = count_yes x x xs (omega arith) in
+    let enough : x + count_from (x ∷ xs) x ≤ needed 1 (x ∷ xs) + 1 = needed_from (x ∷ xs) x (omega arith) in
+    omega arith
+
+-- Places
+
+taken_yes : (taken : ℕ → Bool) (s n : ℕ) → taken s ≡ true → taken_in taken s (suc n) ≡ 1 + taken_in taken (s + 1) n
+taken_yes taken s n holds = count_by-cons taken s (range_with_len (s + 1) n)
+    ∙ ap (λ b. cond {A = ℕ} b 1 0 + taken_in taken (s + 1) n) holds
+
+taken_no : (taken : ℕ → Bool) (s n : ℕ) → taken s ≡ false → taken_in taken s (suc n) ≡ 0 + taken_in taken (s + 1) n
+taken_no taken s n fails = count_by-cons taken s (range_with_len (s + 1) n)
+    ∙ ap (λ b. cond {A = ℕ} b 1 0 + taken_in taken (s + 1) n) fails
+
+-- no more than up to the top
+taken_few : (taken : ℕ → Bool) (top : ℕ) → ((q : ℕ) → taken q ≡ true → q ≤ top) → (s n : ℕ)
+    → taken_in taken s n ≤ (top + 1) - s
+taken_few taken top up_to s zero = omega arith
+taken_few taken top up_to s (suc n) =
+    let rest : taken_in taken (s + 1) n ≤ (top + 1) - (s + 1) = taken_few taken top up_to (s + 1) n in
+    by_bool (taken s)
+    (λ holds. let here = taken_yes taken s n holds in let below : s ≤ top = up_to s holds in omega arith)
+    (λ fails. let here = taken_no taken s n fails in omega arith)
+
+-- all up to the top
+taken_run : (taken : ℕ → Bool) (top s n : ℕ) → s ≤ top → top < s + n
+    → ((q : ℕ) → s ≤ q → q ≤ top → taken q ≡ true) → top + 1 ≤ s + taken_in taken s n
+taken_run taken top s zero below within all = absurd (omega arith)
+taken_run taken top s (suc n) below within all =
+    let here = taken_yes taken s n (all s (omega arith) below) in
+    by_lt s top
+    (λ less. let rest = taken_run taken top (s + 1) n (omega arith) (omega arith)
+    (λ q low high. all q (omega arith) high) in omega arith)
+    (λ last. omega arith)
+
+taken_none : (taken : ℕ → Bool) (s n : ℕ) → ((q : ℕ) → taken q ≡ false) → taken_in taken s n ≡ 0
+taken_none taken s zero none = refl
+taken_none taken s (suc n) none =
+    let here = taken_no taken s n (none s) in let rest = taken_none taken (s + 1) n none in omega arith
+
+module _ (taken taken' : ℕ → Bool) (p : ℕ) (other : (q : ℕ) → q ≢ p → taken' q ≡ taken q) where
+  put_out : (s n : ℕ) → p < s → taken_in taken' s n ≡ taken_in taken s n
+  put_out s zero past = refl
+  put_out s (suc n) past =
+      let rest : taken_in taken' (s + 1) n ≡ taken_in taken (s + 1) n = put_out (s + 1) n (omega arith) in
+      let same : taken' s ≡ taken s = other s (omega arith) in
+      by_bool (taken s)
+      (λ holds. let old = taken_yes taken s n holds in let new = taken_yes taken' s n (same ∙ holds) in omega arith)
+      (λ fails. let old = taken_no taken s n fails in let new = taken_no taken' s n (same ∙ fails) in omega arith)
+
+  put_in : taken p ≡ false → taken' p ≡ true → (s n : ℕ) → s ≤ p → p < s + n
+      → taken_in taken' s n ≡ 1 + taken_in taken s n
+  put_in free now s zero low within = absurd (omega arith)
+  put_in free now s (suc n) low within = by_eq s p
+      (λ here.
+      let old = taken_no taken s n (ap taken here ∙ free) in
+      let new = taken_yes taken' s n (ap taken' here ∙ now) in
+      let rest = put_out (s + 1) n (omega arith) in
+      omega arith)
+      (λ apart.
+      let same : taken' s ≡ taken s = other s apart in
+      let rest = put_in free now (s + 1) n (omega arith) (omega arith) in
+      by_bool (taken s)
+      (λ holds. let old = taken_yes taken s n holds in let new = taken_yes taken' s n (same ∙ holds) in omega arith)
+      (λ fails. let old = taken_no taken s n fails in let new = taken_no taken' s n (same ∙ fails) in omega arith))
+
+-- Packed numbers
+
+not_both : (b : Bool) → b ≡ true → b ≡ false → ⊥
+not_both b holds fails = cc
+
+pub packed_none : (taken : ℕ → Bool) → ((q : ℕ) → taken q ≡ false) → IsPacked [] taken 0
+packed_none taken none = record {
+  most = λ s n within. let zero_from : count_from [] s ≡ 0 = refl in omega arith;
+  whole = λ n within. taken_none taken 0 n none;
+  same = λ s n within free. taken_none taken (s + 1) n none;
+  up_to = λ q is. absurd (not_both (taken q) is (none q));
+  reached = inl refl;
+}
+
+packed_low : (xs : List ℕ) (taken : ℕ → Bool) (top : ℕ) → IsPacked xs taken top → top ≤ needed 1 xs
+packed_low xs taken top is = elim is.reached [
+  | inl none ↦ omega arith
+  | inr last ↦ run top (omega arith) (λ q low high.
+      let same : q ≡ top = omega arith in
+      ap taken same ∙ last)
+]
+  where
+    run : (s : ℕ) → s ≤ top → ((q : ℕ) → s ≤ q → q ≤ top → taken q ≡ true) → top ≤ needed 1 xs
+    run zero below all =
+        let long = taken_run taken top 0 (top + 1) below (omega arith) all in
+        let count : taken_in taken 0 (top + 1) ≡ count_from xs 0 = is.whole (top + 1) (omega arith) in
+        let enough : 0 + count_from xs 0 ≤ needed 1 xs + 1 = needed_from xs 0 (omega arith) in
+        omega arith
+    run (suc s) below all = by_bool (taken s)
+        (λ holds. run s (omega arith) (λ q low high. by_eq q s
+        (λ same. ap taken same ∙ holds)
+        (λ apart. all q (omega arith) high)))
+        (λ fails.
+        let long = taken_run taken top (s + 1) (top + 1) (omega arith) (omega arith)
+        (λ q low high. all q (omega arith) high) in
+        let count : taken_in taken (s + 1) (top + 1) ≡ count_from xs (s + 1) = is.same s (top + 1) (omega arith) fails in
+        let enough : (s + 1) + count_from xs (s + 1) ≤ needed 1 xs + 1 = needed_from xs (s + 1) (omega arith) in
+        omega arith)
+
+packed_high : (xs : List ℕ) (taken : ℕ → Bool) (top : ℕ) → IsPacked xs taken top → needed 1 xs ≤ top
+packed_high xs taken top is = elim (fold_max_reached 0 (map (cycles_from 1 xs) xs)) [
+  | inl none ↦ omega arith
+  | inr there ↦
+      (let found = from_map (cycles_from 1 xs) xs (needed 1 xs) there in
+      let b : ℕ = found.0 in
+      let any : 1 ≤ count_from xs b = count_some (λ p. nat_le b p) xs b found.1 (low_yes b b (omega arith)) in
+      let most : count_from xs b ≤ taken_in taken b (top + 1) = is.most b (top + 1) (omega arith) in
+      let few : taken_in taken b (top + 1) ≤ (top + 1) - b = taken_few taken top is.up_to b (top + 1) in
+      let whole : (count_from xs b - 1) / 1 ≡ count_from xs b - 1 = div-one (count_from xs b - 1) in
+      let value = found.2 in
+      omega arith)
+]
+
+-- the last place is what the numbers need
+pub packed_needed : (xs : List ℕ) (taken : ℕ → Bool) (top : ℕ) → IsPacked xs taken top → top ≡ needed 1 xs
+packed_needed xs taken top is =
+    let low = packed_low xs taken top is in
+    let high = packed_high xs taken top is in
+    omega arith
+
+-- one number more takes the first free place p from it on
+pub packed_more : (xs : List ℕ) (taken taken' : ℕ → Bool) (top x p : ℕ) → IsPacked xs taken top → x ≤ p
+    → ((q : ℕ) → x ≤ q → q < p → taken q ≡ true) → taken p ≡ false → taken' p ≡ true
+    → ((q : ℕ) → q ≢ p → taken' q ≡ taken q) → IsPacked (x ∷ xs) taken' (max top p)
+packed_more xs taken taken' top x p is from passed free now other = record {
+  most = λ s n within. by_lt p s
+      (λ past.
+      let count = count_no s x xs (omega arith) in
+      let places = put_out taken taken' p other s n past in
+      let most : count_from xs s ≤ taken_in taken s n = is.most s n (omega arith) in
+      omega arith)
+      (λ low.
+      let places = put_in taken taken' p other free now s n low (omega arith) in
+      let most : count_from xs s ≤ taken_in taken s n = is.most s n (omega arith) in
+      by_lt x s
+      (λ less. let count = count_no s x xs less in omega arith)
+      (λ up. let count = count_yes s x xs up in omega arith));
+  whole = λ n within.
+      let count = count_yes 0 x xs (omega arith) in
+      let places = put_in taken taken' p other free now 0 n (omega arith) (omega arith) in
+      let whole : taken_in taken 0 n ≡ count_from xs 0 = is.whole n (omega arith) in
+      omega arith;
+  same = λ s n within none. by_eq s p
+      (λ here. absurd (not_both (taken' s) (ap taken' here ∙ now) none))
+      (λ apart.
+      let free_too : taken s ≡ false = sym (other s apart) ∙ none in
+      let same : taken_in taken (s + 1) n ≡ count_from xs (s + 1) = is.same s n (omega arith) free_too in
+      by_lt s x
+      (λ less.
+      let count = count_yes (s + 1) x xs (omega arith) in
+      let places = put_in taken taken' p other free now (s + 1) n (omega arith) (omega arith) in
+      omega arith)
+      (λ up. by_lt s p
+      (λ before. absurd (not_both (taken s) (passed s up before) free_too))
+      (λ behind.
+      let count = count_no (s + 1) x xs (omega arith) in
+      let places = put_out taken taken' p other (s + 1) n (omega arith) in
+      omega arith)));
+  up_to = λ q holds. by_eq q p
+      (λ here. omega arith)
+      (λ apart. let old : q ≤ top = is.up_to q (sym (other q apart) ∙ holds) in omega arith);
+  reached = by_lt top p
+      (λ less. let is_p : max top p ≡ p = omega arith in inr (ap taken' is_p ∙ now))
+      (λ up. let is_top : max top p ≡ top = omega arith in elim is.reached [
+        | inl none ↦ inl (is_top ∙ none)
+        | inr last ↦ by_eq top p
+            (λ here. inr (ap taken' (is_top ∙ here) ∙ now))
+            (λ apart. inr (ap taken' is_top ∙ other top apart ∙ last))
+      ]);
+}
+
+-- Links
+
+not_same : (a b : ℕ) → a ≢ b → not (a == b) ≡ true
+not_same a b apart = let test : (a == b) ≡ false = grind (arith, nat_tests) in ap not test
+
+pub from_taken : (links : List ℕ) (p : ℕ) → link links p ≢ p → is_taken links p ≡ true
+from_taken links p apart = not_same (link links p) p apart
+
+pub from_free : (links : List ℕ) (p : ℕ) → link links p ≡ p → is_taken links p ≡ false
+from_free links p same = let test : (link links p == p) ≡ true = grind (arith, nat_tests) in ap not test
+
+-- a link of a taken place that goes further
+module _ (links : List ℕ) (p next after : ℕ) (is : IsLinked links) (within : p < length links)
+    (to_next : next ≡ link links p) (apart : next ≢ p) (beyond : next < length links) (to_after : after ≡ link links next)
+  where
+    pub ahead : p < next
+    ahead = let forth : p ≤ link links p = is.forth p within in omega arith
+
+    pub further : next ≤ after
+    further = let forth : next ≤ link links next = is.forth next beyond in omega arith
+
+    at_p : link (set links p after) p ≡ after
+    at_p = get_or-set_same links p after p within
+
+    at_other : (q : ℕ) → q ≢ p → link (set links p after) q ≡ link links q
+    at_other q other = get_or-set_other links p q after q other
+
+    pub shorter_alike : (q : ℕ) → is_taken (set links p after) q ≡ is_taken links q
+    shorter_alike q = by_eq q p
+        (λ same.
+        let new : is_taken (set links p after) p ≡ true = from_taken (set links p after) p
+        (let one = at_p in let two = ahead in let three = further in omega arith) in
+        let old : is_taken links p ≡ true = from_taken links p (omega arith) in
+        ap (is_taken (set links p after)) same ∙ new ∙ sym old ∙ sym (ap (is_taken links) same))
+        (λ other. ap (λ l. not (l == q)) (at_other q other))
+
+    pub shorter_linked : IsLinked (set links p after)
+    shorter_linked =
+        let size : length (set links p after) ≡ length links = length-set links p after in
+        record {
+          forth = λ k under. by_eq k p
+              (λ same.
+              let here : link (set links p after) k ≡ link (set links p after) p = ap (link (set links p after)) same in
+              let one = at_p in let two = ahead in let three = further in omega arith)
+              (λ other. let old : k ≤ link links k = is.forth k (omega arith) in
+              let here = at_other k other in omega arith);
+          between = λ k q under low high. shorter_alike q ∙ by_eq k p
+              (λ same.
+              let here : link (set links p after) k ≡ link (set links p after) p = ap (link (set links p after)) same in
+              let one = at_p in
+              by_lt q next
+              (λ first. is.between p q within (omega arith) (omega arith))
+              (λ second. is.between next q beyond second (omega arith)))
+              (λ other. let here = at_other k other in is.between k q (omega arith) low (omega arith));
+        }
+
+-- a free place that is taken
+module _ (links : List ℕ) (p : ℕ) (is : IsLinked links) (within : p < length links) (free : is_taken links p ≡ false) where
+  at_place : link (set links p (p + 1)) p ≡ p + 1
+  at_place = get_or-set_same links p (p + 1) p within
+
+  pub put_now : is_taken (set links p (p + 1)) p ≡ true
+  put_now = from_taken (set links p (p + 1)) p (let one = at_place in omega arith)
+
+  pub put_other : (q : ℕ) → q ≢ p → is_taken (set links p (p + 1)) q ≡ is_taken links q
+  put_other q other = ap (λ l. not (l == q)) (get_or-set_other links p q (p + 1) q other)
+
+  still : (q : ℕ) → is_taken links q ≡ true → is_taken (set links p (p + 1)) q ≡ true
+  still q holds = by_eq q p
+      (λ same. ap (is_taken (set links p (p + 1))) same ∙ put_now)
+      (λ other. put_other q other ∙ holds)
+
+  pub put_linked : IsLinked (set links p (p + 1))
+  put_linked =
+      let size : length (set links p (p + 1)) ≡ length links = length-set links p (p + 1) in
+      record {
+        forth = λ k under. by_eq k p
+            (λ same.
+            let here : link (set links p (p + 1)) k ≡ link (set links p (p + 1)) p =
+            ap (link (set links p (p + 1))) same in
+            let one = at_place in omega arith)
+            (λ other. let old : k ≤ link links k = is.forth k (omega arith) in
+            let here : link (set links p (p + 1)) k ≡ link links k = get_or-set_other links p k (p + 1) k other in
+            omega arith);
+        between = λ k q under low high. by_eq k p
+            (λ same.
+            let here : link (set links p (p + 1)) k ≡ link (set links p (p + 1)) p =
+            ap (link (set links p (p + 1))) same in
+            let one = at_place in
+            let is_p : q ≡ p = omega arith in
+            ap (is_taken (set links p (p + 1))) is_p ∙ put_now)
+            (λ other.
+            let here : link (set links p (p + 1)) k ≡ link links k = get_or-set_other links p k (p + 1) k other in
+            still q (is.between k q (omega arith) low (omega arith)));
+      }
+
+-- a link goes no further than behind the last taken place
+pub link_near : (links : List ℕ) (top p : ℕ) → IsLinked links → ((q : ℕ) → is_taken links q ≡ true → q ≤ top)
+    → p < length links → top + 1 < length links → link links p < length links
+link_near links top p is up_to within room = by_eq (link links p) p
+    (λ same. omega arith)
+    (λ apart.
+    let forth : p ≤ link links p = is.forth p within in
+    let last : link links p - 1 ≤ top =
+    up_to (link links p - 1) (is.between p (link links p - 1) within (omega arith) (omega arith)) in
+    omega arith)
+
+-- free places alone
+pub one_more_free : (links : List ℕ) (n : ℕ) → length links ≡ n → ((q : ℕ) → link links q ≡ q) → (q : ℕ)
+    → link (links ++ n ∷ []) q ≡ q
+one_more_free links n size all q = by_lt q n
+    (λ less. get_or_append_left links (n ∷ []) q q (omega arith) ∙ all q)
+    (λ up. by_eq q n
+    (λ same. get_or_push links n q q (omega arith) ∙ sym same)
+    (λ apart. let long = length_push links n in get_or_past (links ++ n ∷ []) q q (omega arith)))
+
+pub free_linked : (links : List ℕ) → ((q : ℕ) → link links q ≡ q) → IsLinked links
+free_linked links all = record {
+  forth = λ p within. let same = all p in omega arith;
+  between = λ p q within low high. absurd (let same = all p in omega arith);
+}

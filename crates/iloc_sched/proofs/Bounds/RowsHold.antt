@@ -1,0 +1,101 @@
+-- How many of some operations a row holds; for `laws::least_bounds_the_cycles`.
+use Rattle.std.proofs.Common.{◌≡◌, ◌∙◌, ℕ, ◌+◌, ◌≤◌, Bool, true, false, cond, not, ◌&&◌, List, [], ◌∷◌, ◌++◌, Option, Some, None, refl, sym, ap, ◌⊎◌, inl, inr, arith}
+use Rattle.std.specs.Prelude.{count_by, option_to_list, IsTrue}
+use Rattle.iloc_ops.specs.declared.op.Op.{Op}
+use Rattle.iloc_meaning.specs.Trace.{op_at}
+use Rattle.iloc_timed.specs.declared.kind.Kind.{Kind}
+use Rattle.iloc_timed.specs.declared.row.Row.{Row}
+use Rattle.iloc_timed.specs.Kinds.{kind, is_load, is_memory, is_mult, is_output}
+use Rattle.iloc_timed.specs.Rows.{slots, kind_in, is_some_kind, keeps_units}
+use Rattle.iloc_sched.proofs.Basics.Slots.{count_by-cons}
+use Rattle.iloc_sched.proofs.Bounds.Counting.{count-mono, count-append}
+use Rattle.std.proofs.lemmas.List.Sums.{count_by-le-length}
+
+-- whether operation i is of such a kind
+abbrev pub is_kind : (Kind → Bool) → List Op → ℕ → Bool
+is_kind test ops i = test (kind (op_at ops i))
+
+-- a row holds so many of the operations of these kinds
+abbrev pub Holds : (Kind → Bool) → ℕ → List Op → Type 0
+Holds test width ops = (row : Row) → IsTrue (keeps_units ops row) → count_by (is_kind test ops) (slots row) ≤ width
+
+both_slots : (p : ℕ → Bool) (first second : Option ℕ) → count_by p (option_to_list first ++ option_to_list second)
+    ≡ count_by p (option_to_list first) + count_by p (option_to_list second)
+both_slots p first second = count-append p (option_to_list first) (option_to_list second)
+
+one_slot : (p : ℕ → Bool) (slot : Option ℕ) → count_by p (option_to_list slot) ≤ 1
+one_slot p None = omega arith
+one_slot p (Some i) = count_by-le-length p (i ∷ [])
+
+no_slot : (p : ℕ → Bool) (slot : Option ℕ) → ((i : ℕ) → slot ≡ Some i → p i ≡ false)
+    → count_by p (option_to_list slot) ≤ 0
+no_slot p None h = omega arith
+no_slot p (Some i) h = let none : count_by p (i ∷ []) ≡ 0 =
+    count_by-cons p i [] ∙ ap (λ b. cond {A = ℕ} b 1 0 + 0) (h i refl) in omega arith
+
+units_parts : (a b c : Bool) → (not a && not b && not c) ≡ true → (a ≡ false) × (b ≡ false) × (c ≡ false)
+units_parts true b c h = cc
+units_parts false true c h = cc
+units_parts false false true h = cc
+units_parts false false false h = (refl, refl, refl)
+
+-- the parts of the rules of the units
+units_of : (ops : List Op) (row : Row) → IsTrue (keeps_units ops row)
+    → (is_some_kind is_mult (kind_in ops row.zero) ≡ false) × (is_some_kind is_memory (kind_in ops row.one) ≡ false)
+    × ((is_some_kind is_output (kind_in ops row.zero) && is_some_kind is_output (kind_in ops row.one)) ≡ false)
+units_of ops row h = units_parts (is_some_kind is_mult (kind_in ops row.zero))
+    (is_some_kind is_memory (kind_in ops row.one))
+    (is_some_kind is_output (kind_in ops row.zero) && is_some_kind is_output (kind_in ops row.one)) h
+
+not_there : (test : Kind → Bool) (ops : List Op) (slot : Option ℕ) → is_some_kind test (kind_in ops slot) ≡ false
+    → count_by (is_kind test ops) (option_to_list slot) ≤ 0
+not_there test ops slot h = no_slot (is_kind test ops) slot
+    (λ i e. sym (ap (λ s. is_some_kind test (kind_in ops s)) e) ∙ h)
+
+pub holds_memory : (ops : List Op) → Holds is_memory 1 ops
+holds_memory ops row h =
+    let p : ℕ → Bool = is_kind is_memory ops in
+    let none = not_there is_memory ops row.one (units_of ops row h).1 in
+    let one = one_slot p row.zero in
+    let sum = both_slots p row.one row.zero in omega arith
+
+pub holds_products : (ops : List Op) → Holds is_mult 1 ops
+holds_products ops row h =
+    let p : ℕ → Bool = is_kind is_mult ops in
+    let none = not_there is_mult ops row.zero (units_of ops row h).0 in
+    let one = one_slot p row.one in
+    let sum = both_slots p row.one row.zero in omega arith
+
+one_false : (a b : Bool) → (a && b) ≡ false → (a ≡ false) ⊎ (b ≡ false)
+one_false true b h = inr h
+one_false false b h = inl refl
+
+pub holds_outputs : (ops : List Op) → Holds is_output 1 ops
+holds_outputs ops row h =
+    let p : ℕ → Bool = is_kind is_output ops in
+    let zero_one = one_slot p row.zero in
+    let one_one = one_slot p row.one in
+    let sum = both_slots p row.one row.zero in
+    elim (one_false (is_some_kind is_output (kind_in ops row.zero)) (is_some_kind is_output (kind_in ops row.one))
+    (units_of ops row h).2) [
+      | inl first ↦ (let none = not_there is_output ops row.zero first in omega arith)
+      | inr second ↦ (let none = not_there is_output ops row.one second in omega arith)
+    ]
+
+pub holds_all : (ops : List Op) → Holds (λ k. true) 2 ops
+holds_all ops row h =
+    let p : ℕ → Bool = is_kind (λ k. true) ops in
+    let zero_one = one_slot p row.zero in
+    let one_one = one_slot p row.one in
+    let sum = both_slots p row.one row.zero in omega arith
+
+pub holds_loads : (ops : List Op) → Holds is_load 1 ops
+holds_loads ops row h =
+    let all : count_by (is_kind is_memory ops) (slots row) ≤ 1 = holds_memory ops row h in
+    let some : count_by (is_kind is_load ops) (slots row) ≤ count_by (is_kind is_memory ops) (slots row) =
+    count-mono (is_kind is_load ops) (is_kind is_memory ops) (slots row) (λ i there loads.
+    memory_of (kind (op_at ops i)) loads) in
+    omega arith
+  where
+    memory_of : (k : Kind) → is_load k ≡ true → is_memory k ≡ true
+    memory_of k loads = rw loads refl

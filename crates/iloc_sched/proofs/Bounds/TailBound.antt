@@ -1,0 +1,350 @@
+-- How early operations are issued at least, by their tails; for `laws::least_bounds_the_cycles`.
+use Rattle.std.proofs.Common.{◌≡◌, ◌∙◌, ℕ, ◌+◌, ◌-◌, ◌*◌, ◌<◌, ◌≤◌, ◌/◌, max, zero, suc, Bool, true, false, cond, ◌&&◌, List, [], ◌∷◌, length, map, filter, refl, sym, ap, add-one, inl, inr, arith}
+use Rattle.std.specs.Prelude.{count_by, nat_le, nat_lt, slice_index, fold}
+use Rattle.std.specs.List.{range_with_len}
+use Rattle.std.proofs.Math.Nat.{mul-suc, mul-div-le, mul-le-mul_left}
+use Rattle.std.proofs.lemmas.Bool.{cases_lt}
+use Rattle.std.proofs.lemmas.Bool.Decides.{nat_tests}
+use Rattle.std.proofs.lemmas.List.Sums.{length-filter}
+use Rattle.iloc_ops.specs.declared.op.Op.{Op}
+use Rattle.iloc_meaning.specs.Trace.{op_at}
+use Rattle.iloc_meaning.proofs.Cases.{by_bool}
+use Rattle.iloc_timed.specs.declared.kind.Kind.{Kind}
+use Rattle.iloc_timed.specs.declared.latencies.Latencies.{Latencies}
+use Rattle.iloc_timed.specs.declared.row.Row.{Row}
+use Rattle.iloc_timed.specs.Kinds.{kind, is_load, is_store}
+use Rattle.iloc_timed.specs.Latency.{latency}
+use Rattle.iloc_timed.specs.Rows.{row_at, slots, issue_cycle, IsTable}
+use Rattle.iloc_timed.proofs.WholeRuns.{short_latency}
+use Rattle.iloc_sched.specs.Delays.{uses_result, reads_stored, keeps_order, when, memory_delays, delays, IsDelayPair}
+use Rattle.iloc_sched.specs.Priority.{reaches}
+use Rattle.iloc_sched.specs.Least.{count_from, cycles_from, needed, load_tails, behind, tails, tail}
+use Rattle.iloc_sched.specs.Steps.Members.{In}
+use Rattle.iloc_sched.proofs.Basics.Members.{contains_from, in_left, in_right, from_map, in_filter, from_filter, from_range}
+use Rattle.iloc_sched.proofs.Basics.Maxima.{fold_max_reached}
+use Rattle.iloc_sched.proofs.Basics.Slots.{numbers_before, early_issued, issued_early, count_by-cons}
+use Rattle.iloc_sched.proofs.DelayPairs.DelayBounds.{in_when, delay_at_most}
+use Rattle.iloc_sched.proofs.PriorityValues.Longest.{Reached, from_reaches, outer_pair}
+use Rattle.iloc_sched.proofs.Bounds.Counting.{count-append, count-never, count-map, count-filter, count-mono, both_true, among, in_among, among-short}
+use Rattle.iloc_sched.proofs.Bounds.Packing.{needed_mono}
+use Rattle.iloc_sched.proofs.Bounds.RowsHold.{Holds, is_kind}
+
+-- whether operation i is a load
+abbrev pub loads_at : List Op → ℕ → Bool
+loads_at ops i = is_load (kind (op_at ops i))
+
+at_least : (q p : ℕ) → nat_le q p ≡ true → q ≤ p
+at_least q p h = grind (arith, nat_tests)
+
+-- (m - 1) / width is at most r where m is at most width * (r + 1): else width * (r + 1) would be at most m - 1
+rest_within : (width m r : ℕ) → 0 < width → m ≤ width * (r + 1) → (m - 1) / width ≤ r
+rest_within width m r some h = elim (cases_lt r ((m - 1) / width)) [
+  | inl more ↦
+      (let least : width * suc r ≤ width * ((m - 1) / width) = mul-le-mul_left width (omega arith) in
+      let back : width * ((m - 1) / width) ≤ m - 1 = mul-div-le (m - 1) width in
+      let same : width * (r + 1) ≡ width * suc r = ap (λ n. width * n) (add-one r) in
+      let some_product : width ≤ width * suc r = omega (arith, mul-suc width r) in
+      absurd (omega arith))
+  | inr less ↦ less
+]
+
+-- whether x is a cycle from a to before c
+abbrev pub between : ℕ → ℕ → ℕ → Bool
+between a c x = nat_le a x && nat_lt x c
+
+is_between : (a c x : ℕ) → between a c x ≡ true → (a ≤ x) × (x < c)
+is_between a c x h =
+    let parts = both_true (nat_le a x) (nat_lt x c) h in
+    let low : nat_le a x ≡ true = parts.0 in
+    let high : nat_lt x c ≡ true = parts.1 in
+    (at_least a x low, grind (arith, nat_tests))
+
+both : (a b : Bool) → a ≡ true → b ≡ true → (a && b) ≡ true
+both true b h g = g
+both false b h g = cc
+
+in_between : (a c x : ℕ) → a ≤ x → x < c → between a c x ≡ true
+in_between a c x low high =
+    let first : nat_le a x ≡ true = grind (arith, nat_tests) in
+    let second : nat_lt x c ≡ true = grind (arith, nat_tests) in
+    both (nat_le a x) (nat_lt x c) first second
+
+-- of the operations that pass a test a cycle holds so many
+abbrev pub Crowd : ℕ → (ℕ → Bool) → ℕ → (ℕ → ℕ) → Type 0
+Crowd width p n t = (a c : ℕ) → count_by (λ i. p i && between a c (t i)) (range_with_len 0 n) ≤ width * (c - a)
+
+-- those that are issued in cycle a or later need as much from there
+pub key : (width : ℕ) (p q : ℕ → Bool) (n : ℕ) (t f : ℕ → ℕ) (a limit : ℕ) → 0 < width → Crowd width p n t
+    → ((i : ℕ) → i < n → q i ≡ true → (p i ≡ true) × (a ≤ t i) × (t i + f i ≤ limit)) → a ≤ limit
+    → a + needed width (map f (filter q (range_with_len 0 n))) ≤ limit
+key width p q n t f a limit some crowd each start =
+    let range : List ℕ = range_with_len 0 n in
+    let all : List ℕ = map f (filter q range) in
+    elim (fold_max_reached 0 (map (cycles_from width all) all)) [
+      | inl none ↦ omega arith
+      | inr there ↦
+          (let found = from_map (cycles_from width all) all (needed width all) there in
+          let b : ℕ = found.0 in
+          let source = from_map f (filter q range) b found.1 in
+          let k : ℕ = source.0 in
+          let kept = from_filter q range k source.1 in
+          let below = (from_range 0 n k kept.0).1 in
+          let facts = each k (omega arith) kept.1 in
+          let low : a ≤ t k = facts.1 in
+          let high : t k + f k ≤ limit = facts.2 in
+          let same : f k ≡ b = source.2 in
+          let within : a + b ≤ limit = omega arith in
+          let mapped : count_from all b ≡ count_by (λ i. nat_le b (f i)) (filter q range) =
+          count-map (λ r. nat_le b r) f (filter q range) in
+          let filtered : count_by (λ i. nat_le b (f i)) (filter q range) ≡ count_by (λ i. q i && nat_le b (f i)) range =
+          count-filter (λ i. nat_le b (f i)) q range in
+          let inside : count_by (λ i. q i && nat_le b (f i)) range
+          ≤ count_by (λ i. p i && between a (limit - b + 1) (t i)) range =
+          count-mono (λ i. q i && nat_le b (f i)) (λ i. p i && between a (limit - b + 1) (t i)) range (λ i inn passes.
+          let parts = both_true (q i) (nat_le b (f i)) passes in
+          let under = (from_range 0 n i inn).1 in
+          let its = each i (omega arith) parts.0 in
+          let reach : b ≤ f i = at_least b (f i) parts.1 in
+          let first : a ≤ t i = its.1 in
+          let last : t i + f i ≤ limit = its.2 in
+          both (p i) (between a (limit - b + 1) (t i)) its.0
+          (in_between a (limit - b + 1) (t i) first (omega arith))) in
+          let few : count_by (λ i. p i && between a (limit - b + 1) (t i)) range ≤ width * ((limit - b + 1) - a) =
+          crowd a (limit - b + 1) in
+          let room : (limit - b + 1) - a ≡ (limit - b - a) + 1 = omega arith in
+          let product : width * ((limit - b + 1) - a) ≡ width * ((limit - b - a) + 1) = ap (λ m. width * m) room in
+          let most : count_from all b ≤ width * ((limit - b - a) + 1) = omega arith in
+          let quotient : (count_from all b - 1) / width ≤ limit - b - a =
+          rest_within width (count_from all b) (limit - b - a) some most in
+          let is = found.2 in
+          omega arith)
+    ]
+
+-- Rows
+
+-- of these operations so many are issued from cycle a to before cycle c
+numbers_few : (test : Kind → Bool) (width : ℕ) (ops : List Op) (rows : List Row) → IsTable ops rows
+    → Holds test width ops → (a c : ℕ)
+    → count_by (λ i. is_kind test ops i && nat_le a (issue_cycle rows i)) (numbers_before rows c) ≤ width * (c - a)
+numbers_few test width ops rows table holds a zero = omega arith
+numbers_few test width ops rows table holds a (suc c) =
+    let p : ℕ → Bool = λ i. is_kind test ops i && nat_le a (issue_cycle rows i) in
+    elim (cases_lt c a) [
+      | inl early ↦
+          (let none : count_by p (numbers_before rows (suc c)) ≤ 0 =
+          count-never p (numbers_before rows (suc c)) (λ i there passes.
+          let parts = both_true (is_kind test ops i) (nat_le a (issue_cycle rows i)) passes in
+          let late : a ≤ issue_cycle rows i = at_least a (issue_cycle rows i) parts.1 in
+          let soon : issue_cycle rows i < suc c = (issued_early ops rows table (suc c) i there).1 in
+          absurd (omega arith)) in
+          omega arith)
+      | inr late ↦
+          (let rest : count_by p (numbers_before rows c) ≤ width * (c - a) =
+          numbers_few test width ops rows table holds a c in
+          let fewer : count_by p (slots (row_at rows c)) ≤ count_by (is_kind test ops) (slots (row_at rows c)) =
+          count-mono p (is_kind test ops) (slots (row_at rows c)) (λ i there passes.
+          (both_true (is_kind test ops i) (nat_le a (issue_cycle rows i)) passes).0) in
+          let here : count_by (is_kind test ops) (slots (row_at rows c)) ≤ width =
+          holds (row_at rows c) (table.units c) in
+          let sum = count-append p (slots (row_at rows c)) (numbers_before rows c) in
+          let more : suc c - a ≡ suc (c - a) = omega arith in
+          let product : width * (suc c - a) ≡ width * (c - a) + width =
+          ap (λ m. width * m) more ∙ mul-suc width (c - a) in
+          omega arith)
+    ]
+
+pub crowd_of : (test : Kind → Bool) (width : ℕ) (ops : List Op) (rows : List Row) → IsTable ops rows
+    → Holds test width ops → Crowd width (is_kind test ops) (length ops) (issue_cycle rows)
+crowd_of test width ops rows table holds a c =
+    let p : ℕ → Bool = λ i. is_kind test ops i && nat_le a (issue_cycle rows i) in
+    let q : ℕ → Bool = λ i. is_kind test ops i && between a c (issue_cycle rows i) in
+    let range : List ℕ = range_with_len 0 (length ops) in
+    let early : List ℕ = filter p (numbers_before rows c) in
+    let inside : count_by q range ≤ count_by (among early) range =
+    count-mono q (among early) range (λ i there passes.
+    let parts = both_true (is_kind test ops i) (between a c (issue_cycle rows i)) passes in
+    let when_issued = both_true (nat_le a (issue_cycle rows i)) (nat_lt (issue_cycle rows i) c) parts.1 in
+    let time = is_between a c (issue_cycle rows i) parts.1 in
+    let below = (from_range 0 (length ops) i there).1 in
+    in_among early i (in_filter p (numbers_before rows c) i
+    (early_issued ops rows table c i (omega arith) time.1)
+    (both (is_kind test ops i) (nat_le a (issue_cycle rows i)) parts.0 when_issued.0))) in
+    let few : count_by (among early) range ≤ length early = among-short early 0 (length ops) in
+    let size : length early ≡ count_by p (numbers_before rows c) = length-filter p (numbers_before rows c) in
+    let most : count_by p (numbers_before rows c) ≤ width * (c - a) =
+    numbers_few test width ops rows table holds a c in
+    omega arith
+
+-- Tails
+
+-- what is known of the cycles of issue
+pub record Fits (lat : Latencies) (ops : List Op) (limit : ℕ) (t : ℕ → ℕ) : Type 0 where
+  pub ends : (i : ℕ) → i < length ops → t i + latency lat (op_at ops i) ≤ limit
+  pub waits : (i j d : ℕ) → IsDelayPair lat ops i j d → t i + d ≤ t j
+  pub crowd : Crowd 1 (loads_at ops) (length ops) t
+
+count_later : (p : ℕ → Bool) (a n : ℕ)
+    → count_by (λ i. p (suc i)) (range_with_len a n) ≡ count_by p (range_with_len (a + 1) n)
+count_later p a zero = refl
+count_later p a (suc n) =
+    let here = count_by-cons (λ i. p (suc i)) a (range_with_len (a + 1) n) in
+    let other = count_by-cons p (a + 1) (range_with_len (a + 1 + 1) n) in
+    let same : cond {A = ℕ} (p (suc a)) 1 0 ≡ cond (p (a + 1)) 1 0 = ap (λ k. cond {A = ℕ} (p k) 1 0) (sym (add-one a)) in
+    let rest : count_by (λ i. p (suc i)) (range_with_len (a + 1) n) ≡ count_by p (range_with_len (a + 1 + 1) n) =
+    count_later p (a + 1) n in
+    omega arith
+
+fits_later : (lat : Latencies) (op : Op) (later : List Op) (limit : ℕ) (t : ℕ → ℕ) → Fits lat (op ∷ later) limit t
+    → Fits lat later limit (λ i. t (suc i))
+fits_later lat op later limit t f = record {
+  ends = λ i below. f.ends (suc i) (omega arith);
+  waits = λ i j d pair. f.waits (suc i) (suc j) d (outer_pair lat op later i j d pair);
+  crowd = λ a c.
+      let p : ℕ → Bool = λ i. loads_at (op ∷ later) i && between a c (t i) in
+      let whole : count_by p (range_with_len 0 (suc (length later))) ≤ 1 * (c - a) = f.crowd a c in
+      let first = count_by-cons p 0 (range_with_len (0 + 1) (length later)) in
+      let rest : count_by (λ i. p (suc i)) (range_with_len 0 (length later))
+      ≡ count_by p (range_with_len (0 + 1) (length later)) = count_later p 0 (length later) in
+      omega arith;
+}
+
+load_one : (b : ℕ) (l : Bool) (x : ℕ) → count_from (when l x) b ≤ cond {A = ℕ} (l && nat_le b x) 1 0
+load_one b true x = let here = count_by-cons (λ y. nat_le b y) x [] in
+    let none : count_by (λ y. nat_le b y) [] ≡ 0 = refl in omega arith
+load_one b false x = omega arith
+
+-- a load's tail is picked by its number
+loads_picked : (ops : List Op) (ts : List ℕ) (b : ℕ) → count_from (load_tails ops ts) b
+    ≤ count_from (map (slice_index ts) (filter (loads_at ops) (range_with_len 0 (length ops)))) b
+loads_picked ops ts b =
+    let mapped = count-map (λ x. nat_le b x) (slice_index ts) (filter (loads_at ops) (range_with_len 0 (length ops))) in
+    let kept = count-filter (λ i. nat_le b (slice_index ts i)) (loads_at ops) (range_with_len 0 (length ops)) in
+    let by_number = counted ops ts in
+    omega arith
+  where
+    counted : (ops : List Op) (ts : List ℕ) → count_from (load_tails ops ts) b
+        ≤ count_by (λ i. loads_at ops i && nat_le b (slice_index ts i)) (range_with_len 0 (length ops))
+    counted [] ts = omega arith
+    counted (op ∷ later) [] = omega arith
+    counted (op ∷ later) (x ∷ xs) =
+        let p : ℕ → Bool = λ i. loads_at (op ∷ later) i && nat_le b (slice_index (x ∷ xs) i) in
+        let rest : count_from (load_tails later xs) b
+        ≤ count_by (λ i. loads_at later i && nat_le b (slice_index xs i)) (range_with_len 0 (length later)) =
+        counted later xs in
+        let first : count_by p (range_with_len 0 (suc (length later)))
+        ≡ cond {A = ℕ} (p 0) 1 0 + count_by p (range_with_len (0 + 1) (length later)) =
+        count_by-cons p 0 (range_with_len (0 + 1) (length later)) in
+        let shift : count_by (λ i. loads_at later i && nat_le b (slice_index xs i)) (range_with_len 0 (length later))
+        ≡ count_by p (range_with_len (0 + 1) (length later)) = count_later p 0 (length later) in
+        let sum : count_from (load_tails (op ∷ later) (x ∷ xs)) b
+        ≡ count_from (when (is_load (kind op)) x) b + count_from (load_tails later xs) b =
+        count-append (λ y. nat_le b y) (when (is_load (kind op)) x) (load_tails later xs) in
+        let one : count_from (when (is_load (kind op)) x) b ≤ cond {A = ℕ} (p 0) 1 0 = load_one b (is_load (kind op)) x in
+        omega arith
+
+store_load : (lat : Latencies) (i j : Op) → is_store (kind i) ≡ true → is_load (kind j) ≡ true
+    → In (delays lat i j) (latency lat i)
+store_load lat i j stores loads =
+    let reads : reads_stored (kind i) (kind j) ≡ true = rw (stores, loads) refl in
+    in_right (when (uses_result i j) (latency lat i)) (memory_delays lat i j) (latency lat i)
+    (in_left (when (reads_stored (kind i) (kind j)) (latency lat i)) (when (keeps_order (kind i) (kind j)) 1)
+    (latency lat i) (in_when (reads_stored (kind i) (kind j)) (latency lat i) reads))
+
+-- the first operation, where the later ones have their tails left
+tail_first : (lat : Latencies) (op : Op) (later : List Op) (limit : ℕ) (t : ℕ → ℕ) → Fits lat (op ∷ later) limit t
+    → ((k : ℕ) → k < length later → t (suc k) + tail lat later k ≤ limit) → t 0 + tail lat (op ∷ later) 0 ≤ limit
+tail_first lat op later limit t f left =
+    let own : t 0 + fold max (latency lat op) (reaches lat op later (tails lat later)) ≤ limit =
+    elim (fold_max_reached (latency lat op) (reaches lat op later (tails lat later))) [
+      | inl same ↦ (let end : t 0 + latency lat op ≤ limit = f.ends 0 (omega arith) in omega arith)
+      | inr there ↦ by_pair (from_reaches lat op later (tails lat later)
+          (fold max (latency lat op) (reaches lat op later (tails lat later))) there)
+    ] in
+    let store : t 0 + behind lat op later (tails lat later) ≤ limit =
+    by_bool (is_store (kind op)) by_loads (λ no.
+    let none : behind lat op later (tails lat later) ≡ 0 = rw no refl in
+    let end : t 0 + latency lat op ≤ limit = f.ends 0 (omega arith) in
+    omega arith) in
+    omega arith
+  where
+    by_pair : Reached lat op later (tails lat later) (fold max (latency lat op) (reaches lat op later (tails lat later)))
+        → t 0 + fold max (latency lat op) (reaches lat op later (tails lat later)) ≤ limit
+    by_pair r =
+        let under : r.to < length later = r.within in
+        let wait : t 0 + r.delay ≤ t (suc r.to) = f.waits 0 (suc r.to) r.delay (record {
+          order = omega arith;
+          within = omega arith;
+          delay = contains_from (delays lat op (op_at later r.to)) r.delay r.there;
+        }) in
+        let rest : t (suc r.to) + tail lat later r.to ≤ limit = left r.to under in
+        let is = r.is in
+        omega arith
+
+    by_loads : is_store (kind op) ≡ true → t 0 + behind lat op later (tails lat later) ≤ limit
+    by_loads stores =
+        let same : behind lat op later (tails lat later) ≡ latency lat op + needed 1 (load_tails later (tails lat later)) =
+        rw stores refl in
+        let picked : List ℕ =
+        map (slice_index (tails lat later)) (filter (loads_at later) (range_with_len 0 (length later))) in
+        let few : needed 1 (load_tails later (tails lat later)) ≤ needed 1 picked =
+        needed_mono 1 (load_tails later (tails lat later)) picked (omega arith) (loads_picked later (tails lat later)) in
+        let bound : (t 0 + latency lat op) + needed 1 picked ≤ limit =
+        key 1 (loads_at later) (loads_at later) (length later) (λ k. t (suc k)) (slice_index (tails lat later))
+        (t 0 + latency lat op) limit (omega arith) (fits_later lat op later limit t f).crowd (λ i under loads. (
+          loads,
+          f.waits 0 (suc i) (latency lat op) (record {
+            order = omega arith;
+            within = omega arith;
+            delay = contains_from (delays lat op (op_at later i)) (latency lat op)
+                (store_load lat op (op_at later i) stores loads);
+          }),
+          left i under,
+        )) (f.ends 0 (omega arith)) in
+        omega arith
+
+-- an operation is issued so early that its tail is left
+pub tail_within : (lat : Latencies) (ops : List Op) (limit : ℕ) (t : ℕ → ℕ) → Fits lat ops limit t → (i : ℕ)
+    → i < length ops → t i + tail lat ops i ≤ limit
+tail_within lat [] limit t f i below = absurd (omega arith)
+tail_within lat (op ∷ later) limit t f (suc i) below =
+    tail_within lat later limit (λ k. t (suc k)) (fits_later lat op later limit t f) i (omega arith)
+tail_within lat (op ∷ later) limit t f zero below = tail_first lat op later limit t f
+    (λ k under. tail_within lat later limit (λ k. t (suc k)) (fits_later lat op later limit t f) k under)
+
+-- The schedule that issues an operation each 16 cycles
+
+serial_few : (p : ℕ → Bool) (a c k n : ℕ)
+    → count_by (λ i. p i && between a c (16 * i)) (range_with_len k n) ≤ c - max a (16 * k)
+serial_few p a c k zero = omega arith
+serial_few p a c k (suc n) =
+    let q : ℕ → Bool = λ i. p i && between a c (16 * i) in
+    let rest : count_by q (range_with_len (k + 1) n) ≤ c - max a (16 * (k + 1)) = serial_few p a c (k + 1) n in
+    let here = count_by-cons q k (range_with_len (k + 1) n) in
+    by_bool (q k)
+    (λ is.
+    let one : cond {A = ℕ} (q k) 1 0 ≡ 1 = ap (λ b. cond {A = ℕ} b 1 0) is in
+    let time = is_between a c (16 * k) (both_true (p k) (between a c (16 * k)) is).1 in
+    let low : a ≤ 16 * k = time.0 in
+    let high : 16 * k < c = time.1 in
+    omega arith)
+    (λ not.
+    let none : cond {A = ℕ} (q k) 1 0 ≡ 0 = ap (λ b. cond {A = ℕ} b 1 0) not in
+    omega arith)
+
+serial_fits : (lat : Latencies) (ops : List Op) → Fits lat ops (16 * length ops) (λ i. 16 * i)
+serial_fits lat ops = record {
+  ends = λ i below. let short : latency lat (op_at ops i) ≤ 16 = short_latency lat (kind (op_at ops i)) in omega arith;
+  waits = λ i j d pair.
+      let order : i < j = pair.order in
+      let short : latency lat (op_at ops i) ≤ 16 = short_latency lat (kind (op_at ops i)) in
+      let most : d ≤ latency lat (op_at ops i) = delay_at_most lat (op_at ops i) (op_at ops j) d pair.delay in
+      omega arith;
+  crowd = λ a c. let few = serial_few (loads_at ops) a c 0 (length ops) in omega arith;
+}
+
+-- a tail is at most 16 cycles for each operation
+pub tail_most : (lat : Latencies) (ops : List Op) (i : ℕ) → i < length ops → tail lat ops i ≤ 16 * length ops
+tail_most lat ops i below =
+    let within : 16 * i + tail lat ops i ≤ 16 * length ops =
+    tail_within lat ops (16 * length ops) (λ k. 16 * k) (serial_fits lat ops) i below in
+    omega arith

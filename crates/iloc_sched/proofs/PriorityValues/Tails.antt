@@ -1,0 +1,211 @@
+-- A tail is the greatest of latency, d + tail(j) over the delay pairs, and what the loads behind a store need; for `least`.
+use Rattle.std.proofs.Common.{◌≡◌, ◌∙◌, ℕ, ◌+◌, ◌-◌, ◌*◌, ◌<◌, ◌≤◌, max, zero, suc, Bool, true, false, List, [], ◌∷◌, ◌++◌, length, drop, ◌⊎◌, inl, inr, refl, ap, ap₂, sym, add-one, arith}
+use Rattle.std.proofs.lemmas.List.{drop_more, length-drop, get_or_default}
+use Rattle.iloc_ops.specs.declared.op.Op.{Op}
+use Rattle.iloc_ops.specs.declared.op.Op.TheVariants.{Nop}
+use Rattle.iloc_meaning.specs.Trace.{op_at}
+use Rattle.iloc_meaning.proofs.Cases.{by_bool}
+use Rattle.iloc_timed.specs.declared.kind.Kind.{Kind}
+use Rattle.iloc_timed.specs.declared.kind.Kind.TheVariants as K
+use Rattle.iloc_timed.specs.declared.latencies.Latencies.{Latencies}
+use Rattle.iloc_timed.specs.Kinds.{kind, is_load, is_store}
+use Rattle.iloc_timed.specs.Latency.{latency, latency_of}
+use Rattle.iloc_sched.specs.Delays.{when, delays, IsDelayPair}
+use Rattle.iloc_sched.specs.Priority.{reaches}
+use Rattle.iloc_sched.specs.Least.{needed, load_tails, tails, tail}
+use Rattle.iloc_sched.specs.Steps.Members.{In}
+use Rattle.iloc_sched.specs.Steps.Tails.{loads_from, chain_tail, store_tail, tail_by, IsTail}
+use Rattle.iloc_sched.proofs.Basics.Members.{contains_from, in_from, from_append}
+use Rattle.iloc_sched.proofs.Basics.Maxima.{fold_max_start, fold_max_each, fold_max_reached}
+use Rattle.iloc_sched.proofs.PriorityValues.Longest.{Reached, in_reaches, from_reaches, inner_pair, outer_pair}
+use Rattle.iloc_sched.proofs.Bounds.Swept.{in_drop, needed_most}
+use Rattle.iloc_sched.proofs.Bounds.TailBound.{tail_most}
+
+pub length-tails : (lat : Latencies) (ops : List Op) → length (tails lat ops) ≡ length ops
+length-tails lat [] = refl
+length-tails lat (op ∷ later) = ap suc (length-tails lat later)
+
+tail_value : (lat : Latencies) (ops : List Op) (i : ℕ) → i < length ops
+    → tail lat ops i ≡ max (store_tail lat ops i) (chain_tail lat ops i)
+tail_value lat [] i within = absurd (omega arith)
+tail_value lat (op ∷ later) zero within = refl
+tail_value lat (op ∷ later) (suc i) within = tail_value lat later i (omega arith)
+
+tail_own : (lat : Latencies) (ops : List Op) (i : ℕ) → i < length ops → latency lat (op_at ops i) ≤ chain_tail lat ops i
+tail_own lat [] i within = absurd (omega arith)
+tail_own lat (op ∷ later) zero within = fold_max_start (latency lat op) (reaches lat op later (tails lat later))
+tail_own lat (op ∷ later) (suc i) within = tail_own lat later i (omega arith)
+
+tail_pairs : (lat : Latencies) (ops : List Op) (i j d : ℕ) → IsDelayPair lat ops i j d
+    → d + tail lat ops j ≤ chain_tail lat ops i
+tail_pairs lat [] i j d pair = absurd (let within : j < 0 = pair.within in omega arith)
+tail_pairs lat (op ∷ later) i zero d pair = absurd (let order : i < 0 = pair.order in omega arith)
+tail_pairs lat (op ∷ later) zero (suc j) d pair =
+    let within : suc j < suc (length later) = pair.within in
+    fold_max_each (latency lat op) (reaches lat op later (tails lat later)) (d + tail lat later j)
+    (in_reaches lat op later (tails lat later) j d (length-tails lat later) (omega arith)
+    (in_from (delays lat op (op_at later j)) d pair.delay))
+tail_pairs lat (op ∷ later) (suc i) (suc j) d pair = tail_pairs lat later i j d (inner_pair lat op later i j d pair)
+
+abbrev IsOne : Latencies → List Op → ℕ → Type 0
+IsOne lat ops i = (chain_tail lat ops i ≡ latency lat (op_at ops i))
+    ⊎ ((j : ℕ) × (d : ℕ) × IsDelayPair lat ops i j d × (chain_tail lat ops i ≡ d + tail lat ops j))
+
+tail_reached : (lat : Latencies) (ops : List Op) (i : ℕ) → i < length ops → IsOne lat ops i
+tail_reached lat [] i within = absurd (omega arith)
+tail_reached lat (op ∷ later) zero within = elim
+    (fold_max_reached (latency lat op) (reaches lat op later (tails lat later))) [
+      | inl own ↦ inl own
+      | inr there ↦ inr (by_pair (from_reaches lat op later (tails lat later) (chain_tail lat (op ∷ later) 0) there))
+    ]
+  where
+    by_pair : Reached lat op later (tails lat later) (chain_tail lat (op ∷ later) 0) → (j : ℕ) × (d : ℕ)
+        × IsDelayPair lat (op ∷ later) 0 j d × (chain_tail lat (op ∷ later) 0 ≡ d + tail lat (op ∷ later) j)
+    by_pair r =
+        let below : r.to < length later = r.within in (
+          suc r.to,
+          r.delay,
+          record {
+            order = omega arith;
+            within = omega arith;
+            delay = contains_from (delays lat op (op_at later r.to)) r.delay r.there;
+          },
+          r.is,
+        )
+tail_reached lat (op ∷ later) (suc i) within = elim (tail_reached lat later i (omega arith)) [
+  | inl own ↦ inl own
+  | inr pair ↦ inr (suc pair.0, pair.1, outer_pair lat op later i pair.0 pair.1 pair.2, pair.3)
+]
+
+pub is_tail : (lat : Latencies) (ops : List Op) → IsTail lat ops
+is_tail lat ops = record {
+  value = tail_value lat ops;
+  own = tail_own lat ops;
+  pairs = tail_pairs lat ops;
+  reached = tail_reached lat ops;
+}
+
+-- The loads
+
+pub loads_more : (lat : Latencies) (ops : List Op) (i : ℕ) → i < length ops
+    → loads_from lat ops i ≡ when (is_load (kind (op_at ops i))) (tail lat ops i) ++ loads_from lat ops (i + 1)
+loads_more lat ops i within =
+    let size : length (tails lat ops) ≡ length ops = length-tails lat ops in
+    ap₂ load_tails (drop_more ops i Nop within) (drop_more (tails lat ops) i 0 (omega arith))
+
+-- a tail by its parts
+pub tail_parts : (lat : Latencies) (ops : List Op) (i : ℕ) → i < length ops → tail lat ops i
+    ≡ tail_by (kind (op_at ops i)) (chain_tail lat ops i) (latency lat (op_at ops i)) (loads_from lat ops (i + 1))
+tail_parts lat ops i within =
+    let whole : tail lat ops i ≡ max (store_tail lat ops i) (chain_tail lat ops i) = tail_value lat ops i within in
+    let next : loads_from lat ops (i + 1) ≡ loads_from lat ops (suc i) = ap (loads_from lat ops) (add-one i) in
+    let needs : needed 1 (loads_from lat ops (i + 1)) ≡ needed 1 (loads_from lat ops (suc i)) = ap (needed 1) next in
+    by_bool (is_store (kind (op_at ops i)))
+    (λ stores.
+    let rule : store_tail lat ops i ≡ latency lat (op_at ops i) + needed 1 (loads_from lat ops (suc i)) =
+    rw stores refl in
+    let other : tail_by (kind (op_at ops i)) (chain_tail lat ops i) (latency lat (op_at ops i))
+    (loads_from lat ops (i + 1))
+    ≡ max (chain_tail lat ops i) (latency lat (op_at ops i) + needed 1 (loads_from lat ops (i + 1))) =
+    rw stores refl in
+    omega arith)
+    (λ not.
+    let rule : store_tail lat ops i ≡ 0 = rw not refl in
+    let other : tail_by (kind (op_at ops i)) (chain_tail lat ops i) (latency lat (op_at ops i))
+    (loads_from lat ops (i + 1)) ≡ chain_tail lat ops i = rw not refl in
+    omega arith)
+
+in_loads : (ops : List Op) (ts : List ℕ) (y : ℕ) → In (load_tails ops ts) y → In ts y
+in_loads [] ts y there = absurd there
+in_loads (op ∷ ops) [] y there = absurd there
+in_loads (op ∷ ops) (t ∷ ts) y there = elim (from_append (when (is_load (kind op)) t) (load_tails ops ts) y there) [
+  | inl here ↦ inl (own (is_load (kind op)) here)
+  | inr rest ↦ inr (in_loads ops ts y rest)
+]
+  where
+    own : (l : Bool) → In (when l t) y → t ≡ y
+    own true there = elim there [ inl same ↦ same | inr none ↦ absurd none ]
+    own false there = absurd there
+
+loads_short : (ops : List Op) (ts : List ℕ) → length (load_tails ops ts) ≤ length ops
+loads_short [] ts = omega arith
+loads_short (op ∷ ops) [] = omega arith
+loads_short (op ∷ ops) (t ∷ ts) =
+    let rest : length (load_tails ops ts) ≤ length ops = loads_short ops ts in
+    own (is_load (kind op)) rest
+  where
+    own : (l : Bool) → length (load_tails ops ts) ≤ length ops → length (when l t ++ load_tails ops ts) ≤ suc (length ops)
+    own true rest = omega arith
+    own false rest = omega arith
+
+-- a number and the tails of the loads reach no further than so
+pub loads_reach : (lat : Latencies) (ops : List Op) (i x : ℕ) → x ≤ 16 * length ops
+    → needed 1 (x ∷ loads_from lat ops i) ≤ 17 * length ops
+loads_reach lat ops i x small =
+    let short : length (loads_from lat ops i) ≤ length (drop i ops) =
+    loads_short (drop i ops) (drop i (tails lat ops)) in
+    let size : length (drop i ops) ≡ length ops - i = length-drop i ops in
+    let most : needed 1 (x ∷ loads_from lat ops i) ≤ 16 * length ops + (length (x ∷ loads_from lat ops i) - 1) =
+    needed_most (x ∷ loads_from lat ops i) (16 * length ops) (λ y there. elim there [
+      | inl same ↦ (let is : x ≡ y = same in omega arith)
+      | inr inside ↦ each y (in_drop (tails lat ops) i y (in_loads (drop i ops) (drop i (tails lat ops)) y inside))
+    ]) in
+    omega arith
+  where
+    each : (y : ℕ) → In (tails lat ops) y → y ≤ 16 * length ops
+    each y there =
+        let found = contains_from (tails lat ops) y there in
+        let size : length (tails lat ops) ≡ length ops = length-tails lat ops in
+        let below : found.0 < length (tails lat ops) = found.1 in
+        let same : tail lat ops found.0 ≡ y = get_or_default (tails lat ops) found.0 0 y below ∙ found.2 in
+        let most = tail_most lat ops found.0 (omega arith) in
+        omega arith
+
+-- a store has its latency
+stored : (lat : Latencies) (k : Kind) → is_store k ≡ true → latency_of lat k ≡ lat.store
+stored lat K.Load is = cc
+stored lat K.Store is = refl
+stored lat K.Mult is = cc
+stored lat K.Output is = cc
+stored lat K.Other is = cc
+
+not_stored : (k : Kind) → is_load k ≡ true → is_store k ≡ false
+not_stored K.Load is = refl
+not_stored K.Store is = cc
+not_stored K.Mult is = cc
+not_stored K.Output is = cc
+not_stored K.Other is = cc
+
+-- the tail by the latency of stores
+pub tail_by_store : (lat : Latencies) (ops : List Op) (i : ℕ) → i < length ops → tail_by (kind (op_at ops i))
+    (chain_tail lat ops i) lat.store (loads_from lat ops (i + 1)) ≡ tail lat ops i
+tail_by_store lat ops i within =
+    let k : Kind = kind (op_at ops i) in
+    let chain : ℕ = chain_tail lat ops i in
+    let loads : List ℕ = loads_from lat ops (i + 1) in
+    let parts : tail lat ops i ≡ tail_by k chain (latency lat (op_at ops i)) loads = tail_parts lat ops i within in
+    by_bool (is_store k)
+    (λ stores.
+    let same : latency lat (op_at ops i) ≡ lat.store = stored lat k stores in
+    ap (λ n. tail_by k chain n loads) (sym same) ∙ sym parts)
+    (λ not.
+    let one : tail_by k chain lat.store loads ≡ chain = rw not refl in
+    let other : tail_by k chain (latency lat (op_at ops i)) loads ≡ chain = rw not refl in
+    one ∙ sym other ∙ sym parts)
+
+-- a load leaves what its delays leave
+pub load_kept : (lat : Latencies) (ops : List Op) (i : ℕ) → i < length ops
+    → when (is_load (kind (op_at ops i))) (chain_tail lat ops i) ++ loads_from lat ops (i + 1) ≡ loads_from lat ops i
+load_kept lat ops i within =
+    let k : Kind = kind (op_at ops i) in
+    let whole : loads_from lat ops i ≡ when (is_load k) (tail lat ops i) ++ loads_from lat ops (i + 1) =
+    loads_more lat ops i within in
+    by_bool (is_load k)
+    (λ loads.
+    let same : tail lat ops i ≡ chain_tail lat ops i =
+    tail_parts lat ops i within ∙ rw (not_stored k loads) refl in
+    ap (λ n. when (is_load k) n ++ loads_from lat ops (i + 1)) (sym same) ∙ sym whole)
+    (λ not.
+    let one : when (is_load k) (chain_tail lat ops i) ≡ [] = rw not refl in
+    let other : when (is_load k) (tail lat ops i) ≡ [] = rw not refl in
+    ap (λ xs. xs ++ loads_from lat ops (i + 1)) (one ∙ sym other) ∙ sym whole)
