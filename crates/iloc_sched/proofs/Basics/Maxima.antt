@@ -14,7 +14,7 @@ fold_max_each a (y ∷ ys) x (inl here) = let rest : max a y ≤ fold max (max a
     omega arith
 fold_max_each a (y ∷ ys) x (inr there) = fold_max_each (max a y) ys x there
 
-max_is : (a b : ℕ) → (max a b ≡ a) ⊎ (max a b ≡ b)
+pub max_is : (a b : ℕ) → (max a b ≡ a) ⊎ (max a b ≡ b)
 max_is a b = elim (cases_lt a b) [ inl less ↦ inr (omega arith) | inr more ↦ inl (omega arith) ]
 
 pub fold_max_reached : (a : ℕ) (xs : List ℕ) → (fold max a xs ≡ a) ⊎ In xs (fold max a xs)

@@ -36,6 +36,17 @@ count-never {X} p (x ∷ xs) h =
     by false h = omega arith
     by true h = absurd (h refl)
 
+-- the tests of counts
+
+pub at_least : (q p : ℕ) → nat_le q p ≡ true → q ≤ p
+at_least q p h = grind (arith, nat_tests)
+
+pub is_at_least : (q p : ℕ) → q ≤ p → nat_le q p ≡ true
+is_at_least q p le = grind (arith, nat_tests)
+
+pub both : (a b : Bool) → a ≡ true → b ≡ true → (a && b) ≡ true
+both a b one other = rw (one, other) refl
+
 pub both_true : (a b : Bool) → (a && b) ≡ true → (a ≡ true) × (b ≡ true)
 both_true true b h = (refl, h)
 both_true false b h = cc

@@ -20,7 +20,7 @@ use Rattle.iloc_sched.proofs.Basics.Members.{from_map, from_filter, from_range}
 use Rattle.iloc_sched.proofs.Basics.Maxima.{fold_max_reached}
 use Rattle.iloc_sched.proofs.PriorityValues.Starts.{is_start}
 use Rattle.iloc_sched.proofs.Bounds.PriorityBound.{ends_within}
-use Rattle.iloc_sched.proofs.Bounds.Counting.{both_true}
+use Rattle.iloc_sched.proofs.Bounds.Counting.{both_true, at_least}
 use Rattle.iloc_sched.proofs.Bounds.RowsHold.{Holds, is_kind, holds_memory, holds_products, holds_outputs, holds_all, holds_loads}
 use Rattle.iloc_sched.proofs.Bounds.TailBound.{Fits, key, crowd_of, tail_within}
 
@@ -49,9 +49,6 @@ filter_twice {X} p q (x ∷ xs) = by_bool (q x)
     (λ kept. rw (is, kept, filter_twice p q xs) refl)
     (λ out. rw (is, out, filter_twice p q xs) refl))
     (λ not. rw (not, filter_twice p q xs) refl)
-
-at_least : (q p : ℕ) → nat_le q p ≡ true → q ≤ p
-at_least q p h = grind (arith, nat_tests)
 
 needed_bound : (test : Kind → Bool) (width : ℕ) (lat : Latencies) (block ops : List Op) (rows : List Row)
     → IsLawful lat block ops rows → Holds test width ops → 0 < width

@@ -13,22 +13,16 @@ use Rattle.iloc_sched.proofs.Basics.Cases.{by_eq, by_lt}
 use Rattle.iloc_sched.proofs.Basics.Members.{in_map, from_map}
 use Rattle.iloc_sched.proofs.Basics.Maxima.{fold_max_each, fold_max_reached}
 use Rattle.iloc_sched.proofs.Basics.Slots.{count_by-cons, count_some}
-use Rattle.iloc_sched.proofs.Bounds.Counting.{count-mono, div-mono}
+use Rattle.iloc_sched.proofs.Bounds.Counting.{count-mono, div-mono, at_least, is_at_least}
 
 -- Numbers that are at least s
-
-low_yes : (s x : ℕ) → s ≤ x → nat_le s x ≡ true
-low_yes s x le = grind (arith, nat_tests)
 
 low_no : (s x : ℕ) → x < s → nat_le s x ≡ false
 low_no s x lt = grind (arith, nat_tests)
 
-low_from : (s x : ℕ) → nat_le s x ≡ true → s ≤ x
-low_from s x h = grind (arith, nat_tests)
-
 pub count_yes : (s x : ℕ) (xs : List ℕ) → s ≤ x → count_from (x ∷ xs) s ≡ 1 + count_from xs s
 count_yes s x xs le = count_by-cons (λ p. nat_le s p) x xs
-    ∙ ap (λ b. cond {A = ℕ} b 1 0 + count_from xs s) (low_yes s x le)
+    ∙ ap (λ b. cond {A = ℕ} b 1 0 + count_from xs s) (is_at_least s x le)
 
 pub count_no : (s x : ℕ) (xs : List ℕ) → x < s → count_from (x ∷ xs) s ≡ 0 + count_from xs s
 count_no s x xs lt = count_by-cons (λ p. nat_le s p) x xs
@@ -36,8 +30,8 @@ count_no s x xs lt = count_by-cons (λ p. nat_le s p) x xs
 
 pub count_falls : (xs : List ℕ) (a b : ℕ) → a ≤ b → count_from xs b ≤ count_from xs a
 count_falls xs a b le = count-mono (λ p. nat_le b p) (λ p. nat_le a p) xs (λ x there passes.
-    let high : b ≤ x = low_from b x passes in
-    low_yes a x (omega arith))
+    let high : b ≤ x = at_least b x passes in
+    is_at_least a x (omega arith))
 
 -- the lowest number from s on
 record IsLowest (xs : List ℕ) (s : ℕ) : Type 0 where
@@ -97,7 +91,7 @@ needed_mono width xs ys some more = elim (fold_max_reached 0 (map (cycles_from w
   | inr there ↦
       (let found = from_map (cycles_from width xs) xs (needed width xs) there in
       let b : ℕ = found.0 in
-      let any : 1 ≤ count_from xs b = count_some (λ p. nat_le b p) xs b found.1 (low_yes b b (omega arith)) in
+      let any : 1 ≤ count_from xs b = count_some (λ p. nat_le b p) xs b found.1 (is_at_least b b (omega arith)) in
       let as_many : count_from xs b ≤ count_from ys b = more b in
       let l = lowest ys b (omega arith) in
       let low : b ≤ l.number = l.from in
@@ -231,7 +225,7 @@ packed_high xs taken top is = elim (fold_max_reached 0 (map (cycles_from 1 xs) x
   | inr there ↦
       (let found = from_map (cycles_from 1 xs) xs (needed 1 xs) there in
       let b : ℕ = found.0 in
-      let any : 1 ≤ count_from xs b = count_some (λ p. nat_le b p) xs b found.1 (low_yes b b (omega arith)) in
+      let any : 1 ≤ count_from xs b = count_some (λ p. nat_le b p) xs b found.1 (is_at_least b b (omega arith)) in
       let most : count_from xs b ≤ taken_in taken b (top + 1) = is.most b (top + 1) (omega arith) in
       let few : taken_in taken b (top + 1) ≤ (top + 1) - b = taken_few taken top is.up_to b (top + 1) in
       let whole : (count_from xs b - 1) / 1 ≡ count_from xs b - 1 = div-one (count_from xs b - 1) in

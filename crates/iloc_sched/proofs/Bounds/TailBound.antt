@@ -25,16 +25,13 @@ use Rattle.iloc_sched.proofs.Basics.Maxima.{fold_max_reached}
 use Rattle.iloc_sched.proofs.Basics.Slots.{numbers_before, early_issued, issued_early, count_by-cons}
 use Rattle.iloc_sched.proofs.DelayPairs.DelayBounds.{in_when, delay_at_most}
 use Rattle.iloc_sched.proofs.PriorityValues.Longest.{Reached, from_reaches, outer_pair}
-use Rattle.iloc_sched.proofs.Bounds.Counting.{count-append, count-never, count-map, count-filter, count-mono, both_true, among, in_among, among-short}
+use Rattle.iloc_sched.proofs.Bounds.Counting.{count-append, count-never, count-map, count-filter, count-mono, both_true, among, in_among, among-short, both, at_least}
 use Rattle.iloc_sched.proofs.Bounds.Packing.{needed_mono}
 use Rattle.iloc_sched.proofs.Bounds.RowsHold.{Holds, is_kind}
 
 -- whether operation i is a load
 abbrev pub loads_at : List Op → ℕ → Bool
 loads_at ops i = is_load (kind (op_at ops i))
-
-at_least : (q p : ℕ) → nat_le q p ≡ true → q ≤ p
-at_least q p h = grind (arith, nat_tests)
 
 -- (m - 1) / width is at most r where m is at most width * (r + 1): else width * (r + 1) would be at most m - 1
 rest_within : (width m r : ℕ) → 0 < width → m ≤ width * (r + 1) → (m - 1) / width ≤ r
@@ -58,10 +55,6 @@ is_between a c x h =
     let low : nat_le a x ≡ true = parts.0 in
     let high : nat_lt x c ≡ true = parts.1 in
     (at_least a x low, grind (arith, nat_tests))
-
-both : (a b : Bool) → a ≡ true → b ≡ true → (a && b) ≡ true
-both true b h g = g
-both false b h g = cc
 
 in_between : (a c x : ℕ) → a ≤ x → x < c → between a c x ≡ true
 in_between a c x low high =
