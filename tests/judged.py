@@ -158,7 +158,7 @@ total: 5|Cycles 5|block 1 a cycles 5|output 0|nop|b:""".replace("\n", "|").split
 TOO_LARGE = ["[ output 2147483648 ; nop ]", "[ nop ; loadI 1 => r2147483648 ]", "block 2147483648 b",
              "block 99999999999999999999 a", "cycles 2147483648", "total 4294967296 // wide"]
 # The last line of each is the third.
-NO_BLOCK = ["a:\nb:\n[ nop ; nop ]", "a:\nb:\ncycles 0", "\n\n[ nop ; nop ]", "\n\ncycles 0", "a:\nb:\nblock 0 a",
+NO_BLOCK = ["a:\nb:\n[ nop ; nop ]", "a:\nb:\ncycles 0", "a:\n[ nop ; nop ]\nblock 1 a", "a:\ncycles 0\nblock 1 a", "a:\nb:\nblock 0 a",
             "a:\nb:\nblock 3 c", "a:\nb:\nblock 1 b", "a:\nb:\nblock 1 -", "nop\nb:\nblock 1 a",
             "a:\nblock 1 a\nblock 1 a", "a:\nb:\nblock 2147483647 a", "a:\nb:\nblock 1 A", "a:\nb:\nblock 1 ab"]
 BAD, LARGE, NONE = "not understood", "number above 2147483647", "no such block"

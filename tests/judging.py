@@ -79,7 +79,7 @@ def judging_cases():
     for words in (["--workers", "2"], ["--load", "0"], ["--store", "17"], ["4294967296"]):
         yield Case(f"judging/refused_words_{'_'.join(words)}", ["check", *words], TWO, b"", None, 2)
     for name, text, line, fault in refused_texts():
-        yield refused(f"judging/{name}", text, b"line %d: " % line + fault, 1, ["check"])
+        yield refused(f"judging/{name}", text, (b"line %d: " % line if line else b"") + fault, 1, ["check"])
 
 
 def listed(name, text, latencies, entry_text, words=()):
@@ -106,15 +106,10 @@ def small_cases():
     def same(name, text, *lines, status=0, words=()):
         out = "".join(f"{it}\n" for it in lines).encode()
         return Case(f"judging/{name}", ["check", *words], text, out, b"", status)
-    yield same("no_block", b"", "total 0 ours 0 least 0")
-    yield same("no_block_and_a_total", b"// nothing\ntotal 7\n", "total 0 ours 0 least 0")
     yield same("empty_blocks", b"a:\nb: nop\n", "block 1 a same cycles 0 ours 0 least 0",
                "block 2 b same cycles 0 ours 0 least 0", "total 0 ours 0 least 0")
     yield same("bare_rows", b"output 0\n[ nop ; output 0 ]\n", "block 1 - same cycles 1 ours 1 least 1",
                "total 1 ours 1 least 1")
-    yield same("rows_before_and_behind_the_head",
-               b"output 0\noutput 4\n[ output 0 ; nop ]\nblock 1 -\n[ output 4 ; nop ]\n",
-               "block 1 - same cycles 2 ours 2 least 2", "total 2 ours 2 least 2")
     yield same("the_last_claim_counts", b"output 0\ncycles 1\n[ output 0 ; nop ]\ncycles 9\ncycles 2\n",
                "block 1 - same cycles 1 ours 1 least 1 claimed 2", "total 1 ours 1 least 1")
     yield same("empty_rows_at_the_end", b"output 0\n[ output 0 ; nop ]\n[ nop ; nop ]\ncycles 1\n",
@@ -137,10 +132,19 @@ def small_cases():
 
 
 def refused_texts():
-    """Names, texts, and the line that is told with its fault."""
+    """Names, texts, and the line that is told with its fault; none where there are no blocks."""
     row = b"[ nop ; nop ]\n"
-    yield "row_without_a_block", row, 1, NO_BLOCK
-    yield "claim_without_a_block", b"\ncycles 0\n", 2, NO_BLOCK
+    for name, text in (("nothing", b""), ("blanks", b" \n// nothing\n"), ("row_without_a_block", row),
+                       ("no_block_and_a_total", b"// nothing\ntotal 7\n"),
+                       ("claim_without_a_block", b"\ncycles 0\n"), ("head_without_a_block", b"block 1 -\n"),
+                       ("large_number_and_no_block", b"block 99999999999 a\n"),
+                       ("large_number_in_a_row_of_no_block", b"[ output 2147483648 ; nop ]\n"),
+                       ("bad_line_behind_a_row_of_no_block", row + b"[ nop ]\n")):
+        yield name, text, None, b"no blocks"
+    yield "head_behind_rows_without_one", b"a:\n" + row + b"block 1 a\n", 3, NO_BLOCK
+    yield "rows_before_and_behind_the_head", (
+        b"output 0\noutput 4\n[ output 0 ; nop ]\nblock 1 -\n[ output 4 ; nop ]\n"), 4, NO_BLOCK
+    yield "head_behind_a_claim_without_one", b"a:\ncycles 1\ntotal 1\nblock 1 a\n", 4, NO_BLOCK
     yield "row_without_a_head", TWO + row, 3, NO_BLOCK
     yield "claim_without_a_head", TWO + b"cycles 0\n", 3, NO_BLOCK
     yield "head_of_an_earlier_block", TWO + b"block 2 b\nblock 1 a\n", 4, NO_BLOCK
@@ -151,7 +155,6 @@ def refused_texts():
     yield "name_in_capitals", TWO + b"block 1 A\n", 3, NO_BLOCK
     yield "no_name_for_a_named_block", TWO + b"block 1 -\n", 3, NO_BLOCK
     yield "name_for_an_unnamed_block", b"output 0\nblock 1 a\n", 2, NO_BLOCK
-    yield "head_without_a_block", b"block 1 -\n", 1, NO_BLOCK
     yield "head_behind_an_empty_block", b"nop\nblock 2 -\n", 2, NO_BLOCK
     for name, line in bad_lines():
         yield name, b"a: output 0\nblock 1 a\n" + row + line + b"\n", 4, NOT_UNDERSTOOD
@@ -159,9 +162,6 @@ def refused_texts():
             yield f"{name}_at_once", b"a: output 0\n" + line + b"\n", 2, NOT_UNDERSTOOD
     for name, line in large_numbers():
         yield name, b"a: output 0\n" + line + b"\n", 2, TOO_LARGE
-    yield "large_number_and_no_block", b"block 99999999999 a\n", 1, TOO_LARGE
-    yield "large_number_in_a_row_of_no_block", b"[ output 2147483648 ; nop ]\n", 1, TOO_LARGE
-    yield "bad_line_behind_a_row_of_no_block", row + b"[ nop ]\n", 1, NO_BLOCK
     rows = b"[ output 0 ; loadI 0 => r1 ]\n" * 5000
     one_more = rows + b"[ nop ; output 0 ]\n"
     yield "too_many_operations", b"a:\n" + row + one_more, 5003, TOO_MANY

@@ -26,6 +26,10 @@ class Refused(Exception):
     """Why a text is refused, as the program tells it."""
 
 
+class NoBlocks(Refused):
+    """A text for `check` that has no blocks, at whatever line that shows."""
+
+
 @dataclass
 class Block:
     name: str
@@ -82,12 +86,16 @@ class Reader:
         for number, line in enumerate(text.split(b"\n"), 1):
             try:
                 self.line(line.split(b"//")[0].strip(BLANKS))
+            except NoBlocks:
+                raise
             except Refused as why:
                 raise Refused(f"line {number}: {why}") from None
         return self.blocks
 
     def line(self, text):
         found = schedule_line(text)
+        if found and not self.blocks:
+            raise NoBlocks("no blocks")
         if found:
             self.is_behind = True
             self.schedule_line(*found)
@@ -123,7 +131,8 @@ class Reader:
     def current(self):
         if not self.head and len(self.blocks) != 1:
             raise Refused("no such block")
-        return self.blocks[self.head - 1 if self.head else 0]
+        self.head = self.head or 1
+        return self.blocks[self.head - 1]
 
     def issue(self, row):
         block = self.current()

@@ -12,7 +12,7 @@ from check import told
 from explained import Explained
 from limits import WORDS
 from machine import bad_row, cycles, difference, memories, row_text, words_from
-from reading import Refused, read
+from reading import NoBlocks, Refused, read
 
 AT = 1024
 # Each verdict that a run doesn't settle is tried on so many memories.
@@ -95,7 +95,10 @@ class Entry:
 
 
 def entries_of(given, latencies, start):
-    return [Entry(k, block, latencies, start) for k, block in enumerate(read(given), 1)]
+    blocks = read(given)
+    if not blocks:
+        raise NoBlocks("no blocks")
+    return [Entry(k, block, latencies, start) for k, block in enumerate(blocks, 1)]
 
 
 def total(entries):

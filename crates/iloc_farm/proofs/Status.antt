@@ -38,6 +38,7 @@ text_above_0 text.NoMemory zero = omega arith
 
 rows_above_0 : (fault : RowsFault) → rows_status fault ≡ 0 → ⊥
 rows_above_0 (rows.Read fault) zero = text_above_0 fault zero
+rows_above_0 rows.NoBlocks zero = omega arith
 rows_above_0 (rows.NoSuchBlock n) zero = omega arith
 
 above_0 : (words : Result Args Error) (read_old read_new written_old written_new : Option (List ℕ)) (fault : Fault)

@@ -27,6 +27,7 @@ text_status text.NoMemory = 3
 -- the same of a text with rows
 abbrev pub rows_status : RowsFault → ℕ
 rows_status (rows.Read fault) = text_status fault
+rows_status rows.NoBlocks = 1
 rows_status (rows.NoSuchBlock n) = 1
 
 -- 1 for a fault in the text, 3 for want of memory or of a thread, 4 for a device that failed
@@ -81,4 +82,5 @@ fault_of_rows (rows.Read (text.NumberTooLarge n)) = Rows (rows.Read (text.Number
 fault_of_rows (rows.Read (text.TooManyBlocks n)) = Rows (rows.Read (text.TooManyBlocks n))
 fault_of_rows (rows.Read (text.TooManyOperations n)) = Rows (rows.Read (text.TooManyOperations n))
 fault_of_rows (rows.Read text.NoMemory) = no_memory
+fault_of_rows rows.NoBlocks = Rows rows.NoBlocks
 fault_of_rows (rows.NoSuchBlock n) = Rows (rows.NoSuchBlock n)

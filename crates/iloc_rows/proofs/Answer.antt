@@ -11,10 +11,10 @@ use Rattle.iloc_text.specs.ScheduleLines.{Said, Says, SaysSomethingWidely}
 use Rattle.iloc_text.proofs.Answer.{lines_are_of, one_answer}
 use Rattle.iloc_text.proofs.ScheduleLines.{one_said}
 use Rattle.iloc_rows.specs.declared.fault.RowsFault.{RowsFault}
-use Rattle.iloc_rows.specs.declared.fault.RowsFault.TheVariants.{Read, NoSuchBlock}
+use Rattle.iloc_rows.specs.declared.fault.RowsFault.TheVariants.{Read, NoBlocks, NoSuchBlock}
 use Rattle.iloc_rows.specs.declared.proposal.Proposal.{Proposal}
 use Rattle.iloc_rows.specs.Proposing.{is_of_block, op_count, proposals_of, Fits, AllFit}
-use Rattle.iloc_rows.specs.Submissions.{SayAll, BlocksEnd, StartWithSchedule, Denotes, IsFaulty, HaveFirstFault, BlocksAreRefused, RowsAreRefused, IsRefused}
+use Rattle.iloc_rows.specs.Submissions.{SayAll, BlocksEnd, StartWithSchedule, Denotes, IsFaulty, HaveFirstFault, HasNoBlocks, BlocksAreRefused, RowsAreRefused, IsRefused, ProposeApart, DenoteApart}
 use Rattle.iloc_rows.specs.Laws as laws
 
 -- Where the blocks end
@@ -62,6 +62,7 @@ no_fault blocks ss line n (Read (TooManyOperations m)) s h f k =
     let few = f.few in
     let many = k.1.many in omega arith
 no_fault blocks ss line n (Read NoMemory) s h f k = k
+no_fault blocks ss line n NoBlocks s h f k = k
 no_fault blocks ss line n (NoSuchBlock m) s h f k =
     let same = ap (is_of_block blocks ss) (one_said line s k.1.said h k.1.says) in
     let there = f.of_block in
@@ -73,6 +74,7 @@ same_fault : (blocks : List Block) (ss : List Said) (line : List ℕ) (n : ℕ) 
 same_fault blocks ss line n (Read InputTooLong) g h k = absurd h
 same_fault blocks ss line n (Read (TooManyBlocks m)) g h k = absurd h
 same_fault blocks ss line n (Read NoMemory) g h k = absurd h
+same_fault blocks ss line n NoBlocks g h k = absurd h
 same_fault blocks ss line n (Read (BadLine m)) (Read (BadLine j)) h k = ap (λ i. Read (BadLine i)) (h.0 ∙ sym k.0)
 same_fault blocks ss line n (Read (BadLine m)) (Read (NumberTooLarge j)) h k = absurd (h.1 k.1)
 same_fault blocks ss line n (Read (BadLine m)) (Read (TooManyOperations j)) h k =
@@ -81,6 +83,7 @@ same_fault blocks ss line n (Read (BadLine m)) (NoSuchBlock j) h k = absurd (h.1
 same_fault blocks ss line n (Read (BadLine m)) (Read InputTooLong) h k = absurd k
 same_fault blocks ss line n (Read (BadLine m)) (Read (TooManyBlocks j)) h k = absurd k
 same_fault blocks ss line n (Read (BadLine m)) (Read NoMemory) h k = absurd k
+same_fault blocks ss line n (Read (BadLine m)) NoBlocks h k = absurd k
 same_fault blocks ss line n (Read (NumberTooLarge m)) (Read (BadLine j)) h k = absurd (k.1 h.1)
 same_fault blocks ss line n (Read (NumberTooLarge m)) (Read (NumberTooLarge j)) h k =
     ap (λ i. Read (NumberTooLarge i)) (h.0 ∙ sym k.0)
@@ -90,6 +93,7 @@ same_fault blocks ss line n (Read (NumberTooLarge m)) (NoSuchBlock j) h k = absu
 same_fault blocks ss line n (Read (NumberTooLarge m)) (Read InputTooLong) h k = absurd k
 same_fault blocks ss line n (Read (NumberTooLarge m)) (Read (TooManyBlocks j)) h k = absurd k
 same_fault blocks ss line n (Read (NumberTooLarge m)) (Read NoMemory) h k = absurd k
+same_fault blocks ss line n (Read (NumberTooLarge m)) NoBlocks h k = absurd k
 same_fault blocks ss line n (Read (TooManyOperations m)) (Read (BadLine j)) h k =
     absurd (k.1 (says_widely line h.1.said h.1.says))
 same_fault blocks ss line n (Read (TooManyOperations m)) (Read (NumberTooLarge j)) h k =
@@ -103,6 +107,7 @@ same_fault blocks ss line n (Read (TooManyOperations m)) (NoSuchBlock j) h k =
 same_fault blocks ss line n (Read (TooManyOperations m)) (Read InputTooLong) h k = absurd k
 same_fault blocks ss line n (Read (TooManyOperations m)) (Read (TooManyBlocks j)) h k = absurd k
 same_fault blocks ss line n (Read (TooManyOperations m)) (Read NoMemory) h k = absurd k
+same_fault blocks ss line n (Read (TooManyOperations m)) NoBlocks h k = absurd k
 same_fault blocks ss line n (NoSuchBlock m) (Read (BadLine j)) h k =
     absurd (k.1 (says_widely line h.1.said h.1.says))
 same_fault blocks ss line n (NoSuchBlock m) (Read (NumberTooLarge j)) h k = absurd (k.2 (h.1.said, h.1.says))
@@ -114,6 +119,7 @@ same_fault blocks ss line n (NoSuchBlock m) (NoSuchBlock j) h k = ap (λ i. NoSu
 same_fault blocks ss line n (NoSuchBlock m) (Read InputTooLong) h k = absurd k
 same_fault blocks ss line n (NoSuchBlock m) (Read (TooManyBlocks j)) h k = absurd k
 same_fault blocks ss line n (NoSuchBlock m) (Read NoMemory) h k = absurd k
+same_fault blocks ss line n (NoSuchBlock m) NoBlocks h k = absurd k
 
 -- a line with a fault, behind lines that fit behind a front
 record Faulty (blocks : List Block) (front : List Said) (n : ℕ) (before : List (List ℕ)) (line : List ℕ)
@@ -213,19 +219,21 @@ faulty_of {blocks} {n} {lines} {fault} f =
 
 abbrev Refusal : List ℕ → RowsFault → Type 0
 Refusal input fault = ((fault ≡ Read InputTooLong) × (MAX_INPUT < length input))
-    ⊎ (((g : ReadFault) × (fault ≡ Read g) × BlocksAreRefused input g) ⊎ RowsAreRefused input fault)
+    ⊎ (((g : ReadFault) × (fault ≡ Read g) × BlocksAreRefused input g)
+    ⊎ (((fault ≡ NoBlocks) × HasNoBlocks input) ⊎ RowsAreRefused input fault))
 
 refusal_is : (input : List ℕ) (fault : RowsFault) → IsRefused input fault → Refusal input fault
 refusal_is input (Read InputTooLong) h = inl (refl, h)
 refusal_is input (Read (BadLine n)) (inl b) = inr (inl (BadLine n, refl, b))
-refusal_is input (Read (BadLine n)) (inr r) = inr (inr r)
+refusal_is input (Read (BadLine n)) (inr r) = inr (inr (inr r))
 refusal_is input (Read (NumberTooLarge n)) (inl b) = inr (inl (NumberTooLarge n, refl, b))
-refusal_is input (Read (NumberTooLarge n)) (inr r) = inr (inr r)
+refusal_is input (Read (NumberTooLarge n)) (inr r) = inr (inr (inr r))
 refusal_is input (Read (TooManyBlocks n)) h = inr (inl (TooManyBlocks n, refl, h))
 refusal_is input (Read (TooManyOperations n)) (inl b) = inr (inl (TooManyOperations n, refl, b))
-refusal_is input (Read (TooManyOperations n)) (inr r) = inr (inr r)
+refusal_is input (Read (TooManyOperations n)) (inr r) = inr (inr (inr r))
 refusal_is input (Read NoMemory) h = absurd h
-refusal_is input (NoSuchBlock n) h = inr (inr h)
+refusal_is input NoBlocks h = inr (inr (inl (refl, h)))
+refusal_is input (NoSuchBlock n) h = inr (inr (inr h))
 
 long_and_short : (n : ℕ) → MAX_INPUT < n → n ≤ MAX_INPUT → ⊥
 long_and_short n h k = omega arith
@@ -245,6 +253,20 @@ blocks_or_rows input g fault h k =
     let parts = same_split input h.before h.after k.before k.after h.are_lines k.are_lines h.ends k.ends in
     one_answer.apart (front_text k.before) k.blocks g k.file
     (subst (λ b. files.IsRefused (front_text b) g) parts.0 h.refused)
+
+blocks_or_none : (input : List ℕ) (g : ReadFault) → BlocksAreRefused input g → HasNoBlocks input → ⊥
+blocks_or_none input g h k =
+    let parts = same_split input h.before h.after k.before k.after h.are_lines k.are_lines h.ends k.ends in
+    one_answer.apart (front_text k.before) [] g k.file
+    (subst (λ b. files.IsRefused (front_text b) g) parts.0 h.refused)
+
+none_or_rows : (input : List ℕ) (fault : RowsFault) → HasNoBlocks input → RowsAreRefused input fault → ⊥
+none_or_rows input fault h k =
+    let parts = same_split input h.before h.after k.before k.after h.are_lines k.are_lines h.ends k.ends in
+    let same : [] ≡ k.blocks = one_answer.file (front_text k.before) [] k.blocks
+    (subst (λ b. files.Denotes (front_text b) []) parts.0 h.file) k.file in
+    let few : 0 ≡ length k.blocks = ap length same in
+    let some = k.some in omega arith
 
 same_rows : (input : List ℕ) (fault fault' : RowsFault) → RowsAreRefused input fault → RowsAreRefused input fault'
     → fault ≡ fault'
@@ -266,13 +288,20 @@ one_refusal input fault fault' h k = by (refusal_is input fault h) (refusal_is i
     by : Refusal input fault → Refusal input fault' → fault ≡ fault'
     by (inl a) (inl b) = a.0 ∙ sym b.0
     by (inl a) (inr (inl b)) = absurd (long_and_short (length input) a.1 b.2.short)
-    by (inl a) (inr (inr b)) = absurd (long_and_short (length input) a.1 b.short)
+    by (inl a) (inr (inr (inl b))) = absurd (long_and_short (length input) a.1 b.1.short)
+    by (inl a) (inr (inr (inr b))) = absurd (long_and_short (length input) a.1 b.short)
     by (inr (inl a)) (inl b) = absurd (long_and_short (length input) b.1 a.2.short)
     by (inr (inl a)) (inr (inl b)) = a.1 ∙ ap (λ g. Read g) (same_blocks input a.0 b.0 a.2 b.2) ∙ sym b.1
-    by (inr (inl a)) (inr (inr b)) = absurd (blocks_or_rows input a.0 fault' a.2 b)
-    by (inr (inr a)) (inl b) = absurd (long_and_short (length input) b.1 a.short)
-    by (inr (inr a)) (inr (inl b)) = absurd (blocks_or_rows input b.0 fault b.2 a)
-    by (inr (inr a)) (inr (inr b)) = same_rows input fault fault' a b
+    by (inr (inl a)) (inr (inr (inl b))) = absurd (blocks_or_none input a.0 a.2 b.1)
+    by (inr (inl a)) (inr (inr (inr b))) = absurd (blocks_or_rows input a.0 fault' a.2 b)
+    by (inr (inr (inl a))) (inl b) = absurd (long_and_short (length input) b.1 a.1.short)
+    by (inr (inr (inl a))) (inr (inl b)) = absurd (blocks_or_none input b.0 b.2 a.1)
+    by (inr (inr (inl a))) (inr (inr (inl b))) = a.0 ∙ sym b.0
+    by (inr (inr (inl a))) (inr (inr (inr b))) = absurd (none_or_rows input fault' a.1 b)
+    by (inr (inr (inr a))) (inl b) = absurd (long_and_short (length input) b.1 a.short)
+    by (inr (inr (inr a))) (inr (inl b)) = absurd (blocks_or_rows input b.0 fault b.2 a)
+    by (inr (inr (inr a))) (inr (inr (inl b))) = absurd (none_or_rows input fault b.1 a)
+    by (inr (inr (inr a))) (inr (inr (inr b))) = same_rows input fault fault' a b
 
 one_submission : (input : List ℕ) (blocks blocks' : List Block) (proposals proposals' : List Proposal)
     → Denotes input blocks proposals → Denotes input blocks' proposals' → (blocks ≡ blocks') × (proposals ≡ proposals')
@@ -295,7 +324,14 @@ denoted_or_refused input blocks proposals fault h k = by (refusal_is input fault
         let parts = same_split input h.before h.after r.before r.after h.are_lines r.are_lines h.ends r.ends in
         one_answer.apart (front_text r.before) blocks a.0
         (subst (λ b. files.Denotes (front_text b) blocks) parts.0 h.file) r.refused
-    by (inr (inr r)) =
+    by (inr (inr (inl n))) =
+        let r = n.1 in
+        let parts = same_split input h.before h.after r.before r.after h.are_lines r.are_lines h.ends r.ends in
+        let same : blocks ≡ [] = one_answer.file (front_text r.before) blocks []
+        (subst (λ b. files.Denotes (front_text b) blocks) parts.0 h.file) r.file in
+        let few : length blocks ≡ 0 = ap length same in
+        let some = h.some in omega arith
+    by (inr (inr (inr r))) =
         let parts = same_split input h.before h.after r.before r.after h.are_lines r.are_lines h.ends r.ends in
         let same : r.blocks ≡ blocks = one_answer.file (front_text h.before) r.blocks blocks
         (subst (λ b. files.Denotes (front_text b) r.blocks) (sym parts.0) r.file) h.file in
@@ -307,3 +343,18 @@ denoted_or_refused input blocks proposals fault h k = by (refusal_is input fault
 
 pub one_answer_each : laws.TextsHaveOneAnswer
 one_answer_each = record { blocks = one_submission; refusal = one_refusal; apart = denoted_or_refused }
+
+-- Texts apart
+
+pub one_task : laws.HandInsDontChangeTheTask
+one_task task input input' blocks blocks' proposals proposals' h k = one_answer.file task blocks blocks' h.task.file k.task.file
+
+pub one_apart : laws.TextsApartHaveOneAnswer
+one_apart task input blocks blocks' proposals proposals' h k =
+    let same : blocks ≡ blocks' = one_answer.file task blocks blocks' h.task.file k.task.file in
+    let lines : h.rows.lines ≡ k.rows.lines =
+    sym (lines_are_of input h.rows.lines h.rows.are_lines) ∙ lines_are_of input k.rows.lines k.rows.are_lines in
+    let said : h.rows.propose.said ≡ k.rows.propose.said =
+    same_said k.rows.lines h.rows.propose.said k.rows.propose.said
+    (subst (λ ls. SayAll ls h.rows.propose.said) lines h.rows.propose.say) k.rows.propose.say in
+    (same, h.rows.propose.are ∙ ap₂ (λ bs ss. proposals_of (length bs) ss) same said ∙ sym k.rows.propose.are)

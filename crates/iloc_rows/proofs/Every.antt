@@ -15,7 +15,7 @@ use Rattle.iloc_text.proofs.Every as files_every
 use Rattle.iloc_text.proofs.ScheduleLines.{said_bad, said_good, said_large}
 use Rattle.iloc_text.proofs.Splitting.{lines_are}
 use Rattle.iloc_rows.specs.declared.fault.RowsFault.{RowsFault}
-use Rattle.iloc_rows.specs.declared.fault.RowsFault.TheVariants.{Read, NoSuchBlock}
+use Rattle.iloc_rows.specs.declared.fault.RowsFault.TheVariants.{Read, NoBlocks, NoSuchBlock}
 use Rattle.iloc_rows.specs.declared.proposal.Proposal.{Proposal}
 use Rattle.iloc_rows.specs.Proposing.{proposals_of, is_of_block, op_count, Fits, AllFit}
 use Rattle.iloc_rows.specs.Submissions.{SayAll, BlocksEnd, Propose, Denotes, IsFaulty, HaveFirstFault, IsRefused}
@@ -150,8 +150,8 @@ Answered input = ((blocks : List Block) × (proposals : List Proposal) × Denote
     ⊎ ((fault : RowsFault) × IsRefused input fault)
 
 by_rows : (input : List ℕ) → length input ≤ MAX_INPUT → (c : AreCut (lines_of input)) (blocks : List Block)
-    → files.Denotes (join_with_byte 10 c.before) blocks → Answered input
-by_rows input short c blocks file =
+    → files.Denotes (join_with_byte 10 c.before) blocks → 0 < length blocks → Answered input
+by_rows input short c blocks file some =
     elim (from_here blocks (length c.before) c.after [] c.after [] refl tt tt) as (λ _. Answered input) [
       | inl good ↦ inl (
         blocks,
@@ -163,6 +163,7 @@ by_rows input short c blocks file =
           are_lines = subst (AreLines input) c.whole (lines_are input);
           ends = c.ends;
           file = file;
+          some = some;
           propose = good.1;
         },
       )
@@ -176,14 +177,30 @@ by_rows input short c blocks file =
           ends = c.ends;
           blocks = blocks;
           file = file;
+          some = some;
           first = bad.1;
         }),
       )
     ]
 
+by_count : (input : List ℕ) → length input ≤ MAX_INPUT → (c : AreCut (lines_of input)) (blocks : List Block)
+    → files.Denotes (join_with_byte 10 c.before) blocks → Answered input
+by_count input short c [] file = inr (
+  NoBlocks,
+  record {
+    short = short;
+    before = c.before;
+    after = c.after;
+    are_lines = subst (AreLines input) c.whole (lines_are input);
+    ends = c.ends;
+    file = file;
+  },
+)
+by_count input short c (b ∷ bs) file = by_rows input short c (b ∷ bs) file (omega arith)
+
 by_blocks : (input : List ℕ) → length input ≤ MAX_INPUT → (c : AreCut (lines_of input)) → Answered input
 by_blocks input short c = elim (files_every.an_answer (join_with_byte 10 c.before)) as (λ _. Answered input) [
-  | inl good ↦ by_rows input short c good.0 good.1
+  | inl good ↦ by_count input short c good.0 good.1
   | inr bad ↦ inr (
     Read bad.0,
     blocks_refuse input bad.0 (record {

@@ -10,12 +10,12 @@ use Rattle.iloc_text.specs.ScheduleLines.{Said}
 use Rattle.iloc_text.specs.ScheduleLines.Said.{nothing, row, head, cycles, total}
 use Rattle.iloc_timed.specs.Limits.{MAX_ROWS}
 use Rattle.iloc_rows.specs.declared.fault.RowsFault.{RowsFault}
-use Rattle.iloc_rows.specs.declared.fault.RowsFault.TheVariants.{Read, NoSuchBlock}
+use Rattle.iloc_rows.specs.declared.fault.RowsFault.TheVariants.{Read, NoBlocks, NoSuchBlock}
 use Rattle.iloc_rows.specs.declared.proposal.Proposal.{Proposal}
 use Rattle.iloc_rows.specs.declared.proposing.Proposing.{Proposing}
-use Rattle.iloc_rows.specs.Proposing.{last_head, block_of, head_number, row_in, cycles_in, rows_of, proposal_of, proposals_of, is_named, op_count}
+use Rattle.iloc_rows.specs.Proposing.{last_block, block_of, head_number, proposes, row_in, cycles_in, rows_of, proposal_of, proposals_of, is_named, op_count}
 use Rattle.iloc_rows.specs.Steps.Growth.{none_proposed, with_row, with_cycles, place, at_place, HasProposed, Adds, RowAdds, CyclesAdd, Turns}
-use Rattle.iloc_rows.proofs.Picking.{last_head-none, last_head-head}
+use Rattle.iloc_rows.proofs.Picking.{last_block-none, last_block-more, last_block-head}
 use Rattle.iloc_rows.proofs.Numbering.{ops_in-snoc, proposal-same, proposal-row, proposal-row_else, proposal-cycles, proposal-cycles_else, proposal-short, map-same, map-set}
 
 -- Places
@@ -59,14 +59,14 @@ place_none last count = by (nat_lt 0 last) (count == 1)
 record IsAt (blocks : List Block) (ss : List Said) (i : ℕ) : Type 0 where
   block : block_of ss ≡ 1 + i
   within : i < length blocks
-  there : (nat_lt 0 (last_head ss) || (length blocks == 1)) ≡ true
+  there : (nat_lt 0 (last_block ss) || (length blocks == 1)) ≡ true
 
 is_at : {blocks : List Block} {ss : List Said} {old : Proposing} (i : ℕ) → HasProposed blocks ss old
     → place old.last (length old.proposals.items) ≡ Some i → IsAt blocks ss i
 is_at {blocks} {ss} {old} i h e =
     let count : length old.proposals.items ≡ length blocks =
     ap length h.proposals ∙ length-proposals (length blocks) ss in
-    let found = place_found (last_head ss) (length blocks) i (sym (ap₂ place h.last count) ∙ e) in
+    let found = place_found (last_block ss) (length blocks) i (sym (ap₂ place h.last count) ∙ e) in
     record {
       block = found.0;
       there = found.1;
@@ -75,14 +75,18 @@ is_at {blocks} {ss} {old} i h e =
 
 nowhere : {blocks : List Block} {ss : List Said} {old : Proposing} → HasProposed blocks ss old
     → place old.last (length old.proposals.items) ≡ None
-    → (nat_lt 0 (last_head ss) || (length blocks == 1)) ≡ false
+    → (nat_lt 0 (last_block ss) || (length blocks == 1)) ≡ false
 nowhere {blocks} {ss} {old} h e =
     let count : length old.proposals.items ≡ length blocks =
     ap length h.proposals ∙ length-proposals (length blocks) ss in
-    place_none (last_head ss) (length blocks) (sym (ap₂ place h.last count) ∙ e)
+    place_none (last_block ss) (length blocks) (sym (ap₂ place h.last count) ∙ e)
 
-pub still_of : (ss : List Said) (s : Said) → head_number s ≡ None → block_of (ss ++ s ∷ []) ≡ block_of ss
-still_of ss s h = ap (max 1) (last_head-none ss s h)
+pub still_of : (ss : List Said) (s : Said) → head_number s ≡ None → proposes s ≡ true
+    → block_of (ss ++ s ∷ []) ≡ block_of ss
+still_of ss s h p = ap (max 1) (last_block-more ss s h p) ∙ again (last_block ss)
+  where
+    again : (n : ℕ) → max 1 (max 1 n) ≡ max 1 n
+    again n = omega arith
 
 -- Rows
 
@@ -90,7 +94,7 @@ rows_grow : (blocks : List Block) (ss : List Said) (one two : Op) (i : ℕ) → 
     → proposals_of (length blocks) (ss ++ row one two ∷ [])
     ≡ set (proposals_of (length blocks) ss) i (with_row (at_place (proposals_of (length blocks) ss) i) one two)
 rows_grow blocks ss one two i a =
-    let here : block_of (ss ++ row one two ∷ []) ≡ 1 + i = still_of ss (row one two) refl ∙ a.block in
+    let here : block_of (ss ++ row one two ∷ []) ≡ 1 + i = still_of ss (row one two) refl refl ∙ a.block in
     map-set (proposal_of ss) (proposal_of (ss ++ row one two ∷ [])) 1 (length blocks) i
     (with_row (at_place (proposals_of (length blocks) ss) i) one two) a.within
     (proposal-row ss one two (1 + i) here
@@ -115,7 +119,7 @@ row_adds {blocks} {ss} {old} one two n new (Ok done) h r =
     let count = ap (λ ps. length (with_row (at_place ps r.0) one two).ops) h.proposals
     ∙ row_count blocks ss one two r.0 a in (
       record { of_block = a.there; few = let few = r.4 in omega arith },
-      record { proposals = grown; last = r.3 ∙ h.last ∙ sym (last_head-none ss (row one two) refl) },
+      record { proposals = grown; last = r.3 ∙ ap (max 1) h.last ∙ sym (last_block-more ss (row one two) refl refl) },
     )
 row_adds one two n new (Err (Read InputTooLong)) h r = r
 row_adds one two n new (Err (Read (BadLine k))) h r = r
@@ -128,6 +132,7 @@ row_adds {blocks} {ss} {old} one two n new (Err (Read (TooManyOperations k))) h 
     let many = r.3 in
     (r.0, a.there, omega arith)
 row_adds one two n new (Err (Read NoMemory)) h r = tt
+row_adds one two n new (Err NoBlocks) h r = r
 row_adds one two n new (Err (NoSuchBlock k)) h r = (r.0, nowhere h r.1)
 
 -- Claims
@@ -136,7 +141,7 @@ cycles_grow : (blocks : List Block) (ss : List Said) (c i : ℕ) → IsAt blocks
     → proposals_of (length blocks) (ss ++ cycles c ∷ [])
     ≡ set (proposals_of (length blocks) ss) i (with_cycles (at_place (proposals_of (length blocks) ss) i) c)
 cycles_grow blocks ss c i a =
-    let here : block_of (ss ++ cycles c ∷ []) ≡ 1 + i = still_of ss (cycles c) refl ∙ a.block in
+    let here : block_of (ss ++ cycles c ∷ []) ≡ 1 + i = still_of ss (cycles c) refl refl ∙ a.block in
     map-set (proposal_of ss) (proposal_of (ss ++ cycles c ∷ [])) 1 (length blocks) i
     (with_cycles (at_place (proposals_of (length blocks) ss) i) c) a.within
     (proposal-cycles ss c (1 + i) here
@@ -152,9 +157,10 @@ cycles_add {blocks} {ss} {old} c n new (Ok done) h r =
     r.2 ∙ ap (λ ps. set ps r.0 (with_cycles (at_place ps r.0) c)) h.proposals
     ∙ sym (cycles_grow blocks ss c r.0 a) in (
       record { of_block = a.there; few = omega arith },
-      record { proposals = grown; last = r.3 ∙ h.last ∙ sym (last_head-none ss (cycles c) refl) },
+      record { proposals = grown; last = r.3 ∙ ap (max 1) h.last ∙ sym (last_block-more ss (cycles c) refl refl) },
     )
 cycles_add c n new (Err (Read fault)) h r = absurd r
+cycles_add c n new (Err NoBlocks) h r = r
 cycles_add c n new (Err (NoSuchBlock k)) h r = (r.0, nowhere h r.1)
 
 -- Heads, and lines that propose nothing
@@ -172,15 +178,16 @@ pub head_turns : {blocks : List Block} {ss : List Said} {old : Proposing} (k : �
     → HasProposed blocks ss old → Turns blocks old k name n new result → Adds blocks ss (head k name) n new result
 head_turns {blocks} {ss} {old} k name n new (Ok done) h r = (
   record {
-    of_block = ap₂ (λ a b. a && b) (below (last_head ss) k (let last = h.last in let lt = r.0 in omega arith)) r.1;
+    of_block = ap₂ (λ a b. a && b) (below (last_block ss) k (let last = h.last in let lt = r.0 in omega arith)) r.1;
     few = omega arith;
   },
   record {
     proposals = r.2 ∙ h.proposals ∙ same_proposals (length blocks) ss (head k name) refl refl;
-    last = r.3 ∙ sym (last_head-head ss k name);
+    last = r.3 ∙ sym (last_block-head ss k name (let last = h.last in let lt = r.0 in omega arith));
   },
 )
 head_turns k name n new (Err (Read fault)) h r = absurd r
+head_turns k name n new (Err NoBlocks) h r = r
 head_turns {blocks} {ss} {old} k name n new (Err (NoSuchBlock m)) h r =
     (r.0, ap (λ last. nat_lt last k && is_named blocks k name) (sym h.last) ∙ r.1)
 
@@ -190,7 +197,7 @@ nothing_adds {blocks} {ss} {old} n h = (
   record { of_block = refl; few = omega arith },
   record {
     proposals = h.proposals ∙ same_proposals (length blocks) ss nothing refl refl;
-    last = h.last ∙ sym (last_head-none ss nothing refl);
+    last = h.last ∙ sym (last_block-none ss nothing refl refl);
   },
 )
 
@@ -200,7 +207,7 @@ total_adds {blocks} {ss} {old} t n h = (
   record { of_block = refl; few = omega arith },
   record {
     proposals = h.proposals ∙ same_proposals (length blocks) ss (total t) refl refl;
-    last = h.last ∙ sym (last_head-none ss (total t) refl);
+    last = h.last ∙ sym (last_block-none ss (total t) refl refl);
   },
 )
 

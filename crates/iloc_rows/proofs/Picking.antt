@@ -1,10 +1,12 @@
 -- What one more line does to what is picked of the lines of a block.
-use Rattle.std.proofs.Common.{◌≡◌, ◌≢◌, ◌∙◌, ℕ, suc, ◌≤◌, Bool, true, false, cond, ◌==◌, List, [], ◌∷◌, ◌++◌, length, map, filter_map, refl, ap, Option, Some, None, unwrap_or, option_to_list, append-nil, eq-eqb, ne_eqb, arith}
+use Rattle.std.proofs.Common.{◌≡◌, ◌≢◌, ◌∙◌, ℕ, suc, ◌<◌, ◌≤◌, max, Bool, true, false, cond, if◌then◌else◌, ◌||◌, ◌==◌, List, [], ◌∷◌, ◌++◌, length, map, filter_map, refl, ap, ap₂, Option, Some, None, unwrap_or, option_to_list, append-nil, eq-eqb, ne_eqb, arith}
 use Rattle.std.proofs.lemmas.List.{map-append, length-map}
+use Rattle.std.specs.List.{list_any}
 use Rattle.std.proofs.lemmas.List.Elements.{filter_map-append}
+use Rattle.std.proofs.lemmas.List.Folds.{list_any-append}
 use Rattle.iloc_text.specs.ScheduleLines.{Said}
 use Rattle.iloc_text.specs.ScheduleLines.Said.{head}
-use Rattle.iloc_rows.specs.Proposing.{last_of, fronts, head_number, last_head, block_of, of_last, picked}
+use Rattle.iloc_rows.specs.Proposing.{last_of, fronts, head_number, last_head, proposes, last_block, block_of, of_last, picked}
 
 fronts-snoc : (ss : List Said) (s : Said) → fronts (ss ++ s ∷ []) ≡ fronts ss ++ (ss ++ s ∷ []) ∷ []
 fronts-snoc [] s = refl
@@ -82,9 +84,49 @@ unfolding last_head
 last_head-head ss k name = ap (λ ns. unwrap_or (last_of ns) 0) (filter_map-append head_number ss (head k name ∷ []))
     ∙ ap (λ o. unwrap_or o 0) (last_of-snoc (filter_map head_number ss) k)
 
-pub last_head-nothing : last_head [] ≡ 0
-unfolding last_head
-last_head-nothing = refl
+-- The last block
+
+any_more : (ss : List Said) (s : Said) → list_any proposes (ss ++ s ∷ []) ≡ (list_any proposes ss || (proposes s || false))
+any_more ss s = list_any-append proposes ss (s ∷ [])
+
+pub last_block-nothing : last_block [] ≡ 0
+unfolding last_head last_block
+last_block-nothing = refl
+
+-- behind a line that is of no block
+pub last_block-none : (ss : List Said) (s : Said) → head_number s ≡ None → proposes s ≡ false
+    → last_block (ss ++ s ∷ []) ≡ last_block ss
+unfolding last_block
+last_block-none ss s h p =
+    ap₂ (λ n b. max n (if b then 1 else 0)) (last_head-none ss s h) (any_more ss s ∙ rw p (or_none (list_any proposes ss)))
+  where
+    or_none : (b : Bool) → (b || false) ≡ b
+    or_none true = refl
+    or_none false = refl
+
+-- behind a row or a claim
+pub last_block-more : (ss : List Said) (s : Said) → head_number s ≡ None → proposes s ≡ true
+    → last_block (ss ++ s ∷ []) ≡ max 1 (last_block ss)
+unfolding last_block
+last_block-more ss s h p =
+    ap₂ (λ n b. max n (if b then 1 else 0)) (last_head-none ss s h) (any_more ss s ∙ rw p refl)
+    ∙ by (list_any proposes ss)
+  where
+    by : (b : Bool) → max (last_head ss) (if b || true then 1 else 0) ≡ max 1 (max (last_head ss) (if b then 1 else 0))
+    by true = omega arith
+    by false = omega arith
+
+-- behind the head of a later one
+pub last_block-head : (ss : List Said) (k : ℕ) (name : Option (List ℕ)) → last_block ss < k
+    → last_block (ss ++ head k name ∷ []) ≡ k
+unfolding last_block
+last_block-head ss k name less =
+    ap₂ (λ n b. max n (if b then 1 else 0)) (last_head-head ss k name) (any_more ss (head k name))
+    ∙ by (list_any proposes ss) less
+  where
+    by : (b : Bool) → max (last_head ss) (if b then 1 else 0) < k → max k (if b || false then 1 else 0) ≡ k
+    by true less = omega arith
+    by false less = omega arith
 
 -- How much is picked
 

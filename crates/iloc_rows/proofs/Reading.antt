@@ -1,5 +1,5 @@
 -- What the reader has read of schedule lines, from line to line.
-use Rattle.std.proofs.Common.{◌≡◌, ◌≢◌, ◌∙◌, ℕ, suc, ◌+◌, ◌<◌, ◌≤◌, List, [], ◌∷◌, ◌++◌, length, refl, sym, ap, subst, Option, Some, None, Result, Err, IfErr, append_assoc, append-nil, length-append, Bor, inl, inr, arith}
+use Rattle.std.proofs.Common.{◌≡◌, ◌≢◌, ◌∙◌, ℕ, suc, ◌+◌, ◌<◌, ◌≤◌, List, [], ◌∷◌, ◌++◌, length, refl, sym, ap, subst, subst₂, Option, Some, None, Result, Err, IfErr, append_assoc, append-nil, length-append, Bor, inl, inr, arith}
 use Rattle.std.specs.List.{join_with_byte}
 use Rattle.iloc_ops.specs.Limits.{MAX_INPUT}
 use Rattle.iloc_ops.specs.declared.file.Block.{Block}
@@ -12,15 +12,15 @@ use Rattle.iloc_text.specs.Lines.{lines_of, lines_left}
 use Rattle.iloc_text.proofs.Splitting.{lines_are, lines_few}
 use Rattle.iloc_timed.specs.Limits.{MAX_ROWS}
 use Rattle.iloc_rows.specs.declared.fault.RowsFault.{RowsFault}
-use Rattle.iloc_rows.specs.declared.fault.RowsFault.TheVariants.{Read, NoSuchBlock}
+use Rattle.iloc_rows.specs.declared.fault.RowsFault.TheVariants.{Read, NoBlocks, NoSuchBlock}
 use Rattle.iloc_rows.specs.declared.blocks_end.Parts.{Parts}
 use Rattle.iloc_rows.specs.declared.proposal.Proposal.{Proposal}
 use Rattle.iloc_rows.specs.declared.proposing.Proposing.{Proposing}
 use Rattle.iloc_rows.specs.Proposing.{proposals_of, Fits, AllFit}
-use Rattle.iloc_rows.specs.Submissions.{SayAll, Propose, Denotes, IsFaulty, HaveFirstFault, BlocksAreRefused, RowsAreRefused, IsRefused}
+use Rattle.iloc_rows.specs.Submissions.{SayAll, Propose, Denotes, IsFaulty, HaveFirstFault, HasNoBlocks, BlocksAreRefused, RowsAreRefused, IsRefused, ProposeApart, HaveFault, AreRefusedFor}
 use Rattle.iloc_rows.specs.Steps.Growth.{HasProposed, Adds}
 use Rattle.iloc_rows.specs.Steps.Ends.{ArePartsOf}
-use Rattle.iloc_rows.proofs.Picking.{last_head-nothing}
+use Rattle.iloc_rows.proofs.Picking.{last_block-nothing}
 use Rattle.iloc_rows.proofs.Ends.{join-append}
 
 pub SayAll-snoc : (lines : List (List ℕ)) (ss : List Said) (line : List ℕ) (s : Said) → SayAll lines ss → Says line s
@@ -64,7 +64,7 @@ progress_begins blocks lines state rest p l = record {
   said = [];
   say = tt;
   fit = tt;
-  proposed = record { proposals = p; last = l ∙ sym last_head-nothing };
+  proposed = record { proposals = p; last = l ∙ sym last_block-nothing };
   number_is = omega arith;
   whole = refl;
 }
@@ -135,6 +135,7 @@ added_faulty blocks ss line s n state (Read (TooManyBlocks k)) says a memory = a
 added_faulty blocks ss line s n state (Read (TooManyOperations k)) says a memory =
     (a.0, record { said = s; says = says; of_block = a.1; many = a.2 })
 added_faulty blocks ss line s n state (Read NoMemory) says a memory = absurd (memory refl)
+added_faulty blocks ss line s n state NoBlocks says a memory = a
 added_faulty blocks ss line s n state (NoSuchBlock k) says a memory = (a.0, record { said = s; says = says; of_none = a.1 })
 
 -- the fault that a call hands on
@@ -151,15 +152,16 @@ parts_number {input} {parts} a =
     omega (arith, a.count, lines_few input, ap length a.lines, length-append a.before (lines_left parts.rows))
 
 pub denoted : {input : List ℕ} {parts : Parts} (a : ArePartsOf input parts) (blocks : List Block)
-    (proposals : List Proposal) → length input ≤ MAX_INPUT → files.Denotes parts.blocks.now blocks
+    (proposals : List Proposal) → length input ≤ MAX_INPUT → files.Denotes parts.blocks.now blocks → 0 < length blocks
     → Propose blocks (lines_left parts.rows) proposals → Denotes input blocks proposals
-denoted {input} {parts} a blocks proposals short file propose = record {
+denoted {input} {parts} a blocks proposals short file some propose = record {
   short = short;
   before = a.before;
   after = lines_left parts.rows;
   are_lines = subst (AreLines input) a.lines (lines_are input);
   ends = a.ends;
   file = subst (λ t. files.Denotes t blocks) a.blocks file;
+  some = some;
   propose = propose;
 }
 
@@ -194,6 +196,7 @@ rows_refuse input (Read (NumberTooLarge n)) r = inr r
 rows_refuse input (Read (TooManyBlocks n)) r = absurd r.first.faulty
 rows_refuse input (Read (TooManyOperations n)) r = inr r
 rows_refuse input (Read NoMemory) r = absurd r.first.faulty
+rows_refuse input NoBlocks r = absurd r.first.faulty
 rows_refuse input (NoSuchBlock n) r = r
 
 pub blocks_refused : {input : List ℕ} {parts : Parts} (a : ArePartsOf input parts) (fault : ReadFault)
@@ -208,9 +211,9 @@ blocks_refused {input} {parts} a fault short h = blocks_refuse input fault (reco
 })
 
 pub rows_refused : {input : List ℕ} {parts : Parts} (a : ArePartsOf input parts) (blocks : List Block)
-    (fault : RowsFault) → length input ≤ MAX_INPUT → files.Denotes parts.blocks.now blocks
+    (fault : RowsFault) → length input ≤ MAX_INPUT → files.Denotes parts.blocks.now blocks → 0 < length blocks
     → HaveFirstFault blocks parts.lines (lines_left parts.rows) fault → IsRefused input fault
-rows_refused {input} {parts} a blocks fault short file h = rows_refuse input fault (record {
+rows_refused {input} {parts} a blocks fault short file some h = rows_refuse input fault (record {
   short = short;
   before = a.before;
   after = lines_left parts.rows;
@@ -218,5 +221,44 @@ rows_refused {input} {parts} a blocks fault short file h = rows_refuse input fau
   ends = a.ends;
   blocks = blocks;
   file = subst (λ t. files.Denotes t blocks) a.blocks file;
+  some = some;
   first = subst (λ n. HaveFirstFault blocks n (lines_left parts.rows) fault) a.count h;
 })
+
+no_blocks_are : (blocks : List Block) → length blocks ≤ 0 → blocks ≡ []
+no_blocks_are [] few = refl
+no_blocks_are (b ∷ bs) few = absurd (omega arith)
+
+pub no_blocks : {input : List ℕ} {parts : Parts} (a : ArePartsOf input parts) (blocks : List Block)
+    → length input ≤ MAX_INPUT → files.Denotes parts.blocks.now blocks → length blocks ≤ 0 → HasNoBlocks input
+no_blocks {input} {parts} a blocks short file none = record {
+  short = short;
+  before = a.before;
+  after = lines_left parts.rows;
+  are_lines = subst (AreLines input) a.lines (lines_are input);
+  ends = a.ends;
+  file = subst₂ (λ t bs. files.Denotes t bs) a.blocks (no_blocks_are blocks none) file;
+}
+
+-- Rows apart from their blocks
+
+pub proposed_apart : (blocks : List Block) (input : List ℕ) (proposals : List Proposal) → length input ≤ MAX_INPUT
+    → Propose blocks (lines_of input) proposals → ProposeApart blocks input proposals
+proposed_apart blocks input proposals short propose =
+    record { short = short; lines = lines_of input; are_lines = lines_are input; propose = propose }
+
+refused_for : (blocks : List Block) (input : List ℕ) (fault : RowsFault) → HaveFault blocks input fault
+    → AreRefusedFor blocks input fault
+refused_for blocks input (Read InputTooLong) h = absurd h.first.faulty
+refused_for blocks input (Read (BadLine n)) h = h
+refused_for blocks input (Read (NumberTooLarge n)) h = h
+refused_for blocks input (Read (TooManyBlocks n)) h = h.first.faulty
+refused_for blocks input (Read (TooManyOperations n)) h = h
+refused_for blocks input (Read NoMemory) h = h.first.faulty
+refused_for blocks input NoBlocks h = h.first.faulty
+refused_for blocks input (NoSuchBlock n) h = h
+
+pub refused_apart : (blocks : List Block) (input : List ℕ) (fault : RowsFault) → length input ≤ MAX_INPUT
+    → HaveFirstFault blocks 0 (lines_of input) fault → AreRefusedFor blocks input fault
+refused_apart blocks input fault short first = refused_for blocks input fault
+    record { short = short; lines = lines_of input; are_lines = lines_are input; first = first }

@@ -28,7 +28,7 @@ few_rows rows rows' e h = omega (arith, ap (λ rs. length (ops_in rs)) e)
 few-row : (blocks : List Block) (ss : List Said) (one two : Op) → Fits blocks ss (row one two) → AreFew ss
     → AreFew (ss ++ row one two ∷ [])
 few-row blocks ss one two f h k =
-    let still : block_of (ss ++ row one two ∷ []) ≡ block_of ss = still_of ss (row one two) refl in
+    let still : block_of (ss ++ row one two ∷ []) ≡ block_of ss = still_of ss (row one two) refl refl in
     elim (cases_eq (block_of (ss ++ row one two ∷ [])) k) [
       | inl here ↦ few_rows _ _ (picked-here row_in k ss (row one two) (one, two) refl here)
           (few_rows _ _ (ap (λ n. rows_of n ss ++ (one, two) ∷ []) (sym here ∙ still)) f.few)

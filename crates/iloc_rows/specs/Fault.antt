@@ -2,8 +2,9 @@
 use Rattle.std.specs.Prelude.{ℕ, List, codes}
 use Rattle.iloc_text.specs.Fault.{of_line, fault_text}
 use Rattle.iloc_rows.specs.declared.fault.RowsFault.{RowsFault}
-use Rattle.iloc_rows.specs.declared.fault.RowsFault.TheVariants.{Read, NoSuchBlock}
+use Rattle.iloc_rows.specs.declared.fault.RowsFault.TheVariants.{Read, NoBlocks, NoSuchBlock}
 
 abbrev pub rows_fault_text : RowsFault → List ℕ
 rows_fault_text (Read fault) = fault_text fault
+rows_fault_text NoBlocks = codes "no blocks"
 rows_fault_text (NoSuchBlock n) = of_line n (codes ": no such block")

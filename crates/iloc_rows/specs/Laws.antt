@@ -6,7 +6,7 @@ use Rattle.iloc_ops.specs.Limits.{MAX_BLOCKS, MAX_OPS}
 use Rattle.iloc_timed.specs.Schedule.{AreOnce, AreInRange}
 use Rattle.iloc_rows.specs.declared.fault.RowsFault.{RowsFault}
 use Rattle.iloc_rows.specs.declared.proposal.Proposal.{Proposal}
-use Rattle.iloc_rows.specs.Submissions.{Denotes, IsRefused}
+use Rattle.iloc_rows.specs.Submissions.{Denotes, DenoteApart, IsRefused}
 
 -- a text denotes at most one list of blocks with one list of proposals, or one refusal, and never both
 pub record TextsHaveOneAnswer : Type 0 where
@@ -38,3 +38,14 @@ pub record AreWithinLimits (blocks : List Block) (proposals : List Proposal) : T
 abbrev pub SubmissionsAreWithinLimits : Type 0
 SubmissionsAreWithinLimits = (input : List ℕ) (blocks : List Block) (proposals : List Proposal)
     → Denotes input blocks proposals → AreWithinLimits blocks proposals
+
+-- whatever is handed in for a task, its blocks are the same
+abbrev pub HandInsDontChangeTheTask : Type 0
+HandInsDontChangeTheTask = (task input input' : List ℕ) (blocks blocks' : List Block) (proposals proposals' : List Proposal)
+    → DenoteApart task input blocks proposals → DenoteApart task input' blocks' proposals' → blocks ≡ blocks'
+
+-- a task and rows apart from it denote at most one list of blocks with one list of proposals
+abbrev pub TextsApartHaveOneAnswer : Type 0
+TextsApartHaveOneAnswer = (task input : List ℕ) (blocks blocks' : List Block) (proposals proposals' : List Proposal)
+    → DenoteApart task input blocks proposals → DenoteApart task input blocks' proposals'
+    → (blocks ≡ blocks') × (proposals ≡ proposals')

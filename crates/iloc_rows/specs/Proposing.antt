@@ -1,6 +1,6 @@
 -- Which schedules the lines of a listing propose for blocks: by counting over the lines.
 use Rattle.std.specs.Prelude.{◌≡◌, ℕ, ◌+◌, ◌-◌, ◌≤◌, max, nat_lt, Bool, true, false, ◌&&◌, ◌||◌, ◌==◌, if◌then◌else◌, Option, Some, None, unwrap_or, List, [], ◌∷◌, ◌++◌, length, map, slice_get}
-use Rattle.std.specs.List.{filter_map, flat_map, range_with_len}
+use Rattle.std.specs.List.{filter_map, flat_map, list_any, range_with_len}
 use Rattle.std.specs.Option.{option_map_or}
 use Rattle.std.specs.Str.{bytes_eq}
 use Rattle.iloc_ops.specs.Limits.{MAX_OPS}
@@ -37,9 +37,22 @@ head_number (total t) = None
 unfoldable pub last_head : List Said → ℕ
 last_head lines = unwrap_or (last_of (filter_map head_number lines)) 0
 
--- the number of the block of which the last line is: that in the last head, and without a head the first
+-- whether a line is of a block: a row, or a number of cycles
+abbrev pub proposes : Said → Bool
+proposes nothing = false
+proposes (row zero one) = true
+proposes (head k name) = false
+proposes (cycles c) = true
+proposes (total t) = false
+
+-- the number of the block of which the lines have been last: that in the last head, 1 where lines are of a block without a
+-- head, and 0 where none has been of a block
+unfoldable pub last_block : List Said → ℕ
+last_block lines = max (last_head lines) (if list_any proposes lines then 1 else 0)
+
+-- the number of the block of which the last line is: without a head the first
 abbrev pub block_of : List Said → ℕ
-block_of lines = max 1 (last_head lines)
+block_of lines = max 1 (last_block lines)
 
 -- what is picked of the last line
 abbrev pub of_last : {A : Type 0} → (Said → Option A) → List Said → Option A
@@ -125,13 +138,13 @@ is_same_name (Some name) (Some other) = bytes_eq name other
 abbrev pub is_named : List Block → ℕ → Option (List ℕ) → Bool
 is_named blocks k name = option_map_or (λ block. is_same_name block.name name) (slice_get blocks (k - 1)) false
 
--- Behind these lines a line speaks of a block that is there: a head names one behind that of the last head, and a row
--- or a number of cycles stands below a head, or there is one block only.
+-- Behind these lines a line speaks of a block that is there: a head names one behind that of which lines have been last, and
+-- a row or a number of cycles stands below a head, or there is one block only.
 abbrev pub is_of_block : List Block → List Said → Said → Bool
 is_of_block blocks lines nothing = true
-is_of_block blocks lines (row zero one) = nat_lt 0 (last_head lines) || (length blocks == 1)
-is_of_block blocks lines (head k name) = nat_lt (last_head lines) k && is_named blocks k name
-is_of_block blocks lines (cycles c) = nat_lt 0 (last_head lines) || (length blocks == 1)
+is_of_block blocks lines (row zero one) = nat_lt 0 (last_block lines) || (length blocks == 1)
+is_of_block blocks lines (head k name) = nat_lt (last_block lines) k && is_named blocks k name
+is_of_block blocks lines (cycles c) = nat_lt 0 (last_block lines) || (length blocks == 1)
 is_of_block blocks lines (total t) = true
 
 -- how many operations the rows of its block have with this one, where the line is a row

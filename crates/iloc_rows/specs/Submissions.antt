@@ -9,7 +9,7 @@ use Rattle.iloc_text.specs.Files as files
 use Rattle.iloc_text.specs.Files.{AreLines}
 use Rattle.iloc_text.specs.ScheduleLines.{Said, Says, SaysSomething, SaysSomethingWidely, IsScheduleLine}
 use Rattle.iloc_rows.specs.declared.fault.RowsFault.{RowsFault}
-use Rattle.iloc_rows.specs.declared.fault.RowsFault.TheVariants.{Read, NoSuchBlock}
+use Rattle.iloc_rows.specs.declared.fault.RowsFault.TheVariants.{Read, NoBlocks, NoSuchBlock}
 use Rattle.iloc_rows.specs.declared.proposal.Proposal.{Proposal}
 use Rattle.iloc_rows.specs.Proposing.{proposals_of, is_of_block, op_count, AllFit}
 
@@ -46,7 +46,25 @@ pub record Denotes (input : List ℕ) (blocks : List Block) (proposals : List Pr
   pub are_lines : AreLines input (before ++ after)
   pub ends : BlocksEnd before after
   pub file : files.Denotes (join_with_byte 10 before) blocks
+  pub some : 0 < length blocks
   pub propose : Propose blocks after proposals
+
+-- the bytes, which name no blocks, denote what is proposed for these
+pub record ProposeApart (blocks : List Block) (input : List ℕ) (proposals : List Proposal) : Type 0 where
+  pub short : length input ≤ MAX_INPUT
+  pub lines : List (List ℕ)
+  pub are_lines : AreLines input lines
+  pub propose : Propose blocks lines proposals
+
+-- the bytes denote the blocks, of which there is one at least
+pub record IsTask (input : List ℕ) (blocks : List Block) : Type 0 where
+  pub file : files.Denotes input blocks
+  pub some : 0 < length blocks
+
+-- two texts, a task and apart from it somebody's rows, denote the task's blocks and what is proposed for them
+pub record DenoteApart (text input : List ℕ) (blocks : List Block) (proposals : List Proposal) : Type 0 where
+  pub task : IsTask text blocks
+  pub rows : ProposeApart blocks input proposals
 
 -- Refusals
 
@@ -71,6 +89,7 @@ IsFaulty blocks lines line n (Read (NumberTooLarge k)) =
 IsFaulty blocks lines line n (Read (TooManyBlocks k)) = ⊥
 IsFaulty blocks lines line n (Read (TooManyOperations k)) = (k ≡ n) × HoldsTooManyOperations blocks lines line
 IsFaulty blocks lines line n (Read NoMemory) = ⊥
+IsFaulty blocks lines line n NoBlocks = ⊥
 IsFaulty blocks lines line n (NoSuchBlock k) = (k ≡ n) × SpeaksOfNoBlock blocks lines line
 
 -- the first faulty one of the lines behind line n has this fault
@@ -93,6 +112,15 @@ pub record BlocksAreRefused (input : List ℕ) (fault : ReadFault) : Type 0 wher
   pub ends : BlocksEnd before after
   pub refused : files.IsRefused (join_with_byte 10 before) fault
 
+-- the text has no blocks, whatever stands behind them
+pub record HasNoBlocks (input : List ℕ) : Type 0 where
+  pub short : length input ≤ MAX_INPUT
+  pub before : List (List ℕ)
+  pub after : List (List ℕ)
+  pub are_lines : AreLines input (before ++ after)
+  pub ends : BlocksEnd before after
+  pub file : files.Denotes (join_with_byte 10 before) []
+
 -- the text is refused behind its blocks
 pub record RowsAreRefused (input : List ℕ) (fault : RowsFault) : Type 0 where
   pub short : length input ≤ MAX_INPUT
@@ -102,6 +130,7 @@ pub record RowsAreRefused (input : List ℕ) (fault : RowsFault) : Type 0 where
   pub ends : BlocksEnd before after
   pub blocks : List Block
   pub file : files.Denotes (join_with_byte 10 before) blocks
+  pub some : 0 < length blocks
   pub first : HaveFirstFault blocks (length before) after fault
 
 -- the refusal that the bytes denote
@@ -114,4 +143,29 @@ IsRefused input (Read (TooManyBlocks n)) = BlocksAreRefused input (TooManyBlocks
 IsRefused input (Read (TooManyOperations n)) =
     BlocksAreRefused input (TooManyOperations n) ⊎ RowsAreRefused input (Read (TooManyOperations n))
 IsRefused input (Read NoMemory) = ⊥
+IsRefused input NoBlocks = HasNoBlocks input
 IsRefused input (NoSuchBlock n) = RowsAreRefused input (NoSuchBlock n)
+
+-- somebody's rows have this fault, apart from the blocks
+pub record HaveFault (blocks : List Block) (input : List ℕ) (fault : RowsFault) : Type 0 where
+  pub short : length input ≤ MAX_INPUT
+  pub lines : List (List ℕ)
+  pub are_lines : AreLines input lines
+  pub first : HaveFirstFault blocks 0 lines fault
+
+-- the refusal that the bytes of rows denote, for these blocks
+abbrev pub AreRefusedFor : List Block → List ℕ → RowsFault → Type 0
+AreRefusedFor blocks input (Read InputTooLong) = MAX_INPUT < length input
+AreRefusedFor blocks input (Read (BadLine n)) = HaveFault blocks input (Read (BadLine n))
+AreRefusedFor blocks input (Read (NumberTooLarge n)) = HaveFault blocks input (Read (NumberTooLarge n))
+AreRefusedFor blocks input (Read (TooManyBlocks n)) = ⊥
+AreRefusedFor blocks input (Read (TooManyOperations n)) = HaveFault blocks input (Read (TooManyOperations n))
+AreRefusedFor blocks input (Read NoMemory) = ⊥
+AreRefusedFor blocks input NoBlocks = ⊥
+AreRefusedFor blocks input (NoSuchBlock n) = HaveFault blocks input (NoSuchBlock n)
+
+-- the refusal that the bytes of a task denote
+abbrev pub IsNoTask : List ℕ → RowsFault → Type 0
+IsNoTask input (Read fault) = files.IsRefused input fault
+IsNoTask input NoBlocks = files.Denotes input []
+IsNoTask input (NoSuchBlock n) = ⊥

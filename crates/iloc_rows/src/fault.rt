@@ -12,7 +12,9 @@ pub enum RowsFault {
     /// As a file of blocks is refused; of a schedule line, that it isn't understood, that it would be if numbers had
     /// no limit, or that it holds operation 10,001 of its block's rows.
     Read(ReadFault),
-    /// This line is a head that names no block behind that of the head before it, or has another name; or a row or a
+    /// There is no block.
+    NoBlocks,
+    /// This line is a head that names no block behind that of the lines before it, or has another name; or a row or a
     /// number of cycles without a head where there isn't exactly one block.
     NoSuchBlock(u32),
 }
@@ -26,6 +28,7 @@ impl Display for RowsFault {
     fn fmt<W: fmt::Write>(&self, f: &mut Formatter<W>) -> fmt::Result {
         match self {
             RowsFault::Read(fault) => write!(f, "{fault}"),
+            RowsFault::NoBlocks => f.write_str("no blocks"),
             RowsFault::NoSuchBlock(line) => write!(f, "line {line}: no such block"),
         }
     }

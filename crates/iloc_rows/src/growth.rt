@@ -139,6 +139,7 @@ impl Proposing {
         if self.proposals[i].ops.len() > MAX_OPS {
             return Err(RowsFault::Read(ReadFault::TooManyOperations(number)));
         }
+        self.last = self.last.max(1);
         Ok(())
     }
 
@@ -150,6 +151,7 @@ impl Proposing {
             return Err(RowsFault::NoSuchBlock(number));
         };
         self.set_cycles(i, cycles);
+        self.last = self.last.max(1);
         Ok(())
     }
 

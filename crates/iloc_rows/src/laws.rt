@@ -1,5 +1,5 @@
 //! Laws of texts with rows, as contracts of functions that do nothing.
-ghost use Rattle.iloc_rows.specs.Laws.{TextsHaveOneAnswer, TextsHaveAnAnswer, SubmissionsAreWithinLimits};
+ghost use Rattle.iloc_rows.specs.Laws.{TextsHaveOneAnswer, TextsHaveAnAnswer, HandInsDontChangeTheTask, TextsApartHaveOneAnswer, SubmissionsAreWithinLimits};
 
 /// A text denotes at most one list of blocks with one list of proposals, or one refusal, and never both.
 pub fn texts_have_one_answer()
@@ -15,4 +15,14 @@ pub fn texts_have_an_answer()
 /// proposal stands in exactly one slot of its rows, and each number there is an operation's.
 pub fn submissions_are_within_limits()
     ensures { SubmissionsAreWithinLimits }
+{}
+
+/// Whatever rows are handed in for a task, apart from it, the task's blocks are the same.
+pub fn hand_ins_dont_change_the_task()
+    ensures { HandInsDontChangeTheTask }
+{}
+
+/// A task, and rows apart from it, denote at most one list of blocks with one list of proposals.
+pub fn texts_apart_have_one_answer()
+    ensures { TextsApartHaveOneAnswer }
 {}

@@ -6,11 +6,10 @@ mod blocks_end;
 mod fault;
 mod growth;
 pub mod laws;
-mod line_ends;
 mod proposal;
 mod proposing;
 mod reader;
 
 pub use fault::RowsFault;
 pub use proposal::{Proposal, Proposals, Rows};
-pub use reader::{Submission, read_submission};
+pub use reader::{Submission, read_rows, read_submission, read_task};

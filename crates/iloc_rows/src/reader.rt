@@ -3,14 +3,15 @@ ghost use Rattle.std.specs.Prelude.{◌≢◌, ◌≤◌, ◌+◌, length, IfOk,
 ghost use Rattle.iloc_text.specs.declared.fault.ReadFault.TheVariants.{NoMemory as no_memory};
 ghost use Rattle.iloc_text.specs.Lines.{lines_left};
 ghost use Rattle.iloc_rows.specs.declared.fault.RowsFault.TheVariants.{Read as read};
-ghost use Rattle.iloc_rows.specs.Submissions.{Denotes, IsRefused, Propose, HaveFirstFault};
+ghost use Rattle.iloc_rows.specs.Submissions.{Denotes, IsRefused, Propose, HaveFirstFault, IsTask, IsNoTask, ProposeApart, AreRefusedFor};
 
 use crate::blocks_end::parts_of;
 use crate::fault::RowsFault;
-use crate::line_ends::split_line;
 use crate::proposal::Proposals;
 use crate::proposing::Proposing;
-use iloc_text::{Block, Blocks, MAX_INPUT, ParseFault, ReadFault, read_file, read_schedule_line};
+use iloc_text::{
+    Block, Blocks, MAX_INPUT, ParseFault, ReadFault, read_file, read_schedule_line, split_line,
+};
 use std::alloc::Global;
 
 /// Blocks, and what is proposed for each.
@@ -57,6 +58,7 @@ fn read_proposals(
 /// the refusal that it denotes.
 ///
 /// The blocks end before the first schedule line, and what stands before it is read as `iloc_text::read_file` reads it.
+/// Where that is no block, the text is refused whatever stands behind it.
 /// A text that is too long is refused before any line is looked at; otherwise the earliest faulty line is named. On one
 /// line `BadLine` comes before `NumberTooLarge`, `NoSuchBlock` and `TooManyOperations`. `NoMemory` may come besides,
 /// where a growth is refused.
@@ -69,9 +71,42 @@ pub fn read_submission(alloc: Global, input: &[u8]) -> Result<Submission, RowsFa
     }
     let parts = parts_of(input);
     let file = read_file(alloc, parts.blocks)?;
-    let proposals = read_proposals(alloc, file.blocks.as_slice(), parts.rows, parts.lines)?;
+    let blocks = file.blocks.as_slice();
+    if blocks.is_empty() {
+        return Err(RowsFault::NoBlocks);
+    }
+    let proposals = read_proposals(alloc, blocks, parts.rows, parts.lines)?;
     Ok(Submission {
         blocks: file.blocks,
         proposals,
     })
+}
+
+/// Reads a task, apart from what is handed in for it: exactly the blocks that the text denotes, or the refusal that it
+/// denotes. It is read as `iloc_text::read_file` reads it, so a schedule line is a bad line, and it has a block at least.
+/// `NoMemory` may come besides, where a growth is refused.
+pub fn read_task(alloc: Global, input: &[u8]) -> Result<Blocks, RowsFault>
+    ensures ok { IfOk result (IsTask input.now) }
+    ensures err { IfErr result (λ fault. fault ≢ read no_memory → IsNoTask input.now fault) }
+{
+    let file = read_file(alloc, input)?;
+    if file.blocks.as_slice().is_empty() {
+        return Err(RowsFault::NoBlocks);
+    }
+    Ok(file.blocks)
+}
+
+/// Reads schedule lines alone, as somebody hands them in for these blocks: exactly the proposals that the text denotes, or
+/// the refusal that it denotes. Its lines are counted from its first.
+///
+/// A text that is too long is refused before any line is looked at; otherwise the earliest faulty line is named, as by
+/// `read_submission`. `NoMemory` may come besides, where a growth is refused.
+pub fn read_rows(alloc: Global, blocks: &[Block], input: &[u8]) -> Result<Proposals, RowsFault>
+    ensures ok { IfOk result (ProposeApart blocks.now input.now) }
+    ensures err { IfErr result (λ fault. fault ≢ read no_memory → AreRefusedFor blocks.now input.now fault) }
+{
+    if input.len() > MAX_INPUT {
+        return Err(RowsFault::Read(ReadFault::InputTooLong));
+    }
+    read_proposals(alloc, blocks, Some(input), 0)
 }

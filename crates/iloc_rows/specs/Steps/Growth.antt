@@ -1,15 +1,15 @@
 -- How what is proposed grows by one line.
-use Rattle.std.specs.Prelude.{◌≡◌, ℕ, ◌+◌, ◌-◌, ◌≤◌, ◌<◌, nat_lt, ◌==◌, ◌&&◌, true, false, if◌then◌else◌, Option, Some, None, Result, Ok, Err, List, [], ◌∷◌, ◌++◌, length, slice_index_or, slice_set}
+use Rattle.std.specs.Prelude.{◌≡◌, ℕ, ◌+◌, ◌-◌, ◌≤◌, ◌<◌, nat_lt, max, ◌==◌, ◌&&◌, true, false, if◌then◌else◌, Option, Some, None, Result, Ok, Err, List, [], ◌∷◌, ◌++◌, length, slice_index_or, slice_set}
 use Rattle.iloc_ops.specs.Limits.{MAX_OPS}
 use Rattle.iloc_ops.specs.declared.op.Op.{Op}
 use Rattle.iloc_ops.specs.declared.file.Block.{Block}
 use Rattle.iloc_text.specs.declared.fault.ReadFault.TheVariants.{InputTooLong, BadLine, NumberTooLarge, TooManyBlocks, TooManyOperations, NoMemory}
 use Rattle.iloc_text.specs.ScheduleLines.{Said}
 use Rattle.iloc_rows.specs.declared.fault.RowsFault.{RowsFault}
-use Rattle.iloc_rows.specs.declared.fault.RowsFault.TheVariants.{Read, NoSuchBlock}
+use Rattle.iloc_rows.specs.declared.fault.RowsFault.TheVariants.{Read, NoBlocks, NoSuchBlock}
 use Rattle.iloc_rows.specs.declared.proposal.Proposal.{Proposal}
 use Rattle.iloc_rows.specs.declared.proposing.Proposing.{Proposing}
-use Rattle.iloc_rows.specs.Proposing.{last_head, filled, slot, is_named, proposals_of, is_of_block, op_count, Fits}
+use Rattle.iloc_rows.specs.Proposing.{last_block, filled, slot, is_named, proposals_of, is_of_block, op_count, Fits}
 
 -- nothing is proposed
 abbrev pub none_proposed : Proposal
@@ -27,7 +27,7 @@ with_row p zero one = record {
 abbrev pub with_cycles : Proposal → ℕ → Proposal
 with_cycles p c = record { ops = p.ops; rows = p.rows; claimed = Some c }
 
--- the place of the block of which rows are, if there is one, by the number in the last head and the count of blocks
+-- the place of the block of which rows are, if there is one, by the number of the last block and the count of blocks
 abbrev pub place : ℕ → ℕ → Option ℕ
 place last count = if nat_lt 0 last then Some (last - 1) else (if count == 1 then Some 0 else None)
 
@@ -37,7 +37,7 @@ at_place proposals i = slice_index_or proposals i none_proposed
 -- what the lines say has been proposed
 pub record HasProposed (blocks : List Block) (lines : List Said) (state : Proposing) : Type 0 where
   pub proposals : state.proposals.items ≡ proposals_of (length blocks) lines
-  pub last : state.last ≡ last_head lines
+  pub last : state.last ≡ last_block lines
 
 -- what comes of a line with this number that says this
 abbrev pub Adds : List Block → List Said → Said → ℕ → Proposing → Result (Unit {0}) RowsFault → Type 0
@@ -49,6 +49,7 @@ Adds blocks lines said number state (Err (Read (TooManyBlocks n))) = ⊥
 Adds blocks lines said number state (Err (Read (TooManyOperations n))) =
     (n ≡ number) × (is_of_block blocks lines said ≡ true) × (MAX_OPS < op_count lines said)
 Adds blocks lines said number state (Err (Read NoMemory)) = Unit {0}
+Adds blocks lines said number state (Err NoBlocks) = ⊥
 Adds blocks lines said number state (Err (NoSuchBlock n)) = (n ≡ number) × (is_of_block blocks lines said ≡ false)
 
 -- so does a row in this state
@@ -56,7 +57,7 @@ abbrev pub RowAdds : Proposing → Op → Op → ℕ → Proposing → Result (U
 RowAdds old zero one number new (Ok done) =
     (i : ℕ) × (place old.last (length old.proposals.items) ≡ Some i)
     × (new.proposals.items ≡ slice_set old.proposals.items i (with_row (at_place old.proposals.items i) zero one))
-    × (new.last ≡ old.last) × (length (with_row (at_place old.proposals.items i) zero one).ops ≤ MAX_OPS)
+    × (new.last ≡ max 1 old.last) × (length (with_row (at_place old.proposals.items i) zero one).ops ≤ MAX_OPS)
 RowAdds old zero one number new (Err (Read InputTooLong)) = ⊥
 RowAdds old zero one number new (Err (Read (BadLine n))) = ⊥
 RowAdds old zero one number new (Err (Read (NumberTooLarge n))) = ⊥
@@ -65,6 +66,7 @@ RowAdds old zero one number new (Err (Read (TooManyOperations n))) =
     (n ≡ number) × (i : ℕ) × (place old.last (length old.proposals.items) ≡ Some i)
     × (MAX_OPS < length (with_row (at_place old.proposals.items i) zero one).ops)
 RowAdds old zero one number new (Err (Read NoMemory)) = Unit {0}
+RowAdds old zero one number new (Err NoBlocks) = ⊥
 RowAdds old zero one number new (Err (NoSuchBlock n)) =
     (n ≡ number) × (place old.last (length old.proposals.items) ≡ None)
 
@@ -73,8 +75,9 @@ abbrev pub CyclesAdd : Proposing → ℕ → ℕ → Proposing → Result (Unit 
 CyclesAdd old c number new (Ok done) =
     (i : ℕ) × (place old.last (length old.proposals.items) ≡ Some i)
     × (new.proposals.items ≡ slice_set old.proposals.items i (with_cycles (at_place old.proposals.items i) c))
-    × (new.last ≡ old.last)
+    × (new.last ≡ max 1 old.last)
 CyclesAdd old c number new (Err (Read fault)) = ⊥
+CyclesAdd old c number new (Err NoBlocks) = ⊥
 CyclesAdd old c number new (Err (NoSuchBlock n)) =
     (n ≡ number) × (place old.last (length old.proposals.items) ≡ None)
 
@@ -84,5 +87,6 @@ Turns blocks old k name number new (Ok done) =
     (old.last < k) × (is_named blocks k name ≡ true)
     × (new.proposals.items ≡ old.proposals.items) × (new.last ≡ k)
 Turns blocks old k name number new (Err (Read fault)) = ⊥
+Turns blocks old k name number new (Err NoBlocks) = ⊥
 Turns blocks old k name number new (Err (NoSuchBlock n)) =
     (n ≡ number) × ((nat_lt old.last k && is_named blocks k name) ≡ false)

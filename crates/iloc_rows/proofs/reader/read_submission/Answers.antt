@@ -1,10 +1,29 @@
-use Rattle.std.proofs.Common.{◌∙◌, Err, ap, subst, arith}
+use Rattle.std.proofs.Common.{◌≡◌, ◌∙◌, ◌<◌, ◌≤◌, nat_eq, Bool, true, false, List, [], ◌∷◌, length, Err, sym, ap, subst, eqb-true, arith}
+use Rattle.iloc_ops.specs.declared.file.Block.{Block}
 use Rattle.std.proofs.lemmas.Result.{err_from_is_err_and}
 use Rattle.iloc_text.specs.Lines.{lines_left}
 use Rattle.iloc_rows.specs.declared.fault.RowsFault.TheVariants.{Read}
 use Rattle.iloc_rows.specs.Submissions.{IsRefused, Propose, HaveFirstFault}
-use Rattle.iloc_rows.proofs.Reading.{err_is, parts_number, denoted, blocks_refused, rows_refused}
+use Rattle.iloc_rows.proofs.Reading.{err_is, parts_number, no_blocks, denoted, blocks_refused, rows_refused}
 use Rattle.iloc_rows.proofs.reader.read_submission.Goals as goal
+
+some_block : (empty : Bool) (blocks lent : List Block) → empty ≡ nat_eq (length lent) 0 → empty ≡ false → lent ≡ blocks
+    → 0 < length blocks
+some_block empty [] lent is not same = absurd (let no : true ≡ false = sym (rw same at is) ∙ not in cc)
+some_block empty (b ∷ bs) lent is not same = omega arith
+
+none_left : (empty : Bool) (blocks lent : List Block) → empty ≡ nat_eq (length lent) 0 → empty ≡ true → lent ≡ blocks
+    → length blocks ≤ 0
+none_left empty blocks lent is so same =
+    let none : length lent ≡ 0 = eqb-true (length lent) 0 (sym is ∙ so) in
+    let level : length lent ≡ length blocks = ap length same in
+    omega arith
+
+pub returns-then-is_empty-clause-err : goal.returns-then-is_empty-clause-err
+returns-then-is_empty-clause-err c = λ memory.
+    no_blocks c.parts_of-parts.ensures c.in_ok-file.file.blocks c.if-input-gt-MAX_INPUT.false c.in_ok-file.ensures.ok
+    (none_left c.is_empty.result c.in_ok-file.file.blocks c.as_slice-blocks.result.now c.is_empty.ensures c.if-is_empty.true
+    c.as_slice-blocks.ensures)
 
 pub returns-in_err-file-clause-err : goal.returns-in_err-file-clause-err
 returns-in_err-file-clause-err c =
@@ -25,12 +44,16 @@ returns-in_err-proposals-clause-err c =
     (exit.1 ∙ ap (λ e. Err e) exit.2)
     (λ memory. rows_refused c.parts_of-parts.ensures c.in_ok-file.file.blocks c.in_err-proposals.field-0.0
     c.if-input-gt-MAX_INPUT.false c.in_ok-file.ensures.ok
+    (some_block c.is_empty.result c.in_ok-file.file.blocks c.as_slice-blocks.result.now c.is_empty.ensures c.if-is_empty.false
+    c.as_slice-blocks.ensures)
     (subst (λ blocks. HaveFirstFault blocks c.parts_of-parts.result.lines (lines_left c.parts_of-parts.result.rows)
-    c.in_err-proposals.field-0.0) c.as_slice.ensures (c.in_err-proposals.ensures.err memory)))
+    c.in_err-proposals.field-0.0) c.as_slice-blocks.ensures (c.in_err-proposals.ensures.err memory)))
 
 pub returns-clause-ok : goal.returns-clause-ok
 returns-clause-ok c =
     denoted c.parts_of-parts.ensures c.in_ok-file.file.blocks c.in_ok-proposals.proposals
     c.if-input-gt-MAX_INPUT.false c.in_ok-file.ensures.ok
+    (some_block c.is_empty.result c.in_ok-file.file.blocks c.as_slice-blocks.result.now c.is_empty.ensures c.if-is_empty.false
+    c.as_slice-blocks.ensures)
     (subst (λ blocks. Propose blocks (lines_left c.parts_of-parts.result.rows) c.in_ok-proposals.proposals)
-    c.as_slice.ensures c.in_ok-proposals.ensures.ok)
+    c.as_slice-blocks.ensures c.in_ok-proposals.ensures.ok)
