@@ -39,6 +39,7 @@ IN_FISH = (
     ("ilocfarm counts --wo", "--workers\tHow many workers share the blocks, 1 to 8 [default: 2]\n"),
     ("ilocfarm run < examples/fir", "examples/first.iloc\n"),
 )
+READS_TERMINAL = b"ilocfarm: reading blocks from the terminal; Ctrl-D on a line of its own ends them\n"
 COMPLETE = ('source "$0"; COMP_WORDS=(ilocfarm "$@"); COMP_CWORD=$#; _ilocfarm; echo "${COMPREPLY[*]}"')
 INSTALLED = {"bin/ilocfarm", "share/man/man1/ilocfarm.1", "share/bash-completion/completions/ilocfarm",
              "share/zsh/site-functions/_ilocfarm", "share/fish/vendor_completions.d/ilocfarm.fish",
@@ -127,6 +128,17 @@ def completes_in_fish(place):
         expect(f"fish completes {typed}", told, (0, offered.encode(), b""))
 
 
+def tells_that_it_reads_a_terminal(place):
+    """A command that reads blocks says so on a terminal, and no other, nor one that is refused."""
+    for words, is_told in ((["run"], True), (["check", "3"], True), (["run", "--help"], False), (["--version"], False),
+                           (["help", "run"], False), (["run", "x"], False)):
+        with terminal() as (screen, slave):
+            screen.type("\x04")
+            done = subprocess.run([place.program, *words], stdin=slave, capture_output=True, timeout=60)
+        expect(f"{words}: told", READS_TERMINAL in done.stderr, is_told)
+        expect(f"{words}: status", done.returncode, 2 if words[-1] == "x" else 0)
+
+
 def files_below(folder):
     return {os.path.relpath(f"{at}/{name}", folder) for at, _, names in os.walk(folder) for name in names}
 
@@ -173,5 +185,5 @@ def tests_want_a_program(place):
 
 
 MANUAL_CASES = (page_is_the_helps, page_has_no_slips, page_examples, help_in_three_ways, completes,
-                completes_on_a_terminal, completes_in_fish, installs,
+                completes_on_a_terminal, completes_in_fish, tells_that_it_reads_a_terminal, installs,
                 installs_nothing_by_mistake, changes_have_the_version, tests_want_a_program)

@@ -1,11 +1,31 @@
 //! The program: a file of basic blocks on standard input, what comes of it on standard output.
 #![tactic(auto)]
 
+use iloc_args::parse_line;
 use iloc_farm::run_program;
 use std::env;
+use std::io::IsTerminal;
 use std::process::ExitCode;
 
+/// Said on a terminal, where nothing else shows that the program waits.
+const READS_TERMINAL: &str =
+    "ilocfarm: reading blocks from the terminal; Ctrl-D on a line of its own ends them";
+
+/// Whether the words ask for a command that reads blocks.
+fn asks_for_blocks(rt: &HostRuntime) -> bool {
+    let Ok(words) = env::args(rt) else {
+        return false;
+    };
+    let Ok(words) = words.skip(1).collect::<Vec<String>>(rt.alloc()) else {
+        return false;
+    };
+    parse_line(rt.alloc(), &words).is_ok()
+}
+
 fn main(rt: HostRuntime) -> ExitCode {
+    if rt.stdin().is_terminal() && asks_for_blocks(&rt) {
+        let _ = eprintln!(rt; "{READS_TERMINAL}");
+    }
     let ending = run_program(
         &rt,
         rt.alloc(),
