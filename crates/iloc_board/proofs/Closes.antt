@@ -137,7 +137,7 @@ module _ {A : Type 0} where
   jobs_priced price [] = refl
   jobs_priced price (x ∷ xs) = ap (λ t. x.0 ∷ t) (jobs_priced price xs)
 
-  said_fits : (fits : ℕ → A → Type 0) (xs : List (ℕ × A)) → AllFit fits xs → (k cost : ℕ)
+  pub said_fits : (fits : ℕ → A → Type 0) (xs : List (ℕ × A)) → AllFit fits xs → (k cost : ℕ)
       → FitsSaid fits k (said_in xs k cost)
   said_fits fits [] f k cost = tt
   said_fits fits (x ∷ xs) f k cost = go (k == x.0) refl (said_fits fits xs f.1 k cost)

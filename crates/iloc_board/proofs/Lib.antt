@@ -13,3 +13,5 @@ pub mod Closes
 pub mod Reordered
 pub mod Works
 pub mod Claims
+pub mod Idle
+pub mod Finishes

@@ -58,15 +58,6 @@ impl<'a, J: Jobs> Pass<'a, J> {
     {
         self.state
     }
-
-    /// The same pass, whose worker makes its answers by these jobs. They are the board's, and may keep for themselves what
-    /// only that worker is to use.
-    pub fn with_jobs(self, jobs: &'a J) -> Pass<'a, J>
-        requires { jobs.now ≡ self.board.jobs }
-        ensures { result ≡ self.entry }
-    {
-        Pass { jobs, ..self }
-    }
 }
 
 /// Makes the passes of a board, and gathers them.

@@ -7,6 +7,7 @@ ghost use Rattle.iloc_board.specs.Working.{Runs, HandsBack, IsDone};
 ghost use Rattle.iloc_board.specs.Steps.Course.{Goes, Ended, HandsNothing};
 
 use crate::board::{Board, Seen, Tried};
+use crate::desk::{AtDesk, NoDesk};
 use crate::fault::NoMemory;
 use crate::gate::Gate;
 use crate::jobs::Jobs;
@@ -28,8 +29,26 @@ pub fn work<'a, J: Jobs, G: Gate>(
     ensures ok { OnOk result (IsDone pass.new.journal) }
     ensures err { OnErr result (is_holding (state pass.new) ≡ true) }
 {
+    work_at(board, pass, gate, &mut NoDesk)
+}
+
+/// The same, with the answers made at this desk.
+pub fn work_at<'a, J: AtDesk<D>, D, G: Gate>(
+    board: &Board<'a, J>,
+    pass: &mut Pass<'a, J>,
+    gate: &G,
+    desk: &mut D,
+) -> Result<(), NoMemory>
+    requires own { pass.old.board ≡ board.now }
+    requires free { state pass.old ≡ about.Free }
+    ensures own { pass.new.board ≡ board.now }
+    ensures runs { Runs (J.number board.now.jobs) pass.old.journal pass.new.journal }
+    ensures answers { let jobs = board.now.jobs in HandsBack (J.fits jobs) (J.price jobs) pass.old pass.new }
+    ensures ok { OnOk result (IsDone pass.new.journal) }
+    ensures err { OnErr result (is_holding (state pass.new) ≡ true) }
+{
     while let Some(job) = claim(board, pass, gate) {
-        let answer = pass.jobs.answer(board.alloc, job)?;
+        let answer = board.jobs.answer_at(desk, board.alloc, job)?;
         board.hand_back(pass, answer)?;
     }
     Ok(())

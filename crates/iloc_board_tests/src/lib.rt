@@ -5,13 +5,13 @@
 #[cfg(test)]
 mod asserted;
 #[cfg(test)]
+mod desks;
+#[cfg(test)]
 mod gate;
 #[cfg(test)]
 mod machine;
 #[cfg(test)]
 mod one_thread;
-#[cfg(test)]
-mod own_jobs;
 #[cfg(test)]
 mod refusals;
 #[cfg(test)]

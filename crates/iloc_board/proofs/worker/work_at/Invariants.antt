@@ -1,6 +1,6 @@
 use Rattle.iloc_board.specs.Steps.Course.{left}
 use Rattle.iloc_board.proofs.Claims.{IsBetween}
-use Rattle.iloc_board.proofs.worker.work.Given as goal
+use Rattle.iloc_board.proofs.worker.work_at.Given as goal
 
 abbrev pub invariant-loop-job : goal.invariant-loop-job
 invariant-loop-job g l = IsBetween (g.J.Jobs.number l.board.jobs) (g.J.Jobs.fits l.board.jobs)

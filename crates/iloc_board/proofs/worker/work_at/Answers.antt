@@ -1,7 +1,7 @@
-use Rattle.std.proofs.Common.{◌≡◌, ap, ◌∙◌, subst}
-use Rattle.iloc_board.specs.Views.{BoardView, PassView}
+use Rattle.std.proofs.Common.{◌≡◌, ap, subst}
+use Rattle.iloc_board.specs.Views.{BoardView}
 use Rattle.iloc_board.proofs.Claims as claims
-use Rattle.iloc_board.proofs.worker.work.Goals as goal
+use Rattle.iloc_board.proofs.worker.work_at.Goals as goal
 
 pub loop-job-init : goal.loop-job-init
 loop-job-init g c = claims.between_first (g.J.Jobs.number c.args.board.now.jobs) (g.J.Jobs.fits c.args.board.now.jobs)
@@ -33,9 +33,8 @@ loop-job-smaller g c = claims.between_falls (g.J.Jobs.number c.args.board.now.jo
 
 pub loop-job-preserved : goal.loop-job-preserved
 loop-job-preserved g c =
-    let jobs : c.pass.inside.jobs.now ≡ c.args.board.now.jobs =
-    ap (λ (p : PassView g.row.J.Denot g.row.J-Answer.Denot). p.board.jobs) c.pass.view_is
-    ∙ ap (λ (v : BoardView g.row.J.Denot). v.jobs) c.in-Some.ensures.own in
+    let jobs : c.board.inside.jobs.now ≡ c.args.board.now.jobs =
+    ap (λ (v : BoardView g.row.J.Denot). v.jobs) c.board.view_is in
     let fit = subst (λ (z : g.row.J.Denot). g.J.Jobs.fits z c.in-Some.job c.in_ok-answer.answer) jobs
     c.in_ok-answer.ensures in
     claims.between_on (g.J.Jobs.number c.args.board.now.jobs) (g.J.Jobs.fits c.args.board.now.jobs)

@@ -1,0 +1,41 @@
+-- What the workers of a board did whose jobs are all done.
+use Rattle.std.specs.Prelude.{◌≡◌, ℕ, List, []}
+use Rattle.std.specs.List.{range_with_len}
+use Rattle.iloc_board.specs.declared.step.Step.{Step}
+use Rattle.iloc_board.specs.declared.journal.Journal.{Journal}
+use Rattle.iloc_board.specs.Core.{opening}
+use Rattle.iloc_board.specs.Sequential.{Call, SequentialBoard, opened, board_after}
+use Rattle.iloc_board.specs.History.{history}
+use Rattle.iloc_board.specs.Journal.{all_handed}
+use Rattle.iloc_board.specs.Play.{final, taken_jobs}
+use Rattle.iloc_board.specs.Views.{AreFitting}
+use Rattle.iloc_board.specs.Collecting.{AreTheAnswers, IsLegalWith, IsOneList, IsWhole, NoneTwice, Said, jobs_of, said_in}
+
+-- the successful takes and hand-backs of these steps, and the replies that no job is left, as calls at a board of one
+-- thread, with the answers that were handed back
+abbrev pub calls : {A : Type 0} → ℕ → List (ℕ × A) → List Step → List (Call (Said A))
+calls count handed steps = history (said_in handed) count (opening count) steps
+
+-- nothing waits and nothing is out
+pub record IsOver {A : Type 0} (b : SequentialBoard A) : Type 0 where
+  pub waiting : b.waiting ≡ []
+  pub out : b.out ≡ []
+
+-- The workers that a root made did all jobs. Each of their journals was gathered, and these answers with them.
+pub record IsFinished {A : Type 0} (count : ℕ) (fits : ℕ → A → Type 0) (price : A → ℕ) (workers : ℕ)
+    (journals : List Journal) (handed : List (ℕ × A)) (answers : List A) (costs : List ℕ) : Type 0 where
+  -- There is one list of looks, tries and hand-backs, all by these workers; each worker's journal is its own part.
+  pub steps : List Step
+  pub one_list : IsOneList count workers journals steps
+  pub every_worker : IsWhole workers journals
+  -- One answer was handed back for each hand-back in the journals: it fits its job, and that is its cost.
+  pub filed : AreFitting fits price handed (all_handed journals)
+  -- With these it is a legal history of a board of one thread, from all jobs waiting to none waiting and none out.
+  pub legal : IsLegalWith fits handed count steps
+  pub over : IsOver (board_after (opened count) (calls count handed steps))
+  -- No job is taken twice or handed back twice.
+  pub taken_once : taken_jobs count steps ≡ range_with_len 0 count
+  pub handed_once : NoneTwice (jobs_of handed)
+  -- Each job has exactly one answer, the one that was handed back for it, at the cost that the board has for it.
+  pub last_costs : (final count steps).costs ≡ costs
+  pub in_order : AreTheAnswers count fits price handed answers costs
