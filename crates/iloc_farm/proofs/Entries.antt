@@ -1,86 +1,167 @@
--- From the entries that workers handed back to the schedules that they list.
-use Rattle.std.proofs.Common.{◌≡◌, ℕ, zero, suc, ◌+◌, List, [], ◌∷◌, ◌++◌, length, sum_by, Some, refl, ap, sym, ◌∙◌, subst, arith}
+-- The entries of a file's blocks, one after another or made by several workers.
+use Rattle.std.proofs.Common.{◌≡◌, ℕ, suc, ◌+◌, List, [], ◌∷◌, ◌++◌, length, map, Some, refl, sym, ap, ap₂, ◌∙◌, subst, arith, append_assoc, append-nil}
 use Rattle.std.specs.Prelude.{slice_get, MatchOption}
 use Rattle.std.specs.List.{flat_map}
 use Rattle.std.proofs.lemmas.List.Concat.{flat_map-cons}
-use Rattle.std.proofs.lemmas.List.Sums.{sum_by-cons}
 use Rattle.iloc_ops.specs.declared.file.Block.{Block}
-use Rattle.iloc_timed.specs.declared.latencies.Latencies.{Latencies}
-use Rattle.iloc_timed.specs.Schedule.{Table}
+use Rattle.iloc_farm.specs.Entries.{AreEntries, IsListingOf}
 use Rattle.iloc_args.specs.declared.request.Request.{Request}
-use Rattle.iloc_farm.specs.Listing.{cycles_of, entries, schedule_entry, total_cycles}
-use Rattle.iloc_farm.specs.Schedules.{AreGreedy, IsScheduleOf}
-use Rattle.iloc_farm.specs.Steps.Answered.{AreAnswered}
-use Rattle.iloc_farm.specs.Steps.Entries.{AreEntries, IsEntry, IsEntryOf}
-use Rattle.iloc_farm.specs.Steps.Pieces.{spelled}
-use Rattle.iloc_farm.specs.Steps.ToSchedule.{ToSchedule}
-use Rattle.iloc_farm.specs.declared.entry.Entry.{Entry}
-use Rattle.iloc_farm.proofs.Retold.{are_farmed}
-use Rattle.iloc_farm.proofs.Schedules.{greedy_all_exist, one_schedule}
+use Rattle.iloc_farm.specs.Steps.Listed.{AreListed, Grows, OfBlock, ToList}
 
-module _ (lat : Latencies) where
-  same_price : (blocks : List Block) (number k : ℕ) (e : Entry)
-      → MatchOption (slice_get blocks k) ⊥ (λ (b : Block). IsEntry lat number b e)
-      → (s : Table) → IsScheduleOf lat blocks k s → cycles_of lat s ≡ e.cycles
-  same_price [] number k e h s greedy = absurd h
-  same_price (b ∷ blocks) number zero e h s greedy =
-      ap (cycles_of lat) (one_schedule lat b.ops h.schedule s h.greedy greedy) ∙ sym h.cycles
-  same_price (b ∷ blocks) number (suc k) e h s greedy = same_price blocks number k e h s greedy
+module _ {F : Type 0} (lists : ℕ → Block → List ℕ → F → Type 0) where
+  -- one block more
+  entries_more : (k n : ℕ) (blocks : List Block) (found : List F) (b : Block) (f : F) (text entry : List ℕ)
+      → k + length blocks ≡ n → AreEntries lists k blocks found text → lists n b entry f
+      → AreEntries lists k (blocks ++ b ∷ []) (found ++ f ∷ []) (text ++ entry)
+  entries_more k n [] [] b f text entry at are is =
+      let P : ℕ → Type 0 = λ m. lists m b entry f in
+      let same : n ≡ k = omega arith in
+      (entry, [], subst P same is, refl, ap (λ xs. xs ++ entry) are ∙ sym (append-nil entry))
+  entries_more k n [] (g ∷ found) b f text entry at are is = absurd are
+  entries_more k n (a ∷ blocks) [] b f text entry at are is = absurd are
+  entries_more k n (a ∷ blocks) (g ∷ found) b f text entry at are is = (
+    are.0,
+    are.1 ++ entry,
+    are.2,
+    entries_more (k + 1) n blocks found b f are.1 entry (omega arith) are.3 is,
+    ap (λ xs. xs ++ entry) are.4 ∙ append_assoc are.0 are.1 entry,
+  )
 
-  -- the entries of the blocks, the first of which has this number, list the greedy schedules
-  same_listing : (number : ℕ) (blocks : List Block) (schedules : List Table) (made : List Entry)
-      → AreGreedy lat blocks schedules → length made ≡ length blocks
-      → ((i : ℕ) (e : Entry) → slice_get made i ≡ Some e
-      → MatchOption (slice_get blocks i) ⊥ (λ (b : Block). IsEntry lat (i + number) b e))
-      → (flat_map (λ (e : Entry). spelled e.text) made ≡ entries (schedule_entry lat) number blocks schedules)
-      × (sum_by (λ (e : Entry). e.cycles) made ≡ total_cycles lat schedules)
-  same_listing number [] [] [] greedy long each = (refl, refl)
-  same_listing number [] [] (e ∷ made) greedy long each = absurd (omega arith)
-  same_listing number [] (s ∷ schedules) made greedy long each = absurd greedy
-  same_listing number (b ∷ blocks) [] made greedy long each = absurd greedy
-  same_listing number (b ∷ blocks) (s ∷ schedules) [] greedy long each = absurd (omega arith)
-  same_listing number (b ∷ blocks) (s ∷ schedules) (e ∷ made) greedy long each =
-      let P : ℕ → Type 0 = λ n. IsEntry lat n b e in
-      let first : IsEntry lat number b e = subst P (omega arith) (each 0 e refl) in
-      let is : first.schedule ≡ s = one_schedule lat b.ops s first.schedule greedy.0 first.greedy in
-      let rest = same_listing (number + 1) blocks schedules made greedy.1 (omega arith) (λ i x at.
-      let Q : ℕ → Type 0 =
-      λ n. MatchOption (slice_get blocks i) ⊥ (λ (block : Block). IsEntry lat n block x) in
-      subst Q (omega arith) (each (suc i) x at)) in
-      let text : spelled e.text ≡ schedule_entry lat number b.name s =
-      first.text ∙ ap (schedule_entry lat number b.name) is in
-      let cycles : e.cycles ≡ cycles_of lat s = first.cycles ∙ ap (cycles_of lat) is in (
-        flat_map-cons (λ (x : Entry). spelled x.text) e made
-            ∙ (λ i. text i ++ rest.0 i),
-        sum_by-cons (λ (x : Entry). x.cycles) e made
-            ∙ ((λ i. cycles i + rest.1 i) ∙ sym (sum_by-cons (cycles_of lat) s schedules)),
-      )
+  pub entries_long : (k : ℕ) (blocks : List Block) (found : List F) (text : List ℕ) → AreEntries lists k blocks found text
+      → length found ≡ length blocks
+  entries_long k [] [] text are = refl
+  entries_long k [] (f ∷ found) text are = absurd are
+  entries_long k (b ∷ blocks) [] text are = absurd are
+  entries_long k (b ∷ blocks) (f ∷ found) text are =
+      let rest : length found ≡ length blocks = entries_long (k + 1) blocks found are.1 are.3 in omega arith
 
--- what workers have handed back is the entries of the greedy schedules, for which the headline holds
-pub are_entries : (request : Request) (blocks : List Block) (made : List Entry) (costs : List ℕ)
-    → AreAnswered (length blocks) (IsEntryOf request.latencies blocks) (λ (e : Entry). e.cycles)
-    request.workers made costs
-    → AreEntries request blocks made
-are_entries request blocks made costs h =
-    let lat : Latencies = request.latencies in
-    let found : (schedules : List Table) × AreGreedy lat blocks schedules = greedy_all_exist lat blocks in
-    let listed = same_listing lat 1 blocks found.0 made found.1 h.in_order.long
-    (λ i e at. (h.in_order.each i e at).1) in
-    record {
-      schedules = found.0;
-      farmed = are_farmed request blocks (IsEntryOf lat blocks) (λ (e : Entry). e.cycles)
-          (λ k e fits s of_block. same_price lat blocks (k + 1) k e fits s of_block) found.0 found.1 made costs h;
-      texts = listed.0;
-      total = listed.1;
+  pub one_more : (blocks : List Block) (b : Block) (n : ℕ) (text old new entry : List ℕ) (found all more : List F) (f : F)
+      → Grows lists blocks text old found all → length blocks + 1 ≡ n → lists n b entry f → new ≡ old ++ entry
+      → more ≡ all ++ f ∷ [] → Grows lists (blocks ++ b ∷ []) text new found more
+  one_more blocks b n text old new entry found all more f so_far at is added kept = record {
+    entries = so_far.entries ++ entry;
+    next = so_far.next ++ f ∷ [];
+    right = entries_more 1 n blocks so_far.next b f so_far.entries entry (omega arith) so_far.right is;
+    added = added ∙ (ap (λ t. t ++ entry) so_far.added ∙ append_assoc text so_far.entries entry);
+    kept = kept ∙ (ap (λ t. t ++ f ∷ []) so_far.kept ∙ append_assoc found so_far.next (f ∷ []));
+  }
+
+  -- what was listed behind nothing, and the ending
+  pub whole_listing : (ending : List F → List ℕ) (blocks : List Block) (start text all : List ℕ) (before found : List F)
+      → start ≡ [] → before ≡ [] → Grows lists blocks start text before found → all ≡ text ++ ending found
+      → IsListingOf lists ending blocks all
+  whole_listing ending blocks start text all before found empty none so_far ended = record {
+    found = so_far.next;
+    entries = so_far.entries;
+    listed = so_far.right;
+    whole = ended ∙ ap₂ (λ t fs. t ++ ending fs) (so_far.added ∙ ap (λ t. t ++ so_far.entries) empty)
+        (so_far.kept ∙ ap (λ fs. fs ++ so_far.next) none);
+  }
+
+  -- what each block has is what all have, one after another
+  module _ {E : Type 0} (text_of : E → List ℕ) (found_of : E → F) where
+    each_listed : (k : ℕ) (blocks : List Block) (made : List E) → length made ≡ length blocks
+        → ((i : ℕ) (e : E) → slice_get made i ≡ Some e
+        → MatchOption (slice_get blocks i) ⊥ (λ (b : Block). lists (i + k) b (text_of e) (found_of e)))
+        → AreEntries lists k blocks (map found_of made) (flat_map text_of made)
+    each_listed k [] [] long each = refl
+    each_listed k [] (e ∷ made) long each = absurd (omega arith)
+    each_listed k (b ∷ blocks) [] long each = absurd (omega arith)
+    each_listed k (b ∷ blocks) (e ∷ made) long each = (
+      text_of e,
+      flat_map text_of made,
+      (let P : ℕ → Type 0 = λ n. lists n b (text_of e) (found_of e) in subst P (omega arith) (each 0 e refl)),
+      each_listed (k + 1) blocks made (omega arith) (λ i x at.
+          let Q : ℕ → Type 0 =
+          λ n. MatchOption (slice_get blocks i) ⊥ (λ (block : Block). lists n block (text_of x) (found_of x)) in
+          subst Q (omega arith) (each (suc i) x at)),
+      flat_map-cons text_of e made,
+    )
+
+    pub made_listing : (ending : List F → List ℕ) (blocks : List Block) (made : List E) (text : List ℕ)
+        → AreListed (λ k b e. lists k b (text_of e) (found_of e)) blocks made
+        → text ≡ flat_map text_of made ++ ending (map found_of made) → IsListingOf lists ending blocks text
+    made_listing ending blocks made text are whole = record {
+      found = map found_of made;
+      entries = flat_map text_of made;
+      listed = each_listed 1 blocks made are.many are.each;
+      whole = whole;
     }
 
--- the same of jobs that a worker has, one of those that all have
-pub are_entries_of : (request : Request) (blocks : List Block) (jobs : ToSchedule) (workers : ℕ) (made : List Entry)
-    (costs : List ℕ) → jobs ≡ record { blocks = blocks; latencies = request.latencies } → workers ≡ request.workers
-    → AreAnswered (length jobs.blocks) (IsEntryOf jobs.latencies jobs.blocks) (λ (e : Entry). e.cycles) workers made costs
-    → AreEntries request blocks made
-are_entries_of request blocks jobs workers made costs same all h =
-    let P : ToSchedule → ℕ → Type 0 = λ z n.
-    AreAnswered (length z.blocks) (IsEntryOf z.latencies z.blocks) (λ (e : Entry). e.cycles) n made costs in
-    are_entries request blocks made costs (subst (λ n. P (record { blocks = blocks; latencies = request.latencies }) n) all
-    (subst (λ z. P z workers) same h))
+-- what fits each of the jobs is listed of each block
+pub of_jobs : {E : Type 0} (lists : Request → ℕ → Block → E → Type 0) (jobs given : ToList) (made : List E)
+    → jobs ≡ given → length made ≡ length jobs.blocks
+    → ((i : ℕ) (e : E) → slice_get made i ≡ Some e → OfBlock (lists jobs.request) jobs.blocks i e)
+    → AreListed (lists given.request) given.blocks made
+of_jobs lists jobs given made same long each =
+    let P : ToList → Type 0 = λ j. AreListed (lists j.request) j.blocks made in
+    subst P same (record { many = long; each = each })
+
+-- Where two kinds of entries agree, so do their listings.
+module _ {F : Type 0} (lists lists' : ℕ → Block → List ℕ → F → Type 0)
+    (agree : (k : ℕ) (b : Block) (e e' : List ℕ) (f f' : F) → lists k b e f → lists' k b e' f' → (e ≡ e') × (f ≡ f')) where
+  entries_same : (k : ℕ) (blocks : List Block) (found found' : List F) (text text' : List ℕ)
+      → AreEntries lists k blocks found text → AreEntries lists' k blocks found' text'
+      → (text ≡ text') × (found ≡ found')
+  entries_same k [] [] [] text text' are are' = (are ∙ sym are', refl)
+  entries_same k [] [] (f ∷ found') text text' are are' = absurd are'
+  entries_same k [] (f ∷ found) found' text text' are are' = absurd are
+  entries_same k (b ∷ blocks) [] found' text text' are are' = absurd are
+  entries_same k (b ∷ blocks) (f ∷ found) [] text text' are are' = absurd are'
+  entries_same k (b ∷ blocks) (f ∷ found) (f' ∷ found') text text' are are' =
+      let first = agree k b are.0 are'.0 f f' are.2 are'.2 in
+      let rest = entries_same (k + 1) blocks found found' are.1 are'.1 are.3 are'.3 in (
+        are.4 ∙ (ap₂ (λ x y. x ++ y) first.0 rest.0 ∙ sym are'.4),
+        ap₂ (λ x xs. x ∷ xs) first.1 rest.1,
+      )
+
+  pub one_listing : (ending : List F → List ℕ) (blocks : List Block) (text text' : List ℕ)
+      → IsListingOf lists ending blocks text → IsListingOf lists' ending blocks text' → text ≡ text'
+  one_listing ending blocks text text' is is' =
+      let same = entries_same 1 blocks is.found is'.found is.entries is'.entries is.listed is'.listed in
+      is.whole ∙ (ap₂ (λ t fs. t ++ ending fs) same.0 same.1 ∙ sym is'.whole)
+
+-- where an entry of the one kind is one of the other, so it is with listings
+module _ {F : Type 0} (lists lists' : ℕ → Block → List ℕ → F → Type 0)
+    (also : (k : ℕ) (b : Block) (e : List ℕ) (f : F) → lists k b e f → lists' k b e f) where
+  entries_also : (k : ℕ) (blocks : List Block) (found : List F) (text : List ℕ) → AreEntries lists k blocks found text
+      → AreEntries lists' k blocks found text
+  entries_also k [] [] text are = are
+  entries_also k [] (f ∷ found) text are = absurd are
+  entries_also k (b ∷ blocks) [] text are = absurd are
+  entries_also k (b ∷ blocks) (f ∷ found) text are =
+      (are.0, are.1, also k b are.0 f are.2, entries_also (k + 1) blocks found are.1 are.3, are.4)
+
+  pub listing_also : (ending : List F → List ℕ) (blocks : List Block) (text : List ℕ)
+      → IsListingOf lists ending blocks text → IsListingOf lists' ending blocks text
+  listing_also ending blocks text is = record {
+    found = is.found;
+    entries = is.entries;
+    listed = entries_also 1 blocks is.found is.entries is.listed;
+    whole = is.whole;
+  }
+
+-- the texts and what was found were taken from entries, of which none is left
+module _ {E T F : Type 0} (spell : T → List ℕ) (text_of : E → T) (found_of : E → F) where
+  spelled_map : (xs : List E) → flat_map spell (map text_of xs) ≡ flat_map (λ x. spell (text_of x)) xs
+  spelled_map [] = refl
+  spelled_map (x ∷ xs) =
+      flat_map-cons spell (text_of x) (map text_of xs)
+      ∙ (ap (λ t. spell (text_of x) ++ t) (spelled_map xs) ∙ sym (flat_map-cons (λ y. spell (text_of y)) x xs))
+
+  none_left : {V : Type 0} (f : E → V) (xs : List E) (ys zs : List V) → length xs ≡ 0 → ys ++ map f xs ≡ zs → ys ≡ zs
+  none_left f [] ys zs none all = sym (append-nil ys) ∙ all
+  none_left f (x ∷ xs) ys zs none all = absurd (omega arith)
+
+  pub parts_whole : (ending : List F → List ℕ) (entries rest : List E) (texts : List T) (found seen : List F)
+      (start last all : List ℕ) → length rest ≡ 0 → texts ++ map text_of rest ≡ map text_of entries
+      → found ++ map found_of rest ≡ map found_of entries → seen ≡ found → start ≡ [] → last ≡ start ++ ending seen
+      → all ≡ flat_map spell texts ++ last
+      → all ≡ flat_map (λ e. spell (text_of e)) entries ++ ending (map found_of entries)
+  parts_whole ending entries rest texts found seen start last all none are have same empty ended whole =
+      let ts : texts ≡ map text_of entries = none_left text_of rest texts (map text_of entries) none are in
+      let fs : seen ≡ map found_of entries =
+      same ∙ none_left found_of rest found (map found_of entries) none have in
+      let behind : last ≡ ending (map found_of entries) =
+      ended ∙ (ap (λ t. t ++ ending seen) empty ∙ ap ending fs) in
+      whole ∙ ap₂ (λ t e. t ++ e) (ap (flat_map spell) ts ∙ spelled_map entries) behind

@@ -19,19 +19,21 @@ first_told : (js : List JournalView) → All IsDone js → 0 < length js
 first_told [] h some = absurd (omega arith)
 first_told (j ∷ js) h some = rw (All-head IsDone j js h).told refl
 
-whole_in : (js : List JournalView) (made : ℕ) → workers_of js ≡ range_with_len 0 made → All IsDone js → 0 < made
+pub whole : (js : List JournalView) (made : ℕ) → workers_of js ≡ range_with_len 0 made → All IsDone js → 0 < made
     → IsWhole made js
-whole_in js made e h some_made = record {
+whole js made e h some_made = record {
   all = λ w below. let P : List ℕ → Type 0 = λ ws. Contains ws w in subst P (sym e) (in_range made w below);
   idle = All-weaker IsDone (λ j. is_holding (state_of j.entries) ≡ false) (λ j done. ap is_holding done.free) js h;
   told = first_told js h (let n = ap length e in
       omega (arith, length-map js (λ (j : JournalView). j.worker), length-range_with_len 0 made));
 }
 
--- what was gathered of passes that are all done
-pub whole : {W : Type 0} (f : W → JournalView) (ws : List W) (js : List JournalView) (made : ℕ) → js ≡ map f ws
-    → map (λ w. (f w).worker) ws ≡ range_with_len 0 made → All (λ w. IsDone (f w)) ws → 0 < made → IsWhole made js
-whole f ws js made e n h some_made =
-    whole_in js made (ap (λ t. map (λ (j : JournalView). j.worker) t) e
-    ∙ (map-map (λ (j : JournalView). j.worker) f ws ∙ n)) (All-same IsDone js (map f ws) e (All-map IsDone f ws h))
-    some_made
+-- the workers of journals that were gathered, by what they were gathered from
+pub workers : {W : Type 0} (f : W → JournalView) (ws : List W) (js : List JournalView) (made : ℕ) → js ≡ map f ws
+    → map (λ w. (f w).worker) ws ≡ range_with_len 0 made → workers_of js ≡ range_with_len 0 made
+workers f ws js made e n = ap (λ t. map (λ (j : JournalView). j.worker) t) e
+    ∙ (map-map (λ (j : JournalView). j.worker) f ws ∙ n)
+
+pub done : {W : Type 0} (f : W → JournalView) (ws : List W) (js : List JournalView) → js ≡ map f ws
+    → All (λ w. IsDone (f w)) ws → All IsDone js
+done f ws js e h = All-same IsDone js (map f ws) e (All-map IsDone f ws h)

@@ -1,5 +1,5 @@
 -- The greedy schedules of a file's blocks: there is one list of them, they keep the outcomes, and their cycles are few.
-use Rattle.std.proofs.Common.{◌≡◌, ℕ, suc, ◌+◌, ◌*◌, ◌^◌, ◌<◌, ◌≤◌, List, [], ◌∷◌, length, map, sum_by, not, Some, refl, arith, inl, inr}
+use Rattle.std.proofs.Common.{◌≡◌, ℕ, zero, suc, ◌+◌, ◌*◌, ◌^◌, ◌<◌, ◌≤◌, List, [], ◌∷◌, ◌++◌, get_or, length, map, sum_by, not, Some, refl, arith, inl, inr}
 use Rattle.std.specs.Prelude.{slice_get}
 use Rattle.std.specs.List.{AllByRecursion, range_with_len}
 use Rattle.std.proofs.lemmas.List.Sums.{sum_by-cons, length-filter, count_by-le-length}
@@ -20,7 +20,6 @@ use Rattle.iloc_sched.specs.declared.wheel.TheConstants.{LONGEST_DELAY}
 use Rattle.iloc_sched.specs.Renaming.{renamed, renamed_op, without_nops, numbering, is_nop}
 use Rattle.iloc_sched.specs.Greedy.{IsGreedy}
 use Rattle.iloc_sched.proofs.Bounds.BusyCycles.{busy_bound}
-use Rattle.iloc_sched.proofs.Choice.GreedyExists.{greedy_exists}
 use Rattle.iloc_sched.proofs.Basics.Members.{from_map}
 use Rattle.iloc_sched.proofs.Basics.Maxima.{fold_max_reached}
 use Rattle.iloc_sched.proofs.Basics.IssueCycles.{issue_cycle_within}
@@ -137,16 +136,6 @@ greedy_long lat (b ∷ blocks) [] greedy = absurd greedy
 greedy_long lat (b ∷ blocks) (s ∷ schedules) greedy = let rest : length schedules ≡ length blocks =
     greedy_long lat blocks schedules greedy.1 in omega arith
 
--- there is a list of greedy schedules, whatever the blocks
-pub greedy_all_exist : (lat : Latencies) (blocks : List Block) → (schedules : List Table)
-    × AreGreedy lat blocks schedules
-greedy_all_exist lat [] = ([], tt)
-greedy_all_exist lat (b ∷ blocks) =
-    let first : (rows : List Row) × IsGreedy lat b.ops (renamed b.ops) rows = greedy_exists lat b.ops in
-    let rest : (schedules : List Table) × AreGreedy lat blocks schedules = greedy_all_exist lat blocks in
-    let table : Table = record { ops = renamed b.ops; rows = first.0 } in
-    (table ∷ rest.0, (first.1, rest.1))
-
 -- the total of a file's greedy schedules
 pub total_small : (lat : Latencies) (blocks : List Block) (schedules : List Table) → AreGreedy lat blocks schedules
     → IsWithinLimits blocks → total_cycles lat schedules < 2 ^ 63
@@ -154,3 +143,18 @@ total_small lat blocks schedules greedy limits =
     let few : total_cycles lat schedules ≤ most_cycles * length blocks =
     total_few lat blocks schedules greedy limits.short_blocks in
     let most : length blocks ≤ MAX_BLOCKS = limits.few_blocks in omega arith
+
+pub greedy_more : (lat : Latencies) (blocks : List Block) (schedules : List Table) (b : Block) (s : Table)
+    → AreGreedy lat blocks schedules → IsGreedy lat b.ops s.ops s.rows
+    → AreGreedy lat (blocks ++ b ∷ []) (schedules ++ s ∷ [])
+greedy_more lat [] [] b s are is = (is, tt)
+greedy_more lat [] (t ∷ schedules) b s are is = absurd are
+greedy_more lat (a ∷ blocks) [] b s are is = absurd are
+greedy_more lat (a ∷ blocks) (t ∷ schedules) b s are is = (are.0, greedy_more lat blocks schedules b s are.1 is)
+
+-- the block that was read is short
+pub short_at : (blocks : List Block) (n : ℕ) (b : Block) → AllByRecursion (λ (a : Block). length a.ops ≤ MAX_OPS) blocks
+    → n < length blocks → b ≡ get_or blocks n b → length b.ops ≤ MAX_OPS
+short_at [] n b short within read = absurd (omega arith)
+short_at (a ∷ blocks) zero b short within read = rw read short.0
+short_at (a ∷ blocks) (suc n) b short within read = short_at blocks n b short.1 (omega arith) read

@@ -17,7 +17,7 @@ use Rattle.iloc_farm.specs.declared.finding.Finding.{Finding}
 use Rattle.iloc_farm.specs.declared.finding.Finding.TheVariants.{Passed, Failed}
 use Rattle.iloc_farm.specs.declared.program.Fault.{Fault}
 use Rattle.iloc_farm.specs.declared.program.Fault.TheVariants.{Line, Run}
-use Rattle.iloc_farm.specs.Checking.{ListsChecked}
+use Rattle.iloc_farm.specs.Commands.Check.{ListsChecked}
 use Rattle.iloc_farm.specs.Fault.{text_status, rows_status}
 use Rattle.iloc_farm.specs.Finding.{status_of_finding}
 use Rattle.iloc_farm.specs.Initial.{initial_memory}

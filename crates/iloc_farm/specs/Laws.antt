@@ -15,11 +15,11 @@ use Rattle.iloc_args.specs.declared.request.Task.TheVariants as task
 use Rattle.iloc_farm.specs.declared.finding.Finding.{Finding}
 use Rattle.iloc_farm.specs.declared.finding.Finding.TheVariants.{Passed}
 use Rattle.iloc_farm.specs.declared.program.Ending.{Ending}
-use Rattle.iloc_farm.specs.Checking.{ListsChecked}
+use Rattle.iloc_farm.specs.Commands.Check.{ListsChecked}
 use Rattle.iloc_farm.specs.Device.{ReadsInput}
 use Rattle.iloc_farm.specs.Listing.{total_cycles}
 use Rattle.iloc_farm.specs.Program.{Args, AskFor, Ends}
-use Rattle.iloc_farm.specs.Run.{IsListing, ListsInput}
+use Rattle.iloc_farm.specs.Run.{IsListing, IsListingFor, ListsInput}
 use Rattle.iloc_farm.specs.Schedules.{AreGreedy, IsWithinLimits}
 
 -- the requests ask for the same, but maybe of other workers
@@ -35,6 +35,11 @@ abbrev pub ListingsIgnoreWorkers : Type 0
 ListingsIgnoreWorkers = (r q : Request) → AskAlike r q → (input : List ℕ) (blocks blocks' : List Block)
     → Denotes input blocks → Denotes input blocks'
     → (text text' : List ℕ) → IsListing r blocks text → IsListing q blocks' text' → text ≡ text'
+
+-- what is listed of blocks as what comes of their schedules is what is listed as what comes of them
+abbrev pub SimulatingListsRuns : Type 0
+SimulatingListsRuns = (request : Request) (blocks : List Block) (text : List ℕ)
+    → IsListingFor task.Simulate request blocks text → IsListingFor task.Run request blocks text
 
 -- what one of such requests may list of an input as a check, so may the other
 abbrev pub ChecksIgnoreWorkers : Type 0

@@ -1,6 +1,6 @@
-pub mod Checking
+pub mod Commands
 pub mod Device
-pub mod Explaining
+pub mod Entries
 pub mod Fault
 pub mod Finding
 pub mod Headline

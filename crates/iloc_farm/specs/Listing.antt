@@ -1,5 +1,5 @@
 -- The listings: of outcomes, of schedules and of their cycles.
-use Rattle.std.specs.Prelude.{ℕ, ◌+◌, List, [], ◌∷◌, ◌++◌, sum_by, Option, Some, None, ℤ, codes}
+use Rattle.std.specs.Prelude.{ℕ, ◌+◌, List, [], ◌∷◌, ◌++◌, sum, sum_by, Option, Some, None, ℤ, codes}
 use Rattle.std.specs.List.{flat_map}
 use Rattle.std.specs.Fmt.{decimal, signed_decimal}
 use Rattle.iloc_ops.specs.declared.file.Block.{Block}
@@ -76,6 +76,10 @@ total_cycles lat schedules = sum_by (cycles_of lat) schedules
 -- `total C`
 abbrev pub total_of : ℕ → List ℕ
 total_of cycles = codes "total " ++ decimal cycles ++ codes "\n"
+
+-- the same of these cycles together
+abbrev pub total_of_all : List ℕ → List ℕ
+total_of_all cycles = total_of (sum cycles)
 
 abbrev pub total_line : Latencies → List Table → List ℕ
 total_line lat schedules = total_of (total_cycles lat schedules)

@@ -26,6 +26,11 @@ AreGreedy lat (b ∷ blocks) (s ∷ schedules) = IsGreedy lat b.ops s.ops s.rows
 abbrev pub IsScheduleOf : Latencies → List Block → ℕ → Table → Type 0
 IsScheduleOf lat blocks i s = IfSome (slice_get blocks i) (λ (b : Block). IsGreedy lat b.ops s.ops s.rows)
 
+-- the schedule is the greedy one of the block, which has no other
+pub record IsTheGreedy (lat : Latencies) (b : Block) (s : Table) : Type 0 where
+  pub greedy : IsGreedy lat b.ops s.ops s.rows
+  pub only : (t : Table) → IsGreedy lat b.ops t.ops t.rows → t ≡ s
+
 -- no other list of schedules has that property
 abbrev pub AreTheOnlyGreedy : Latencies → List Block → List Table → Type 0
 AreTheOnlyGreedy lat blocks schedules = (others : List Table) → AreGreedy lat blocks others → others ≡ schedules
@@ -41,3 +46,8 @@ timed_outcomes lat memory schedules = map (λ (s : Table). timed_outcome lat s.o
 -- each schedule has the outcome of its block, whatever the memory
 abbrev pub KeepOutcomes : Latencies → List Block → List Table → Type 0
 KeepOutcomes lat blocks schedules = (memory : List ℤ) → timed_outcomes lat memory schedules ≡ plain_outcomes memory blocks
+
+-- these blocks are to be scheduled for a machine with these latencies
+pub record ToSchedule : Type 0 where
+  pub blocks : List Block
+  pub latencies : Latencies

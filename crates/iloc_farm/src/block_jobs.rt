@@ -1,33 +1,59 @@
 //! The blocks of a file as the jobs of a board.
-ghost use Rattle.std.specs.Prelude.{◌≤◌, length};
-ghost use Rattle.std.specs.List.{All};
-ghost use Rattle.iloc_ops.specs.Limits.{MAX_BLOCKS, MAX_OPS};
+ghost use Rattle.std.specs.Prelude.{◌≡◌};
+ghost use Rattle.iloc_farm.specs.Schedules.{IsWithinLimits};
 
 use iloc_board::{Jobs, NoMemory};
-use iloc_ops::Block;
 use iloc_sched::schedule;
+use iloc_text::{Block, IlocFile};
 use iloc_timed::{Latencies, MAX_ROWS, Schedule, cycles};
 use std::alloc::Global;
+use std::marker::Model;
 
-/// Blocks to be scheduled for a machine with these latencies.
-#[derive(Clone, Copy)]
+/// Blocks to be scheduled for a machine with these latencies. The answer to job i is the schedule of block i, and costs its
+/// cycles.
+#[derive(Drop)]
 pub struct BlockJobs<'f> {
-    /// At most 65,535 blocks, each of at most 10,000 operations.
-    pub blocks: &'f [Block],
-    pub latencies: Latencies,
-    ghost few: { length blocks.now ≤ MAX_BLOCKS },
-    ghost short: { All (λ b. length b.ops ≤ MAX_OPS) blocks.now },
+    blocks: &'f [Block],
+    latencies: Latencies,
+}
+
+impl<'f> Model for BlockJobs<'f> {
+    ghost use Rattle.std.specs.Prelude.{◌≤◌, length};
+    ghost use Rattle.std.specs.List.{All};
+    ghost use Rattle.iloc_ops.specs.Limits.{MAX_BLOCKS, MAX_OPS};
+    ghost use Rattle.iloc_farm.specs.Schedules.{ToSchedule};
+
+    ghost Value = { ToSchedule };
+
+    ghost view = { λ jobs. record { blocks = jobs.blocks.now; latencies = jobs.latencies } };
+
+    ghost invariant = { λ jobs. (length jobs.blocks.now ≤ MAX_BLOCKS)
+        × All (λ b. length b.ops ≤ MAX_OPS) jobs.blocks.now };
+}
+
+impl<'f> BlockJobs<'f> {
+    /// The blocks of this file.
+    pub fn new(file: &'f IlocFile, latencies: &Latencies) -> BlockJobs<'f>
+        requires { IsWithinLimits file.now.blocks }
+        ensures { result ≡ record { blocks = file.now.blocks; latencies = latencies.now } }
+    {
+        BlockJobs {
+            blocks: file.blocks.as_slice(),
+            latencies: *latencies,
+        }
+    }
 }
 
 impl<'f> Jobs for BlockJobs<'f> {
+    ghost use Rattle.std.specs.Prelude.{length};
     ghost use Rattle.iloc_farm.specs.Listing.{cycles_of};
     ghost use Rattle.iloc_farm.specs.Schedules.{IsScheduleOf};
 
     type Answer = Schedule;
 
-    ghost number = { λ jobs. length jobs.blocks.now };
+    ghost number = { λ jobs. length jobs.blocks };
 
-    ghost fits = { λ jobs i schedule. IsScheduleOf jobs.latencies jobs.blocks.now i schedule };
+    ghost fits = { λ jobs i schedule. IsScheduleOf jobs.latencies jobs.blocks i schedule };
 
     ghost price = { λ jobs schedule. cycles_of jobs.latencies schedule };
 

@@ -1,97 +1,106 @@
-//! The listings of schedules that the workers make.
-ghost use Rattle.std.specs.Prelude.{IfOk};
-ghost use Rattle.iloc_farm.specs.Listing.{counts_listing, schedules_listing};
-ghost use Rattle.iloc_farm.specs.Run.{ListsFarmed, ListsGreedy};
+//! Listings that workers make.
+ghost use Rattle.std.specs.Prelude.{◌≡◌, ◌≤◌, ◌++◌, length, map, IfErr, IfOk};
+ghost use Rattle.std.specs.List.{flat_map};
+ghost use Rattle.iloc_ops.specs.Limits.{MAX_BLOCKS};
+ghost use Rattle.iloc_farm.specs.Entries.{IsListingOf};
 ghost use Rattle.iloc_farm.specs.Schedules.{IsWithinLimits};
-ghost use Rattle.iloc_farm.specs.Steps.Counts.{AreCounts};
-ghost use Rattle.iloc_farm.specs.Steps.Entries.{AreEntries};
+ghost use Rattle.iloc_farm.specs.Steps.Listed.{AreListed, ListsRead};
+ghost use Rattle.iloc_farm.specs.Steps.OfInput.{EndsFarm};
+ghost use Rattle.iloc_farm.specs.Steps.Pieces.{spelled};
 
-use crate::answering::answer_all;
 use crate::block_lists::BlockLists;
-use crate::counts::cycles_text;
-use crate::cycle_jobs::CycleJobs;
-use crate::desks::desks_in;
-use crate::entry::{Entry, entries_text};
-use crate::entry_jobs::EntryJobs;
-use crate::fault::FarmFault;
-use crate::laws::greedy_schedules_can_be_listed;
+use crate::fault::{FarmFault, RunFault};
+use crate::listed_jobs::{Desk, Entry, ListedJobs};
+use crate::lister::{FarmedLister, Lister};
 use crate::pieces::Pieces;
-use crate::space::Space;
+use crate::reading::read_blocks;
+use crate::workers::work_all;
 use iloc_args::Request;
-use iloc_board::FreeGate;
+use iloc_board::{Board, FreeGate};
+use iloc_text::NoMemory;
 use std::alloc::Global;
+use std::io::Read;
 use std::sync::Wait;
 use std::thread::Threads;
 
-/// The entries of the blocks' greedy schedules, for the request's latencies and by its workers. Their texts lie in this
-/// space, which is written over, as far as they fit. The blocks are let go.
-fn entries_of<'r, R: Threads + Wait + Sync>(
-    rt: &R,
-    alloc: Global,
-    blocks: BlockLists,
-    request: &Request,
-    space: &'r mut Space,
-) -> Result<Vec<Entry<'r>>, FarmFault>
-    requires { IsWithinLimits blocks }
-    ensures { IfOk result (λ entries. AreEntries request.now blocks entries.items) }
+/// A desk for each worker of the request.
+fn desks<L: FarmedLister>(alloc: Global, request: &Request) -> Result<Vec<Desk<L>>, NoMemory>
+    ensures { IfOk result (λ desks. length desks.items ≡ request.now.workers) }
 {
-    let Space { input, more } = space;
-    let desks = desks_in(alloc, input, more, request.workers)?;
-    let jobs = EntryJobs::at_each(alloc, &blocks, &request.latencies, &desks)?;
-    let collected = answer_all(rt, alloc, &jobs[0], &jobs, &FreeGate)?;
-    Ok(collected.answers)
+    let mut desks = Vec::with_capacity(alloc, request.workers as usize)?;
+    for _ in 0..request.workers {
+        desks.push(Desk::new(alloc, request)?)?;
+    }
+    Ok(desks)
 }
 
-/// The cycles of the blocks' greedy schedules, for the request's latencies and by its workers.
-fn counts_of<R: Threads + Wait + Sync>(
-    rt: &R,
+/// The entries of the blocks, which the request's workers make.
+fn entries_of<H: Threads + Wait + Sync, L: FarmedLister + Send + Sync>(
+    rt: &H,
     alloc: Global,
     blocks: &BlockLists,
     request: &Request,
-) -> Result<Vec<u32>, FarmFault>
+) -> Result<Vec<Entry<L::Found>>, FarmFault>
+where
+    L::Found: Send,
     requires { IsWithinLimits blocks.now }
-    ensures { IfOk result (λ counts. AreCounts request.now blocks.now counts.items) }
+    ensures { IfOk result (λ all.
+        AreListed (λ k b e. L.lists request.now k b (spelled e.text) e.found) blocks.now all.items) }
 {
-    let desks = desks_in(alloc, &mut [], &mut [], request.workers)?;
-    let jobs = CycleJobs::at_each(alloc, blocks, &request.latencies, &desks)?;
-    let counted = answer_all(rt, alloc, &jobs[0], &jobs, &FreeGate)?;
-    Ok(counted.answers)
+    let jobs = ListedJobs::<L>::new(blocks, request);
+    let (board, mut root) = Board::new(alloc, &jobs, request.workers)?;
+    let desks = desks(alloc, request)?;
+    work_all(rt, alloc, &board, &mut root, desks, &FreeGate)?;
+    Ok(board.finish(root)?.answers)
 }
 
-/// The listing of the blocks' greedy schedules with their rows, for the request's latencies and by its workers. It lies in
-/// this space, as far as it fits, and the blocks are let go as soon as their entries are made.
-pub(crate) fn schedules_farmed<'r, R: Threads + Wait + Sync>(
-    rt: &R,
+/// The entries one after another, and the ending that follows from what was found.
+fn whole_of<L: Lister>(alloc: Global, entries: Vec<Entry<L::Found>>) -> Result<Pieces, NoMemory>
+    requires { length entries.items ≤ MAX_BLOCKS }
+    ensures { IfOk result (λ text. text ≡ flat_map (λ e. spelled e.text) entries.items
+        ++ L.ending (map (λ e. e.found) entries.items)) }
+{
+    let mut texts = Vec::with_capacity(alloc, entries.len())?;
+    let mut found = Vec::with_capacity(alloc, entries.len())?;
+    for entry in entries {
+        texts.push(entry.text)?;
+        found.push(entry.found)?;
+    }
+    let mut last = Vec::new(alloc);
+    L::push_ending(&mut last, &found)?;
+    Pieces::of_texts(alloc, texts, last)
+}
+
+/// The listing of these blocks. They are let go as soon as their entries are made.
+fn listed<H: Threads + Wait + Sync, L: FarmedLister + Send + Sync>(
+    rt: &H,
     alloc: Global,
     blocks: BlockLists,
     request: &Request,
-    space: &'r mut Space,
-) -> Result<Pieces<'r>, FarmFault>
+) -> Result<Pieces, FarmFault>
+where
+    L::Found: Send,
     requires { IsWithinLimits blocks }
-    ensures greedy { let latencies = request.now.latencies in
-        IfOk result (ListsGreedy latencies blocks (schedules_listing latencies blocks)) }
-    ensures farmed { IfOk result
-        (ListsFarmed request.now blocks (schedules_listing request.now.latencies blocks)) }
+    ensures { IfOk result (IsListingOf (L.lists request.now) L.ending blocks) }
 {
-    greedy_schedules_can_be_listed();
-    let entries = entries_of(rt, alloc, blocks, request, space)?;
-    Ok(entries_text(alloc, entries)?)
+    let entries = entries_of::<H, L>(rt, alloc, &blocks, request)?;
+    drop(blocks);
+    Ok(whole_of::<L>(alloc, entries)?)
 }
 
-/// The listing of the cycles of the blocks' greedy schedules, for the request's latencies and by its workers.
-pub(crate) fn counts_farmed<R: Threads + Wait + Sync>(
-    rt: &R,
+/// The listing of the file that the reader gives, which the request's workers make.
+pub(crate) fn listed_by_workers<L: FarmedLister + Send + Sync, H: Threads + Wait + Sync, R: Read>(
+    rt: &H,
     alloc: Global,
-    blocks: &BlockLists,
+    reader: &mut R,
     request: &Request,
-) -> Result<Vec<u8>, FarmFault>
-    requires { IsWithinLimits blocks.now }
-    ensures greedy { let blocks = blocks.now in let latencies = request.now.latencies in
-        IfOk result (λ text. ListsGreedy latencies blocks (counts_listing latencies blocks) text.items) }
-    ensures farmed { let blocks = blocks.now in
-        IfOk result (λ text. ListsFarmed request.now blocks (counts_listing request.now.latencies blocks) text.items) }
+) -> Result<Pieces, RunFault>
+where
+    L::Found: Send,
+    ensures ok { IfOk result
+        (ListsRead (L.lists request.now) L.ending (R.remaining reader.old) (R.remaining reader.new)) }
+    ensures err { IfErr result (EndsFarm (R.remaining reader.old) (R.remaining reader.new)) }
 {
-    greedy_schedules_can_be_listed();
-    let counts = counts_of(rt, alloc, blocks, request)?;
-    Ok(cycles_text(alloc, blocks, &counts)?)
+    let blocks = read_blocks(rt, alloc, reader, request)?;
+    Ok(listed::<H, L>(rt, alloc, blocks, request)?)
 }

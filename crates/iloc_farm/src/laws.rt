@@ -1,11 +1,16 @@
 //! Laws of listings, as contracts of functions that do nothing.
 ghost use Rattle.iloc_farm.specs.Laws.{ChecksIgnoreWorkers, GreedySchedulesCanBeListed};
 ghost use Rattle.iloc_farm.specs.Laws.{ListingsIgnoreWorkers, PassedChecksKeepOutcomes};
-ghost use Rattle.iloc_farm.specs.Laws.{Status0MeansTheSame};
+ghost use Rattle.iloc_farm.specs.Laws.{SimulatingListsRuns, Status0MeansTheSame};
 
 /// Requests that are equal but for their workers list one text of one file.
 pub fn listings_ignore_workers()
     ensures { ListingsIgnoreWorkers }
+{}
+
+/// What `simulate` lists of blocks is what `run` lists of them.
+pub fn simulating_lists_runs()
+    ensures { SimulatingListsRuns }
 {}
 
 /// What a check may list of an input does not depend on its workers.

@@ -1,5 +1,6 @@
 //! The listings: of outcomes, of schedules and of their cycles.
-ghost use Rattle.std.specs.Prelude.{◌≡◌, ◌<◌, ◌^◌, ◌++◌, length, sum_by, OnOk, IfOk, codes};
+ghost use Rattle.std.specs.Prelude.{◌≡◌, ◌≤◌, ◌<◌, ◌^◌, ◌++◌, length, sum_by, OnOk, IfOk, codes};
+ghost use Rattle.iloc_ops.specs.Limits.{MAX_BLOCKS};
 ghost use Rattle.std.specs.Option.{option_copied};
 ghost use Rattle.std.specs.List.{flat_map};
 ghost use Rattle.std.specs.Fmt.{decimal};
@@ -10,8 +11,8 @@ ghost use Rattle.iloc_farm.specs.Steps.Detailed.{entry_with, listing_with};
 
 use crate::numbered::push_numbered;
 use iloc_meaning::Outcome;
-use iloc_ops::{IlocFile, Name, NoMemory, Op, push_number};
-use iloc_timed::{Latencies, Row, Schedule, cycles, push_row_line};
+use iloc_text::{IlocFile, Name, NoMemory, Op, push_number};
+use iloc_timed::{Latencies, MAX_ROWS, Row, Schedule, cycles, push_row_line};
 use std::alloc::Global;
 
 /// Appends `block K NAME`, with `-` for a block without a name.
@@ -164,6 +165,26 @@ pub(crate) fn push_total(text: &mut Vec<u8>, total: u64) -> Result<(), NoMemory>
     ensures { OnOk result (text.new.items ≡ text.old.items ++ listed.total_of total) }
 {
     push_numbered(text, b"total ", total, b"\n")
+}
+
+/// How many cycles a schedule takes, which 32 bits hold.
+pub(crate) fn count_of(schedule: &Schedule, latencies: &Latencies) -> u32
+    ensures { result ≡ listed.cycles_of latencies.now schedule.now }
+{
+    prove!(schedule.rows().len() <= MAX_ROWS);
+    cycles(schedule, latencies) as u32
+}
+
+/// Appends the line of these cycles together.
+pub(crate) fn push_total_of(text: &mut Vec<u8>, cycles: &[u32]) -> Result<(), NoMemory>
+    requires { length cycles.now ≤ MAX_BLOCKS }
+    ensures { OnOk result (text.new.items ≡ text.old.items ++ listed.total_of_all cycles.now) }
+{
+    let mut total = 0;
+    for count in cycles {
+        total += u64::from(*count);
+    }
+    push_total(text, total)
 }
 
 /// The listing of a file's blocks with their schedules, in so much detail, and the cycles of all.

@@ -1,5 +1,5 @@
 //! A piece of a listing.
-ghost use Rattle.std.specs.Prelude.{◌++◌, OnErr, OnOk};
+ghost use Rattle.std.specs.Prelude.{◌≡◌, ◌++◌, IfOk, OnErr, OnOk};
 ghost use Rattle.iloc_farm.specs.Device.{WritesFront};
 ghost use Rattle.iloc_farm.specs.Steps.Joined.{Joins};
 ghost use Rattle.iloc_farm.specs.Steps.Pieces.{spelled};
@@ -7,20 +7,31 @@ ghost use Rattle.iloc_farm.specs.Steps.Pieces.{spelled};
 use crate::device::WriteFailed;
 use crate::folded::Folded;
 use crate::joined::{write_joined, write_room};
+use iloc_text::NoMemory;
+use std::alloc::Global;
 use std::io::Write;
 
 /// What is listed of a block.
 #[derive(Drop)]
-pub enum Piece<'r> {
-    /// Its text as it is, in a room that pieces share.
-    Shared(&'r [u8]),
-    /// Its text as it is, in room of its own.
-    Own(Box<Vec<u8>>),
+pub enum Piece {
+    /// Its text as it is.
+    Whole(Vec<u8>),
     /// Its text without its empty rows.
     Folded(Box<Folded>),
 }
 
-impl<'r> Piece<'r> {
+impl Piece {
+    /// This text, folded or not.
+    pub(crate) fn of(alloc: Global, text: &[u8], folds: bool) -> Result<Piece, NoMemory>
+        ensures { IfOk result (λ piece. spelled piece ≡ text.now) }
+    {
+        if folds {
+            let folded = Folded::of(alloc, text)?;
+            return Ok(Piece::Folded(Box::new(alloc, folded)?));
+        }
+        Ok(Piece::Whole(Vec::from_slice(alloc, text)?))
+    }
+
     /// Writes the text behind those in the room, or leaves it there to be joined by the next. After a failure a front of
     /// the room and the text was written.
     pub(crate) fn write_to<W: Write>(
@@ -34,8 +45,7 @@ impl<'r> Piece<'r> {
             (room.old.items ++ spelled self.now)) }
     {
         match self {
-            Piece::Shared(text) => write_joined(text, room, writer),
-            Piece::Own(text) => write_joined(text, room, writer),
+            Piece::Whole(text) => write_joined(text, room, writer),
             Piece::Folded(folded) => {
                 write_room(room, writer)?;
                 folded.push_to(room).map_err(|_| WriteFailed)

@@ -6,7 +6,6 @@ ghost use Rattle.iloc_farm.specs.Device.{WritesFront};
 ghost use Rattle.iloc_farm.specs.Steps.Pieces.{spelled};
 
 use crate::device::{WriteFailed, write_text};
-use crate::entry::Entry;
 use crate::joined::{MOST_JOINED, write_room};
 use crate::piece::Piece;
 use iloc_ops::NoMemory;
@@ -16,53 +15,53 @@ use std::marker::Model;
 
 /// A text, in pieces.
 #[derive(Drop)]
-pub(crate) struct Pieces<'r> {
+pub(crate) struct Pieces {
     /// What is listed of each block.
-    entries: Vec<Entry<'r>>,
-    /// What stands behind the entries.
+    texts: Vec<Piece>,
+    /// What stands behind those texts.
     last: Vec<u8>,
-    /// Room by which the entries are written.
+    /// Room by which they are written.
     room: Vec<u8>,
 }
 
-impl<'r> Model for Pieces<'r> {
+impl Model for Pieces {
     ghost use Rattle.std.specs.Prelude.{ℕ, List, ◌++◌};
     ghost use Rattle.std.specs.List.{flat_map};
     ghost use Rattle.iloc_farm.specs.Steps.Pieces.{spelled};
 
     ghost Value = { List ℕ };
 
-    ghost view = { λ p. flat_map (λ e. spelled e.text) p.entries.items ++ p.last.items };
+    ghost view = { λ p. flat_map spelled p.texts.items ++ p.last.items };
 }
 
-impl<'r> Pieces<'r> {
+impl Pieces {
     /// This text, in one piece.
-    pub(crate) fn new(alloc: Global, text: Vec<u8>) -> Pieces<'r>
+    pub(crate) fn new(alloc: Global, text: Vec<u8>) -> Pieces
         ensures { result ≡ text.items }
     {
         Pieces {
-            entries: Vec::new(alloc),
+            texts: Vec::new(alloc),
             last: text,
             room: Vec::new(alloc),
         }
     }
 
-    /// What is listed in these entries, and behind them this text. The room that writing them takes is made now.
-    pub(crate) fn of_entries(
+    /// These texts, and behind them this one. The room that writing them takes is made now.
+    pub(crate) fn of_texts(
         alloc: Global,
-        entries: Vec<Entry<'r>>,
+        texts: Vec<Piece>,
         last: Vec<u8>,
-    ) -> Result<Pieces<'r>, NoMemory>
-        ensures { IfOk result (λ text. text ≡ flat_map (λ e. spelled e.text) entries.entry.items ++ last.items) }
+    ) -> Result<Pieces, NoMemory>
+        ensures { IfOk result (λ text. text ≡ flat_map spelled texts.items ++ last.items) }
     {
         let mut most = MOST_JOINED;
-        for entry in &entries {
-            if let Piece::Folded(folded) = &entry.text {
+        for text in &texts {
+            if let Piece::Folded(folded) = text {
                 most = most.max(folded.size());
             }
         }
         Ok(Pieces {
-            entries,
+            texts,
             last,
             room: Vec::with_capacity(alloc, most)?,
         })
@@ -70,13 +69,13 @@ impl<'r> Pieces<'r> {
 
     /// Writes the whole text, then flushes. After a failure a front of the text was written.
     pub(crate) fn write_to<W: Write>(self, writer: &mut W) -> Result<(), WriteFailed>
-        ensures ok { OnOk result (Appends (W.contents writer.old) (W.contents writer.new) self.entry) }
-        ensures err { OnErr result (WritesFront (W.contents writer.old) (W.contents writer.new) self.entry) }
+        ensures ok { OnOk result (Appends (W.contents writer.old) (W.contents writer.new) self) }
+        ensures err { OnErr result (WritesFront (W.contents writer.old) (W.contents writer.new) self) }
     {
         let mut room = self.room;
         room.clear();
-        for entry in &self.entries {
-            entry.text.write_to(&mut room, writer)?;
+        for text in &self.texts {
+            text.write_to(&mut room, writer)?;
         }
         write_room(&mut room, writer)?;
         write_text(writer, &self.last)

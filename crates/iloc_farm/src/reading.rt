@@ -1,23 +1,26 @@
 //! Files that several threads read, each a part of the text.
-ghost use Rattle.std.specs.Prelude.{◌≡◌, ◌≢◌, IfErr, IfOk, IfSome, map};
+ghost use Rattle.std.specs.Prelude.{◌≡◌, IfErr, IfOk, IfSome, List, map, ℕ};
 ghost use Rattle.std.specs.List.{All, AllZip};
-ghost use Rattle.iloc_args.specs.declared.request.Task.TheVariants as task;
 ghost use Rattle.iloc_text.specs.Files.{Denotes};
 ghost use Rattle.iloc_text.specs.Parts.{AreParts};
+ghost use Rattle.iloc_farm.specs.Device.{ReadsInput};
 ghost use Rattle.iloc_farm.specs.Schedules.{IsWithinLimits};
-ghost use Rattle.iloc_farm.specs.Steps.OfInput.{EndsText};
+ghost use Rattle.iloc_farm.specs.Steps.OfInput.{EndsFile, EndsText};
 ghost use Rattle.iloc_farm.specs.Steps.Reading.{HoldsItsFile};
 
 use crate::block_lists::BlockLists;
 use crate::crew::crew;
+use crate::device::read_input;
 use crate::fault::{FarmFault, RunFault};
 use crate::routine::Routine;
+use crate::stream::file_read;
 use iloc_args::Request;
 use iloc_text::laws::{files_are_within_limits, parts_are_read_apart};
 use iloc_text::{
     Blocks, IlocFile, MAX_BLOCKS, MAX_INPUT, NoMemory, ReadFault, parts_of, read_file,
 };
 use std::alloc::Global;
+use std::io::Read;
 use std::sync::Wait;
 use std::thread::Threads;
 
@@ -85,18 +88,22 @@ fn lists_of(alloc: Global, parts: Vec<PartRead<'_>>) -> Result<Option<Vec<Blocks
 }
 
 /// The blocks of the file that the text denotes, each part read by a thread of its own; or none where a part, or all
-/// together, are refused.
+/// together, are refused, or a thread can't be started.
 fn read_apart<R: Threads + Wait + Sync>(
     rt: &R,
     alloc: Global,
     text: &[u8],
     threads: usize,
-) -> Result<Option<BlockLists>, FarmFault>
+) -> Result<Option<BlockLists>, NoMemory>
     ensures { IfOk result (λ found. IfSome found (Denotes text.now)) }
 {
     parts_are_read_apart();
     let routines = routines_of(alloc, text, threads)?;
-    let parts = crew(rt, alloc, routines)?;
+    let parts = match crew(rt, alloc, routines) {
+        Ok(parts) => parts,
+        Err(FarmFault::NoThread) => return Ok(None),
+        Err(FarmFault::NoMemory) => return Err(NoMemory),
+    };
     let Some(lists) = lists_of(alloc, parts)? else {
         return Ok(None);
     };
@@ -107,17 +114,16 @@ fn read_apart<R: Threads + Wait + Sync>(
     Ok(Some(blocks))
 }
 
-/// The blocks of the file that the input denotes. As many threads read a long one as the request has workers. What is
-/// refused is read again by one thread, which finds the first fault.
-pub(crate) fn blocks_of<R: Threads + Wait + Sync>(
+/// The blocks of the file that the input denotes. As many threads read a long one as the request has workers. What they
+/// don't read is read by one thread, which finds the first fault.
+fn blocks_of<R: Threads + Wait + Sync>(
     rt: &R,
     alloc: Global,
     input: &[u8],
     request: &Request,
 ) -> Result<BlockLists, RunFault>
-    requires { request.now.task ≢ task.Check }
     ensures ok { IfOk result (λ blocks. Denotes input.now blocks × IsWithinLimits blocks) }
-    ensures err { IfErr result (EndsText request.now input.now) }
+    ensures err { IfErr result (EndsText input.now) }
 {
     files_are_within_limits();
     let threads = request.workers as usize;
@@ -128,4 +134,25 @@ pub(crate) fn blocks_of<R: Threads + Wait + Sync>(
         return Ok(blocks);
     }
     Ok(BlockLists::of_one(alloc, read_file(alloc, input)?.blocks)?)
+}
+
+/// The blocks of the file that the reader gives: read as their bytes come where the request has one worker, else from a
+/// text that is held, so that several threads can read it.
+pub(crate) fn read_blocks<H: Threads + Wait + Sync, R: Read>(
+    rt: &H,
+    alloc: Global,
+    reader: &mut R,
+    request: &Request,
+) -> Result<BlockLists, RunFault>
+    ensures ok { IfOk result (λ blocks. (input : List ℕ) ×
+        ReadsInput (R.remaining reader.old) (R.remaining reader.new) input ×
+        Denotes input blocks × IsWithinLimits blocks) }
+    ensures err { IfErr result (EndsFile (R.remaining reader.old) (R.remaining reader.new)) }
+{
+    if request.workers == 1 {
+        let file = file_read(alloc, reader)?;
+        return Ok(BlockLists::of_one(alloc, file.blocks)?);
+    }
+    let input = read_input(alloc, reader)?;
+    blocks_of(rt, alloc, &input, request)
 }

@@ -5,13 +5,14 @@ ghost use Rattle.iloc_board.specs.Views.{state};
 ghost use Rattle.iloc_board.specs.Working.{IsDone};
 
 use crate::routine::Routine;
-use iloc_board::{Board, Gate, Jobs, NoMemory, Pass, work};
+use iloc_board::{AtDesk, Board, Gate, Jobs, NoMemory, Pass, work_at};
 
-/// A pass that is to work at a board.
+/// A pass that is to work at a board, and the desk of its worker.
 #[derive(Drop)]
-pub struct Shift<'s, 'a, J: Jobs, G: Gate> {
+pub struct Shift<'s, 'a, J: AtDesk<D>, D, G: Gate> {
     pub board: &'s Board<'a, J>,
     pub pass: Pass<'a, J>,
+    pub desk: D,
     pub gate: &'s G,
 }
 
@@ -22,7 +23,7 @@ pub struct Worked<'a, J: Jobs> {
     pub done: Result<(), NoMemory>,
 }
 
-impl<'s, 'a, J: Jobs, G: Gate> Routine for Shift<'s, 'a, J, G> {
+impl<'s, 'a, J: AtDesk<D>, D: Drop, G: Gate> Routine for Shift<'s, 'a, J, D, G> {
     type Output = Worked<'a, J>;
 
     ghost can_run = { λ s. (s.pass.board ≡ s.board.now) × (state s.pass ≡ about.Free) };
@@ -33,9 +34,10 @@ impl<'s, 'a, J: Jobs, G: Gate> Routine for Shift<'s, 'a, J, G> {
         let Shift {
             board,
             mut pass,
+            mut desk,
             gate,
         } = self;
-        let done = work(board, &mut pass, gate);
+        let done = work_at(board, &mut pass, gate, &mut desk);
         Worked { pass, done }
     }
 }

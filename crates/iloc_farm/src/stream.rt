@@ -20,9 +20,10 @@ pub(crate) fn blocks_read<R: Read, T: TakeBlocks + Drop>(
 ) -> Result<T, RunFault>
     ensures ok { IfOk result (λ given. (input : List ℕ) ×
         ReadsInput (R.remaining reader.old) (R.remaining reader.new) input ×
-        (blocks : List block_value) × Denotes input blocks × T.took taker blocks given) }
+        (blocks : List block_value) × Denotes input blocks × IsWithinLimits blocks × T.took taker blocks given) }
     ensures err { IfErr result (EndsFile (R.remaining reader.old) (R.remaining reader.new)) }
 {
+    files_are_within_limits();
     Ok(read_blocks_from(alloc, reader, taker)?)
 }
 

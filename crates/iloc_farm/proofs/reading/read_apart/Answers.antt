@@ -10,7 +10,7 @@ use Rattle.iloc_farm.proofs.reading.read_apart.Goals as goal
 
 pub lists_of-requires : goal.lists_of-requires
 lists_of-requires g c =
-    routines.All-zip _ (λ part. Unit {0}) HoldsItsFile (λ part read gives any. gives.1) _ _ c.in_ok-parts.ensures
+    routines.All-zip _ (λ part. Unit {0}) HoldsItsFile (λ part read gives any. gives.1) _ _ c.in-Ok.ensures
     (λ k d below. tt)
 
 pub returns : goal.returns
@@ -18,7 +18,7 @@ returns g c =
     let lists = c.in-Some.lists.items in
     let found = rw c.in-Some.is at c.in_ok-lists.ensures in
     let texts = routines.map-zip _ (λ (part : Part). part.text.now) text_of (λ part read gives. ap (λ t. t.now) gives.0)
-    _ _ c.in_ok-parts.ensures in
+    _ _ c.in-Ok.ensures in
     let few : length (flat_map (λ own. own) lists) ≤ MAX_BLOCKS =
     omega (arith, ap length c.new-blocks.ensures, c.len.ensures, c.if-len-gt-MAX_BLOCKS.false) in
     subst (Denotes c.args.text.now) (sym c.new-blocks.ensures)

@@ -7,6 +7,6 @@ use Rattle.iloc_farm.proofs.block_jobs.BlockJobsJobs.cost.Goals as goal
 pub returns-clause-small : goal.returns-clause-small
 returns-clause-small c =
     let schedule = c.args.schedule.now in
-    let within : cycles c.args.self.now.latencies schedule.ops schedule.rows ≤ length schedule.rows + LONGEST_DELAY =
-    cycles_within c.args.self.now.latencies schedule.ops schedule.rows in
+    let within : cycles c.self.inside.latencies schedule.ops schedule.rows ≤ length schedule.rows + LONGEST_DELAY =
+    cycles_within c.self.inside.latencies schedule.ops schedule.rows in
     rw c.cycles.ensures (omega (arith, within, c.rows.ensures.few))

@@ -1,0 +1,183 @@
+-- What the commands list of a block, and that requests that ask alike list one text.
+use Rattle.std.proofs.Common.{◌≡◌, ℕ, ℤ, List, ◌++◌, Option, Result, Ok, Err, OnOk, IfOk, refl, sym, ap, ap₂, ◌∙◌, subst, append_assoc}
+use Rattle.std.specs.Prelude.{codes}
+use Rattle.iloc_ops.specs.declared.file.Block.{Block}
+use Rattle.iloc_timed.specs.declared.latencies.Latencies.{Latencies}
+use Rattle.iloc_timed.specs.Schedule.{Table}
+use Rattle.iloc_sched.specs.Greedy.{IsGreedy}
+use Rattle.iloc_explain.specs.Listing.{IsExplanation}
+use Rattle.iloc_explain.proofs.OneText.{one_explanation}
+use Rattle.iloc_meaning.specs.Memory.{words_from}
+use Rattle.iloc_meaning.specs.Outcome.{outcome, shown}
+use Rattle.iloc_timed.specs.Timed.{timed_outcome}
+use Rattle.iloc_sched.proofs.Outcome.LawfulOutcomes.{lawful_same_outcome}
+use Rattle.iloc_args.specs.declared.request.Request.{Request}
+use Rattle.iloc_args.specs.declared.request.Task.{Task}
+use Rattle.iloc_args.specs.declared.request.Task.TheVariants as task
+use Rattle.iloc_farm.specs.Commands.Counts.{IsCountEntry}
+use Rattle.iloc_farm.specs.Commands.Explain.{IsExplainEntry}
+use Rattle.iloc_farm.specs.Commands.Run.{IsRunEntry, no_ending}
+use Rattle.iloc_farm.specs.Commands.Schedule.{IsScheduleEntry}
+use Rattle.iloc_farm.specs.Commands.Simulate.{IsSimulateEntry}
+use Rattle.iloc_farm.specs.Initial.{initial_memory}
+use Rattle.iloc_farm.specs.Laws.{AskAlike, SimulatingListsRuns}
+use Rattle.iloc_farm.specs.Listing.{block_head, count_entry, count_line, cycles_of, outcome_entry, schedule_entry, schedule_lines, shown_entry, total_of_all}
+use Rattle.iloc_farm.specs.Run.{IsListingFor}
+use Rattle.iloc_farm.specs.Schedules.{IsTheGreedy}
+use Rattle.iloc_farm.specs.Steps.Listed.{Adds}
+use Rattle.iloc_farm.proofs.Entries.{listing_also, one_listing}
+use Rattle.iloc_farm.proofs.Schedules.{one_schedule}
+
+parts_joined : (text head line entry : List ℕ) → ((text ++ head) ++ line) ++ entry ≡ text ++ ((head ++ line) ++ entry)
+parts_joined text head line entry = simp append_assoc
+
+-- the schedule that was found is the one greedy schedule
+pub the_greedy : (lat : Latencies) (b : Block) (s : Table) → IsGreedy lat b.ops s.ops s.rows → IsTheGreedy lat b s
+the_greedy lat b s greedy = record { greedy = greedy; only = λ t other. one_schedule lat b.ops s t greedy other }
+
+-- what a call has appended is the entry, by the name and the words or cycles that it was handed
+
+module _ (request : Request) (k : ℕ) (b : Block) (text more : List ℕ) (name : Option (List ℕ)) (named : name ≡ b.name) where
+  pub run_listed : (words : Option (List ℤ)) → words ≡ shown (outcome b.ops (initial_memory request))
+      → more ≡ text ++ shown_entry k name words → Adds (IsRunEntry request k b) text more tt
+  run_listed words are added = record {
+    entry = outcome_entry k b.name (outcome b.ops (initial_memory request));
+    right = refl;
+    added = added ∙ ap₂ (λ n w. text ++ shown_entry k n w) named are;
+  }
+
+  module _ (s : Table) (greedy : IsGreedy request.latencies b.ops s.ops s.rows) where
+    pub simulate_listed : (words : Option (List ℤ))
+        → words ≡ shown (timed_outcome request.latencies s.ops s.rows (initial_memory request))
+        → more ≡ text ++ shown_entry k name words → Adds (IsSimulateEntry request k b) text more tt
+    simulate_listed words are added = record {
+      entry = outcome_entry k b.name (timed_outcome request.latencies s.ops s.rows (initial_memory request));
+      right = record {
+        schedule = s;
+        greedy = the_greedy request.latencies b s greedy;
+        timed = refl;
+        plain = ap (outcome_entry k b.name)
+            (lawful_same_outcome request.latencies b.ops s.ops s.rows (initial_memory request) greedy.lawful);
+      };
+      added = added ∙ ap₂ (λ n w. text ++ shown_entry k n w) named are;
+    }
+
+    module _ (cycles : ℕ) (counted : cycles ≡ cycles_of request.latencies s) where
+      pub schedule_listed : (shown : ℕ) → shown ≡ cycles → more ≡ text ++ schedule_lines k name s shown
+          → Adds (IsScheduleEntry request k b) text more cycles
+      schedule_listed shown same added = record {
+        entry = schedule_entry request.latencies k b.name s;
+        right = record {
+          schedule = s;
+          greedy = the_greedy request.latencies b s greedy;
+          listed = refl;
+          counted = counted;
+        };
+        added = added ∙ ap₂ (λ n c. text ++ schedule_lines k n s c) named (same ∙ counted);
+      }
+
+      pub count_listed : (shown : ℕ) → shown ≡ cycles → more ≡ text ++ count_line k name shown
+          → Adds (IsCountEntry request k b) text more cycles
+      count_listed shown same added = record {
+        entry = count_entry request.latencies k b.name s;
+        right = record {
+          schedule = s;
+          greedy = the_greedy request.latencies b s greedy;
+          listed = refl;
+          counted = counted;
+        };
+        added = added ∙ ap₂ (λ n c. text ++ count_line k n c) named (same ∙ counted);
+      }
+
+      pub explain_listed : (explanation : List ℕ) → IsExplanation request.latencies b.ops s.ops s.rows explanation
+          → more ≡ ((text ++ block_head k name) ++ codes "\n") ++ explanation
+          → Adds (IsExplainEntry request k b) text more cycles
+      explain_listed explanation explains added = record {
+        entry = block_head k b.name ++ codes "\n" ++ explanation;
+        right = record {
+          schedule = s;
+          greedy = the_greedy request.latencies b s greedy;
+          text = explanation;
+          explains = explains;
+          listed = refl;
+          counted = counted;
+        };
+        added = added ∙ (ap (λ n. ((text ++ block_head k n) ++ codes "\n") ++ explanation) named
+            ∙ parts_joined text (block_head k b.name) (codes "\n") explanation);
+      }
+
+-- what holds at `Ok` holds of what is answered
+pub if_ok : {T E P : Type 0} (Q : T → Type 0) (result : Result T E) → ((x : T) → P → Q x) → OnOk result P → IfOk result Q
+if_ok Q (Ok x) f p = f x p
+if_ok Q (Err e) f p = tt
+
+-- one text
+
+pub one_memory : (r q : Request) → AskAlike r q → initial_memory r ≡ initial_memory q
+one_memory r q alike = ap (λ at. words_from at r.words.items) alike.at ∙ ap (λ ws. words_from q.at ws) alike.words
+
+module _ (r q : Request) (alike : AskAlike r q) (k : ℕ) (b : Block) where
+  run_same : (e e' : List ℕ) (f f' : Unit {0}) → IsRunEntry r k b e f → IsRunEntry q k b e' f' → (e ≡ e') × (f ≡ f')
+  run_same e e' f f' is is' =
+      (is ∙ (ap (λ m. outcome_entry k b.name (outcome b.ops m)) (one_memory r q alike) ∙ sym is'), refl)
+
+  -- a schedule that is the greedy one for the one request is so for the other
+  same_schedule : (s s' : Table) → IsTheGreedy r.latencies b s → IsTheGreedy q.latencies b s' → s ≡ s'
+  same_schedule s s' is is' =
+      let P : Latencies → Type 0 = λ lat. IsTheGreedy lat b s in
+      let moved : IsTheGreedy q.latencies b s = subst P alike.latencies is in
+      is'.only s moved.greedy
+
+  cycles_same : (s s' : Table) (c c' : ℕ) → s ≡ s' → c ≡ cycles_of r.latencies s → c' ≡ cycles_of q.latencies s' → c ≡ c'
+  cycles_same s s' c c' same is is' =
+      is ∙ (ap (λ lat. cycles_of lat s) alike.latencies ∙ (ap (cycles_of q.latencies) same ∙ sym is'))
+
+  schedule_same : (e e' : List ℕ) (c c' : ℕ) → IsScheduleEntry r k b e c → IsScheduleEntry q k b e' c'
+      → (e ≡ e') × (c ≡ c')
+  schedule_same e e' c c' is is' =
+      let same = same_schedule is.schedule is'.schedule is.greedy is'.greedy in (
+        is.listed ∙ (ap (λ lat. schedule_entry lat k b.name is.schedule) alike.latencies
+            ∙ (ap (schedule_entry q.latencies k b.name) same ∙ sym is'.listed)),
+        cycles_same is.schedule is'.schedule c c' same is.counted is'.counted,
+      )
+
+  count_same : (e e' : List ℕ) (c c' : ℕ) → IsCountEntry r k b e c → IsCountEntry q k b e' c' → (e ≡ e') × (c ≡ c')
+  count_same e e' c c' is is' =
+      let same = same_schedule is.schedule is'.schedule is.greedy is'.greedy in (
+        is.listed ∙ (ap (λ lat. count_entry lat k b.name is.schedule) alike.latencies
+            ∙ (ap (count_entry q.latencies k b.name) same ∙ sym is'.listed)),
+        cycles_same is.schedule is'.schedule c c' same is.counted is'.counted,
+      )
+
+  explain_same : (e e' : List ℕ) (c c' : ℕ) → IsExplainEntry r k b e c → IsExplainEntry q k b e' c'
+      → (e ≡ e') × (c ≡ c')
+  explain_same e e' c c' is is' =
+      let same = same_schedule is.schedule is'.schedule is.greedy is'.greedy in
+      let P : Latencies → Type 0 = λ lat. IsExplanation lat b.ops is.schedule.ops is.schedule.rows is.text in
+      let Q : Table → Type 0 = λ s. IsExplanation q.latencies b.ops s.ops s.rows is.text in
+      let text : is.text ≡ is'.text =
+      one_explanation q.latencies b.ops is'.schedule.ops is'.schedule.rows is.text is'.text
+      (subst Q same (subst P alike.latencies is.explains)) is'.explains in (
+        is.listed ∙ (ap (λ t. block_head k b.name ++ codes "\n" ++ t) text ∙ sym is'.listed),
+        cycles_same is.schedule is'.schedule c c' same is.counted is'.counted,
+      )
+
+pub of_one_task : (t : Task) (r q : Request) → AskAlike r q → (blocks : List Block) (text text' : List ℕ)
+    → IsListingFor t r blocks text → IsListingFor t q blocks text' → text ≡ text'
+of_one_task task.Run r q alike blocks text text' lists lists' =
+    one_listing (IsRunEntry r) (IsRunEntry q) (run_same r q alike) no_ending blocks text text' lists lists'
+of_one_task task.Simulate r q alike blocks text text' lists lists' =
+    one_listing (IsSimulateEntry r) (IsSimulateEntry q)
+    (λ k b e e' f f' is is'. run_same r q alike k b e e' f f' is.plain is'.plain) no_ending blocks text text' lists lists'
+of_one_task task.Schedule r q alike blocks text text' lists lists' =
+    one_listing (IsScheduleEntry r) (IsScheduleEntry q) (schedule_same r q alike) total_of_all blocks text text'
+    lists lists'
+of_one_task task.Counts r q alike blocks text text' lists lists' =
+    one_listing (IsCountEntry r) (IsCountEntry q) (count_same r q alike) total_of_all blocks text text' lists lists'
+of_one_task task.Explain r q alike blocks text text' lists lists' =
+    one_listing (IsExplainEntry r) (IsExplainEntry q) (explain_same r q alike) total_of_all blocks text text' lists lists'
+of_one_task task.Check r q alike blocks text text' lists lists' = absurd lists
+
+pub simulating_lists_runs : SimulatingListsRuns
+simulating_lists_runs request blocks text is =
+    listing_also (IsSimulateEntry request) (IsRunEntry request) (λ k b e f entry. entry.plain) no_ending blocks text is

@@ -1,0 +1,7 @@
+-- What each command lists.
+pub mod Run
+pub mod Simulate
+pub mod Schedule
+pub mod Counts
+pub mod Explain
+pub mod Check

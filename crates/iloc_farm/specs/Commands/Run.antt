@@ -1,0 +1,16 @@
+-- `run` lists what comes of each block, one operation after another.
+use Rattle.std.specs.Prelude.{◌≡◌, ℕ, List, []}
+use Rattle.iloc_ops.specs.declared.file.Block.{Block}
+use Rattle.iloc_meaning.specs.Outcome.{outcome}
+use Rattle.iloc_args.specs.declared.request.Request.{Request}
+use Rattle.iloc_farm.specs.Initial.{initial_memory}
+use Rattle.iloc_farm.specs.Listing.{outcome_entry}
+
+-- The entry of block k: its number and its name, and what it emits on the request's memory, or that it faults. No more is
+-- found of it.
+abbrev pub IsRunEntry : Request → ℕ → Block → List ℕ → Unit {0} → Type 0
+IsRunEntry request k b entry found = entry ≡ outcome_entry k b.name (outcome b.ops (initial_memory request))
+
+-- there is no ending
+abbrev pub no_ending : List (Unit {0}) → List ℕ
+no_ending found = []

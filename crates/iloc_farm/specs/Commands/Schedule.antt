@@ -1,0 +1,14 @@
+-- `schedule` lists each block's schedule.
+use Rattle.std.specs.Prelude.{◌≡◌, ℕ, List}
+use Rattle.iloc_ops.specs.declared.file.Block.{Block}
+use Rattle.iloc_timed.specs.Schedule.{Table}
+use Rattle.iloc_args.specs.declared.request.Request.{Request}
+use Rattle.iloc_farm.specs.Listing.{cycles_of, schedule_entry}
+use Rattle.iloc_farm.specs.Schedules.{IsTheGreedy}
+
+-- the entry of block k: its greedy schedule, a line for each row, and its cycles, which are found
+pub record IsScheduleEntry (request : Request) (k : ℕ) (b : Block) (entry : List ℕ) (cycles : ℕ) : Type 0 where
+  pub schedule : Table
+  pub greedy : IsTheGreedy request.latencies b schedule
+  pub listed : entry ≡ schedule_entry request.latencies k b.name schedule
+  pub counted : cycles ≡ cycles_of request.latencies schedule

@@ -1,0 +1,99 @@
+//! `check`: what is said of the schedules that others proposed for blocks.
+ghost use Rattle.std.specs.Prelude.{◌≡◌, ◌≢◌, IfErr, IfOk};
+ghost use Rattle.iloc_rows.specs.Laws.{AreWithinLimits};
+ghost use Rattle.iloc_rows.specs.Submissions as submissions;
+ghost use Rattle.iloc_rows.specs.declared.fault.RowsFault.TheVariants.{Read as read};
+ghost use Rattle.iloc_text.specs.declared.fault.ReadFault.TheVariants.{NoMemory as no_memory};
+ghost use Rattle.iloc_args.specs.declared.request.Task.TheVariants as task;
+ghost use Rattle.iloc_farm.specs.Commands.Check.{ListsChecked};
+ghost use Rattle.iloc_farm.specs.Run.{Lists};
+ghost use Rattle.iloc_farm.specs.Steps.OfInput.{EndsReading};
+
+use crate::commands::Listed;
+use crate::commands::totals::Totals;
+use crate::device::read_input;
+use crate::fault::RunFault;
+use crate::finding::Finding;
+use crate::initial::initial_memory;
+use crate::listing::push_block_head;
+use crate::pieces::Pieces;
+use iloc_args::Request;
+use iloc_check::push_check;
+use iloc_meaning::Memory;
+use iloc_rows::laws::submissions_are_within_limits;
+use iloc_rows::{RowsFault, Submission, read_submission};
+use iloc_sched::Scheduler;
+use iloc_text::NoMemory;
+use iloc_timed::{Latencies, MAX_ROWS};
+use std::alloc::Global;
+use std::io::Read;
+
+/// What is said of the proposals for some blocks.
+#[derive(Debug, Drop)]
+struct CheckedText {
+    text: Vec<u8>,
+    /// Whether each was found to be the same as its block.
+    finding: Finding,
+}
+
+/// The blocks and proposals that the input denotes; the input is let go.
+fn submission_of(alloc: Global, input: Vec<u8>) -> Result<Submission, RowsFault>
+    ensures ok { IfOk result (λ found. submissions.Denotes input.items found.blocks found.proposals
+        × AreWithinLimits found.blocks found.proposals) }
+    ensures err { IfErr result (λ fault.
+        fault ≢ read no_memory → submissions.IsRefused input.items fault) }
+{
+    submissions_are_within_limits();
+    read_submission(alloc, &input)
+}
+
+/// The listing of what is said of each proposal beside the greedy schedule of its block, on this memory and, where it
+/// is the same, on every other; and at the end the cycles of all. Our schedule is let go as soon as it is compared.
+fn checked_text(
+    alloc: Global,
+    submission: Submission,
+    latencies: &Latencies,
+    memory: &Memory,
+) -> Result<CheckedText, NoMemory>
+    requires { AreWithinLimits submission.blocks submission.proposals }
+    ensures { IfOk result (λ found. ListsChecked latencies.now memory.now
+        submission.blocks submission.proposals found.finding found.text.items) }
+{
+    let Submission { blocks, proposals } = submission;
+    let mut scheduler = Scheduler::new(alloc);
+    let mut text = Vec::new(alloc);
+    let mut totals = Totals::none();
+    for proposal in proposals.into_vec() {
+        let block = &blocks.as_slice()[totals.blocks];
+        let ours = scheduler.schedule(block, latencies)?;
+        prove!(proposal.rows.as_slice().len() <= MAX_ROWS);
+        push_block_head(&mut text, totals.blocks + 1, block.name.as_ref())?;
+        let checked = push_check(alloc, &mut text, block, &ours, proposal, latencies, memory)?;
+        totals.add(&checked);
+    }
+    totals.push_line(&mut text)?;
+    Ok(CheckedText {
+        text,
+        finding: Finding::of(totals.all_same),
+    })
+}
+
+/// What is said of the rows that an input proposes for its blocks.
+pub(crate) fn checked<R: Read>(
+    alloc: Global,
+    reader: &mut R,
+    request: &Request,
+) -> Result<Listed, RunFault>
+    requires { request.now.task ≡ task.Check }
+    ensures ok { IfOk result (λ listed.
+        Lists request.now (R.remaining reader.old) (R.remaining reader.new) listed.finding listed.text) }
+    ensures err { IfErr result (EndsReading request.now (R.remaining reader.old) (R.remaining reader.new)) }
+{
+    let submission = submission_of(alloc, read_input(alloc, reader)?)?;
+    let memory = initial_memory(alloc, request)?;
+    let checked = checked_text(alloc, submission, &request.latencies, &memory)?;
+    Ok(Listed {
+        text: Pieces::new(alloc, checked.text),
+        finding: checked.finding,
+    })
+}

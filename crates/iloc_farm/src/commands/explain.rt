@@ -1,0 +1,51 @@
+//! `explain`: why blocks' schedules take their cycles.
+use crate::lister::Lister;
+use crate::listing::{count_of, push_block_head, push_total_of};
+use iloc_args::Request;
+use iloc_explain::push_explanation;
+use iloc_sched::Scheduler;
+use iloc_text::{Block, NoMemory};
+use std::alloc::Global;
+
+/// Schedules each block, and lists why its schedule takes its cycles.
+#[derive(Drop)]
+pub(crate) struct ExplainLister(Scheduler);
+
+impl Lister for ExplainLister {
+    ghost use Rattle.iloc_farm.specs.Commands.Explain.{IsExplainEntry};
+    ghost use Rattle.iloc_farm.specs.Initial.{initial_memory};
+    ghost use Rattle.iloc_farm.specs.Listing.{total_of_all};
+
+    type Found = u32;
+
+    ghost lists = { IsExplainEntry };
+
+    ghost ending = { total_of_all };
+
+    ghost memory = { λ request _. initial_memory request };
+
+    fn new(alloc: Global, _request: &Request) -> Result<ExplainLister, NoMemory> {
+        Ok(ExplainLister(Scheduler::new(alloc)))
+    }
+
+    fn list(
+        &mut self,
+        alloc: Global,
+        request: &Request,
+        number: usize,
+        block: &Block,
+        text: &mut Vec<u8>,
+    ) -> Result<u32, NoMemory> {
+        let schedule = self.0.lend(block, &request.latencies)?;
+        let cycles = count_of(&schedule, &request.latencies);
+        push_block_head(text, number, block.name.as_ref())?;
+        text.push(b'\n')?;
+        push_explanation(alloc, text, block, &schedule, &request.latencies)?;
+        self.0.take_back(schedule);
+        Ok(cycles)
+    }
+
+    fn push_ending(text: &mut Vec<u8>, found: &[u32]) -> Result<(), NoMemory> {
+        push_total_of(text, found)
+    }
+}

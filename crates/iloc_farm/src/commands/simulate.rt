@@ -1,0 +1,55 @@
+//! `simulate`: what comes of blocks' schedules on the timed machine.
+use crate::initial::initial_memory;
+use crate::lister::Lister;
+use crate::listing::push_outcome;
+use iloc_args::Request;
+use iloc_sched::Scheduler;
+use iloc_text::{Block, NoMemory};
+use iloc_timed::Simulator;
+use std::alloc::Global;
+
+/// Runs each block's schedule, and lists what comes of it.
+#[derive(Drop)]
+pub(crate) struct SimulateLister {
+    scheduler: Scheduler,
+    simulator: Simulator,
+}
+
+impl Lister for SimulateLister {
+    ghost use Rattle.iloc_farm.specs.Commands.Run.{no_ending};
+    ghost use Rattle.iloc_farm.specs.Commands.Simulate.{IsSimulateEntry};
+
+    type Found = ();
+
+    ghost lists = { IsSimulateEntry };
+
+    ghost ending = { no_ending };
+
+    ghost memory = { λ _ lister. lister.simulator.memory };
+
+    fn new(alloc: Global, request: &Request) -> Result<SimulateLister, NoMemory> {
+        let memory = initial_memory(alloc, request)?;
+        Ok(SimulateLister {
+            scheduler: Scheduler::new(alloc),
+            simulator: Simulator::new(alloc, memory)?,
+        })
+    }
+
+    fn list(
+        &mut self,
+        _alloc: Global,
+        request: &Request,
+        number: usize,
+        block: &Block,
+        text: &mut Vec<u8>,
+    ) -> Result<(), NoMemory> {
+        let schedule = self.scheduler.lend(block, &request.latencies)?;
+        self.simulator.run(&schedule, &request.latencies)?;
+        self.scheduler.take_back(schedule);
+        push_outcome(text, number, block.name.as_ref(), self.simulator.outputs())
+    }
+
+    fn push_ending(_text: &mut Vec<u8>, _found: &[()]) -> Result<(), NoMemory> {
+        Ok(())
+    }
+}

@@ -1,0 +1,123 @@
+//! The workers of a board, each a thread.
+ghost use Rattle.std.specs.Prelude.{◌≡◌, ◌<◌, [], ◌∷◌, ◌++◌, length, IfOk, OnOk, map};
+ghost use Rattle.std.specs.List.{All, range_with_len};
+ghost use Rattle.iloc_board.specs.declared.state.State.TheVariants as about;
+ghost use Rattle.iloc_board.specs.Views.{state};
+ghost use Rattle.iloc_board.specs.Working.{IsDone};
+ghost use Rattle.iloc_board.specs.Collecting.{IsWhole, workers_of};
+
+use crate::crew::crew;
+use crate::fault::FarmFault;
+use crate::shift::{Shift, Worked};
+use iloc_board::{AtDesk, Board, Gate, Jobs, NoMemory, Root};
+use std::alloc::Global;
+use std::sync::Wait;
+use std::thread::Threads;
+
+/// Has all jobs of a new board done by as many workers as its root may make: a pass is made for each, with one of these
+/// desks, all work at once on a thread each, and all are gathered.
+///
+/// # Errors
+///
+/// `NoThread` where a thread could not be started, `NoMemory` where a growth was refused. After
+/// either every thread that was started has ended.
+pub fn work_all<'a, J: AtDesk<D> + Sync, D: Send + Drop, G: Gate + Sync, R: Threads + Wait + Sync>(
+    rt: &R,
+    alloc: Global,
+    board: &Board<'a, J>,
+    root: &mut Root<'a, J>,
+    desks: Vec<D>,
+    gate: &G,
+) -> Result<(), FarmFault>
+where
+    J::Answer: Send,
+    requires own { root.old.board ≡ board.now }
+    requires some { 0 < root.old.workers }
+    requires each { length desks.items ≡ root.old.workers }
+    requires none_made { root.old.made ≡ 0 }
+    requires none_gathered { root.old.gathered ≡ [] }
+    ensures own { root.new.board ≡ board.now }
+    ensures made { OnOk result (root.new.made ≡ root.old.workers) }
+    ensures journals { OnOk result (workers_of root.new.gathered ≡ range_with_len 0 root.old.workers) }
+    ensures done { OnOk result (All IsDone root.new.gathered) }
+    ensures whole { OnOk result (IsWhole root.new.made root.new.gathered) }
+{
+    let shifts = shifts(alloc, board, root, desks, gate)?;
+    let worked = crew(rt, alloc, shifts)?;
+    Ok(gather_all(board, root, worked)?)
+}
+
+/// A shift at each of these desks, for each pass that the root may make.
+fn shifts<'s, 'a, J: AtDesk<D>, D: Drop, G: Gate>(
+    alloc: Global,
+    board: &'s Board<'a, J>,
+    root: &mut Root<'a, J>,
+    desks: Vec<D>,
+    gate: &'s G,
+) -> Result<Vec<Shift<'s, 'a, J, D, G>>, NoMemory>
+    requires own { root.old.board ≡ board.now }
+    requires each { length desks.items ≡ root.old.workers }
+    requires none_made { root.old.made ≡ 0 }
+    requires none_gathered { root.old.gathered ≡ [] }
+    ensures own { root.new.board ≡ board.now }
+    ensures gathered { root.new.gathered ≡ [] }
+    ensures ready { IfOk result (λ made.
+        All (λ s. (s.pass.board ≡ s.board.now) × (s.board.now ≡ board.now) × (state s.pass ≡ about.Free)) made.items) }
+    ensures numbered { IfOk result (λ made.
+        map (λ s. s.pass.journal.worker) made.items ≡ range_with_len 0 root.new.made) }
+    ensures all { OnOk result (root.new.made ≡ root.old.workers) }
+{
+    let mut made = Vec::new(alloc);
+    for desk in desks {
+        let pass = board.pass(root);
+        made.push(Shift {
+            board,
+            pass,
+            desk,
+            gate,
+        })?;
+    }
+    Ok(made)
+}
+
+/// Gathers a pass that has worked, and tells whether memory sufficed for its work and for the gathering.
+fn gather_one<'a, J: Jobs>(
+    board: &Board<'a, J>,
+    root: &mut Root<'a, J>,
+    worked: Worked<'a, J>,
+) -> Result<(), NoMemory>
+    requires root { root.old.board ≡ board.now }
+    requires pass { worked.pass.board ≡ board.now }
+    requires done { OnOk worked.done (IsDone worked.pass.journal) }
+    ensures own { root.new.board ≡ board.now }
+    ensures made { root.new.made ≡ root.old.made }
+    ensures ok { OnOk result ((root.new.gathered ≡ root.old.gathered ++ worked.entry.pass.journal ∷ [])
+        × IsDone worked.entry.pass.journal) }
+{
+    let Worked { pass, done } = worked;
+    board.gather(root, pass)?;
+    done
+}
+
+/// Gathers every pass, and then tells whether memory sufficed for all of them.
+fn gather_all<'a, J: Jobs>(
+    board: &Board<'a, J>,
+    root: &mut Root<'a, J>,
+    worked: Vec<Worked<'a, J>>,
+) -> Result<(), NoMemory>
+    requires root { root.old.board ≡ board.now }
+    requires each { All (λ w. (w.pass.board ≡ board.now) × OnOk w.done (IsDone w.pass.journal)) worked.items }
+    ensures own { root.new.board ≡ board.now }
+    ensures made { root.new.made ≡ root.old.made }
+    ensures gathered { OnOk result
+        (root.new.gathered ≡ root.old.gathered ++ map (λ w. w.pass.journal) worked.entry.items) }
+    ensures done { OnOk result (All (λ w. IsDone w.pass.journal) worked.entry.items) }
+{
+    let mut all = Ok(());
+    for shift in worked {
+        if let Err(refused) = gather_one(board, root, shift) {
+            all = Err(refused);
+        }
+    }
+    all
+}
