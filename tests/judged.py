@@ -133,11 +133,8 @@ LISTED = {
                "block 2 b same cycles 0 ours 0 least 0"),
     "no_row_and_a_total": ("a:\nb: nop\ntotal 0\n", "block 1 a same cycles 0 ours 0 least 0",
                            "block 2 b same cycles 0 ours 0 least 0"),
-    "nothing": ("",),
-    "total_alone": ("total 0\n",),
-    "comment_and_a_total": ("// none\n\ntotal 7 // seven",),
-    "blanks_and_comments": ("output 0\r\n\tcycles\t05 // claimed\r\n// \x00\xff\n\n [\toutput 00 ;nop\r]//\r\n"
-                            "[nop;\rnop\t]\r\n block 1 -//\ncycles 1\n[ nop ; add r1,r02 =>r3 ]\n\n",
+    "blanks_and_comments": ("output 0\r\n block 1 -//\n\tcycles\t05 // claimed\r\n// \x00\xff\n\n [\toutput 00 ;nop\r]//\r\n"
+                            "[nop;\rnop\t]\r\ncycles 1\n[ nop ; add r1,r02 =>r3 ]\n\n",
                             "block 1 - same cycles 3 ours 1 least 1 claimed 1"),
     "blanks_in_a_row_that_is_shown": ("nop\n [\tmult r1,r02 =>r3;nop\r]//\r\n",
                                       "block 1 - units cycles 3 ours 0 least 0\n  row 1: [ mult r1, r2 => r3 ; nop ]"),
@@ -162,6 +159,7 @@ NO_BLOCK = ["a:\nb:\n[ nop ; nop ]", "a:\nb:\ncycles 0", "a:\n[ nop ; nop ]\nblo
             "a:\nb:\nblock 3 c", "a:\nb:\nblock 1 b", "a:\nb:\nblock 1 -", "nop\nb:\nblock 1 a",
             "a:\nblock 1 a\nblock 1 a", "a:\nb:\nblock 2147483647 a", "a:\nb:\nblock 1 A", "a:\nb:\nblock 1 ab"]
 BAD, LARGE, NONE = "not understood", "number above 2147483647", "no such block"
+NOTHING_TO_JUDGE = ["", "\n", "// none", "total 0\n", "// none\n\ntotal 7 // seven", "[ nop ; nop ]", "block 1 a\ncycles 0"]
 # The text, the line of its earliest fault, and the fault.
 EARLIEST = [("a:\nb:\nblock 2 b\n[ nop ; nop ]\nblock 1 a", 5, NONE), ("add r1 r2 => r3\n[ nop ; nop ]\nfoo", 1, BAD),
             ("a:\nfoo\nblock 2 a\n", 2, BAD), ("a:\ncycles 1\nfoo\ncycles 99999999999", 3, BAD),
@@ -225,6 +223,8 @@ def refusals():
         yield refused(f"too_large: {line}", f"a:\n{line}", f"line 2: {LARGE}")
     for text in NO_BLOCK:
         yield refused(f"no_block: {text!r}", text, f"line 3: {NONE}")
+    for text in NOTHING_TO_JUDGE:
+        yield refused(f"no_blocks: {text!r}", text, "no blocks")
     for text, line, fault in EARLIEST:
         yield refused(f"earliest: {text!r}", text, f"line {line}: {fault}")
 
@@ -244,5 +244,5 @@ def at_the_limits():
     claims = [f"block {k} A same cycles 0 ours 0 least 0 claimed {k}" for k in range(1, MOST_BLOCKS + 1)]
     yield listed("most_heads", heads, *claims)
     yield refused("one_head_too_many", heads + "block 65535 A", f"line 196606: {NONE}")
-    yield listed("longest_text", "\n" * MOST_BYTES)
+    yield listed("longest_text", "nop" + "\n" * (MOST_BYTES - 3), "block 1 - same cycles 0 ours 0 least 0")
     yield refused("one_byte_too_many", "\n" * MOST_BYTES + "[", f"input longer than {MOST_BYTES} bytes")
