@@ -130,7 +130,7 @@ def completes_in_fish(place):
 
 def tells_that_it_reads_a_terminal(place):
     """A command that reads blocks says so on a terminal, and no other, nor one that is refused."""
-    for words, is_told in ((["run"], True), (["check", "3"], True), (["run", "--help"], False), (["--version"], False),
+    for words, is_told in ((["run"], True), (["simulate", "3"], True), (["run", "--help"], False), (["--version"], False),
                            (["help", "run"], False), (["run", "x"], False)):
         with terminal() as (screen, slave):
             screen.type("\x04")
