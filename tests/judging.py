@@ -217,7 +217,7 @@ def judging_checks(place):
 
 def stored_texts():
     for case in stored.stored_cases():
-        if case.words == ["run"] and case.status == 0:
+        if case.words == ["run"] and case.status == 0 and case.out:
             for latencies in EACH_LATENCIES.values():
                 yield latencies, case.given
 

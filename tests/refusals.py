@@ -1,7 +1,8 @@
 """Growths of memory and threads that are refused, one at a time or from one on (refuse.c).
 
 A refusal ends the program with status 3, one line that says of what, and nothing written. A thread that is refused,
-or a growth that the C library asks for while it starts one, is a worker that could not be started; a growth that the
+or a growth that the C library asks for while it starts one, is a worker that could not be started, but for a thread
+that reads: without it one thread reads the whole text, and all ends as always. A growth that the
 program asks for is want of memory, or, before the last worker is started, may belong to a start. With several workers
 the growths come in another order each time, and each run is judged by what was refused in it.
 
@@ -29,7 +30,7 @@ NOTHING, GROWTH, GROWTH_OF_A_START, THREAD = range(4)
 # Lists that are collected from an iterator: the library asks for the whole room at once, and where that is refused it
 # takes room as the items come. So nothing is lost, and the next refusal is told.
 DOES_WITHOUT = {
-    "iloc_farm::program::run_program": "the words behind the program's name",
+    "+threads::entry": "the words after the program's name, in run_program, which is inlined into main",
     "iloc_sched::priority::priorities": "the priorities that are answered",
     "iloc_judge::refutation::refute": "the words of a memory that is made up",
 }
@@ -52,6 +53,7 @@ class Run:
     name: str
     given: bytes
     workers: int = 0    # the threads that a whole run starts
+    readers: int = 0    # of which so many read, before the others work
 
     def __str__(self):
         return f"{' '.join(self.words) or '(no word)'}, {self.name}"
@@ -86,7 +88,7 @@ class Symbols:
     def place(self, address):
         """The function that an address lies in, without the numbers of its instance, and how far behind its start."""
         start, name = self.functions[bisect.bisect(self.functions, (address, "\x7f")) - 1]
-        return re.sub(r"(::<#[0-9a-f]+>)?(\+.*)?$", "", name), address - start
+        return re.fullmatch(r"(.+?)(::<#[0-9a-f]+>)?(\+.*)?", name)[1], address - start
 
     def asker(self, report):
         """Who asked for the growth that was refused: the innermost call that isn't a list's own."""
@@ -119,7 +121,8 @@ class Tally:
         if report.refused == NOTHING:
             return [self.whole]
         if report.refused in (GROWTH_OF_A_START, THREAD):
-            return [NO_WORKER]
+            is_reader = report.started_before < self.run.readers
+            return [self.whole] if is_reader and not goes_on else [NO_WORKER, *[NO_MEMORY] * is_reader]
         is_starting = report.started_before < self.run.workers and (goes_on or not report.by_worker)
         return [NO_MEMORY, *[NO_WORKER] * is_starting, *[self.whole] * (not goes_on)]
 
@@ -179,7 +182,7 @@ def few_runs():
 
 def long_runs():
     for command in ("schedule", "counts"):
-        yield Run([command, "--workers", "2"], "a long text", long_text(), 4)
+        yield Run([command, "--workers", "2"], "a long text", long_text(), 4, 2)
 
 
 def refusal_checks(place):

@@ -1,9 +1,9 @@
 //! Why each operation of a schedule is issued when it is, and why no schedule of the block could be much shorter.
 
+use crate::bound::Bound;
 use crate::digits;
 use crate::graph::Graph;
 use crate::operation::Operation;
-use crate::ready::Class;
 use crate::scheduler::{Schedule, NONE};
 
 /// Explains one block at a time, and keeps its tables from block to block.
@@ -13,8 +13,7 @@ pub struct Explainer {
     places: Vec<u32>,
     /// The operations for which one waited.
     waited: Vec<u32>,
-    /// By class, and at the end of all operations: priorities.
-    priorities: [Vec<u32>; 5],
+    bound: Bound,
 }
 
 impl Explainer {
@@ -32,7 +31,7 @@ impl Explainer {
             listing.push(b'\n');
         }
         push(listing, b"cycles ", schedule.cycles);
-        push(listing, b" least ", self.least(schedule.graph));
+        push(listing, b" least ", self.bound.least(schedule.graph, schedule.cycles));
         push_chain(schedule.graph, listing);
     }
 
@@ -77,23 +76,6 @@ impl Explainer {
         push(listing, b" priority ", node.priority);
         listing.push(b' ');
     }
-
-    /// The greatest sum of the row that an operation's rank gives it and its priority, in each class and in all.
-    fn least(&mut self, graph: &Graph) -> u32 {
-        self.priorities.iter_mut().for_each(Vec::clear);
-        for node in &graph.nodes {
-            self.priorities[Class::of(node.kind) as usize].push(node.priority);
-            self.priorities[4].push(node.priority);
-        }
-        let widths = [1, 1, 1, 2, 2];
-        let bounds = self.priorities.iter_mut().zip(widths).map(|(priorities, width)| bound(priorities, width));
-        bounds.max().unwrap_or(0)
-    }
-}
-
-fn bound(priorities: &mut [u32], width: u32) -> u32 {
-    priorities.sort_unstable_by(|a, b| b.cmp(a));
-    (0..).zip(priorities).map(|(rank, priority): (u32, _)| rank / width + *priority).max().unwrap_or(0)
 }
 
 /// Lists a longest chain of delays: the first operation of the greatest priority, and each time the first one that

@@ -1,6 +1,7 @@
 //! What `ilocfarm` does on one worker, with the usual latencies and a memory of zeros, in plain Rust: the program that
 //! `bench/run` measures ilocfarm against. Its one argument is the command.
 
+mod bound;
 mod digits;
 mod explain;
 mod fault;
