@@ -1,3 +1,4 @@
 mod delay_pairs;
+mod heuristics;
 mod priority;
 mod refusals;

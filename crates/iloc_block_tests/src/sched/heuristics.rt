@@ -1,0 +1,45 @@
+//! Schedules by other priorities than the longest chains.
+use crate::written::{USUAL, block_of, latencies};
+use iloc_sched::{Heuristic, Scheduler, least, rename, schedule_by};
+use iloc_timed::cycles;
+use std::test::Fail;
+
+/// The inner product of two vectors of three words.
+const DOT: &[u8] =
+    b"loadI 1024 => r0\nloadI 1036 => r1\nloadI 4 => r9\nload r0 => r2\nload r1 => r3\n\
+    mult r2, r3 => r4\nadd r0, r9 => r0\nadd r1, r9 => r1\nload r0 => r2\nload r1 => r3\nmult r2, r3 => r5\n\
+    add r4, r5 => r4\nadd r0, r9 => r0\nadd r1, r9 => r1\nload r0 => r2\nload r1 => r3\nmult r2, r3 => r5\n\
+    add r4, r5 => r4\nloadI 1048 => r8\nstore r4 => r8\noutput 1048\n";
+
+/// The cycles of its schedules.
+const CYCLES: &[(Heuristic, u64)] = &[
+    (Heuristic::Chain, 22),
+    (Heuristic::Order, 21),
+    (Heuristic::Latency, 21),
+    (Heuristic::Slack, 23),
+    (Heuristic::Descendants, 22),
+];
+
+#[test]
+fn ranks_by_each_heuristic(rt: HostRuntime) -> Result<(), Fail> {
+    let block = block_of(rt.alloc(), DOT)?;
+    let times = latencies(USUAL)?;
+    let mut scheduler = Scheduler::new(rt.alloc());
+    for (heuristic, wanted) in CYCLES {
+        let schedule = scheduler.schedule_as(&block, &times, *heuristic)?;
+        assert!(rt; cycles(&schedule, &times) == *wanted, "{heuristic:?}");
+    }
+    Ok(())
+}
+
+#[test]
+fn ranks_by_priorities_that_are_brought(rt: HostRuntime) -> Result<(), Fail> {
+    let block = block_of(rt.alloc(), DOT)?;
+    let times = latencies(USUAL)?;
+    let ops = rename(rt.alloc(), &block)?;
+    let equal = vec![in rt.alloc(); 1; ops.len()]?;
+    let schedule = schedule_by(rt.alloc(), &block, &times, &equal)?;
+    assert!(rt; cycles(&schedule, &times) == 21);
+    assert!(rt; least(rt.alloc(), &block, &times)? == 21);
+    Ok(())
+}
