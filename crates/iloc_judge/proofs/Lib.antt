@@ -1,12 +1,6 @@
-pub mod Lists
-pub mod Nodes
-pub mod Arithmetic
-pub mod Products
-pub mod Epochs
-pub mod Tracking
-pub mod Rows
-pub mod Marks
-pub mod Meanings
-pub mod Ending
+pub mod Terms
+pub mod Runs
 pub mod Places
 pub mod SameLists
+pub mod Sameness
+pub mod Counted

@@ -2,7 +2,7 @@
 use Rattle.std.specs.Prelude.{◌≡◌, List, All, length, ℤ, FitsSigned}
 use Rattle.std.specs.Int.{w32}
 use Rattle.iloc_meaning.specs.Memory.{WORDS, words_from}
-use Rattle.iloc_judge.specs.declared.probe.Probe.{Probe}
+use Rattle.iloc_judge.specs.declared.refutation.probe.Probe.{Probe}
 
 -- 16,384 words of 32 bits
 pub record IsMemory (memory : List ℤ) : Type 0 where

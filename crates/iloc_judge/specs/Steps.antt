@@ -5,3 +5,4 @@ pub mod Tracking
 pub mod Agreement
 pub mod Order
 pub mod Place
+pub mod Counted

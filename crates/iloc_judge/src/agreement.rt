@@ -3,9 +3,9 @@ ghost use Rattle.std.specs.Prelude.{◌≡◌, ◌⊎◌, true, false, List, ℤ
 ghost use Rattle.iloc_judge.specs.Steps.Terms.{Meaning, IsMeaning};
 ghost use Rattle.iloc_judge.specs.Steps.Agreement.{AreMarks, IsSurelyGood, BadThere, AreSame};
 
-use crate::node::Node;
 use crate::symbols::Symbols;
 use crate::table::Table;
+use crate::table::node::Node;
 use iloc_meaning::Memory;
 use iloc_ops::NoMemory;
 use std::alloc::Global;

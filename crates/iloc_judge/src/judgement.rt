@@ -6,7 +6,7 @@ ghost use Rattle.iloc_judge.specs.Memory.{IsMemory};
 ghost use Rattle.iloc_judge.specs.Steps.Agreement.{SeenSame};
 
 use crate::agreement::agree;
-use crate::clues::Clues;
+use crate::refutation::clues::Clues;
 use crate::symbols::Symbols;
 use crate::table::Table;
 use iloc_ops::{NoMemory, Op};

@@ -1,24 +1,18 @@
-//! The judge of schedules that others made: whether their outcome is that of ours, on every memory.
+//! The judge of schedules that others made: whether their outcome is that of ours, on every memory, and what is listed of
+//! it.
 #![tactic(auto)]
 
-mod action;
 mod agreement;
-mod clues;
+mod checked;
 mod judgement;
-mod memories;
-mod node;
-mod pattern;
+pub mod laws;
 mod place;
-mod probe;
 mod refutation;
-mod registers;
 mod symbols;
 mod table;
-mod tries;
 mod verdict;
-mod wheel;
-mod words;
 
+pub use checked::{Checked, push_check};
 pub use place::Place;
-pub use probe::Probe;
+pub use refutation::probe::Probe;
 pub use verdict::{Verdict, judge};

@@ -5,13 +5,17 @@ ghost use Rattle.iloc_timed.specs.Timed.{timed_outcome};
 ghost use Rattle.iloc_judge.specs.Memory.{memory_of};
 ghost use Rattle.iloc_judge.specs.Place.{IsPlace};
 
-use crate::clues::Clues;
-use crate::pattern::Pattern;
+pub(crate) mod clues;
+mod pattern;
+pub(crate) mod probe;
+
 use crate::place::{Place, difference};
-use crate::probe::Probe;
+use clues::Clues;
 use iloc_meaning::{Memory, run_block};
 use iloc_ops::{Block, NoMemory};
 use iloc_timed::{Latencies, Schedule, run_schedule};
+use pattern::Pattern;
+use probe::Probe;
 use std::alloc::Global;
 
 /// A made-up memory on which a schedule's outcome differs from a block's, and where.

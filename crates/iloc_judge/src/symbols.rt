@@ -6,12 +6,16 @@ ghost use Rattle.iloc_timed.specs.Steps.Machine.{then_issued};
 ghost use Rattle.iloc_judge.specs.Steps.Terms.{Adds};
 ghost use Rattle.iloc_judge.specs.Steps.Symbols.{HasLanded};
 
-use crate::action::Action;
-use crate::registers::Registers;
+mod action;
+mod registers;
+mod sent;
+
 use crate::table::Table;
-use crate::wheel::{LONGEST, Sent, Wheel};
+use action::Action;
 use iloc_ops::{NoMemory, Op, Reg, defines};
-use iloc_timed::{Latencies, MAX_ROWS, Row, Schedule, latency};
+use iloc_timed::{LONGEST, Latencies, MAX_ROWS, Row, Schedule, Wheel, latency};
+use registers::Registers;
+use sent::Sent;
 use std::alloc::Global;
 
 /// Writes what was sent where it goes. Answers the memory then.
@@ -60,12 +64,12 @@ pub(crate) struct Symbols {
     pub(crate) outputs: Vec<u32>,
     /// The addresses at which something was done.
     pub(crate) addresses: Vec<u32>,
-    pub(crate) wheel: Wheel,
+    pub(crate) wheel: Wheel<Sent>,
 }
 
 impl Symbols {
     ghost use Rattle.std.specs.Prelude.{option_map};
-    ghost use Rattle.iloc_judge.specs.declared.wheel.Sent.TheVariants as S;
+    ghost use Rattle.iloc_judge.specs.declared.symbols.sent.Sent.TheVariants as S;
     ghost use Rattle.iloc_judge.specs.Steps.Tracking.{Tracks, Keeps, Records, with_sent, Ends};
 
     /// All registers 0, the memory handed in, nothing under way.

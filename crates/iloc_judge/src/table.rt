@@ -1,8 +1,13 @@
 //! A table of terms.
 ghost use Rattle.std.specs.Prelude.{◌≡◌, [], length, true, IfSome, IfOk};
 
-use crate::node::{Node, fork_key};
+mod memories;
+pub(crate) mod node;
+mod tries;
+mod words;
+
 use iloc_ops::NoMemory;
+use node::{Node, fork_key};
 use std::alloc::Global;
 use std::collections::BTreeMap;
 use std::marker::Model;
@@ -19,7 +24,7 @@ pub(crate) struct Table {
 
 impl Model for Table {
     ghost use Rattle.std.specs.Prelude.{List};
-    ghost use Rattle.iloc_judge.specs.declared.node.Node.{Node};
+    ghost use Rattle.iloc_judge.specs.declared.table.node.Node.{Node};
 
     ghost Value = { List Node };
 

@@ -7,7 +7,7 @@ ghost use Rattle.iloc_judge.specs.Verdict.{IsVerdict};
 
 use crate::judgement::{clues, has_lists};
 use crate::place::Place;
-use crate::probe::Probe;
+use crate::refutation::probe::Probe;
 use crate::refutation::{Refutation, difference_on, refute};
 use iloc_meaning::Memory;
 use iloc_ops::{Block, NoMemory, Op};

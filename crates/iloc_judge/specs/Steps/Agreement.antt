@@ -3,7 +3,7 @@ use Rattle.std.specs.Prelude.{ℕ, ◌≡◌, ◌==◌, Bool, true, false, List,
 use Rattle.std.specs.List.{list_any}
 use Rattle.iloc_meaning.specs.Address.{is_good}
 use Rattle.iloc_judge.specs.declared.symbols.Symbols.{Symbols}
-use Rattle.iloc_judge.specs.declared.node.Node.{Node}
+use Rattle.iloc_judge.specs.declared.table.node.Node.{Node}
 use Rattle.iloc_judge.specs.Steps.Order.{IsOrdered}
 use Rattle.iloc_judge.specs.Steps.Terms.{Meaning, IsMeaning}
 use Rattle.iloc_judge.specs.Steps.Symbols.{some_bad}

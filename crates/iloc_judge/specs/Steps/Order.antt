@@ -1,7 +1,7 @@
 -- Terms that name earlier ones alone.
 use Rattle.std.specs.Prelude.{ℕ, ◌≡◌, ◌<◌, ◌&&◌, nat_lt, Bool, true, List, length, Option, Some, None}
-use Rattle.iloc_judge.specs.declared.node.Node.{Node}
-use Rattle.iloc_judge.specs.declared.node.Node.TheVariants.{Known, Offset, Scaled, Combined, Word, Start, Epoch, Empty, Leaf, Fork}
+use Rattle.iloc_judge.specs.declared.table.node.Node.{Node}
+use Rattle.iloc_judge.specs.declared.table.node.Node.TheVariants.{Known, Offset, Scaled, Combined, Word, Start, Epoch, Empty, Leaf, Fork}
 use Rattle.iloc_judge.specs.Steps.Terms.{node_at}
 
 -- whether a base is below k, if there is one

@@ -1,5 +1,5 @@
 -- Terms in registers, under way and done by an operation.
-use Rattle.std.specs.Prelude.{ℕ, ◌≡◌, ◌≢◌, ◌%◌, Bool, not, List, [], map, fold, slice_index_or, unwrap_or, IsTrue, ℤ, pos, negsuc}
+use Rattle.std.specs.Prelude.{ℕ, ◌≡◌, ◌≢◌, Bool, not, List, map, fold, unwrap_or, IsTrue, ℤ, pos, negsuc}
 use Rattle.std.specs.List.{list_any}
 use Rattle.std.specs.Ordering.{nat_cmp}
 use Rattle.std.specs.BTreeMap.{get}
@@ -11,20 +11,16 @@ use Rattle.iloc_meaning.specs.Effect.{at_address}
 use Rattle.iloc_timed.specs.declared.wheel.Pending.{Pending}
 use Rattle.iloc_timed.specs.declared.wheel.Pending.TheVariants as P
 use Rattle.iloc_timed.specs.Steps.Pending.{landed_in_register, landed_in_word}
-use Rattle.iloc_judge.specs.declared.registers.Registers.{Registers}
-use Rattle.iloc_judge.specs.declared.wheel.Sent.{Sent}
-use Rattle.iloc_judge.specs.declared.wheel.Sent.TheVariants.{Register, Word}
-use Rattle.iloc_judge.specs.declared.action.Action.{Action}
-use Rattle.iloc_judge.specs.declared.action.Action.TheVariants.{Gives, Loads, Stores, Emits, Nothing}
+use Rattle.iloc_judge.specs.declared.symbols.registers.Registers.{Registers}
+use Rattle.iloc_judge.specs.declared.symbols.sent.Sent.{Sent}
+use Rattle.iloc_judge.specs.declared.symbols.sent.Sent.TheVariants.{Register, Word}
+use Rattle.iloc_judge.specs.declared.symbols.action.Action.{Action}
+use Rattle.iloc_judge.specs.declared.symbols.action.Action.TheVariants.{Gives, Loads, Stores, Emits, Nothing}
 use Rattle.iloc_judge.specs.Steps.Terms.{Meaning}
 
 -- the number of the term in register r
 abbrev pub number_in : Registers → Reg → ℕ
 number_in registers r = unwrap_or (get nat_cmp registers.numbers r.0) registers.zero
-
--- the list of cycle c
-abbrev pub sent_at : List (List Sent) → ℕ → List Sent
-sent_at lists c = slice_index_or lists (c % 16) []
 
 -- the number that an address is; of a negative one, a number that is no good address
 abbrev pub address_of : ℤ → ℕ

@@ -5,14 +5,14 @@ use Rattle.std.specs.Ordering.{int_eq}
 use Rattle.iloc_meaning.specs.Address.{good_address}
 use Rattle.iloc_meaning.specs.Arithmetic.{wrapped, shifted_left, shifted_right}
 use Rattle.iloc_meaning.specs.Memory.{word_at}
-use Rattle.iloc_judge.specs.declared.node.Binary.{Binary}
-use Rattle.iloc_judge.specs.declared.node.Binary.TheVariants.{Sum, Product, ShiftLeft, ShiftRight}
-use Rattle.iloc_judge.specs.declared.tries.Found.{Found}
-use Rattle.iloc_judge.specs.declared.tries.Found.TheVariants.{Term, Nothing, Untold}
-use Rattle.iloc_judge.specs.declared.memories.Seen.{Seen}
-use Rattle.iloc_judge.specs.declared.memories.Seen.TheVariants.{Written, In}
-use Rattle.iloc_judge.specs.declared.node.Node.{Node}
-use Rattle.iloc_judge.specs.declared.node.Node.TheVariants.{Known, Offset, Scaled, Combined, Word, Start, Epoch, Empty, Leaf, Fork}
+use Rattle.iloc_judge.specs.declared.table.node.Binary.{Binary}
+use Rattle.iloc_judge.specs.declared.table.node.Binary.TheVariants.{Sum, Product, ShiftLeft, ShiftRight}
+use Rattle.iloc_judge.specs.declared.table.tries.Found.{Found}
+use Rattle.iloc_judge.specs.declared.table.tries.Found.TheVariants.{Term, Nothing, Untold}
+use Rattle.iloc_judge.specs.declared.table.memories.Seen.{Seen}
+use Rattle.iloc_judge.specs.declared.table.memories.Seen.TheVariants.{Written, In}
+use Rattle.iloc_judge.specs.declared.table.node.Node.{Node}
+use Rattle.iloc_judge.specs.declared.table.node.Node.TheVariants.{Known, Offset, Scaled, Combined, Word, Start, Epoch, Empty, Leaf, Fork}
 
 -- for each number a word, what stands at each address of a memory, and what a trie has at each key
 pub record Meaning : Type 0 where

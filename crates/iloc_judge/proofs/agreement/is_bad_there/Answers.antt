@@ -1,4 +1,4 @@
-use Rattle.iloc_judge.proofs.Marks.{settled_more}
+use Rattle.iloc_judge.proofs.Runs.Marks.{settled_more}
 use Rattle.iloc_judge.proofs.agreement.is_bad_there.Goals as goal
 
 pub loop-address-preserved : goal.loop-address-preserved

@@ -1,6 +1,6 @@
 use Rattle.iloc_timed.proofs.WholeRuns.{if_ok}
-use Rattle.iloc_judge.proofs.Meanings.{is_meaning}
-use Rattle.iloc_judge.proofs.Ending.{same_outcome}
+use Rattle.iloc_judge.proofs.Terms.Meanings.{is_meaning}
+use Rattle.iloc_judge.proofs.Runs.Ending.{same_outcome}
 use Rattle.iloc_judge.proofs.judgement.clues.Goals as goal
 
 pub returns : goal.returns

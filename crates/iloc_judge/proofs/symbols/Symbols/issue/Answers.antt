@@ -1,5 +1,5 @@
-use Rattle.iloc_judge.proofs.Tracking.{keeps_issue}
-use Rattle.iloc_judge.proofs.Rows.{on_ok}
+use Rattle.iloc_judge.proofs.Runs.Tracking.{keeps_issue}
+use Rattle.iloc_judge.proofs.Runs.Rows.{on_ok}
 use Rattle.iloc_judge.proofs.symbols.Symbols.issue.Goals as goal
 
 pub returns : goal.returns

@@ -1,4 +1,4 @@
-use Rattle.iloc_judge.proofs.Rows.{on_ok, keeps_slot}
+use Rattle.iloc_judge.proofs.Runs.Rows.{on_ok, keeps_slot}
 use Rattle.iloc_judge.proofs.symbols.Symbols.issue_slot.Goals as goal
 
 pub returns-in-Some : goal.returns-in-Some

@@ -1,4 +1,4 @@
-use Rattle.iloc_judge.proofs.Tracking.{keeps_landing}
+use Rattle.iloc_judge.proofs.Runs.Tracking.{keeps_landing}
 use Rattle.iloc_judge.proofs.symbols.Symbols.land.Goals as goal
 
 pub returns : goal.returns
@@ -6,5 +6,5 @@ returns c = λ memory d meaning.
     let has = c.in_ok-self.ensures memory d meaning in (
       has.0,
       λ log keeps. keeps_landing memory d c.args.cycle log c.args.self.now c.land_all.new.registers
-          c.in_ok-self.field-0 c.due-due.result.now c.clear.new.self c.due-due.ensures has.1 c.clear.ensures keeps,
+          c.in_ok-self.field-0 c.due-due.result.now c.clear.new.self c.due-due.ensures.due has.1 c.clear.ensures keeps,
     )

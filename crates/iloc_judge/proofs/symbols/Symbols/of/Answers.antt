@@ -1,7 +1,7 @@
 use Rattle.std.proofs.Common.{◌≡◌, ◌≤◌, length, arith, ap}
 use Rattle.iloc_timed.specs.Timed.{issued_before}
 use Rattle.iloc_timed.proofs.Arrivals.{zero_known, one_known}
-use Rattle.iloc_judge.proofs.Rows.{keeps_more, ends}
+use Rattle.iloc_judge.proofs.Runs.Rows.{keeps_more, ends}
 use Rattle.iloc_judge.proofs.symbols.Symbols.of.Goals as goal
 
 pub run_row-requires-clause-zero : goal.run_row-requires-clause-zero

@@ -1,7 +1,7 @@
 use Rattle.std.proofs.Common.{◌+◌, subst}
 use Rattle.iloc_timed.proofs.WholeRuns.{row_issued}
 use Rattle.iloc_judge.specs.Steps.Tracking.{Keeps}
-use Rattle.iloc_judge.proofs.Rows.{on_ok}
+use Rattle.iloc_judge.proofs.Runs.Rows.{on_ok}
 use Rattle.iloc_judge.proofs.symbols.Symbols.run_row.Goals as goal
 
 pub returns : goal.returns

@@ -1,6 +1,6 @@
 use Rattle.std.proofs.Common.{◌∙◌}
 use Rattle.iloc_timed.proofs.WholeRuns.{if_ok}
-use Rattle.iloc_judge.proofs.Products.{less_times}
+use Rattle.iloc_judge.proofs.Terms.Products.{less_times}
 use Rattle.iloc_judge.proofs.table.Table.difference.Goals as goal
 
 pub returns : goal.returns

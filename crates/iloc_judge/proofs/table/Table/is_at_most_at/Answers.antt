@@ -1,4 +1,4 @@
-use Rattle.iloc_judge.proofs.Nodes.{empty_no_other, leaf_no_other}
+use Rattle.iloc_judge.proofs.Terms.Nodes.{empty_no_other, leaf_no_other}
 use Rattle.iloc_judge.proofs.table.Table.is_at_most_at.Goals as goal
 
 pub returns-in-Some-Empty : goal.returns-in-Some-Empty

@@ -1,7 +1,7 @@
 use Rattle.std.proofs.Common.{FitsSigned, w32, rules, ap, ◌∙◌}
 use Rattle.std.specs.Int.{cast_unsigned}
 use Rattle.std.proofs.lemmas.Int.{to_z-of_z}
-use Rattle.iloc_judge.proofs.Epochs.{location_of_parts}
+use Rattle.iloc_judge.proofs.Terms.Epochs.{location_of_parts}
 use Rattle.iloc_judge.proofs.table.Table.location.Goals as goal
 
 pub returns : goal.returns

@@ -2,7 +2,7 @@ use Rattle.std.proofs.Common.{◌+ℤ◌, FitsSigned, w32, rules, ap, ◌∙◌}
 use Rattle.iloc_meaning.specs.Arithmetic.{wrapped}
 use Rattle.iloc_timed.proofs.WholeRuns.{if_ok}
 use Rattle.iloc_judge.specs.Steps.Terms.{base_word}
-use Rattle.iloc_judge.proofs.Arithmetic.{stored, raised_parts}
+use Rattle.iloc_judge.proofs.Terms.Arithmetic.{stored, raised_parts}
 use Rattle.iloc_judge.proofs.table.Table.raised.Goals as goal
 
 pub returns : goal.returns

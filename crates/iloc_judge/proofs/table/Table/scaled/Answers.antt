@@ -2,8 +2,8 @@ use Rattle.std.proofs.Common.{◌+ℤ◌, ◌*ℤ◌, FitsSigned, w32, rules, ap
 use Rattle.std.proofs.lemmas.Int.{to_z-of_z}
 use Rattle.iloc_meaning.specs.Arithmetic.{wrapped}
 use Rattle.iloc_timed.proofs.WholeRuns.{if_ok}
-use Rattle.iloc_judge.proofs.Arithmetic.{stored}
-use Rattle.iloc_judge.proofs.Products.{times_constant, times_parts}
+use Rattle.iloc_judge.proofs.Terms.Arithmetic.{stored}
+use Rattle.iloc_judge.proofs.Terms.Products.{times_constant, times_parts}
 use Rattle.iloc_judge.proofs.table.Table.scaled.Goals as goal
 
 pub returns-in-None : goal.returns-in-None

@@ -1,8 +1,8 @@
 use Rattle.std.proofs.Common.{◌*ℤ◌, FitsSigned, w32, rules, ap, ◌∙◌}
 use Rattle.iloc_meaning.specs.Arithmetic.{wrapped}
 use Rattle.iloc_timed.proofs.WholeRuns.{if_ok}
-use Rattle.iloc_judge.proofs.Arithmetic.{stored}
-use Rattle.iloc_judge.proofs.Products.{times_times}
+use Rattle.iloc_judge.proofs.Terms.Arithmetic.{stored}
+use Rattle.iloc_judge.proofs.Terms.Products.{times_times}
 use Rattle.iloc_judge.proofs.table.Table.scaled_base.Goals as goal
 
 pub returns : goal.returns

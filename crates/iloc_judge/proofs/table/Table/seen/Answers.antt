@@ -1,5 +1,5 @@
 use Rattle.std.proofs.Common.{◌≡◌, Some, None, sym}
-use Rattle.iloc_judge.proofs.Epochs.{read_at_location, same_base}
+use Rattle.iloc_judge.proofs.Terms.Epochs.{read_at_location, same_base}
 use Rattle.iloc_judge.proofs.table.Table.seen.Goals as goal
 
 pub returns-in-Term : goal.returns-in-Term

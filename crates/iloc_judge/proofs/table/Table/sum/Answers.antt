@@ -2,7 +2,7 @@ use Rattle.std.proofs.Common.{◌+ℤ◌, FitsSigned, w32, rules, ap, ◌∙◌}
 use Rattle.std.proofs.lemmas.Int.{to_z-of_z}
 use Rattle.iloc_meaning.specs.Arithmetic.{wrapped}
 use Rattle.iloc_timed.proofs.WholeRuns.{if_ok}
-use Rattle.iloc_judge.proofs.Arithmetic.{stored, sum_constant, sum_comm, sum_parts}
+use Rattle.iloc_judge.proofs.Terms.Arithmetic.{stored, sum_constant, sum_comm, sum_parts}
 use Rattle.iloc_judge.proofs.table.Table.sum.Goals as goal
 
 pub returns-in-None-default : goal.returns-in-None-default

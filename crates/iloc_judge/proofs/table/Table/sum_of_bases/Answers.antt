@@ -1,8 +1,8 @@
 use Rattle.std.proofs.Common.{◌+ℤ◌, ◌*ℤ◌, FitsSigned, w32, rules, sym, ap, ◌∙◌}
 use Rattle.iloc_meaning.specs.Arithmetic.{wrapped}
 use Rattle.iloc_timed.proofs.WholeRuns.{if_ok}
-use Rattle.iloc_judge.proofs.Arithmetic.{stored}
-use Rattle.iloc_judge.proofs.Products.{times_sum}
+use Rattle.iloc_judge.proofs.Terms.Arithmetic.{stored}
+use Rattle.iloc_judge.proofs.Terms.Products.{times_sum}
 use Rattle.iloc_judge.proofs.table.Table.sum_of_bases.Goals as goal
 
 pub returns-then-one-other : goal.returns-then-one-other

@@ -1,2 +1,0 @@
-pub mod Sameness
-pub mod Places

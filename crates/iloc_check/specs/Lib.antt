@@ -1,4 +1,0 @@
-pub mod Checked
-pub mod Listing
-pub mod Laws
-pub mod Steps

@@ -1,0 +1,131 @@
+-- Places can be counted: no more is emitted than is issued.
+use Rattle.std.proofs.Common.{◌≡◌, ◌<◌, ◌≤◌, ℕ, zero, suc, ◌+◌, ◌*◌, ◌^◌, List, [], ◌∷◌, length, length-append, Option, Some, None, option_to_list, arith, refl, ap, inl, inr}
+use Rattle.std.specs.Prelude.{ℤ, slice_get, map}
+use Rattle.std.proofs.lemmas.Bool.{cases_lt}
+use Rattle.std.proofs.lemmas.List.{length-map}
+use Rattle.std.proofs.lemmas.Option.{slice_get_past}
+use Rattle.iloc_ops.specs.Limits.{MAX_OPS}
+use Rattle.iloc_ops.specs.declared.op.Op.{Op}
+use Rattle.iloc_meaning.specs.declared.effect.Effect.{Effect}
+use Rattle.iloc_meaning.specs.declared.effect.Effect.TheVariants.{Faults, Gives, Writes, Emits, Nothing}
+use Rattle.iloc_meaning.specs.declared.outcome.Outcome.{Outcome}
+use Rattle.iloc_meaning.specs.declared.outcome.Outcome.TheVariants as O
+use Rattle.iloc_meaning.specs.Outcome.{outcome, has_fault, emitted, emitted_by}
+use Rattle.iloc_meaning.specs.Trace.{Executed, before, op_at}
+use Rattle.iloc_meaning.proofs.Cases.{by_bool}
+use Rattle.iloc_timed.specs.Limits.{MAX_ROWS}
+use Rattle.iloc_timed.specs.declared.latencies.Latencies.{Latencies}
+use Rattle.iloc_timed.specs.declared.row.Row.{Row}
+use Rattle.iloc_timed.specs.Rows.{row_at, slots}
+use Rattle.iloc_timed.specs.Timed.{Issued, issue, issued_before, executed_in, timed_outcome}
+use Rattle.iloc_judge.specs.declared.place.Place.{Place}
+use Rattle.iloc_judge.specs.declared.place.Place.TheVariants.{Output, Word, Fault, NoFault}
+use Rattle.iloc_judge.specs.declared.verdict.Verdict.{Verdict}
+use Rattle.iloc_judge.specs.declared.verdict.Verdict.TheVariants.{Units, Same, Agrees, Differs, DiffersOn}
+use Rattle.iloc_judge.specs.Place.{IsPlace}
+use Rattle.iloc_judge.specs.Memory.{memory_of}
+use Rattle.iloc_judge.specs.Verdict.{IsVerdict}
+use Rattle.iloc_judge.specs.Steps.Counted.{IsCounted, CanBeListed}
+
+-- at most n words are emitted
+abbrev EmitsAtMost : ℕ → Outcome → Type 0
+EmitsAtMost n (O.Finished outputs memory) = length outputs ≤ n
+EmitsAtMost n O.Fault = Unit {0}
+
+one_emitted : (effect : Effect) → length (emitted_by effect) ≤ 1
+one_emitted Faults = omega arith
+one_emitted (Gives result) = omega arith
+one_emitted (Writes address word) = omega arith
+one_emitted (Emits word) = omega arith
+one_emitted Nothing = omega arith
+
+few_emitted : (trace : List Executed) → length (emitted trace) ≤ length trace
+few_emitted [] = omega arith
+few_emitted (e ∷ earlier) =
+    omega (arith, length-append (emitted earlier) (emitted_by e.effect), one_emitted e.effect, few_emitted earlier)
+
+length-before : (memory : List ℤ) (ops : List Op) (n : ℕ) → length (before memory ops n) ≡ n
+length-before memory ops zero = refl
+length-before memory ops (suc n) = ap suc (length-before memory ops n)
+
+length-slot : (slot : Option ℕ) → length (option_to_list slot) ≤ 1
+length-slot None = omega arith
+length-slot (Some i) = omega arith
+
+length-slots : (row : Row) → length (slots row) ≤ 2
+length-slots row =
+    omega (arith, length-append (option_to_list row.one) (option_to_list row.zero), length-slot row.one, length-slot row.zero)
+
+few_issued : (lat : Latencies) (memory : List ℤ) (ops : List Op) (rows : List Row) (c : ℕ)
+    → length (issued_before lat memory ops rows c) ≤ 2 * c
+few_issued lat memory ops rows zero = omega arith
+few_issued lat memory ops rows (suc c) =
+    let log : List Issued = issued_before lat memory ops rows c in
+    let issued : ℕ → Issued = λ i. issue lat memory c log (op_at ops i) in
+    omega (
+      arith,
+      length-append (map issued (slots (row_at rows c))) log,
+      length-map (slots (row_at rows c)) issued,
+      length-slots (row_at rows c),
+      few_issued lat memory ops rows c,
+    )
+
+block_emits : (block : List Op) (memory : List ℤ) → EmitsAtMost (length block) (outcome block memory)
+block_emits block memory = by_bool (has_fault (before memory block (length block)))
+    (λ t. rw t tt)
+    (λ f. rw f (omega (arith, few_emitted (before memory block (length block)), length-before memory block (length block))))
+
+rows_emit : (lat : Latencies) (ops : List Op) (rows : List Row) (memory : List ℤ)
+    → EmitsAtMost (2 * length rows) (timed_outcome lat ops rows memory)
+rows_emit lat ops rows memory =
+    let log : List Issued = issued_before lat memory ops rows (length rows) in
+    by_bool (has_fault (executed_in log))
+    (λ t. rw t tt)
+    (λ f. rw f (omega (
+      arith,
+      few_emitted (executed_in log),
+      length-map log (λ (e : Issued). e.executed),
+      few_issued lat memory ops rows (length rows),
+    )))
+
+-- where two lists differ one of them has an item
+apart_within : (xs ys : List ℤ) (i : ℕ) (x y : Option ℤ) → slice_get xs i ≡ x → slice_get ys i ≡ y → (x ≡ y → ⊥)
+    → i < length xs + length ys
+apart_within xs ys i x y first second apart = elim (cases_lt i (length xs + length ys)) [
+  | inl within ↦ within
+  | inr past ↦
+      let none : slice_get xs i ≡ None = slice_get_past xs i (omega arith) in
+      let neither : slice_get ys i ≡ None = slice_get_past ys i (omega arith) in
+      absurd (apart (cc))
+]
+
+few_counted : (n m : ℕ) (got wanted : Outcome) (place : Place) → n + m + 1 < 2 ^ 64 → EmitsAtMost n got
+    → EmitsAtMost m wanted → IsPlace got wanted place → IsCounted place
+few_counted n m O.Fault O.Fault place small few fewer is = absurd is
+few_counted n m O.Fault (O.Finished wanteds memory) place small few fewer is = rw is tt
+few_counted n m (O.Finished outputs memory) O.Fault place small few fewer is = rw is tt
+few_counted n m (O.Finished outputs memory) (O.Finished wanteds end) (Output index got wanted) small few fewer is =
+    let within : index < length outputs + length wanteds =
+    apart_within outputs wanteds index got wanted is.first is.second is.apart in
+    omega arith
+few_counted n m (O.Finished outputs memory) (O.Finished wanteds end) (Word address got wanted) small few fewer is = tt
+few_counted n m (O.Finished outputs memory) (O.Finished wanteds end) Fault small few fewer is = tt
+few_counted n m (O.Finished outputs memory) (O.Finished wanteds end) NoFault small few fewer is = tt
+
+place_counted : (lat : Latencies) (block ops : List Op) (rows : List Row) (memory : List ℤ) (place : Place)
+    → length block ≤ MAX_OPS → length rows ≤ MAX_ROWS
+    → IsPlace (timed_outcome lat ops rows memory) (outcome block memory) place → IsCounted place
+place_counted lat block ops rows memory place short few is =
+    few_counted (2 * length rows) (length block) (timed_outcome lat ops rows memory) (outcome block memory) place
+    (omega arith) (rows_emit lat ops rows memory) (block_emits block memory) is
+
+pub verdict_listed : (lat : Latencies) (memory : List ℤ) (block ops : List Op) (rows : List Row) (verdict : Verdict)
+    → length block ≤ MAX_OPS → length rows ≤ MAX_ROWS → IsVerdict lat block ops rows memory verdict
+    → CanBeListed rows verdict
+verdict_listed lat memory block ops rows (Units c) short few is = is.within
+verdict_listed lat memory block ops rows Same short few is = tt
+verdict_listed lat memory block ops rows Agrees short few is = tt
+verdict_listed lat memory block ops rows (Differs place) short few is =
+    place_counted lat block ops rows memory place short few is.1
+verdict_listed lat memory block ops rows (DiffersOn probe place) short few is =
+    place_counted lat block ops rows (memory_of probe) place short few is.2

@@ -1,0 +1,6 @@
+-- What terms mean.
+pub mod Nodes
+pub mod Arithmetic
+pub mod Products
+pub mod Epochs
+pub mod Meanings

@@ -1,0 +1,54 @@
+-- Words read from an epoch, and where addresses are.
+use Rattle.std.proofs.Common.{◌≡◌, ℕ, ◌==◌, true, false, Option, Some, None, List, ℤ, unwrap_or, FitsSigned, w32, refl, sym, ap, ◌∙◌, eq-eqb, ne_eqb}
+use Rattle.std.specs.Int.{cast_unsigned}
+use Rattle.std.specs.Prelude.{not, nat_eq}
+use Rattle.std.specs.Option.{option_eq}
+use Rattle.std.specs.Ordering.{int_eq}
+use Rattle.std.proofs.lemmas.Bool.{eqb-true}
+use Rattle.std.proofs.lemmas.Bool.Decides.{Decides-int_eq}
+use Rattle.iloc_meaning.proofs.Cases.{by_bool}
+use Rattle.iloc_judge.specs.declared.table.node.Node.{Node}
+use Rattle.iloc_judge.specs.declared.table.node.Node.TheVariants.{Epoch}
+use Rattle.iloc_judge.specs.Steps.Terms.{Meaning, IsMeaning, IsNode, base_word, key_of, ArePartsOf, IsLocationOf}
+use Rattle.iloc_judge.proofs.Terms.Arithmetic.{key_of_sum, key_of_other}
+use Rattle.iloc_judge.proofs.Terms.Nodes.{node_means}
+
+-- what is a base and a constant together is there
+pub location_of_parts : (d : Meaning) (address key : ℕ) (base : Option ℕ) (c : ℤ) → FitsSigned w32 c
+    → key ≡ cast_unsigned w32 c → ArePartsOf d address base c → IsLocationOf d address base key
+location_of_parts d address key base c fits is parts = λ z small. by_bool (int_eq z (d.word address))
+    (λ same.
+    let at : z ≡ d.word address = (Decides-int_eq z (d.word address)).0 same in
+    let there : (key_of (base_word d base) z == key) ≡ true =
+    eq-eqb _ _ (key_of_sum (base_word d base) c z fits (at ∙ parts) ∙ sym is) in
+    there ∙ sym same)
+    (λ differs.
+    let elsewhere : (key_of (base_word d base) z == key) ≡ false =
+    ne_eqb _ _ (λ there.
+    let at : z ≡ d.word address =
+    key_of_other (base_word d base) c (d.word address) z fits small parts (there ∙ is) in
+    let same : int_eq z (d.word address) ≡ true = (Decides-int_eq z (d.word address)).1 at in
+    absurd cc) in
+    elsewhere ∙ sym differs)
+
+-- what the last epoch has at the address, or else what the memory before it has
+pub read_at_location : (words : List ℤ) (nodes : List Node) (d : Meaning) (memory before trie address key : ℕ)
+    (base : Option ℕ) (found : Option ℤ) → IsMeaning words nodes d → IsNode nodes memory (Epoch before base trie)
+    → IsLocationOf d address base key → d.entry trie key ≡ found
+    → d.words memory (d.word address) ≡ unwrap_or found (d.words before (d.word address))
+read_at_location words nodes d memory before trie address key base found meaning there located has =
+    let same : int_eq (d.word address) (d.word address) ≡ true =
+    (Decides-int_eq (d.word address) (d.word address)).1 refl in
+    let at : key_of (base_word d base) (d.word address) ≡ key =
+    eqb-true _ _ (located (d.word address) (meaning.fits address) ∙ same) in
+    node_means words nodes d memory (Epoch before base trie) meaning there (d.word address)
+    ∙ ap (λ k. unwrap_or (d.entry trie k) (d.words before (d.word address))) at
+    ∙ ap (λ o. unwrap_or o (d.words before (d.word address))) has
+
+-- two bases that the code finds equal
+pub same_base : (one other : Option ℕ) → not (option_eq nat_eq one other) ≡ false → one ≡ other
+same_base None None is = refl
+same_base None (Some b) is = absurd cc
+same_base (Some a) None is = absurd cc
+same_base (Some a) (Some b) is = by_bool (a == b) (λ same. ap Some (eqb-true a b same))
+    (λ differs. let no : true ≡ false = rw differs at is in absurd cc)

@@ -1,0 +1,44 @@
+-- What is found of the rows that are proposed for a block.
+use Rattle.std.specs.Prelude.{ℕ, ℤ, ◌≡◌, Bool, true, false, List, ◌++◌}
+use Rattle.iloc_ops.specs.declared.op.Op.{Op}
+use Rattle.iloc_timed.specs.declared.latencies.Latencies.{Latencies}
+use Rattle.iloc_timed.specs.declared.row.Row.{Row}
+use Rattle.iloc_timed.specs.Cycles.{cycles}
+use Rattle.iloc_timed.specs.Rows.{IsTable}
+use Rattle.iloc_timed.specs.Schedule.{Table}
+use Rattle.iloc_rows.specs.declared.proposal.Proposal.{Proposal}
+use Rattle.iloc_sched.specs.Least.{least}
+use Rattle.iloc_judge.specs.declared.verdict.Verdict.{Verdict}
+use Rattle.iloc_judge.specs.declared.verdict.Verdict.TheVariants.{Same}
+use Rattle.iloc_judge.specs.Memory.{IsMemory}
+use Rattle.iloc_judge.specs.Verdict.{AgreesOn, IsVerdict}
+use Rattle.iloc_judge.specs.declared.checked.Checked.{Checked}
+use Rattle.iloc_judge.specs.Listing.{verdict_line, detail}
+
+-- whether the verdict is `Same`
+abbrev pub is_same : Verdict → Bool
+is_same Same = true
+is_same verdict = false
+
+-- what goes with a verdict: the cycles of what is proposed, those of our schedule, and the least
+abbrev pub found : Latencies → List Op → Table → Proposal → Verdict → Checked
+found lat block ours proposal verdict = record {
+  is_same = is_same verdict;
+  cycles = cycles lat proposal.ops proposal.rows;
+  ours = cycles lat ours.ops ours.rows;
+  least = least lat block;
+}
+
+-- Of what is proposed for a block this is found, and this entry listed, by a verdict that is right.
+pub record IsCheck (lat : Latencies) (memory : List ℤ) (block : List Op) (ours : Table) (proposal : Proposal)
+    (checked : Checked) (entry : List ℕ) : Type 0 where
+  pub verdict : Verdict
+  pub right : IsVerdict lat block proposal.ops proposal.rows memory verdict
+  pub is_found : checked ≡ found lat block ours proposal verdict
+  pub listed : entry ≡ verdict_line verdict checked proposal.claimed ++ detail proposal.ops proposal.rows verdict
+
+-- the operations in these rows keep the rules of the units, and on every memory of 16,384 words of 32 bits they have the
+-- block's outcome
+pub record DoTheSame (lat : Latencies) (block ops : List Op) (rows : List Row) : Type 0 where
+  pub table : IsTable ops rows
+  pub agree : (words : List ℤ) → IsMemory words → AgreesOn lat block ops rows words

@@ -1,0 +1,117 @@
+//! The line that tells where rows go wrong.
+ghost use Rattle.std.specs.Prelude.{◌≡◌, ◌+◌, ◌<◌, ◌^◌, ◌++◌, length, OnOk, codes};
+ghost use Rattle.std.specs.List.{flat_map};
+ghost use Rattle.std.specs.Fmt.{decimal};
+ghost use Rattle.iloc_judge.specs.Listing as listed;
+ghost use Rattle.iloc_judge.specs.Steps.Counted.{IsCounted, CanBeListed};
+
+use crate::place::Place;
+use crate::refutation::probe::Probe;
+use crate::verdict::Verdict;
+use iloc_ops::{NoMemory, Op, push_decimal, push_number};
+use iloc_timed::{Row, push_row};
+
+/// Appends a word, `none` where there is none.
+fn push_word(text: &mut Vec<u8>, word: Option<i32>) -> Result<(), NoMemory>
+    ensures { OnOk result (text.new.items ≡ text.old.items ++ listed.word_or_none word) }
+{
+    match word {
+        Some(word) => push_number(text, i64::from(word)),
+        None => Ok(text.extend_from_slice(b"none")?),
+    }
+}
+
+/// Appends `G for W`.
+fn push_both(text: &mut Vec<u8>, got: Option<i32>, wanted: Option<i32>) -> Result<(), NoMemory>
+    ensures { OnOk result (text.new.items ≡ text.old.items ++ listed.got_for_wanted got wanted) }
+{
+    push_word(text, got)?;
+    text.extend_from_slice(b" for ")?;
+    push_word(text, wanted)
+}
+
+/// Appends where two outcomes differ.
+fn push_place(text: &mut Vec<u8>, place: &Place) -> Result<(), NoMemory>
+    requires { IsCounted place.now }
+    ensures { OnOk result (text.new.items ≡ text.old.items ++ listed.place_told place.now) }
+{
+    match *place {
+        Place::Output { index, got, wanted } => {
+            text.extend_from_slice(b"  output ")?;
+            push_decimal(text, index as u64 + 1)?;
+            text.extend_from_slice(b": ")?;
+            push_both(text, got, wanted)
+        }
+        Place::Word {
+            address,
+            got,
+            wanted,
+        } => {
+            text.extend_from_slice(b"  word ")?;
+            push_decimal(text, u64::from(address))?;
+            text.extend_from_slice(b": ")?;
+            push_both(text, Some(got), Some(wanted))
+        }
+        Place::Fault => Ok(text.extend_from_slice(b"  fault")?),
+        Place::NoFault => Ok(text.extend_from_slice(b"  no fault")?),
+    }
+}
+
+/// Appends each word behind a blank.
+fn push_words(text: &mut Vec<u8>, words: &[u32]) -> Result<(), NoMemory>
+    ensures { OnOk result (text.new.items
+        ≡ text.old.items ++ flat_map (λ word. codes " " ++ decimal word) words.now) }
+{
+    for word in words {
+        text.extend_from_slice(b" ")?;
+        push_decimal(text, u64::from(*word))?;
+    }
+    Ok(())
+}
+
+/// Appends the arguments with which the command `run` starts with a memory.
+fn push_probe(text: &mut Vec<u8>, probe: &Probe) -> Result<(), NoMemory>
+    ensures { OnOk result (text.new.items ≡ text.old.items ++ listed.probe_told probe.now) }
+{
+    text.extend_from_slice(b" with --at ")?;
+    push_decimal(text, u64::from(probe.at))?;
+    push_words(text, &probe.words)
+}
+
+/// Appends the line of a row that breaks the rules of the units.
+fn push_bad_row(text: &mut Vec<u8>, ops: &[Op], rows: &[Row], row: usize) -> Result<(), NoMemory>
+    requires { row < length rows.now }
+    ensures { OnOk result (text.new.items ≡ text.old.items ++ listed.bad_row ops.now rows.now row) }
+{
+    text.extend_from_slice(b"  row ")?;
+    push_decimal(text, row as u64 + 1)?;
+    text.extend_from_slice(b": ")?;
+    push_row(text, ops, &rows[row])?;
+    Ok(text.extend_from_slice(b"\n")?)
+}
+
+/// Appends the line that tells where these operations and rows go wrong, by a verdict, if they do.
+pub(crate) fn push_detail(
+    text: &mut Vec<u8>,
+    ops: &[Op],
+    rows: &[Row],
+    verdict: &Verdict,
+) -> Result<(), NoMemory>
+    requires { CanBeListed rows.now verdict.now }
+    ensures { OnOk result (text.new.items
+        ≡ text.old.items ++ listed.detail ops.now rows.now verdict.now) }
+{
+    match verdict {
+        Verdict::Units(row) => push_bad_row(text, ops, rows, *row),
+        Verdict::Same | Verdict::Agrees => Ok(()),
+        Verdict::Differs(place) => {
+            push_place(text, place)?;
+            Ok(text.extend_from_slice(b"\n")?)
+        }
+        Verdict::DiffersOn(probe, place) => {
+            push_place(text, place)?;
+            push_probe(text, probe)?;
+            Ok(text.extend_from_slice(b"\n")?)
+        }
+    }
+}

@@ -1,0 +1,48 @@
+//! The line with a verdict and the numbers that go with it.
+ghost use Rattle.std.specs.Prelude.{◌≡◌, ◌++◌, OnOk};
+ghost use Rattle.iloc_judge.specs.Listing as listed;
+
+use crate::checked::Checked;
+use crate::verdict::Verdict;
+use iloc_ops::{NoMemory, push_column};
+
+/// The word for a verdict.
+fn verdict_word(verdict: &Verdict) -> &'static str
+    ensures { result.now ≡ listed.verdict_word verdict.now }
+{
+    match verdict {
+        Verdict::Units(_) => "units",
+        Verdict::Same => "same",
+        Verdict::Agrees => "agrees",
+        Verdict::Differs(_) | Verdict::DiffersOn(_, _) => "differs",
+    }
+}
+
+/// Appends ` claimed X` where a number of cycles is claimed and isn't this one.
+fn push_wrong_claim(text: &mut Vec<u8>, cycles: u64, claimed: Option<u32>) -> Result<(), NoMemory>
+    ensures { OnOk result (text.new.items ≡ text.old.items ++ listed.wrong_claim cycles claimed) }
+{
+    match claimed {
+        Some(claim) if u64::from(claim) != cycles => push_column(text, "claimed", u64::from(claim)),
+        _ => Ok(()),
+    }
+}
+
+/// Appends the line of a verdict, with the numbers that go with it and the number of cycles that is claimed.
+pub(crate) fn push_verdict_line(
+    text: &mut Vec<u8>,
+    verdict: &Verdict,
+    checked: Checked,
+    claimed: Option<u32>,
+) -> Result<(), NoMemory>
+    ensures { OnOk result (text.new.items
+        ≡ text.old.items ++ listed.verdict_line verdict.now checked claimed) }
+{
+    text.extend_from_slice(b" ")?;
+    text.extend_from_slice(verdict_word(verdict).as_bytes())?;
+    push_column(text, "cycles", checked.cycles)?;
+    push_column(text, "ours", checked.ours)?;
+    push_column(text, "least", checked.least)?;
+    push_wrong_claim(text, checked.cycles, claimed)?;
+    Ok(text.extend_from_slice(b"\n")?)
+}

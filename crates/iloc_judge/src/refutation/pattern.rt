@@ -1,0 +1,81 @@
+//! Patterns of made-up memories.
+
+use crate::refutation::clues::Clues;
+
+/// How the words of a made-up memory follow one another.
+#[derive(Clone, Copy, Debug, PartialEq, Eq)]
+pub(crate) enum Pattern {
+    /// 1, 2, 3 and so on.
+    Small,
+    /// Distinct words all over the 32 bits.
+    Large,
+    /// Each word is its own address.
+    OwnAddresses,
+    /// The known addresses in turn.
+    Addresses,
+    /// The known constants in turn.
+    Constants,
+    /// One known address.
+    OneAddress,
+    /// A known address and a known constant in turn.
+    AddressesAndConstants,
+    /// A known constant and a known address in turn.
+    ConstantsAndAddresses,
+    /// The bases in turn, from the second on.
+    Bases,
+    /// The bases in turn, from the third on.
+    LaterBases,
+    /// The known addresses in turn, from the fourth on.
+    LaterAddresses,
+    /// As far below one known address as the second offset says.
+    OneBase,
+}
+
+/// An odd number, so that its multiples modulo 2^32 are distinct.
+const STRIDE: u32 = 0x9E37_79B9;
+
+/// The word at a place of a list that is repeated without end; of an empty one 0.
+fn in_turn(words: &[u32], place: u32) -> u32 {
+    let index = place as usize % words.len().max(1);
+    words.get(index).copied().unwrap_or(0)
+}
+
+impl Pattern {
+    pub(crate) const ALL: [Pattern; 12] = [
+        Pattern::Small,
+        Pattern::Large,
+        Pattern::OwnAddresses,
+        Pattern::Addresses,
+        Pattern::Constants,
+        Pattern::OneAddress,
+        Pattern::AddressesAndConstants,
+        Pattern::ConstantsAndAddresses,
+        Pattern::Bases,
+        Pattern::LaterBases,
+        Pattern::LaterAddresses,
+        Pattern::OneBase,
+    ];
+
+    /// The word at a place of a made-up memory, from 0, that starts at an address.
+    pub(crate) fn word(self, clues: &Clues, start: u32, place: u32) -> u32 {
+        let address = |place: u32| in_turn(&clues.addresses, place);
+        let constant = |place: u32| in_turn(&clues.constants, place);
+        let base = |place: u32| in_turn(&clues.bases, place);
+        let is_even = place % 2 == 0;
+        match self {
+            Pattern::Small => place.wrapping_add(1),
+            Pattern::Large => place.wrapping_add(1).wrapping_mul(STRIDE),
+            Pattern::OwnAddresses => start.wrapping_add(place.wrapping_mul(4)),
+            Pattern::Addresses => address(place),
+            Pattern::OneAddress => address(0),
+            Pattern::Constants => constant(place),
+            Pattern::Bases => base(place.wrapping_add(1)),
+            Pattern::LaterBases => base(place.wrapping_add(2)),
+            Pattern::LaterAddresses => address(place.wrapping_add(3)),
+            Pattern::OneBase => address(0).wrapping_sub(in_turn(&clues.offsets, 1)),
+            Pattern::AddressesAndConstants if is_even => address(place / 2),
+            Pattern::ConstantsAndAddresses if !is_even => address(place / 2),
+            Pattern::AddressesAndConstants | Pattern::ConstantsAndAddresses => constant(place / 2),
+        }
+    }
+}

@@ -1,0 +1,40 @@
+//! Memories that the judge makes up.
+ghost use Rattle.std.specs.Prelude.{◌≡◌, ◌+◌, ◌*◌, ◌%◌, ◌≤◌, length};
+
+use crate::refutation::clues::Clues;
+use crate::refutation::pattern::Pattern;
+use iloc_meaning::WORDS;
+use iloc_ops::NoMemory;
+use std::alloc::Global;
+
+/// A memory that the judge makes up: these words from the address `at` on, and all else 0.
+#[derive(Debug, Drop, PartialEq, Eq)]
+pub struct Probe {
+    /// The address of the first word, a multiple of 4.
+    pub at: u32,
+    /// The words from there on, as 32-bit patterns.
+    pub words: Vec<u32>,
+    ghost aligned: { at % 4 ≡ 0 },
+    ghost in_memory: { at ≤ 65532 },
+    ghost fits: { at + 4 * length words.items ≤ 65536 },
+}
+
+/// How many words a made-up memory has at most.
+const MOST_WORDS: u32 = 64;
+
+/// Where a made-up memory starts if no address is known.
+const USUAL_START: u32 = 1_024;
+
+impl Probe {
+    /// The memory that a pattern makes of what two runs mention, from the lowest known address on.
+    pub(crate) fn of(alloc: Global, pattern: Pattern, clues: &Clues) -> Result<Probe, NoMemory> {
+        let lowest = clues.addresses.iter().copied().min();
+        let first = lowest.unwrap_or(USUAL_START) / 4 % WORDS as u32;
+        let at = 4 * first;
+        let mut words = Vec::with_capacity(alloc, MOST_WORDS as usize)?;
+        for place in 0..MOST_WORDS.min(WORDS as u32 - first) {
+            words.push(pattern.word(clues, at, place))?;
+        }
+        Ok(Probe { at, words })
+    }
+}
