@@ -1,0 +1,10 @@
+pub mod Lists
+pub mod Noted
+pub mod InOrder
+pub mod Sources
+pub mod Longest
+pub mod Pairs
+pub mod Waiting
+pub mod Chains
+pub mod Lines
+pub mod OneText

@@ -1,0 +1,80 @@
+-- Members of joined lists, and rising lists; for the other proofs.
+use Rattle.std.proofs.Common.{◌≡◌, ℕ, ◌<◌, suc, Bool, false, List, [], ◌∷◌, length, get_or, Option, Some, None, inl, inr, refl, ap, sym, ◌∙◌, subst, arith}
+use Rattle.std.specs.Prelude.{Contains, option_to_list}
+use Rattle.std.specs.List.{AllPairs, flat_map, list_any}
+use Rattle.iloc_sched.specs.Steps.Members.{In}
+use Rattle.iloc_sched.proofs.Basics.Members.{contains_from, in_left, in_right, from_append}
+use Rattle.iloc_sched.proofs.Basics.Rising.{Rises}
+
+pub in_flat_map : {X Y : Type 0} (f : X → List Y) (xs : List X) (x : X) (y : Y) → In xs x → In (f x) y
+    → In (flat_map f xs) y
+in_flat_map f [] x y there at = absurd there
+in_flat_map f (z ∷ zs) x y (inl here) at = in_left (f z) (flat_map f zs) y (subst (λ w. In (f w) y) (sym here) at)
+in_flat_map f (z ∷ zs) x y (inr there) at = in_right (f z) (flat_map f zs) y (in_flat_map f zs x y there at)
+
+pub from_flat_map : {X Y : Type 0} (f : X → List Y) (xs : List X) (y : Y) → In (flat_map f xs) y
+    → (x : X) × In xs x × In (f x) y
+from_flat_map f [] y there = absurd there
+from_flat_map f (x ∷ xs) y there = elim (from_append (f x) (flat_map f xs) y there) [
+  | inl here ↦ (x, inl refl, here)
+  | inr rest ↦ let found = from_flat_map f xs y rest in (found.0, inr found.1, found.2)
+]
+
+pub any_none : {X : Type 0} (p : X → Bool) (xs : List X) → ((x : X) → In xs x → p x ≡ false) → list_any p xs ≡ false
+any_none p [] none = refl
+any_none p (x ∷ xs) none = rw (none x (inl refl)) (any_none p xs (λ y there. none y (inr there)))
+
+pub from_option : (o : Option ℕ) (i : ℕ) → In (option_to_list o) i → o ≡ Some i
+from_option None i there = absurd there
+from_option (Some x) i (inl here) = ap Some here
+from_option (Some x) i (inr none) = absurd none
+
+pub in_option : (o : Option ℕ) (i : ℕ) → o ≡ Some i → In (option_to_list o) i
+in_option o i is = subst (λ p. In (option_to_list p) i) (sym is) (inl refl)
+
+pub rises_from : (xs : List ℕ) → AllPairs (λ x y. x < y) xs → Rises xs
+rises_from [] pairs = tt
+rises_from (x ∷ xs) pairs = (
+  λ y there.
+      let at : Contains xs y = contains_from xs y there in
+      let within : at.0 < length xs = at.1 in
+      let less : x < get_or xs at.0 y = pairs 0 (suc at.0) y (omega arith) (omega arith) in
+      let is : get_or xs at.0 y ≡ y = at.2 in
+      omega arith,
+  rises_from xs (λ i j d before within. pairs (suc i) (suc j) d (omega arith) (omega arith)),
+)
+
+-- two rising lists with the same members are one
+pub rises_same : (xs ys : List ℕ) → Rises xs → Rises ys → ((z : ℕ) → In xs z → In ys z) → ((z : ℕ) → In ys z → In xs z)
+    → xs ≡ ys
+rises_same [] [] f g to from = refl
+rises_same [] (y ∷ ys) f g to from = absurd (from y (inl refl))
+rises_same (x ∷ xs) [] f g to from = absurd (to x (inl refl))
+rises_same (x ∷ xs) (y ∷ ys) f g to from =
+    ap (λ z. z ∷ xs) heads ∙ ap (λ zs. y ∷ zs) (rises_same xs ys f.1 g.1 rest_to rest_from)
+  where
+    heads : x ≡ y
+    heads = elim (to x (inl refl)) [
+      | inl here ↦ sym here
+      | inr there ↦
+          let high : y < x = g.0 x there in
+          elim (from y (inl refl)) [
+            | inl same ↦ absurd (omega arith)
+            | inr other ↦ let low : x < y = f.0 y other in
+                absurd (omega arith)
+          ]
+    ]
+
+    rest_to : (z : ℕ) → In xs z → In ys z
+    rest_to z there = elim (to z (inr there)) [
+      | inl here ↦ let high : x < z = f.0 z there in
+          absurd (omega (arith, heads))
+      | inr rest ↦ rest
+    ]
+
+    rest_from : (z : ℕ) → In ys z → In xs z
+    rest_from z there = elim (from z (inr there)) [
+      | inl here ↦ let high : y < z = g.0 z there in
+          absurd (omega (arith, heads))
+      | inr rest ↦ rest
+    ]

@@ -1,0 +1,153 @@
+-- Rows that wait for the nearest pairs wait for all delays, and the other way round.
+use Rattle.std.proofs.Common.{◌≡◌, ℕ, zero, suc, ◌+◌, ◌-◌, ◌<◌, ◌≤◌, not, true, false, List, length, inl, inr, ap, subst, arith}
+use Rattle.std.specs.Prelude.{Contains}
+use Rattle.std.specs.List.{range_with_len}
+use Rattle.std.proofs.lemmas.Bool.{and_from, and_parts, not_from_false, or_cases, or_left, or_right}
+use Rattle.iloc_ops.specs.declared.op.Op.{Op}
+use Rattle.iloc_meaning.specs.Trace.{op_at}
+use Rattle.iloc_timed.specs.declared.latencies.Latencies.{Latencies}
+use Rattle.iloc_timed.specs.declared.row.Row.{Row}
+use Rattle.iloc_timed.specs.Kinds.{kind}
+use Rattle.iloc_timed.specs.Latency.{latency}
+use Rattle.iloc_timed.specs.Rows.{issue_cycle}
+use Rattle.iloc_sched.specs.declared.delay_pairs.Pair.{Pair}
+use Rattle.iloc_sched.specs.Delays.{IsDelayPair, delays, keeps_order, memory_delays, reads_stored, uses_result, when}
+use Rattle.iloc_sched.specs.Steps.Members.{In}
+use Rattle.iloc_sched.specs.Steps.Near.{IsNear}
+use Rattle.iloc_sched.proofs.Basics.Maxima.{fold_max_each, fold_max_reached}
+use Rattle.iloc_sched.proofs.Basics.Members.{contains_from, from_append, from_filter, from_map, from_range, in_filter, in_from, in_left, in_map, in_range_from, in_right}
+use Rattle.iloc_sched.proofs.DelayPairs.DelayBounds.{delay_at_least, from_when, in_when}
+use Rattle.iloc_sched.proofs.Graph.FarPairs.{near_or_by_way}
+use Rattle.iloc_graph.specs.Laws.{NearestPairsImplyAll, WaitsForNearest}
+use Rattle.iloc_graph.specs.Nearest.{is_nearest, is_ordered, is_taken_over, longest_delay, nearest_pairs, nearest_to, pair_of, sources, takes_over}
+use Rattle.iloc_graph.proofs.Lists.{any_none, from_flat_map, in_flat_map}
+
+-- a delay by memory or outputs is between operations of which one comes after the other
+ordered : (lat : Latencies) (i j : Op) (d : ℕ) → Contains (memory_delays lat i j) d → is_ordered i j ≡ true
+ordered lat i j d there = elim (from_append (when (reads_stored (kind i) (kind j)) (latency lat i))
+    (when (keeps_order (kind i) (kind j)) 1) d (in_from (memory_delays lat i j) d there)) [
+      | inl reads ↦ or_left (reads_stored (kind i) (kind j)) (keeps_order (kind i) (kind j))
+          (from_when (reads_stored (kind i) (kind j)) (latency lat i) d reads).0
+      | inr keeps ↦ or_right (reads_stored (kind i) (kind j)) (keeps_order (kind i) (kind j))
+          (from_when (keeps_order (kind i) (kind j)) 1 d keeps).0
+    ]
+
+-- the first of nearest operations delays the second
+delayed : (lat : Latencies) (ops : List Op) (i j : ℕ) → is_nearest ops j i ≡ true
+    → (d : ℕ) × In (delays lat (op_at ops i) (op_at ops j)) d
+delayed lat ops i j is =
+    let a = op_at ops i in
+    let b = op_at ops j in
+    elim (or_cases (uses_result a b) _ is) [
+      | inl result ↦ (
+        latency lat a,
+        in_left (when (uses_result a b) (latency lat a)) (memory_delays lat a b) (latency lat a)
+            (in_when (uses_result a b) (latency lat a) result),
+      )
+      | inr memory ↦ elim (or_cases (reads_stored (kind a) (kind b)) (keeps_order (kind a) (kind b))
+          (and_parts (is_ordered a b) (not (is_taken_over ops i j)) memory).0) [
+            | inl reads ↦ (
+              latency lat a,
+              in_right (when (uses_result a b) (latency lat a)) (memory_delays lat a b) (latency lat a)
+                  (in_left (when (reads_stored (kind a) (kind b)) (latency lat a)) (when (keeps_order (kind a) (kind b)) 1)
+                  (latency lat a) (in_when (reads_stored (kind a) (kind b)) (latency lat a) reads)),
+            )
+            | inr keeps ↦ (
+              1,
+              in_right (when (uses_result a b) (latency lat a)) (memory_delays lat a b) 1
+                  (in_right (when (reads_stored (kind a) (kind b)) (latency lat a)) (when (keeps_order (kind a) (kind b)) 1) 1
+                  (in_when (keeps_order (kind a) (kind b)) 1 keeps)),
+            )
+          ]
+    ]
+
+-- the longest delay is one of them, where there is one
+longest_is : (lat : Latencies) (i j : Op) (d : ℕ) → In (delays lat i j) d
+    → Contains (delays lat i j) (longest_delay lat i j)
+longest_is lat i j d there = elim (fold_max_reached 0 (delays lat i j)) [
+  | inl none ↦
+      let some : 1 ≤ d = delay_at_least lat i j d (contains_from (delays lat i j) d there) in
+      let most : d ≤ longest_delay lat i j = fold_max_each 0 (delays lat i j) d there in
+      absurd (omega arith)
+  | inr is ↦ contains_from (delays lat i j) (longest_delay lat i j) is
+]
+
+-- a near pair is one of the nearest, but maybe for its delay
+pub nearest : (lat : Latencies) (ops : List Op) (i j d : ℕ) → IsNear lat ops i j d → is_nearest ops j i ≡ true
+nearest lat ops i j d near = elim near [
+  | inl result ↦ or_left (uses_result (op_at ops i) (op_at ops j)) _ result.0
+  | inr memory ↦ or_right (uses_result (op_at ops i) (op_at ops j)) _
+      (and_from (is_ordered (op_at ops i) (op_at ops j)) (not (is_taken_over ops i j))
+      (ordered lat (op_at ops i) (op_at ops j) d memory.0) (not_from_false (is_taken_over ops i j) (free memory.1)))
+]
+  where
+    free : ((k : ℕ) → i < k → k < j → takes_over (op_at ops i) (op_at ops k) ≡ false) → is_taken_over ops i j ≡ false
+    free none = any_none (λ k. takes_over (op_at ops i) (op_at ops k)) (range_with_len (i + 1) (j - (i + 1)))
+        (λ k there.
+        let b : (i + 1 ≤ k) × (k < i + 1 + (j - (i + 1))) = from_range (i + 1) (j - (i + 1)) k there in
+        none k (omega arith) (omega arith))
+
+pub in_nearest : (lat : Latencies) (ops : List Op) (i j : ℕ) → i < j → j < length ops → is_nearest ops j i ≡ true
+    → Contains (nearest_pairs lat ops) (pair_of lat ops j i)
+in_nearest lat ops i j before within is =
+    contains_from (nearest_pairs lat ops) (pair_of lat ops j i)
+    (in_flat_map (nearest_to lat ops) (range_with_len 0 (length ops)) j (pair_of lat ops j i)
+    (in_range_from 0 (length ops) j (omega arith) (omega arith))
+    (in_map (pair_of lat ops j) (sources ops j) i
+    (in_filter (is_nearest ops j) (range_with_len 0 j) i (in_range_from 0 j i (omega arith) (omega arith)) is)))
+
+module _ (lat : Latencies) (ops : List Op) (rows : List Row) (waits : WaitsForNearest lat ops rows) where
+  near_waits : (i j d : ℕ) → IsDelayPair lat ops i j d → IsNear lat ops i j d → issue_cycle rows i + d ≤ issue_cycle rows j
+  near_waits i j d pair near =
+      let most : d ≤ longest_delay lat (op_at ops i) (op_at ops j) =
+      fold_max_each 0 (delays lat (op_at ops i) (op_at ops j)) d
+      (in_from (delays lat (op_at ops i) (op_at ops j)) d pair.delay) in
+      let over : issue_cycle rows i + longest_delay lat (op_at ops i) (op_at ops j) ≤ issue_cycle rows j =
+      waits i j (longest_delay lat (op_at ops i) (op_at ops j))
+      (in_nearest lat ops i j pair.order pair.within (nearest lat ops i j d near)) in
+      omega arith
+
+  waits_within : (n i j d : ℕ) → j ≤ i + n → IsDelayPair lat ops i j d → issue_cycle rows i + d ≤ issue_cycle rows j
+  waits_within zero i j d few pair = let order : i < j = pair.order in absurd (omega arith)
+  waits_within (suc n) i j d few pair = elim (near_or_by_way lat ops i j d pair) [
+    | inl near ↦ near_waits i j d pair near
+    | inr by ↦
+        let after : i < by.way = by.first.order in
+        let before : by.way < j = by.second.order in
+        let first : issue_cycle rows i + by.first_delay ≤ issue_cycle rows by.way =
+        waits_within n i by.way by.first_delay (omega arith) by.first in
+        let second : issue_cycle rows by.way + by.second_delay ≤ issue_cycle rows j =
+        waits_within n by.way j by.second_delay (omega arith) by.second in
+        let enough : d ≤ by.first_delay + by.second_delay = by.enough in
+        omega arith
+  ]
+
+-- what is one of the nearest pairs is a delay pair
+pub nearest_is_delay : (lat : Latencies) (ops : List Op) (i j d : ℕ)
+    → Contains (nearest_pairs lat ops) (record { first = i; second = j; delay = d }) → IsDelayPair lat ops i j d
+nearest_is_delay lat ops i j d there =
+    let pair : Pair = record { first = i; second = j; delay = d } in
+    let to = from_flat_map (nearest_to lat ops) (range_with_len 0 (length ops)) pair (in_from (nearest_pairs lat ops) pair there) in
+    let from = from_map (pair_of lat ops to.0) (sources ops to.0) pair to.2 in
+    let held = from_filter (is_nearest ops to.0) (range_with_len 0 to.0) from.0 from.1 in
+    let within : (0 ≤ to.0) × (to.0 < 0 + length ops) = from_range 0 (length ops) to.0 to.1 in
+    let before : (0 ≤ from.0) × (from.0 < 0 + to.0) = from_range 0 to.0 from.0 held.0 in
+    let first : from.0 ≡ i = ap (λ (p : Pair). p.first) from.2 in
+    let second : to.0 ≡ j = ap (λ (p : Pair). p.second) from.2 in
+    let some = delayed lat ops from.0 to.0 held.1 in
+    let found : Contains (delays lat (op_at ops from.0) (op_at ops to.0)) (pair_of lat ops to.0 from.0).delay =
+    longest_is lat (op_at ops from.0) (op_at ops to.0) some.0 some.1 in
+    let same : (pair_of lat ops to.0 from.0).delay ≡ d = ap (λ (p : Pair). p.delay) from.2 in
+    record {
+      order = omega arith;
+      within = omega arith;
+      delay = subst (λ b. Contains (delays lat (op_at ops i) (op_at ops b)) d) second
+          (subst (λ a. Contains (delays lat (op_at ops a) (op_at ops to.0)) d) first
+          (subst (λ e. Contains (delays lat (op_at ops from.0) (op_at ops to.0)) e) same found));
+    }
+
+pub nearest_imply_all : NearestPairsImplyAll
+nearest_imply_all lat ops rows = (
+  λ waits i j d pair. waits_within lat ops rows waits j i j d (omega arith) pair,
+  λ waits i j d there. waits i j d (nearest_is_delay lat ops i j d there),
+)

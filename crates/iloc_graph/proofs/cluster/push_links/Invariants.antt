@@ -1,0 +1,8 @@
+use Rattle.std.specs.Prelude.{◌≡◌, ◌++◌, codes, take}
+use Rattle.std.specs.List.{flat_map}
+use Rattle.iloc_graph.specs.Listing.{node}
+use Rattle.iloc_graph.proofs.cluster.push_links.Given as goal
+
+abbrev pub invariant-loop-i : goal.invariant-loop-i
+invariant-loop-i l =
+    l.text.items ≡ l.initial.text.items ++ flat_map (λ j. codes " -> " ++ node l.number j) (take l.i-index l.chain)

@@ -1,0 +1,10 @@
+use Rattle.std.proofs.Common.{◌≡◌, ◌+◌, ◌++◌, drop, length}
+use Rattle.iloc_sched.specs.Renaming.{without_nops}
+use Rattle.iloc_graph.specs.Listing.{node_lines}
+use Rattle.iloc_graph.proofs.cluster.push_operations.Given as goal
+
+abbrev pub invariant-loop-op : goal.invariant-loop-op
+invariant-loop-op l =
+    (l.text.items ++ node_lines l.number l.i (without_nops (drop l.op-index l.block)) (drop l.i l.priorities)
+    ≡ l.initial.text.items ++ node_lines l.number 0 (without_nops l.block) l.priorities)
+    × (l.i + length (without_nops (drop l.op-index l.block)) ≡ length l.priorities)

@@ -1,0 +1,4 @@
+pub mod Nearest
+pub mod Listing
+pub mod Laws
+pub mod Steps
