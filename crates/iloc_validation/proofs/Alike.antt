@@ -2,13 +2,12 @@
 use Rattle.std.proofs.Common.{◌≡◌, ℕ, ℤ, Bool, true, false, ◌||◌, ◌∙◌, List, [], ◌∷◌, ◌++◌, map, Option, Some, None, inl, inr, refl, ap, ap₂, if◌then◌else◌}
 use Rattle.std.specs.Prelude.{filter, option_map, nat_le, nat_lt}
 use Rattle.std.proofs.Math.Path.{fun_ext}
-use Rattle.iloc_meaning.specs.declared.effect.Effect.{Effect}
 use Rattle.iloc_meaning.specs.declared.outcome.Outcome.TheVariants.{Finished, Fault}
 use Rattle.iloc_meaning.specs.Memory.{word_at, with_words}
-use Rattle.iloc_meaning.specs.Trace.{Executed, is_write_to, writes_to, written_by, written_or}
+use Rattle.iloc_meaning.specs.Trace.{is_write_to, writes_to, written_by, written_or}
 use Rattle.iloc_meaning.specs.Outcome.{is_fault, emitted_by, has_fault, emitted}
 use Rattle.iloc_meaning.proofs.Cases.{by_bool}
-use Rattle.iloc_timed.specs.Timed.{Issued, arrived, later, last_due, last_that, word_in, executed_in, timed_outcome_of}
+use Rattle.iloc_timed.specs.Timed.{Issued, arrived, later, last_due, word_in, executed_in, timed_outcome_of}
 use Rattle.iloc_sched.specs.Steps.Members.{In}
 
 pub record Alike (x y : Issued) : Type 0 where

@@ -1,6 +1,6 @@
 -- In a lawful schedule each operation reads what it reads in its block; for both directions of the laws.
-use Rattle.std.proofs.Common.{◌≡◌, ◌≢◌, ℕ, zero, suc, ◌<◌, ◌≤◌, ◌+◌, true, false, List, [], map, fold, length, Option, Some, None, option_map, inl, inr, refl, ap, sym, ◌∙◌, arith}
-use Rattle.std.specs.Prelude.{filter, nat_le}
+use Rattle.std.proofs.Common.{◌≡◌, ℕ, zero, suc, ◌<◌, ◌≤◌, ◌+◌, true, List, map, fold, length, Option, Some, None, option_map, refl, ap, sym, ◌∙◌, arith}
+use Rattle.std.specs.Prelude.{nat_le}
 use Rattle.std.proofs.lemmas.Bool.{le-leb}
 use Rattle.iloc_ops.specs.declared.op.Reg.{Reg}
 use Rattle.iloc_ops.specs.declared.op.Op.{Op}
@@ -17,7 +17,7 @@ use Rattle.iloc_timed.proofs.WholeRuns.{some_latency}
 use Rattle.iloc_sched.specs.Renaming.{Source, source, numbering, name_of, renamed_by, IsRenamed}
 use Rattle.iloc_sched.specs.Renaming.Source.{Start, Result}
 use Rattle.iloc_sched.specs.Steps.Members.{In}
-use Rattle.iloc_sched.proofs.Basics.Members.{in_filter, from_filter, empty_from, in_map, contains_from}
+use Rattle.iloc_sched.proofs.Basics.Members.{in_filter, from_filter, empty_from, in_map}
 use Rattle.iloc_sched.proofs.Basics.Registers.{is_register_same, is_register_from}
 use Rattle.iloc_sched.proofs.Basics.Slots.{early_issued, issued_early}
 use Rattle.iloc_sched.proofs.Renamed.Sources.{name_apart}

@@ -1,5 +1,5 @@
 -- What a table issues, by numbers: each operation once, with what it reads then.
-use Rattle.std.proofs.Common.{◌≡◌, ℕ, ◌+◌, ◌<◌, zero, suc, List, ℤ, [], ◌∷◌, ◌++◌, map, length, Option, Some, None, inl, inr, refl, ap, sym, ◌∙◌, subst, option_to_list}
+use Rattle.std.proofs.Common.{◌≡◌, ℕ, zero, suc, List, ℤ, ◌++◌, map, Option, inl, inr, refl, ap, sym, ◌∙◌, option_to_list}
 use Rattle.std.proofs.lemmas.List.{map-append}
 use Rattle.iloc_ops.specs.declared.op.Op.{Op}
 use Rattle.iloc_meaning.specs.Trace.{op_at}

@@ -1,18 +1,17 @@
 -- A lawful schedule is by the book: each of its operations is the block's with the same number;
 -- `laws::lawful_schedules_are_by_the_book`.
-use Rattle.std.proofs.Common.{◌≡◌, ℕ, ◌+◌, ◌<◌, ◌≤◌, List, map, length, Option, Some, None, option_map, refl, ap, ap₂, sym, ◌∙◌, subst, rules, arith}
+use Rattle.std.proofs.Common.{◌≡◌, ℕ, ◌<◌, List, map, length, Option, Some, None, option_map, refl, ap, ap₂, sym, ◌∙◌, subst, arith}
 use Rattle.iloc_ops.specs.declared.op.Op.{Op}
 use Rattle.iloc_ops.specs.Registers.{used}
 use Rattle.iloc_meaning.specs.Trace.{op_at}
-use Rattle.iloc_timed.specs.declared.kind.Kind.{Kind}
 use Rattle.iloc_timed.specs.declared.latencies.Latencies.{Latencies}
 use Rattle.iloc_timed.specs.declared.row.Row.{Row}
 use Rattle.iloc_timed.specs.Kinds.{kind}
-use Rattle.iloc_timed.specs.Latency.{latency, latency_of}
+use Rattle.iloc_timed.specs.Latency.{latency}
 use Rattle.iloc_timed.specs.Rows.{issue_cycle, IsTable}
 use Rattle.iloc_sched.specs.Delays.{uses_result, memory_delays, delays, when}
 use Rattle.iloc_sched.specs.Lawful.{IsLawful}
-use Rattle.iloc_sched.specs.Renaming.{numbering, without_nops, renamed, IsRenamed}
+use Rattle.iloc_sched.specs.Renaming.{numbering, without_nops, IsRenamed}
 use Rattle.iloc_sched.specs.Steps.Members.{In}
 use Rattle.iloc_sched.proofs.Basics.Members.{in_from, contains_from, in_right}
 use Rattle.iloc_sched.proofs.DelayPairs.WaitedFor.{Waits}

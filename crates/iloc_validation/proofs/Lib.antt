@@ -6,3 +6,11 @@ pub mod GivenReads
 pub mod Renumbered
 pub mod Outcomes
 pub mod Lawful
+pub mod LabelNumbers
+pub mod SourceLists
+pub mod Tracking
+pub mod ReadingRows
+pub mod EarliestCycles
+pub mod Kept
+pub mod InOrder
+pub mod GivenSources

@@ -1,7 +1,6 @@
 -- What rows by the book have in common with the lawful schedule that has the block's own operations in their slots; for
 -- `laws::by_the_book_keeps_the_outcome`, `laws::by_the_book_takes_the_least`.
-use Rattle.std.proofs.Common.{◌≡◌, ℕ, zero, suc, ◌+◌, ◌<◌, ◌≤◌, max, fold, Bool, true, false, ℤ, IsTrue, List, [], ◌∷◌, ◌++◌, map, length, Option, Some, None, option_map, inl, inr, refl, ap, ap₂, sym, ◌∙◌, subst, arith, leb-true}
-use Rattle.std.specs.Prelude.{nat_le}
+use Rattle.std.proofs.Common.{◌≡◌, ℕ, zero, suc, ◌+◌, ◌<◌, ◌≤◌, Bool, true, false, ℤ, IsTrue, List, [], ◌∷◌, ◌++◌, map, length, Option, Some, None, option_map, inl, inr, refl, ap, ap₂, sym, ◌∙◌, subst, arith, leb-true}
 use Rattle.std.specs.List.{range_with_len}
 use Rattle.std.proofs.lemmas.Bool.{cases_eq}
 use Rattle.iloc_ops.specs.declared.op.Reg.{Reg}
@@ -20,7 +19,7 @@ use Rattle.iloc_timed.specs.Cycles.{cycles}
 use Rattle.iloc_timed.specs.Rows.{row_at, slots, issue_cycle, times_issued, keeps_units, IsTable}
 use Rattle.iloc_timed.specs.Timed as timed
 use Rattle.iloc_timed.specs.Timed.{Issued, issue, register_in, word_in, timed_outcome, timed_outcome_of}
-use Rattle.iloc_sched.specs.Delays.{uses_result, reads_stored, keeps_order, when, memory_delays, delays, IsDelayPair}
+use Rattle.iloc_sched.specs.Delays.{uses_result, reads_stored, keeps_order, when, memory_delays, delays}
 use Rattle.iloc_sched.specs.Lawful.{IsLawful}
 use Rattle.iloc_sched.specs.Least.{least}
 use Rattle.iloc_sched.specs.Renaming.{source, numbering, name_of, without_nops, renamed, IsRenamed}
@@ -29,7 +28,7 @@ use Rattle.iloc_sched.specs.Steps.Members.{In}
 use Rattle.iloc_sched.proofs.Basics.Members.{in_from, contains_from, from_append, from_map, in_map, from_any, in_range_from, from_range}
 use Rattle.iloc_sched.proofs.Basics.Maxima.{fold_max_each, fold_max_reached}
 use Rattle.iloc_sched.proofs.Basics.Registers.{is_register_same}
-use Rattle.iloc_sched.proofs.Basics.Slots.{numbers_before, within, issued_early, issued_within}
+use Rattle.iloc_sched.proofs.Basics.Slots.{numbers_before, within, issued_early}
 use Rattle.iloc_sched.proofs.Bounds.LeastBound.{least_bound}
 use Rattle.iloc_sched.proofs.DelayPairs.WaitedFor.{Waits}
 use Rattle.iloc_sched.proofs.Outcome.LawfulOutcomes.{lawful_same_outcome}
@@ -38,8 +37,8 @@ use Rattle.iloc_sched.proofs.Renamed.OneMoreOperation.{map_same}
 use Rattle.iloc_sched.proofs.Renamed.RenamedBlocks.{renamed_is_renamed}
 use Rattle.iloc_validation.specs.ByTheBook.{due, read, given, result_in, IsScheduleUnder, IsByTheBook}
 use Rattle.iloc_validation.proofs.Labels.{kind-with_registers, same_kind, same_effect}
-use Rattle.iloc_validation.proofs.Alike.{Alike, AlikeAll, alike_map, words_alike, arrived_alike, outcome_alike}
-use Rattle.iloc_validation.proofs.Issues.{issued_at, issued_here, log_is, numbers_from_issued}
+use Rattle.iloc_validation.proofs.Alike.{AlikeAll, alike_map, words_alike, arrived_alike, outcome_alike}
+use Rattle.iloc_validation.proofs.Issues.{issued_at, log_is, numbers_from_issued}
 use Rattle.iloc_validation.proofs.ReadValues.{value_of, register_is_read, read_in}
 use Rattle.iloc_validation.proofs.GivenReads.{new, name_at, used_new, named_source, read_is_given}
 use Rattle.iloc_validation.proofs.Renumbered.{renumber, length-renumber, row_at-map, slots_at-map, numbers_before-map, AreApartBelow, AreBelow, times_same, cycle_same, units_same}

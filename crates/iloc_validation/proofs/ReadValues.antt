@@ -1,5 +1,5 @@
 -- The value in a register is the result of the operation that is read.
-use Rattle.std.proofs.Common.{◌≡◌, ℕ, zero, suc, ◌<◌, ◌≤◌, Bool, true, false, ℤ, List, [], ◌∷◌, ◌++◌, map, length, fold, Option, Some, None, ◌⊎◌, inl, inr, refl, ap, sym, ◌∙◌, subst, option_to_list, append_assoc, append-nil, arith}
+use Rattle.std.proofs.Common.{◌≡◌, ℕ, zero, suc, Bool, true, false, ℤ, List, [], ◌∷◌, ◌++◌, map, fold, Option, Some, None, ◌⊎◌, inl, inr, refl, ap, sym, ◌∙◌, option_to_list, append_assoc, append-nil}
 use Rattle.std.specs.Prelude.{filter, option_map, nat_lt, nat_le}
 use Rattle.std.proofs.lemmas.List.Elements.{filter-append}
 use Rattle.std.proofs.lemmas.List.Sums.{fold-append}
@@ -10,23 +10,23 @@ use Rattle.iloc_meaning.specs.Trace.{Executed, op_at, is_register, defines, resu
 use Rattle.iloc_meaning.proofs.Cases.{by_bool}
 use Rattle.iloc_timed.specs.declared.latencies.Latencies.{Latencies}
 use Rattle.iloc_timed.specs.declared.row.Row.{Row}
-use Rattle.iloc_timed.specs.Rows.{row_at, slots, IsTable}
+use Rattle.iloc_timed.specs.Rows.{row_at, IsTable}
 use Rattle.iloc_timed.specs.Timed as timed
 use Rattle.iloc_timed.specs.Timed.{Issued, later, last_due, register_in}
 use Rattle.iloc_sched.specs.Steps.Members.{In}
 use Rattle.iloc_sched.proofs.Basics.Members.{from_filter}
 use Rattle.iloc_sched.proofs.Basics.Slots.{numbers_before}
-use Rattle.iloc_validation.specs.ByTheBook.{issued_before, in_order, due, last_of, defining, arrived, read}
+use Rattle.iloc_validation.specs.ByTheBook.{issued_before, due, last_of, defining, arrived, read}
 use Rattle.iloc_validation.proofs.Issues.{issued_at, log_is}
 
 module _ (e : ℕ → Issued) (test : Executed → Bool) (n : ℕ) where
   -- of these numbers, in the order of issue, the one that arrives last by cycle n
-  abbrev picked : List ℕ → Option ℕ
+  abbrev pub picked : List ℕ → Option ℕ
   picked js = fold (last_of (λ k. (e k).due)) None
       (filter (λ k. nat_le (e k).due n) (filter (λ k. test (e k).executed) js))
 
   -- the same of a log that begins with the latest
-  abbrev in_log : List ℕ → Option Issued
+  abbrev pub in_log : List ℕ → Option Issued
   in_log ks = last_due (filter (λ (x : Issued). test x.executed) (filter (λ (x : Issued). nat_le x.due n) (map e ks)))
 
   later_mapped : (k : ℕ) (o : Option ℕ) → Some (later (e k) (option_map e o)) ≡ option_map e (last_of (λ j. (e j).due) o k)
@@ -83,7 +83,7 @@ module _ (e : ℕ → Issued) (test : Executed → Bool) (n : ℕ) where
       agree_more o (z ∷ ks) (js ++ z ∷ []) (agree_more z ks js before)
       ∙ ap (λ xs. option_map e (picked xs)) (append_assoc js (z ∷ []) (o ∷ []))
 
-  agree : (rows : List Row) (c : ℕ) → in_log (numbers_before rows c) ≡ option_map e (picked (issued_before rows c))
+  pub agree : (rows : List Row) (c : ℕ) → in_log (numbers_before rows c) ≡ option_map e (picked (issued_before rows c))
   agree rows zero = refl
   agree rows (suc c) = agree_row (row_at rows c).zero (row_at rows c).one (numbers_before rows c) (issued_before rows c)
       (agree rows c)
@@ -92,7 +92,7 @@ module _ (e : ℕ → Issued) (test : Executed → Bool) (n : ℕ) where
 abbrev pub value_of : (ℕ → Issued) → Option ℕ → ℤ
 value_of e o = result_or_zero (option_map (λ k. (e k).executed) o)
 
-value_mapped : (e : ℕ → Issued) (o : Option ℕ)
+pub value_mapped : (e : ℕ → Issued) (o : Option ℕ)
     → result_or_zero (option_map (λ (x : Issued). x.executed) (option_map e o)) ≡ value_of e o
 value_mapped e None = refl
 value_mapped e (Some k) = refl

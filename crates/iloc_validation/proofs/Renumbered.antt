@@ -1,18 +1,17 @@
 -- Rows in which each number is another, one to one: what stands where stays.
-use Rattle.std.proofs.Common.{◌≡◌, ◌≢◌, ℕ, zero, suc, ◌+◌, ◌<◌, Bool, true, false, ◌==◌, cond, List, [], ◌∷◌, ◌++◌, map, length, Option, Some, None, option_map, option_to_list, inl, inr, refl, ap, ap₂, sym, ◌∙◌, eq-eqb, ne_eqb, arith}
+use Rattle.std.proofs.Common.{◌≡◌, ℕ, zero, suc, ◌+◌, ◌<◌, ◌==◌, cond, List, [], ◌∷◌, ◌++◌, map, length, Option, Some, None, option_map, option_to_list, inl, inr, refl, ap, ap₂, sym, ◌∙◌, eq-eqb, ne_eqb}
 use Rattle.std.specs.Prelude.{count_by}
 use Rattle.std.specs.List.{list_any}
 use Rattle.std.proofs.lemmas.Bool.{cases_eq}
 use Rattle.std.proofs.lemmas.List.{map-append}
 use Rattle.iloc_ops.specs.declared.op.Op.{Op}
 use Rattle.iloc_meaning.specs.Trace.{op_at}
-use Rattle.iloc_meaning.proofs.Cases.{by_bool}
 use Rattle.iloc_timed.specs.declared.row.Row.{Row}
 use Rattle.iloc_timed.specs.Kinds.{kind}
 use Rattle.iloc_timed.specs.Rows.{row_at, slots, holds, issue_cycle, times_issued, kind_in, keeps_units}
 use Rattle.iloc_sched.specs.Steps.Members.{In}
 use Rattle.iloc_sched.proofs.Basics.Members.{in_left, in_right}
-use Rattle.iloc_sched.proofs.Basics.Slots.{numbers_before, count_in, count_by-cons, times_issued-cons}
+use Rattle.iloc_sched.proofs.Basics.Slots.{numbers_before, count_by-cons, times_issued-cons}
 
 abbrev pub renumber : (ℕ → ℕ) → Row → Row
 renumber f row = record { zero = option_map f row.zero; one = option_map f row.one }

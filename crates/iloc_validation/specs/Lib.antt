@@ -1,2 +1,4 @@
 pub mod ByTheBook
+pub mod Finding
 pub mod Laws
+pub mod Steps

@@ -1,0 +1,71 @@
+-- From which cycle on memory and outputs let an operation be issued: it waits for what it has to wait for, and for no more.
+use Rattle.std.proofs.Common.{◌≡◌, ◌<◌, ◌≤◌, ℕ, zero, suc, ◌+◌, List, map, inl, inr, refl, sym, ap, ◌∙◌, subst, arith, add-one}
+use Rattle.std.specs.Prelude.{max, fold}
+use Rattle.std.proofs.lemmas.Bool.{cases_eq}
+use Rattle.iloc_ops.specs.declared.op.Op.{Op}
+use Rattle.iloc_meaning.specs.Trace.{op_at}
+use Rattle.iloc_timed.specs.declared.kind.Kind.{Kind}
+use Rattle.iloc_timed.specs.declared.kind.Kind.TheVariants as K
+use Rattle.iloc_timed.specs.declared.latencies.Latencies.{Latencies}
+use Rattle.iloc_timed.specs.Kinds.{kind}
+use Rattle.iloc_sched.specs.Steps.Members.{In}
+use Rattle.iloc_sched.proofs.Basics.Members.{in_map, from_map}
+use Rattle.iloc_sched.proofs.Basics.Maxima.{fold_max_start, fold_max_each, fold_max_reached}
+use Rattle.iloc_validation.specs.declared.waits.Waits.{Waits}
+use Rattle.iloc_validation.specs.Steps.Waits.{memory_by, earliest, wait_of, noted}
+
+-- an operation that is noted raises the waits by its delays
+pub wait_of-noted : (lat : Latencies) (a : Kind) (cycle : ℕ) (waits : Waits) (k : Kind)
+    → wait_of (noted lat a cycle waits) k ≡ fold max (wait_of waits k) (map (λ d. cycle + d) (memory_by lat a k))
+wait_of-noted lat K.Load cycle waits K.Load = refl
+wait_of-noted lat K.Store cycle waits K.Load = refl
+wait_of-noted lat K.Mult cycle waits K.Load = refl
+wait_of-noted lat K.Output cycle waits K.Load = refl
+wait_of-noted lat K.Other cycle waits K.Load = refl
+wait_of-noted lat _ cycle waits _ = refl
+
+module _ (lat : Latencies) (block : List Op) (cycle : ℕ → ℕ) where
+  pub waited_for : (j : ℕ) (k : Kind) (c : ℕ) → earliest lat block cycle j k ≤ c → (i d : ℕ) → i < j
+      → In (memory_by lat (kind (op_at block i)) k) d → cycle i + d ≤ c
+  waited_for zero k c over i d before there = absurd (omega arith)
+  waited_for (suc j) k c over i d before there =
+      let earlier : earliest lat block cycle j k ≤ earliest lat block cycle (suc j) k =
+      fold_max_start (earliest lat block cycle j k) (map (λ e. cycle j + e) (memory_by lat (kind (op_at block j)) k)) in
+      elim (cases_eq i j) [
+        | inl last ↦
+            let here : In (memory_by lat (kind (op_at block j)) k) d =
+            subst (λ n. In (memory_by lat (kind (op_at block n)) k) d) last there in
+            let most : cycle j + d ≤ earliest lat block cycle (suc j) k =
+            fold_max_each (earliest lat block cycle j k) (map (λ e. cycle j + e) (memory_by lat (kind (op_at block j)) k))
+            (cycle j + d) (in_map (λ e. cycle j + e) (memory_by lat (kind (op_at block j)) k) d here) in
+            rw last (omega arith)
+        | inr other ↦ waited_for j k c (omega arith) i d (omega arith) there
+      ]
+
+  pub waits_no_more : (j : ℕ) (k : Kind) (c : ℕ)
+      → ((i d : ℕ) → i < j → In (memory_by lat (kind (op_at block i)) k) d → cycle i + d ≤ c)
+      → earliest lat block cycle j k ≤ c
+  waits_no_more zero k c each = omega arith
+  waits_no_more (suc j) k c each =
+      elim (fold_max_reached (earliest lat block cycle j k)
+      (map (λ e. cycle j + e) (memory_by lat (kind (op_at block j)) k))) [
+        | inl before ↦
+            let rest : earliest lat block cycle j k ≤ c =
+            waits_no_more j k c (λ i d earlier there. each i d (omega arith) there) in
+            rw before rest
+        | inr here ↦
+            let one = from_map (λ e. cycle j + e) (memory_by lat (kind (op_at block j)) k)
+            (earliest lat block cycle (suc j) k) here in
+            let most : cycle j + one.0 ≤ c = each j one.0 (omega arith) one.1 in
+            subst (λ n. n ≤ c) one.2 most
+      ]
+
+  -- one operation more
+  pub noted_next : (i n : ℕ) (a : Kind) (waits waits' : Waits) → a ≡ kind (op_at block i) → n ≡ cycle i
+      → ((k : Kind) → wait_of waits k ≡ earliest lat block cycle i k) → waits' ≡ noted lat a n waits → (k : Kind)
+      → wait_of waits' k ≡ earliest lat block cycle (i + 1) k
+  noted_next i n a waits waits' is at so_far more k =
+      let here : fold max (wait_of waits k) (map (λ d. n + d) (memory_by lat a k)) ≡ earliest lat block cycle (suc i) k =
+      rw (so_far k, is, at) refl in
+      ap (λ w. wait_of w k) more ∙ wait_of-noted lat a n waits k ∙ here
+      ∙ ap (λ m. earliest lat block cycle m k) (sym (add-one i))

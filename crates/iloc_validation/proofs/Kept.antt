@@ -1,0 +1,129 @@
+-- What is tested of each operation is that the rows are a schedule under the pairing.
+use Rattle.std.proofs.Common.{◌≡◌, ℕ, ◌<◌, ◌≤◌, ◌+◌, List, length, option_map, sym, ap, ◌∙◌, subst, arith}
+use Rattle.std.specs.Prelude.{slice_index}
+use Rattle.iloc_ops.specs.declared.op.Op.{Op}
+use Rattle.iloc_ops.specs.Registers.{used}
+use Rattle.iloc_meaning.specs.Trace.{op_at}
+use Rattle.iloc_timed.specs.declared.latencies.Latencies.{Latencies}
+use Rattle.iloc_timed.specs.Kinds.{kind}
+use Rattle.iloc_timed.specs.Limits.{MAX_ROWS}
+use Rattle.iloc_timed.specs.Rows.{issue_cycle}
+use Rattle.iloc_timed.specs.Schedule.{Table}
+use Rattle.iloc_sched.specs.Delays.{memory_delays}
+use Rattle.iloc_sched.proofs.Basics.Members.{in_from, contains_from}
+use Rattle.iloc_sched.proofs.Basics.Slots.{issued_within}
+use Rattle.iloc_validation.specs.declared.reading.Reading.{Reading}
+use Rattle.iloc_validation.specs.declared.sources.Sources.{Sources}
+use Rattle.iloc_validation.specs.ByTheBook.{read, given, IsScheduleUnder}
+use Rattle.iloc_validation.specs.Steps.Pairing.{LeadsBack}
+use Rattle.iloc_validation.specs.Steps.Readings.{reading_at}
+use Rattle.iloc_validation.specs.Steps.Sides.{AreSides, IsKept}
+use Rattle.iloc_validation.specs.Steps.Sources.{sources_of, by_numbers}
+use Rattle.iloc_validation.specs.Steps.Waits.{earliest}
+use Rattle.iloc_validation.proofs.EarliestCycles.{waited_for, waits_no_more}
+use Rattle.iloc_validation.proofs.SourceLists.{few_used, by_numbers_of, lists_same, sources_from_lists}
+
+module _ (lat : Latencies) (block : List Op) (givens : List Sources) (schedule : Table) (readings : List Reading)
+    (sides : AreSides lat block givens schedule readings) (there back : List ℕ)
+    (origins : length there ≡ length schedule.ops) (partners : length back ≡ length block) where
+  abbrev ops : List Op
+  ops = schedule.ops
+
+  abbrev origin : ℕ → ℕ
+  origin = slice_index there
+
+  abbrev partner : ℕ → ℕ
+  partner = slice_index back
+
+  -- the cycle at which the partner of operation i is issued
+  abbrev pub cycle : ℕ → ℕ
+  cycle i = (reading_at readings (partner i)).cycle
+
+  abbrev IsUnder : Type 0
+  IsUnder = IsScheduleUnder lat block ops schedule.rows origin partner
+
+  pub leads_there : IsUnder → LeadsBack there back × LeadsBack back there
+  leads_there under = (
+    λ k here.
+        let inside : k < length ops = omega arith in
+        let below : origin k < length block = under.paired.there k inside in
+        (omega arith, under.paired.back k inside),
+    λ i here.
+        let inside : i < length block = omega arith in
+        let below : partner i < length ops = under.paired.there_too i inside in
+        (omega arith, under.paired.back_too i inside),
+  )
+
+  issued_at : (k : ℕ) → k < length ops → (reading_at readings k).cycle ≡ issue_cycle schedule.rows k
+  issued_at k here = ap (λ (r : Reading). r.cycle) (sides.each_reading k here)
+
+  pub issued_early : (k : ℕ) → k < length readings → (reading_at readings k).cycle ≤ MAX_ROWS
+  issued_early k here =
+      let inside : k < length ops = omega (arith, sides.reading_count) in
+      let row : issue_cycle schedule.rows k < length schedule.rows = issued_within ops schedule.rows sides.table k inside in
+      let few : length schedule.rows ≤ MAX_ROWS = sides.few in
+      rw issued_at (omega arith)
+
+  reads_at : (k : ℕ) → k < length ops → by_numbers origin (reading_at readings k).sources
+      ≡ sources_of (λ r. option_map origin (read lat ops schedule.rows (issue_cycle schedule.rows k) r)) (used (op_at ops k))
+  reads_at k here =
+      ap (λ (r : Reading). by_numbers origin r.sources) (sides.each_reading k here)
+      ∙ by_numbers_of origin (read lat ops schedule.rows (issue_cycle schedule.rows k)) (used (op_at ops k))
+
+  module _ (waits : List ℕ) (each_wait : (i : ℕ) → i < length block
+      → slice_index waits i ≡ earliest lat block cycle i (kind (op_at block i))) where
+    pub are_kept : IsUnder → (k : ℕ) → k < length ops → IsKept block givens ops readings waits there k
+    are_kept under k here =
+        let below : origin k < length block = under.paired.there k here in
+        record {
+          label = under.paired.labels k here;
+          reads =
+              reads_at k here
+              ∙ sources_from_lists (λ r. option_map origin (read lat ops schedule.rows (issue_cycle schedule.rows k) r))
+              (given block (origin k)) (used (op_at ops k)) (used (op_at block (origin k))) (under.reads k here)
+              ∙ sym (sides.each_given (origin k) below);
+          in_time =
+              rw each_wait (waits_no_more lat block cycle (origin k) (kind (op_at block (origin k)))
+              (reading_at readings k).cycle (λ i d before delay.
+              let first : i < length block = omega arith in
+              let kept : issue_cycle schedule.rows (partner i) + d ≤ issue_cycle schedule.rows (partner (origin k)) =
+              under.waits i (origin k) d before below
+              (contains_from (memory_delays lat (op_at block i) (op_at block (origin k))) d delay) in
+              rw (issued_at (partner i) (under.paired.there_too i first), issued_at k here, ← under.paired.back k here) kept));
+        }
+
+    module _ (leads : LeadsBack there back) (returns : LeadsBack back there)
+        (kept : (k : ℕ) → k < length ops → IsKept block givens ops readings waits there k) where
+      below : (k : ℕ) → k < length ops → origin k < length block
+      below k here = let one : origin k < length back = (leads k (omega arith)).0 in omega arith
+
+      below_too : (i : ℕ) → i < length block → partner i < length ops
+      below_too i here = let one : partner i < length there = (returns i (omega arith)).0 in omega arith
+
+      pub is_under : IsUnder
+      is_under = record {
+        table = sides.table;
+        paired = record {
+          there = below;
+          back = λ k here. (leads k (omega arith)).1;
+          there_too = below_too;
+          back_too = λ i here. (returns i (omega arith)).1;
+          labels = λ k here. (kept k here).label;
+        };
+        reads = λ k here.
+            lists_same (λ r. option_map origin (read lat ops schedule.rows (issue_cycle schedule.rows k) r))
+            (given block (origin k)) (used (op_at ops k)) (used (op_at block (origin k)))
+            (few_used (op_at ops k)) (few_used (op_at block (origin k)))
+            (sym (reads_at k here) ∙ (kept k here).reads ∙ sides.each_given (origin k) (below k here));
+        waits = λ i j d before here delay.
+            let first : i < length block = omega arith in
+            let one : origin (partner j) ≡ j = (returns j (omega arith)).1 in
+            let over : slice_index waits j ≤ (reading_at readings (partner j)).cycle =
+            subst (λ n. slice_index waits n ≤ (reading_at readings (partner j)).cycle) one (kept (partner j) (below_too j here)).in_time in
+            let from : earliest lat block cycle j (kind (op_at block j)) ≤ (reading_at readings (partner j)).cycle =
+            rw each_wait at over in
+            let waited : (reading_at readings (partner i)).cycle + d ≤ (reading_at readings (partner j)).cycle =
+            waited_for lat block cycle j (kind (op_at block j)) (reading_at readings (partner j)).cycle from i d before
+            (in_from (memory_delays lat (op_at block i) (op_at block j)) d delay) in
+            rw (← issued_at (partner i) (below_too i first), ← issued_at (partner j) (below_too j here)) waited;
+      }

@@ -1,0 +1,77 @@
+//! Whether rows are a schedule of a block under a pairing of their operations.
+ghost use Rattle.std.specs.Prelude.{◌≡◌, ◌<◌, ◌↔◌, length, slice_index, IsTrue, IfOk};
+ghost use Rattle.iloc_validation.specs.ByTheBook.{IsScheduleUnder};
+ghost use Rattle.iloc_validation.specs.Steps.Pairing.{LeadsBack};
+ghost use Rattle.iloc_validation.specs.Steps.Sides.{AreSides, IsKept};
+
+use crate::label::have_one_label;
+use crate::pairing::Pairing;
+use crate::reading::Reading;
+use crate::sources::{Sources, are_same};
+use crate::waits::waits_of;
+use iloc_ops::{NoMemory, Op};
+use iloc_timed::{Latencies, Schedule};
+use std::alloc::Global;
+
+/// A block without its `nop`s and rows for it, with what their operations read.
+#[derive(Clone, Copy)]
+pub(crate) struct Sides<'a> {
+    pub block: &'a [Op],
+    /// By operation of the block what it reads.
+    pub givens: &'a [Sources],
+    pub schedule: &'a Schedule,
+    /// By operation of the rows when it is issued, and what it reads.
+    pub readings: &'a [Reading],
+}
+
+/// Whether operation k of the rows has the label of the one that it is paired with, reads what that one reads, and waits
+/// for what memory and outputs make it wait for.
+fn is_kept(sides: &Sides, pairing: &Pairing, waits: &[usize], k: usize) -> bool
+    requires there { k < length sides.now.readings.now }
+    requires sized { length sides.now.readings.now ≡ length sides.now.schedule.now.ops }
+    requires origins { length pairing.now.origin.items ≡ length sides.now.schedule.now.ops }
+    requires known { slice_index pairing.now.origin.items k < length sides.now.block.now }
+    requires givens { length sides.now.givens.now ≡ length sides.now.block.now }
+    requires waits { length waits.now ≡ length sides.now.block.now }
+    ensures { IsTrue result ↔ IsKept sides.now.block.now sides.now.givens.now sides.now.schedule.now.ops
+        sides.now.readings.now waits.now pairing.now.origin.items k }
+{
+    let i = pairing.origin[k];
+    let reading = sides.readings[k];
+    have_one_label(&sides.schedule.ops()[k], &sides.block[i])
+        && are_same(reading.sources.by_numbers(&pairing.origin), sides.givens[i])
+        && waits[i] <= reading.cycle
+}
+
+/// Whether rows are a schedule of a block by the book under this pairing.
+pub(crate) fn is_schedule_under(
+    alloc: Global,
+    sides: &Sides,
+    pairing: &Pairing,
+    latencies: &Latencies,
+) -> Result<bool, NoMemory>
+    requires sides { AreSides latencies.now sides.now.block.now sides.now.givens.now sides.now.schedule.now
+        sides.now.readings.now }
+    requires origins { length pairing.now.origin.items ≡ length sides.now.schedule.now.ops }
+    requires partners { length pairing.now.partner.items ≡ length sides.now.block.now }
+    ensures { IfOk result (λ are. IsTrue are ↔ IsScheduleUnder latencies.now sides.now.block.now
+        sides.now.schedule.now.ops sides.now.schedule.now.rows
+        (slice_index pairing.now.origin.items) (slice_index pairing.now.partner.items)) }
+{
+    if !pairing.is_one_to_one() {
+        return Ok(false);
+    }
+    let waits = waits_of(
+        alloc,
+        sides.block,
+        &pairing.partner,
+        sides.readings,
+        latencies,
+    )?;
+    for k in 0..sides.readings.len() {
+        if !is_kept(sides, pairing, &waits, k) {
+            return Ok(false);
+        }
+    }
+    Ok(true)
+}
