@@ -7,7 +7,7 @@ use Rattle.clap.specs.declared.builder.arg.Arg.{Arg}
 use Rattle.clap.specs.declared.builder.command.Command.{Command}
 use Rattle.clap.specs.declared.builder.command.Command.TheOpen.{Command-F}
 use Rattle.clap.specs.declared.builder.command.Command.TheViews.{out-Command}
-use Rattle.iloc_args.specs.Steps.Building.{AddsRules, HasApp, HasRule}
+use Rattle.iloc_args.specs.Steps.Building.{AddsArgument, AddsRules, HasApp, HasRule}
 
 -- a setting of an argument
 pub set_rule : (change : Rule → Rule) (r : Rule) (old new set : Arg) → HasRule r old → new ≡ set
@@ -51,7 +51,22 @@ pub if_more_rule : {E : Type 0} (a : App) (r : Rule) (old : Command) (arg : Arg)
 if_more_rule a r old arg (Ok new) had rule adds = more_rule a r old arg new had rule adds
 if_more_rule a r old arg (Err e) had rule adds = tt
 
--- three arguments, behind those of a command that could be made
+-- an argument, after those of a command that could be made
+pub one_argument : {E : Type 0} (command result : Result Command E) (old : Command) (arg : Arg) → command ≡ Ok old
+    → IfOk result (AddsArg old arg) → IfOk result (λ new. IsOkAnd command (λ c. AddsArgument arg c new))
+one_argument command (Ok new) old arg made adds = rw made (λ rule has. record {
+  app = λ a had. more_rule a rule old arg new had has adds;
+})
+one_argument command (Err e) old arg made adds = tt
+
+pub if_one_argument : {E : Type 0} (a : App) (r : Rule) (old result : Result Command E) (arg : Arg) → IfOk old (HasApp a)
+    → HasRule r arg
+    → IfOk result (λ new. IsOkAnd old (λ c. AddsArgument arg c new)) → IfOk result (HasApp (with_rule a r))
+if_one_argument a r (Ok old) (Ok new) arg had rule adds = (adds r rule).app a had
+if_one_argument a r (Err e) (Ok new) arg had rule adds = absurd adds
+if_one_argument a r old (Err e) arg had rule adds = tt
+
+-- three arguments, after those of a command that could be made
 pub three_rules : {E : Type 0} (r1 r2 r3 : Rule) (command result : Result Command E) (old one two : Command)
     (a1 a2 a3 : Arg)
     → command ≡ Ok old
@@ -66,7 +81,7 @@ three_rules r1 r2 r3 command (Ok new) old one two a1 a2 a3 made h1 h2 h3 adds1 a
 })
 three_rules r1 r2 r3 command (Err e) old one two a1 a2 a3 made h1 h2 h3 adds1 adds2 adds3 = tt
 
--- arguments behind those of a command that could be made
+-- arguments after those of a command that could be made
 pub if_more_rules : {E : Type 0} (a : App) (rules : List Rule) (old result : Result Command E)
     → IfOk old (HasApp a)
     → IfOk result (λ new. IsOkAnd old (λ c. AddsRules rules c new)) → IfOk result (HasApp (fold with_rule a rules))

@@ -14,7 +14,7 @@ use Rattle.iloc_args.specs.Command.{farm_app}
 use Rattle.iloc_args.specs.Due.{Asks, IsAskedFor, IsDue, faults_in}
 use Rattle.iloc_args.specs.Steps.Refusing.{IsFaultBy, IsOutOfRange}
 use Rattle.iloc_args.specs.declared.fault.LineFault.{LineFault}
-use Rattle.iloc_args.specs.declared.fault.LineFault.TheVariants.{Help, Refused, BadStart, TooManyWords, NoMemory}
+use Rattle.iloc_args.specs.declared.fault.LineFault.TheVariants.{Help, Refused, BadStart, TooManyWords, NoSuchPriority, NoMemory}
 
 farm_is_free : is_simple_and_free farm_app ≡ true
 unfolding clap_on_literals
@@ -57,6 +57,7 @@ refused_words a words e f is h =
     go (Refused text) has by = (kind_of e, among (Refused text) has by.1, by.0)
     go (BadStart at) has by = absurd by
     go TooManyWords has by = absurd by
+    go NoSuchPriority has by = absurd by
     go NoMemory has by = tt
 
 -- a request out of range is a fault of the words that asked for it
@@ -65,4 +66,5 @@ ranged_words words a (Help text) asks h = absurd h
 ranged_words words a (Refused text) asks h = absurd h
 ranged_words words a (BadStart at) asks h = (a, asks, h)
 ranged_words words a TooManyWords asks h = (a, asks, h)
+ranged_words words a NoSuchPriority asks h = (a, asks, h)
 ranged_words words a NoMemory asks h = tt

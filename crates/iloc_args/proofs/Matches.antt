@@ -1,11 +1,12 @@
--- The matches of a command hold numbers in their ranges, where the parser finds no fault in the words.
+-- The matches of a command hold numbers in their ranges and flags, where the parser finds no fault in the words.
 use Rattle.std.proofs.Common.{◌≡◌, ◌∙◌, ◌||◌, ◌++◌, ℕ, Bool, true, false, cond, pos, List, [], ◌∷◌, Some, None}
 use Rattle.std.proofs.Common.{Option, map, refl, sym, ap, subst, codes}
 use Rattle.std.specs.Prelude.{Box, IfSome, find, option_and_then, option_map, slice_get, unwrap_or}
 use Rattle.std.specs.Box.{box_value}
-use Rattle.std.specs.List.{AllByRecursion}
+use Rattle.std.specs.List.{AllByRecursion, list_all}
 use Rattle.std.specs.Option.{option_map_or}
 use Rattle.std.specs.Str.{bytes_eq}
+use Rattle.std.proofs.lemmas.Bool.{and_parts}
 use Rattle.std.proofs.lemmas.Slice.Eq.{bytes_eq-Decides}
 use Rattle.clap.specs.Facts.{parser_of_value}
 use Rattle.clap.specs.Faults.{entered_fault, level_fault, walk_fault}
@@ -15,41 +16,46 @@ use Rattle.clap.specs.Simple.{subcommand_of, subcommand_rows}
 use Rattle.clap.specs.Values.{read_as, reading_of}
 use Rattle.clap.specs.Walk.{Row, Rule, Text, answers_to, arg_by_id, nothing_held, row_text, rows_after, stop_after, walk_from}
 use Rattle.clap.specs.declared.builder.value_parser.Reading.{Reading}
-use Rattle.clap.specs.declared.builder.value_parser.Reading.TheVariants.{WithoutMinus}
-use Rattle.clap.specs.declared.builder.value_parser.ValueParser.TheVariants.{Signed}
+use Rattle.clap.specs.declared.builder.value_parser.Reading.TheVariants.{AsWritten, WithoutMinus}
+use Rattle.clap.specs.declared.builder.value_parser.ValueParser.{ValueParser}
+use Rattle.clap.specs.declared.builder.value_parser.ValueParser.TheVariants.{Signed, Bool as BoolParser}
 use Rattle.clap.specs.declared.parser.matches.ArgMatches.TheViews.{out-SubCommand}
 use Rattle.clap.specs.declared.parser.matches.SubCommand.{SubCommand}
 use Rattle.iloc_meaning.specs.Address.{LAST_ADDRESS}
 use Rattle.iloc_timed.specs.Limits.{LONGEST_LATENCY}
 use Rattle.iloc_args.specs.Asked.{asked, asked_as, asked_by, task_named}
-use Rattle.iloc_args.specs.Command.{Entry, entries, explain_entry, farm_app, run_entry, schedule_entry, shape, simulate_entry}
+use Rattle.iloc_args.specs.Command.{Entry, entries, farm_app, shape}
 use Rattle.iloc_args.specs.Due.{faults_in}
-use Rattle.iloc_args.specs.Steps.Taken.{AreNumbersIn, HoldNumbers, HoldsIn, IsNumberIn}
+use Rattle.iloc_args.specs.Steps.Taken.{AreNumbersIn, HoldValues, HoldsFlag, HoldsIn, IsFlagText, IsNumberIn}
 use Rattle.iloc_args.specs.declared.request.Task.{Task}
+use Rattle.iloc_args.proofs.Fits.{IsFit, Takes, TakesIn, fits, is_fit}
+use Rattle.iloc_args.proofs.Flags.{taken_flag}
 use Rattle.iloc_args.proofs.Leaves.{found_kept, leaf_kept, row_in}
 use Rattle.iloc_args.proofs.Numbers.{taken_numbers}
 use Rattle.iloc_args.proofs.Rows.{IsKept, both_empty}
 use Rattle.iloc_args.proofs.Stops.{IsElsewhere, walk_elsewhere}
-use Rattle.iloc_args.proofs.Uses.{AllOurs}
 
--- ---- numbers in rows
+-- ---- numbers and flags in rows
 
--- an argument of this id takes numbers within these bounds
-abbrev pub TakesIn : ℕ → ℕ → Text → List Rule → Type 0
-TakesIn low high id rules = IfSome (arg_by_id rules id) (λ a. a.parser ≡ Some (Signed (pos low) (pos high)))
+-- the parser takes the values of a row, and they are read as it says
+row_taken : (p : ValueParser) (id : Text) (rules : List Rule) (r : Row) → Takes p id rules
+    → IsKept rules r × (r.id ≡ id)
+    → (r.reading ≡ reading_of p) × (ignore_case : Bool) × (values_kinds ignore_case p r.values ≡ [])
+row_taken p id rules r takes kept =
+    let found : arg_by_id rules id ≡ Some kept.0.rule = ap (arg_by_id rules) (sym kept.1) ∙ kept.0.first in
+    let is : kept.0.rule.parser ≡ Some p = subst (λ o. IfSome o (λ (a : Rule). a.parser ≡ Some p)) found takes in (
+      kept.0.holds.reading ∙ ap (λ q. reading_of (parser_of_value q)) is,
+      kept.0.rule.ignore_case,
+      subst (λ q. values_kinds kept.0.rule.ignore_case (parser_of_value q) r.values ≡ []) is kept.0.holds.values,
+    )
 
--- the values of a row are such numbers
+-- the values of a row are numbers within these bounds
 row_read : (low high : ℕ) (id : Text) (rules : List Rule) (r : Row) → TakesIn low high id rules → IsKept rules r
     × (r.id ≡ id)
     → (r.reading ≡ WithoutMinus) × AreNumbersIn low high (map (read_as WithoutMinus) r.values)
 row_read low high id rules r takes kept =
-    let found : arg_by_id rules id ≡ Some kept.0.rule = ap (arg_by_id rules) (sym kept.1) ∙ kept.0.first in
-    let is : kept.0.rule.parser ≡ Some (Signed (pos low) (pos high)) =
-    subst (λ o. IfSome o (λ (a : Rule). a.parser ≡ Some (Signed (pos low) (pos high)))) found takes in (
-      kept.0.holds.reading ∙ ap (λ p. reading_of (parser_of_value p)) is,
-      taken_numbers kept.0.rule.ignore_case low high r.values
-          (subst (λ p. values_kinds kept.0.rule.ignore_case (parser_of_value p) r.values ≡ []) is kept.0.holds.values),
-    )
+    let taken = row_taken (Signed (pos low) (pos high)) id rules r takes kept in
+    (taken.0, taken_numbers taken.1 low high r.values taken.2)
 
 option_read : (low high : ℕ) (id : Text) (rules : List Rule) (o : Option Row) → TakesIn low high id rules
     → IfSome o (λ r. IsKept rules r × (r.id ≡ id))
@@ -73,114 +79,54 @@ values_read low high id rules (Some r) takes kept =
     let read = row_read low high id rules r takes kept in
     subst (λ (h : Reading). AreNumbersIn low high (map (read_as h) r.values)) (sym read.0) read.1
 
+flag_taken : (id : Text) (rules : List Rule) (o : Option Row) → Takes BoolParser id rules
+    → IfSome o (λ r. IsKept rules r × (r.id ≡ id)) → IfSome (option_and_then row_text o) IsFlagText
+flag_taken id rules None takes kept = tt
+flag_taken id rules (Some r) takes kept =
+    let taken = row_taken BoolParser id rules r takes kept in go r.reading r.values taken.0 taken.1 taken.2
+  where
+    go : (how : Reading) (values : List Text) → how ≡ AsWritten → (ignore_case : Bool)
+        → values_kinds ignore_case BoolParser values ≡ []
+        → IfSome (option_map (read_as how) (slice_get values 0)) IsFlagText
+    go how [] reading ignore_case e = tt
+    go how (v ∷ vs) reading ignore_case e =
+        subst (λ (h : Reading). IsFlagText (read_as h v)) (sym reading) (taken_flag ignore_case v vs e)
+
 -- ---- a command, as the parser builds it
 
 abbrev built_of : Entry → Shape
 built_of e = built_leaf (inherited farm_app.top (shape e))
 
--- its arguments are such as the walk keeps, and take the numbers that each request has
-pub record IsFit (rules : List Rule) : Type 0 where
-  pub ours : AllOurs rules
-  pub workers : TakesIn 1 8 (codes "workers") rules
-  pub at : TakesIn 0 LAST_ADDRESS (codes "at") rules
-  pub words : TakesIn 0 4294967295 (codes "words") rules
-  pub load : TakesIn 1 LONGEST_LATENCY (codes "load") rules
-  pub store : TakesIn 1 LONGEST_LATENCY (codes "store") rules
-  pub mult : TakesIn 1 LONGEST_LATENCY (codes "mult") rules
-
 leaf_holds : (s : Shape) (words : List Text) → IsFit s.rules → level_fault s [] nothing_held words false [] ≡ []
-    → HoldNumbers (rows_after s.rules [] words)
+    → HoldValues (rows_after s.rules [] words)
 leaf_holds s words fit e =
     let rows = rows_after s.rules [] words in
     let kept = leaf_kept s words fit.ours e in
-    let holds : (low high : ℕ) (id : Text) → TakesIn low high id s.rules → HoldsIn low high id rows =
+    let number : (low high : ℕ) (id : Text) → TakesIn low high id s.rules → HoldsIn low high id rows =
     λ low high id takes. option_read low high id s.rules (row_in id rows) takes (found_kept s.rules id rows kept) in
+    let flag : (id : Text) → Takes BoolParser id s.rules → HoldsFlag id rows =
+    λ id takes. flag_taken id s.rules (row_in id rows) takes (found_kept s.rules id rows kept) in
     record {
-      workers = holds 1 8 (codes "workers") fit.workers;
-      at = holds 0 LAST_ADDRESS (codes "at") fit.at;
+      workers = number 1 8 (codes "workers") fit.workers;
+      at = number 0 LAST_ADDRESS (codes "at") fit.at;
       words = values_read 0 4294967295 (codes "words") s.rules (row_in (codes "words") rows) fit.words
           (found_kept s.rules (codes "words") rows kept);
-      load = holds 1 LONGEST_LATENCY (codes "load") fit.load;
-      store = holds 1 LONGEST_LATENCY (codes "store") fit.store;
-      mult = holds 1 LONGEST_LATENCY (codes "mult") fit.mult;
+      load = number 1 LONGEST_LATENCY (codes "load") fit.load;
+      store = number 1 LONGEST_LATENCY (codes "store") fit.store;
+      mult = number 1 LONGEST_LATENCY (codes "mult") fit.mult;
+      csv = flag (codes "csv") fit.csv;
+      lawful = flag (codes "lawful") fit.lawful;
     }
 
-run_fit : IsFit (built_of run_entry).rules
-run_fit = record {
-  ours = (
-    record { first = refl; action = tt },
-    (record { first = refl; action = tt }, (record { first = refl; action = tt }, tt)),
-  );
-  workers = tt;
-  at = refl;
-  words = refl;
-  load = tt;
-  store = tt;
-  mult = tt;
-}
-
-simulate_fit : IsFit (built_of simulate_entry).rules
-simulate_fit = record {
-  ours = (
-    record { first = refl; action = tt },
-    (
-      record { first = refl; action = tt },
-      (
-        record { first = refl; action = tt },
-        (
-          record { first = refl; action = tt },
-          (record { first = refl; action = tt }, (record { first = refl; action = tt }, tt)),
-        ),
-      ),
-    ),
-  );
-  workers = tt;
-  at = refl;
-  words = refl;
-  load = refl;
-  store = refl;
-  mult = refl;
-}
-
-schedule_fit : IsFit (built_of schedule_entry).rules
-schedule_fit = record {
-  ours = (
-    record { first = refl; action = tt },
-    (
-      record { first = refl; action = tt },
-      (
-        record { first = refl; action = tt },
-        (record { first = refl; action = tt }, (record { first = refl; action = tt }, tt)),
-      ),
-    ),
-  );
-  workers = refl;
-  at = tt;
-  words = tt;
-  load = refl;
-  store = refl;
-  mult = refl;
-}
-
-explain_fit : IsFit (built_of explain_entry).rules
-explain_fit = record {
-  ours = (
-    record { first = refl; action = tt },
-    (
-      record { first = refl; action = tt },
-      (record { first = refl; action = tt }, (record { first = refl; action = tt }, tt)),
-    ),
-  );
-  workers = tt;
-  at = tt;
-  words = tt;
-  load = refl;
-  store = refl;
-  mult = refl;
-}
+every_fits : (es : List Entry) → list_all (λ (e : Entry). is_fit (built_of e).rules) es ≡ true
+    → AllByRecursion (λ e. IsFit (built_of e).rules) es
+every_fits [] are = tt
+every_fits (e ∷ es) are =
+    let parts = and_parts (is_fit (built_of e).rules) (list_all (λ (x : Entry). is_fit (built_of x).rules) es) are in
+    (fits (built_of e).rules parts.0, every_fits es parts.1)
 
 all_fit : AllByRecursion (λ e. IsFit (built_of e).rules) entries
-all_fit = (run_fit, (simulate_fit, (schedule_fit, (schedule_fit, (explain_fit, (simulate_fit, tt))))))
+all_fit = every_fits entries refl
 
 -- ---- the whole command line
 
@@ -189,9 +135,9 @@ pub record IsEntered (es : List Entry) (word : Text) (named : Text × List Row) 
   pub same : named.0 ≡ word
   pub entry : Entry
   pub first : find (λ e. bytes_eq e.name word) es ≡ Some entry
-  pub hold : HoldNumbers named.1
+  pub hold : HoldValues named.1
 
--- these commands as the parser builds them, and its own command `help` behind them
+-- these commands as the parser builds them, and its own command `help` after them
 abbrev with_help : List Entry → List Shape
 with_help es = map built_of es ++ built_leaf help_shape ∷ []
 
@@ -233,7 +179,7 @@ entered_one (x ∷ es) p named fit other is e =
           same = sym (ap (λ (n : Text × List Row). n.0) taken) ∙ (bytes_eq-Decides x.name p.0).0 same;
           entry = x;
           first = rw same refl;
-          hold = subst (λ (n : Text × List Row). HoldNumbers n.1) taken (leaf_holds (built_of x) p.1 fit.0 e);
+          hold = subst (λ (n : Text × List Row). HoldValues n.1) taken (leaf_holds (built_of x) p.1 fit.0 e);
         }
     go false other is e later =
         let found = later is e in
@@ -271,7 +217,7 @@ taken_matches words named is e =
 pub record IsCommand (words : List Text) (name : Text) (rows : List Row) : Type 0 where
   pub task : Task
   pub named : task_named name ≡ Some task
-  pub hold : HoldNumbers rows
+  pub hold : HoldValues rows
   pub asks : asked words ≡ Some (asked_as task rows)
 
 pub entered_command : (words : List Text) (name : Text) (rows : List Row) (o : Option (Text × List Row))
@@ -287,7 +233,7 @@ entered_command words name rows (Some p) is has named e =
     record {
       task = found.entry.task;
       named = ap task_named (sym same_name) ∙ task;
-      hold = subst HoldNumbers same_rows found.hold;
+      hold = subst HoldValues same_rows found.hold;
       asks = ap (option_and_then asked_by) (sym is)
           ∙ (ap (option_map (λ t. asked_as t p.1)) task ∙ ap (λ rs. Some (asked_as found.entry.task rs)) same_rows);
     }

@@ -9,21 +9,22 @@ use Rattle.clap.specs.Kinds.{range_kinds}
 use Rattle.clap.specs.Walk.{Held, Row, Rule, Text, action_of, arg_by_id, most_values, reading_by, settled}
 use Rattle.clap.specs.Walk.{settled_rows, used, used_as, used_by_id, values_or_missing, without}
 use Rattle.clap.specs.declared.builder.action.ArgAction.{ArgAction}
-use Rattle.clap.specs.declared.builder.action.ArgAction.TheVariants.{Set, Append, Help}
+use Rattle.clap.specs.declared.builder.action.ArgAction.TheVariants.{Set, Append, SetTrue, Help}
 use Rattle.clap.specs.declared.parser.matches.ValueSource.TheVariants.{CommandLine}
 use Rattle.iloc_args.proofs.Rows.{AllKept, both_empty, with_values_kept, without_kept}
 
 -- an action of this program's arguments
-abbrev pub IsOurAction : ArgAction → Type 0
-IsOurAction Set = Unit {0}
-IsOurAction Append = Unit {0}
-IsOurAction Help = Unit {0}
-IsOurAction _ = ⊥
+abbrev pub is_our_action : ArgAction → Bool
+is_our_action Set = true
+is_our_action Append = true
+is_our_action SetTrue = true
+is_our_action Help = true
+is_our_action _ = false
 
--- the argument is the first of its id among the rules, and sets a value, adds some, or asks for help
+-- the argument is the first of its id among the rules, and sets a value or a flag, adds some, or asks for help
 pub record IsOurs (rules : List Rule) (a : Rule) : Type 0 where
   pub first : arg_by_id rules a.id ≡ Some a
-  pub action : IsOurAction (action_of a)
+  pub action : is_our_action (action_of a) ≡ true
 
 abbrev pub AllOurs : List Rule → Type 0
 AllOurs rules = AllByRecursion (IsOurs rules) rules
@@ -46,15 +47,19 @@ use_kept rules again a values rows ours kept e = go (action_of a) ours.action co
         × (action_fault (action_of a) again a (values_or_missing a values) rows ≡ [])
     counts = both_empty (range_kinds (unwrap_or_range a.range).start_inclusive (most_values a) (length values)) _ e
 
-    go : (x : ArgAction) → IsOurAction x → action_fault x again a (values_or_missing a values) rows ≡ []
+    go : (x : ArgAction) → is_our_action x ≡ true → action_fault x again a (values_or_missing a values) rows ≡ []
         → AllKept rules (used_as x a.id (reading_by a) (values_or_missing a values) rows)
     go Set is e =
         let once = both_empty (repeat_fault again a.id rows) (values_fault a (values_or_missing a values)) e in
         with_values_kept rules a CommandLine (values_or_missing a values) (without a.id rows) ours.first once.1
         (without_kept rules a.id rows kept)
+    go SetTrue is e =
+        let once = both_empty (repeat_fault again a.id rows) (values_fault a (values_or_missing a values)) e in
+        with_values_kept rules a CommandLine (values_or_missing a values) (without a.id rows) ours.first once.1
+        (without_kept rules a.id rows kept)
     go Append is e = with_values_kept rules a CommandLine (values_or_missing a values) rows ours.first e kept
     go Help is e = cc
-    go _ is e = absurd is
+    go _ is e = cc
 
 -- the argument whose values were being read is used with them
 pub settled_kept : (rules : List Rule) (again : Bool) (h : Held) → AllOurs rules → AllKept rules h.rows

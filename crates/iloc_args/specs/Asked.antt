@@ -1,10 +1,13 @@
 -- What the words of a command line ask for, as a function of these words.
-use Rattle.std.specs.Prelude.{ℕ, List, [], map, Option, find, codes}
+use Rattle.std.specs.Prelude.{ℕ, Bool, false, List, [], map, Option, find, codes}
 use Rattle.std.specs.Prelude.{option_and_then, option_map, unwrap_or}
+use Rattle.std.specs.Option.{option_map_or}
 use Rattle.std.specs.Str.{bytes_eq}
 use Rattle.std.specs.Str.Parse.{digits_value, without_leading_plus}
-use Rattle.clap.specs.Words.{Row, Text, many_of, one_of, subcommand_of}
+use Rattle.std.specs.String.{string_bytes}
+use Rattle.clap.specs.Words.{Row, Text, first_of, many_of, one_of, subcommand_of}
 use Rattle.iloc_args.specs.Command.{entries, farm_app}
+use Rattle.iloc_args.specs.Priority.{priority_word}
 use Rattle.iloc_args.specs.declared.request.Request.{Request}
 use Rattle.iloc_args.specs.declared.request.Task.{Task}
 
@@ -17,6 +20,10 @@ pub record Asked : Type 0 where
   pub load : ℕ
   pub store : ℕ
   pub mult : ℕ
+  pub priority : Text
+  pub csv : Bool
+  pub task_file : Option Text
+  pub lawful : Bool
 
 -- what a request asks for
 abbrev pub asked_in : Request → Asked
@@ -28,6 +35,10 @@ asked_in r = record {
   load = r.latencies.load;
   store = r.latencies.store;
   mult = r.latencies.mult;
+  priority = priority_word r.priority;
+  csv = r.csv;
+  task_file = option_map string_bytes r.task_file;
+  lawful = r.lawful;
 }
 
 -- the number that a text of digits writes, where a plus may stand first
@@ -42,6 +53,14 @@ number_or otherwise id rows = unwrap_or (option_map number_of (one_of id rows)) 
 abbrev pub numbers_in : Text → List Row → List ℕ
 numbers_in id rows = map number_of (unwrap_or (many_of id rows) [])
 
+-- whether the matches have a flag
+abbrev pub flag_in : Text → List Row → Bool
+flag_in id rows = option_map_or (λ text. bytes_eq text (codes "true")) (one_of id rows) false
+
+-- the text that the matches have for an option, or this one where the command does not take it
+abbrev pub text_or : Text → Text → List Row → Text
+text_or otherwise id rows = unwrap_or (first_of id rows) otherwise
+
 -- a task with its options, by the matches of the command's arguments
 abbrev pub asked_as : Task → List Row → Asked
 asked_as task rows = record {
@@ -52,6 +71,10 @@ asked_as task rows = record {
   load = number_or 5 (codes "load") rows;
   store = number_or 5 (codes "store") rows;
   mult = number_or 3 (codes "mult") rows;
+  priority = text_or (codes "chain") (codes "priority") rows;
+  csv = flag_in (codes "csv") rows;
+  task_file = first_of (codes "task") rows;
+  lawful = flag_in (codes "lawful") rows;
 }
 
 -- the task of the command of this name

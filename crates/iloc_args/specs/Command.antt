@@ -1,6 +1,6 @@
 -- The program's command line, as the parser reads it.
 use Rattle.std.specs.Prelude.{ℕ, List, [], ◌∷◌, Some, map, pos, codes, true, false}
-use Rattle.clap.specs.declared.builder.action.ArgAction.TheVariants.{Append}
+use Rattle.clap.specs.declared.builder.action.ArgAction.TheVariants.{Append, SetTrue}
 use Rattle.clap.specs.declared.builder.value_parser.ValueParser.TheVariants.{Signed}
 use Rattle.clap.specs.Lexer.{usize_max}
 use Rattle.clap.specs.Words.{App, Rule, Shape, Text, new_rule}
@@ -8,7 +8,7 @@ use Rattle.clap.specs.Simple.{new_shape}
 use Rattle.iloc_meaning.specs.Address.{LAST_ADDRESS}
 use Rattle.iloc_timed.specs.Limits.{LONGEST_LATENCY}
 use Rattle.iloc_args.specs.declared.request.Task.{Task}
-use Rattle.iloc_args.specs.declared.request.Task.TheVariants.{Run, Simulate, Schedule, Counts, Explain, Check}
+use Rattle.iloc_args.specs.declared.request.Task.TheVariants.{Run, Simulate, Schedule, Counts, Explain, Check, Graph}
 
 -- `--NAME N`, a number within these bounds, and this one where it is not given
 abbrev pub number_rule : Text → Text → ℕ → ℕ → Rule
@@ -46,6 +46,30 @@ words_rule = record (new_rule (codes "words")) {
   parser = Some (Signed (pos 0) (pos 4294967295));
 }
 
+-- `--NAME`
+abbrev pub flag_rule : Text → Rule
+flag_rule name = record (new_rule name) { long = Some name; action = Some SetTrue }
+
+-- `--NAME VALUE`, any text
+abbrev pub text_rule : Text → Rule
+text_rule name = record (new_rule name) { long = Some name; value_names = 1 }
+
+-- `--priority NAME`
+abbrev pub priority_rule : Rule
+priority_rule = record (text_rule (codes "priority")) { defaults = codes "chain" ∷ [] }
+
+-- `--csv`
+abbrev pub csv_rule : Rule
+csv_rule = flag_rule (codes "csv")
+
+-- `--task FILE`
+abbrev pub task_rule : Rule
+task_rule = text_rule (codes "task")
+
+-- `--lawful`
+abbrev pub lawful_rule : Rule
+lawful_rule = flag_rule (codes "lawful")
+
 -- a command: its name, the task that it asks for, and its arguments
 pub record Entry : Type 0 where
   pub name : Text
@@ -76,9 +100,21 @@ explain_entry = record { name = codes "explain"; task = Explain; rules = latency
 abbrev pub check_entry : Entry
 check_entry = record { name = codes "check"; task = Check; rules = at_rule ∷ words_rule ∷ latency_rules }
 
+-- `graph [--load N] [--store N] [--mult N]`
+abbrev pub graph_entry : Entry
+graph_entry = record { name = codes "graph"; task = Graph; rules = latency_rules }
+
 -- the commands that there are
 abbrev pub entries : List Entry
-entries = run_entry ∷ simulate_entry ∷ schedule_entry ∷ counts_entry ∷ explain_entry ∷ check_entry ∷ []
+entries =
+    run_entry
+    ∷ simulate_entry
+    ∷ schedule_entry
+    ∷ counts_entry
+    ∷ explain_entry
+    ∷ check_entry
+    ∷ graph_entry
+    ∷ []
 
 -- a command as the parser has it
 abbrev pub shape : Entry → Shape

@@ -1,5 +1,5 @@
 -- What a command line comes to: a request, or one of the faults.
-use Rattle.std.specs.Prelude.{◌≡◌, ◌≢◌, ◌⊎◌, ◌<◌, ◌+◌, ◌*◌, ◌%◌, ℕ, List, [], Some}
+use Rattle.std.specs.Prelude.{◌≡◌, ◌≢◌, ◌⊎◌, ◌<◌, ◌≤◌, ◌+◌, ◌*◌, ◌%◌, ℕ, List, [], Some}
 use Rattle.std.specs.Prelude.{length}
 use Rattle.clap.specs.Kinds.{IsAmong, Kinds}
 use Rattle.clap.specs.Words.{Text, fault_of}
@@ -8,9 +8,10 @@ use Rattle.clap.specs.declared.error.kind.ErrorKind.TheVariants.{DisplayHelp, Di
 use Rattle.iloc_meaning.specs.Memory.{WORDS}
 use Rattle.iloc_args.specs.Asked.{Asked, asked}
 use Rattle.iloc_args.specs.Command.{farm_app}
+use Rattle.iloc_args.specs.Priority.{IsNoPriority}
 use Rattle.iloc_args.specs.declared.fault.LineFault.{LineFault}
 use Rattle.iloc_args.specs.declared.fault.LineFault.TheVariants.{Help, Refused, BadStart}
-use Rattle.iloc_args.specs.declared.fault.LineFault.TheVariants.{TooManyWords, NoMemory}
+use Rattle.iloc_args.specs.declared.fault.LineFault.TheVariants.{TooManyWords, NoSuchPriority, NoMemory}
 
 -- what the parser finds wrong with the words: the kinds of the first step that fails, and none
 -- where it takes them
@@ -32,6 +33,12 @@ pub record Overflows (a : Asked) : Type 0 where
   pub aligned : a.at % 4 ≡ 0
   pub beyond : 4 * WORDS < a.at + 4 * length a.words
 
+-- the words fit into the memory, and the priority is none
+pub record RanksByNone (a : Asked) : Type 0 where
+  pub aligned : a.at % 4 ≡ 0
+  pub fits : a.at + 4 * length a.words ≤ 4 * WORDS
+  pub none : IsNoPriority a.priority
+
 -- an error of this kind is a text that was asked for
 abbrev pub IsAskedFor : ErrorKind → Type 0
 IsAskedFor kind = (kind ≡ DisplayHelp) ⊎ (kind ≡ DisplayVersion)
@@ -43,4 +50,5 @@ IsDue words (Refused text) =
     (kind : ErrorKind) × IsAmong kind (faults_in words) × (IsAskedFor kind → ⊥)
 IsDue words (BadStart at) = (a : Asked) × Asks words a × StartsAmiss at a
 IsDue words TooManyWords = (a : Asked) × Asks words a × Overflows a
+IsDue words NoSuchPriority = (a : Asked) × Asks words a × RanksByNone a
 IsDue words NoMemory = Unit {0}

@@ -3,7 +3,7 @@ use Rattle.std.specs.Prelude.{ℕ, List, codes}
 use Rattle.std.specs.String.{string_bytes}
 use Rattle.iloc_args.specs.declared.fault.LineFault.{LineFault}
 use Rattle.iloc_args.specs.declared.fault.LineFault.TheVariants.{Help, Refused, BadStart}
-use Rattle.iloc_args.specs.declared.fault.LineFault.TheVariants.{TooManyWords, NoMemory}
+use Rattle.iloc_args.specs.declared.fault.LineFault.TheVariants.{TooManyWords, NoSuchPriority, NoMemory}
 
 -- what is said of a fault: the parser's own text, or one of these
 abbrev pub line_text : LineFault → List ℕ
@@ -11,6 +11,7 @@ line_text (Help text) = string_bytes text
 line_text (Refused text) = string_bytes text
 line_text (BadStart at) = codes "--at is not a multiple of 4"
 line_text TooManyWords = codes "the words do not fit into memory"
+line_text NoSuchPriority = codes "--priority is none of chain, slack, descendants, latency, order"
 line_text NoMemory = codes "out of memory"
 
 -- the exit status of a fault
@@ -19,4 +20,5 @@ status_of (Help text) = 0
 status_of (Refused text) = 2
 status_of (BadStart at) = 2
 status_of TooManyWords = 2
+status_of NoSuchPriority = 2
 status_of NoMemory = 3

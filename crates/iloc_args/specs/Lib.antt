@@ -2,4 +2,5 @@ pub mod Asked
 pub mod Command
 pub mod Due
 pub mod Fault
+pub mod Priority
 pub mod Steps

@@ -2,11 +2,12 @@
 ghost use Rattle.std.specs.Prelude.{IfOk, IsOkAnd, codes};
 ghost use Rattle.clap.specs.Simple.{new_shape};
 ghost use Rattle.clap.specs.Words.{AddsSubcommand};
-ghost use Rattle.iloc_args.specs.Command.{at_rule, check_entry, counts_entry, explain_entry};
-ghost use Rattle.iloc_args.specs.Command.{farm_app, latency_rule, latency_rules, run_entry};
-ghost use Rattle.iloc_args.specs.Command.{schedule_entry, simulate_entry, top_shape, words_rule};
-ghost use Rattle.iloc_args.specs.Command.{workers_rule};
-ghost use Rattle.iloc_args.specs.Steps.Building.{AddsRules, HasApp, HasRule, alone, app};
+ghost use Rattle.iloc_args.specs.Command.{at_rule, check_entry, counts_entry, csv_rule, explain_entry};
+ghost use Rattle.iloc_args.specs.Command.{farm_app, flag_rule, latency_rule, latency_rules, lawful_rule};
+ghost use Rattle.iloc_args.specs.Command.{priority_rule, run_entry, schedule_entry, simulate_entry};
+ghost use Rattle.iloc_args.specs.Command.{graph_entry};
+ghost use Rattle.iloc_args.specs.Command.{task_rule, text_rule, top_shape, words_rule, workers_rule};
+ghost use Rattle.iloc_args.specs.Steps.Building.{AddsArgument, AddsRules, HasApp, HasRule, alone, app};
 ghost use Rattle.iloc_args.specs.Steps.Building.{memory_shape, option_rule, workers_shape};
 
 use clap::builder::ValueParser;
@@ -56,6 +57,26 @@ fn number_arg<'a>(
         .help(help)
         .value_parser(parser)
         .default_value(usual)
+}
+
+/// `--NAME`
+fn flag_arg<'a>(alloc: Global, name: &'a str, help: &'a str) -> Arg<'a>
+    ensures { HasRule (flag_rule name.entry.now) result }
+{
+    Arg::new(alloc, name)
+        .long(name)
+        .help(help)
+        .action(ArgAction::SetTrue)
+}
+
+/// `--NAME VALUE`, any text.
+fn text_arg<'a>(alloc: Global, name: &'a str, value: &'a str, help: &'a str) -> Arg<'a>
+    ensures { HasRule (text_rule name.entry.now) result }
+{
+    Arg::new(alloc, name)
+        .long(name)
+        .value_name(value)
+        .help(help)
 }
 
 /// `--at N`
@@ -145,7 +166,64 @@ fn mult_arg<'a>(alloc: Global) -> Arg<'a>
     )
 }
 
-/// The command with `[--load N] [--store N] [--mult N]` behind its arguments, if it could be made.
+/// `--priority NAME`
+fn priority_arg<'a>(alloc: Global) -> Arg<'a>
+    ensures { HasRule priority_rule result }
+{
+    text_arg(
+        alloc,
+        "priority",
+        "NAME",
+        "What goes first: chain, slack, descendants, latency or order",
+    )
+    .default_value("chain")
+}
+
+/// `--csv`
+fn csv_arg<'a>(alloc: Global) -> Arg<'a>
+    ensures { HasRule csv_rule result }
+{
+    flag_arg(
+        alloc,
+        "csv",
+        "Print a table of comma-separated values, a row for each block",
+    )
+}
+
+/// `--task FILE`
+fn task_arg<'a>(alloc: Global) -> Arg<'a>
+    ensures { HasRule task_rule result }
+{
+    text_arg(
+        alloc,
+        "task",
+        "FILE",
+        "Read the blocks from FILE, and only rows from standard input",
+    )
+}
+
+/// `--lawful`
+fn lawful_arg<'a>(alloc: Global) -> Arg<'a>
+    ensures { HasRule lawful_rule result }
+{
+    flag_arg(
+        alloc,
+        "lawful",
+        "Pass nothing but rows that are a schedule of their block",
+    )
+}
+
+/// The command with this argument after its own, if it could be made.
+fn with_arg<'a>(
+    command: Result<Command<'a>, AllocError>,
+    arg: Arg<'a>,
+) -> Result<Command<'a>, AllocError>
+    ensures { IfOk result (λ new. IsOkAnd command.entry (λ old. AddsArgument arg.entry old new)) }
+{
+    command?.arg(arg)
+}
+
+/// The command with `[--load N] [--store N] [--mult N]` after its arguments, if it could be made.
 fn with_latencies<'a>(
     alloc: Global,
     command: Result<Command<'a>, AllocError>,
@@ -245,6 +323,15 @@ fn check_command<'a>(alloc: Global) -> Result<Command<'a>, AllocError>
     with_latencies(alloc, memory_command(alloc, "check", about, usage))
 }
 
+/// `graph [--load N] [--store N] [--mult N]`
+fn graph_command<'a>(alloc: Global) -> Result<Command<'a>, AllocError>
+    ensures { IfOk result (HasApp (app graph_entry)) }
+{
+    let about = "Print the dependence graph of each block, for Graphviz";
+    let usage = "ilocfarm graph [OPTIONS] < BLOCKS";
+    with_latencies(alloc, Ok(bare_command(alloc, "graph", about, usage)))
+}
+
 /// The program without its commands.
 fn top_command<'a>(alloc: Global) -> Result<Command<'a>, AllocError>
     ensures { IfOk result (HasApp (alone top_shape)) }
@@ -280,5 +367,6 @@ pub(crate) fn farm_command<'a>(alloc: Global) -> Result<Command<'a>, AllocError>
     let farm = with_command(farm, schedule_command(alloc));
     let farm = with_command(farm, counts_command(alloc));
     let farm = with_command(farm, explain_command(alloc));
-    with_command(farm, check_command(alloc))
+    let farm = with_command(farm, check_command(alloc));
+    with_command(farm, graph_command(alloc))
 }

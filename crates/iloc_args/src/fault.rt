@@ -25,6 +25,8 @@ pub enum LineFault {
     BadStart(u32),
     /// The words reach beyond the end of memory.
     TooManyWords,
+    /// The priority is the name of no heuristic.
+    NoSuchPriority,
     /// The growth of a list or a text was refused.
     NoMemory,
 }
@@ -40,6 +42,9 @@ impl Display for LineFault {
             LineFault::Help(text) | LineFault::Refused(text) => f.write_str(text.as_str()),
             LineFault::BadStart(_) => f.write_str("--at is not a multiple of 4"),
             LineFault::TooManyWords => f.write_str("the words do not fit into memory"),
+            LineFault::NoSuchPriority => {
+                f.write_str("--priority is none of chain, slack, descendants, latency, order")
+            }
             LineFault::NoMemory => f.write_str("out of memory"),
         }
     }
@@ -92,7 +97,10 @@ pub fn line_status(fault: &LineFault) -> u8
 {
     match fault {
         LineFault::Help(_) => 0,
-        LineFault::Refused(_) | LineFault::BadStart(_) | LineFault::TooManyWords => 2,
+        LineFault::Refused(_)
+        | LineFault::BadStart(_)
+        | LineFault::TooManyWords
+        | LineFault::NoSuchPriority => 2,
         LineFault::NoMemory => 3,
     }
 }

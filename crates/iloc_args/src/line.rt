@@ -1,12 +1,14 @@
 //! Reading a command line.
-ghost use Rattle.std.specs.Prelude.{◌≡◌, ◌≤◌, Some, IfErr, IfOk, IsSome, OnOk, [], codes, map, true};
-ghost use Rattle.clap.specs.Words.{found_of, has_subcommand, rows_of, subcommand_of};
+ghost use Rattle.std.specs.Prelude.{◌≡◌, ◌≤◌, Some, IfErr, IfOk, IsSome, MatchOption, OnOk, [], codes, map, option_map, true};
+ghost use Rattle.std.specs.String.{string_bytes};
+ghost use Rattle.clap.specs.Words.{first_of, found_of, has_subcommand, rows_of, subcommand_of};
 ghost use Rattle.clap.specs.Words.{subcommand_rows_of};
-ghost use Rattle.iloc_args.specs.Asked.{asked_as, asked_in, number_or, numbers_in, task_named};
+ghost use Rattle.iloc_args.specs.Asked.{asked_as, asked_in, flag_in, number_or, numbers_in, task_named, text_or};
 ghost use Rattle.iloc_args.specs.Command.{farm_app};
 ghost use Rattle.iloc_args.specs.Due.{Asks, IsDue, faults_in};
+ghost use Rattle.iloc_args.specs.Priority.{IsNoPriority, priority_word};
 ghost use Rattle.iloc_args.specs.Steps.Refusing.{IsOutOfRange};
-ghost use Rattle.iloc_args.specs.Steps.Taken.{HoldNumbers, HoldsIn};
+ghost use Rattle.iloc_args.specs.Steps.Taken.{HoldValues, HoldsFlag, HoldsIn};
 ghost use Rattle.iloc_timed.specs.Latency.{IsLatency};
 
 use crate::command::farm_command;
@@ -14,8 +16,9 @@ use crate::fault::LineFault;
 use crate::request::{Request, Task};
 use clap::ArgMatches;
 use iloc_meaning::{LAST_ADDRESS, WORDS};
+use iloc_sched::Heuristic;
 use iloc_timed::{LONGEST_LATENCY, Latencies};
-use std::alloc::{AllocFailed, Global};
+use std::alloc::{AllocError, AllocFailed, Global};
 use std::convert::AsStr;
 
 /// The address of the first word where the command does not take the option.
@@ -24,13 +27,16 @@ const DEFAULT_START: u32 = 1024;
 /// How many workers share the blocks where the command does not take the option.
 const DEFAULT_WORKERS: u32 = 2;
 
+/// The priority where the command does not take the option.
+const DEFAULT_PRIORITY: &str = "chain";
+
 /// The request that the words after the program's name ask for.
 ///
 /// # Errors
 ///
 /// `Help` or `Refused` with the parser's text where it gives no matches, `BadStart` where the words
 /// would not start at a multiple of 4, else `TooManyWords` where they would end beyond the memory,
-/// and `NoMemory` where a growth was refused.
+/// else `NoSuchPriority` where no heuristic has the name, and `NoMemory` where a growth was refused.
 pub fn parse_line<S: AsStr>(alloc: Global, words: &[S]) -> Result<Request, LineFault>
     ensures ok { IfOk result (λ request. Asks (map S.text words.now) (asked_in request)) }
     ensures err { IfErr result (IsDue (map S.text words.now)) }
@@ -54,6 +60,7 @@ fn task_of(name: &str) -> Task
         "counts" => Task::Counts,
         "explain" => Task::Explain,
         "check" => Task::Check,
+        "graph" => Task::Graph,
         _ => unreachable!(),
     }
 }
@@ -74,7 +81,7 @@ fn matches_of<'a, S: AsStr>(alloc: Global, words: &'a [S]) -> Result<ArgMatches<
 
 /// The request for a task, by the matches of the command's arguments.
 fn request_in(alloc: Global, task: Task, given: &ArgMatches<'_>) -> Result<Request, LineFault>
-    requires { HoldNumbers (rows_of (found_of given.now)) }
+    requires { HoldValues (rows_of (found_of given.now)) }
     ensures ok { IfOk result (λ request.
         asked_in request ≡ asked_as task (rows_of (found_of given.now))) }
     ensures err { IfErr result (IsOutOfRange (asked_as task (rows_of (found_of given.now)))) }
@@ -87,18 +94,25 @@ fn request_in(alloc: Global, task: Task, given: &ArgMatches<'_>) -> Result<Reque
     if u64::from(at) + 4 * (words.len() as u64) > 4 * WORDS as u64 {
         return Err(LineFault::TooManyWords);
     }
+    let Some(priority) = priority_in(given) else {
+        return Err(LineFault::NoSuchPriority);
+    };
     Ok(Request {
         task,
         workers: workers_in(given),
         at,
         words,
         latencies: latencies_in(given),
+        priority,
+        csv: flag_in(given, "csv"),
+        task_file: task_file_in(alloc, given)?,
+        lawful: flag_in(given, "lawful"),
     })
 }
 
 /// How many workers share the blocks.
 fn workers_in(given: &ArgMatches<'_>) -> u32
-    requires { HoldNumbers (rows_of (found_of given.now)) }
+    requires { HoldValues (rows_of (found_of given.now)) }
     ensures value { result ≡ number_or 2 (codes "workers") (rows_of (found_of given.now)) }
     ensures some { 1 ≤ result }
     ensures few { result ≤ 8 }
@@ -108,7 +122,7 @@ fn workers_in(given: &ArgMatches<'_>) -> u32
 
 /// The latencies of loads, stores and products.
 fn latencies_in(given: &ArgMatches<'_>) -> Latencies
-    requires { HoldNumbers (rows_of (found_of given.now)) }
+    requires { HoldValues (rows_of (found_of given.now)) }
     ensures load { result.load ≡ number_or 5 (codes "load") (rows_of (found_of given.now)) }
     ensures store { result.store ≡ number_or 5 (codes "store") (rows_of (found_of given.now)) }
     ensures mult { result.mult ≡ number_or 3 (codes "mult") (rows_of (found_of given.now)) }
@@ -132,7 +146,7 @@ fn latency_in(given: &ArgMatches<'_>, option: &str, usual: u32) -> u32
 
 /// The address of the first word.
 fn start_in(given: &ArgMatches<'_>) -> u32
-    requires { HoldNumbers (rows_of (found_of given.now)) }
+    requires { HoldValues (rows_of (found_of given.now)) }
     ensures value { result ≡ number_or 1024 (codes "at") (rows_of (found_of given.now)) }
     ensures in_memory { result ≤ LAST_ADDRESS }
 {
@@ -141,7 +155,7 @@ fn start_in(given: &ArgMatches<'_>) -> u32
 
 /// The words themselves.
 fn words_in(alloc: Global, given: &ArgMatches<'_>) -> Result<Vec<u32>, AllocFailed<u32>>
-    requires { HoldNumbers (rows_of (found_of given.now)) }
+    requires { HoldValues (rows_of (found_of given.now)) }
     ensures { IfOk result (λ words.
         words.items ≡ numbers_in (codes "words") (rows_of (found_of given.now))) }
 {
@@ -152,4 +166,47 @@ fn words_in(alloc: Global, given: &ArgMatches<'_>) -> Result<Vec<u32>, AllocFail
         }
     }
     Ok(words)
+}
+
+/// The heuristic of this name.
+fn heuristic_of(name: &str) -> Option<Heuristic>
+    ensures { MatchOption result (IsNoPriority name.now) (λ heuristic. priority_word heuristic ≡ name.now) }
+{
+    match name {
+        "chain" => Some(Heuristic::Chain),
+        "slack" => Some(Heuristic::Slack),
+        "descendants" => Some(Heuristic::Descendants),
+        "latency" => Some(Heuristic::Latency),
+        "order" => Some(Heuristic::Order),
+        _ => None,
+    }
+}
+
+/// By what the ready operations are ranked, if a heuristic has the name that is given.
+fn priority_in(given: &ArgMatches<'_>) -> Option<Heuristic>
+    ensures { MatchOption result
+        (IsNoPriority (text_or (codes "chain") (codes "priority") (rows_of (found_of given.now))))
+        (λ heuristic. priority_word heuristic
+        ≡ text_or (codes "chain") (codes "priority") (rows_of (found_of given.now))) }
+{
+    heuristic_of(given.get_str("priority").unwrap_or(DEFAULT_PRIORITY))
+}
+
+/// Whether a flag is given.
+fn flag_in(given: &ArgMatches<'_>, flag: &str) -> bool
+    requires { HoldsFlag flag.now (rows_of (found_of given.now)) }
+    ensures { result ≡ flag_in flag.now (rows_of (found_of given.now)) }
+{
+    given.get_flag(flag)
+}
+
+/// The name of the file that holds the blocks, if they are apart from the rows.
+fn task_file_in(alloc: Global, given: &ArgMatches<'_>) -> Result<Option<String>, AllocError>
+    ensures { IfOk result (λ name.
+        option_map string_bytes name ≡ first_of (codes "task") (rows_of (found_of given.now))) }
+{
+    match given.get_str("task") {
+        Some(name) => Ok(Some(String::from_str(alloc, name)?)),
+        None => Ok(None),
+    }
 }

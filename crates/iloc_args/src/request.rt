@@ -3,6 +3,7 @@ ghost use Rattle.std.specs.Prelude.{◌≡◌, ◌+◌, ◌*◌, ◌%◌, ◌≤
 ghost use Rattle.iloc_meaning.specs.Address.{LAST_ADDRESS};
 ghost use Rattle.iloc_meaning.specs.Memory.{WORDS};
 
+use iloc_sched::Heuristic;
 use iloc_timed::Latencies;
 
 /// The command: what is done with each block.
@@ -20,6 +21,8 @@ pub enum Task {
     Explain,
     /// Judge the rows that stand behind the blocks.
     Check,
+    /// List its dependence graph.
+    Graph,
 }
 
 /// A command with its options; an option that the command does not take has its default.
@@ -35,6 +38,14 @@ pub struct Request {
     pub words: Vec<u32>,
     /// How many cycles loads, stores and products take.
     pub latencies: Latencies,
+    /// By what the ready operations are ranked.
+    pub priority: Heuristic,
+    /// Whether the listing is a table of comma-separated values.
+    pub csv: bool,
+    /// The name of the file that holds the blocks, apart from the rows.
+    pub task_file: Option<String>,
+    /// Whether nothing passes but rows that are a schedule of their block.
+    pub lawful: bool,
     ghost some_worker: { 1 ≤ workers },
     ghost few_workers: { workers ≤ 8 },
     ghost aligned: { at % 4 ≡ 0 },

@@ -42,6 +42,10 @@ pub record HasApp (wanted : App) (c : Command) : Type 0 where
   pub app : app_of c ≡ wanted
   pub globals : (out-Command c).has_globals ≡ false
 
--- the new command is the old one with these arguments behind its own, which are for it alone
+-- the new command is the old one with these arguments after its own, which are for it alone
 pub record AddsRules (rules : List Rule) (old new : Command) : Type 0 where
   pub app : (a : App) → HasApp a old → HasApp (fold with_rule a rules) new
+
+-- so it is with this argument, whatever its rule
+abbrev pub AddsArgument : Arg → Command → Command → Type 0
+AddsArgument a old new = (rule : Rule) → HasRule rule a → AddsRules (rule ∷ []) old new

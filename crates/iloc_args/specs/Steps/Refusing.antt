@@ -3,10 +3,10 @@ use Rattle.std.specs.Prelude.{◌≡◌, ◌≢◌}
 use Rattle.clap.specs.declared.error.kind.ErrorKind.{ErrorKind}
 use Rattle.clap.specs.declared.error.kind.ErrorKind.TheVariants.{OutOfMemory}
 use Rattle.iloc_args.specs.Asked.{Asked}
-use Rattle.iloc_args.specs.Due.{IsAskedFor, Overflows, StartsAmiss}
+use Rattle.iloc_args.specs.Due.{IsAskedFor, Overflows, RanksByNone, StartsAmiss}
 use Rattle.iloc_args.specs.declared.fault.LineFault.{LineFault}
 use Rattle.iloc_args.specs.declared.fault.LineFault.TheVariants.{Help, Refused, BadStart}
-use Rattle.iloc_args.specs.declared.fault.LineFault.TheVariants.{TooManyWords, NoMemory}
+use Rattle.iloc_args.specs.declared.fault.LineFault.TheVariants.{TooManyWords, NoSuchPriority, NoMemory}
 
 -- the fault is the one for an error of the parser of this kind
 abbrev pub IsFaultBy : ErrorKind → LineFault → Type 0
@@ -14,6 +14,7 @@ IsFaultBy kind (Help text) = IsAskedFor kind
 IsFaultBy kind (Refused text) = (IsAskedFor kind → ⊥) × (kind ≢ OutOfMemory)
 IsFaultBy kind (BadStart at) = ⊥
 IsFaultBy kind TooManyWords = ⊥
+IsFaultBy kind NoSuchPriority = ⊥
 IsFaultBy kind NoMemory = kind ≡ OutOfMemory
 
 -- what was asked for is out of range in this way, or memory was wanting
@@ -22,4 +23,5 @@ IsOutOfRange a (Help text) = ⊥
 IsOutOfRange a (Refused text) = ⊥
 IsOutOfRange a (BadStart at) = StartsAmiss at a
 IsOutOfRange a TooManyWords = Overflows a
+IsOutOfRange a NoSuchPriority = RanksByNone a
 IsOutOfRange a NoMemory = Unit {0}

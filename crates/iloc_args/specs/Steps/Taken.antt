@@ -1,5 +1,5 @@
 -- The matches of arguments that the parser has taken.
-use Rattle.std.specs.Prelude.{ℕ, ◌≤◌, List, [], ◌∷◌, IfSome, codes, unwrap_or}
+use Rattle.std.specs.Prelude.{◌≡◌, ◌⊎◌, ℕ, ◌≤◌, List, [], ◌∷◌, IfSome, codes, unwrap_or}
 use Rattle.std.specs.Str.Parse.{IsNumeral, without_leading_plus}
 use Rattle.clap.specs.Words.{Row, Text, many_of, one_of}
 use Rattle.iloc_meaning.specs.Address.{LAST_ADDRESS}
@@ -21,11 +21,21 @@ AreNumbersIn low high (text ∷ rest) = IsNumberIn low high text × AreNumbersIn
 abbrev pub HoldsIn : ℕ → ℕ → Text → List Row → Type 0
 HoldsIn low high id rows = IfSome (one_of id rows) (IsNumberIn low high)
 
--- each option that the matches have is in its range, and each word has 32 bits
-pub record HoldNumbers (rows : List Row) : Type 0 where
+-- the text says whether a flag is given
+abbrev pub IsFlagText : Text → Type 0
+IsFlagText text = (text ≡ codes "true") ⊎ (text ≡ codes "false")
+
+-- the matches have nothing for this flag, or such a text
+abbrev pub HoldsFlag : Text → List Row → Type 0
+HoldsFlag id rows = IfSome (one_of id rows) IsFlagText
+
+-- each option that the matches have is in its range, each word has 32 bits, and each flag is given or not
+pub record HoldValues (rows : List Row) : Type 0 where
   pub workers : HoldsIn 1 8 (codes "workers") rows
   pub at : HoldsIn 0 LAST_ADDRESS (codes "at") rows
   pub words : AreNumbersIn 0 4294967295 (unwrap_or (many_of (codes "words") rows) [])
   pub load : HoldsIn 1 LONGEST_LATENCY (codes "load") rows
   pub store : HoldsIn 1 LONGEST_LATENCY (codes "store") rows
   pub mult : HoldsIn 1 LONGEST_LATENCY (codes "mult") rows
+  pub csv : HoldsFlag (codes "csv") rows
+  pub lawful : HoldsFlag (codes "lawful") rows

@@ -20,4 +20,5 @@ unreachable-requires c =
     let counts = apart (codes "counts") c.args.name.now c.in_default.not-counts in
     let explain = apart (codes "explain") c.args.name.now c.in_default.not-explain in
     let check = apart (codes "check") c.args.name.now c.in_default.not-check in
-    false≢true (rw (run, simulate, schedule, counts, explain, check) at c.requires)
+    let graph = apart (codes "graph") c.args.name.now c.in_default.not-graph in
+    false≢true (rw (run, simulate, schedule, counts, explain, check, graph) at c.requires)

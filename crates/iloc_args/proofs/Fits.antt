@@ -1,0 +1,165 @@
+-- What the arguments of a command have to be, and a test of it that computes.
+use Rattle.std.proofs.Common.{◌≡◌, ◌∙◌, ◌==◌, ◌&&◌, ◌++◌, ℕ, Bool, true, false, cond, not, pos, List, [], ◌∷◌, Some, None, Option, refl, sym, ap, ap₂, subst, codes, append_assoc}
+use Rattle.std.specs.Prelude.{IfSome}
+use Rattle.std.specs.List.{AllByRecursion, list_all}
+use Rattle.std.specs.Option.{option_map_or}
+use Rattle.std.specs.Str.{bytes_eq}
+use Rattle.std.proofs.lemmas.Bool.{and_parts, eqb-true}
+use Rattle.std.proofs.lemmas.Slice.Eq.{bytes_eq-Decides}
+use Rattle.clap.specs.Walk.{Rule, Text, action_of, arg_by_id}
+use Rattle.clap.specs.declared.builder.value_parser.ValueParser.{ValueParser}
+use Rattle.clap.specs.declared.builder.value_parser.ValueParser.TheVariants as vp
+use Rattle.iloc_meaning.specs.Address.{LAST_ADDRESS}
+use Rattle.iloc_timed.specs.Limits.{LONGEST_LATENCY}
+use Rattle.iloc_args.proofs.Uses.{AllOurs, IsOurs, is_our_action}
+
+-- an argument of this id has this parser
+abbrev pub Takes : ValueParser → Text → List Rule → Type 0
+Takes parser id rules = IfSome (arg_by_id rules id) (λ a. a.parser ≡ Some parser)
+
+-- it takes numbers within these bounds
+abbrev pub TakesIn : ℕ → ℕ → Text → List Rule → Type 0
+TakesIn low high id rules = Takes (vp.Signed (pos low) (pos high)) id rules
+
+-- the arguments are such as the walk keeps, and take what each request has
+pub record IsFit (rules : List Rule) : Type 0 where
+  pub ours : AllOurs rules
+  pub workers : TakesIn 1 8 (codes "workers") rules
+  pub at : TakesIn 0 LAST_ADDRESS (codes "at") rules
+  pub words : TakesIn 0 4294967295 (codes "words") rules
+  pub load : TakesIn 1 LONGEST_LATENCY (codes "load") rules
+  pub store : TakesIn 1 LONGEST_LATENCY (codes "store") rules
+  pub mult : TakesIn 1 LONGEST_LATENCY (codes "mult") rules
+  pub csv : Takes vp.Bool (codes "csv") rules
+  pub lawful : Takes vp.Bool (codes "lawful") rules
+
+-- ---- the test
+
+abbrev lacks : Text → List Rule → Bool
+lacks id rules = list_all (λ (a : Rule). not (bytes_eq id a.id)) rules
+
+abbrev have_own_ids : List Rule → Bool
+have_own_ids [] = true
+have_own_ids (a ∷ rest) = lacks a.id rest && have_own_ids rest
+
+abbrev are_ours : List Rule → Bool
+are_ours rules = list_all (λ (a : Rule). is_our_action (action_of a)) rules
+
+abbrev is_number_parser : ℕ → ℕ → Option ValueParser → Bool
+is_number_parser low high (Some (vp.Signed (pos a) (pos b))) = (a == low) && (b == high)
+is_number_parser low high _ = false
+
+abbrev is_flag_parser : Option ValueParser → Bool
+is_flag_parser (Some vp.Bool) = true
+is_flag_parser _ = false
+
+abbrev takes : (Option ValueParser → Bool) → Text → List Rule → Bool
+takes is id rules = option_map_or (λ (a : Rule). is a.parser) (arg_by_id rules id) true
+
+abbrev takes_in : ℕ → ℕ → Text → List Rule → Bool
+takes_in low high id rules = takes (is_number_parser low high) id rules
+
+abbrev takes_memory : List Rule → Bool
+takes_memory rules = takes_in 0 LAST_ADDRESS (codes "at") rules && takes_in 0 4294967295 (codes "words") rules
+
+abbrev takes_latencies : List Rule → Bool
+takes_latencies rules =
+    takes_in 1 LONGEST_LATENCY (codes "load") rules
+    && (takes_in 1 LONGEST_LATENCY (codes "store") rules && takes_in 1 LONGEST_LATENCY (codes "mult") rules)
+
+abbrev takes_flags : List Rule → Bool
+takes_flags rules = takes is_flag_parser (codes "csv") rules && takes is_flag_parser (codes "lawful") rules
+
+abbrev takes_all : List Rule → Bool
+takes_all rules =
+    takes_in 1 8 (codes "workers") rules && (takes_memory rules && (takes_latencies rules && takes_flags rules))
+
+abbrev pub is_fit : List Rule → Bool
+is_fit rules = have_own_ids rules && (are_ours rules && takes_all rules)
+
+-- ---- what it tests
+
+not_true : (b : Bool) → not b ≡ true → b ≡ false
+not_true true e = cc
+not_true false e = refl
+
+lacks_one : (id : Text) (before : List Rule) (a : Rule) (after : List Rule) → lacks id (before ++ a ∷ after) ≡ true
+    → bytes_eq id a.id ≡ false
+lacks_one id [] a after e = not_true (bytes_eq id a.id) (and_parts (not (bytes_eq id a.id)) (lacks id after) e).0
+lacks_one id (b ∷ before) a after e =
+    lacks_one id before a after (and_parts (not (bytes_eq id b.id)) (lacks id (before ++ a ∷ after)) e).1
+
+is_first : (before : List Rule) (a : Rule) (after : List Rule) → have_own_ids (before ++ a ∷ after) ≡ true
+    → arg_by_id (before ++ a ∷ after) a.id ≡ Some a
+is_first [] a after own =
+    ap (λ b. cond b (Some a) (arg_by_id after a.id)) ((bytes_eq-Decides a.id a.id).1 refl)
+is_first (b ∷ before) a after own =
+    let parts = and_parts (lacks b.id (before ++ a ∷ after)) (have_own_ids (before ++ a ∷ after)) own in
+    ap (λ x. cond x (Some b) (arg_by_id (before ++ a ∷ after) a.id)) (lacks_one b.id before a after parts.0)
+    ∙ is_first before a after parts.1
+
+all_ours : (before xs : List Rule) → have_own_ids (before ++ xs) ≡ true → are_ours xs ≡ true
+    → AllByRecursion (IsOurs (before ++ xs)) xs
+all_ours before [] own ours = tt
+all_ours before (a ∷ xs) own ours =
+    let parts = and_parts (is_our_action (action_of a)) (are_ours xs) ours in
+    let same : (before ++ a ∷ []) ++ xs ≡ before ++ a ∷ xs = append_assoc before (a ∷ []) xs in
+    let own_here : have_own_ids ((before ++ a ∷ []) ++ xs) ≡ true =
+    subst (λ (l : List Rule). have_own_ids l ≡ true) (sym same) own in (
+      record { first = is_first before a xs own; action = parts.0 },
+      subst (λ (l : List Rule). AllByRecursion (IsOurs l) xs) same (all_ours (before ++ a ∷ []) xs own_here parts.1),
+    )
+
+number_parser : (low high : ℕ) (o : Option ValueParser) → is_number_parser low high o ≡ true
+    → o ≡ Some (vp.Signed (pos low) (pos high))
+number_parser low high (Some (vp.Signed (pos a) (pos b))) e =
+    let parts = and_parts (a == low) (b == high) e in
+    ap₂ (λ x y. Some (vp.Signed (pos x) (pos y))) (eqb-true a low parts.0) (eqb-true b high parts.1)
+number_parser low high _ e = cc
+
+flag_parser : (o : Option ValueParser) → is_flag_parser o ≡ true → o ≡ Some vp.Bool
+flag_parser (Some vp.Bool) e = refl
+flag_parser _ e = cc
+
+has_parser : (is : Option ValueParser → Bool) (parser : ValueParser)
+    → ((o : Option ValueParser) → is o ≡ true → o ≡ Some parser) → (id : Text) (rules : List Rule)
+    → takes is id rules ≡ true → Takes parser id rules
+has_parser is parser sound id rules e = go (arg_by_id rules id) e
+  where
+    go : (o : Option Rule) → option_map_or (λ (a : Rule). is a.parser) o true ≡ true
+        → IfSome o (λ a. a.parser ≡ Some parser)
+    go None e = tt
+    go (Some a) e = sound a.parser e
+
+pub fits : (rules : List Rule) → is_fit rules ≡ true → IsFit rules
+fits rules e =
+    let ids = and_parts (have_own_ids rules) (are_ours rules && takes_all rules) e in
+    let ours = and_parts (are_ours rules) (takes_all rules) ids.1 in
+    let workers = and_parts (takes_in 1 8 (codes "workers") rules)
+    (takes_memory rules && (takes_latencies rules && takes_flags rules)) ours.1 in
+    let memory = and_parts (takes_memory rules) (takes_latencies rules && takes_flags rules) workers.1 in
+    let words = and_parts (takes_in 0 LAST_ADDRESS (codes "at") rules) (takes_in 0 4294967295 (codes "words") rules)
+    memory.0 in
+    let both = and_parts (takes_latencies rules) (takes_flags rules) memory.1 in
+    let load = and_parts (takes_in 1 LONGEST_LATENCY (codes "load") rules)
+    (takes_in 1 LONGEST_LATENCY (codes "store") rules && takes_in 1 LONGEST_LATENCY (codes "mult") rules) both.0 in
+    let store = and_parts (takes_in 1 LONGEST_LATENCY (codes "store") rules)
+    (takes_in 1 LONGEST_LATENCY (codes "mult") rules) load.1 in
+    let flags = and_parts (takes is_flag_parser (codes "csv") rules) (takes is_flag_parser (codes "lawful") rules)
+    both.1 in
+    let number : (low high : ℕ) (id : Text) → takes_in low high id rules ≡ true → TakesIn low high id rules =
+    λ low high id. has_parser (is_number_parser low high) (vp.Signed (pos low) (pos high)) (number_parser low high) id
+    rules in
+    let flag : (id : Text) → takes is_flag_parser id rules ≡ true → Takes vp.Bool id rules =
+    λ id. has_parser is_flag_parser vp.Bool flag_parser id rules in
+    record {
+      ours = all_ours [] rules ids.0 ours.0;
+      workers = number 1 8 (codes "workers") workers.0;
+      at = number 0 LAST_ADDRESS (codes "at") words.0;
+      words = number 0 4294967295 (codes "words") words.1;
+      load = number 1 LONGEST_LATENCY (codes "load") load.0;
+      store = number 1 LONGEST_LATENCY (codes "store") store.0;
+      mult = number 1 LONGEST_LATENCY (codes "mult") store.1;
+      csv = flag (codes "csv") flags.0;
+      lawful = flag (codes "lawful") flags.1;
+    }
