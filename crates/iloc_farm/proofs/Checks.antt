@@ -19,16 +19,16 @@ use Rattle.iloc_sched.specs.declared.wheel.TheConstants.{LONGEST_DELAY}
 use Rattle.iloc_sched.specs.Greedy.{IsGreedy}
 use Rattle.iloc_sched.specs.Least.{least}
 use Rattle.iloc_sched.proofs.Bounds.LeastBound.{least_bound}
-use Rattle.iloc_check.specs.Checked.{DoTheSame, IsCheck}
-use Rattle.iloc_check.specs.declared.checked.Checked.{Checked}
-use Rattle.iloc_check.proofs.Sameness.{same_rows_do_the_same}
+use Rattle.iloc_judge.specs.Checked.{DoTheSame, IsCheck}
+use Rattle.iloc_judge.specs.declared.checked.Checked.{Checked}
+use Rattle.iloc_judge.proofs.Sameness.{same_rows_do_the_same}
 use Rattle.iloc_farm.specs.Commands.Check.{IsJudged, Judged, ListsChecked, judged_entries}
-use Rattle.iloc_farm.specs.Finding.{finding_of}
+use Rattle.iloc_farm.specs.Fault.{finding_of}
 use Rattle.iloc_farm.specs.Listing.{block_head}
 use Rattle.iloc_farm.specs.Schedules.{AreGreedy}
 use Rattle.iloc_farm.specs.Steps.Limits.{most_cycles}
 use Rattle.iloc_farm.specs.Steps.Checking.{IsCheckedTo, IsSmall, totals_of, totals_text, with_checked}
-use Rattle.iloc_farm.specs.declared.finding.Finding.TheVariants.{Passed}
+use Rattle.iloc_farm.specs.declared.commands.Finding.TheVariants.{Passed}
 use Rattle.iloc_farm.specs.declared.commands.totals.Totals.{Totals}
 use Rattle.iloc_farm.proofs.Schedules.{cycles_few, cycles_within, greedy_all_same, greedy_more, short_at}
 

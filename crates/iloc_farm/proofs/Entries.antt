@@ -2,11 +2,14 @@
 use Rattle.std.proofs.Common.{◌≡◌, ℕ, suc, ◌+◌, List, [], ◌∷◌, ◌++◌, length, map, Some, refl, sym, ap, ap₂, ◌∙◌, subst, arith, append_assoc, append-nil}
 use Rattle.std.specs.Prelude.{slice_get, MatchOption}
 use Rattle.std.specs.List.{flat_map}
+use Rattle.std.proofs.lemmas.Grind.{flat_map-append}
 use Rattle.std.proofs.lemmas.List.Concat.{flat_map-cons}
 use Rattle.iloc_ops.specs.declared.file.Block.{Block}
-use Rattle.iloc_farm.specs.Entries.{AreEntries, IsListingOf}
 use Rattle.iloc_args.specs.declared.request.Request.{Request}
-use Rattle.iloc_farm.specs.Steps.Listed.{AreListed, Grows, OfBlock, ToList}
+use Rattle.iloc_farm.specs.Commands.Counts.{IsCountEntry}
+use Rattle.iloc_farm.specs.Entries.{AreEntries, IsListingOf}
+use Rattle.iloc_farm.specs.Listing.{count_line, entries, total_of_all}
+use Rattle.iloc_farm.specs.Steps.Listed.{AreListed, Grows, IsCount, OfBlock, ToList}
 
 module _ {F : Type 0} (lists : ℕ → Block → List ℕ → F → Type 0) where
   -- one block more
@@ -141,27 +144,59 @@ module _ {F : Type 0} (lists lists' : ℕ → Block → List ℕ → F → Type 
     whole = is.whole;
   }
 
--- the texts and what was found were taken from entries, of which none is left
-module _ {E T F : Type 0} (spell : T → List ℕ) (text_of : E → T) (found_of : E → F) where
-  spelled_map : (xs : List E) → flat_map spell (map text_of xs) ≡ flat_map (λ x. spell (text_of x)) xs
-  spelled_map [] = refl
-  spelled_map (x ∷ xs) =
-      flat_map-cons spell (text_of x) (map text_of xs)
-      ∙ (ap (λ t. spell (text_of x) ++ t) (spelled_map xs) ∙ sym (flat_map-cons (λ y. spell (text_of y)) x xs))
+-- the listing of the cycles that were found
+module _ (request : Request) where
+  lines_of : (k : ℕ) (blocks : List Block) (found : List ℕ) → length found ≡ length blocks
+      → ((i : ℕ) (c : ℕ) → slice_get found i ≡ Some c
+      → MatchOption (slice_get blocks i) ⊥ (λ (b : Block). IsCount request.latencies b c))
+      → AreEntries (IsCountEntry request) k blocks found (entries count_line k blocks found)
+  lines_of k [] [] long each = refl
+  lines_of k [] (c ∷ found) long each = absurd (omega arith)
+  lines_of k (b ∷ blocks) [] long each = absurd (omega arith)
+  lines_of k (b ∷ blocks) (c ∷ found) long each =
+      let count : IsCount request.latencies b c = each 0 c refl in (
+        count_line k b.name c,
+        entries count_line (k + 1) blocks found,
+        record {
+          schedule = count.schedule;
+          greedy = count.greedy;
+          listed = ap (count_line k b.name) count.counted;
+          counted = count.counted;
+        },
+        lines_of (k + 1) blocks found (omega arith) (λ i x at. each (suc i) x at),
+        refl,
+      )
+
+  pub counted_listing : (blocks : List Block) (found : List ℕ) (text : List ℕ)
+      → AreListed (λ k b c. IsCount request.latencies b c) blocks found
+      → text ≡ entries count_line 1 blocks found ++ total_of_all found
+      → IsListingOf (IsCountEntry request) total_of_all blocks text
+  counted_listing blocks found text are whole = record {
+    found = found;
+    entries = entries count_line 1 blocks found;
+    listed = lines_of 1 blocks found are.many are.each;
+    whole = whole;
+  }
+
+-- texts and cycles were taken from entries, of which none is left, and an ending follows the texts
+module _ {E : Type 0} (text_of : E → List ℕ) (found_of : E → ℕ) where
+  joined_map : (xs : List E) → flat_map (λ t. t) (map text_of xs) ≡ flat_map text_of xs
+  joined_map [] = refl
+  joined_map (x ∷ xs) = ap (λ t. text_of x ++ t) (joined_map xs)
 
   none_left : {V : Type 0} (f : E → V) (xs : List E) (ys zs : List V) → length xs ≡ 0 → ys ++ map f xs ≡ zs → ys ≡ zs
   none_left f [] ys zs none all = sym (append-nil ys) ∙ all
   none_left f (x ∷ xs) ys zs none all = absurd (omega arith)
 
-  pub parts_whole : (ending : List F → List ℕ) (entries rest : List E) (texts : List T) (found seen : List F)
-      (start last all : List ℕ) → length rest ≡ 0 → texts ++ map text_of rest ≡ map text_of entries
-      → found ++ map found_of rest ≡ map found_of entries → seen ≡ found → start ≡ [] → last ≡ start ++ ending seen
-      → all ≡ flat_map spell texts ++ last
-      → all ≡ flat_map (λ e. spell (text_of e)) entries ++ ending (map found_of entries)
-  parts_whole ending entries rest texts found seen start last all none are have same empty ended whole =
-      let ts : texts ≡ map text_of entries = none_left text_of rest texts (map text_of entries) none are in
-      let fs : seen ≡ map found_of entries =
-      same ∙ none_left found_of rest found (map found_of entries) none have in
-      let behind : last ≡ ending (map found_of entries) =
-      ended ∙ (ap (λ t. t ++ ending seen) empty ∙ ap ending fs) in
-      whole ∙ ap₂ (λ t e. t ++ e) (ap (flat_map spell) ts ∙ spelled_map entries) behind
+  pub parts_whole : (made rest : List E) (texts more : List (List ℕ)) (found seen : List ℕ) (start last all : List ℕ)
+      → length rest ≡ 0 → texts ++ map text_of rest ≡ map text_of made
+      → found ++ map found_of rest ≡ map found_of made → seen ≡ found → start ≡ []
+      → last ≡ start ++ total_of_all seen → more ≡ texts ++ last ∷ [] → all ≡ flat_map (λ t. t) more
+      → all ≡ flat_map text_of made ++ total_of_all (map found_of made)
+  parts_whole made rest texts more found seen start last all none are have same empty ended added whole =
+      let ts : texts ≡ map text_of made = none_left text_of rest texts (map text_of made) none are in
+      let fs : seen ≡ map found_of made = same ∙ none_left found_of rest found (map found_of made) none have in
+      let ending : last ≡ total_of_all (map found_of made) =
+      ended ∙ (ap (λ t. t ++ total_of_all seen) empty ∙ ap total_of_all fs) in
+      whole ∙ (ap (flat_map (λ t. t)) added ∙ (flat_map-append (λ t. t) texts (last ∷ [])
+      ∙ ap₂ (λ t e. t ++ e) (ap (flat_map (λ t. t)) ts ∙ joined_map made) (append-nil last ∙ ending)))

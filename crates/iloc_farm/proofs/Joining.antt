@@ -1,12 +1,12 @@
--- Texts that are joined before they are written, one after another.
+-- Texts that are joined before they are written, part after part.
 use Rattle.std.proofs.Common.{◌≡◌, ◌∙◌, ℕ, List, [], ◌++◌, Option, ap, append-nil, append_assoc, subst, sym}
-use Rattle.std.proofs.KnownBytes.{Appends-trans}
+use Rattle.std.proofs.KnownBytes.{Appends-nil, Appends-trans}
 use Rattle.std.specs.Io.KnownBytes.{Appends}
 use Rattle.iloc_farm.proofs.Written.{front_behind}
 use Rattle.iloc_farm.specs.Device.{WritesFront}
-use Rattle.iloc_farm.specs.Steps.Joined.{Joins}
+use Rattle.iloc_farm.specs.Steps.Joined.{Joins, JoinsTo}
 
--- the room and the text were written
+-- the buffer and the text were written
 pub goes : (old mid new : Option (List ℕ)) (before after text : List ℕ) → Appends old mid before → after ≡ []
     → Appends mid new text → Joins old new before after text
 goes old mid new before after text first is last = record {
@@ -15,36 +15,53 @@ goes old mid new before after text first is last = record {
   written = Appends-trans old mid new before text first last;
 }
 
-module _ (start mid new : Option (List ℕ)) (room text : List ℕ) (before : Joins start mid [] room text) where
-  -- the text and what was joined to it next
-  pub joins_more : (after more whole : List ℕ) → Joins mid new room after more → text ++ more ≡ whole
-      → Joins start new [] after whole
-  joins_more after more whole next is = record {
-    front = before.front ++ next.front;
-    whole = sym is ∙ (ap (λ t. t ++ more) before.whole
-        ∙ (append_assoc before.front room more
-        ∙ (ap (λ t. before.front ++ t) next.whole ∙ sym (append_assoc before.front next.front after))));
-    written = Appends-trans start mid new before.front next.front before.written next.written;
-  }
+-- nothing is joined yet
+pub none_joined : (now : Option (List ℕ)) (first buffer text left : List ℕ) → buffer ≡ first → left ≡ text
+    → JoinsTo now now first buffer text left
+none_joined now first buffer text left same all = record {
+  front = [];
+  whole = ap (λ t. first ++ t) (sym all) ∙ ap (λ b. b ++ left) (sym same);
+  written = Appends-nil now;
+}
 
-  -- a front of the room and what was to be joined to it is, behind what was written before, a front of the whole
-  pub joins_front : (more after whole : List ℕ) → WritesFront mid new (room ++ more) → text ++ (more ++ after) ≡ whole
-      → WritesFront start new whole
-  joins_front more after whole failed is =
-      front_behind start mid new before.front (room ++ more) after whole before.written failed
-      (ap (λ t. before.front ++ t) (append_assoc room more after)
-      ∙ (sym (append_assoc before.front room (more ++ after))
-      ∙ (ap (λ t. t ++ (more ++ after)) (sym before.whole) ∙ is)))
+module _ (start mid : Option (List ℕ)) (first buffer text left : List ℕ)
+    (so_far : JoinsTo start mid first buffer text left) where
+  module _ (part rest : List ℕ) (parts : left ≡ part ++ rest) where
+    split : first ++ text ≡ so_far.front ++ ((buffer ++ part) ++ rest)
+    split = so_far.whole ∙ ap (λ t. so_far.front ++ t)
+        (ap (λ t. buffer ++ t) parts ∙ sym (append_assoc buffer part rest))
 
-  -- with the room the text is written
-  pub joins_all : Appends mid new room → Appends start new text
-  joins_all last =
-      subst (Appends start new) (sym before.whole)
-      (Appends-trans start mid new before.front room before.written last)
+    -- the next part is joined too
+    pub part_joined : (new : Option (List ℕ)) (after : List ℕ) → Joins mid new buffer after part
+        → JoinsTo start new first after text rest
+    part_joined new after next = record {
+      front = so_far.front ++ next.front;
+      whole = split ∙ (ap (λ t. so_far.front ++ (t ++ rest)) next.whole
+          ∙ (ap (λ t. so_far.front ++ t) (append_assoc next.front after rest)
+          ∙ sym (append_assoc so_far.front next.front (after ++ rest))));
+      written = Appends-trans start mid new so_far.front next.front so_far.written next.written;
+    }
 
-  -- a front of the room is, behind what was written before, a front of what begins with the text
-  pub joins_room : (after whole : List ℕ) → WritesFront mid new room → text ++ after ≡ whole
-      → WritesFront start new whole
-  joins_room after whole failed is =
-      front_behind start mid new before.front room after whole before.written failed
-      (sym (append_assoc before.front room after) ∙ (ap (λ t. t ++ after) (sym before.whole) ∙ is))
+    -- of the buffer and the next part a prefix was written
+    pub part_failed : (new : Option (List ℕ)) → WritesFront mid new (buffer ++ part) → WritesFront start new (first ++ text)
+    part_failed new failed =
+        front_behind start mid new so_far.front (buffer ++ part) rest (first ++ text) so_far.written failed (sym split)
+
+  -- of the buffer a prefix was written
+  pub buffer_failed : (new : Option (List ℕ)) → WritesFront mid new buffer → WritesFront start new (first ++ text)
+  buffer_failed new failed =
+      front_behind start mid new so_far.front buffer left (first ++ text) so_far.written failed (sym so_far.whole)
+
+  module _ (none : left ≡ []) where
+    ended : first ++ text ≡ so_far.front ++ buffer
+    ended = so_far.whole ∙ ap (λ t. so_far.front ++ t) (ap (λ t. buffer ++ t) none ∙ append-nil buffer)
+
+    -- all is joined
+    pub all_joined : Joins start mid first buffer text
+    all_joined = record { front = so_far.front; whole = ended; written = so_far.written }
+
+    -- and the buffer was written
+    pub buffer_written : (new : Option (List ℕ)) → Appends mid new buffer → Appends start new (first ++ text)
+    buffer_written new last =
+        subst (Appends start new) (sym ended)
+        (Appends-trans start mid new so_far.front buffer so_far.written last)

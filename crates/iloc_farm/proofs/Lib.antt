@@ -9,8 +9,8 @@ pub mod Checks
 pub mod Status
 pub mod Gathered
 pub mod Schedules
-pub mod ListAfterList
 pub mod Headline
+pub mod HeldRows
 pub mod Listings
 pub mod Entries
 pub mod Listers

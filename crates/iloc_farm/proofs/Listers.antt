@@ -1,5 +1,5 @@
 -- What the commands list of a block, and that requests that ask alike list one text.
-use Rattle.std.proofs.Common.{◌≡◌, ℕ, ℤ, List, ◌++◌, Option, Result, Ok, Err, OnOk, IfOk, refl, sym, ap, ap₂, ◌∙◌, subst, append_assoc}
+use Rattle.std.proofs.Common.{◌≡◌, ℕ, ℤ, List, [], ◌++◌, Option, Result, Ok, Err, OnOk, IfOk, refl, sym, ap, ap₂, ◌∙◌, subst, append_assoc}
 use Rattle.std.specs.Prelude.{codes}
 use Rattle.iloc_ops.specs.declared.file.Block.{Block}
 use Rattle.iloc_timed.specs.declared.latencies.Latencies.{Latencies}
@@ -7,6 +7,8 @@ use Rattle.iloc_timed.specs.Schedule.{Table}
 use Rattle.iloc_sched.specs.Greedy.{IsGreedy}
 use Rattle.iloc_explain.specs.Listing.{IsExplanation}
 use Rattle.iloc_explain.proofs.OneText.{one_explanation}
+use Rattle.iloc_graph.specs.Listing.{IsCluster}
+use Rattle.iloc_graph.proofs.OneText.{one_cluster}
 use Rattle.iloc_meaning.specs.Memory.{words_from}
 use Rattle.iloc_meaning.specs.Outcome.{outcome, shown}
 use Rattle.iloc_timed.specs.Timed.{timed_outcome}
@@ -16,15 +18,15 @@ use Rattle.iloc_args.specs.declared.request.Task.{Task}
 use Rattle.iloc_args.specs.declared.request.Task.TheVariants as task
 use Rattle.iloc_farm.specs.Commands.Counts.{IsCountEntry}
 use Rattle.iloc_farm.specs.Commands.Explain.{IsExplainEntry}
-use Rattle.iloc_farm.specs.Commands.Run.{IsRunEntry, no_ending}
+use Rattle.iloc_farm.specs.Commands.Graph.{IsGraphEntry, drawing_end, opening_at}
+use Rattle.iloc_farm.specs.Commands.Run.{IsRunEntry, initial_memory, no_ending}
 use Rattle.iloc_farm.specs.Commands.Schedule.{IsScheduleEntry}
 use Rattle.iloc_farm.specs.Commands.Simulate.{IsSimulateEntry}
-use Rattle.iloc_farm.specs.Initial.{initial_memory}
 use Rattle.iloc_farm.specs.Laws.{AskAlike, SimulatingListsRuns}
-use Rattle.iloc_farm.specs.Listing.{block_head, count_entry, count_line, cycles_of, outcome_entry, schedule_entry, schedule_lines, shown_entry, total_of_all}
+use Rattle.iloc_farm.specs.Listing.{block_head, count_entry, cycles_of, outcome_entry, schedule_entry, schedule_lines, shown_entry, total_of_all}
 use Rattle.iloc_farm.specs.Run.{IsListingFor}
 use Rattle.iloc_farm.specs.Schedules.{IsTheGreedy}
-use Rattle.iloc_farm.specs.Steps.Listed.{Adds}
+use Rattle.iloc_farm.specs.Steps.Listed.{Adds, IsCount}
 use Rattle.iloc_farm.proofs.Entries.{listing_also, one_listing}
 use Rattle.iloc_farm.proofs.Schedules.{one_schedule}
 
@@ -46,6 +48,14 @@ module _ (request : Request) (k : ℕ) (b : Block) (text more : List ℕ) (name 
     added = added ∙ ap₂ (λ n w. text ++ shown_entry k n w) named are;
   }
 
+  pub graph_listed : (cluster : List ℕ) → IsCluster request.latencies k b.name b.ops cluster
+      → more ≡ (text ++ opening_at k) ++ cluster → Adds (IsGraphEntry request k b) text more tt
+  graph_listed cluster draws added = record {
+    entry = opening_at k ++ cluster;
+    right = record { cluster = cluster; draws = draws; listed = refl };
+    added = added ∙ append_assoc text (opening_at k) cluster;
+  }
+
   module _ (s : Table) (greedy : IsGreedy request.latencies b.ops s.ops s.rows) where
     pub simulate_listed : (words : Option (List ℤ))
         → words ≡ shown (timed_outcome request.latencies s.ops s.rows (initial_memory request))
@@ -63,30 +73,15 @@ module _ (request : Request) (k : ℕ) (b : Block) (text more : List ℕ) (name 
     }
 
     module _ (cycles : ℕ) (counted : cycles ≡ cycles_of request.latencies s) where
-      pub schedule_listed : (shown : ℕ) → shown ≡ cycles → more ≡ text ++ schedule_lines k name s shown
-          → Adds (IsScheduleEntry request k b) text more cycles
-      schedule_listed shown same added = record {
-        entry = schedule_entry request.latencies k b.name s;
-        right = record {
-          schedule = s;
-          greedy = the_greedy request.latencies b s greedy;
-          listed = refl;
-          counted = counted;
-        };
-        added = added ∙ ap₂ (λ n c. text ++ schedule_lines k n s c) named (same ∙ counted);
-      }
-
-      pub count_listed : (shown : ℕ) → shown ≡ cycles → more ≡ text ++ count_line k name shown
-          → Adds (IsCountEntry request k b) text more cycles
-      count_listed shown same added = record {
-        entry = count_entry request.latencies k b.name s;
-        right = record {
-          schedule = s;
-          greedy = the_greedy request.latencies b s greedy;
-          listed = refl;
-          counted = counted;
-        };
-        added = added ∙ ap₂ (λ n c. text ++ count_line k n c) named (same ∙ counted);
+      -- a text by itself is the entry
+      pub schedule_is : (shown : ℕ) → shown ≡ cycles → text ≡ [] → (entry : List ℕ) → entry ≡ more
+          → more ≡ text ++ schedule_lines k name s shown → IsScheduleEntry request k b entry cycles
+      schedule_is shown same empty entry is added = record {
+        schedule = s;
+        greedy = the_greedy request.latencies b s greedy;
+        listed = is ∙ (added ∙ (ap (λ t. t ++ schedule_lines k name s shown) empty
+            ∙ ap₂ (λ n c. schedule_lines k n s c) named (same ∙ counted)));
+        counted = counted;
       }
 
       pub explain_listed : (explanation : List ℕ) → IsExplanation request.latencies b.ops s.ops s.rows explanation
@@ -105,6 +100,11 @@ module _ (request : Request) (k : ℕ) (b : Block) (text more : List ℕ) (name 
         added = added ∙ (ap (λ n. ((text ++ block_head k n) ++ codes "\n") ++ explanation) named
             ∙ parts_joined text (block_head k b.name) (codes "\n") explanation);
       }
+
+-- the cycles that were found are those of the greedy schedule
+pub is_count : (lat : Latencies) (b : Block) (s : Table) → IsGreedy lat b.ops s.ops s.rows → (cycles : ℕ)
+    → cycles ≡ cycles_of lat s → IsCount lat b cycles
+is_count lat b s greedy cycles counted = record { schedule = s; greedy = the_greedy lat b s greedy; counted = counted }
 
 -- what holds at `Ok` holds of what is answered
 pub if_ok : {T E P : Type 0} (Q : T → Type 0) (result : Result T E) → ((x : T) → P → Q x) → OnOk result P → IfOk result Q
@@ -162,6 +162,14 @@ module _ (r q : Request) (alike : AskAlike r q) (k : ℕ) (b : Block) where
         cycles_same is.schedule is'.schedule c c' same is.counted is'.counted,
       )
 
+  graph_same : (e e' : List ℕ) (f f' : Unit {0}) → IsGraphEntry r k b e f → IsGraphEntry q k b e' f'
+      → (e ≡ e') × (f ≡ f')
+  graph_same e e' f f' is is' =
+      let P : Latencies → Type 0 = λ lat. IsCluster lat k b.name b.ops is.cluster in
+      let same : is.cluster ≡ is'.cluster =
+      one_cluster q.latencies k b.name b.ops is.cluster is'.cluster (subst P alike.latencies is.draws) is'.draws in
+      (is.listed ∙ (ap (λ c. opening_at k ++ c) same ∙ sym is'.listed), refl)
+
 pub of_one_task : (t : Task) (r q : Request) → AskAlike r q → (blocks : List Block) (text text' : List ℕ)
     → IsListingFor t r blocks text → IsListingFor t q blocks text' → text ≡ text'
 of_one_task task.Run r q alike blocks text text' lists lists' =
@@ -176,6 +184,8 @@ of_one_task task.Counts r q alike blocks text text' lists lists' =
     one_listing (IsCountEntry r) (IsCountEntry q) (count_same r q alike) total_of_all blocks text text' lists lists'
 of_one_task task.Explain r q alike blocks text text' lists lists' =
     one_listing (IsExplainEntry r) (IsExplainEntry q) (explain_same r q alike) total_of_all blocks text text' lists lists'
+of_one_task task.Graph r q alike blocks text text' lists lists' =
+    one_listing (IsGraphEntry r) (IsGraphEntry q) (graph_same r q alike) drawing_end blocks text text' lists lists'
 of_one_task task.Check r q alike blocks text text' lists lists' = absurd lists
 
 pub simulating_lists_runs : SimulatingListsRuns

@@ -1,15 +1,15 @@
 -- What is listed of one input does not depend on the workers, and greedy schedules can be listed.
-use Rattle.std.proofs.Common.{◌≡◌, ℕ, List, ℤ, sym, ◌∙◌, subst}
+use Rattle.std.proofs.Common.{ℕ, List, ℤ, sym, ◌∙◌, subst}
 use Rattle.iloc_ops.specs.declared.file.Block.{Block}
 use Rattle.iloc_text.proofs.Answer.{one_answer}
 use Rattle.iloc_timed.specs.declared.latencies.Latencies.{Latencies}
 use Rattle.iloc_args.specs.declared.request.Request.{Request}
 use Rattle.iloc_args.specs.declared.request.Task.{Task}
 use Rattle.iloc_farm.specs.Commands.Check.{ListsChecked}
-use Rattle.iloc_farm.specs.Initial.{initial_memory}
+use Rattle.iloc_farm.specs.Commands.Run.{initial_memory}
 use Rattle.iloc_farm.specs.Laws.{AskAlike, ChecksIgnoreWorkers, GreedySchedulesCanBeListed, ListingsIgnoreWorkers}
 use Rattle.iloc_farm.specs.Run.{IsListing, IsListingFor, ListsFor, ListsSubmission}
-use Rattle.iloc_farm.specs.declared.finding.Finding.{Finding}
+use Rattle.iloc_farm.specs.declared.commands.Finding.{Finding}
 use Rattle.iloc_farm.proofs.Listers.{of_one_task, one_memory}
 use Rattle.iloc_farm.proofs.Schedules.{greedy_long, total_small}
 

@@ -13,14 +13,14 @@ use Rattle.iloc_args.specs.declared.request.Request.{Request}
 use Rattle.iloc_args.specs.declared.request.Task.{Task}
 use Rattle.iloc_args.specs.declared.request.Task.TheVariants as task
 use Rattle.iloc_farm.specs.declared.fault.RunFault.TheVariants.{ReadFailed, Text, Rows, Farm, WriteFailed}
-use Rattle.iloc_farm.specs.declared.finding.Finding.{Finding}
-use Rattle.iloc_farm.specs.declared.finding.Finding.TheVariants.{Passed, Failed}
+use Rattle.iloc_farm.specs.declared.commands.Finding.{Finding}
+use Rattle.iloc_farm.specs.declared.commands.Finding.TheVariants.{Passed, Failed}
 use Rattle.iloc_farm.specs.declared.program.Fault.{Fault}
 use Rattle.iloc_farm.specs.declared.program.Fault.TheVariants.{Line, Run}
 use Rattle.iloc_farm.specs.Commands.Check.{ListsChecked}
 use Rattle.iloc_farm.specs.Fault.{text_status, rows_status}
-use Rattle.iloc_farm.specs.Finding.{status_of_finding}
-use Rattle.iloc_farm.specs.Initial.{initial_memory}
+use Rattle.iloc_farm.specs.Fault.{status_of_finding}
+use Rattle.iloc_farm.specs.Commands.Run.{initial_memory}
 use Rattle.iloc_farm.specs.Laws.{ReadsTheSame, Status0MeansTheSame}
 use Rattle.iloc_farm.specs.Program.{Args, AskFor, IsListed, IsStopped, MakeNone, status_of}
 use Rattle.iloc_farm.specs.Run.{ListsFor, ListsSubmission}
@@ -47,6 +47,7 @@ above_0 words ro rn wo wn (Line (line.Help help)) stopped zero = stopped.no_help
 above_0 words ro rn wo wn (Line (line.Refused said)) stopped zero = omega arith
 above_0 words ro rn wo wn (Line (line.BadStart at)) stopped zero = omega arith
 above_0 words ro rn wo wn (Line line.TooManyWords) stopped zero = omega arith
+above_0 words ro rn wo wn (Line line.NoSuchPriority) stopped zero = omega arith
 above_0 words ro rn wo wn (Line line.NoMemory) stopped zero = omega arith
 above_0 words ro rn wo wn (Run ReadFailed) stopped zero = omega arith
 above_0 words ro rn wo wn (Run (Text fault)) stopped zero = text_above_0 fault zero

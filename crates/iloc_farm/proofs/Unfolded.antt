@@ -1,19 +1,29 @@
--- What a folded text says as it grows, and as it is gone through; for `Folded::of` and `Folded::push_to`.
-use Rattle.std.proofs.Common.{◌≡◌, ◌∙◌, ℕ, zero, suc, ◌+◌, ◌≤◌, List, [], ◌∷◌, ◌++◌, length, take, drop, refl, sym, ap, arith, append_assoc, append-nil, length-drop}
+-- What a folded text says as it grows, and as it is written.
+use Rattle.std.proofs.Common.{◌≡◌, ◌∙◌, ℕ, zero, suc, ◌+◌, ◌-◌, ◌≤◌, ◌<◌, get_or, List, [], ◌∷◌, ◌++◌, length, take, drop, refl, sym, ap, arith, append_assoc, append-nil, length-drop}
 use Rattle.std.specs.Prelude.{codes}
-use Rattle.std.proofs.lemmas.List.{take-append-le, drop-append-le, drop_all, take_all}
+use Rattle.std.proofs.lemmas.List.{take-append-le, drop-append-le, drop_all, drop_more, take_all}
 use Rattle.std.proofs.lemmas.List.Sums.{sum_by-append, sum_by-cons}
-use Rattle.iloc_farm.specs.declared.folded.EmptyRows.{EmptyRows}
-use Rattle.iloc_farm.specs.Steps.Folded.{bytes_before, empty_rows, unfolded}
+use Rattle.iloc_farm.specs.declared.listing.text.EmptyRows.{EmptyRows}
+use Rattle.iloc_farm.specs.Steps.Text.{bytes_before, empty_rows, unfolded}
 
--- one more row in front is one more behind
+-- one more row at the start is one more at the end
 pub empty_rows_more : (n : ℕ) → empty_rows n ++ codes "[ nop ; nop ]\n" ≡ empty_rows (suc n)
 empty_rows_more zero = refl
 empty_rows_more (suc n) =
     append_assoc (codes "[ nop ; nop ]\n") (empty_rows n) (codes "[ nop ; nop ]\n")
     ∙ ap (λ t. codes "[ nop ; nop ]\n" ++ t) (empty_rows_more n)
 
--- more bytes stand behind the last run
+-- of so many rows one is written
+pub one_row_less : (rows n : ℕ) → n < rows → empty_rows (rows - n) ≡ codes "[ nop ; nop ]\n" ++ empty_rows (rows - (n + 1))
+one_row_less rows n lt = ap empty_rows (let one : rows - n ≡ suc (rows - (n + 1)) = omega arith in one)
+
+-- what is left before a run and after it
+pub next_run : (runs : List EmptyRows) (i : ℕ) (d : EmptyRows) (bytes : List ℕ) → i < length runs → unfolded (drop i runs) bytes
+    ≡ take (get_or runs i d).bytes bytes
+    ++ (empty_rows (get_or runs i d).rows ++ unfolded (drop (i + 1) runs) (drop (get_or runs i d).bytes bytes))
+next_run runs i d bytes lt = ap (λ rs. unfolded rs bytes) (drop_more runs i d lt)
+
+-- more bytes follow the last run
 pub bytes_more : (runs : List EmptyRows) (bytes more : List ℕ) → bytes_before runs ≤ length bytes
     → unfolded runs (bytes ++ more) ≡ unfolded runs bytes ++ more
 bytes_more [] bytes more within = refl
@@ -25,7 +35,7 @@ bytes_more (run ∷ runs) bytes more within =
     (ap (λ t. take run.bytes bytes ++ t) (sym (append_assoc (empty_rows run.rows) (unfolded runs (drop run.bytes bytes)) more))
     ∙ sym (append_assoc (take run.bytes bytes) (empty_rows run.rows ++ unfolded runs (drop run.bytes bytes)) more))
 
--- a run stands behind all bytes
+-- a run follows all bytes
 pub run_more : (runs : List EmptyRows) (bytes : List ℕ) (run : EmptyRows) → bytes_before runs + run.bytes ≡ length bytes
     → unfolded (runs ++ run ∷ []) bytes ≡ unfolded runs bytes ++ empty_rows run.rows
 run_more [] bytes run all =

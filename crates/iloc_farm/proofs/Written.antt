@@ -1,13 +1,12 @@
 -- What is left of a text after a write.
-use Rattle.std.proofs.Common.{◌≡◌, ◌∙◌, ℕ, ◌+◌, ◌-◌, ◌<◌, List, [], ◌∷◌, ◌++◌, Err, Ok, OnErr, OnOk, Option, Result, ap, get_or, length, subst, sym, take, drop, arith, append_assoc, take-append-drop, length-drop}
+use Rattle.std.proofs.Common.{◌≡◌, ◌∙◌, ℕ, ◌+◌, ◌-◌, ◌<◌, List, ◌++◌, Err, Ok, OnErr, OnOk, Option, Result, ap, get_or, length, subst, sym, take, drop, arith, append_assoc, take-append-drop, length-drop}
 use Rattle.std.proofs.KnownBytes.{Appends-trans}
 use Rattle.std.specs.List.{flat_map}
 use Rattle.std.specs.Io.KnownBytes.{Appends}
 use Rattle.iloc_farm.specs.Device.{WritesFront}
 use Rattle.iloc_farm.specs.Program.{Says}
-use Rattle.iloc_farm.specs.declared.device.WriteFailed.{WriteFailed}
-use Rattle.std.proofs.lemmas.Grind.{flat_map-append}
-use Rattle.std.proofs.lemmas.List.{flat_map_more, take_all, take_more}
+use Rattle.iloc_farm.specs.declared.listing.writing.WriteFailed.{WriteFailed}
+use Rattle.std.proofs.lemmas.List.{drop_more, take_all}
 
 -- the bytes taken join the front, and the others are left
 pub moves_on : (text front rest : List ℕ) (count n : ℕ) → text ≡ front ++ rest → n ≡ length rest - count
@@ -46,24 +45,11 @@ front_before old new part after whole failed all = record {
   written = failed.written;
 }
 
--- the pieces of a text before the one at i, that one, and those behind it
-module _ {P : Type 0} (text_of : P → List ℕ) (pieces : List P) (i : ℕ) (piece : P) where
-  pub pieces_more : piece ≡ get_or pieces i piece → i < length pieces
-      → flat_map text_of (take i pieces) ++ text_of piece ≡ flat_map text_of (take (i + 1) pieces)
-  pieces_more here within =
-      flat_map_more text_of [] (take i pieces) piece
-      ∙ ap (flat_map text_of) (ap (λ p. take i pieces ++ p ∷ []) here ∙ sym (take_more pieces i piece within))
-
-  pub pieces_split : piece ≡ get_or pieces i piece → i < length pieces → (last : List ℕ)
-      → flat_map text_of (take i pieces) ++ (text_of piece ++ (flat_map text_of (drop (i + 1) pieces) ++ last))
-      ≡ flat_map text_of pieces ++ last
-  pieces_split here within last =
-      sym (append_assoc (flat_map text_of (take i pieces)) (text_of piece)
-      (flat_map text_of (drop (i + 1) pieces) ++ last))
-      ∙ (ap (λ t. t ++ (flat_map text_of (drop (i + 1) pieces) ++ last)) (pieces_more here within)
-      ∙ (sym (append_assoc (flat_map text_of (take (i + 1) pieces)) (flat_map text_of (drop (i + 1) pieces)) last)
-      ∙ ap (λ t. t ++ last) (sym (flat_map-append text_of (take (i + 1) pieces) (drop (i + 1) pieces))
-      ∙ ap (flat_map text_of) (take-append-drop (i + 1) pieces))))
+-- what is left of texts before one of them and after it
+pub next_text : (texts : List (List ℕ)) (i : ℕ) (text : List ℕ) → i < length texts → text ≡ get_or texts i text
+    → flat_map (λ t. t) (drop i texts) ≡ text ++ flat_map (λ t. t) (drop (i + 1) texts)
+next_text texts i text lt here =
+    ap (flat_map (λ t. t)) (drop_more texts i text lt) ∙ ap (λ t. t ++ flat_map (λ t. t) (drop (i + 1) texts)) (sym here)
 
 pub on_err : {T E : Type 0} {P : Type 0} (result : Result T E) → P → OnErr result P
 on_err (Ok x) p = tt

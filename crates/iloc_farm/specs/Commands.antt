@@ -4,4 +4,5 @@ pub mod Simulate
 pub mod Schedule
 pub mod Counts
 pub mod Explain
+pub mod Graph
 pub mod Check

@@ -1,5 +1,5 @@
--- The faults of a run: what is said of each, and the exit status.
-use Rattle.std.specs.Prelude.{ℕ, List, codes}
+-- How a run ends: what it finds or what stops it, what is said of a fault, and the exit status.
+use Rattle.std.specs.Prelude.{◌≡◌, ℕ, Bool, true, false, List, codes}
 use Rattle.iloc_text.specs.Fault.{fault_text}
 use Rattle.iloc_text.specs.declared.fault.ReadFault.{ReadFault}
 use Rattle.iloc_text.specs.declared.fault.ReadFault.TheVariants as text
@@ -8,12 +8,24 @@ use Rattle.iloc_text.specs.declared.fault.StreamFault.TheVariants as stream
 use Rattle.iloc_rows.specs.Fault.{rows_fault_text}
 use Rattle.iloc_rows.specs.declared.fault.RowsFault.{RowsFault}
 use Rattle.iloc_rows.specs.declared.fault.RowsFault.TheVariants as rows
-use Rattle.iloc_farm.specs.declared.device.InputFault.{InputFault}
-use Rattle.iloc_farm.specs.declared.device.InputFault.TheVariants as input
+use Rattle.iloc_farm.specs.declared.reading.InputFault.{InputFault}
+use Rattle.iloc_farm.specs.declared.reading.InputFault.TheVariants as input
+use Rattle.iloc_farm.specs.declared.commands.Finding.{Finding}
+use Rattle.iloc_farm.specs.declared.commands.Finding.TheVariants.{Passed, Failed}
 use Rattle.iloc_farm.specs.declared.fault.FarmFault.{FarmFault}
 use Rattle.iloc_farm.specs.declared.fault.FarmFault.TheVariants as farm
 use Rattle.iloc_farm.specs.declared.fault.RunFault.{RunFault}
 use Rattle.iloc_farm.specs.declared.fault.RunFault.TheVariants.{ReadFailed, Text, Rows, Farm, WriteFailed}
+
+-- what judged somebody's schedules passed where all are the same
+abbrev pub finding_of : Bool → Finding
+finding_of true = Passed
+finding_of false = Failed
+
+-- 0 where they passed, 5 where they didn't
+abbrev pub status_of_finding : Finding → ℕ
+status_of_finding Passed = 0
+status_of_finding Failed = 5
 
 -- 1 for a fault in the text, 3 for want of memory
 abbrev pub text_status : ReadFault → ℕ
@@ -84,3 +96,10 @@ fault_of_rows (rows.Read (text.TooManyOperations n)) = Rows (rows.Read (text.Too
 fault_of_rows (rows.Read text.NoMemory) = no_memory
 fault_of_rows rows.NoBlocks = Rows rows.NoBlocks
 fault_of_rows (rows.NoSuchBlock n) = Rows (rows.NoSuchBlock n)
+
+-- What holds where so many workers were to work off a board, for which so many passes were made, and it ended with this
+-- fault: no thread was tried before all passes were made. It can't be said that one was refused, or that memory was, nor
+-- that no thread is left, since contracts know nothing of what there is.
+abbrev pub EndsWork : ℕ → ℕ → FarmFault → Type 0
+EndsWork workers made farm.NoThread = made ≡ workers
+EndsWork workers made farm.NoMemory = Unit {0}

@@ -7,13 +7,13 @@ use Rattle.iloc_text.specs.Files.{Denotes}
 use Rattle.iloc_timed.specs.declared.latencies.Latencies.{Latencies}
 use Rattle.iloc_timed.specs.Schedule.{Table}
 use Rattle.iloc_rows.specs.declared.proposal.Proposal.{Proposal}
-use Rattle.iloc_check.specs.Checked.{DoTheSame}
+use Rattle.iloc_judge.specs.Checked.{DoTheSame}
 use Rattle.iloc_rows.specs.Submissions as submissions
 use Rattle.iloc_args.specs.Asked.{Asked}
 use Rattle.iloc_args.specs.declared.request.Request.{Request}
 use Rattle.iloc_args.specs.declared.request.Task.TheVariants as task
-use Rattle.iloc_farm.specs.declared.finding.Finding.{Finding}
-use Rattle.iloc_farm.specs.declared.finding.Finding.TheVariants.{Passed}
+use Rattle.iloc_farm.specs.declared.commands.Finding.{Finding}
+use Rattle.iloc_farm.specs.declared.commands.Finding.TheVariants.{Passed}
 use Rattle.iloc_farm.specs.declared.program.Ending.{Ending}
 use Rattle.iloc_farm.specs.Commands.Check.{ListsChecked}
 use Rattle.iloc_farm.specs.Device.{ReadsInput}

@@ -2,9 +2,7 @@ pub mod Commands
 pub mod Device
 pub mod Entries
 pub mod Fault
-pub mod Finding
 pub mod Headline
-pub mod Initial
 pub mod Laws
 pub mod Listing
 pub mod Program

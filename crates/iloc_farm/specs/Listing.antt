@@ -1,11 +1,12 @@
 -- The listings: of outcomes, of schedules and of their cycles.
-use Rattle.std.specs.Prelude.{ℕ, ◌+◌, List, [], ◌∷◌, ◌++◌, sum, sum_by, Option, Some, None, ℤ, codes}
-use Rattle.std.specs.List.{flat_map}
+use Rattle.std.specs.Prelude.{ℕ, ◌+◌, Bool, ◌&&◌, if◌then◌else◌, List, [], ◌∷◌, ◌++◌, sum, sum_by, Option, Some, None, is_none, ℤ, codes}
+use Rattle.std.specs.List.{flat_map, list_all}
 use Rattle.std.specs.Fmt.{decimal, signed_decimal}
 use Rattle.iloc_ops.specs.declared.file.Block.{Block}
 use Rattle.iloc_meaning.specs.declared.outcome.Outcome.{Outcome}
 use Rattle.iloc_meaning.specs.Outcome.{shown}
 use Rattle.iloc_timed.specs.declared.latencies.Latencies.{Latencies}
+use Rattle.iloc_timed.specs.declared.row.Row.{Row}
 use Rattle.iloc_timed.specs.Cycles.{cycles}
 use Rattle.iloc_timed.specs.Schedule.{Table}
 use Rattle.iloc_timed.specs.Spelling.{row_line}
@@ -45,19 +46,25 @@ shown_entry k name words = block_head k name ++ codes "\n" ++ words_or_fault wor
 abbrev pub outcome_entry : ℕ → Option (List ℕ) → Outcome → List ℕ
 outcome_entry k name outcome = shown_entry k name (shown outcome)
 
--- the listing of a file's blocks with their outcomes
-abbrev pub outcomes_listing : List Block → List Outcome → List ℕ
-outcomes_listing blocks outcomes = entries outcome_entry 1 blocks outcomes
-
 -- Schedules
 
 abbrev pub cycles_of : Latencies → Table → ℕ
 cycles_of lat s = cycles lat s.ops s.rows
 
--- `block K NAME`, a line for each row, `cycles C`
+-- whether no operation is issued in a row
+abbrev pub is_empty : Row → Bool
+is_empty row = is_none row.zero && is_none row.one
+
+-- rows up to the last that holds an operation
+abbrev pub held_rows : List Row → List Row
+held_rows [] = []
+held_rows (row ∷ rows) = if list_all is_empty (row ∷ rows) then [] else row ∷ held_rows rows
+
+-- `block K NAME`, a line for each row up to the last that holds an operation, `cycles C`
 abbrev pub schedule_lines : ℕ → Option (List ℕ) → Table → ℕ → List ℕ
 schedule_lines k name s cycles =
-    block_head k name ++ codes "\n" ++ flat_map (row_line s.ops) s.rows ++ codes "cycles " ++ decimal cycles ++ codes "\n"
+    block_head k name ++ codes "\n" ++ flat_map (row_line s.ops) (held_rows s.rows)
+    ++ codes "cycles " ++ decimal cycles ++ codes "\n"
 
 abbrev pub schedule_entry : Latencies → ℕ → Option (List ℕ) → Table → List ℕ
 schedule_entry lat k name s = schedule_lines k name s (cycles_of lat s)
@@ -88,7 +95,3 @@ total_line lat schedules = total_of (total_cycles lat schedules)
 abbrev pub schedules_listing : Latencies → List Block → List Table → List ℕ
 schedules_listing lat blocks schedules =
     entries (schedule_entry lat) 1 blocks schedules ++ total_line lat schedules
-
--- the listing of a file's blocks with the cycles of their schedules
-abbrev pub counts_listing : Latencies → List Block → List Table → List ℕ
-counts_listing lat blocks schedules = entries (count_entry lat) 1 blocks schedules ++ total_line lat schedules

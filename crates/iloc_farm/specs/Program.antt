@@ -13,20 +13,20 @@ use Rattle.iloc_args.specs.Asked.{Asked, asked_in}
 use Rattle.iloc_args.specs.Due.{Asks, IsDue}
 use Rattle.iloc_args.specs.Fault.{line_text, status_of as line_status_of}
 use Rattle.iloc_args.specs.declared.fault.LineFault.{LineFault}
-use Rattle.iloc_args.specs.declared.fault.LineFault.TheVariants.{Help, Refused, BadStart, TooManyWords, NoMemory}
+use Rattle.iloc_args.specs.declared.fault.LineFault.TheVariants.{Help, Refused, BadStart, TooManyWords, NoSuchPriority, NoMemory}
 use Rattle.iloc_args.specs.declared.request.Request.{Request}
 use Rattle.iloc_farm.specs.Device.{WritesFront}
 use Rattle.iloc_farm.specs.Fault.{run_status_of, run_text}
-use Rattle.iloc_farm.specs.Finding.{status_of_finding}
+use Rattle.iloc_farm.specs.Fault.{status_of_finding}
 use Rattle.iloc_farm.specs.Run.{EndsRun, Lists}
-use Rattle.iloc_farm.specs.declared.device.WriteFailed.{WriteFailed}
+use Rattle.iloc_farm.specs.declared.listing.writing.WriteFailed.{WriteFailed}
 use Rattle.iloc_farm.specs.declared.program.Fault.{Fault}
 use Rattle.iloc_farm.specs.declared.program.Fault.TheVariants.{Line, Run}
 use Rattle.iloc_farm.specs.declared.fault.RunFault.{RunFault}
 use Rattle.iloc_farm.specs.declared.fault.RunFault.TheVariants.{WriteFailed as write_failed}
 use Rattle.iloc_farm.specs.declared.program.Ending.{Ending}
-use Rattle.iloc_farm.specs.declared.finding.Finding.{Finding}
-use Rattle.iloc_farm.specs.declared.finding.Finding.TheVariants.{Passed}
+use Rattle.iloc_farm.specs.declared.commands.Finding.{Finding}
+use Rattle.iloc_farm.specs.declared.commands.Finding.TheVariants.{Passed}
 
 -- ---- the words
 
@@ -53,6 +53,7 @@ IsWordless error (Help text) = ⊥
 IsWordless error (Refused text) = (error_kind error ≢ OutOfMemory) × (string_bytes text ≡ no_text)
 IsWordless error (BadStart at) = ⊥
 IsWordless error TooManyWords = ⊥
+IsWordless error NoSuchPriority = ⊥
 IsWordless error NoMemory = Unit {0}
 
 -- the words make no request, by this fault, where help counts as one

@@ -11,17 +11,17 @@ use Rattle.iloc_args.specs.declared.request.Task.TheVariants as task
 use Rattle.iloc_farm.specs.declared.fault.FarmFault.TheVariants as farm
 use Rattle.iloc_farm.specs.declared.fault.RunFault.{RunFault}
 use Rattle.iloc_farm.specs.declared.fault.RunFault.TheVariants.{ReadFailed, Text, Rows, Farm, WriteFailed}
-use Rattle.iloc_farm.specs.declared.finding.Finding.{Finding}
-use Rattle.iloc_farm.specs.declared.finding.Finding.TheVariants.{Passed}
+use Rattle.iloc_farm.specs.declared.commands.Finding.{Finding}
+use Rattle.iloc_farm.specs.declared.commands.Finding.TheVariants.{Passed}
 use Rattle.iloc_farm.specs.Commands.Check.{ListsChecked}
 use Rattle.iloc_farm.specs.Commands.Counts.{IsCountEntry}
 use Rattle.iloc_farm.specs.Commands.Explain.{IsExplainEntry}
-use Rattle.iloc_farm.specs.Commands.Run.{IsRunEntry, no_ending}
+use Rattle.iloc_farm.specs.Commands.Graph.{IsGraphEntry, drawing_end}
+use Rattle.iloc_farm.specs.Commands.Run.{IsRunEntry, initial_memory, no_ending}
 use Rattle.iloc_farm.specs.Commands.Schedule.{IsScheduleEntry}
 use Rattle.iloc_farm.specs.Commands.Simulate.{IsSimulateEntry}
 use Rattle.iloc_farm.specs.Device.{ReadsInput, WritesFront}
 use Rattle.iloc_farm.specs.Entries.{IsListingOf}
-use Rattle.iloc_farm.specs.Initial.{initial_memory}
 use Rattle.iloc_farm.specs.Listing.{total_of_all}
 
 -- The text is what a request with this task lists of a file's blocks: an entry for each, and an ending. A check lists no
@@ -32,6 +32,7 @@ IsListingFor task.Simulate request blocks text = IsListingOf (IsSimulateEntry re
 IsListingFor task.Schedule request blocks text = IsListingOf (IsScheduleEntry request) total_of_all blocks text
 IsListingFor task.Counts request blocks text = IsListingOf (IsCountEntry request) total_of_all blocks text
 IsListingFor task.Explain request blocks text = IsListingOf (IsExplainEntry request) total_of_all blocks text
+IsListingFor task.Graph request blocks text = IsListingOf (IsGraphEntry request) drawing_end blocks text
 IsListingFor task.Check request blocks text = ⊥
 
 -- the text is what the request lists of the blocks, and that does not depend on its workers

@@ -1,9 +1,7 @@
 -- What the code does piece by piece, as steps of proof: no contract of a public function names them.
-pub mod Detailed
-pub mod Folded
+pub mod Text
 pub mod Joined
 pub mod Listed
-pub mod Pieces
 pub mod Reading
 pub mod OfInput
 pub mod Limits

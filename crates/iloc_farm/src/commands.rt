@@ -1,24 +1,26 @@
-//! The commands: what each lists of what is read.
+//! The commands: what each lists of what is read, and what it finds.
 ghost use Rattle.std.specs.Prelude.{◌≡◌, IfErr, IfOk};
+ghost use Rattle.iloc_farm.specs.Fault.{finding_of, status_of_finding};
 ghost use Rattle.iloc_farm.specs.Run.{Lists};
 ghost use Rattle.iloc_farm.specs.Steps.OfInput.{EndsReading};
 
 mod check;
 mod counts;
 mod explain;
+mod graph;
 mod run;
 mod schedule;
 mod simulate;
 mod totals;
 
-use crate::as_read::listed_as_read;
 use crate::farmed::listed_by_workers;
 use crate::fault::RunFault;
-use crate::finding::Finding;
-use crate::pieces::Pieces;
+use crate::lister::listed_as_read;
+use crate::listing::text::Listing;
 use check::checked;
 use counts::CountLister;
 use explain::ExplainLister;
+use graph::GraphLister;
 use iloc_args::{Request, Task};
 use run::RunLister;
 use schedule::ScheduleLister;
@@ -28,16 +30,48 @@ use std::io::Read;
 use std::sync::Wait;
 use std::thread::Threads;
 
+/// What a run found out about the schedules that it judged.
+#[derive(Clone, Copy, Debug, Drop, PartialEq, Eq)]
+pub enum Finding {
+    /// Nothing was judged, or all that was has its block's outcome on every memory.
+    Passed,
+    /// Of something that was judged this wasn't found.
+    Failed,
+}
+
+impl Finding {
+    /// What is found where all is the same, or not all.
+    pub(crate) fn of(all_same: bool) -> Finding
+        ensures { result ≡ finding_of all_same }
+    {
+        if all_same {
+            Finding::Passed
+        } else {
+            Finding::Failed
+        }
+    }
+
+    /// The exit status of a program that found this.
+    pub(crate) fn status(self) -> u8
+        ensures { result ≡ status_of_finding self }
+    {
+        match self {
+            Finding::Passed => 0,
+            Finding::Failed => 5,
+        }
+    }
+}
+
 /// What is listed of an input, and what was found.
 #[derive(Drop)]
 pub(crate) struct Listed {
-    pub text: Pieces,
+    pub text: Listing,
     pub finding: Finding,
 }
 
 impl Listed {
     /// A listing of a file, of which nothing is judged.
-    fn of_file(text: Pieces) -> Listed
+    fn of_file(text: Listing) -> Listed
         ensures { result ≡ record { text = text; finding = Finding.Passed } }
     {
         Listed {
@@ -77,6 +111,10 @@ pub(crate) fn list<H: Threads + Wait + Sync, R: Read>(
         }
         Task::Explain => {
             let text = listed_as_read::<ExplainLister, R>(alloc, reader, request)?;
+            Ok(Listed::of_file(text))
+        }
+        Task::Graph => {
+            let text = listed_as_read::<GraphLister, R>(alloc, reader, request)?;
             Ok(Listed::of_file(text))
         }
         Task::Check => checked(alloc, reader, request),

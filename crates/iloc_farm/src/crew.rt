@@ -3,12 +3,28 @@ ghost use Rattle.std.specs.Prelude.{◌≡◌, IfOk, map};
 ghost use Rattle.std.specs.List.{All, AllZip};
 
 use crate::fault::FarmFault;
-use crate::routine::Routine;
 use std::alloc::Global;
 use std::snapshot::Snapshot;
 use std::sync::Wait;
 use std::thread;
 use std::thread::{Promise, PromisedHandle, Scope, Threads};
+
+/// Something that is run once and gives an output.
+pub trait Routine {
+    /// What a run gives.
+    type Output: Drop;
+
+    // The routine may be run.
+    ghost can_run: { Self → Type 0 };
+
+    // A run may give this output.
+    ghost run_gives: { Self → Self.Output → Type 0 };
+
+    /// Runs the routine.
+    fn run(self) -> Self::Output
+        requires { can_run self }
+        ensures { run_gives self result };
+}
 
 // A thread's promise: its result is what its routine gives.
 #[derive(Drop)]

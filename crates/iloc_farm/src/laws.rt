@@ -31,7 +31,7 @@ pub fn status_0_means_the_same()
 {}
 
 /// The greedy schedules of blocks within the limits are as many as the blocks, and their cycles
-/// together are below 2^63, as `schedules_text` and `counts_text` want.
+/// together are below 2^63, as `schedules_text` requires.
 pub fn greedy_schedules_can_be_listed()
     ensures { GreedySchedulesCanBeListed }
 {}

@@ -1,14 +1,21 @@
-//! What a command makes of blocks.
-ghost use Rattle.std.specs.Prelude.{◌≡◌, ℕ, ◌≤◌, ◌<◌, ◌^◌, ◌++◌, List, length, ℤ, IfOk, OnOk};
+//! What a command lists of a file, block by block as the file is read.
+ghost use Rattle.std.specs.Prelude.{◌≡◌, ℕ, ◌≤◌, ◌<◌, ◌^◌, ◌++◌, List, length, ℤ, IfErr, IfOk, OnOk};
 ghost use Rattle.iloc_ops.specs.Limits.{MAX_BLOCKS, MAX_OPS};
 ghost use Rattle.iloc_ops.specs.declared.file.Block.{Block as block_value};
 ghost use Rattle.iloc_args.specs.declared.request.Request.{Request as request_value};
-ghost use Rattle.iloc_farm.specs.Initial.{initial_memory};
-ghost use Rattle.iloc_farm.specs.Steps.Listed.{Adds};
+ghost use Rattle.iloc_farm.specs.Commands.Run.{initial_memory};
+ghost use Rattle.iloc_farm.specs.Entries.{IsListingOf};
+ghost use Rattle.iloc_farm.specs.Steps.Listed.{Adds, ListsRead};
+ghost use Rattle.iloc_farm.specs.Steps.OfInput.{EndsFile};
 
+use crate::fault::RunFault;
+use crate::listing::text::Listing;
+use crate::reading::blocks_read;
 use iloc_args::Request;
-use iloc_text::{Block, NoMemory};
+use iloc_meaning::Memory;
+use iloc_text::{Block, NoMemory, TakeBlocks};
 use std::alloc::Global;
+use std::io::Read;
 
 /// Lists one block of a file after another, as a command has it. A listing is the entries of the blocks, and an ending.
 pub trait Lister: Drop {
@@ -50,15 +57,74 @@ pub trait Lister: Drop {
         ensures { OnOk result (text.new.items ≡ text.old.items ++ ending found.now) };
 }
 
-/// A lister that lists for any request, whatever it holds: so each worker has one of its own.
-pub trait FarmedLister: Lister {
-    // the cycles of the block's schedule
-    ghost cycles_in: { Self.Found → ℕ };
+/// The memory that a request has each block start with: its words from its start on, and else 0.
+pub fn initial_memory(alloc: Global, request: &Request) -> Result<Memory, NoMemory>
+    ensures { IfOk result (λ memory. memory ≡ initial_memory request.now) }
+{
+    Memory::with_words(alloc, request.at, &request.words)
+}
 
-    /// The cycles of the block's schedule.
-    fn cycles(found: &Self::Found) -> u32
-        ensures { result ≡ cycles_in found.now };
+/// Lists each block that it is handed.
+#[derive(Drop)]
+struct AsRead<'q, L: Lister> {
+    request: &'q Request,
+    lister: L,
+    text: Vec<u8>,
+    /// What was found of each block.
+    found: Vec<L::Found>,
+    ghost starts: { L.memory request.now lister ≡ initial_memory request.now },
+}
 
-    // it runs no block
-    ghost runs_none: { (request : request_value) (lister : Self) → Self.memory request lister ≡ initial_memory request };
+impl<'q, L: Lister> TakeBlocks for AsRead<'q, L> {
+    ghost use Rattle.std.specs.Prelude.{◌≡◌, []};
+    ghost use Rattle.std.proofs.Common.{append-nil, refl, sym};
+    ghost use Rattle.iloc_farm.specs.Steps.Listed.{Grows};
+
+    ghost took = { λ start blocks now. (now.request.now ≡ start.request.now)
+        × Grows (L.lists start.request.now) blocks start.text.items now.text.items start.found.items now.found.items };
+
+    fn take(&mut self, alloc: Global, number: usize, block: &Block) -> Result<(), NoMemory> {
+        let found = self
+            .lister
+            .list(alloc, self.request, number, block, &mut self.text)?;
+        Ok(self.found.push(found)?)
+    }
+
+    ghost took_none = { λ start. (
+      refl,
+      record {
+        entries = [];
+        next = [];
+        right = refl;
+        added = sym (append-nil start.text.items);
+        kept = sym (append-nil start.found.items);
+      },
+    ) };
+}
+
+/// The listing of the file that the reader gives, each block listed as soon as it is read.
+pub(crate) fn listed_as_read<L: Lister, R: Read>(
+    alloc: Global,
+    reader: &mut R,
+    request: &Request,
+) -> Result<Listing, RunFault>
+    ensures ok { IfOk result
+        (ListsRead (IsListingOf (L.lists request.now) L.ending) (R.remaining reader.old) (R.remaining reader.new)) }
+    ensures err { IfErr result (EndsFile (R.remaining reader.old) (R.remaining reader.new)) }
+{
+    let lister = L::new(alloc, request)?;
+    let start = AsRead {
+        request,
+        lister,
+        text: Vec::new(alloc),
+        found: Vec::new(alloc),
+    };
+    let read = blocks_read(alloc, reader, start)?;
+    let AsRead {
+        mut text,
+        found,
+        ..
+    } = read;
+    L::push_ending(&mut text, &found)?;
+    Ok(Listing::of_text(alloc, text)?)
 }

@@ -1,19 +1,42 @@
-//! The listings: of outcomes, of schedules and of their cycles.
-ghost use Rattle.std.specs.Prelude.{◌≡◌, ◌≤◌, ◌<◌, ◌^◌, ◌++◌, length, sum_by, OnOk, IfOk, codes};
+//! The lines of listings: of outcomes, of schedules and of their cycles.
+ghost use Rattle.std.specs.Prelude.{◌≡◌, ◌+◌, ◌≤◌, ◌<◌, ◌^◌, ◌++◌, length, OnOk, IfOk};
 ghost use Rattle.iloc_ops.specs.Limits.{MAX_BLOCKS};
 ghost use Rattle.std.specs.Option.{option_copied};
 ghost use Rattle.std.specs.List.{flat_map};
 ghost use Rattle.std.specs.Fmt.{decimal};
-ghost use Rattle.iloc_timed.specs.declared.latencies.Latencies.{Latencies};
 ghost use Rattle.iloc_timed.specs.Spelling.{row_line};
 ghost use Rattle.iloc_farm.specs.Listing as listed;
-ghost use Rattle.iloc_farm.specs.Steps.Detailed.{entry_with, listing_with};
 
-use crate::numbered::push_numbered;
-use iloc_meaning::Outcome;
-use iloc_text::{IlocFile, Name, NoMemory, Op, push_number};
+pub(crate) mod text;
+pub(crate) mod writing;
+
+use iloc_text::{IlocFile, Name, NoMemory, Op, push_number, write_text};
 use iloc_timed::{Latencies, MAX_ROWS, Row, Schedule, cycles, push_row_line};
+use itoa::write_digits;
 use std::alloc::Global;
+
+/// More bytes than a number takes with the words around it.
+const LINE_ROOM: usize = 48;
+
+/// Appends a number with a word before it and one after it, in one go.
+#[inline(always)]
+#[tactic(auto, using(crate::proofs::Numbers::decimal_is_short))]
+fn push_numbered(
+    text: &mut Vec<u8>,
+    before: &[u8],
+    number: u64,
+    after: &[u8],
+) -> Result<(), NoMemory>
+    requires { length before.now + length after.now ≤ 16 }
+    ensures { OnOk result (text.new.items ≡ text.old.items ++ before.now ++ decimal number ++ after.now) }
+{
+    let mut line = [0; LINE_ROOM];
+    let end = write_text(&mut line, LINE_ROOM, after);
+    let end = write_digits(number, &mut line, end);
+    let start = write_text(&mut line, end, before);
+    text.extend_from_slice(&line[start..])?;
+    Ok(())
+}
 
 /// Appends `block K NAME`, with `-` for a block without a name.
 pub(crate) fn push_block_head(
@@ -65,23 +88,6 @@ pub(crate) fn push_outcome(
     }
 }
 
-/// The listing of a file's blocks with their outcomes.
-pub fn outcomes_text(
-    alloc: Global,
-    file: &IlocFile,
-    outcomes: &[Outcome],
-) -> Result<Vec<u8>, NoMemory>
-    requires { length outcomes.now ≡ length file.now.blocks }
-    ensures { IfOk result (λ text. text.items ≡ listed.outcomes_listing file.now.blocks outcomes.now) }
-{
-    let mut text = Vec::new(alloc);
-    for (index, block) in file.blocks.as_slice().iter().enumerate() {
-        let words = outcomes[index].outputs();
-        push_outcome(&mut text, index + 1, block.name.as_ref(), words)?;
-    }
-    Ok(text)
-}
-
 /// Appends a line for each row.
 fn push_rows(text: &mut Vec<u8>, ops: &[Op], rows: &[Row]) -> Result<(), NoMemory>
     ensures { OnOk result
@@ -93,17 +99,26 @@ fn push_rows(text: &mut Vec<u8>, ops: &[Op], rows: &[Row]) -> Result<(), NoMemor
     Ok(())
 }
 
-/// What is listed of a schedule.
-#[derive(Clone, Copy, Debug, PartialEq, Eq)]
-pub enum Detail {
-    /// Its rows and its cycles.
-    Rows,
-    /// Its cycles alone.
-    Cycles,
+/// Whether no operation is issued in a row.
+fn is_empty(row: &Row) -> bool
+    ensures { result ≡ listed.is_empty row.now }
+{
+    row.zero.is_none() && row.one.is_none()
+}
+
+/// The rows up to the last that holds an operation.
+fn held_rows(rows: &[Row]) -> &[Row]
+    ensures { result.now ≡ listed.held_rows rows.now }
+{
+    let mut count = rows.len();
+    while count > 0 && is_empty(&rows[count - 1]) {
+        count -= 1;
+    }
+    &rows[..count]
 }
 
 /// Appends the rows and the cycles of the block with this number, counted from 1, and this schedule, which takes so
-/// many cycles.
+/// many cycles. Empty rows after the last operation are left out.
 pub(crate) fn push_schedule(
     text: &mut Vec<u8>,
     number: usize,
@@ -118,7 +133,7 @@ pub(crate) fn push_schedule(
 {
     push_block_head(text, number, name)?;
     text.push(b'\n')?;
-    push_rows(text, schedule.ops(), schedule.rows())?;
+    push_rows(text, schedule.ops(), held_rows(schedule.rows()))?;
     push_numbered(text, b"cycles ", cycles, b"\n")
 }
 
@@ -136,27 +151,6 @@ pub(crate) fn push_count(
 {
     push_block_head(text, number, name)?;
     push_numbered(text, b" cycles ", cycles, b"\n")
-}
-
-/// Appends what is listed of the block with this number, counted from 1, in so much detail.
-fn push_detailed(
-    text: &mut Vec<u8>,
-    number: usize,
-    name: Option<&Name>,
-    schedule: &Schedule,
-    cycles: u64,
-    detail: Detail,
-) -> Result<(), NoMemory>
-    requires number { number < 2 ^ 63 }
-    requires cycles { cycles < 2 ^ 63 }
-    ensures { (latencies : Latencies) → cycles ≡ listed.cycles_of latencies schedule.now →
-        OnOk result (text.new.items ≡ text.old.items
-        ++ entry_with detail latencies number (option_copied name.entry) schedule.now) }
-{
-    match detail {
-        Detail::Rows => push_schedule(text, number, name, schedule, cycles),
-        Detail::Cycles => push_count(text, number, name, cycles),
-    }
 }
 
 /// Appends the line of the cycles of all.
@@ -187,38 +181,6 @@ pub(crate) fn push_total_of(text: &mut Vec<u8>, cycles: &[u32]) -> Result<(), No
     push_total(text, total)
 }
 
-/// The listing of a file's blocks with their schedules, in so much detail, and the cycles of all.
-fn farm_text(
-    alloc: Global,
-    file: &IlocFile,
-    latencies: &Latencies,
-    schedules: &[Schedule],
-    detail: Detail,
-) -> Result<Vec<u8>, NoMemory>
-    requires each { length schedules.now ≡ length file.now.blocks }
-    requires total { listed.total_cycles latencies.now schedules.now < 2 ^ 63 }
-    ensures { IfOk result (λ text. text.items ≡
-        listing_with detail latencies.now file.now.blocks schedules.now) }
-{
-    let mut text = Vec::new(alloc);
-    let mut total = 0;
-    for (index, block) in file.blocks.as_slice().iter().enumerate() {
-        let schedule = &schedules[index];
-        let cycles = cycles(schedule, latencies);
-        push_detailed(
-            &mut text,
-            index + 1,
-            block.name.as_ref(),
-            schedule,
-            cycles,
-            detail,
-        )?;
-        total += cycles;
-    }
-    push_total(&mut text, total)?;
-    Ok(text)
-}
-
 /// The listing of a file's blocks with their schedules: for each its rows and its cycles, and at the
 /// end the cycles of all.
 pub fn schedules_text(
@@ -232,20 +194,14 @@ pub fn schedules_text(
     ensures { IfOk result (λ text. text.items ≡
         listed.schedules_listing latencies.now file.now.blocks schedules.now) }
 {
-    farm_text(alloc, file, latencies, schedules, Detail::Rows)
-}
-
-/// The listing of a file's blocks with the cycles of their schedules, and at the end those of all.
-pub fn counts_text(
-    alloc: Global,
-    file: &IlocFile,
-    latencies: &Latencies,
-    schedules: &[Schedule],
-) -> Result<Vec<u8>, NoMemory>
-    requires each { length schedules.now ≡ length file.now.blocks }
-    requires total { listed.total_cycles latencies.now schedules.now < 2 ^ 63 }
-    ensures { IfOk result (λ text. text.items ≡
-        listed.counts_listing latencies.now file.now.blocks schedules.now) }
-{
-    farm_text(alloc, file, latencies, schedules, Detail::Cycles)
+    let mut text = Vec::new(alloc);
+    let mut total = 0;
+    for (index, block) in file.blocks.as_slice().iter().enumerate() {
+        let schedule = &schedules[index];
+        let cycles = cycles(schedule, latencies);
+        push_schedule(&mut text, index + 1, block.name.as_ref(), schedule, cycles)?;
+        total += cycles;
+    }
+    push_total(&mut text, total)?;
+    Ok(text)
 }

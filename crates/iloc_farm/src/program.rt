@@ -1,14 +1,15 @@
-//! The whole program but its real streams: from its words, a reader and two writers to its exit status.
-ghost use Rattle.std.specs.Prelude.{◌≡◌, IfErr, IfOk, IfSome, OnOk, drop};
+//! The whole program but its real streams: from bytes to bytes, and from words to exit status.
+ghost use Rattle.std.specs.Prelude.{◌≡◌, IfErr, IfOk, IfSome, List, drop, ℕ};
+ghost use Rattle.std.specs.Io.KnownBytes.{Appends};
 ghost use Rattle.std.specs.Vec.Iter.{into_iter_items};
 ghost use Rattle.iloc_args.specs.Asked.{asked_in};
 ghost use Rattle.iloc_farm.specs.Program.{AskFor, Ends, IsDone, IsStopped, MakeNone, Says};
 ghost use Rattle.iloc_farm.specs.Program.{named_line, words_line};
+ghost use Rattle.iloc_farm.specs.Run.{EndsRun, Lists};
 
-use crate::device::{WriteFailed, write_text};
-use crate::end_to_end::run;
+use crate::commands::{Finding, Listed, list};
 use crate::fault::{RunFault, run_status};
-use crate::finding::Finding;
+use crate::listing::writing::{WriteFailed, write_text};
 use arrayvec::ArrayString;
 use iloc_args::{LineFault, Request, line_status, parse_line};
 use std::alloc::{AllocError, Global};
@@ -116,6 +117,32 @@ pub fn run_program<H: Threads + Wait + Sync, R: Read, W: Write, F: Write>(
     }
 }
 
+/// Reads an input, writes what the request lists of it, and answers what was found. For `Check` the
+/// input is blocks with rows, else it is a file, of which nothing is judged. For `Run`, `Simulate` and
+/// `Check` each block starts with the request's memory; for `Schedule` and `Counts` the request's
+/// workers are threads.
+///
+/// The whole listing is made before the first byte is written. After `WriteFailed` a front of it was
+/// written, after any other fault nothing.
+pub fn run<H: Threads + Wait + Sync, R: Read, W: Write>(
+    rt: &H,
+    alloc: Global,
+    reader: &mut R,
+    writer: &mut W,
+    request: &Request,
+) -> Result<Finding, RunFault>
+    ensures ok { IfOk result (λ finding. (text : List ℕ) ×
+        Lists request.now (R.remaining reader.old) (R.remaining reader.new) finding text ×
+        Appends (W.contents writer.old) (W.contents writer.new) text) }
+    ensures err { IfErr result (EndsRun request.now
+        (R.remaining reader.old) (R.remaining reader.new)
+        (W.contents writer.old) (W.contents writer.new)) }
+{
+    let Listed { text, finding } = list(rt, alloc, reader, request)?;
+    text.write_to(writer)?;
+    Ok(finding)
+}
+
 /// Does what the words ask for, and answers what was found.
 fn serve<H: Threads + Wait + Sync, R: Read, W: Write>(
     rt: &H,
@@ -151,11 +178,15 @@ fn request_of(alloc: Global, words: io::Result<Args>) -> Result<Request, LineFau
     }
 }
 
-/// The words behind the program's name.
+/// The words after the program's name. Memory for all is asked for at once.
 fn without_name(alloc: Global, words: Args) -> Result<Vec<String>, AllocError>
-    ensures { IfOk result (λ behind. behind.items ≡ drop 1 (into_iter_items words)) }
+    ensures { IfOk result (λ after. after.items ≡ drop 1 (into_iter_items words)) }
 {
-    words.skip(1).collect(alloc)
+    let mut after = Vec::with_capacity(alloc, words.len())?;
+    for word in words.skip(1) {
+        after.push(word)?;
+    }
+    Ok(after)
 }
 
 /// Says why the words make no request. A refusal of the parser is in its own words.

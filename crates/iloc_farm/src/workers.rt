@@ -1,18 +1,53 @@
 //! The workers of a board, each a thread.
-ghost use Rattle.std.specs.Prelude.{◌≡◌, ◌<◌, [], ◌∷◌, ◌++◌, length, IfOk, OnOk, map};
+ghost use Rattle.std.specs.Prelude.{◌≡◌, ◌<◌, [], ◌∷◌, ◌++◌, length, IfErr, IfOk, OnOk, map};
 ghost use Rattle.std.specs.List.{All, range_with_len};
 ghost use Rattle.iloc_board.specs.declared.state.State.TheVariants as about;
 ghost use Rattle.iloc_board.specs.Views.{state};
 ghost use Rattle.iloc_board.specs.Working.{IsDone};
 ghost use Rattle.iloc_board.specs.Collecting.{IsWhole, workers_of};
+ghost use Rattle.iloc_farm.specs.Fault.{EndsWork};
 
-use crate::crew::crew;
+use crate::crew::{Routine, crew};
 use crate::fault::FarmFault;
-use crate::shift::{Shift, Worked};
-use iloc_board::{AtDesk, Board, Gate, Jobs, NoMemory, Root};
+use iloc_board::{AtDesk, Board, Gate, Jobs, NoMemory, Pass, Root, work_at};
 use std::alloc::Global;
 use std::sync::Wait;
 use std::thread::Threads;
+
+/// A pass that is to work at a board, and the desk of its worker.
+#[derive(Drop)]
+pub struct Shift<'s, 'a, J: AtDesk<D>, D, G: Gate> {
+    pub board: &'s Board<'a, J>,
+    pub pass: Pass<'a, J>,
+    pub desk: D,
+    pub gate: &'s G,
+}
+
+/// A pass that has worked, and whether memory sufficed.
+#[derive(Drop)]
+pub struct Worked<'a, J: Jobs> {
+    pub pass: Pass<'a, J>,
+    pub done: Result<(), NoMemory>,
+}
+
+impl<'s, 'a, J: AtDesk<D>, D: Drop, G: Gate> Routine for Shift<'s, 'a, J, D, G> {
+    type Output = Worked<'a, J>;
+
+    ghost can_run = { λ s. (s.pass.board ≡ s.board.now) × (state s.pass ≡ about.Free) };
+
+    ghost run_gives = { λ s w. (w.pass.board ≡ s.board.now) × (w.pass.journal.worker ≡ s.pass.journal.worker) × OnOk w.done (IsDone w.pass.journal) };
+
+    fn run(self) -> Worked<'a, J> {
+        let Shift {
+            board,
+            mut pass,
+            mut desk,
+            gate,
+        } = self;
+        let done = work_at(board, &mut pass, gate, &mut desk);
+        Worked { pass, done }
+    }
+}
 
 /// Has all jobs of a new board done by as many workers as its root may make: a pass is made for each, with one of these
 /// desks, all work at once on a thread each, and all are gathered.
@@ -41,6 +76,7 @@ where
     ensures journals { OnOk result (workers_of root.new.gathered ≡ range_with_len 0 root.old.workers) }
     ensures done { OnOk result (All IsDone root.new.gathered) }
     ensures whole { OnOk result (IsWhole root.new.made root.new.gathered) }
+    ensures order { IfErr result (EndsWork root.old.workers root.new.made) }
 {
     let shifts = shifts(alloc, board, root, desks, gate)?;
     let worked = crew(rt, alloc, shifts)?;

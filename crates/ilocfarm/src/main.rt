@@ -16,10 +16,15 @@ fn asks_for_blocks(rt: &HostRuntime) -> bool {
     let Ok(words) = env::args(rt) else {
         return false;
     };
-    let Ok(words) = words.skip(1).collect::<Vec<String>>(rt.alloc()) else {
+    let Ok(mut after) = Vec::with_capacity(rt.alloc(), words.len()) else {
         return false;
     };
-    parse_line(rt.alloc(), &words).is_ok()
+    for word in words.skip(1) {
+        if after.push(word).is_err() {
+            return false;
+        }
+    }
+    parse_line(rt.alloc(), &after).is_ok()
 }
 
 fn main(rt: HostRuntime) -> ExitCode {

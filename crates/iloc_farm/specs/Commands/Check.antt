@@ -6,12 +6,12 @@ use Rattle.iloc_ops.specs.declared.file.Block.{Block}
 use Rattle.iloc_timed.specs.declared.latencies.Latencies.{Latencies}
 use Rattle.iloc_timed.specs.Schedule.{Table}
 use Rattle.iloc_rows.specs.declared.proposal.Proposal.{Proposal}
-use Rattle.iloc_check.specs.declared.checked.Checked.{Checked}
-use Rattle.iloc_check.specs.Checked.{IsCheck}
-use Rattle.iloc_farm.specs.Finding.{finding_of}
+use Rattle.iloc_judge.specs.declared.checked.Checked.{Checked}
+use Rattle.iloc_judge.specs.Checked.{IsCheck}
+use Rattle.iloc_farm.specs.Fault.{finding_of}
 use Rattle.iloc_farm.specs.Listing.{block_head}
 use Rattle.iloc_farm.specs.Schedules.{AreGreedy, AreTheOnlyGreedy}
-use Rattle.iloc_farm.specs.declared.finding.Finding.{Finding}
+use Rattle.iloc_farm.specs.declared.commands.Finding.{Finding}
 
 -- a block, our schedule of it, what is proposed for it, what was found of that, and what is said of it
 pub record Judged : Type 0 where

@@ -1,10 +1,14 @@
 -- `run` lists what comes of each block, one operation after another.
-use Rattle.std.specs.Prelude.{◌≡◌, ℕ, List, []}
+use Rattle.std.specs.Prelude.{◌≡◌, ℕ, List, [], ℤ}
 use Rattle.iloc_ops.specs.declared.file.Block.{Block}
+use Rattle.iloc_meaning.specs.Memory.{words_from}
 use Rattle.iloc_meaning.specs.Outcome.{outcome}
 use Rattle.iloc_args.specs.declared.request.Request.{Request}
-use Rattle.iloc_farm.specs.Initial.{initial_memory}
 use Rattle.iloc_farm.specs.Listing.{outcome_entry}
+
+-- the memory that a request has each block start with
+abbrev pub initial_memory : Request → List ℤ
+initial_memory request = words_from request.at request.words.items
 
 -- The entry of block k: its number and its name, and what it emits on the request's memory, or that it faults. No more is
 -- found of it.

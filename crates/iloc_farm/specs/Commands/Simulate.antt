@@ -4,8 +4,7 @@ use Rattle.iloc_ops.specs.declared.file.Block.{Block}
 use Rattle.iloc_timed.specs.Schedule.{Table}
 use Rattle.iloc_timed.specs.Timed.{timed_outcome}
 use Rattle.iloc_args.specs.declared.request.Request.{Request}
-use Rattle.iloc_farm.specs.Commands.Run.{IsRunEntry}
-use Rattle.iloc_farm.specs.Initial.{initial_memory}
+use Rattle.iloc_farm.specs.Commands.Run.{IsRunEntry, initial_memory}
 use Rattle.iloc_farm.specs.Listing.{outcome_entry}
 use Rattle.iloc_farm.specs.Schedules.{IsTheGreedy}
 

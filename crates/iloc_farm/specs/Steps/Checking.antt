@@ -5,7 +5,7 @@ use Rattle.std.specs.Fmt.{decimal}
 use Rattle.iloc_ops.specs.declared.file.Block.{Block}
 use Rattle.iloc_timed.specs.declared.latencies.Latencies.{Latencies}
 use Rattle.iloc_rows.specs.declared.proposal.Proposal.{Proposal}
-use Rattle.iloc_check.specs.declared.checked.Checked.{Checked}
+use Rattle.iloc_judge.specs.declared.checked.Checked.{Checked}
 use Rattle.iloc_farm.specs.declared.commands.totals.Totals.{Totals}
 use Rattle.iloc_farm.specs.Commands.Check.{IsJudged, Judged, judged_entries}
 use Rattle.iloc_farm.specs.Schedules.{AreGreedy}

@@ -2,15 +2,25 @@
 use Rattle.std.specs.Prelude.{◌≡◌, ℕ, ◌+◌, List, ◌++◌, length, slice_get, MatchOption, Option, Some}
 use Rattle.iloc_ops.specs.declared.file.Block.{Block}
 use Rattle.iloc_text.specs.Files.{Denotes}
+use Rattle.iloc_timed.specs.declared.latencies.Latencies.{Latencies}
+use Rattle.iloc_timed.specs.Schedule.{Table}
 use Rattle.iloc_args.specs.declared.request.Request.{Request}
 use Rattle.iloc_farm.specs.Device.{ReadsInput}
-use Rattle.iloc_farm.specs.Entries.{AreEntries, IsListingOf}
+use Rattle.iloc_farm.specs.Entries.{AreEntries}
+use Rattle.iloc_farm.specs.Listing.{cycles_of}
+use Rattle.iloc_farm.specs.Schedules.{IsTheGreedy}
 
 -- an entry joined the text, of which this holds with what was found
 pub record Adds {F : Type 0} (is : List ℕ → F → Type 0) (text more : List ℕ) (found : F) : Type 0 where
   pub entry : List ℕ
   pub right : is entry found
   pub added : more ≡ text ++ entry
+
+-- these are the cycles of the block's greedy schedule
+pub record IsCount (lat : Latencies) (b : Block) (cycles : ℕ) : Type 0 where
+  pub schedule : Table
+  pub greedy : IsTheGreedy lat b schedule
+  pub counted : cycles ≡ cycles_of lat schedule
 
 -- the blocks are listed for this request
 pub record ToList : Type 0 where
@@ -26,13 +36,14 @@ module _ {F : Type 0} (lists : ℕ → Block → List ℕ → F → Type 0) wher
     pub added : more ≡ text ++ entries
     pub kept : all ≡ found ++ next
 
-  -- the bytes that were read denote a file, of whose blocks the text is the listing
-  pub record ListsRead (ending : List F → List ℕ) (old new : Option (List ℕ)) (text : List ℕ) : Type 0 where
-    pub input : List ℕ
-    pub read : ReadsInput old new input
-    pub blocks : List Block
-    pub denoted : Denotes input blocks
-    pub listed : IsListingOf lists ending blocks text
+-- the bytes that were read denote a file, of whose blocks the text is the listing
+pub record ListsRead (is_listing : List Block → List ℕ → Type 0) (old new : Option (List ℕ)) (text : List ℕ)
+    : Type 0 where
+  pub input : List ℕ
+  pub read : ReadsInput old new input
+  pub blocks : List Block
+  pub denoted : Denotes input blocks
+  pub listed : is_listing blocks text
 
 -- `lists k b x` says that x is listed of the block b with the number k, counted from 1
 module _ {A : Type 0} (lists : ℕ → Block → A → Type 0) where

@@ -9,16 +9,15 @@ ghost use Rattle.iloc_farm.specs.Commands.Check.{ListsChecked};
 ghost use Rattle.iloc_farm.specs.Run.{Lists};
 ghost use Rattle.iloc_farm.specs.Steps.OfInput.{EndsReading};
 
-use crate::commands::Listed;
 use crate::commands::totals::Totals;
-use crate::device::read_input;
+use crate::commands::{Finding, Listed};
 use crate::fault::RunFault;
-use crate::finding::Finding;
-use crate::initial::initial_memory;
+use crate::lister::initial_memory;
 use crate::listing::push_block_head;
-use crate::pieces::Pieces;
+use crate::listing::text::Listing;
+use crate::reading::read_input;
 use iloc_args::Request;
-use iloc_check::push_check;
+use iloc_judge::push_check;
 use iloc_meaning::Memory;
 use iloc_rows::laws::submissions_are_within_limits;
 use iloc_rows::{RowsFault, Submission, read_submission};
@@ -93,7 +92,7 @@ pub(crate) fn checked<R: Read>(
     let memory = initial_memory(alloc, request)?;
     let checked = checked_text(alloc, submission, &request.latencies, &memory)?;
     Ok(Listed {
-        text: Pieces::new(alloc, checked.text),
+        text: Listing::of_text(alloc, checked.text)?,
         finding: checked.finding,
     })
 }

@@ -1,60 +1,70 @@
 //! `counts`: how many cycles blocks' schedules take.
-use crate::lister::{FarmedLister, Lister};
+ghost use Rattle.std.specs.Prelude.{◌≤◌, length, IfOk};
+ghost use Rattle.iloc_ops.specs.Limits.{MAX_BLOCKS};
+
+use crate::farmed::FarmedLister;
+use crate::listing::text::Listing;
 use crate::listing::{count_of, push_count, push_total_of};
 use iloc_args::Request;
 use iloc_sched::Scheduler;
-use iloc_text::{Block, NoMemory};
+use iloc_text::{Block, Blocks, NoMemory};
 use std::alloc::Global;
 
-/// Schedules each block, and lists how many cycles its schedule takes.
+/// Schedules each block, and answers how many cycles its schedule takes.
 #[derive(Drop)]
 pub(crate) struct CountLister(Scheduler);
 
-impl Lister for CountLister {
+impl FarmedLister for CountLister {
     ghost use Rattle.iloc_farm.specs.Commands.Counts.{IsCountEntry};
-    ghost use Rattle.iloc_farm.specs.Initial.{initial_memory};
+    ghost use Rattle.iloc_farm.specs.Entries.{IsListingOf};
     ghost use Rattle.iloc_farm.specs.Listing.{total_of_all};
+    ghost use Rattle.iloc_farm.specs.Steps.Listed.{AreListed, IsCount};
 
-    type Found = u32;
+    type Answer = u32;
 
-    ghost lists = { IsCountEntry };
+    ghost answers = { λ request _ block cycles. IsCount request.latencies block cycles };
 
-    ghost ending = { total_of_all };
+    ghost cycles_in = { λ cycles. cycles };
 
-    ghost memory = { λ request _. initial_memory request };
+    ghost lists = { λ request. IsListingOf (IsCountEntry request) total_of_all };
 
-    fn new(alloc: Global, _request: &Request) -> Result<CountLister, NoMemory> {
-        Ok(CountLister(Scheduler::new(alloc)))
+    fn new(alloc: Global) -> CountLister {
+        CountLister(Scheduler::new(alloc))
     }
 
-    fn list(
+    fn answer(
         &mut self,
         _alloc: Global,
         request: &Request,
-        number: usize,
+        _number: usize,
         block: &Block,
-        text: &mut Vec<u8>,
     ) -> Result<u32, NoMemory> {
         let schedule = self.0.lend(block, &request.latencies)?;
         let cycles = count_of(&schedule, &request.latencies);
         self.0.take_back(schedule);
-        push_count(text, number, block.name.as_ref(), u64::from(cycles))?;
         Ok(cycles)
     }
 
-    fn push_ending(text: &mut Vec<u8>, found: &[u32]) -> Result<(), NoMemory> {
-        push_total_of(text, found)
-    }
-}
-
-impl FarmedLister for CountLister {
-    ghost use Rattle.std.proofs.Common.{refl};
-
-    ghost cycles_in = { λ cycles. cycles };
-
-    fn cycles(found: &u32) -> u32 {
-        *found
+    fn cycles(cycles: &u32) -> u32 {
+        *cycles
     }
 
-    ghost runs_none = { λ _ _. refl };
+    fn listing(
+        alloc: Global,
+        _request: &Request,
+        blocks: Blocks,
+        cycles: Vec<u32>,
+    ) -> Result<Listing, NoMemory>
+        requires few { length blocks ≤ MAX_BLOCKS }
+        requires right { AreListed (λ _ block count. IsCount _request.now.latencies block count) blocks cycles.items }
+        ensures { IfOk result (IsListingOf (IsCountEntry _request.now) total_of_all blocks) }
+    {
+        let mut text = Vec::new(alloc);
+        for (index, block) in blocks.as_slice().iter().enumerate() {
+            let count = u64::from(cycles[index]);
+            push_count(&mut text, index + 1, block.name.as_ref(), count)?;
+        }
+        push_total_of(&mut text, &cycles)?;
+        Listing::of_text(alloc, text)
+    }
 }

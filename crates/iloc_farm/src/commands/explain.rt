@@ -13,7 +13,7 @@ pub(crate) struct ExplainLister(Scheduler);
 
 impl Lister for ExplainLister {
     ghost use Rattle.iloc_farm.specs.Commands.Explain.{IsExplainEntry};
-    ghost use Rattle.iloc_farm.specs.Initial.{initial_memory};
+    ghost use Rattle.iloc_farm.specs.Commands.Run.{initial_memory};
     ghost use Rattle.iloc_farm.specs.Listing.{total_of_all};
 
     type Found = u32;

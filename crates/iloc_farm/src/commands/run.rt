@@ -1,6 +1,5 @@
 //! `run`: what comes of blocks, one operation after another.
-use crate::initial::initial_memory;
-use crate::lister::Lister;
+use crate::lister::{Lister, initial_memory};
 use crate::listing::push_outcome;
 use iloc_args::Request;
 use iloc_meaning::Interpreter;

@@ -1,66 +1,100 @@
 //! `schedule`: blocks' schedules, a line a row.
-use crate::lister::{FarmedLister, Lister};
+ghost use Rattle.std.specs.Prelude.{◌≤◌, length, IfOk};
+ghost use Rattle.iloc_ops.specs.Limits.{MAX_BLOCKS};
+
+use crate::farmed::FarmedLister;
+use crate::listing::text::{Listing, Text};
 use crate::listing::{count_of, push_schedule, push_total_of};
 use iloc_args::Request;
 use iloc_sched::Scheduler;
-use iloc_text::{Block, NoMemory};
+use iloc_text::{Block, Blocks, NoMemory};
 use std::alloc::Global;
+
+/// What is listed of one block, and the cycles of its schedule.
+#[derive(Drop)]
+pub struct Entry {
+    pub text: Text,
+    pub cycles: u32,
+}
 
 /// Schedules each block, and lists its schedule.
 #[derive(Drop)]
-pub(crate) struct ScheduleLister(Scheduler);
+pub(crate) struct ScheduleLister {
+    scheduler: Scheduler,
+    /// The entry of a block, until it is kept.
+    text: Vec<u8>,
+}
 
-impl Lister for ScheduleLister {
+impl FarmedLister for ScheduleLister {
     ghost use Rattle.iloc_farm.specs.Commands.Schedule.{IsScheduleEntry};
-    ghost use Rattle.iloc_farm.specs.Initial.{initial_memory};
+    ghost use Rattle.iloc_farm.specs.Entries.{IsListingOf};
     ghost use Rattle.iloc_farm.specs.Listing.{total_of_all};
+    ghost use Rattle.iloc_farm.specs.Steps.Listed.{AreListed};
 
-    type Found = u32;
+    type Answer = Entry;
 
-    ghost lists = { IsScheduleEntry };
+    ghost answers = { λ request k block entry. IsScheduleEntry request k block entry.text entry.cycles };
 
-    ghost ending = { total_of_all };
+    ghost cycles_in = { λ entry. entry.cycles };
 
-    ghost memory = { λ request _. initial_memory request };
+    ghost lists = { λ request. IsListingOf (IsScheduleEntry request) total_of_all };
 
-    fn new(alloc: Global, _request: &Request) -> Result<ScheduleLister, NoMemory> {
-        Ok(ScheduleLister(Scheduler::new(alloc)))
+    fn new(alloc: Global) -> ScheduleLister {
+        ScheduleLister {
+            scheduler: Scheduler::new(alloc),
+            text: Vec::new(alloc),
+        }
     }
 
-    fn list(
+    /// The entry is folded where most of the schedule's rows are empty.
+    fn answer(
         &mut self,
-        _alloc: Global,
+        alloc: Global,
         request: &Request,
         number: usize,
         block: &Block,
-        text: &mut Vec<u8>,
-    ) -> Result<u32, NoMemory> {
-        let schedule = self.0.lend(block, &request.latencies)?;
+    ) -> Result<Entry, NoMemory> {
+        self.text.clear();
+        let schedule = self.scheduler.lend(block, &request.latencies)?;
         let cycles = count_of(&schedule, &request.latencies);
         push_schedule(
-            text,
+            &mut self.text,
             number,
             block.name.as_ref(),
             &schedule,
             u64::from(cycles),
         )?;
-        self.0.take_back(schedule);
-        Ok(cycles)
+        self.scheduler.take_back(schedule);
+        let folds = cycles as usize / 4 > block.ops.len();
+        let text = Text::of(alloc, &self.text, folds)?;
+        Ok(Entry { text, cycles })
     }
 
-    fn push_ending(text: &mut Vec<u8>, found: &[u32]) -> Result<(), NoMemory> {
-        push_total_of(text, found)
-    }
-}
-
-impl FarmedLister for ScheduleLister {
-    ghost use Rattle.std.proofs.Common.{refl};
-
-    ghost cycles_in = { λ cycles. cycles };
-
-    fn cycles(found: &u32) -> u32 {
-        *found
+    fn cycles(entry: &Entry) -> u32 {
+        entry.cycles
     }
 
-    ghost runs_none = { λ _ _. refl };
+    fn listing(
+        alloc: Global,
+        _request: &Request,
+        blocks: Blocks,
+        entries: Vec<Entry>,
+    ) -> Result<Listing, NoMemory>
+        requires few { length blocks ≤ MAX_BLOCKS }
+        requires right { AreListed (λ k block entry. IsScheduleEntry _request.now k block entry.text entry.cycles)
+            blocks entries.items }
+        ensures { IfOk result (IsListingOf (IsScheduleEntry _request.now) total_of_all blocks) }
+    {
+        drop(blocks);
+        let mut texts = Vec::with_capacity(alloc, entries.len() + 1)?;
+        let mut cycles = Vec::with_capacity(alloc, entries.len())?;
+        for entry in entries {
+            texts.push(entry.text)?;
+            cycles.push(entry.cycles)?;
+        }
+        let mut ending = Vec::new(alloc);
+        push_total_of(&mut ending, &cycles)?;
+        texts.push(Text::whole(alloc, ending))?;
+        Listing::of_texts(alloc, texts)
+    }
 }

@@ -1,6 +1,5 @@
 //! `simulate`: what comes of blocks' schedules on the timed machine.
-use crate::initial::initial_memory;
-use crate::lister::Lister;
+use crate::lister::{Lister, initial_memory};
 use crate::listing::push_outcome;
 use iloc_args::Request;
 use iloc_sched::Scheduler;

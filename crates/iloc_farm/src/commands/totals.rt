@@ -2,7 +2,7 @@
 ghost use Rattle.std.specs.Prelude.{◌≡◌, ◌<◌, ◌^◌, ◌+◌, ◌++◌, [], OnOk};
 ghost use Rattle.iloc_farm.specs.Steps.Checking.{totals_of, totals_text, with_checked};
 
-use iloc_check::Checked;
+use iloc_judge::Checked;
 use iloc_ops::{NoMemory, push_number};
 
 /// What was found of the proposals for some blocks.

@@ -1,7 +1,7 @@
 //! The farm's threads: that all of them work, and that what they find does not depend on them.
 ghost use Rattle.std.specs.Prelude.{◌<◌, ◌≤◌};
 
-use iloc_board::Gate;
+use iloc_board::{FreeGate, Gate};
 use iloc_farm::schedule_all;
 use iloc_text::laws::files_are_within_limits;
 use iloc_text::read_file;
@@ -162,6 +162,17 @@ fn no_block_is_no_work(rt: HostRuntime) -> Result<(), Fail> {
     assert!(rt; schedules(&rt, rt.alloc(), b"", 8, &gate)?.is_empty());
     assert!(rt; gate.taken.load(Ordering::SeqCst) == 0);
     assert!(rt; gate.looks.marks.load(Ordering::SeqCst) == 0);
+    Ok(())
+}
+
+#[test]
+fn more_workers_than_blocks(rt: HostRuntime) -> Result<(), Fail> {
+    let text = b"A: loadI 4 => r1\nB:\noutput 0\n";
+    let found = schedules(&rt, rt.alloc(), text, 8, &FreeGate)?;
+    assert!(rt; found.len() == 2);
+    for schedule in &found {
+        assert!(rt; (schedule.ops().len(), schedule.rows().len()) == (1, 1));
+    }
     Ok(())
 }
 

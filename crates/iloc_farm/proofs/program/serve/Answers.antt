@@ -1,6 +1,6 @@
 use Rattle.std.proofs.Common.{inl, inr, refl}
 use Rattle.iloc_farm.proofs.Words.{is_help, made_err, run_stopped}
-use Rattle.iloc_farm.specs.declared.finding.Finding.TheVariants.{Passed}
+use Rattle.iloc_farm.specs.declared.commands.Finding.TheVariants.{Passed}
 use Rattle.iloc_farm.proofs.program.serve.Goals as goal
 
 pub returns-in_err-run-in-Ok-clause-err : goal.returns-in_err-run-in-Ok-clause-err

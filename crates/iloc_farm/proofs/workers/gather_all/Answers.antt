@@ -2,7 +2,7 @@ use Rattle.std.proofs.Common.{◌≡◌, ap, ◌∙◌, sym, refl, OnOk, ◌++�
 use Rattle.std.proofs.lemmas.List.Elements.{All-rest, All-same}
 use Rattle.std.proofs.lemmas.Result.{on_ok_weaker}
 use Rattle.iloc_board.specs.Working.{IsDone}
-use Rattle.iloc_farm.specs.declared.shift.Worked.{Worked}
+use Rattle.iloc_farm.specs.declared.workers.Worked.{Worked}
 use Rattle.iloc_farm.proofs.Routines as routines
 use Rattle.iloc_farm.proofs.workers.gather_all.Goals as goal
 

@@ -3,8 +3,8 @@ use Rattle.std.specs.List.{range_with_len}
 use Rattle.iloc_board.specs.declared.state.State.TheVariants as about
 use Rattle.iloc_board.specs.Views.{state}
 use Rattle.iloc_board.specs.Working.{IsDone}
-use Rattle.iloc_farm.specs.declared.shift.Shift.{Shift}
-use Rattle.iloc_farm.specs.declared.shift.Worked.{Worked}
+use Rattle.iloc_farm.specs.declared.workers.Shift.{Shift}
+use Rattle.iloc_farm.specs.declared.workers.Worked.{Worked}
 use Rattle.iloc_farm.proofs.Routines as routines
 use Rattle.iloc_farm.proofs.Gathered as wholes
 use Rattle.iloc_farm.proofs.workers.work_all.Goals as goal

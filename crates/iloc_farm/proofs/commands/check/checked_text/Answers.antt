@@ -5,7 +5,7 @@ use Rattle.iloc_rows.specs.declared.proposal.Proposal.{Proposal}
 use Rattle.iloc_farm.specs.Commands.Check.{ListsChecked}
 use Rattle.iloc_farm.specs.Listing.{block_head}
 use Rattle.iloc_farm.specs.Steps.Checking.{IsSmall}
-use Rattle.iloc_farm.specs.declared.finding.Finding.{Finding}
+use Rattle.iloc_farm.specs.declared.commands.Finding.{Finding}
 use Rattle.iloc_farm.proofs.Checks.{all_checked, block_of_next, holds_of_next, none_checked, one_checked, short_next, small_check}
 use Rattle.iloc_farm.proofs.commands.check.checked_text.Goals as goal
 

@@ -1,0 +1,12 @@
+use Rattle.std.proofs.Common.{◌≤◌, ◌+◌, length, arith}
+use Rattle.iloc_timed.specs.Cycles.{cycles}
+use Rattle.iloc_sched.specs.declared.wheel.TheConstants.{LONGEST_DELAY}
+use Rattle.iloc_farm.proofs.Schedules.{cycles_within}
+use Rattle.iloc_farm.proofs.farm.BlockJobsJobs.cost.Goals as goal
+
+pub returns-clause-small : goal.returns-clause-small
+returns-clause-small c =
+    let schedule = c.args.schedule.now in
+    let within : cycles c.self.inside.latencies schedule.ops schedule.rows ≤ length schedule.rows + LONGEST_DELAY =
+    cycles_within c.self.inside.latencies schedule.ops schedule.rows in
+    rw c.cycles.ensures (omega (arith, within, c.rows.ensures.few))
