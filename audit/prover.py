@@ -1,13 +1,29 @@
-"""The toolchain's prover, on single functions of a crate."""
+"""The toolchain's prover, on single functions of a crate.
+
+`rt must-fail` would need no such script, and names goals too: 29 edits of iloc_meaning took it 10 processor minutes, about
+what they take here. But it first proves the whole crate from nothing, and `rt ci` does so for each crate that has edits: that
+is all proofs once more in each gate. Here the functions that edits name are checked, over libraries that are built.
+"""
 import os
 import shutil
 import subprocess
 import tempfile
 import threading
 
-from crates import PARTS, crates_of, listed
-
+PARTS = ("src", "specs", "proofs")
 BUILDING, BUILT = threading.Lock(), set()
+QUIET = {"stdin": subprocess.DEVNULL, "stdout": subprocess.PIPE, "stderr": subprocess.STDOUT}
+
+
+def uses_of(top):
+    """By the name of each crate in crates.txt what it uses."""
+    uses = {}
+    with open(f"{top}/crates.txt", encoding="utf-8") as file:
+        for line in file:
+            name, _, used = line.partition("#")[0].partition(":")
+            if name.strip():
+                uses[name.split()[0]] = used.replace(",", " ").split()
+    return uses
 
 
 def newest(folder):
@@ -21,42 +37,42 @@ class Prover:
     """For the functions of one crate, over the libraries below it: in the gate those that rt ci has just left there."""
 
     def __init__(self, top, name, in_the_gate):
-        self.folder, self.name, self.uses = f"{top}/crates", name, listed(top)[name][1]
-        self.below, self.in_the_gate = crates_of(top, name)[:-1], in_the_gate
+        self.folder, self.name, self.uses, self.in_the_gate = f"{top}/crates", name, uses_of(top), in_the_gate
+        self.below = self.all_below(name)
         self.kit = os.path.dirname(os.path.dirname(os.path.realpath(shutil.which("rt"))))
+
+    def all_below(self, name):
+        """The crates of the repository that this one stands on, lowest first."""
+        return [*dict.fromkeys(it for used in self.uses[name] if used in self.uses for it in (*self.all_below(used), used))]
 
     def rlib(self, name):
         return f"{self.folder}/{name}/out/rlib/{name}.rlib"
 
-    def is_of_the_gate(self, crate):
-        """Whether rt ci built this library of what stands here. What rt lib built has a stamp, and rt lib knows it."""
-        made = f"{self.rlib(crate.name)}/format"
-        if os.path.exists(f"{self.folder}/{crate.name}/out/rlib/stamp") or not os.path.exists(made):
+    def is_of_the_gate(self, name):
+        """Whether rt ci built this library of the sources there. What rt lib built has a stamp, and rt lib knows it."""
+        made = f"{self.rlib(name)}/format"
+        if os.path.exists(f"{self.folder}/{name}/out/rlib/stamp") or not os.path.exists(made):
             return False
-        return self.in_the_gate or all(newest(f"{self.folder}/{it.name}") < os.path.getmtime(made) for it in [*crate.below(), crate])
-
-    def build(self, crate):
-        """Builds a library that isn't built. Gives what rt said where it couldn't."""
-        if crate.name in BUILT or self.is_of_the_gate(crate):
-            return ""
-        how = {"stdin": subprocess.DEVNULL, "stdout": subprocess.PIPE, "stderr": subprocess.STDOUT}
-        ran = subprocess.run(["rt", "lib", "--jobs", "1"], cwd=f"{self.folder}/{crate.name}", **how)
-        if ran.returncode:
-            return ran.stdout.decode(errors="replace")
-        BUILT.add(crate.name)
-        return ""
+        return self.in_the_gate or all(newest(f"{self.folder}/{it}") < os.path.getmtime(made)
+                                       for it in [*self.all_below(name), name])
 
     def build_below(self):
         """Builds the libraries below. Gives what rt said of the first that it couldn't build."""
         with BUILDING:
-            return next(filter(None, map(self.build, self.below)), "")
+            for name in self.below:
+                if name not in BUILT and not self.is_of_the_gate(name):
+                    ran = subprocess.run(["rt", "lib", "--jobs", "1"], cwd=f"{self.folder}/{name}", **QUIET)
+                    if ran.returncode:
+                        return ran.stdout.decode(errors="replace")
+                    BUILT.add(name)
+        return ""
 
     def words(self, kept):
-        rlibs, ours = f"{self.kit}/rlibs", [it.name for it in self.below]
+        rlibs = f"{self.kit}/rlibs"
         yield from ("--crate-name", self.name, "src/lib.rt", "-L", f"dependency={rlibs}")
-        for it in ["std", *self.uses]:
-            yield from ("--extern", f"{it}={self.rlib(it) if it in ours else f'{rlibs}/{it}.rlib'}")
-        for it in ours:
+        for it in ["std", *self.uses[self.name]]:
+            yield from ("--extern", f"{it}={self.rlib(it) if it in self.below else f'{rlibs}/{it}.rlib'}")
+        for it in self.below:
             yield from ("-L", f"dependency={os.path.dirname(self.rlib(it))}")
         yield from ("--antt-project", f"{self.kit}/rattle/logic/antt-project.json")
         yield from ("--logic-built", f"{self.kit}/logic_built", "--incremental", kept, "--jobs", "1")
@@ -67,7 +83,6 @@ class Prover:
     def check(self, functions, texts, kept):
         """Checks these functions of the crate, and what they call, with these texts in place of its own, over the work
         that the folder kept has. Gives the status and the lines that were said."""
-        only = [word for it in functions for word in ("--only", it)]
         with tempfile.TemporaryDirectory(prefix="ilocfarm-edit-") as room:
             for part in PARTS:
                 if os.path.isdir(f"{self.crate_folder()}/{part}"):
@@ -75,6 +90,6 @@ class Prover:
             for name, text in texts.items():
                 with open(f"{room}/{name}", "w", encoding="utf-8") as file:
                     file.write(text)
-            how = {"cwd": room, "stdin": subprocess.DEVNULL, "stdout": subprocess.PIPE, "stderr": subprocess.STDOUT}
-            ran = subprocess.run([f"{self.kit}/bin/rattle", "check", *self.words(kept), *only], **how)
+            only = [word for it in functions for word in ("--only", it)]
+            ran = subprocess.run([f"{self.kit}/bin/rattle", "check", *self.words(kept), *only], cwd=room, **QUIET)
         return ran.returncode, ran.stdout.decode(errors="replace").splitlines()
