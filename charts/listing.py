@@ -3,10 +3,10 @@ import argparse
 import re
 from dataclasses import dataclass, field
 
+from forms import ROLES, USUAL, kind_of
 from svg import Unread
 
-USUAL = {"load": 5, "store": 5, "mult": 3}
-COLOURS = {"load": "#6cb6ff", "store": "#b392f0", "product": "#f0a35e", "output": "#6fce7c", "other": "#b9c0c8"}
+COLOURS = {"load": "#6cb6ff", "store": "#b392f0", "mult": "#f0a35e", "output": "#6fce7c", "other": "#b9c0c8"}
 CHAIN = "#e5484d"
 HEADER = re.compile(r"block (\d+) (\S+)")
 ROW = re.compile(r"\[ *(.+?) *; *(.+?) *\]")
@@ -15,7 +15,7 @@ CYCLES = re.compile(r"cycles (\d+)(?: least (\d+).*)?")
 CHAINED = re.compile(r"chain (?:-|(\d+(?: \d+)*))")
 EXPLAINED = re.compile(r"(\d+) cycle (\d+) unit ([01]) ready (\d+) after (-|\d+(?:,\d+)*) priority (\d+) "
                        r"(.+?) ; (.+)")
-REGISTER = re.compile(r"\br\d+\b")
+NUMBER = re.compile(r"\d+")
 NOTHING = re.compile(r"total \d+.*")
 
 
@@ -34,25 +34,21 @@ class Operation:
         return self.spelling.split()[0]
 
     def kind(self):
-        name = self.opcode()
-        kinds = {"load": "load", "loadAI": "load", "store": "store", "storeAI": "store", "mult": "product",
-                 "multI": "product", "output": "output"}
-        return kinds.get(name, "other")
+        kind = kind_of(self.opcode())
+        return kind if kind in COLOURS else "other"
 
     def arrival(self, latencies):
         return self.cycle + latencies.get(self.kind(), 1)
 
-    def registers(self):
-        """Those left of the arrow, and those right of it."""
-        left, _, right = self.spelling.partition("=>")
-        return REGISTER.findall(left), REGISTER.findall(right)
+    def registers(self, wanted):
+        """Those that the operation uses, `u`, or defines, `d`."""
+        return [it for it, role in zip(NUMBER.findall(self.spelling), ROLES.get(self.opcode(), ())) if role == wanted]
 
     def defined(self):
-        return None if self.kind() == "store" else next(iter(self.registers()[1]), None)
+        return next(iter(self.registers("d")), None)
 
     def used(self):
-        left, right = self.registers()
-        return left + right if self.kind() == "store" else left
+        return self.registers("u")
 
     def label(self):
         return self.spelling if self.number < 0 else f"{self.number}: {self.spelling}"
@@ -98,7 +94,6 @@ class Listed:
             return False
         return True
 
-
     def end(self, latencies):
         return max((it.arrival(latencies) for it in self.operations), default=0)
 
@@ -141,7 +136,7 @@ def parser(name, usage):
 
 
 def latencies(asked):
-    return {"load": asked.load, "store": asked.store, "product": asked.mult}
+    return {it: getattr(asked, it) for it in USUAL}
 
 
 def lines():

@@ -1,0 +1,183 @@
+"""audit/run in a repository of two small crates, with a toolchain that proves nothing.
+
+In place of the prover is a script that says of each of two functions what its body is named for (SAID).
+"""
+import os
+import shutil
+import subprocess
+
+from harness.place import InFolder
+from harness.program import SECONDS, TOP
+
+RT = """#!/bin/sh
+echo "${PWD##*/} $*" >>"$TEST/asked"
+mkdir -p out/rlib/low.rlib && touch out/rlib/low.rlib/format out/rlib/stamp
+"""
+RATTLE = """#!/bin/sh
+echo "$@" >>"$TEST/checked"
+worst=0
+for name in f g; do
+    case " $* " in *" --only $name "*) ;; *) continue ;; esac
+    body=$(sed -n "s/fn $name() { \\(.*\\) }/\\1/p" src/*.rt)
+    sed "s,high::f,high::$name,;s,proofs/f/,proofs/$name/," "$TEST/said/$body"
+    status=$(cat "$TEST/said/$body.status")
+    [ "$status" -le "$worst" ] || worst=$status
+done
+exit "$worst"
+"""
+GOAL = "note: src/lib.rt:1:1: it is not proved that what the function ensures holds when it returns (`returns`)\n"
+NOT_PROVED = "fn high::f: no proof: expected answers in ./proofs/f/Answers.antt\nonly=1 proved=0\n"
+# What the prover says of each body, and its status.
+SAID = {
+    "right": ("fn high::f: proved\nonly=1 proved=1\n", 0),
+    "other": ("fn high::f: proved\nonly=1 proved=1\n", 0),
+    "wrong": (GOAL + NOT_PROVED, 1),
+    "unanswered": ("./proofs/f/Answers.antt:3:9: error: `returns`: the two types differ\n" + NOT_PROVED, 1),
+    "unread": ("src/lib.rt:1:10: error: expected an expression\n", 1),
+    "misnamed": ("src/lib.rt:1:10: error: `returns`: `y` is not in scope\n" + NOT_PROVED, 1),
+    "gone": ("./proofs/f/Answers.antt:3:9: error: `returns`: `c.x` is not in scope\n" + NOT_PROVED, 1),
+    "no_function": ("rattle: --only f fits nothing\n", 2),
+    "unknown": ("rattle: no verdict\n", 3),
+}
+
+
+WANTS = "it wants a line 'only:', and a line 'old:' with a line 'new:' behind it"
+NO_START, UNREAD = "it didn't reach the prover: ", "the edited text can't be read: "
+GONE = "it is refused only since a proof names what it took away: "
+GATES, OF_G = {"gate": "gate: yes\n"}, {"only": "only: g\n", "file": "src/g.rt"}
+# Edits that aren't refused as they have to be: the body that they make, what is said, and how they are made.
+FAIL = {
+    "still_proved": ("other", "it is still proved", {}),
+    "old_text_missing": ("wrong", "an old text stands 0 times in src/lib.rt, and not once", {"old": "left"}),
+    "old_text_twice": ("wrong", "an old text stands 2 times in src/lib.rt, and not once", {"old": "f"}),
+    "text_that_does_not_read": ("unread", f"{NO_START}{SAID['unread'][0].strip()}", {}),
+    "name_that_is_not_there": ("misnamed", f"{UNREAD}{SAID['misnamed'][0].splitlines()[0]}", {}),
+    "proof_that_names_what_is_gone": ("gone", f"{GONE}{SAID['gone'][0].splitlines()[0]}", {}),
+    "function_that_is_not_there": ("no_function", f"{NO_START}{SAID['no_function'][0].strip()}", {}),
+    "no_verdict": ("unknown", f"{NO_START}{SAID['unknown'][0].strip()}", {}),
+}
+# Edits of another form, and what is said of them.
+OTHER_FORMS = {
+    "no_function_named": ("file: src/lib.rt\nold: right\nnew: wrong\n", WANTS),
+    "no_new_text": ("only: f\nfile: src/lib.rt\nold: right\n", WANTS),
+    "file_of_a_proof": ("only: f\nfile: proofs/f/Answers.antt\nold: a\nnew: b\n",
+                        "a line of another form: file: proofs/f/Answers.antt"),
+}
+
+
+class Audit(InFolder):
+    def setUp(self):
+        super().setUp()
+        for name, (text, status) in SAID.items():
+            self.write(f"said/{name}", text)
+            self.write(f"said/{name}.status", str(status))
+        for name, text in (("rt", RT), ("rattle", RATTLE)):
+            self.script(f"kit/bin/{name}", text)
+        for name in os.listdir(f"{TOP}/audit"):
+            if os.path.isfile(f"{TOP}/audit/{name}"):
+                self.write(f"top/audit/{name}", "")
+                shutil.copy2(f"{TOP}/audit/{name}", self.path("top/audit"))
+        self.write("top/crates.txt", "low:\nhigh: low thiserror\n")
+        self.write("top/crates/low/src/lib.rt", "\n")
+        self.body("right")
+        self.write("top/crates/high/src/g.rt", "fn g() { right }\n")
+
+    def body(self, name):
+        self.write("top/crates/high/src/lib.rt", f"fn f() {{ {name} }}\n")
+
+    def edit(self, name, new, old="right", only="only: f\n", gate="", file="src/lib.rt"):
+        self.write(f"top/audit/high/{name}.edit", f"{only}{gate}file: {file}\nold: {old}\nnew: {new}\n")
+
+    def ran(self, *words):
+        given = {"PATH": f"{self.path('kit/bin')}:{os.environ['PATH']}", "TEST": self.folder}
+        return subprocess.run([self.path("top/audit/run"), *words], env=given, capture_output=True, text=True, timeout=SECONDS)
+
+    def status_and_lines(self, *words):
+        ran = self.ran(*words)
+        self.expect("standard error", ran.stderr, "")
+        return ran.returncode, ran.stdout.splitlines()
+
+    def asked(self, name):
+        return self.text(name).splitlines() if os.path.exists(self.path(name)) else []
+
+    def test_refused_at_a_goal(self):
+        self.edit("returns_another", "wrong")
+        self.edit("returns_nothing", "unanswered")
+        status, lines = self.status_and_lines()
+        self.expect("status", status, 0)
+        self.expect("lines", lines, [f"refused high/returns_another: {GOAL.strip()}",
+                                f"refused high/returns_nothing: {SAID['unanswered'][0].splitlines()[0]}",
+                                "2 passed, 0 failed"])
+        checks = self.asked("checked")
+        self.expect("checks", len(checks), 3)
+        for it in ("--crate-name high", f"--extern low={self.path('top')}/crates/low/out/rlib/low.rlib", "--only f",
+                   f"--extern thiserror={self.folder}/kit/rlibs/thiserror.rlib"):
+            self.expect(it, all(it in words for words in checks), True)
+
+    def test_crate_that_is_not_proved(self):
+        self.body("wrong")
+        self.edit("makes_it_right", "other", old="wrong")
+        self.edit("keeps_it_wrong", "unanswered", old="wrong")
+        status, lines = self.status_and_lines()
+        self.expect("status", status, 1)
+        self.expect("first line", lines[0], "FAILED high: it isn't proved without edits")
+        self.expect("last line", lines[-1], "0 passed, 2 failed")
+
+    def test_the_gate_s_alone(self):
+        """In a crate that the gate has proved, which isn't checked once more."""
+        self.edit("first", "wrong", **GATES)
+        self.edit("second", "other")
+        self.expect("the gate", self.status_and_lines("--gate"), (0, [f"refused high/first: {GOAL.strip()}", "1 passed, 0 failed"]))
+        self.expect("checks", len(self.asked("checked")), 1)
+        self.expect("last line of all", self.status_and_lines()[1][-1], "1 passed, 1 failed")
+
+    def test_the_gate_s_by_one_check(self):
+        """A check for edits of different functions; each has to be refused at a goal of its own."""
+        self.edit("another", "wrong", **GATES)
+        self.edit("third", "unanswered", **GATES, **OF_G)
+        goals = [f"refused high/another: {GOAL.strip()}",
+                 f"refused high/third: {SAID['unanswered'][0].splitlines()[0].replace('/f/', '/g/')}"]
+        self.expect("the gate", self.status_and_lines("--gate"), (0, [*goals, "2 passed, 0 failed"]))
+        self.expect("checks", ["--only f --only g" in it for it in self.asked("checked")], [True])
+        self.edit("fourth", "other", **GATES, **OF_G)
+        status, lines = self.status_and_lines("--gate")
+        self.expect("status with one more of a function", status, 1)
+        self.expect("lines", lines, [goals[0], "FAILED high/fourth: it is still proved", goals[1], "2 passed, 1 failed"])
+        self.expect("checks", len(self.asked("checked")), 3)
+
+    def test_crate_that_is_not_there(self):
+        self.edit("first", "wrong")
+        ran = self.ran("hihg")
+        self.expect("status", ran.returncode, 1)
+        self.expect("usage", "audit/run [--gate] [CRATE..]" in ran.stderr, True)
+
+    def test_builds_what_stands_below(self):
+        """But for what the gate has built: that has no stamp, and is newer than its sources."""
+        self.edit("first", "wrong")
+        self.status_and_lines()
+        self.status_and_lines()
+        self.expect("asked for", self.asked("asked"), ["low lib --jobs 1"] * 2)
+        rlib = f"{self.path('top')}/crates/low/out/rlib"
+        os.remove(f"{rlib}/stamp")
+        self.status_and_lines()
+        self.expect("asked for", len(self.asked("asked")), 2)
+        source = os.stat(f"{rlib}/low.rlib/format").st_mtime + 10
+        os.utime(f"{self.path('top')}/crates/low/src/lib.rt", (source, source))
+        self.status_and_lines()
+        self.expect("asked for", len(self.asked("asked")), 3)
+
+    def test_fails(self):
+        for name, (body, why, how) in FAIL.items():
+            with self.subTest(name):
+                self.edit("bad", body, **how)
+                self.edit("good", "wrong")
+                status, lines = self.status_and_lines("high")
+                self.expect("status", status, 1)
+                self.expect("what is said", sorted(lines)[1], f"FAILED high/bad: {why}")
+                self.expect("last line", lines[-1], "1 passed, 1 failed")
+
+    def test_other_forms(self):
+        for name, (text, why) in OTHER_FORMS.items():
+            with self.subTest(name):
+                self.write("top/audit/high/bad.edit", text)
+                self.expect(name, self.status_and_lines(), (1, [f"FAILED high/bad: {why}", "0 passed, 1 failed"]))

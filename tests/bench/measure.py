@@ -1,0 +1,75 @@
+"""Runs a program and measures it: time, processor time, the memory that it held. Linux alone."""
+import ctypes
+import os
+import subprocess
+import sys
+import time
+from contextlib import contextmanager
+from dataclasses import dataclass
+
+HERE = os.path.dirname(os.path.abspath(__file__))
+PR_SET_CHILD_SUBREAPER = 36
+TURNS = 100
+# Starts the words behind the two paths and leaves it to be waited for by this program.
+START = 'given=$1; output=$2; shift 2; "$@" <"$given" >"$output" 2>"$output.err" & echo $!'
+
+
+@dataclass
+class Result:
+    """What a program did with an input: status, output and standard error, its times and the most that it held."""
+    status: int
+    output: str     # the path of the file; standard error stands in the one beside it
+    wall_ms: float
+    processor_ms: float
+    mebibytes: float
+
+    def shown(self):
+        return self.status, contents(self.output), contents(self.output + ".err")
+
+
+def contents(path):
+    with open(path, "rb") as file:
+        return file.read()
+
+
+@contextmanager
+def adopting_orphans():
+    """Meanwhile what a shell left running is a child of this program."""
+    prctl = ctypes.CDLL(None, use_errno=True).prctl
+    if prctl(PR_SET_CHILD_SUBREAPER, 1, 0, 0, 0) != 0:
+        sys.exit(f"{sys.argv[0]}: this system can't hand over the children of a shell")
+    try:
+        yield
+    finally:
+        prctl(PR_SET_CHILD_SUBREAPER, 0, 0, 0, 0)
+
+
+def adopted(words, given, output):
+    """Runs a program on the file `given`. A shell starts it, since a child of Python counts Python's memory as its
+    own. Raises ChildProcessError where the shell was the last to end and waited for the program itself."""
+    start = time.perf_counter()
+    shell = ["sh", "-c", START, "sh", given, output, *words]
+    with adopting_orphans():
+        started = subprocess.run(shell, stdout=subprocess.PIPE, check=True)
+        _, status, usage = os.wait4(int(started.stdout), 0)
+    wall = time.perf_counter() - start
+    return Result(os.waitstatus_to_exitcode(status), output, 1000 * wall,
+                  1000 * (usage.ru_utime + usage.ru_stime), usage.ru_maxrss / 1024)
+
+
+def run(words, given, output):
+    """What a program does with the file `given`. It is run again where its shell was slower than itself."""
+    for _ in range(TURNS):
+        try:
+            return adopted(words, given, output)
+        except ChildProcessError:
+            pass
+    sys.exit(f"{sys.argv[0]}: the shell waits for {words[0]} each time")
+
+
+def build_baseline(folder):
+    """Builds the plain Rust program (bench/baseline) and gives its path."""
+    path = os.path.join(folder, "baseline")
+    source = os.path.join(HERE, "baseline", "main.rs")
+    subprocess.run(["rustc", "-O", "--edition", "2021", "-o", path, source], check=True)
+    return path

@@ -1,0 +1,233 @@
+"""Cases of charts/: what is drawn, by the tooltips of the pictures, and the pictures that docs/ shows."""
+import random
+import re
+from xml.etree import ElementTree
+
+from forms import USUAL
+from harness.place import Place
+from oracle.drawn import lab_block
+from oracle.operations import text_of
+from oracle.scheduler import Schedule
+
+SVG = "{http://www.w3.org/2000/svg}"
+# The example of docs/LANGUAGE.md, whose table there gives cycles and reasons.
+BLOCK = b"""loadI 4 => r1
+loadI 8 => r2
+mult r1, r2 => r3
+load r1 => r4
+add r3, r4 => r5
+store r5 => r2
+output 8
+"""
+ISSUED = ["loadI 4 => r0: unit 0, issued at 0, arrives at 1", "loadI 8 => r1: unit 1, issued at 0, arrives at 1",
+          "load r0 => r3: unit 0, issued at 1, arrives at 6", "mult r0, r1 => r2: unit 1, issued at 1, arrives at 4",
+          "add r2, r3 => r4: unit 0, issued at 6, arrives at 7", "store r4 => r1: unit 0, issued at 7, arrives at 12",
+          "output 8: unit 0, issued at 12, arrives at 13"]
+EXPLAINED = b"""block 1 -
+0 cycle 0 unit 0 ready 0 after - priority 13 loadI 4 => r1 ; loadI 4 => r0
+1 cycle 0 unit 1 ready 0 after - priority 11 loadI 8 => r2 ; loadI 8 => r1
+2 cycle 1 unit 1 ready 1 after 0,1 priority 10 mult r1, r2 => r3 ; mult r0, r1 => r2
+3 cycle 1 unit 0 ready 1 after 0 priority 12 load r1 => r4 ; load r0 => r3
+4 cycle 6 unit 0 ready 6 after 3 priority 7 add r3, r4 => r5 ; add r2, r3 => r4
+5 cycle 7 unit 0 ready 7 after 4 priority 6 store r5 => r2 ; store r4 => r1
+6 cycle 12 unit 0 ready 12 after 5 priority 1 output 8 ; output 8
+cycles 13 least 13
+chain 0 3 4 5 6
+total 13
+"""
+CHECKED = b"""block 1 sum same cycles 14 ours 14 least 13
+block 2 dot differs cycles 19 ours 22 least 20 claimed 8
+  output 2: 7 for 8
+total 33 ours 36 least 33
+"""
+CHAIN_OUTLINE = "#e5484d"
+
+
+EDGE = re.compile(r'        b(\d+)_(\d+) -> b\1_(\d+) \[label="(\d+)"')
+
+
+def tooltips(root):
+    return [it.find(f"{SVG}title").text for it in root.iter(f"{SVG}g")]
+
+
+def height(part):
+    return float(part.get("height"))
+
+
+def longest_ways(edges, count):
+    """By two operations the cycles of the longest way from one to the other, where there is a way."""
+    ways = [{j: 0} for j in range(count)]
+    for i, j, d in sorted(edges, key=lambda it: it[1]):
+        for start in range(i + 1):
+            if i in ways[start]:
+                ways[start][j] = max(ways[start].get(j, 0), ways[start][i] + d)
+    return ways
+
+
+def shape(mark):
+    """The corners of a mark, from the first on."""
+    corners = [tuple(map(float, it.split(","))) for it in (mark.get("points") or "").split()]
+    return tuple((round(x - corners[0][0], 1), round(y - corners[0][1], 1)) for x, y in corners)
+
+
+class Charts(Place):
+    def picture(self, *words, given=b""):
+        status, out, err = self.call(*words, given=given)
+        self.expect(f"{words}", (status, err), (0, b""))
+        return ElementTree.fromstring(out)
+
+    def test_timeline(self):
+        """Each operation stands where the listing has it, and its bar is as long as its latency."""
+        listing = self.call("ilocfarm", "schedule", given=BLOCK)[1]
+        root = self.picture("charts/timeline", given=listing)
+        self.expect("tooltips", [it.replace("\n", ": ") for it in tooltips(root)], ISSUED)
+        groups = {it.find(f"{SVG}text").text: it.findall(f"{SVG}rect") for it in root.iter(f"{SVG}g")}
+        bars = {name: round((height(parts[0]) + 3) / 18) for name, parts in groups.items() if len(parts) == 2}
+        self.expect("cycles of the bars", bars, {"load r0 => r3": 5, "mult r0, r1 => r2": 3, "store r4 => r1": 5})
+        tops = {name: (float(parts[-1].get("y")) - 69) / 18 for name, parts in groups.items()}
+        issued = {it.split(":")[0]: int(re.search("issued at ([0-9]+)", it)[1]) for it in ISSUED}
+        self.expect("cycles of the boxes", tops, issued)
+
+    def test_timeline_explained(self):
+        root = self.picture("charts/timeline", given=EXPLAINED)
+        self.expect("tooltip", tooltips(root)[2], "mult r0, r1 => r2\nunit 1, issued at 1, arrives at 4\nnumber 2: "
+                                             "mult r1, r2 => r3\nready at 1, waited last for 0 and 1\npriority 10")
+        marked = [group.find(f"{SVG}text").text[0] for group in root.iter(f"{SVG}g")
+                  if any(it.get("stroke") == CHAIN_OUTLINE for it in group)]
+        self.expect("the chain", marked, list("03456"))
+        self.expect("title", root.find(f"{SVG}title").text, "block 1: 13 cycles, at least 13")
+
+    def test_timeline_of_many(self):
+        """Three hundred operations, each drawn once; the second block of two, for other latencies."""
+        lines = b"".join(b"load r%d => r%d\n" % (k, k + 1) for k in range(300))
+        listing = self.call("ilocfarm", "schedule", "--load", "2", given=b"a: nop\nb: " + lines)[1]
+        root = self.picture("charts/timeline", "--block", "2", "--load", "2", given=listing)
+        issued = [f"load r{k} => r{k + 1}\nunit 0, issued at {2 * k}, arrives at {2 * k + 2}" for k in range(300)]
+        self.expect("tooltips", tooltips(root), issued)
+
+    def test_timeline_of_rows_alone(self):
+        """Rows as a student hands them in: comments, no header, any claim of cycles or none, operations that come early."""
+        for rows, cycles in ((self.read("examples/class/schedules/ada.rows"), 16),
+                             (self.read("examples/class/schedules/fay.rows"), 21),
+                             (b"[ loadI 1 => r1;nop ]  // one\r\n\n[ nop ; add r1, r1 => r1 ]\n", 2)):
+            root = self.picture("charts/timeline", given=rows)
+            self.expect("title", root.find(f"{SVG}title").text, f"block 1: {cycles} cycles")
+        self.expect("tooltips", tooltips(root), ["loadI 1 => r1\nunit 0, issued at 0, arrives at 1",
+                                            "add r1, r1 => r1\nunit 1, issued at 1, arrives at 2"])
+
+    def test_timeline_refuses(self):
+        listing = self.call("ilocfarm", "schedule", "--load", "2", given=BLOCK)[1]
+        for words, given, said in (
+                ([], listing, b"these are not the latencies of the listing: give them by --load, --store and --mult"),
+                (["--block", "2", "--load", "2"], listing, b"the listing has no block 2"),
+                ([], b"", b"the listing has no block 1"),
+                ([], b"block 1 a\n7\n", b"line 2 is none of a listing of schedule or explain: 7")):
+            self.expect(f"timeline {words}", self.call("charts/timeline", *words, given=given),
+                   (1, b"", b"charts/timeline: " + said + b"\n"))
+        self.expect("status", self.call("charts/timeline", "--load", "17", given=listing)[0], 2)
+
+    def test_graph(self):
+        """Each edge is the longest delay between its ends, and what waits for the edges waits for all delays; dot reads it."""
+        self.needs("dot")
+        chance = random.Random(48)
+        made = [lab_block(chance) for _ in range(40)]
+        dot = self.call("ilocfarm", "graph", given=text_of(made))[1]
+        found = {}
+        for block, *edge in EDGE.findall(dot.decode()):
+            found.setdefault(int(block), []).append(tuple(map(int, edge)))
+        for k, ops in enumerate(made, 1):
+            told, edges, longest = Schedule(ops, USUAL), found.get(k, []), {}
+            for i, j, d in told.pairs:
+                longest[i, j] = max(d, longest.get((i, j), 0))
+            self.expect(f"block {k}: edges that are no delay", [it for it in edges if longest.get(it[:2]) != it[2]], [])
+            ways = longest_ways(edges, len(told.ops))
+            self.expect(f"block {k}: delays that no path keeps", [it for it in longest if ways[it[0]].get(it[1], -1) < longest[it]], [])
+        drawn = self.call("dot", "-Tsvg", given=dot)[1].decode()
+        self.expect("nodes", drawn.count('class="node"'), sum(op.opcode != "nop" for ops in made for op in ops))
+        self.expect("edges", drawn.count('class="edge"'), sum(map(len, found.values())))
+
+    def test_graph_in_readme(self):
+        """The picture of the book's example has the nodes and edges that are listed today; dot laid it out once."""
+        words = ("--load", "3", "--store", "3", "--mult", "2")
+        dot = self.call("ilocfarm", "graph", *words, given=self.read("examples/book.iloc"))[1].decode()
+        root = ElementTree.fromstring(self.read("docs/graph.svg"))
+        titles = [it.find(f"{SVG}title").text for it in root.iter(f"{SVG}g") if it.get("class") in ("node", "edge")]
+        self.expect("edges", sorted(it for it in titles if ">" in it), sorted(f"b{k}_{i}->b{k}_{j}" for k, i, j, _ in EDGE.findall(dot)))
+        self.expect("nodes", sorted(it for it in titles if ">" not in it), sorted(re.findall(r"^        (\w+) \[label", dot, re.MULTILINE)))
+
+    def test_compare(self):
+        self.write("one", b"block 1 - cycles 4\nblock 2 b cycles 20\ntotal 24\n")
+        self.write("two", b"block 1 x cycles 6\nblock 2 y cycles 0\ntotal 6\n")
+        root = self.picture("charts/compare", "one", "last=two")
+        self.expect("tooltips", tooltips(root), ["1 -\none: 4\nlast: 6", "2 b\none: 20\nlast: 0"])
+        texts = [it.text for it in root.iter(f"{SVG}text")]
+        self.expect("totals", texts[-3:], ["total", "24", "6"])
+        first, second = [it.findall(f"{SVG}circle")[0] for it in root.iter(f"{SVG}g")]
+        scale = {it.text: float(it.get("x")) for it in root.iter(f"{SVG}text") if it.get("text-anchor") == "middle"}
+        self.expect("a mark stands at its cycles", float(second.get("cx")), scale["20"])
+        self.expect("and between", float(first.get("cx")), (4 * scale["0"] + scale["20"]) / 5)
+
+    def test_compare_checked(self):
+        self.write("ada", CHECKED)
+        self.write("dan", CHECKED.replace(b"differs", b"same").replace(b"cycles 14", b"cycles 24"))
+        root = self.picture("charts/compare", "ada", "dan")
+        self.expect("tooltips", tooltips(root), ["1 sum\nada: 14\ndan: 24\nours: 14\nleast: 13",
+                                            "2 dot\nada: 19\ndan: 19\nours: 22\nleast: 20\nada: differs"])
+
+    def test_compare_leaves_wrong_ones_out(self):
+        """Of a block with another verdict than `same` nothing is in a total, whichever listing has it."""
+        self.write("ada", CHECKED)
+        self.write("dan", b"block 1 x cycles 15\nblock 2 y cycles 20\ntotal 35\n")
+        root = self.picture("charts/compare", "ada", "dan")
+        texts = [it.text for it in root.iter(f"{SVG}text")]
+        self.expect("totals", texts[-6:], ["total", "14", "15", "14", "13", "without those that aren't same"])
+
+    def test_compare_tells_columns_apart(self):
+        """Of 36 listings no two have a mark of one shape and colour; a 37th is refused."""
+        for k in range(37):
+            self.write(f"l{k}", b"block 1 - cycles %d\n" % k)
+        root = self.picture("charts/compare", *(f"l{k}" for k in range(36)))
+        row = next(root.iter(f"{SVG}g"))
+        marks = {(it.tag, it.get("fill"), shape(it)) for it in row if it.get("fill")}
+        self.expect("marks", len(marks), 36)
+        self.expect("status", self.call("charts/compare", *(f"l{k}" for k in range(37))),
+               (1, b"", b"charts/compare: more than 36 listings can't be told apart\n"))
+
+    def test_compare_of_many(self):
+        """Above sixty blocks ratios, not rows: a curve a listing, and a table."""
+        checked = [b"block %d - %s cycles %d ours 20 least 20\n" % (k, b"differs" if k == 100 else b"same", 20 + k % 4)
+                   for k in range(1, 101)]
+        self.write("ada", b"".join(checked) + b"total 1\n")
+        self.write("dan", b"".join(b"block %d - cycles 20\n" % k for k in range(1, 101)))
+        root = self.picture("charts/compare", "ada", "dan")
+        texts = [it.text for it in root.iter(f"{SVG}text")]
+        self.expect("blocks", "99 blocks, 1 left out that aren't same" in texts, True)
+        told = tooltips(root)
+        self.expect("curves", told, ["ada: 2130 cycles, 24 % as few, 1.074 mean, 1.150 9 in 10, 1.150 worst",
+                                *(f"{it}: 1980 cycles, 100 % as few, 1.000 mean, 1.000 9 in 10, 1.000 worst"
+                                  for it in ("dan", "ours"))])
+        self.expect("height", float(root.get("height")) < 600, True)
+
+    def test_devices_fail(self):
+        """A full disk and closed streams are said, with status 4."""
+        self.write("one", b"block 1 - cycles 4\n")
+        self.write("rows", b"[ loadI 1 => r1 ; nop ]\n")
+        for script, words, given in (("timeline", "", "< rows"), ("compare", "one one", "")):
+            for broken, said in (("> /dev/full", "[Errno 28] No space left on device"),
+                                 (">&-", "[Errno 9] Bad file descriptor")):
+                errors = self.shell(f"charts/{script} {words} {given} 2> said {broken}; echo $?; cat said")[1]
+                self.expect(f"{script} {broken}", errors.decode(), f"4\ncharts/{script}: {said}\n")
+        errors = self.shell("charts/timeline <&- > drawn; echo $?")[1].decode()
+        self.expect("timeline <&-", errors, "charts/timeline: [Errno 9] Bad file descriptor\n4\n")
+
+    def test_compare_refuses(self):
+        self.write("one", b"block 1 - cycles 4\ntotal 4\n")
+        self.write("two", b"block 1 x cycles 6\nblock 2 y cycles 0\ntotal 6\n")
+        self.write("none", b"total 0\n")
+        self.write("other", b"block 1 - cycles 4\n[ nop ; nop ]\n")
+        for words, said in ((["one", "two"], b"the listings have 1, 2 blocks: only the same ones can be compared"),
+                            (["one", "none"], b"none: there is no block"),
+                            (["one", "other"], b"other: line 2 is none of a listing of counts or check: [ nop ; nop ]")):
+            self.expect(f"compare {words}", self.call("charts/compare", *words), (1, b"", b"charts/compare: " + said + b"\n"))
+        self.expect("status", self.call("charts/compare", "one")[0], 2)
+        self.expect("status", self.call("charts/compare", "one", "nowhere")[0], 4)

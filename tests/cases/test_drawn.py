@@ -1,0 +1,93 @@
+"""What the commands must print of drawn blocks, by the oracle; and what is known of some blocks beside it."""
+import random
+
+from forms import USUAL
+from harness.program import COMMANDS, listed
+from harness.suite import table
+from oracle.drawn import made_block
+from oracle.graph import OPENING, cluster
+from oracle.machine import outcome, row_text, signed, words_from
+from oracle.operations import text_of, words_for
+from oracle.reader import read
+from oracle.scheduler import Schedule
+
+WORDS = [3, 4_294_967_295, 8, 70, 5, 1_000_000]
+ODD = {"load": 1, "store": 2, "mult": 16}
+SHORT = {"load": 1, "store": 1, "mult": 1}
+STORES_7 = "loadI 1024 => r0\nloadI 7 => r1\nstore r1 => r0\noutput 1024\n"
+# All but the first two wait for others.
+SEVEN_OPERATIONS = ("loadI 4 => r1\nloadI 8 => r2\nmult r1, r2 => r3\nload r1 => r4\nadd r3, r4 => r5\n"
+                    "store r5 => r2\noutput 8\n")
+PRODUCTS_BESIDE_A_LOAD = "add r1, r1 => r2\nmult r2, r2 => r3\nmult r3, r3 => r4\nload r1 => r5\n"
+IMMEDIATE_FORMS = ("loadI 1024 => r0\nloadI 7 => r1\nstoreAI r1 => r0, 8\nloadAI r0, 8 => r2\nmultI r2, 6 => r3\n"
+                   "subI r3, 2 => r4\nstoreAI r4 => r0, 12\noutput 1032\noutput 1036\n")
+# Blocks, latencies, and the priorities of the operations.
+PRIORITIES = [
+    (STORES_7, USUAL, [7, 7, 6, 1]), (SEVEN_OPERATIONS, USUAL, [13, 11, 10, 12, 7, 6, 1]),
+    (SEVEN_OPERATIONS, SHORT, [5, 5, 4, 4, 3, 2, 1]), (PRODUCTS_BESIDE_A_LOAD, USUAL, [7, 6, 3, 5]),
+    (IMMEDIATE_FORMS, USUAL, [22, 22, 21, 16, 11, 8, 7, 2, 1]),
+]
+FOUR_CONSTANTS = "loadI 1 => r1\nloadI 2 => r2\nloadI 3 => r3\nloadI 4 => r4\n"
+# Blocks, latencies, and the lower bound: by the longest path, and by what a row can hold.
+LEAST = [
+    (SEVEN_OPERATIONS, USUAL, 13), (SEVEN_OPERATIONS, SHORT, 5), ("A:", USUAL, 0), ("nop", USUAL, 0),
+    (FOUR_CONSTANTS, USUAL, 2), (FOUR_CONSTANTS + "loadI 5 => r5", USUAL, 3),
+    ("output 0\noutput 0\noutput 0", USUAL, 3), ("load r0 => r1\nloadAI r0, 4 => r2\nload r0 => r3", USUAL, 7),
+    ("mult r0, r0 => r1\nmultI r0, 3 => r2", USUAL, 4), ("store r0 => r1\nstoreAI r0 => r1, 4", USUAL, 6),
+    ("load r0 => r1\nmult r0, r0 => r2\noutput 0", USUAL, 5),
+]
+
+
+def listing(command, blocks, latencies):
+    lines, total = [], 0
+    for k, ops in enumerate(blocks, 1):
+        schedule = Schedule(ops, latencies)
+        head, cycles = f"block {k} B{k}", schedule.cycles()
+        lines += {"explain": lambda: [head, *schedule.lines()], "counts": lambda: [f"{head} cycles {cycles}"],
+                  "schedule": lambda: [head, *map(row_text, schedule.rows), f"cycles {cycles}"],
+                  "graph": lambda: cluster(k, f"B{k}", schedule),
+                  "run": lambda: [head, *outputs(ops)], "simulate": lambda: [head, *outputs(ops)]}[command]()
+        total += cycles
+    ending = {"run": [], "simulate": [], "graph": ["}"]}.get(command, [f"total {total}"])
+    lines[:0] = [OPENING] if command == "graph" else []
+    return "\n".join(map(str, [*lines, *ending, ""])).encode()
+
+
+def outputs(ops):
+    end = outcome(words_from(0, WORDS), lambda machine: machine.run(ops))
+    return map(signed, end.outputs) if end else ["fault"]
+
+
+def drawn_cases():
+    for seed in range(20):
+        chance = random.Random(seed)
+        blocks = [made_block(chance) for _ in range(5)]
+        for name, latencies in (("usual", USUAL), ("odd", ODD)):
+            yield from made(f"{name}_{seed}", blocks, latencies)
+    for seed in range(50):
+        chance = random.Random(f"latencies {seed}")
+        latencies = {name: chance.randint(1, most) for name, most in (("load", 3), ("store", 16), ("mult", 16))}
+        yield from made(f"drawn_{seed}", [made_block(chance) for _ in range(20)], latencies)
+    for number, (text, latencies, priorities) in enumerate(PRIORITIES):
+        yield known(f"priorities_{number}", text, latencies, priorities=priorities)
+    for number, (text, latencies, least) in enumerate(LEAST):
+        yield known(f"least_{number}", text, latencies, least=lambda least=least: least)
+
+
+def made(name, blocks, latencies):
+    for command in (*COMMANDS, "graph"):
+        words = [] if command == "run" else words_for(latencies)
+        words += ["--at", "0", *map(str, WORDS)] if command in ("run", "simulate") else []
+        yield listed(f"drawn/{name}/{command}", text_of(blocks), listing(command, blocks, latencies), [command, *words])
+
+
+def known(name, text, latencies, **told):
+    """A case of one block of which this is known, in place of what is worked out."""
+    block, = read(text.encode())
+    schedule = Schedule(block.ops, latencies)
+    vars(schedule).update(told)
+    lines = [f"block 1 {block.name}", *schedule.lines(), f"total {schedule.cycles()}", ""]
+    return listed(f"drawn/{name}", text.encode(), "\n".join(lines).encode(), ["explain", *words_for(latencies)])
+
+
+load_tests = table(drawn_cases)

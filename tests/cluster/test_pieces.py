@@ -1,0 +1,178 @@
+"""Cases of cluster/split, cluster/job and cluster/join without an engine: each piece is run in turn."""
+import os
+import random
+
+from harness.place import Place
+
+COMMANDS = (["run", "--at", "0", "1", "2"], ["simulate", "--load", "2"], ["schedule", "--mult", "1"], ["counts"],
+            ["explain", "--load", "3"])
+FILES = 48
+OPERATIONS = (b"nop", b"add r1, r2 => r3", b"loadI 4 => r1", b"output 4", b"store r1=>r2", b"loadAI r1,4 => r2",
+              b"mult r3, r3 =>\tr1", b"output 3 // odd: a fault")
+LABELS = (b"a:", b"nop :", b"r1\t:", b"\t long_Name9 \r:")
+# What is no label, though it looks like one.
+COMMENTS = (b"// b: nop", b" //c:", b"\t// not: a label // d:", b"//\xff\x00e: output 4", b"")
+BLANKS = (b"", b" ", b"\t", b"\r", b"  \r ")
+BAD = (b"f g: nop", b"add r1 r2 => r3", b"loadI 2147483648 => r1", b"/ h: nop", b"9:", b"i: : nop")
+
+
+def line(draw, bad):
+    if draw.random() < bad:
+        return draw.choice(BAD)
+    label = draw.choice(LABELS) if draw.random() < 0.3 else b""
+    parts = [label, draw.choice(OPERATIONS) if draw.random() < 0.6 else b"", draw.choice(COMMENTS)]
+    return b"".join(draw.choice(BLANKS) + part for part in parts) + draw.choice(BLANKS)
+
+
+def random_file(draw):
+    bad = draw.choice((0, 0, 0, 0.03))
+    text = b"\n".join(line(draw, bad) for _ in range(draw.randrange(40)))
+    return text + draw.choice((b"", b"\n"))
+
+
+class Pieces(Place):
+    def split(self, *options):
+        """Cuts the file `blocks`, and gives the number of pieces."""
+        status, out, err = self.call("cluster/split", "blocks", "pieces", *options)
+        self.expect("split", (status, err), (0, b""))
+        return int(out)
+
+    def run_piece(self, number, *words, program="ilocfarm"):
+        return self.call("cluster/job", "pieces", program, *words, PIECE=str(number))[0]
+
+    def join(self):
+        return self.call("cluster/join", "pieces")
+
+    def stored(self):
+        return sorted(os.listdir(self.path("pieces")))
+
+    def joined_is_one_run(self, words, count):
+        for number in range(1, count + 1):
+            self.run_piece(number, *words)
+        status, out, err = self.call("ilocfarm", *words, given=self.read("blocks"))
+        got_status, got, said = self.join()
+        self.expect(f"{words} of {count} pieces", (got_status, got, b"".join(said.splitlines(True)[:1])), (status, out, err))
+
+    def test_random_files(self):
+        """The joined bytes are one run's, or the first line on standard error is."""
+        draw, cuts, faults = random.Random(26), 0, 0
+        for number in range(FILES):
+            text = random_file(draw)
+            self.write("blocks", text)
+            option = draw.choice((["--bytes", str(draw.randrange(1, 200))], ["--blocks", str(draw.randrange(1, 5))]))
+            count = self.split(*option)
+            self.joined_is_one_run(COMMANDS[number % len(COMMANDS)], count)
+            cuts += count > 1
+            faults += self.join()[0] == 1
+            parts = [self.read(f"pieces/{it}.iloc") for it in range(1, count + 1)]
+            self.expect("the pieces", b"".join(parts), text)
+            os.rename(self.path("pieces"), self.path(f"pieces{number}"))
+        if cuts < FILES // 2 or not 0 < faults < FILES // 2:
+            self.fail(f"{cuts} files were cut and {faults} are refused: too few to show anything")
+
+    def test_cuts_before_labels_alone(self):
+        self.write("blocks", b"nop // a:\n// b:\n\t c \t: nop\n\n//d:\nnop\re: nop\n f :\r")
+        self.expect("pieces", self.split("--blocks", "1"), 3)
+        self.expect("index", self.read("pieces/index"), b"1 1 1\n2 3 1\n3 7 1\n")
+        self.expect("piece 1", self.read("pieces/1.iloc"), b"nop // a:\n// b:\n")
+        self.expect("piece 2", self.read("pieces/2.iloc"), b"\t c \t: nop\n\n//d:\nnop\re: nop\n")
+        self.expect("piece 3", self.read("pieces/3.iloc"), b" f :\r")
+
+    def test_comments_first(self):
+        self.write("blocks", b"// what follows\n\n \r\na: nop\nb: nop\n")
+        self.expect("pieces", self.split("--blocks", "1"), 2)
+        self.expect("index", self.read("pieces/index"), b"1 1 1\n2 5 1\n")
+        self.joined_is_one_run(["counts"], 2)
+
+    def test_nothing(self):
+        self.write("blocks", b"")
+        self.expect("pieces", self.split(), 1)
+        self.joined_is_one_run(["counts"], 1)
+        self.joined_is_one_run(["run"], 1)
+
+    def test_from_a_pipe(self):
+        self.expect("pieces", self.shell("cluster/split <(printf 'a: nop\\nb:') pieces --blocks 1"), (0, b"2\n"))
+        self.expect("pieces", [self.read(f"pieces/{it}.iloc") for it in (1, 2)], [b"a: nop\n", b"b:"])
+
+    def test_more_than_one_run_takes(self):
+        self.write("blocks", b"a: loadI 1 => r1\n" * 70_000)
+        count = self.split()
+        self.expect("pieces", count, 2)
+        for number in (1, 2):
+            self.expect("status", self.run_piece(number, "counts"), 0)
+        lines = [b"block %d a cycles 1\n" % number for number in range(1, 70_001)]
+        self.expect("joined", self.join(), (0, b"".join(lines) + b"total 70000\n", b""))
+
+    def test_bytes_of_pieces(self):
+        block = b"a: // " + b"-" * 9_000_000 + b"\n"
+        self.write("blocks", block * 3)
+        self.expect("pieces", self.split(), 3)
+        self.write("blocks", b"a: nop\nb: // " + b"-" * 16_777_216 + b"\nc:\n")
+        status, out, err = self.call("cluster/split", "blocks", "more")
+        self.expect("split", (status, out), (1, b""))
+        self.expect("said", err, b"cluster/split: the block from line 2 on has more than 16777216 bytes, which no run takes\n")
+        self.expect("folder", os.path.exists(self.path("more")), False)
+
+    def two_blocks(self, text=b"a: nop\nb: nop\nc: nop\n"):
+        self.write("blocks", text)
+        return self.split("--blocks", "1")
+
+    def test_missing_pieces(self):
+        self.write("blocks", b"a: nop\n" * 7)
+        self.expect("pieces", self.split("--blocks", "1"), 7)
+        for number in (2, 6):
+            self.run_piece(number, "counts")
+        self.expect("joined", self.join(), (3, b"", b"cluster/join: not run to their end: 1,3-5,7\n"))
+
+    def test_failed_piece(self):
+        self.two_blocks()
+        self.script("failing", "#!/bin/sh\n[ $PIECE != 2 ] || { echo ilocfarm: out of memory >&2; exit 3; }\nexec ilocfarm $@\n")
+        self.expect("statuses", [self.run_piece(it, "counts", program="./failing") for it in (1, 2, 3)], [0, 3, 0])
+        self.expect("joined", self.join(), (3, b"", b"cluster/join: piece 2 ended with 3: ilocfarm: out of memory\n"))
+
+    def test_killed_piece(self):
+        self.two_blocks()
+        self.script("killed", '#!/bin/sh\n[ $PIECE != 2 ] || { echo block 1; kill -KILL $PPID; exit 1; }\nexec ilocfarm "$@"\n')
+        for number in (1, 2, 3):
+            self.run_piece(number, "counts", program="./killed")
+        self.expect("joined", self.join(), (3, b"", b"cluster/join: not run to their end: 2\n"))
+        self.expect("status", self.run_piece(2, "counts"), 0)
+        self.expect("joined", self.join(), self.call("ilocfarm", "counts", given=self.read("blocks")))
+
+    def test_other_words(self):
+        self.two_blocks()
+        for number in (1, 2):
+            self.run_piece(number, "counts")
+        self.run_piece(3, "counts", "--load", "1")
+        self.expect("joined", self.join(), (3, b"", b"cluster/join: piece 3 was run as ['counts', '--load', '1'], "
+                                                b"and piece 1 as ['counts']\n"))
+
+    def test_short_listing(self):
+        self.two_blocks()
+        for number in (1, 2, 3):
+            self.run_piece(number, "counts")
+        self.write("pieces/2.result/out", b"")
+        self.expect("joined", self.join(), (3, b"", b"cluster/join: piece 2 has 1 blocks, and its listing others\n"))
+
+    def test_first_fault(self):
+        """The first fault decides, whatever became of the pieces behind it."""
+        self.two_blocks(b"a: nop\n// b\nb: nop\nadd\nc: add\n")
+        for number in (1, 2):
+            self.run_piece(number, "counts")
+        said = b"ilocfarm: line 4: not understood\ncluster/join: this is line 2 of pieces/2.iloc\n"
+        self.expect("joined", self.join(), (1, b"", said))
+        self.run_piece(3, "counts")
+        self.expect("joined", self.join(), (1, b"", said))
+
+    def test_mistakes(self):
+        self.write("blocks", b"a: nop\n")
+        for words in (["split"], ["split", "blocks", "more", "--bytes", "0"],
+                      ["split", "blocks", "more", "--blocks", "65536"], ["join"],
+                      ["join", "--all", "pieces"], ["job", "pieces", "ilocfarm", "counts"], ["job", "pieces"]):
+            status, out, err = self.call(f"cluster/{words[0]}", *words[1:])
+            self.expect(f"{words}", (status, out, bool(err)), (2, b"", True))
+        self.split()
+        for words in (["split", "blocks", "pieces"], ["split", "none", "more"], ["join", "none"]):
+            status, out, err = self.call(f"cluster/{words[0]}", *words[1:])
+            self.expect(f"{words}", (status, out, err.startswith(f"cluster/{words[0]}: ".encode())), (4, b"", True))
+        self.expect("nothing was made", self.stored(), ["1.iloc", "index"])

@@ -1,0 +1,92 @@
+"""Cases that have a folder of their own, and scripts of the repository that run there."""
+import os
+import re
+import subprocess
+import tempfile
+import time
+import unittest
+
+from harness.program import SECONDS, TESTED, TOP, needs, short
+
+# The commands that a page shows, each behind `$ `, with what stands below it; on a page they are indented.
+COMMAND = re.compile(r"^\$ (.*)\n((?:(?!\$ ).*\n)*)", re.MULTILINE)
+EXAMPLE = re.compile(r"(?:^    .*\n)+", re.MULTILINE)
+
+
+class InFolder(unittest.TestCase):
+    """A case that has a folder of its own."""
+    needs = staticmethod(needs)
+
+    def setUp(self):
+        folder = tempfile.TemporaryDirectory(prefix="ilocfarm-")
+        self.addCleanup(folder.cleanup)
+        self.folder = os.path.realpath(folder.name)
+
+    def path(self, name):
+        return os.path.join(self.folder, name)
+
+    def write(self, name, data):
+        os.makedirs(os.path.dirname(self.path(name)), exist_ok=True)
+        with open(self.path(name), "wb") as file:
+            file.write(data.encode() if isinstance(data, str) else data)
+
+    def script(self, name, text):
+        self.write(name, text)
+        os.chmod(self.path(name), 0o755)
+
+    def read(self, name):
+        with open(self.path(name), "rb") as file:
+            return file.read()
+
+    def text(self, name):
+        return self.read(name).decode(errors="replace")
+
+    def expect(self, what, got, wanted):
+        if got != wanted:
+            self.fail(f"{what}: {short(got, 600)} in place of {short(wanted, 600)}")
+
+
+class Place(InFolder):
+    """Its folder has links to those of the repository, and `ilocfarm` is on the PATH."""
+
+    def setUp(self):
+        super().setUp()
+        os.mkdir(self.path("bin"))
+        os.symlink(TESTED.program, self.path("bin/ilocfarm"))
+        for name in ("charts", "cluster", "docs", "examples", "install", "man", "CHANGELOG.md", "README.md"):
+            os.symlink(f"{TOP}/{name}", self.path(name))
+        self.environment = {**os.environ, "PATH": f"{self.path('bin')}:{os.environ['PATH']}", "LC_ALL": "C.UTF-8"}
+
+    def call(self, *words, given=b"", **more):
+        """Status, standard output and standard error."""
+        done = subprocess.run(words, cwd=self.folder, env={**self.environment, **more}, input=given,
+                              capture_output=True, timeout=SECONDS)
+        return done.returncode, done.stdout, done.stderr
+
+    def shell(self, line):
+        """Status, and both outputs as one, as on a terminal."""
+        done = subprocess.run(["bash", "-c", line], cwd=self.folder, env=self.environment, stdin=subprocess.DEVNULL,
+                              stdout=subprocess.PIPE, stderr=subprocess.STDOUT, timeout=SECONDS)
+        return done.returncode, done.stdout
+
+    def follows(self, shown):
+        """Commands with what is shown below them, run one after another, print just that."""
+        self.expect("commands are shown", bool(shown), True)
+        for command, below in shown:
+            with self.subTest(command):
+                self.expect(command, self.shell(command)[1], below.encode())
+
+
+def shown_on(page):
+    """The commands of a page of the repository, with what is shown below them."""
+    with open(f"{TOP}/{page}", encoding="utf-8") as file:
+        blocks = EXAMPLE.findall(file.read())
+    return [it for block in blocks for it in COMMAND.findall(re.sub("^    ", "", block, flags=re.MULTILINE))]
+
+
+def until(what, holds):
+    last = time.monotonic() + SECONDS
+    while not holds():
+        if time.monotonic() > last:
+            raise AssertionError(f"{what}: not within {SECONDS} seconds")
+        time.sleep(0.02)

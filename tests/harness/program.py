@@ -1,0 +1,89 @@
+"""The program that is tested, what is built to test it, and cases of one run."""
+import atexit
+import os
+import shutil
+import subprocess
+import tempfile
+import unittest
+from functools import cache
+from types import SimpleNamespace
+
+from bench import measure
+from harness.suite import Case
+
+TOP = os.path.dirname(os.path.dirname(os.path.dirname(os.path.abspath(__file__))))
+TESTED = SimpleNamespace(program=f"{TOP}/out/ilocfarm", is_short=False)     # as tests/run was asked
+SECONDS = 120
+COMMANDS = ("run", "simulate", "schedule", "counts", "explain")     # of the plain Rust program too
+ALL = (*COMMANDS, "check", "graph")
+
+
+def ending(words, given=b"", program=None, **how):
+    """Status, standard output and standard error of a run; `how` is for `subprocess.run`."""
+    how = {"stdout": subprocess.PIPE, "stderr": subprocess.PIPE, **how}
+    if "stdin" not in how:
+        how["input"] = given
+    done = subprocess.run([program or TESTED.program, *words], timeout=SECONDS, **how)
+    return done.returncode, done.stdout or b"", done.stderr or b""
+
+
+@cache
+def folder():
+    """For files of this run of the tests; it is gone at its end."""
+    made = tempfile.TemporaryDirectory(prefix="ilocfarm-")
+    atexit.register(made.cleanup)
+    return os.path.realpath(made.name)
+
+
+def stored(name, data):
+    path = os.path.join(folder(), name)
+    with open(path, "wb") as file:
+        file.write(data)
+    return path
+
+
+def needs(*tools):
+    for tool in tools:
+        if not shutil.which(tool):
+            raise unittest.SkipTest(f"{tool} is not on the PATH")
+
+
+@cache
+def baseline():
+    """The plain Rust program (bench/baseline), which says what is right at the usual latencies."""
+    needs("rustc")
+    return measure.build_baseline(folder())
+
+
+def short(value, most=300):
+    text = repr(value)
+    return text if len(text) <= most else f"{text[:most // 2]} .. {text[-most // 2:]}"
+
+
+def told(end):
+    status, out, err = end
+    return f"status {status}, {short(out, 120)}, {short(err, 120)}"
+
+
+class Run(Case):
+    """How the program ends with these words on this input. `None` for an output is some text."""
+
+    def __init__(self, name, words, given, out, err, status, by=ending):
+        super().__init__(name)
+        self.words, self.given, self.out, self.err, self.status, self.by = words, given, out, err, status, by
+
+    def passes(self):
+        got = dict(zip(("status", "standard output", "standard error"), self.by(self.words, self.given)))
+        wrong = [f"{what}: {short(got[what])} in place of {'some text' if due is None else short(due)}"
+                 for what, due in zip(got, (self.status, self.out, self.err))
+                 if (not got[what] if due is None else got[what] != due)]
+        if wrong:
+            self.fail("; ".join(wrong))
+
+
+def listed(name, given, out, words=("run",), **how):
+    return Run(name, [*words], given, out, b"", 0, **how)
+
+
+def refused(name, given, line, status=1, words=("run",), **how):
+    return Run(name, [*words], given, b"", b"ilocfarm: " + line + b"\n", status, **how)

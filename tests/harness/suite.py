@@ -1,0 +1,42 @@
+"""Cases for unittest: those of a table, and checks that give what is wrong."""
+import time
+import unittest
+
+SHOWN = 5       # faults of one check
+
+
+class Case(unittest.TestCase):
+    """A case of a table, under a name of its own: whether it `passes`."""
+
+    def __init__(self, name):
+        super().__init__("passes")
+        self.name = name
+
+    def id(self):
+        return self.name
+
+    __str__ = id
+
+
+class Check(Case):
+    """A call that gives what is wrong, one fault after the other."""
+
+    def __init__(self, name, call, *words):
+        super().__init__(name)
+        self.call, self.words = call, words
+
+    def passes(self):
+        start = time.monotonic()
+        wrong = list(self.call(*self.words))
+        if time.monotonic() > start + 1:
+            print(f"{self.name}: {time.monotonic() - start:.1f} s", flush=True)
+        if wrong:
+            self.fail("\n".join(wrong[:SHOWN]) + (f"\nand {len(wrong) - SHOWN} more" if len(wrong) > SHOWN else ""))
+
+
+def table(cases):
+    """By this unittest loads a module's cases that come of a table."""
+    def load_tests(_, tests, __):
+        tests.addTests(cases())
+        return tests
+    return load_tests

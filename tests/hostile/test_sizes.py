@@ -1,0 +1,212 @@
+"""Inputs at the limits: that each command gives what the plain Rust program (bench/baseline) gives, and a line with the
+time and the memory of each run. The first is an even input, 16 MiB of mixed blocks of about 100 operations."""
+import itertools
+import resource
+
+from bench import inputs, measure
+from bench.measure import contents
+from harness.program import COMMANDS, TESTED, baseline, ending, folder, stored, told
+from harness.suite import Check, table
+from limits import MOST_BLOCKS, MOST_BYTES, MOST_OPERATIONS
+from oracle.judge import NOT_SAME
+from refusals.test_program import NO_MEMORY
+
+# At the usual latencies, for processor time and for memory held. The first holds on slow machines too.
+MOST_MS = 10_000
+MOST_MIB = 286    # 300 MB
+# The greatest latency, and an address space that the listing of its longest schedules doesn't fit into, though their
+# rows are counted there.
+SLOWEST = 16
+LITTLE = 80 * 1024 * 1024
+
+
+def refused_line(line):
+    return f"ilocfarm: {line}\n".encode()
+
+
+def filled(part):
+    return part * (MOST_BYTES // len(part))
+
+
+def blocks_of(*lines):
+    """Blocks of 10,000 of these lines in turn, as many as fit."""
+    turns = itertools.islice(itertools.cycle(lines), MOST_OPERATIONS)
+    return filled(b"A:\n" + b"".join(turns))
+
+
+def even():
+    draw = inputs.Draw()
+    return filled(b"".join(inputs.block(draw, f"L{k}", 60 + draw.below(81), range(64)) for k in range(1, 501)))
+
+
+def plain_inputs():
+    """Texts of one thing alone, and one more than is allowed."""
+    loads = b"load r1 => r1\n"
+    yield "line ends", lambda: b"\n" * MOST_BYTES
+    yield "blanks", lambda: b" \t\r " * (MOST_BYTES // 4)
+    yield "slashes", lambda: b"/" * MOST_BYTES
+    yield "digits", lambda: b"7" * MOST_BYTES
+    yield "a word", lambda: b"A" * MOST_BYTES
+    yield "a name", lambda: b"A" * (MOST_BYTES - 1) + b":"
+    yield "a number", lambda: b"loadI " + b"0" * (MOST_BYTES - 14) + b"8 => r1\n"
+    yield "labels", lambda: filled(b"A:\n")
+    yield "nops", lambda: filled(b"nop\n")
+    yield "loads", lambda: filled(loads)
+    yield "65,535 labels", lambda: b"A:\n" * MOST_BLOCKS
+    yield "65,536 labels", lambda: b"A:\n" * (MOST_BLOCKS + 1)
+    yield "10,000 operations", lambda: loads * MOST_OPERATIONS
+    yield "10,001 operations", lambda: loads * (MOST_OPERATIONS + 1)
+
+
+def full_inputs():
+    """Texts that are taken, each meant to make one part of the program work hard."""
+    yield "tiny blocks", lambda: b"A:output 0\n" * MOST_BLOCKS
+    yield "long names", lambda: (b"A" * 254 + b":\n") * MOST_BLOCKS
+    yield "blocks of nops", lambda: (b"A:\n" + b"nop\n" * 63) * MOST_BLOCKS
+    yield "outputs", lambda: blocks_of(b"output 0\n")
+    yield "chained loads", chained_loads
+    yield "chained products", lambda: blocks_of(b"mult r0,r0=>r0\n")
+    yield "constants", lambda: blocks_of(b"loadI 0=>r0\n")
+    yield "stores", lambda: blocks_of(b"store r0=>r0\n")
+    yield "stores and loads", lambda: blocks_of(b"store r1=>r0\n", b"load r0=>r2\n")
+    yield "uses of one load", lambda: filled(b"A:\nload r0=>r1\n" + b"add r1,r1=>r2\n" * (MOST_OPERATIONS - 1))
+    yield "registers anywhere", registers_anywhere
+
+
+def judged_inputs():
+    """Blocks with rows, and how the listing or the refusal starts: our own, those of one form alone, and one more than is
+    allowed."""
+    def own(blocks):
+        path = stored("blocks", blocks)
+        return blocks + contents(measure.run([baseline(), "schedule"], path, f"{folder()}/listing").output)
+
+    def rows(*parts):
+        return b"A:\n" + b"".join(parts)
+
+    empty, same, load = b"[ nop ; nop ]\n", b"block 1 A same ", b"[ load r0 => r1 ; nop ]\n"
+    free = b"[ loadI 0 => r1 ; addI r2, 1 => r3 ]\n"
+    yield ("own rows, even", lambda: own(even()[:4_000_000].rsplit(b"L", 1)[0]), b"block 1 L1 same ")
+    yield ("own rows, loads", lambda: own(blocks_of(b"load r0=>r0\n")[:1_100_000].rsplit(b"A", 1)[0]), same)
+    yield ("own rows, stores and loads", lambda: own(blocks_of(b"store r1=>r0\n", b"load r0=>r0\n")[:1_800_000]
+                                                           .rsplit(b"A", 1)[0]), same)
+    yield ("own rows, sums", lambda: own(b"A:\n" + b"add r0, r1 => r0\nmult r0, r0 => r1\n" * 5000), same)
+    yield ("own rows, pointers", lambda: own(
+        b"A:\nload r0 => r1\n" + b"store r1 => r1\nload r1 => r1\n" * 4999), same)
+    yield ("own rows, a table", lambda: own(b"A:\nload r0 => r1\n" + b"".join(
+        b"storeAI r1 => r1, %d\nloadAI r1, %d => r2\n" % (4 * k, 4 * (k - k % 7)) for k in range(4999))), same)
+    yield ("empty rows", lambda: rows(empty * ((MOST_BYTES - 3) // len(empty))), same)
+    yield ("65,535 heads", lambda: b"A:\n" * MOST_BLOCKS + b"".join(
+        b"block %d A\n" % k for k in range(1, MOST_BLOCKS + 1)), same)
+    yield ("most claims", lambda: rows(b"cycles 7\n" * ((MOST_BYTES - 3) // 9)),
+                 same + b"cycles 0 ours 0 least 0 claimed 7")
+    yield ("a load on the wrong unit", lambda: rows(load * 5000, b"[ nop ; load r0 => r1 ]\n", load * 4999),
+                 b"block 1 A units cycles 10004 ours 0 least 0\n  row 5001: [ nop ; load r0 => r1 ]\n")
+    yield ("useless operations", lambda: rows(free * 5000), b"block 1 A same cycles 5000 ours 0 least 0\n")
+    yield ("10,001 operations in rows", lambda: rows(free * 5000, load),
+           refused_line(f"line 5002: more than {MOST_OPERATIONS} operations in a block"))
+    yield "65,535 heads of one block", lambda: rows(b"block 1 A\n" * MOST_BLOCKS), refused_line("line 3: no such block")
+    yield "a row without an end", lambda: b"A:\n[" + b" " * (MOST_BYTES - 4), refused_line("line 2: not understood")
+    yield "a long number", lambda: b"A:\ncycles " + b"9" * (MOST_BYTES - 10), refused_line("line 2: number above 2147483647")
+
+
+def chained_loads():
+    return blocks_of(b"load r0=>r0\n")
+
+
+def registers_anywhere():
+    """Each operation defines another register, and the numbers jump."""
+    lines = (b"loadI 0=>r%d\n" % (number * 1_103_515_245 % 2**31) for number in range(MOST_OPERATIONS))
+    return filled(b"A:\n" + b"".join(lines))
+
+
+def size_checks():
+    for name, make in [("even", even), *plain_inputs(), *([] if TESTED.is_short else full_inputs())]:
+        yield Check(f"sizes/{name}", as_the_plain_program, name, make)
+    if not TESTED.is_short:
+        yield Check("sizes/slow loads", slow_loads)
+        yield Check("sizes/slow loads in little memory", in_little_memory)
+    for name, make, start in judged_inputs():
+        yield Check(f"sizes/check/{name}", begins_so, name, make, start)
+
+
+def measured(name, words, path):
+    """A run, of which a line is printed, and where it used too much."""
+    got = measure.run([TESTED.program, *words], path, f"{folder()}/got")
+    print(f"{' '.join(words):18} {name:28} status {got.status} {got.processor_ms:8.0f} ms {got.mebibytes:7.1f} MiB", flush=True)
+    is_small = got.processor_ms <= MOST_MS and got.mebibytes <= MOST_MIB
+    return got, [] if is_small else [f"{words}: {got.processor_ms:.0f} ms, {got.mebibytes:.0f} MiB"]
+
+
+def as_the_plain_program(name, make):
+    path = stored("given", make())
+    for command in COMMANDS:
+        got, wrong = measured(name, [command], path)
+        if got.shown() != measure.run([baseline(), command], path, f"{folder()}/due").shown():
+            yield f"{command}: status {got.status} or {front(got.output)[:60]!r} is other than the plain program's"
+        yield from wrong
+
+
+def begins_so(name, make, start):
+    """How `check` ends, and how its listing or what it says begins."""
+    got, wrong = measured(name, ["check"], stored("given", make()))
+    status = 1 if start.startswith(b"ilocfarm: ") else 0 if b" same " in start else NOT_SAME
+    begun = front(got.output + ".err" * (status == 1))
+    if got.status != status or not begun.startswith(start):
+        yield f"check: status {got.status}, {begun[:60]!r}"
+    yield from wrong
+
+
+def slow_loads():
+    """Chained loads that take 16 cycles each: the longest schedules that a text can have."""
+    text = chained_loads()
+    path = stored("given", text)
+    for command in COMMANDS[1:]:
+        got, wrong = measured("chained loads", [command, "--load", str(SLOWEST)], path)
+        if got.status != 0 or not is_made_of(got.output, slow_listing(command, text.count(b":"))):
+            yield f"{command}: status {got.status}, or another listing"
+        yield from wrong
+
+
+def slow_listing(command, blocks):
+    """What is listed of `slow_loads`, in parts."""
+    cycles = SLOWEST * MOST_OPERATIONS
+    empty = b"[ nop ; nop ]\n" * (SLOWEST - 1)
+    rows = empty.join(b"[ load r%d => r%d ; nop ]\n" % (k, k + 1) for k in range(MOST_OPERATIONS))
+    entry = {"simulate": b"\n", "counts": b" cycles %d\n" % cycles,
+             "schedule": b"\n" + rows + b"cycles %d\n" % cycles,
+             "explain": b"\n" + b"".join(map(slow_reason, range(MOST_OPERATIONS)))
+             + b"cycles %d least %d\nchain " % (cycles, cycles) + b" ".join(b"%d" % k for k in range(MOST_OPERATIONS))
+             + b"\n"}[command]
+    for number in range(1, blocks + 1):
+        yield b"block %d A" % number + entry
+    if command != "simulate":
+        yield b"total %d\n" % (blocks * cycles)
+
+
+def slow_reason(number):
+    """The line of one of `slow_loads`, which waits for the one before it."""
+    cycle, before = SLOWEST * number, b"%d" % (number - 1) if number else b"-"
+    return (b"%d cycle %d unit 0 ready %d after %s priority %d load r0 => r0 ; load r%d => r%d\n"
+            % (number, cycle, cycle, before, SLOWEST * MOST_OPERATIONS - cycle, number, number + 1))
+
+
+def in_little_memory():
+    """The longest schedules are refused where they find no room, with nothing written."""
+    words = ["schedule", "--workers", "1", "--load", str(SLOWEST)]
+    got = ending(words, chained_loads(),
+                 preexec_fn=lambda: resource.setrlimit(resource.RLIMIT_AS, (LITTLE, LITTLE)))
+    if got != NO_MEMORY:
+        yield told(got)
+
+
+def is_made_of(path, parts):
+    with open(path, "rb") as file:
+        return all(file.read(len(part)) == part for part in parts) and not file.read(1)
+
+
+def front(path):
+    with open(path, "rb") as file:
+        return file.read(200)
+
+
+load_tests = table(size_checks)

@@ -1,0 +1,77 @@
+"""Texts that are cut at any byte, or have any byte at any place. What is right the plain Rust program says, which
+reads, runs and schedules in its own way (bench/baseline)."""
+from harness.program import COMMANDS, TESTED, baseline, ending, told
+from harness.suite import Check, table
+
+# Each form of a line and of an operation, blanks of each kind and none, leading zeros, the greatest numbers; and a
+# bad line at the end.
+FORMS = b"""\
+
+ \t\r
+// a comment alone, of any bytes \x00\x0b\xff: \xe2\x86\x92
+nop
+\tnop // behind an operation
+ first :
+second_1:\tloadI 2147483647 => r2147483647 // label, operation and comment
+loadI 1024 => r0//close
+store r2147483647 => r0\r
+output 1024
+load r0 => r1
+add r1, r1 => r2
+sub r1,r2=>r3
+mult\tr3 , r3\t=>\tr4
+lshift r4, r3 => r5
+rshift r04, r003 => r0006
+addI r6, 0012 => r7
+subI r7, 4 => r8
+multI r8, 3 => r9
+lshiftI r9, 33 => r10
+rshiftI r10, 1 => r11
+storeAI r11 => r0, 4
+loadAI r0, 4 => r12
+output 1028
+nop: // a label alone
+r1 : load r1 => r2
+B:nop
+x9_: output 2
+A: B: nop
+"""
+SHORT = b"a1 :loadI 8=>r1//x\n\tstore r1 => r1\r\nB_: addI r1, 2 => r3\nloadAI r2,8 => r2\n output 8\nnop"
+# A byte of each kind that the grammar knows, and some that it doesn't.
+KINDS = b"\x00\n\x0b\r +,/08:=>A_rz\x80"
+ALL = bytes(range(256))
+# In the short mode other commands than `run` are tried with one text in so many.
+SELDOM = 8
+
+
+def text_checks():
+    changed = list(changed_texts(KINDS if TESTED.is_short else ALL))
+    cut = [FORMS[:end] for end in range(len(FORMS) + 1)]
+    for command in COMMANDS:
+        step = SELDOM if TESTED.is_short and command != "run" else 1
+        for name, texts in (("cut", cut), ("changed", changed)):
+            yield Check(f"texts/{name}/{command}", wrong_among, command, texts[::step])
+
+
+def changed_texts(others):
+    """A short text with another byte at each place."""
+    for place in range(len(SHORT)):
+        for byte in others:
+            yield SHORT[:place] + bytes([byte]) + SHORT[place + 1:]
+
+
+def wrong_among(command, texts):
+    """Where the program ends otherwise than the plain one; and where the texts are all of one kind."""
+    statuses = set()
+    for text in texts:
+        got = ending([command], text)
+        due = ending([command], text, baseline())
+        statuses.add(due[0])
+        if got != due:
+            yield f"{text!r}: {told(got)} in place of {told(due)}"
+    print(f"{command}: {len(texts)} texts")
+    if statuses != {0, 1}:
+        yield f"the texts end with the statuses {statuses} in place of 0 and 1"
+
+
+load_tests = table(text_checks)

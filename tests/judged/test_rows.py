@@ -1,0 +1,267 @@
+"""Rows whose verdicts stand here beside their blocks, and lines of schedules that are refused; 9 stands at 4, else 0."""
+from forms import USUAL
+from harness.program import Run
+from harness.suite import table
+from limits import MOST_BLOCKS, MOST_BYTES, MOST_OPERATIONS
+from oracle.judge import ENTRY, NOT_SAME, entries_of, total
+from oracle.machine import row_text, words_from
+from oracle.reader import read
+
+WORDS = ["check", "--at", "4", "9"]
+
+LOADS_AND_STORES = "loadI 1024 => r1\nloadAI r1, 4 => r2\nmult r2, r2 => r3\nstoreAI r3 => r1, 8\noutput 1032\n"
+SQUARE = "loadI 4 => r1\nload r1 => r2\nmult r2, r2 => r3\nstore r3 => r1\noutput 4\n"
+LOADED = "loadI 8 => r1\nload r1 => r2\n"       # an unknown word in r2, and 8 in r1
+TWICE_DOUBLED = LOADED + "add r2, r2 => r3\nadd r3, r3 => r4\n"
+SUM = LOADED + "lshiftI r2, 2 => r3\naddI r3, 12 => r4\nstore r4 => r1\n"
+# Two stores with one unknown base, and loads beside them.
+TWO_STORES = LOADED + "storeAI r1 => r2, 4\nstoreAI r2 => r2, 8\n"
+LOADS_ELSEWHERE = TWO_STORES + "loadAI r2, 12 => r3\nstore r3 => r1\n"
+FORWARDED = TWO_STORES + "store r2 => r1\n"
+UNUSED_LOAD = LOADED + "load r2 => r3\noutput 8\n"
+TWO_OUTPUTS = "output 4\noutput 8\n"
+FAULTS_FIRST = "output 1\noutput 8\n"
+# It faults on every memory.
+BIG_ADDRESS = "loadI 100000 => r0\nloadI 6 => r1\nloadI 7 => r2\nmult r1, r2 => r3\nstore r3 => r0\noutput 100000\n"
+# The words of memories that are made up.
+COUNTED = " ".join(map(str, range(1, 65)))
+ADDRESSES = " ".join(map(str, range(8, 264, 4)))
+
+# A block, and somebody's operations that do the same, six cycles apart.
+SAME = {
+    "itself": (LOADS_AND_STORES, LOADS_AND_STORES),
+    "other_registers": (LOADS_AND_STORES, "loadI 1024 => r9\nloadAI r9, 4 => r7\nmult r7, r7 => r8\n"
+                                          "storeAI r8 => r9, 8\noutput 1032\n"),
+    "one_register_for_all_words": (LOADS_AND_STORES, "loadI 1028 => r1\nload r1 => r1\nmult r1, r1 => r1\n"
+                                                     "loadI 1032 => r2\nstore r1 => r2\noutput 1032\n"),
+    "product_for_a_shift": (SUM, LOADED + "multI r2, 4 => r3\naddI r3, 12 => r4\nstore r4 => r1\n"),
+    "product_of_a_sum": (SUM, LOADED + "addI r2, 3 => r3\nmultI r3, 4 => r4\nstore r4 => r1\n"),
+    "sums_for_a_shift": (SUM, TWICE_DOUBLED + "addI r4, 12 => r4\nstore r4 => r1\n"),
+    "accesses_with_one_base": (LOADS_ELSEWHERE, LOADED + "loadAI r2, 12 => r3\nstoreAI r2 => r2, 8\n"
+                                                         "storeAI r1 => r2, 4\nstore r3 => r1\n"),
+    "word_that_was_stored": (TWO_STORES + "loadAI r2, 8 => r3\nstore r3 => r1\n", FORWARDED),
+    "load_that_cannot_fault": (LOADED + "output 8\n", "output 8\n"),
+    "itself_with_a_fault": (BIG_ADDRESS, BIG_ADDRESS),
+    "outputs": (TWO_OUTPUTS, TWO_OUTPUTS),
+    "square": (SQUARE, SQUARE),
+}
+
+# A block, and somebody's operations that do something else on some memory.
+UNLIKE = {
+    "another_sum": (SUM, TWICE_DOUBLED + "addI r4, 13 => r4\nstore r4 => r1\n"),
+    "word_that_was_not_stored": (LOADS_ELSEWHERE, FORWARDED),
+    # A store to a known address stays where it is, before one to an unknown one.
+    "stores_exchanged": (LOADED + "store r1 => r1\nstore r1 => r2\n", LOADED + "store r1 => r2\nstore r1 => r1\n"),
+    # A load whose result nobody uses can fault, where its address isn't known.
+    "load_left_out": (UNUSED_LOAD, LOADED + "output 8\n"),
+    "load_added": ("output 8\n", UNUSED_LOAD),
+    "fault_left_out": (FAULTS_FIRST, "output 8\n"),
+    "outputs_exchanged": (TWO_OUTPUTS, "output 8\noutput 4\n"),
+    "output_left_out": (TWO_OUTPUTS, "output 4\n"),
+    "all_left_out_but_the_output": (LOADS_AND_STORES, "output 1032\n"),
+    "stored_elsewhere": (LOADS_AND_STORES, LOADS_AND_STORES.replace("r1, 8", "r1, 12")),
+}
+
+# A block, somebody's operations, the verdict, and what stands below it.
+VERDICTS = {
+    "output_too_many": (SQUARE, SQUARE + "output 8\n", "differs", "output 2: 0 for none"),
+    "output_before_the_store": (SQUARE, "loadI 4 => r1\noutput 4\nload r1 => r2\nmult r2, r2 => r3\nstore r3 => r1\n",
+                                "differs", "output 1: 9 for 81"),
+    "word_too_many": (SQUARE, SQUARE + "loadI 0 => r4\nstore r3 => r4\n", "differs", "word 0: 81 for 0"),
+    "fault": (SQUARE, "loadI 4 => r1\nload r1 => r2\nload r2 => r3\noutput 4\n", "differs", "fault"),
+    "no_fault": ("output 1\n", "output 8\n", "differs", "no fault"),
+    # Whatever is after a fault that always comes isn't done; but who faults otherwise, or does less, isn't passed.
+    "another_fault": (FAULTS_FIRST, "loadI 1 => r1\nload r1 => r2\n", "agrees", ""),
+    "fault_without_the_product": (BIG_ADDRESS, "loadI 100000 => r0\noutput 100000\n", "agrees", ""),
+    "fault_with_another_product": (BIG_ADDRESS, BIG_ADDRESS.replace("loadI 7", "loadI 8"), "agrees", ""),
+    # The product of 9 and 9, but of nothing else.
+    "refuted_product": (SQUARE, SQUARE.replace("mult r2, r2", "multI r2, 9"), "differs",
+                        f"output 1: 9 for 1 with --at 4 {COUNTED}"),
+    # Of two stores the first goes where a word of memory says.
+    "refuted_stores": (LOADED + "loadI 5 => r3\nstore r3 => r2\nstore r1 => r1\n",
+                       LOADED + "loadI 5 => r3\nstore r1 => r1\nstore r3 => r2\n", "differs",
+                       f"word 8: 5 for 8 with --at 8 {ADDRESSES}"),
+    "refuted_load": (UNUSED_LOAD, LOADED + "output 8\n", "differs", f"no fault with --at 8 {COUNTED}"),
+    # Sums in another order are right, though that isn't seen.
+    "sums_in_another_order": ("loadI 4 => r1\nload r1 => r2\nloadAI r1, 4 => r3\nloadAI r1, 8 => r4\n"
+                              "add r2, r3 => r5\nadd r5, r4 => r6\nstore r6 => r1\n",
+                              "loadI 4 => r1\nload r1 => r2\nloadAI r1, 4 => r3\nloadAI r1, 8 => r4\n"
+                              "add r3, r4 => r5\nadd r2, r5 => r6\nstore r6 => r1\n", "agrees", ""),
+}
+
+# Texts, and what is listed of each block.
+LISTED = {
+    "row_on_unit_0": ("output 4\n[ output 4 ; nop ]\n", "block 1 - same cycles 1 ours 1 least 1"),
+    "row_on_unit_1": ("output 4\n[ nop ; output 4 ]\ncycles 1\n", "block 1 - same cycles 1 ours 1 least 1"),
+    "second_claim": ("output 4\n[ output 4 ; nop ]\ncycles 1\ncycles 0\n",
+                     "block 1 - same cycles 1 ours 1 least 1 claimed 0"),
+    "both_units": ("output 0\n[ output 0 ; loadI 4 => r1 ]\n", "block 1 - same cycles 1 ours 1 least 1"),
+    # Our own rows have both outputs on unit 0, and aren't the only ones that keep the delay between the two.
+    "outputs_on_two_units": ("output 0\noutput 4\n[ output 0 ; nop ]\n[ nop ; output 4 ]\n",
+                             "block 1 - same cycles 2 ours 2 least 2"),
+    # An empty row before it takes a cycle, one behind it takes none.
+    "empty_rows": ("output 4\n[ nop ; nop ]\n[ output 4 ; nop ]\n[ nop ; nop ]\ncycles 3\n",
+                   "block 1 - same cycles 2 ours 1 least 1 claimed 3"),
+    # What isn't used is left out, so that they take fewer cycles than any lawful schedule.
+    "unused_operations": ("loadI 4 => r1\nmult r1, r1 => r2\noutput 4\n[ output 4 ; nop ]\n",
+                          "block 1 - same cycles 1 ours 4 least 4"),
+    "nop": ("nop\ncycles 0\n", "block 1 - same cycles 0 ours 0 least 0"),
+    # The word that is stored is the one that stands there.
+    "word_put_back": ("loadI 4 => r1\nload r1 => r2\nstore r2 => r1\noutput 4\n[ output 4 ; nop ]\ncycles 1\n",
+                      "block 1 - agrees cycles 1 ours 12 least 12"),
+    "outputs_on_both_units": ("output 4\noutput 8\n[ output 8 ; nop ]\n[ nop ; output 4 ]\n",
+                              "block 1 - differs cycles 2 ours 2 least 2\n  output 1: 0 for 9"),
+    "output_missing": ("output 4\noutput 8\n[ output 4 ; nop ]\ncycles 2\n",
+                       "block 1 - differs cycles 1 ours 2 least 2 claimed 2\n  output 2: none for 0"),
+    "output_behind_the_last": ("output 8\n[ output 8 ; nop ]\n[ output 4 ; nop ]\n",
+                               "block 1 - differs cycles 2 ours 1 least 1\n  output 2: 9 for none"),
+    "store_missing": ("loadI 12 => r1\nsubI r1, 16 => r2\nstore r2 => r1\n",
+                      "block 1 - differs cycles 0 ours 7 least 7\n  word 12: 0 for -4"),
+    "fault_beside_the_output": ("output 4\n[ output 4 ; loadI 5 => r1 ]\n[ load r1 => r1 ; nop ]\n",
+                                "block 1 - differs cycles 6 ours 1 least 1\n  fault"),
+    "fault_missing": ("output 5\n", "block 1 - differs cycles 0 ours 1 least 1\n  no fault"),
+    # On the memory handed in both words are 0.
+    "output_of_another_word": ("output 65532\n[ output 65528 ; nop ]\n",
+                               "block 1 - differs cycles 1 ours 1 least 1\n  output 1: 1 for 2 with --at 65528 1 2"),
+    "load_on_unit_1": ("loadI 4 => r1\nload r1 => r2\n[ loadI 4 => r1 ; nop ]\n[ nop ; load r1 => r2 ]\n",
+                       "block 1 - units cycles 6 ours 6 least 6\n  row 2: [ nop ; load r1 => r2 ]"),
+    "two_outputs_in_a_row": ("output 4\n[ output 4 ; output 8 ]\n[ mult r1, r1 => r2 ; nop ]\ncycles 1\n",
+                             "block 1 - units cycles 4 ours 1 least 1 claimed 1\n  row 1: [ output 4 ; output 8 ]"),
+    "no_head": ("output 0\n[output 0;nop]\ncycles 9\ntotal 3", "block 1 - same cycles 1 ours 1 least 1 claimed 9"),
+    "no_head_of_a_name": ("main:\noutput 0\n[output 0;nop]\ncycles 9\ntotal 3",
+                          "block 1 main same cycles 1 ours 1 least 1 claimed 9"),
+    "no_row": ("a: output 0\nb:", "block 1 a differs cycles 0 ours 1 least 1\n  output 1: none for 0",
+               "block 2 b same cycles 0 ours 0 least 0"),
+    "no_row_and_a_total": ("a:\nb: nop\ntotal 0\n", "block 1 a same cycles 0 ours 0 least 0",
+                           "block 2 b same cycles 0 ours 0 least 0"),
+    "blanks_and_comments": ("output 0\r\n block 1 -//\n\tcycles\t05 // claimed\r\n// \x00\xff\n\n [\toutput 00 ;nop\r]//\r\n"
+                            "[nop;\rnop\t]\r\ncycles 1\n[ nop ; add r1,r02 =>r3 ]\n\n",
+                            "block 1 - same cycles 3 ours 1 least 1 claimed 1"),
+    "blanks_in_a_row_that_is_shown": ("nop\n [\tmult r1,r02 =>r3;nop\r]//\r\n",
+                                      "block 1 - units cycles 3 ours 0 least 0\n  row 1: [ mult r1, r2 => r3 ; nop ]"),
+    "row_of_another_block": ("A: output 4\nB: output 8\nblock 1 A\n[ output 4 ; nop ]\nblock 2 B\n[ output 4 ; nop ]\n",
+                             "block 1 A same cycles 1 ours 1 least 1",
+                             "block 2 B differs cycles 1 ours 1 least 1\n  output 1: 9 for 0"),
+    "blocks_passed_over": ("a:\nb:\nc:\nblock 2 b\n[ nop ; output 4 ]\n", "block 1 a same cycles 0 ours 0 least 0",
+                           "block 2 b differs cycles 1 ours 0 least 0\n  output 1: 9 for none",
+                           "block 3 c same cycles 0 ours 0 least 0"),
+    "largest_numbers": ("a:\ncycles 2147483647\ntotal 2147483647\n[ output 2147483647 ; nop ]",
+                        "block 1 a differs cycles 1 ours 0 least 0 claimed 2147483647\n  fault"),
+}
+
+# Each stands on line 4, behind a claim.
+NOT_UNDERSTOOD = """\
+[ nop ]|[ nop ; nop|[ nop ; nop ; nop ]|[ nop nop ]|[ ; nop ]|[ nop ; ]|[]|[ A: nop ; nop ]|[ nop // ; nop ]
+[ nop ; nop ] nop|[ nop ; nop ] [ nop ; nop ]|[ output 99999999999 ; add r1 r2 => r3 ]|A: [ nop ; nop ]|block|block 1
+block1 a|block 1a|block a 1|block 1 --|block 1 9|block 1 a b|block -1 a|cycles|cycles5|cycles -5|cycles 5 5|total
+total: 5|Cycles 5|block 1 a cycles 5|[ jump r1 ; nop ]|[ nop ; add r1 => r2 ]|[ ; ]|block a|block 1 1a|cycles nine
+output 0|nop|b:""".replace("\n", "|").split("|")
+# Each stands on line 2.
+TOO_LARGE = ["[ output 2147483648 ; nop ]", "[ nop ; loadI 1 => r2147483648 ]", "block 2147483648 b",
+             "block 99999999999999999999 a", "cycles 2147483648", "total 4294967296 // wide"]
+# The last line of each is the third.
+NO_BLOCK = ["a:\nb:\n[ nop ; nop ]", "a:\nb:\ncycles 0", "a:\n[ nop ; nop ]\nblock 1 a", "a:\ncycles 0\nblock 1 a", "a:\nb:\nblock 0 a",
+            "a:\nb:\nblock 3 c", "a:\nb:\nblock 1 b", "a:\nb:\nblock 1 -", "nop\nb:\nblock 1 a",
+            "a:\nblock 1 a\nblock 1 a", "a:\nb:\nblock 2147483647 a", "a:\nb:\nblock 1 A", "a:\nb:\nblock 1 ab",
+            "a:\nb:\nblock 65535 a"]
+BAD, LARGE, NONE = "not understood", "number above 2147483647", "no such block"
+NOTHING_TO_JUDGE = ["", "\n", "// none", "total 0\n", "// none\n\ntotal 7 // seven", "[ nop ; nop ]", "block 1 a\ncycles 0",
+                    "\ncycles 0\n", "block 99999999999 a", "[ output 2147483648 ; nop ]", "[ nop ; nop ]\n[ nop ]"]
+# The text, the line of its earliest fault, and the fault.
+EARLIEST = [("a:\nb:\nblock 2 b\n[ nop ; nop ]\nblock 1 a", 5, NONE), ("add r1 r2 => r3\n[ nop ; nop ]\nfoo", 1, BAD),
+            ("a:\nfoo\nblock 2 a\n", 2, BAD), ("a:\ncycles 1\nfoo\ncycles 99999999999", 3, BAD),
+            ("a:\noutput 2147483648\nfoo\n[ nop ; nop ]", 2, LARGE)]
+
+
+def spread(text, apart=6, product_unit=1):
+    """Rows with the operations of a text, one in a cycle, so many cycles apart; all but products are on unit 0."""
+    rows = []
+    for i, op in enumerate(read(text.encode())[0].ops):
+        rows += [(None, None)] * (apart * i - len(rows))
+        rows.append((None, op) if op.kind == "mult" and product_unit else (op, None))
+    return "".join(f"{row_text(it)}\n" for it in rows)
+
+
+def judged(name, text, verdict=None, detail=""):
+    """A case of one block with its rows; without a verdict, some that isn't `same`."""
+    given = text.encode("latin-1")
+    entry, = entries_of(given, USUAL, words_from(4, [9]))
+    out = entry.text(verdict, detail) if verdict else entry.settled()
+    out = out and (out + total([entry])).encode()
+    return Run(f"judged/{name}", WORDS, given, out, b"", 0 if verdict == "same" else NOT_SAME)
+
+
+def listed(name, text, *entries):
+    """A case of a text and the entries that are listed of it."""
+    found = [ENTRY.fullmatch(f"{it}\n".encode()) for it in entries]
+    sums = [sum(int(it[number]) for it in found) for number in (4, 5, 6)]
+    out = "".join(f"{it}\n" for it in [*entries, "total {} ours {} least {}".format(*sums)])
+    status = 0 if all(it[3] == b"same" for it in found) else NOT_SAME
+    return Run(f"judged/{name}", WORDS, text.encode("latin-1"), out.encode(), b"", status)
+
+
+def refused(name, text, fault):
+    return Run(f"judged/{name}", WORDS, text.encode("latin-1"), b"", f"ilocfarm: {fault}\n".encode(), 1)
+
+
+def judged_cases():
+    for name, (block, theirs) in SAME.items():
+        yield judged(f"same_{name}", block + spread(theirs), "same")
+    for name, (block, theirs) in UNLIKE.items():
+        yield judged(f"unlike_{name}", block + spread(theirs))
+    for name, (block, theirs, verdict, detail) in VERDICTS.items():
+        yield judged(name, block + spread(theirs), verdict, detail)
+    # Five cycles apart each result is there; four apart one is used a cycle too early.
+    yield judged("five_apart", LOADS_AND_STORES + spread(LOADS_AND_STORES, 5), "same")
+    yield judged("four_apart", LOADS_AND_STORES + spread(LOADS_AND_STORES, 4))
+    yield judged("product_on_unit_0", SQUARE + spread(SQUARE, product_unit=0), "units",
+                 "row 13: [ mult r2, r2 => r3 ; nop ]")
+    yield from (listed(f"listed_{name}", *it) for name, it in LISTED.items())
+    yield Run("judged/our_rows_for_two_outputs", ["schedule"], b"output 0\noutput 4\n",
+               b"block 1 -\n[ output 0 ; nop ]\n[ output 4 ; nop ]\ncycles 2\ntotal 2\n", b"", 0)
+    yield from refusals()
+    yield from at_the_limits()
+
+
+def refusals():
+    for line in NOT_UNDERSTOOD:
+        yield refused(f"not_understood: {line}", f"a:\noutput 0\ncycles 1\n{line}", f"line 4: {BAD}")
+    for line in NOT_UNDERSTOOD[:-3]:
+        yield refused(f"not_understood_at_once: {line}", f"a: output 0\n{line}", f"line 2: {BAD}")
+    for words in (["--at", "2"], ["--at", "6", "--mult", "2"]):
+        yield Run(f"judged/bad_start_{words[1]}", ["check", *words], b"a:", b"", b"ilocfarm: --at is not a multiple of 4\n", 2)
+    for words in (["--workers", "2"], ["--load", "0"], ["--store", "17"], ["4294967296"]):
+        yield Run(f"judged/refused_words_{'_'.join(words)}", ["check", *words], b"a:", b"", None, 2)
+    for line in TOO_LARGE:
+        yield refused(f"too_large: {line}", f"a:\n{line}", f"line 2: {LARGE}")
+    for text in NO_BLOCK:
+        yield refused(f"no_block: {text!r}", text, f"line 3: {NONE}")
+    for text in NOTHING_TO_JUDGE:
+        yield refused(f"no_blocks: {text!r}", text, "no blocks")
+    for text, line, fault in EARLIEST:
+        yield refused(f"earliest: {text!r}", text, f"line {line}: {fault}")
+
+
+def at_the_limits():
+    full = "a:\nb:\nblock 1 a\n" + "[ nop ; output 0 ]\n" * MOST_OPERATIONS
+    many = f"line 10004: more than {MOST_OPERATIONS} operations in a block"
+    a = f"block 1 a differs cycles {MOST_OPERATIONS} ours 0 least 0\n  output 1: 0 for none"
+    yield listed("most_operations", full + "[ nop ; nop ]", a, "block 2 b same cycles 0 ours 0 least 0")
+    yield listed("most_operations_of_one", full + "block 2 b\n[ output 0 ; output 0 ]", a,
+                 "block 2 b units cycles 1 ours 0 least 0\n  row 1: [ output 0 ; output 0 ]")
+    yield refused("one_operation_too_many", full + "[ output 0 ; nop ]", many)
+    yield refused("two_operations_too_many", full + "[ output 0 ; output 0 ]", many)
+    yield refused("too_many_in_the_second_block", full.replace("block 1 a", "block 2 b") + "[ output 0 ; nop ]", many)
+    yield refused("too_many_operations_of_the_block", "a:\n" + "nop\n" * (MOST_OPERATIONS + 1) + "[ nop ; nop ]",
+                  f"line {MOST_OPERATIONS + 2}: more than {MOST_OPERATIONS} operations in a block")
+    rows = "[nop;nop]\n" * (MOST_BYTES // 10 - 1)
+    yield listed("most_rows", f"nop\n{rows}", "block 1 - same cycles 0 ours 0 least 0")
+    heads = "A:\n" * MOST_BLOCKS + "".join(f"block {k} A\ncycles {k}\n" for k in range(1, MOST_BLOCKS + 1))
+    claims = [f"block {k} A same cycles 0 ours 0 least 0 claimed {k}" for k in range(1, MOST_BLOCKS + 1)]
+    yield listed("most_heads", heads, *claims)
+    yield refused("one_head_too_many", heads + "block 65535 A", f"line 196606: {NONE}")
+    yield listed("longest_text", "nop" + "\n" * (MOST_BYTES - 3), "block 1 - same cycles 0 ours 0 least 0")
+    yield refused("one_byte_too_many", "\n" * MOST_BYTES + "[", f"input longer than {MOST_BYTES} bytes")
+
+
+load_tests = table(judged_cases)

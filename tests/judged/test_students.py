@@ -1,0 +1,166 @@
+"""Schedules handed in to `check`: our own, students' right and wrong ones, and texts that are cut and changed."""
+import random
+from functools import cache
+
+from cases.test_drawn import ODD
+from cases.test_stored import stored_cases
+from forms import USUAL
+from harness.program import TESTED, Run, ending, told
+from harness.suite import Check, table
+from hostile.test_texts import KINDS
+from judged.labs import Given
+from judged.students import RIGHT, WRONG, ours
+from oracle.drawn import lab_block, made_block
+from oracle.judge import AT, ENTRY, NOT_SAME, entries_of, proposed, request, total, wrong_ending
+from oracle.machine import cycles, words_from
+from oracle.operations import text_of, words_for
+from oracle.scheduler import Schedule
+
+SLOW = {"load": 16, "store": 1, "mult": 1}
+EACH_LATENCIES = {"usual": USUAL, "odd": ODD, "slow": SLOW}
+WORDS = [3, 4_294_967_295, 1028, 70, 5, 1_000_000]
+BLOCKS = 8      # of a file
+FILES, ALL_FILES = 2000, 20_000
+SEEDS, ALL_SEEDS = 5, 100
+# Blocks and schedule lines of each form, with blanks of each kind and none, leading zeros and comments.
+LINES = b"""\
+a: loadI 1028 => r1 // of a block
+\tload r1 => r2
+B_2 : storeAI r1 => r0, 1032
+output 1032
+ // no schedule line yet: [ nop ; nop ]
+[nop;nop]//close
+block 1 a
+ [ loadI 01028 => r07 ; nop ]\r
+\t[\tload r7=>r2 ;\rmultI r7, 3 => r9\t] // \xff
+cycles\t006
+
+block 2\tB_2 // the next
+[ storeAI r0=>r0 , 1032 ; loadI 2147483647 => r2147483647 ]
+[ nop ; nop ]
+[ nop ; output 1032 ]
+cycles 4
+cycles 7
+total 2147483647
+"""
+SHORT_LINES = b"a:output 8\nb:\nblock 1 a\n[output 8;nop]\ncycles 1\nblock 2 b//x\n[ nop; nop ]\ntotal 1"
+
+
+@cache
+def given_blocks(seed, name, count=BLOCKS):
+    """Blocks, and each with our schedule of it for the latencies of this name."""
+    chance = random.Random(seed)
+    blocks = [lab_block(chance) for _ in range(count)]
+    return blocks, [Given(Schedule(ops, EACH_LATENCIES[name])) for ops in blocks]
+
+
+def handed_in(seed, name, kind):
+    """A file of blocks with somebody's rows and claims behind it, and our rows where the kind has none."""
+    chance = random.Random(f"{seed} {kind.__name__}")
+    blocks, givens = given_blocks(seed, name)
+    text = text_of(blocks)
+    for k, given in enumerate(givens, 1):
+        rows = kind(chance, given)
+        rows = ours(chance, given) if rows is None else rows
+        claim = chance.choice([None, cycles(rows, given.latencies), chance.randrange(99)])
+        text += proposed(k, f"B{k}", rows, claim)
+    return text
+
+
+def judging_cases():
+    for seed, (name, latencies) in enumerate(EACH_LATENCIES.items()):
+        text = handed_in(seed, name, ours)
+        yield listed(f"judging/ours_{name}", text, latencies, lambda entry: entry.text("same"))
+    for kind in WRONG:
+        yield from settled(kind)
+
+
+def listed(name, text, latencies, entry_text, words=()):
+    """A case of a text for which all verdicts are known."""
+    entries = entries_of(text, latencies, words_from(AT, words))
+    out = [entry_text(entry) for entry in entries]
+    status = 0 if all(" same " in it for it in out) else NOT_SAME
+    return Run(name, request(latencies, words), text, "".join([*out, total(entries)]).encode(), b"", status)
+
+
+def settled(kind):
+    """A case of all blocks whose verdict the units or the words of memory decide, if there are some."""
+    chance = random.Random(kind.__name__)
+    blocks, givens = given_blocks(7, "usual", 40)
+    rows = [kind(chance, given) for given in givens]
+    files = [text_of([ops]) + proposed(1, "B1", it) for ops, it in zip(blocks, rows) if it is not None]
+    for number, text in enumerate(files):
+        entry, = entries_of(text, USUAL, words_from(AT, WORDS))
+        if entry.settled():
+            yield listed(f"judging/{kind.__name__}_{number}", text, USUAL, lambda it: it.settled(), WORDS)
+
+
+def judging_checks():
+    yield from judging_cases()
+    yield Check("judging/own/stored", own_listings, stored_texts())
+    yield Check("judging/own/made", own_listings, made_texts(FILES if TESTED.is_short else ALL_FILES))
+    for kind in (*RIGHT, *WRONG):
+        yield Check(f"judging/students/{kind.__name__}", of_kind, kind)
+    yield Check("judging/texts/cut", judged_texts, [LINES[:end] for end in range(len(LINES) + 1)])
+    yield Check("judging/texts/changed", judged_texts, changed_lines())
+
+
+def stored_texts():
+    for case in stored_cases():
+        if case.words == ["run"] and case.status == 0 and case.out:
+            for latencies in EACH_LATENCIES.values():
+                yield latencies, case.given
+
+
+def made_texts(count):
+    chance = random.Random(count)
+    for _ in range(count):
+        latencies = {name: chance.randint(1, 16) for name in USUAL} if chance.random() < 0.5 else USUAL
+        make = chance.choice([lab_block, lab_block, made_block])
+        yield latencies, text_of([make(chance) for _ in range(chance.choice([1, 2, 6]))])
+
+
+def own_listings(texts):
+    """Our own schedules are the same as the blocks, with the cycles that are listed."""
+    count = 0
+    for count, (latencies, text) in enumerate(texts, 1):
+        listing = ending(["schedule", *words_for(latencies)], text)[1]
+        got = ending(request(latencies), text + b"\n" + listing)
+        claims = [int(line.split()[1]) for line in listing.splitlines() if line.startswith(b"cycles")]
+        entries = [it.groups() for it in ENTRY.finditer(got[1])]
+        wrong = [it for it, claim in zip(entries, claims)
+                 if it[2] != b"same" or int(it[3]) != claim or int(it[4]) != claim or it[6] or it[7]]
+        last = b"total %d ours %d least %d\n" % (sum(claims), sum(claims), sum(int(it[5]) for it in entries))
+        if wrong or len(entries) != len(claims) or got[0] or got[2] or not got[1].endswith(last):
+            yield f"{text!r}: {wrong or told(got)}"
+    print(f"{count} listings")
+
+
+def of_kind(kind):
+    """Files with schedules of one kind."""
+    for seed in range(SEEDS if TESTED.is_short else ALL_SEEDS):
+        name, latencies = [*EACH_LATENCIES.items()][seed % len(EACH_LATENCIES)]
+        text = handed_in(seed, name, kind)
+        for words in ((), WORDS):
+            got = ending(request(latencies, words), text)
+            yield from wrong_ending(got, text, latencies, words, is_right=kind in RIGHT)
+
+
+def changed_lines():
+    """A short text with another byte at each place."""
+    for at in range(len(SHORT_LINES)):
+        for byte in KINDS + b"[];c":
+            yield SHORT_LINES[:at] + bytes([byte]) + SHORT_LINES[at + 1:]
+
+
+def judged_texts(texts):
+    statuses = set()
+    for text in texts:
+        got = ending(["check"], text)
+        statuses.add(got[0])
+        yield from (f"{text!r}: {it}" for it in wrong_ending(got, text, USUAL))
+    if statuses != {0, 1, NOT_SAME}:
+        yield f"the texts end with the statuses {statuses}"
+
+
+load_tests = table(judging_checks)

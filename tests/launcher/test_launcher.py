@@ -1,0 +1,358 @@
+"""./ilocfarm, ./build and ./install in a small repository, with a stand-in for the toolchain's rt.
+
+One case has the real rt run a small program unproved. A line says how long a start of the built program takes.
+"""
+import os
+import shutil
+import signal
+import subprocess
+import time
+
+from harness.place import InFolder, until
+from harness.program import SECONDS, TOP
+from harness.terminal import terminal
+
+TOOLS = ("awk cat chmod cmp cp find flock grep head mkdir mkfifo mktemp mv nproc readlink rm sed setpriv sh sleep tail "
+         "tar tee wc").split()
+ENDING = (signal.SIGHUP, signal.SIGINT, signal.SIGTERM)
+# It fails with what the file `says` has, and doesn't end where there is a file `hold`. As `rt try` it answers with its
+# words and its input; as `rt ci` it makes a program that does, and tells the number of its build too.
+RT = """#!/bin/sh
+[ "$1" != version ] || exec cat "$TEST/kit"
+echo "$1" >>"$TEST/asked"
+[ ! -e "$TEST/hold" ] || { echo $$ >"$TEST/child"; exec sleep 600; }
+while [ -e "$TEST/slow" ]; do sleep 0.02; done
+[ ! -e "$TEST/says" ] || { cat "$TEST/says" >&2; exit 6; }
+if [ "$1" = try ]; then
+    shift 2
+    echo "unproved: $*: $(cat)"
+    echo "ilocfarm: a word" >&2
+    printf 'checked: ended status=7\\nraces: not looked for\\nrun=ended status=7 runners=1 proved=no\\n' >&2
+    exit 7
+fi
+sed 's/[ :].*//; /^#/d' crates.txt | tee "$TEST/proved" | sed 's/.*/== &\\nlogic=proved\\nrt: & proved/'
+mkdir -p crates/ilocfarm/out
+printf '#!/bin/sh\\necho "build %s: $*: $(cat)"\\nexit 7\\n' "$(grep -c ci "$TEST/asked")" >crates/ilocfarm/out/ilocfarm
+chmod +x crates/ilocfarm/out/ilocfarm
+echo '3 passed, 0 failed'
+"""
+CRATES = "# what each uses\nilocfarm may_wait=1: high # last\nlow: clap\nhigh: low thiserror\nhigh_tests: high\n"
+ADVICE = r"\./build proves and builds the program, once, in some \d+ minutes here"
+UNPROVED = rf"ilocfarm: this answer is of an unproved run, which takes about a minute\. {ADVICE}\n"
+BUILT = "ilocfarm: out/ilocfarm is proved and built, and ./ilocfarm runs it\n"
+
+
+def is_running(pid):
+    try:
+        with open(f"/proc/{pid}/stat", encoding="utf-8") as file:
+            return file.read().rpartition(")")[2].split()[0] != "Z"
+    except (FileNotFoundError, ProcessLookupError):
+        return False
+
+
+class Repository(InFolder):
+    def setUp(self):
+        super().setUp()
+        for it in ENDING:       # also where what runs the tests ignores them
+            self.addCleanup(signal.signal, it, signal.signal(it, signal.SIG_DFL))
+        self.top = f"{self.folder}/a copy"
+        for it in ("bin", "tools", "tmp", "a copy"):
+            os.mkdir(f"{self.folder}/{it}")
+        for it in TOOLS:
+            os.symlink(shutil.which(it), f"{self.folder}/tools/{it}")
+        for it in ("ilocfarm", "build", "launcher.sh", "HANDLES"):
+            shutil.copy2(f"{TOP}/{it}", self.top)
+        self.write("KIT-ID", "kit 1\n")
+        self.script("bin/rt", RT)
+        self.with_crates(CRATES)
+
+    def with_crates(self, text):
+        self.write(f"{self.top}/crates.txt", text)
+        for name in [it.replace(":", " ").split()[0] for it in text.splitlines() if it.partition("#")[0].strip()]:
+            for part in ("src/lib.rt", "specs/Lib.antt", "out/rlib"):
+                self.write(f"{self.top}/crates/{name}/{part}", "\n")
+
+    def start(self, *words, by="ilocfarm", with_rt=True, stdin=subprocess.PIPE, **how):
+        path = [f"{self.folder}/bin"] * with_rt + [f"{self.folder}/tools"]
+        given = {"PATH": ":".join(path), "TEST": self.folder, "TMPDIR": f"{self.folder}/tmp", **how.pop("env", {})}
+        started = subprocess.Popen([os.path.join(self.top, by), *words], stdin=stdin, stdout=subprocess.PIPE,
+                                   stderr=subprocess.PIPE, text=True, env=given, **how)
+        self.addCleanup(lambda: (started.kill(), started.communicate()))
+        return started
+
+    def ended(self, started, given=None):
+        """Its status and what it wrote, once nothing of it is left among the temporary files."""
+        out, err = started.communicate(given, timeout=SECONDS)
+        self.assertEqual(os.listdir(f"{self.folder}/tmp"), [])
+        return started.returncode, out, err
+
+    def ran(self, *words, given="", **how):
+        return self.ended(self.start(*words, **how), given if "stdin" not in how else None)
+
+    def builds(self, number, *words):
+        status, out, err = self.ran(*words, by="build")
+        self.assertEqual((status, err), (0, BUILT))
+        self.assertEqual(self.ran("run", "--at", "4 5", given="text"), (7, f"build {number}: run --at 4 5: text\n", ""))
+        return out
+
+    def answers_unproved(self, **how):
+        status, out, err = self.ran("run", "--at", "4 5", given="text", **how)
+        self.assertEqual((status, out), (7, "unproved: run --at 4 5: text\n"))
+        self.assertRegex(err, rf"\A{UNPROVED}ilocfarm: a word\n\Z")
+
+    def fails(self, why, *words, **how):
+        """No answer, status 125, and as the last line what to do."""
+        status, out, err = self.ran(*words, **how)
+        self.assertEqual((status, out), (125, ""))
+        self.assertRegex(err, rf"(\A|\n)ilocfarm: {why}\n\Z")
+
+    def has_begun(self, *words, **how):
+        """A start in which rt runs, and doesn't end, with the number of its process."""
+        self.write("hold", "")
+        started = self.start(*words, **how)
+        if how.get("by", "ilocfarm") == "ilocfarm":
+            started.stdin.close()
+            started.stdin = None
+        until("rt runs", lambda: os.path.exists(f"{self.folder}/child") and self.text("child"))
+        os.remove(f"{self.folder}/hold")
+        return started, int(self.text("child"))
+
+
+class Answers(Repository):
+    def test_unproved_until_it_is_built(self):
+        self.answers_unproved()
+        self.assertEqual(os.listdir(f"{self.top}/crates/ilocfarm"), ["src", "specs", "out"])
+        self.assertEqual(self.builds(1), "ilocfarm proved, 1 of 3\nhigh proved, 2 of 3\nlow proved, 3 of 3\n")
+        self.assertEqual(self.ran(by="build"), (0, "", "ilocfarm: out/ilocfarm is proved and built already\n"))
+
+    def test_unproved_where_anything_changed(self):
+        def in_place(path):
+            with open(path, "r+b") as file:
+                file.write(b"\t")
+
+        def replaced(path):
+            shutil.copy2(path, f"{path}.new")
+            os.replace(f"{path}.new", path)
+
+        changes = [(in_place, "crates.txt"), (in_place, "HANDLES"), (in_place, "crates/low/src/lib.rt"),
+                   (replaced, "crates/low/specs/Lib.antt"), (os.remove, "crates/high/specs/Lib.antt"),
+                   (in_place, "out/ilocfarm"), (os.remove, "out/ilocfarm"), (in_place, "../KIT-ID"), (os.remove, "../KIT-ID")]
+        self.write("kit", "kit 1")
+        for number, (change, name) in enumerate(changes, 1):
+            with self.subTest(f"{change.__name__} {name}"):
+                self.builds(number)
+                path = f"{self.top}/{name}"
+                times = os.stat(path)
+                change(path)
+                if os.path.exists(path):
+                    os.utime(path, ns=(times.st_atime_ns, times.st_mtime_ns))
+                self.answers_unproved()
+        with self.subTest("a toolchain that has no file KIT-ID"):
+            self.builds(len(changes) + 1)
+            self.write("kit", "kit 2")
+            self.answers_unproved()
+
+    def test_unproved_in_a_copy(self):
+        self.builds(1)
+        shutil.copytree(self.top, f"{self.folder}/other", symlinks=True)
+        self.answers_unproved(by=f"{self.folder}/other/ilocfarm")
+
+    def test_unproved_after_a_change_in_mid_build(self):
+        self.write("slow", "")
+        started = self.start(by="build")
+        until("it builds", lambda: os.path.exists(f"{self.folder}/asked"))
+        self.write(f"{self.top}/crates/low/src/lib.rt", "\n\n")
+        os.remove(f"{self.folder}/slow")
+        status, _, err = self.ended(started)
+        self.assertEqual((status, err), (125, "ilocfarm: a source changed meanwhile, or the disk is full: look, and run ./build again\n"))
+        self.answers_unproved()
+
+    def test_in_place_for_the_gate(self):
+        out = self.builds(1, "--all")
+        self.assertEqual(out.splitlines()[-1], "3 passed, 0 failed")
+        self.assertEqual(self.text("proved"), "ilocfarm\nlow\nhigh\nhigh_tests\n")
+        self.assertEqual(self.text(f"{self.top}/out/build.log"), out)
+
+    def test_crates_of_the_repository(self):
+        self.with_crates(self.text(f"{TOP}/crates.txt"))
+        self.builds(1)
+        lines = [it.partition("#")[0].partition(":") for it in self.text(f"{TOP}/crates.txt").splitlines()]
+        uses, wanted = {name.split()[0]: used.split() for name, _, used in lines if name.strip()}, {"ilocfarm"}
+        while more := {it for name in wanted for it in uses[name] if it in uses} - wanted:
+            wanted |= more
+        self.assertEqual(sorted(self.text("proved").split()), sorted(wanted))
+
+    def test_by_links(self):
+        os.symlink("../a copy/ilocfarm", f"{self.folder}/bin/near")
+        os.symlink(f"{self.folder}/bin/near", f"{self.folder}/far")
+        self.builds(1)
+        for by in ("bin/near", "far"):
+            self.assertEqual(self.ran("run", given="text", by=f"{self.folder}/{by}"), (7, "build 1: run: text\n", ""))
+
+    def test_any_input_for_the_program(self):
+        self.builds(1)
+        folder = os.open(self.folder, os.O_RDONLY)
+        self.addCleanup(os.close, folder)
+        self.assertEqual(self.ran("run", stdin=folder), (7, "build 1: run: \n", "cat: -: Is a directory\n"))
+
+    def test_terminal(self):
+        reads = "ilocfarm: reading blocks from the terminal; Ctrl-D on a line of its own ends them\n"
+        for words, is_told in ((["run"], True), (["run", "--help"], False), (["-h"], False), ([], False),
+                               (["--version"], False), (["-V"], False), (["help", "run"], False)):
+            with self.subTest(words), terminal() as (screen, slave):
+                started = self.start(*words, stdin=slave)
+                os.write(screen.master, b"text\n\x04")
+                _, out, err = self.ended(started)
+                self.assertEqual(reads in err, is_told)
+                self.assertEqual(out == "unproved: run: text\n", is_told)
+        self.builds(1)
+        with self.subTest("the program says it itself"), terminal() as (screen, slave):
+            started = self.start("run", stdin=slave)
+            os.write(screen.master, b"text\n\x04")
+            self.assertEqual(self.ended(started), (7, "build 1: run: text\n", ""))
+
+    def test_two_at_once(self):
+        started = [self.start("run") for _ in range(2)]
+        for it in started:
+            self.assertEqual(it.communicate("text", timeout=SECONDS)[0], "unproved: run: text\n")
+        self.write("slow", "")
+        first = self.start(by="build")
+        until("it builds", lambda: "ci" in self.text("asked"))
+        second = self.start(by="build")
+        self.assertEqual(second.stderr.readline(), "ilocfarm: waiting for another ./build here\n")
+        os.remove(f"{self.folder}/slow")
+        self.assertEqual([it.communicate(timeout=SECONDS)[1] for it in (first, second)],
+                         [BUILT, "ilocfarm: out/ilocfarm is proved and built already\n"])
+
+    def test_install_builds(self):
+        for it in ("man", "charts", "cluster", "docs", "examples", "CHANGELOG.md", "README.md"):
+            os.symlink(f"{TOP}/{it}", f"{self.top}/{it}")
+        shutil.copy2(f"{TOP}/install", self.top)
+        status, out, _ = self.ran(f"{self.folder}/prefix", by="install", env={"PATH": f"{self.folder}/bin:{os.environ['PATH']}"})
+        self.assertEqual((status, out), (7, "build 1: --version: \n"))
+
+
+class Fails(Repository):
+    def test_without_the_toolchain(self):
+        self.fails("no proved program is here, and the toolchain's command rt is not on the PATH: add its folder", "run", with_rt=False)
+        self.fails("the toolchain's command rt is not on the PATH: add its folder", by="build", with_rt=False)
+        self.builds(1)
+        self.assertEqual(self.ran("run", given="text", with_rt=False), (7, "build 1: run: text\n", ""))
+
+    def test_no_answer(self):
+        says = {"checked: no-answer: the program did not end within the time limit\nrun=no-answer proved=no\n":
+                f"no answer: an unproved run has a minute and writes at most 1 MiB\\. {ADVICE}, without these limits",
+                "src/main.rt:1:1: error[x]: y\nrun=none proved=no\n": "no answer: the unproved run failed, as rt says above",
+                "": "no answer: the unproved run failed, as rt says above"}
+        for said, why in says.items():
+            with self.subTest(said):
+                self.write("says", said)
+                self.fails(why, "run")
+
+    def test_not_proved(self):
+        self.builds(1)
+        self.write(f"{self.top}/crates/low/src/lib.rt", "\n\n")
+        self.write("says", "rt: low NOT PROVED\n")
+        for words in ((), ("--all",)):
+            status, out, err = self.ran(*words, by="build")
+            self.assertEqual((status, err), (125, "ilocfarm: not proved, so not built: out/build.log has what rt said\n"))
+            self.assertRegex(out, r"\A(low NOT PROVED, 1 of 3|rt: low NOT PROVED)\n\Z")
+        os.remove(f"{self.folder}/says")
+        self.answers_unproved()
+
+    def test_input(self):
+        folder = os.open(self.folder, os.O_RDONLY)
+        self.addCleanup(os.close, folder)
+        why = r"standard input can't be read and kept: .*{}.* Give blocks, as in ./ilocfarm run < FILE"
+        self.fails(why.format("Is a directory"), "run", stdin=folder)
+        self.script("closing", f'#!/bin/sh\nexec "{self.top}/ilocfarm" "$@" <&-\n')
+        self.fails(why.format("Bad file descriptor"), "run", by=f"{self.folder}/closing")
+        with open(f"{self.folder}/large", "wb+") as large:
+            large.truncate(64 << 20)
+            self.fails(f"an unproved run reads less than 64 MiB\\. {ADVICE}, without this limit", "run", stdin=large)
+
+    def test_output(self):
+        with open("/dev/full", "wb") as full:
+            started = self.start("run")
+            script = [f"{self.top}/ilocfarm", "run"]
+            given = {"PATH": f"{self.folder}/bin:{self.folder}/tools", "TEST": self.folder}
+            ran = subprocess.run(script, stdin=subprocess.DEVNULL, stdout=full, stderr=subprocess.PIPE, text=True, env=given)
+            started.communicate("", timeout=SECONDS)
+        self.assertEqual(ran.returncode, 125)
+        self.assertRegex(ran.stderr, r"\nilocfarm: standard output can't be written\n\Z")
+
+    def test_no_place_for_files(self):
+        nowhere = {"env": {"TMPDIR": f"{self.folder}/nowhere"}}
+        why = "no temporary folder can be made: free some space, or set TMPDIR"
+        self.fails(why, "run", **nowhere)
+        self.fails(why, by="build", **nowhere)
+        shutil.rmtree(f"{self.top}/out")
+        self.write(f"{self.top}/out", "")
+        self.fails(f"{self.top}/out can't be written: make it writable, or build in a copy of the repository", by="build")
+
+    def test_no_repository(self):
+        shutil.copy2(f"{self.top}/ilocfarm", self.folder)
+        shutil.copy2(f"{self.top}/launcher.sh", self.folder)
+        self.fails(f"no crates.txt in {self.folder}: start this in its repository, or by a link to it", by=f"{self.folder}/ilocfarm")
+
+    def test_signals(self):
+        advice = {"ilocfarm": ADVICE, "build": "The crates that were proved are kept: ./build goes on with the others"}
+        for by, number in [(by, number) for by in advice for number in ENDING]:
+            with self.subTest(f"{by} {number.name}"):
+                started, child = self.has_begun(by=by)
+                started.send_signal(number)
+                status, out, err = self.ended(started)
+                self.assertEqual((status, out), (125, ""))
+                self.assertRegex(err, rf"(\A|\n)ilocfarm: stopped\. {advice[by]}\n\Z")
+                self.assertFalse(is_running(child))
+                os.remove(f"{self.folder}/child")
+        for by in advice:
+            with self.subTest(f"{by} killed"):
+                started, child = self.has_begun(by=by)
+                started.kill()
+                until("rt has ended", lambda: not is_running(child))
+                os.remove(f"{self.folder}/child")
+        shutil.rmtree(f"{self.folder}/tmp")     # nothing can remove what a killed one has there
+        os.mkdir(f"{self.folder}/tmp")
+        self.builds(self.text("asked").count("ci") + 1)
+
+
+class Real(Repository):
+    def test_toolchain(self):
+        """What the real rt says of an unproved run is understood: a program ends well, and one has no end."""
+        shutil.rmtree(f"{self.top}/crates")
+        self.write(f"{self.top}/crates.txt", "ilocfarm:\n")
+        os.makedirs(f"{self.top}/crates/ilocfarm/src")
+        self.write(f"{self.top}/crates/ilocfarm/src/main.rt", """#![tactic(auto)]
+
+use std::io;
+
+fn main(rt: HostRuntime) -> io::Result<()> {
+    for line in rt.lines(rt.alloc()) {
+        let text = line?;
+        println!(rt; "{text}")?;
+        eprintln!(rt; "ilocfarm: a word")?;
+    }
+    Ok(())
+}
+""")
+        status, out, err = self.ran("run", given="one\ntwo\n", env={"PATH": os.environ["PATH"]})
+        self.assertEqual((status, out), (0, "one\ntwo\n"))
+        self.assertRegex(err, rf"\A{UNPROVED}(ilocfarm: a word\n){{2}}\Z")
+
+
+class Time(Repository):
+    def test_start(self):
+        self.with_crates(self.text(f"{TOP}/crates.txt"))
+        for it in os.listdir(f"{TOP}/crates"):
+            for part in ("src", "specs", "proofs"):
+                if os.path.isdir(f"{TOP}/crates/{it}/{part}"):
+                    shutil.copytree(f"{TOP}/crates/{it}/{part}", f"{self.top}/crates/{it}/{part}", dirs_exist_ok=True)
+        self.builds(1)
+
+        def seconds(command):
+            begun = time.perf_counter()
+            self.ended(self.start("run", by=command))
+            return time.perf_counter() - begun
+        started, alone = (min(seconds(it) for _ in range(20)) for it in ("ilocfarm", "out/ilocfarm"))
+        print(f"a start takes {1000 * started:.1f} ms, of which the program, here a script, takes {1000 * alone:.1f} ms")

@@ -1,0 +1,129 @@
+"""What `check` must say of schedules that others made.
+
+What is right is worked out anew: texts are read by reader.py, rows and blocks are run on machine.py, our cycles and
+the least ones come of scheduler.py. So a verdict may never be `same` where a run differs on some memory, `differs` has
+to name the place that differs, and schedules of the kinds in students.py that are right have to be found so.
+"""
+import re
+from functools import cache
+
+from harness.program import told
+from limits import WORDS
+from oracle.machine import bad_row, cycles, difference, memories, row_text, words_from
+from oracle.operations import words_for
+from oracle.reader import NoBlocks, Refused, read
+from oracle.scheduler import Schedule
+
+AT = 1024
+# Each verdict that a run doesn't settle is tried on so many memories.
+MEMORIES = 24
+NOT_SAME = 5
+ENTRY = re.compile(rb"block (\d+) (\S+) (same|agrees|differs|units) cycles (\d+) ours (\d+) least (\d+)"
+                   rb"(?: claimed (\d+))?\n(?:  ([^\n]*)\n)?")
+MADE_UP = re.compile(r"(.*) with --at (\d+)((?: \d+)*)")
+
+
+def request(latencies, words=()):
+    """The words of a command line."""
+    return ["check", *words_for(latencies), *map(str, words)]
+
+
+def proposed(number, name, rows, claim=None):
+    """Rows for a block, as `schedule` lists them."""
+    ends = [] if claim is None else [f"cycles {claim}"]
+    return "".join(f"{line}\n" for line in [f"block {number} {name}", *map(row_text, rows), *ends]).encode()
+
+
+@cache
+def explained(lines, latencies):
+    """The cycles of our schedule of a block, and the least ones."""
+    ours = Schedule(read(lines.encode())[0].ops if lines else [], dict(latencies))
+    return ours.cycles(), ours.least()
+
+
+class Entry:
+    """What is right of one entry of the listing."""
+
+    def __init__(self, number, block, latencies, start):
+        self.number, self.block, self.latencies = number, block, latencies
+        self.cycles = cycles(block.rows, latencies)
+        self.ours, self.least = explained("\n".join(map(str, block.ops)), tuple(latencies.items()))
+        self.bad = bad_row(block.rows)
+        self.place = None if self.bad else difference(block.ops, block.rows, latencies, start)
+
+    def numbers(self):
+        claim = self.block.claim
+        claimed = "" if claim in (None, self.cycles) else f" claimed {claim}"
+        return f"cycles {self.cycles} ours {self.ours} least {self.least}{claimed}"
+
+    def text(self, verdict, detail=""):
+        below = f"  {detail}\n" if detail else ""
+        return f"block {self.number} {self.block.name} {verdict} {self.numbers()}\n{below}"
+
+    def settled(self):
+        """The entry, where the rules of the units or the memory asked for decide; else None."""
+        if self.bad:
+            return self.text("units", f"row {self.bad}: {row_text(self.block.rows[self.bad - 1])}")
+        return self.text("differs", self.place) if self.place else None
+
+    def differs_on(self, start):
+        return difference(self.block.ops, self.block.rows, self.latencies, start)
+
+    def wrong(self, got, is_right):
+        """What is wrong with an entry, as a Match of ENTRY."""
+        verdict, detail = got[3].decode(), (got[8] or b"").decode()
+        if got[0].decode() != (self.settled() or self.text(verdict, detail)):
+            yield f"{got[0]!r} in place of {self.settled() or self.text('..')!r}"
+        elif self.settled():
+            return
+        elif verdict == "differs":
+            yield from self.wrong_memory(detail)
+        elif detail or verdict == "units":
+            yield f"{got[0]!r} has something below it"
+        elif is_right and verdict != "same":
+            yield f"{got[0]!r} is right"
+        elif verdict == "same":
+            places = filter(None, map(self.differs_on, memories(MEMORIES)))
+            yield from (f"{got[0]!r} differs: {place}" for place in [next(places, None)] if place)
+
+    def wrong_memory(self, detail):
+        """What is wrong with a difference on a memory that the judge made up."""
+        made = MADE_UP.fullmatch(detail)
+        at, words = (int(made[2]), [*map(int, made[3].split())]) if made else (0, [])
+        if not made or at % 4 or at // 4 + len(words) > WORDS or self.differs_on(words_from(at, words)) != made[1]:
+            yield f"{detail!r} isn't so"
+
+
+def entries_of(given, latencies, start):
+    blocks = read(given)
+    if not blocks:
+        raise NoBlocks("no blocks")
+    return [Entry(k, block, latencies, start) for k, block in enumerate(blocks, 1)]
+
+
+def total(entries):
+    return "total {} ours {} least {}\n".format(*(sum(getattr(it, name) for it in entries)
+                                                  for name in ("cycles", "ours", "least")))
+
+
+def wrong_ending(ending, given, latencies, words=(), is_right=False):
+    """What is wrong with how a run of `check` ended."""
+    status, out, err = ending
+    try:
+        entries = entries_of(given, latencies, words_from(AT, words))
+    except Refused as why:
+        if ending != (1, b"", f"ilocfarm: {why}\n".encode()):
+            yield f"{told(ending)} in place of {why}"
+        return
+    at, verdicts = 0, set()
+    for entry in entries:
+        got = ENTRY.match(out, at)
+        if not got:
+            yield f"block {entry.number}: {out[at:at + 100]!r}"
+            return
+        at, verdicts = got.end(), verdicts | {got[3]}
+        yield from entry.wrong(got, is_right)
+    if out[at:] != total(entries).encode() or err:
+        yield f"{out[at:]!r} in place of {total(entries)!r}, {err!r}"
+    if status != (0 if verdicts <= {b"same"} else NOT_SAME):
+        yield f"status {status} of {verdicts}"

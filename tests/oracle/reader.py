@@ -1,0 +1,152 @@
+"""Reads blocks and the schedules proposed for them, line by line, as docs/LANGUAGE.md says."""
+import re
+from dataclasses import dataclass, field
+
+from forms import FORMS
+from limits import MAX_NUMBER, MOST_BLOCKS, MOST_BYTES, MOST_OPERATIONS
+from oracle.operations import Op
+
+BLANKS = b" \t\r"
+NAME = rb"[A-Za-z][A-Za-z0-9_]*"
+TOKENS = {"u": rb"r([0-9]+)", "d": rb"r([0-9]+)", "c": rb"([0-9]+)", ", ": rb"[ \t\r]*,[ \t\r]*",
+          " => ": rb"[ \t\r]*=>[ \t\r]*"}
+
+
+def operation_form(opcode, form):
+    operands = b"".join(TOKENS[token] for token in re.findall(", | => |[udc]", form))
+    return re.compile(opcode.encode() + (rb"[ \t\r]+" if form else b"") + operands)
+
+
+OPERATIONS = {opcode.encode(): (opcode, operation_form(opcode, form)) for opcode, form in FORMS.items()}
+LABEL = re.compile(rb"(" + NAME + rb")[ \t\r]*:")
+HEAD = re.compile(rb"block[ \t\r]+([0-9]+)[ \t\r]+(-|" + NAME + rb")")
+COUNT = re.compile(rb"(cycles|total)[ \t\r]+([0-9]+)")
+
+
+class Refused(Exception):
+    """Why a text is refused, as the program tells it."""
+
+
+class NoBlocks(Refused):
+    """A text for `check` that has no blocks, at whatever line that shows."""
+
+
+@dataclass
+class Block:
+    name: str
+    ops: list = field(default_factory=list)
+    rows: list = field(default_factory=list)
+    issued: int = 0     # operations in the rows
+    claim: int = None
+
+
+def operation_of(text):
+    opcode, form = OPERATIONS.get(re.match(rb"[A-Za-z]*", text)[0], (None, None))
+    found = form and form.fullmatch(text)
+    return Op(opcode, [int(it) for it in found.groups()]) if found else None
+
+
+def schedule_line(text):
+    """The kind of a schedule line with what it says, or None."""
+    if text[:1] == b"[" and text[-1:] == b"]":
+        slots = [operation_of(it.strip(BLANKS)) for it in text[1:-1].split(b";")]
+        return ("row", slots) if len(slots) == 2 and None not in slots else None
+    if found := HEAD.fullmatch(text):
+        return "head", (int(found[1]), found[2].decode())
+    if found := COUNT.fullmatch(text):
+        return found[1].decode(), int(found[2])
+    return None
+
+
+def numbers_of(kind, said):
+    if kind == "row":
+        return [n for op in said for n in op.numbers]
+    return [said[0] if kind == "head" else said]
+
+
+def plain_line(text):
+    """The label and the operation of a line of a block, None for each that isn't there."""
+    label = LABEL.match(text)
+    rest = text[label.end():].strip(BLANKS) if label else text
+    op = operation_of(rest) if rest else None
+    if rest and not op:
+        raise Refused("not understood")
+    if op and max(op.numbers, default=0) > MAX_NUMBER:
+        raise Refused(f"number above {MAX_NUMBER}")
+    return label and label[1].decode(), op
+
+
+class Reader:
+    def __init__(self):
+        self.blocks, self.head, self.is_behind = [], 0, False
+
+    def read(self, text):
+        """The blocks of the text, or Refused."""
+        if len(text) > MOST_BYTES:
+            raise Refused(f"input longer than {MOST_BYTES} bytes")
+        for number, line in enumerate(text.split(b"\n"), 1):
+            try:
+                self.line(line.split(b"//")[0].strip(BLANKS))
+            except NoBlocks:
+                raise
+            except Refused as why:
+                raise Refused(f"line {number}: {why}") from None
+        return self.blocks
+
+    def line(self, text):
+        found = schedule_line(text)
+        if found and not self.blocks:
+            raise NoBlocks("no blocks")
+        if found:
+            self.is_behind = True
+            self.schedule_line(*found)
+        elif self.is_behind and text:
+            raise Refused("not understood")
+        elif text:
+            self.block_line(*plain_line(text))
+
+    def block_line(self, label, op):
+        if label or not self.blocks:
+            if len(self.blocks) == MOST_BLOCKS:
+                raise Refused(f"more than {MOST_BLOCKS} blocks")
+            self.blocks.append(Block(label or "-"))
+        if op:
+            self.blocks[-1].ops.append(op)
+            few(len(self.blocks[-1].ops))
+
+    def schedule_line(self, kind, said):
+        if max(numbers_of(kind, said), default=0) > MAX_NUMBER:
+            raise Refused(f"number above {MAX_NUMBER}")
+        if kind == "head":
+            self.start(*said)
+        elif kind == "cycles":
+            self.current().claim = said
+        elif kind == "row":
+            self.issue([None if op.opcode == "nop" else op for op in said])
+
+    def start(self, number, name):
+        if not self.head < number <= len(self.blocks) or self.blocks[number - 1].name != name:
+            raise Refused("no such block")
+        self.head = number
+
+    def current(self):
+        if not self.head and len(self.blocks) != 1:
+            raise Refused("no such block")
+        self.head = self.head or 1
+        return self.blocks[self.head - 1]
+
+    def issue(self, row):
+        block = self.current()
+        block.rows.append(row)
+        block.issued += sum(op is not None for op in row)
+        few(block.issued)
+
+
+def few(count):
+    if count > MOST_OPERATIONS:
+        raise Refused(f"more than {MOST_OPERATIONS} operations in a block")
+
+
+def read(text):
+    """The blocks of a text with the rows for each, or Refused."""
+    return Reader().read(text)

@@ -1,0 +1,159 @@
+"""Delays, the one greedy schedule of a block with its reasons, and the lower bound: worked out anew, over all pairs."""
+from oracle.machine import cycles, keeps_units
+from oracle.operations import Op
+
+SHARES = (({"load", "store"}, 1), ({"mult"}, 1), ({"output"}, 1), (None, 2))    # kinds, and how many a row can hold
+
+
+def renamed(ops):
+    names, made, given = {}, [], 0
+    for op in ops:
+        numbers = []
+        for number, role in zip(op.numbers, op.roles):
+            if role == "u":
+                if number not in names:
+                    names[number], given = given, given + 1
+                number = names[number]
+            numbers.append(number)
+        if op.defined:
+            names[op.defined[0]], given = given, given + 1
+            numbers[op.roles.index("d")] = given - 1
+        made.append(Op(op.opcode, numbers))
+    return made
+
+
+def memory_delays(first, second, latencies):
+    """By memory and by the order of outputs."""
+    kinds = (first.kind, second.kind)
+    if kinds in {("store", "load"), ("store", "output")}:
+        return {first.latency(latencies)}
+    return {1} if kinds in {("load", "store"), ("store", "store"), ("output", "store"), ("output", "output")} else set()
+
+
+def delays(first, second, latencies):
+    uses = set(first.defined) & set(second.used)
+    return memory_delays(first, second, latencies) | ({first.latency(latencies)} if uses else set())
+
+
+def pairs_of(ops, latencies):
+    """Two operations' numbers and the cycles from one to the other, for each delay."""
+    return [(i, j, d) for j in range(len(ops)) for i in range(j) for d in delays(ops[i], ops[j], latencies)]
+
+
+def befores_of(ops, pairs):
+    return [[(i, d) for i, k, d in pairs if k == j] for j in range(len(ops))]
+
+
+def beside(a, b):
+    """Whether two operations may stand in one row."""
+    return keeps_units((a, b)) or keeps_units((b, a))
+
+
+class Schedule:
+    """The one greedy schedule of a block by a heuristic, and why it is so."""
+
+    def __init__(self, ops, latencies, by="chain"):
+        self.latencies = latencies
+        self.originals = [op for op in ops if op.opcode != "nop"]
+        self.ops = renamed(self.originals)
+        self.pairs = pairs_of(self.ops, latencies)
+        self.before = befores_of(self.ops, self.pairs)
+        self.priorities = [op.latency(latencies) for op in self.ops]
+        for i, j, d in sorted(self.pairs, reverse=True):
+            self.priorities[i] = max(self.priorities[i], d + self.priorities[j])
+        self.ranks = self.ranked(by)
+        self.places, self.rows = {}, []
+        while len(self.places) < len(self.ops):
+            self.issue(len(self.rows))
+
+    def ranked(self, by):
+        if by == "slack":
+            return [start + rest for start, rest in zip(starts_of(self.ops, self.pairs), self.priorities)]
+        if by == "descendants":
+            behind = [set() for _ in self.ops]
+            for i, j, _ in sorted(self.pairs, reverse=True):
+                behind[i] |= {j} | behind[j]
+            return [*map(len, behind)]
+        return {"chain": self.priorities, "order": [0] * len(self.ops),
+                "latency": [op.latency(self.latencies) for op in self.ops],
+                "successors": [len({j for k, j, _ in self.pairs if k == i}) for i in range(len(self.ops))]}[by]
+
+    def ready(self, j):
+        return max([0, *(self.places[i][0] + d for i, d in self.before[j])])
+
+    def issue(self, cycle):
+        """Issues in this cycle the first that is ready, and the first that may stand beside it."""
+        waiting = [j for j in range(len(self.ops)) if j not in self.places
+                   and all(i in self.places for i, _ in self.before[j]) and self.ready(j) <= cycle]
+        waiting.sort(key=lambda j: (-self.ranks[j], j))
+        first = next(iter(waiting), None)
+        second = next((j for j in waiting[1:] if beside(self.ops[first], self.ops[j])), None)
+        for chosen in ((first, second), (second, first)):
+            row = [None if j is None else self.ops[j] for j in chosen]
+            if keeps_units(row):
+                break
+        self.rows.append(row)
+        self.places.update((j, (cycle, unit)) for unit, j in enumerate(chosen) if j is not None)
+
+    def after(self, j, ready):
+        ended = {i for i, d in self.before[j] if self.places[i][0] + d == ready}
+        return ",".join(map(str, sorted(ended, key=lambda i: self.places[i]))) or "-"
+
+    def chain(self):
+        if not self.ops:
+            return "-"
+        found = [self.priorities.index(max(self.priorities))]
+        while True:
+            last = found[-1]
+            goes_on = [j for i, j, d in self.pairs if i == last and d + self.priorities[j] == self.priorities[last]]
+            if not goes_on:
+                return " ".join(map(str, found))
+            found.append(min(goes_on))
+
+    def cycles(self):
+        return cycles(self.rows, self.latencies)
+
+    def least(self):
+        return least_of(self.ops, self.pairs, self.latencies)
+
+    def lines(self):
+        for j, op in enumerate(self.ops):
+            cycle, unit = self.places[j]
+            ready = self.ready(j)
+            yield (f"{j} cycle {cycle} unit {unit} ready {ready} after {self.after(j, ready)}"
+                   f" priority {self.priorities[j]} {self.originals[j]} ; {op}")
+        yield f"cycles {self.cycles()} least {self.least()}"
+        yield f"chain {self.chain()}"
+
+
+def needed(width, tails):
+    """What operations with these tails need: of the first j + 1 one is issued j // width cycles after the first row."""
+    return max([0, *(j // width + tail for j, tail in enumerate(sorted(tails, reverse=True)))])
+
+
+def starts_of(ops, pairs):
+    starts = [0] * len(ops)
+    for i, j, d in sorted(pairs, key=lambda pair: pair[1]):
+        starts[j] = max(starts[j], d + starts[i])
+    return starts
+
+
+def tails_of(ops, pairs, latencies):
+    tails = [op.latency(latencies) for op in ops]
+    for i in reversed(range(len(ops))):
+        tails[i] = max([tails[i], *(d + tails[j] for k, j, d in pairs if k == i)])
+        if ops[i].kind == "store":
+            loads = [tails[j] for j in range(i + 1, len(ops)) if ops[j].kind == "load"]
+            tails[i] = max(tails[i], ops[i].latency(latencies) + needed(1, loads))
+    return tails
+
+
+def least_of(ops, pairs, latencies):
+    """The greatest over shares and starts of a start and what the operations from that start on need."""
+    starts, tails = starts_of(ops, pairs), tails_of(ops, pairs, latencies)
+    bounds = [0]
+    for kinds, width in SHARES:
+        shared = [i for i, op in enumerate(ops) if not kinds or op.kind in kinds]
+        for start in {starts[i] for i in shared}:
+            bounds.append(start + needed(width, [tails[i] for i in shared if starts[i] >= start]))
+    return max(bounds)

@@ -1,0 +1,256 @@
+#!/usr/bin/env python3
+"""What each public contract promises, collected from the sources into docs/PROMISES.md.
+
+    tests/pages/promises.py --write     writes the page
+    tests/pages/promises.py --check     compares the page with the sources, as test_promises.py does
+
+A row is a public call with an `ensures`, or a public type whose comment has a promise. Its sentence is the paragraph
+of its `///` that begins with `Promise:`, or the first one where none does. Its definitions are the modules of specs/
+that its clauses cite; below the rows are all that these and the public ghost items reach, in the crates below too.
+What is public is read from `pub use` and `pub mod` in src/lib.rt. Definitions of the toolchain's libraries are left
+out. The last line of --check counts the crates.
+"""
+import os
+import re
+import sys
+from dataclasses import dataclass
+
+TOP = os.path.dirname(os.path.dirname(os.path.dirname(os.path.abspath(__file__))))
+CRATES = os.path.join(TOP, "crates")
+PAGE = os.path.join(TOP, "docs", "PROMISES.md")
+HEAD = """# Promises
+
+What each public contract promises, crate by crate: the call, its promise, the clauses that carry it, and the \
+definitions that these cite, modules of `specs/`. `tests/pages/promises.py --write` makes this page from the sources. \
+[PROOFS.md](PROOFS.md) says how to read it, and what isn't promised.
+"""
+WORD = re.compile(r"[^\W\d][\w-]*")
+IMPORT = re.compile(r"^\s*(?:pub )?(?:ghost )?use Rattle\.(\w+)\.specs\.([\w.+-]+?)(?:\.\{([^}]*)\})?"
+                    r"(?: as (\w+))?;?\s*$", re.MULTILINE)
+FUNCTION = re.compile(r"^(?P<indent> *)pub (?:const )?fn (?P<name>\w+)", re.MULTILINE)
+METHOD = re.compile(r"^(?P<indent> *)fn (?P<name>\w+)", re.MULTILINE)
+OUTSIDE = re.compile(r"^(?P<indent>)pub (?:const )?fn (?P<name>\w+)", re.MULTILINE)
+BLOCK = re.compile(r"^(?:pub )?(impl|trait)\b([^{;]*)\{", re.MULTILINE)
+TYPE = re.compile(r"^pub (?:struct|enum|trait) (\w+)[^{;]*[{;]", re.MULTILINE)
+GHOST = re.compile(r"^ *(?:pub )?ghost (?!use\b|view\b|invariant\b)\w+\s*[:=]\s*\{", re.MULTILINE)
+PUBLIC_GHOST = re.compile(r"^ *pub ghost \w+\s*:\s*\{", re.MULTILINE)
+CLAUSE = re.compile(r"\b(requires|ensures)\s*(\w*)\s*\{")
+
+
+@dataclass
+class Row:
+    """A public item: its name, its promise, the clauses that carry it, and the modules that its contract cites."""
+    name: str
+    promise: str
+    clauses: list
+    cited: set
+
+
+def read(path):
+    with open(path, encoding="utf-8") as file:
+        return file.read()
+
+
+def end_of(text, start):
+    """After the brace that closes the one before `start`."""
+    depth = 1
+    while depth:
+        depth += {"{": 1, "}": -1}.get(text[start], 0)
+        start += 1
+    return start
+
+
+def head_of(text, function):
+    """A function up to its body, which begins at a line that ends with a brace and has no clause, or at a semicolon."""
+    begins = re.compile(rf"^{function['indent']}\{{|;\n|\{{\n?\s*\}}\n|^(?!.*\b(?:requires|ensures)\b).*\{{$",
+                        re.MULTILINE)
+    found = begins.search(text, function.start())
+    return text[function.start():found.start() if found else len(text)] + "}" * 9
+
+
+def promise_above(source, start):
+    """The promise in the comment above the item that starts here, and whether it is marked as one."""
+    lines = []
+    for line in reversed(source[:start].splitlines()):
+        if not line.lstrip().startswith(("///", "#[")):
+            break
+        lines.append(line.strip())
+    text = "\n".join(it[3:].strip() for it in reversed(lines) if it.startswith("///"))
+    paragraphs = [" ".join(it.split()) for it in re.split(r"\n\n|\n(?=Promise: )", text)]
+    marked = [it.removeprefix("Promise: ") for it in paragraphs if it.startswith("Promise: ")]
+    return " ".join(marked) or paragraphs[0], bool(marked)
+
+
+class Module:
+    """A file of src/. Comments are blanked in `text`, so that places are the same in both."""
+
+    def __init__(self, path):
+        self.source = read(path)
+        self.text = re.sub(r"//[^\n]*", lambda it: " " * len(it[0]), self.source)
+        self.names = imports(self.text)
+
+    def rows(self, prefix, place, functions, names):
+        """A row for each of these functions within a place."""
+        for it in functions.finditer(self.text, *place):
+            head = head_of(self.text, it)
+            clauses = list(CLAUSE.finditer(head))
+            cited = cited_in(" ".join(head[clause.end():end_of(head, clause.end())] for clause in clauses), names)
+            promise, _ = promise_above(self.source, it.start())
+            yield Row(prefix + it["name"], promise, [clause[2] for clause in clauses if clause[1] == "ensures"], cited)
+
+    def ghosts(self, place, items, names):
+        """The modules that these ghost items within a place cite."""
+        return set().union(*(cited_in(self.text[it.end():end_of(self.text, it.end())], names)
+                             for it in items.finditer(self.text, *place)))
+
+    def types(self, public):
+        """A row for each public type. Its clause is the type itself where its comment marks a promise."""
+        for it in TYPE.finditer(self.text):
+            if it[1] in public:
+                end = end_of(self.text, it.end()) if it[0].endswith("{") else it.end()
+                promise, marked = promise_above(self.source, it.start())
+                cited = self.ghosts((it.start(), end), PUBLIC_GHOST, self.names)
+                yield Row(it[1], promise, ["the type"] * marked, cited)
+
+    def blocks(self):
+        """Each impl and trait: its place, which of both, its type, and the names that it and the file import."""
+        for it in BLOCK.finditer(self.text):
+            place = it.start(), end_of(self.text, it.end())
+            of = re.sub(r"<[^<>]*(<[^<>]*>)?[^<>]*>", "", it[2]).split(" for ")[-1].split(":")[0]
+            yield place, it[1], (WORD.findall(of) or [""])[0], {**self.names, **imports(self.text[slice(*place)])}
+
+
+class Crate:
+    def __init__(self, name):
+        self.name = name
+        folder = os.path.join(CRATES, name, "src")
+        paths = (os.path.join(place, file) for place, _, files in os.walk(folder) for file in files)
+        self.files = {os.path.relpath(it, folder)[:-3]: Module(it) for it in paths if it.endswith(".rt")}
+        root = self.files["lib"]
+        self.title = " ".join(re.match(r"(//! .*\n)+", root.source)[0].replace("//! ", "").split())
+        uses = re.findall(r"^pub use ([^;]*);", root.text, re.MULTILINE)
+        self.names = {word for it in uses for word in WORD.findall(re.split(r"\{|::(?!.*\{)", it)[-1])}
+        self.modules = set(re.findall(r"^pub mod (\w+);", root.text, re.MULTILINE))
+
+    def rows(self):
+        """Each public item; those without a clause count for the definitions alone."""
+        for name, module in sorted(self.files.items()):
+            is_public = name in self.modules
+            yield from module.types(self.names)
+            for place, kind, owner, names in module.blocks():
+                if owner in self.names or is_public:
+                    yield from module.rows(f"{owner}::", place, METHOD if kind == "trait" else FUNCTION, names)
+                    yield Row(owner, "", [], module.ghosts(place, GHOST, names))
+            for row in module.rows(f"{name}::" if is_public else "", (0,), OUTSIDE, module.names):
+                if is_public or row.name in self.names:
+                    yield row
+
+
+def cited_in(text, names):
+    return {names[word] for word in WORD.findall(text) if word in names}
+
+
+def imports(text):
+    """By name the module of definitions that it comes from; types and functions of the code aren't among them."""
+    found = {}
+    for crate, module, names, other in IMPORT.findall(text):
+        if not os.path.isdir(os.path.join(CRATES, crate)) or module.startswith("declared"):
+            continue
+        place = (crate, module)
+        if not names:
+            found[other or module.split(".")[-1]] = place
+        for name in filter(None, (it.strip() for it in names.split(","))):
+            found[name.split(" as ")[-1]] = place
+            for word in WORD.findall(name.split(" as ")[-1]):
+                found[word] = place
+    return found
+
+
+def module_of(place):
+    """The module of specs/ that a path names, which may go on with a type of that module, and its file."""
+    crate, path = place
+    parts = path.split(".")
+    while parts:
+        file = os.path.join(CRATES, crate, "specs", *parts) + ".antt"
+        if os.path.exists(file):
+            return (crate, ".".join(parts)), file
+        parts.pop()
+    raise SystemExit(f"no module {path} in specs/ of {crate}")
+
+
+def reached(places):
+    """These modules, and all that they import."""
+    found, left = set(), list(places)
+    while left:
+        place, file = module_of(left.pop())
+        if place not in found:
+            found.add(place)
+            left += imports(read(file)).values()
+    return found
+
+
+def listed(words):
+    *first, last = words
+    return f"{', '.join(first)} and {last}" if first else last
+
+
+def line_of(row, crate):
+    """The line of the table for a contract."""
+    clauses = " ".join(it if it == "the type" else f"`{it or 'ensures'}`" for it in row.clauses)
+    cited = sorted({module_of(it)[0] for it in row.cited})
+    modules = " ".join(f"`{name}`" if of == crate.name else f"`{of}.{name}`" for of, name in cited)
+    return f"| `{row.name}` | {row.promise} | {clauses} | {modules} |"
+
+
+def section(crate, order):
+    """What the page says of a crate: a line for each contract, and the definitions that all of them reach."""
+    rows = list(crate.rows())
+    found = reached(place for row in rows for place in row.cited)
+    parts = []
+    for name in [crate.name, *(it for it in reversed(order) if it != crate.name)]:
+        modules = sorted(f"`{module}`" for owner, module in found if owner == name)
+        if modules:
+            parts.append(("" if name == crate.name else f"of `{name}` on ") + listed(modules))
+    return "\n".join([
+        f"## {crate.name}", "", crate.title, "", "| Call | Promise | Clauses | Definitions |", "|---|---|---|---|",
+        *(line_of(row, crate) for row in rows if row.clauses), "", f"They rest on {'; '.join(parts)}.", ""])
+
+
+def sections():
+    """By crate what the page has to say of it, lowest first."""
+    names = re.findall(r"^(\w+)(?: [^:\n]*)?:", read(os.path.join(TOP, "crates.txt")), re.MULTILINE)
+    libraries = [it for it in names if os.path.exists(os.path.join(CRATES, it, "src", "lib.rt"))]
+    return {it: section(Crate(it), names) for it in libraries if not it.endswith("_tests")}
+
+
+def faults():
+    """By crate what is wrong with its section of the page: a contract without a sentence, or another text; else ''."""
+    page = read(PAGE)
+    found = {it.split("\n", 1)[0]: f"## {it}".strip() for it in page.split("\n## ")[1:]}
+    due = sections()
+    for name, text in due.items():
+        silent = re.findall(r"^\| (`[\w:]+`) \|  \|", text, re.MULTILINE)
+        if silent:
+            yield name, f"no promise in the comment of {', '.join(silent)}"
+        else:
+            yield name, "" if found.get(name) == text.strip() else "it promises other things: promises.py --write"
+    yield "the page", "" if page.startswith(HEAD) and list(found) == list(due) else "it has other crates"
+
+
+def main():
+    if sys.argv[1:] == ["--write"]:
+        with open(PAGE, "w", encoding="utf-8") as file:
+            file.write("\n".join([HEAD, *sections().values()]))
+    elif sys.argv[1:] == ["--check"]:
+        wrong = list(faults())
+        for name, why in wrong:
+            print(f"{name}: {why or 'ok'}")
+        failed = sum(bool(why) for _, why in wrong)
+        print(f"{len(wrong) - failed} passed, {failed} failed")
+        sys.exit(bool(failed))
+    else:
+        sys.exit(__doc__)
+
+
+if __name__ == "__main__":
+    main()

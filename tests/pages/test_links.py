@@ -1,0 +1,32 @@
+"""The pages lead somewhere: their links, and the files in the table of docs/ARCHITECTURE.md, are there."""
+import glob
+import os
+import re
+import unittest
+
+from pages.promises import CRATES, TOP, read
+
+PAGES = [f"{TOP}/README.md", f"{TOP}/CHANGELOG.md", *sorted(glob.glob(f"{TOP}/docs/*.md"))]
+
+
+class Links(unittest.TestCase):
+    def test_links(self):
+        for page in PAGES:
+            with self.subTest(os.path.basename(page)):
+                for link in re.findall(r"\]\(([^)#:]+)\)", read(page)):
+                    self.assertTrue(os.path.exists(f"{os.path.dirname(page)}/{link}"), link)
+
+    def test_map(self):
+        """Where to find it: each definition, each file of code and each test."""
+        table = read(f"{TOP}/docs/ARCHITECTURE.md").split("## Where to find it", 1)[1].split("\n## ", 1)[0]
+        rows = re.findall(r"^\| ([^|]*) \| ([^|]*) \| ([^|]*) \| ([^|]*) \|$", table, re.M)
+        for what, specs, code, tests in rows[1:]:
+            with self.subTest(what):
+                first, *more = re.findall(r"`([\w/]+)`", specs)
+                crate, folder = first.split("/", 1)[0], os.path.dirname(first.removesuffix("/"))
+                for it in [first, *(f"{folder}/{name}" for name in more if name[0].isupper())]:
+                    self.assertTrue(os.path.exists(f"{CRATES}/{it}.antt") or os.path.isdir(f"{CRATES}/{it}"), it)
+                for it in re.findall(r"`([\w/]+(?:\.rt|/))`", code):
+                    self.assertTrue(glob.glob(f"{CRATES}/{crate}/src/**/{it}", recursive=True), it)
+                for it in re.findall(r"`([\w/]+)`", tests):
+                    self.assertTrue(glob.glob(f"{TOP}/{it}*") or glob.glob(f"{CRATES}/{it}*"), it)

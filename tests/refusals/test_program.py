@@ -1,0 +1,162 @@
+"""Growths of memory and threads that are refused, one at a time or from one on (refuse.c).
+
+A refusal ends the program with status 3, one line that says of what, and nothing written. A thread that is refused,
+or a growth that the C library asks for while it starts one, is a worker that could not be started, but for a thread
+that reads: without it one thread reads the whole text, and all ends as always. A growth that the
+program asks for is want of memory, or, before the last worker is started, may belong to a start. With several workers
+the growths come in another order each time, and each run is judged by what was refused in it.
+
+Where a growth was refused and the program ends as always, who asked for it has to be listed (DOES_WITHOUT), and
+at one place of that function alone. So a body that tries again where it has to answer a refusal is found.
+"""
+from dataclasses import dataclass, field
+
+from bench import inputs
+from forms import USUAL
+from harness.program import TESTED, ending, told
+from harness.suite import Check, table
+from oracle.judge import proposed
+from oracle.reader import read
+from oracle.scheduler import Schedule
+from refusals.refuser import GROWTH, GROWTH_OF_A_START, NOTHING, THREAD, Asked, refusing, symbols, tried_again
+
+NO_MEMORY = (3, b"", b"ilocfarm: out of memory\n")
+NO_WORKER = (3, b"", b"ilocfarm: a worker could not be started\n")
+# As soon as so many runs in a row asked for no growth of the number, none asks for one any more.
+UNTOUCHED = 20
+SAMPLED = 40
+
+SMALL = b"A: loadI 8 => r2\nmult r2, r2 => r2\nstore r2 => r2\nB: output 0\noutput 64\nC: output 2\n"
+BAD = b"output 0\nadd r1 r2 => r3\n"
+# Rows for the small blocks: right ones, one with a wrong word, and two outputs in a row.
+ROWS = (b"block 1 A\n[ loadI 64 => r1 ; nop ]\n[ storeAI r1 => r1, 4 ; nop ]\nblock 2 B\n[ output 64 ; nop ]\n"
+        b"[ nop ; output 0 ]\nblock 3 C\n[ output 2 ; output 2 ]\n")
+NO_ROW = b"a: output 0\nblock 1 a\n[ nop ]\n"
+
+
+@dataclass
+class Tally:
+    """How runs with refusals ended."""
+    run: Asked
+    whole: tuple
+    memory: int = 0
+    workers: int = 0
+    unneeded: dict = field(default_factory=dict)    # how many, by who asked
+    wrong: list = field(default_factory=list)
+
+    def add(self, ending, report, what, goes_on=False):
+        if ending not in self.may_end(report, goes_on):
+            self.wrong.append(f"{self.run}, {what}: {told(ending)}")
+        self.memory += ending == NO_MEMORY
+        self.workers += ending == NO_WORKER
+        if ending == self.whole and report.refused == GROWTH:
+            asker = symbols(TESTED.program).asker(report)
+            self.unneeded[asker] = self.unneeded.get(asker, 0) + 1
+
+    def may_end(self, report, goes_on):
+        """The endings that are right."""
+        if report.refused == NOTHING:
+            return [self.whole]
+        if report.refused in (GROWTH_OF_A_START, THREAD):
+            is_reader = report.started_before < self.run.readers
+            return [self.whole] if is_reader and not goes_on else [NO_WORKER, *[NO_MEMORY] * is_reader]
+        is_starting = report.started_before < self.run.workers and (goes_on or not report.by_worker)
+        return [NO_MEMORY, *[NO_WORKER] * is_starting, *[self.whole] * (not goes_on)]
+
+    def faults(self):
+        unneeded = sum(self.unneeded.values())
+        print(f"{self.run}: {self.memory} without memory, {self.workers} without a worker, {unneeded} unneeded")
+        few = [] if self.memory + self.workers > unneeded else [f"{self.run}: hardly anything was refused"]
+        return self.wrong + few + [f"{self.run}: {it}" for it in tried_again(self.unneeded)]
+
+
+def middling():
+    draw = inputs.Draw()
+    return b"".join(inputs.block(draw, f"L{number}", 4 + draw.below(20), range(16)) for number in range(40))
+
+
+def long_text():
+    """The middling blocks with long comments between them: two threads read this text, and then two more work."""
+    return middling().replace(b"\nL", b"\n//" + b" " * 7000 + b"\nL")
+
+
+def middling_rows():
+    """Our schedules of the middling blocks, of which every third lacks its last row."""
+    for number, block in enumerate(read(middling()), 1):
+        rows = Schedule(block.ops, USUAL).rows
+        yield proposed(number, block.name, rows[:-1] if number % 3 == 0 else rows)
+
+
+def runs(name, given, rows):
+    yield Asked(["run", "--at", "0", "5", "6"], name, given)
+    yield Asked(["simulate"], name, given)
+    yield Asked(["explain"], name, given)
+    yield Asked(["graph"], name, given)
+    yield Asked(["check", "--at", "0", "5", "6"], name, given + rows)
+    for command in ("schedule", "counts"):
+        for workers in (1, 8):
+            yield Asked([command, "--workers", str(workers)], name, given, workers)
+
+
+def few_runs():
+    yield from runs("3 blocks", SMALL, ROWS)
+    yield Asked(["counts"], "a bad line", BAD)
+    yield Asked(["check"], "a bad row", NO_ROW)
+    yield Asked(["run", "--help"], "nothing", b"")
+    yield Asked(["run", "--at", "2"], "nothing", b"")
+    yield Asked([], "nothing", b"")
+
+
+def long_runs():
+    """A fault of the text is told though no thread could be started that reads."""
+    for command in ("schedule", "counts"):
+        yield Asked([command, "--workers", "2"], "a long text", long_text(), 4, 2)
+        yield Asked([command, "--workers", "2"], "a long text with a fault", long_text() + b"add r1 r2 => r3\n", 2, 2)
+
+
+def refusal_checks():
+    for asked in [*few_runs(), *runs("40 blocks", middling(), b"".join(middling_rows())), *long_runs()]:
+        yield Check(f"refusals/growths/{asked}", growths, asked)
+        yield Check(f"refusals/from_one_on/{asked}", from_one_on, asked)
+        if asked.workers:
+            yield Check(f"refusals/threads/{asked}", threads, asked)
+
+
+def tally_of(asked):
+    """A tally, and how many growths the run asks for where none is refused."""
+    tally = Tally(asked, ending(asked.words, asked.given, env={}))
+    end, report = refusing(asked)
+    tally.add(end, report, "nothing refused")
+    return tally, report.growths
+
+
+def growths(asked):
+    tally, total = tally_of(asked)
+    step = max(1, total // SAMPLED) if TESTED.is_short else 1
+    number = 1
+    untouched = 0
+    while untouched < UNTOUCHED and (step == 1 or number <= total):
+        end, report = refusing(asked, growth=number)
+        tally.add(end, report, f"growth {number}")
+        untouched = 0 if report.refused else untouched + 1
+        number += step
+    return tally.faults()
+
+
+def from_one_on(asked):
+    tally, total = tally_of(asked)
+    for number in range(1, total + 1, max(1, total // SAMPLED)):
+        end, report = refusing(asked, growth=number, on=1)
+        tally.add(end, report, f"from growth {number} on", goes_on=True)
+    return tally.faults()
+
+
+def threads(asked):
+    tally, _ = tally_of(asked)
+    for number in range(1, asked.workers + 2):
+        end, report = refusing(asked, thread=number)
+        tally.add(end, report, f"thread {number}")
+    return tally.faults()
+
+
+load_tests = table(refusal_checks)
