@@ -4,14 +4,15 @@ _ilocfarm() {
     COMPREPLY=()
     case $COMP_CWORD,${COMP_WORDS[COMP_CWORD - 1]} in *,[\<\>]*|*,--at|*,--load|*,--mult|*,--store|*,--workers) return ;; esac
     case $COMP_CWORD,${COMP_WORDS[1]} in
-    1,*) words="run simulate schedule counts explain check help --help --version" ;;
+    1,*) words="run simulate schedule counts explain check graph help --help --version" ;;
     *,run) words="--at --help" ;;
     *,simulate) words="--at --load --store --mult --help" ;;
     *,schedule) words="--workers --load --store --mult --help" ;;
     *,counts) words="--workers --load --store --mult --help" ;;
     *,explain) words="--load --store --mult --help" ;;
     *,check) words="--at --load --store --mult --help" ;;
-    2,help) words="run simulate schedule counts explain check" ;;
+    *,graph) words="--load --store --mult --help" ;;
+    2,help) words="run simulate schedule counts explain check graph" ;;
     *) return ;;
     esac
     mapfile -t COMPREPLY < <(compgen -W "$words" -- "${COMP_WORDS[COMP_CWORD]}")

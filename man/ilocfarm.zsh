@@ -7,6 +7,7 @@ local -a commands=(
     'counts:Schedule each block, and print how many cycles the schedule takes'
     'explain:Schedule each block, and print why the schedule takes its cycles'
     'check:Judge schedules that others made, given after their blocks'
+    'graph:Print the dependence graph of each block, for Graphviz'
     'help:Print this message or the help of the given subcommand(s)'
 )
 if (( CURRENT == 2 )) || [[ $words[2] = help && $CURRENT = 3 ]]; then
@@ -43,6 +44,11 @@ explain) shift words; (( CURRENT-- ))
 check) shift words; (( CURRENT-- ))
     _arguments '--at[Address of the first WORD, a multiple of 4 up to 65532 \[default\: 1024\]]:N:' \
         '--load[Cycles that load and loadAI take, 1 to 16 \[default\: 5\]]:N:' \
+        '--store[Cycles that store and storeAI take, 1 to 16 \[default\: 5\]]:N:' \
+        '--mult[Cycles that mult and multI take, 1 to 16 \[default\: 3\]]:N:' \
+        '--help[Print help]' ;;
+graph) shift words; (( CURRENT-- ))
+    _arguments '--load[Cycles that load and loadAI take, 1 to 16 \[default\: 5\]]:N:' \
         '--store[Cycles that store and storeAI take, 1 to 16 \[default\: 5\]]:N:' \
         '--mult[Cycles that mult and multI take, 1 to 16 \[default\: 3\]]:N:' \
         '--help[Print help]' ;;
