@@ -296,7 +296,7 @@ class Fails(Repository):
         self.fails(f"no crates.txt in {self.folder}: start this in its repository, or by a link to it", by=f"{self.folder}/ilocfarm")
 
     def test_signals(self):
-        advice = {"ilocfarm": ADVICE, "build": "The crates that were proved are kept: ./build goes on with the others"}
+        advice = {"ilocfarm": ADVICE, "build": "No proof is kept: the next ./build proves from nothing"}
         for by, number in [(by, number) for by in advice for number in ENDING]:
             with self.subTest(f"{by} {number.name}"):
                 started, child = self.has_begun(by=by)
