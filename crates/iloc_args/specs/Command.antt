@@ -1,5 +1,5 @@
 -- The program's command line, as the parser reads it.
-use Rattle.std.specs.Prelude.{ℕ, List, [], ◌∷◌, Some, map, pos, codes, true, false}
+use Rattle.std.specs.Prelude.{ℕ, List, [], ◌∷◌, ◌++◌, Some, map, pos, codes, true, false}
 use Rattle.clap.specs.declared.builder.action.ArgAction.TheVariants.{Append, SetTrue}
 use Rattle.clap.specs.declared.builder.value_parser.ValueParser.TheVariants.{Signed}
 use Rattle.clap.specs.Lexer.{usize_max}
@@ -80,21 +80,33 @@ pub record Entry : Type 0 where
 abbrev pub run_entry : Entry
 run_entry = record { name = codes "run"; task = Run; rules = at_rule ∷ words_rule ∷ [] }
 
--- `simulate [--at N] [WORD].. [--load N] [--store N] [--mult N]`
+-- `simulate [--at N] [WORD].. [--load N] [--store N] [--mult N] [--priority NAME]`
 abbrev pub simulate_entry : Entry
-simulate_entry = record { name = codes "simulate"; task = Simulate; rules = at_rule ∷ words_rule ∷ latency_rules }
+simulate_entry = record {
+  name = codes "simulate";
+  task = Simulate;
+  rules = at_rule ∷ words_rule ∷ latency_rules ++ priority_rule ∷ [];
+}
 
--- `schedule [--workers N] [--load N] [--store N] [--mult N]`
+-- `schedule [--workers N] [--load N] [--store N] [--mult N] [--priority NAME]`
 abbrev pub schedule_entry : Entry
-schedule_entry = record { name = codes "schedule"; task = Schedule; rules = workers_rule ∷ latency_rules }
+schedule_entry = record {
+  name = codes "schedule";
+  task = Schedule;
+  rules = workers_rule ∷ latency_rules ++ priority_rule ∷ [];
+}
 
--- `counts [--workers N] [--load N] [--store N] [--mult N]`
+-- `counts [--workers N] [--load N] [--store N] [--mult N] [--priority NAME]`
 abbrev pub counts_entry : Entry
-counts_entry = record { name = codes "counts"; task = Counts; rules = workers_rule ∷ latency_rules }
+counts_entry = record {
+  name = codes "counts";
+  task = Counts;
+  rules = workers_rule ∷ latency_rules ++ priority_rule ∷ [];
+}
 
--- `explain [--load N] [--store N] [--mult N]`
+-- `explain [--load N] [--store N] [--mult N] [--priority NAME]`
 abbrev pub explain_entry : Entry
-explain_entry = record { name = codes "explain"; task = Explain; rules = latency_rules }
+explain_entry = record { name = codes "explain"; task = Explain; rules = latency_rules ++ priority_rule ∷ [] }
 
 -- `check [--at N] [WORD].. [--load N] [--store N] [--mult N]`
 abbrev pub check_entry : Entry

@@ -278,40 +278,44 @@ fn run_command<'a>(alloc: Global) -> Result<Command<'a>, AllocError>
     memory_command(alloc, "run", about, usage)
 }
 
-/// `simulate [--at N] [WORD]... [--load N] [--store N] [--mult N]`
+/// `simulate [--at N] [WORD]... [--load N] [--store N] [--mult N] [--priority NAME]`
 fn simulate_command<'a>(alloc: Global) -> Result<Command<'a>, AllocError>
     ensures { IfOk result (HasApp (app simulate_entry)) }
 {
     let about = "Schedule each block, and run the schedule";
     let usage = "ilocfarm simulate [OPTIONS] [WORD]... < BLOCKS";
-    with_latencies(alloc, memory_command(alloc, "simulate", about, usage))
+    let command = with_latencies(alloc, memory_command(alloc, "simulate", about, usage));
+    with_arg(command, priority_arg(alloc))
 }
 
-/// `schedule [--workers N] [--load N] [--store N] [--mult N]`
+/// `schedule [--workers N] [--load N] [--store N] [--mult N] [--priority NAME]`
 fn schedule_command<'a>(alloc: Global) -> Result<Command<'a>, AllocError>
     ensures { IfOk result (HasApp (app schedule_entry)) }
 {
     let about = "Schedule each block, and print the schedule";
     let usage = "ilocfarm schedule [OPTIONS] < BLOCKS";
-    with_latencies(alloc, workers_command(alloc, "schedule", about, usage))
+    let command = with_latencies(alloc, workers_command(alloc, "schedule", about, usage));
+    with_arg(command, priority_arg(alloc))
 }
 
-/// `counts [--workers N] [--load N] [--store N] [--mult N]`
+/// `counts [--workers N] [--load N] [--store N] [--mult N] [--priority NAME]`
 fn counts_command<'a>(alloc: Global) -> Result<Command<'a>, AllocError>
     ensures { IfOk result (HasApp (app counts_entry)) }
 {
     let about = "Schedule each block, and print how many cycles the schedule takes";
     let usage = "ilocfarm counts [OPTIONS] < BLOCKS";
-    with_latencies(alloc, workers_command(alloc, "counts", about, usage))
+    let command = with_latencies(alloc, workers_command(alloc, "counts", about, usage));
+    with_arg(command, priority_arg(alloc))
 }
 
-/// `explain [--load N] [--store N] [--mult N]`
+/// `explain [--load N] [--store N] [--mult N] [--priority NAME]`
 fn explain_command<'a>(alloc: Global) -> Result<Command<'a>, AllocError>
     ensures { IfOk result (HasApp (app explain_entry)) }
 {
     let about = "Schedule each block, and print why the schedule takes its cycles";
     let usage = "ilocfarm explain [OPTIONS] < BLOCKS";
-    with_latencies(alloc, Ok(bare_command(alloc, "explain", about, usage)))
+    let command = with_latencies(alloc, Ok(bare_command(alloc, "explain", about, usage)));
+    with_arg(command, priority_arg(alloc))
 }
 
 /// `check [--at N] [WORD]... [--load N] [--store N] [--mult N]`
