@@ -25,7 +25,7 @@ class Edit:
         for name, old, new in self.changes:
             text = texts.get(name) or read(f"{folder}/{name}")
             if text.count(old) != 1:
-                raise BadEdit(f"an old text stands {text.count(old)} times in {name}, and not once")
+                raise BadEdit(f"an old text occurs {text.count(old)} times in {name}, and not once")
             texts[name] = text.replace(old, new)
 
 
@@ -57,5 +57,5 @@ def read_edit(path, crate):
         else:
             raise BadEdit(f"a line of another form: {line}")
     if not edit.only or not edit.changes or old:
-        raise BadEdit("it wants a line 'only:', and a line 'old:' with a line 'new:' behind it")
+        raise BadEdit("it needs a line 'only:', and a line 'old:' with a line 'new:' after it")
     return edit

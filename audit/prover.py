@@ -42,7 +42,7 @@ class Prover:
         self.kit = os.path.dirname(os.path.dirname(os.path.realpath(shutil.which("rt"))))
 
     def all_below(self, name):
-        """The crates of the repository that this one stands on, lowest first."""
+        """The crates of the repository that this one uses, lowest first."""
         return [*dict.fromkeys(it for used in self.uses[name] if used in self.uses for it in (*self.all_below(used), used))]
 
     def rlib(self, name):

@@ -6,7 +6,7 @@ from edit import BadEdit
 PLACE = re.compile(r"(note: )?(?:\./)?(\S+?):\d+:\d+: (error: )?(?:(`[^`]*`): )?(.*)")
 VERDICT = re.compile(r"fn \w+::(\S+): ")
 QUOTED = re.compile(r"`[^`]*`")
-# What is said of a text that can't be read. One that reads, and is false, is told in other words.
+# What is said of a text that can't be read. One that reads, and is false, is reported in other words.
 UNREAD = re.compile(r"is not in scope|has no field|is no name|operand is missing|expected the end|cannot continue")
 # What is said of a proof that names what the edit took away, and of what cites that proof.
 GONE = re.compile(r"has no field|is not in scope|has no `|was not admitted")
@@ -29,7 +29,7 @@ class Said:
         self.read(lines)
 
     def read(self, lines):
-        """What is said of a function's body stands above its verdict; what is said of its proof bears the proof's path."""
+        """What is said of a function's body precedes its verdict; what is said of its proof bears the proof's path."""
         above = []
         for line in lines:
             if found := VERDICT.match(line):

@@ -25,7 +25,7 @@ class Operation:
     cycle: int
     unit: int
     number: int = -1    # in the block; what follows is an `explain`'s alone
-    source: str = ""    # as it stands in the block
+    source: str = ""    # as it is in the block
     ready: int = 0
     after: str = ""
     priority: int = 0

@@ -2,7 +2,7 @@
 import sys
 from html import escape
 
-# Text, lines and grid stand on the page's own ground, so they are neither light nor dark.
+# Text, lines and grid are on the page's own ground, so they are neither light nor dark.
 INK = "#7d8590"
 GRID = "#7d859055"
 # What is written into a filled box.

@@ -41,15 +41,15 @@ SAID = {
 }
 
 
-WANTS = "it wants a line 'only:', and a line 'old:' with a line 'new:' behind it"
+WANTS = "it needs a line 'only:', and a line 'old:' with a line 'new:' after it"
 NO_START, UNREAD = "it didn't reach the prover: ", "the edited text can't be read: "
 GONE = "it is refused only since a proof names what it took away: "
 GATES, OF_G = {"gate": "gate: yes\n"}, {"only": "only: g\n", "file": "src/g.rt"}
 # Edits that aren't refused as they have to be: the body that they make, what is said, and how they are made.
 FAIL = {
     "still_proved": ("other", "it is still proved", {}),
-    "old_text_missing": ("wrong", "an old text stands 0 times in src/lib.rt, and not once", {"old": "left"}),
-    "old_text_twice": ("wrong", "an old text stands 2 times in src/lib.rt, and not once", {"old": "f"}),
+    "old_text_missing": ("wrong", "an old text occurs 0 times in src/lib.rt, and not once", {"old": "left"}),
+    "old_text_twice": ("wrong", "an old text occurs 2 times in src/lib.rt, and not once", {"old": "f"}),
     "text_that_does_not_read": ("unread", f"{NO_START}{SAID['unread'][0].strip()}", {}),
     "name_that_is_not_there": ("misnamed", f"{UNREAD}{SAID['misnamed'][0].splitlines()[0]}", {}),
     "proof_that_names_what_is_gone": ("gone", f"{GONE}{SAID['gone'][0].splitlines()[0]}", {}),

@@ -10,7 +10,7 @@ from dataclasses import dataclass
 HERE = os.path.dirname(os.path.abspath(__file__))
 PR_SET_CHILD_SUBREAPER = 36
 TURNS = 100
-# Starts the words behind the two paths and leaves it to be waited for by this program.
+# Starts the words after the two paths and leaves it to be waited for by this program.
 START = 'given=$1; output=$2; shift 2; "$@" <"$given" >"$output" 2>"$output.err" & echo $!'
 
 
@@ -18,7 +18,7 @@ START = 'given=$1; output=$2; shift 2; "$@" <"$given" >"$output" 2>"$output.err"
 class Result:
     """What a program did with an input: status, output and standard error, its times and the most that it held."""
     status: int
-    output: str     # the path of the file; standard error stands in the one beside it
+    output: str     # the path of the file; standard error is in the one beside it
     wall_ms: float
     processor_ms: float
     mebibytes: float

@@ -77,7 +77,7 @@ class Charts(Place):
         return ElementTree.fromstring(out)
 
     def test_timeline(self):
-        """Each operation stands where the listing has it, and its bar is as long as its latency."""
+        """Each operation is drawn where the listing has it, and its bar is as long as its latency."""
         listing = self.call("ilocfarm", "schedule", given=BLOCK)[1]
         root = self.picture("charts/timeline", given=listing)
         self.expect("tooltips", [it.replace("\n", ": ") for it in tooltips(root)], ISSUED)
@@ -164,7 +164,7 @@ class Charts(Place):
         self.expect("totals", texts[-3:], ["total", "24", "6"])
         first, second = [it.findall(f"{SVG}circle")[0] for it in root.iter(f"{SVG}g")]
         scale = {it.text: float(it.get("x")) for it in root.iter(f"{SVG}text") if it.get("text-anchor") == "middle"}
-        self.expect("a mark stands at its cycles", float(second.get("cx")), scale["20"])
+        self.expect("a mark is at its cycles", float(second.get("cx")), scale["20"])
         self.expect("and between", float(first.get("cx")), (4 * scale["0"] + scale["20"]) / 5)
 
     def test_compare_checked(self):

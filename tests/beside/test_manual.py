@@ -23,7 +23,7 @@ COMPLETIONS = (
     (["run", "<", ""], ""),
     (["<", "first.iloc"], ""),
 )
-# How a shell is started, and what it reads the completions by; then what is typed, and what stands there.
+# How a shell is started, and what it reads the completions by; then what is typed, and what the line shows.
 SHELLS = {
     "bash": (["bash", "--norc", "-i"], "source man/ilocfarm.bash"),
     "zsh": (["zsh", "-f", "-i"], "unset zle_bracketed_paste; fpath=($PWD $fpath); autoload compinit; compinit -u -D"),
@@ -126,7 +126,7 @@ class Manual(Place):
             with terminal() as (screen, slave):
                 screen.type("\x04")
                 done = subprocess.run([TESTED.program, *words], stdin=slave, capture_output=True, timeout=SECONDS)
-            self.expect(f"{words}: told", READS_TERMINAL in done.stderr, is_told)
+            self.expect(f"{words}: says that it reads", READS_TERMINAL in done.stderr, is_told)
             self.expect(f"{words}: status", done.returncode, 2 if words[-1] == "x" else 0)
 
     def test_installs(self):
@@ -136,7 +136,7 @@ class Manual(Place):
         self.expect("files", sorted(files_below(self.path("a prefix"))), sorted(wanted))
         for made, source in (("bin/ilocfarm", TESTED.program), ("share/man/man1/ilocfarm.1", PAGE),
                              ("share/ilocfarm/cluster/join", f"{TOP}/cluster/join")):
-            self.expect(f"{made} as it stands", self.read(f"a prefix/{made}") == self.read(source), True)
+            self.expect(f"{made} as it is", self.read(f"a prefix/{made}") == self.read(source), True)
         listing = self.call("ilocfarm", "schedule", given=self.read("examples/dot.iloc"))[1]
         self.expect("timeline", self.call("a prefix/share/ilocfarm/charts/timeline", given=listing),
                self.call("charts/timeline", given=listing))

@@ -179,7 +179,7 @@ sys.exit(status)
 
 
 def little_room(words, start):
-    """What fits is written, and the rest is told."""
+    """What fits is written, and the rest is reported."""
     for size in (0, 3, len(start)):
         got = with_room(size)(words, FIRST)
         if got != (4, start[:size], b"ilocfarm: writing failed\n"):
@@ -203,7 +203,7 @@ def reads_one_byte_too_many():
 
 
 def one_word_many_times(command):
-    """A block that writes one word over and over, and one behind it that reads what the memory started with."""
+    """A block that writes one word over and over, and one after it that reads what the memory started with."""
     writes = b"".join(b"loadI %d => r2\nstore r2 => r1\n" % value for value in range(WRITES))
     given = (b"A: loadI 8 => r1\n" + writes + b"output 8\nB: output 8\n") * 3
     due = b"".join(b"block %d A\n%d\nblock %d B\n7\n" % (k, WRITES - 1, k + 1) for k in (1, 3, 5))

@@ -1,6 +1,6 @@
 """The cases of stored/.
 
-NAME.in is an input, and NAME.args the words behind the program's name, one a line (none: `run`). NAME.status is the
+NAME.in is an input, and NAME.args the words after the program's name, one a line (none: `run`). NAME.status is the
 exit status (none: 0), NAME.out what standard output must have (none: some text), NAME.err what standard error must
 have (none: nothing where the status is 0, else some text). NAME.TAG.out is what other words must print of the same
 input: those of NAME.TAG.args (none: the one word TAG).

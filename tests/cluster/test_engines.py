@@ -79,7 +79,7 @@ class Engines(Place):
     def start_slurm(self):
         """Munge, the controller and one node, which is this machine."""
         folder, host = self.path("slurm"), socket.gethostname().split(".")[0]
-        os.chmod(self.folder, 0o711)       # munged wants its socket within reach of all
+        os.chmod(self.folder, 0o711)       # munged needs its socket within reach of all
         for name in ("", "/state", "/spool"):
             os.mkdir(folder + name, 0o755)
         with open(f"{folder}/slurm.conf", "w", encoding="ascii") as file:

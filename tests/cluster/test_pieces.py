@@ -155,7 +155,7 @@ class Pieces(Place):
         self.expect("joined", self.join(), (3, b"", b"cluster/join: piece 2 has 1 blocks, and its listing others\n"))
 
     def test_first_fault(self):
-        """The first fault decides, whatever became of the pieces behind it."""
+        """The first fault decides, whatever became of the pieces after it."""
         self.two_blocks(b"a: nop\n// b\nb: nop\nadd\nc: add\n")
         for number in (1, 2):
             self.run_piece(number, "counts")

@@ -8,7 +8,7 @@ import unittest
 
 from harness.program import SECONDS, TESTED, TOP, needs, short
 
-# The commands that a page shows, each behind `$ `, with what stands below it; on a page they are indented.
+# The commands that a page shows, each after `$ `, with the lines below it; on a page they are indented.
 COMMAND = re.compile(r"^\$ (.*)\n((?:(?!\$ ).*\n)*)", re.MULTILINE)
 EXAMPLE = re.compile(r"(?:^    .*\n)+", re.MULTILINE)
 

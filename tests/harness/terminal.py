@@ -34,7 +34,7 @@ class Terminal:
 
 
 def shown(line):
-    """What stands in the line of a terminal once this was written into it."""
+    """What the line of a terminal shows once this was written to it."""
     cells = []
     for part in line.split("\r"):
         cells[:len(part)] = part

@@ -36,7 +36,7 @@ def long_texts():
     yield "no end of the last line", blocks[:-1], b""
     yield "carriage returns", blocks.replace(b"\n", b"\r\n"), b""
     yield "labels in comments", blocks.replace(b"\n\t", b"\n// L0: nop\n\t"), b""
-    yield "labels behind blanks", blocks.replace(b"L", b" \t L").replace(b":", b" : nop // :"), b""
+    yield "labels after blanks", blocks.replace(b"L", b" \t L").replace(b":", b" : nop // :"), b""
     yield "comments alone", b"// no label: at all\n" * 40_000, b""
     yield "one line", b"A: nop //" + b" " * 400_000, b""
     yield "a long block", mixed_block(MOST_OPERATIONS) * 3, b""

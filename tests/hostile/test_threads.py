@@ -95,7 +95,7 @@ def none_to_be_had(command):
 
 
 def handed_in(command, text):
-    """The text, for `check` with our schedules of its blocks behind it."""
+    """The text, for `check` with our schedules of its blocks after it."""
     return text + ending(["schedule"], text)[1] if command == "check" else text
 
 

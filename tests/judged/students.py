@@ -86,7 +86,7 @@ def longer_waits(chance, given):
 
 
 def units_exchanged(chance, given):
-    """Rows of operations that may stand on either unit, turned round."""
+    """Rows of operations that either unit may take, turned round."""
     return [row[::-1] if chance.random() < 0.7 and not any(op and op.kind in (*MEMORY, "mult") for op in row) else row
             for row in given.rows]
 
@@ -126,7 +126,7 @@ def may_fault(given, op):
 
 
 def early_stores(chance, given):
-    """A store that is issued before a load or an output that it waits for, and whose word arrives behind it."""
+    """A store that is issued before a load or an output that it waits for, and whose word arrives after it."""
     rows, early = one_a_row(chance, given), [relaxed(given, *it) for it in given.pairs]
     places = {id(op): cycle for cycle, row in enumerate(rows) for op in filter(None, row)}
     moved = False
@@ -161,7 +161,7 @@ def constants_folded(_, given):
 
 
 def products_by_shifts(_, given):
-    """On unit 1, where the product stood; the result is there sooner."""
+    """On unit 1, where the product was; the result is there sooner."""
     def shifted(op):
         is_power = op.opcode == "multI" and op.constant & (op.constant - 1) == 0 and op.constant
         return Op("lshiftI", [op.numbers[0], op.constant.bit_length() - 1, op.numbers[2]]) if is_power else op
@@ -202,7 +202,7 @@ def exchanged(name, kinds):
 
 
 def early(kind):
-    """An operation goes up into some row in which it may stand."""
+    """An operation goes up into some row that may take it."""
     def made(chance, given):
         choices = []
         for cycle, unit in slots_of(given.rows, lambda op: op.kind == kind):
@@ -251,7 +251,7 @@ def missing(name, is_wanted):
 
 
 def row_too_few(chance, given):
-    """All that stands behind an empty row comes a cycle early."""
+    """All after an empty row comes a cycle early."""
     empty = [cycle for cycle, row in enumerate(given.rows) if row == [None, None]]
     gone = chance.choice(empty) if empty else None
     return [row for cycle, row in enumerate(given.rows) if cycle != gone] if empty else None
@@ -270,7 +270,7 @@ def nothing_at_all(_, given):
 
 
 def wrong_unit(chance, given):
-    """An access or a product stands on the other unit of its row."""
+    """An access or a product is on the other unit of its row."""
     slots = slots_of(given.rows, lambda op: op.kind in (*MEMORY, "mult"))
     if not slots:
         return None
@@ -280,7 +280,7 @@ def wrong_unit(chance, given):
 
 
 def two_of_a_kind(kind):
-    """Two products, or two outputs, stand in a row."""
+    """Two products, or two outputs, are in a row."""
     def made(chance, given):
         slots = slots_of(given.rows, lambda op: op.kind == kind)
         if len(slots) < 2:

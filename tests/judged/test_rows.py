@@ -1,4 +1,4 @@
-"""Rows whose verdicts stand here beside their blocks, and lines of schedules that are refused; 9 stands at 4, else 0."""
+"""Rows with their blocks and the verdicts due, and lines of schedules that are refused; memory has 9 at 4, else 0."""
 from forms import USUAL
 from harness.program import Run
 from harness.suite import table
@@ -62,7 +62,7 @@ UNLIKE = {
     "stored_elsewhere": (LOADS_AND_STORES, LOADS_AND_STORES.replace("r1, 8", "r1, 12")),
 }
 
-# A block, somebody's operations, the verdict, and what stands below it.
+# A block, somebody's operations, the verdict, and what is listed below it.
 VERDICTS = {
     "output_too_many": (SQUARE, SQUARE + "output 8\n", "differs", "output 2: 0 for none"),
     "output_before_the_store": (SQUARE, "loadI 4 => r1\noutput 4\nload r1 => r2\nmult r2, r2 => r3\nstore r3 => r1\n",
@@ -70,7 +70,7 @@ VERDICTS = {
     "word_too_many": (SQUARE, SQUARE + "loadI 0 => r4\nstore r3 => r4\n", "differs", "word 0: 81 for 0"),
     "fault": (SQUARE, "loadI 4 => r1\nload r1 => r2\nload r2 => r3\noutput 4\n", "differs", "fault"),
     "no_fault": ("output 1\n", "output 8\n", "differs", "no fault"),
-    # Whatever is after a fault that always comes isn't done; but who faults otherwise, or does less, isn't passed.
+    # Whatever is after a fault that always comes isn't done; but rows that fault otherwise, or do less, aren't passed.
     "another_fault": (FAULTS_FIRST, "loadI 1 => r1\nload r1 => r2\n", "agrees", ""),
     "fault_without_the_product": (BIG_ADDRESS, "loadI 100000 => r0\noutput 100000\n", "agrees", ""),
     "fault_with_another_product": (BIG_ADDRESS, BIG_ADDRESS.replace("loadI 7", "loadI 8"), "agrees", ""),
@@ -99,14 +99,14 @@ LISTED = {
     # Our own rows have both outputs on unit 0, and aren't the only ones that keep the delay between the two.
     "outputs_on_two_units": ("output 0\noutput 4\n[ output 0 ; nop ]\n[ nop ; output 4 ]\n",
                              "block 1 - same cycles 2 ours 2 least 2"),
-    # An empty row before it takes a cycle, one behind it takes none.
+    # An empty row before it takes a cycle, one after it takes none.
     "empty_rows": ("output 4\n[ nop ; nop ]\n[ output 4 ; nop ]\n[ nop ; nop ]\ncycles 3\n",
                    "block 1 - same cycles 2 ours 1 least 1 claimed 3"),
     # What isn't used is left out, so that they take fewer cycles than any lawful schedule.
     "unused_operations": ("loadI 4 => r1\nmult r1, r1 => r2\noutput 4\n[ output 4 ; nop ]\n",
                           "block 1 - same cycles 1 ours 4 least 4"),
     "nop": ("nop\ncycles 0\n", "block 1 - same cycles 0 ours 0 least 0"),
-    # The word that is stored is the one that stands there.
+    # The word that is stored is there already.
     "word_put_back": ("loadI 4 => r1\nload r1 => r2\nstore r2 => r1\noutput 4\n[ output 4 ; nop ]\ncycles 1\n",
                       "block 1 - agrees cycles 1 ours 12 least 12"),
     "outputs_on_both_units": ("output 4\noutput 8\n[ output 8 ; nop ]\n[ nop ; output 4 ]\n",
@@ -149,14 +149,14 @@ LISTED = {
                         "block 1 a differs cycles 1 ours 0 least 0 claimed 2147483647\n  fault"),
 }
 
-# Each stands on line 4, behind a claim.
+# Each is line 4, after a claim.
 NOT_UNDERSTOOD = """\
 [ nop ]|[ nop ; nop|[ nop ; nop ; nop ]|[ nop nop ]|[ ; nop ]|[ nop ; ]|[]|[ A: nop ; nop ]|[ nop // ; nop ]
 [ nop ; nop ] nop|[ nop ; nop ] [ nop ; nop ]|[ output 99999999999 ; add r1 r2 => r3 ]|A: [ nop ; nop ]|block|block 1
 block1 a|block 1a|block a 1|block 1 --|block 1 9|block 1 a b|block -1 a|cycles|cycles5|cycles -5|cycles 5 5|total
 total: 5|Cycles 5|block 1 a cycles 5|[ jump r1 ; nop ]|[ nop ; add r1 => r2 ]|[ ; ]|block a|block 1 1a|cycles nine
 output 0|nop|b:""".replace("\n", "|").split("|")
-# Each stands on line 2.
+# Each is line 2.
 TOO_LARGE = ["[ output 2147483648 ; nop ]", "[ nop ; loadI 1 => r2147483648 ]", "block 2147483648 b",
              "block 99999999999999999999 a", "cycles 2147483648", "total 4294967296 // wide"]
 # The last line of each is the third.

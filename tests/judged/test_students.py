@@ -55,7 +55,7 @@ def given_blocks(seed, name, count=BLOCKS):
 
 
 def handed_in(seed, name, kind):
-    """A file of blocks with somebody's rows and claims behind it, and our rows where the kind has none."""
+    """A file of blocks with somebody's rows and claims after it, and our rows where the kind has none."""
     chance = random.Random(f"{seed} {kind.__name__}")
     blocks, givens = given_blocks(seed, name)
     text = text_of(blocks)

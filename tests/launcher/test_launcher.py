@@ -16,7 +16,7 @@ TOOLS = ("awk cat chmod cmp cp find flock grep head mkdir mkfifo mktemp mv nproc
          "tar tee wc").split()
 ENDING = (signal.SIGHUP, signal.SIGINT, signal.SIGTERM)
 # It fails with what the file `says` has, and doesn't end where there is a file `hold`. As `rt try` it answers with its
-# words and its input; as `rt ci` it makes a program that does, and tells the number of its build too.
+# words and its input; as `rt ci` it makes a program that does, and prints the number of its build too.
 RT = """#!/bin/sh
 [ "$1" != version ] || exec cat "$TEST/kit"
 echo "$1" >>"$TEST/asked"

@@ -84,7 +84,7 @@ def outcome(start, run):
 
 
 def difference(ops, rows, latencies, start):
-    """Where the rows differ from the block on a memory, as `check` tells it, or None."""
+    """Where the rows differ from the block on a memory, as `check` lists it, or None."""
     wanted = outcome(start, lambda machine: machine.run(ops))
     got = outcome(start, lambda machine: machine.run_timed(rows, latencies))
     if got is None or wanted is None:

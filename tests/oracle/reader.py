@@ -24,7 +24,7 @@ COUNT = re.compile(rb"(cycles|total)[ \t\r]+([0-9]+)")
 
 
 class Refused(Exception):
-    """Why a text is refused, as the program tells it."""
+    """Why a text is refused, as the program says it."""
 
 
 class NoBlocks(Refused):

@@ -45,7 +45,7 @@ def befores_of(ops, pairs):
 
 
 def beside(a, b):
-    """Whether two operations may stand in one row."""
+    """Whether two operations may be in one row."""
     return keeps_units((a, b)) or keeps_units((b, a))
 
 
@@ -82,7 +82,7 @@ class Schedule:
         return max([0, *(self.places[i][0] + d for i, d in self.before[j])])
 
     def issue(self, cycle):
-        """Issues in this cycle the first that is ready, and the first that may stand beside it."""
+        """Issues in this cycle the first that is ready, and the first that may go beside it."""
         waiting = [j for j in range(len(self.ops)) if j not in self.places
                    and all(i in self.places for i, _ in self.before[j]) and self.ready(j) <= cycle]
         waiting.sort(key=lambda j: (-self.ranks[j], j))

@@ -1,11 +1,11 @@
-/* Refuses growths or a thread of a program, and reports what it did. Preloaded by refusals.py.
+/* Refuses growths or a thread of a program, and reports what it did. Preloaded by refuser.py.
  *
  * REFUSE_GROWTH and REFUSE_THREAD are numbers, counted from 1 over all threads: the growth with that number is
- * refused, and where REFUSE_ON stands every one behind it; so is the thread with that number. REFUSE_REPORT is a
+ * refused, and where REFUSE_ON is set every one after it; so is the thread with that number. REFUSE_REPORT is a
  * file as long as the report below. Nothing is counted before main.
  *
- * Who asked for the growth is told by return addresses. The program keeps no chain of frames, so what is told is the
- * words next on the stack that point into its code: the calls that led to the growth, innermost first, and behind them
+ * What asked for the growth is found by return addresses. The program keeps no chain of frames, so the report has the
+ * words next on the stack that point into its code: the calls that led to the growth, innermost first, and after them
  * maybe others that are over.
  */
 #define _GNU_SOURCE

@@ -1,4 +1,4 @@
-"""Has a growth of memory or a thread of a program be refused, by refuse.c, and says what was, and who asked for it."""
+"""Has a growth of memory or a thread of a program be refused, by refuse.c, and says what was, and what asked for it."""
 import bisect
 import os
 import re
@@ -11,7 +11,7 @@ from harness.program import TESTED, ending, folder, needs, stored
 
 NOTHING, GROWTH, GROWTH_OF_A_START, THREAD = range(4)
 # Lists that are collected from an iterator: the library asks for the whole room at once, and where that is refused it
-# takes room as the items come. So nothing is lost, and the next refusal is told.
+# takes room as the items come. So nothing is lost, and the next refusal is reported.
 DOES_WITHOUT = {
     "+threads::entry": "the words after the program's name, in run_program, which is inlined into main",
     "iloc_sched::priority::priorities": "the priorities that are answered",
@@ -58,7 +58,7 @@ class Symbols:
         self.functions = sorted((int(address, 16), name) for address, _, name in found)
 
     def place(self, address):
-        """The function that an address lies in, without the numbers of its instance, and how far behind its start."""
+        """The function that an address lies in, without the numbers of its instance, and how far after its start."""
         start, name = self.functions[bisect.bisect(self.functions, (address, "\x7f")) - 1]
         return re.fullmatch(r"(.+?)(::<#[0-9a-f]+>)?(\+.*)?", name)[1], address - start
 
@@ -95,7 +95,7 @@ def refusing(asked, program=None, **what):
 
 
 def tried_again(unneeded):
-    """What is wrong with who asked for growths that were refused, after which all ended as always."""
+    """What is wrong with the calls whose growths were refused, after which all ended as always."""
     for name in sorted({name for name, _ in unneeded}):
         places = [place for other, place in unneeded if other == name]
         if name not in DOES_WITHOUT:

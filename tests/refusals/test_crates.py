@@ -1,10 +1,10 @@
 """Has each growth of memory in tests of the crates be refused in turn.
 
 The tests below are run as `rt test` or the gate built them (crates/CRATE/out). A run in which a growth was refused must
-end with the error of a call that memory, or a thread, was refused to: a test that looks at what stands after the
+end with the error of a call that memory, or a thread, was refused to: a test that looks at what is left after the
 refusal and tries again ends with that error all the same. One in which none was refused passes. A run that stops
 elsewhere, at an assertion for one, or doesn't end in time, fails; and so does one that passes though a growth was refused,
-unless refuser.py lists who asked for it. Each run with a refusal counts.
+unless refuser.py lists what asked for it. Each run with a refusal counts.
 """
 import itertools
 import os

@@ -3,10 +3,10 @@
 A refusal ends the program with status 3, one line that says of what, and nothing written. A thread that is refused,
 or a growth that the C library asks for while it starts one, is a worker that could not be started, but for a thread
 that reads: without it one thread reads the whole text, and all ends as always. A growth that the
-program asks for is want of memory, or, before the last worker is started, may belong to a start. With several workers
+program asks for is `out of memory`, or, before the last worker is started, may belong to a start. With several workers
 the growths come in another order each time, and each run is judged by what was refused in it.
 
-Where a growth was refused and the program ends as always, who asked for it has to be listed (DOES_WITHOUT), and
+Where a growth was refused and the program ends as always, what asked for it has to be listed (DOES_WITHOUT), and
 at one place of that function alone. So a body that tries again where it has to answer a refusal is found.
 """
 from dataclasses import dataclass, field
@@ -41,7 +41,7 @@ class Tally:
     whole: tuple
     memory: int = 0
     workers: int = 0
-    unneeded: dict = field(default_factory=dict)    # how many, by who asked
+    unneeded: dict = field(default_factory=dict)    # how many, by what asked
     wrong: list = field(default_factory=list)
 
     def add(self, ending, report, what, goes_on=False):
@@ -108,7 +108,7 @@ def few_runs():
 
 
 def long_runs():
-    """A fault of the text is told though no thread could be started that reads."""
+    """A fault of the text is reported though no thread could be started that reads."""
     for command in ("schedule", "counts"):
         yield Asked([command, "--workers", "2"], "a long text", long_text(), 4, 2)
         yield Asked([command, "--workers", "2"], "a long text with a fault", long_text() + b"add r1 r2 => r3\n", 2, 2)

@@ -38,7 +38,7 @@ impl Bound {
         }
     }
 
-    /// All loads behind a store wait for it, and a row holds one.
+    /// All loads after a store wait for it, and a row holds one.
     fn find_tails(&mut self, graph: &Graph, cycles: u32) {
         self.tails.clear();
         self.tails.resize(graph.nodes.len(), 0);

@@ -56,7 +56,7 @@ pub fn push_signed(out: &mut Vec<u8>, word: u32) {
     push(out, u64::from(number.unsigned_abs()));
 }
 
-/// The number at the front of eight bytes with how many digits it has: from one to seven, or None.
+/// The number with which eight bytes begin, with how many digits it has: from one to seven, or None.
 #[inline]
 pub fn value_of(front: [u8; 8]) -> Option<(u32, usize)> {
     let bytes = u64::from_le_bytes(front) ^ 0x3030_3030_3030_3030;

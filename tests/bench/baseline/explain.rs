@@ -46,7 +46,7 @@ impl Explainer {
     }
 
     /// Keeps the operations whose delays ended just when this one was ready. Its edges begin with the one numbered
-    /// `edges`; gives the number behind them.
+    /// `edges`; gives the number after them.
     fn find_waited(&mut self, graph: &Graph, number: usize, mut edges: usize) -> usize {
         self.waited.clear();
         let ready = graph.nodes[number].earliest;

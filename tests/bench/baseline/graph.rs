@@ -28,7 +28,7 @@ pub struct Node {
     pub earliest: u32,
 }
 
-/// The renamed operations of one block at a time, with the nearest edges between them. Edges stand by their targets.
+/// The renamed operations of one block at a time, with the nearest edges between them. Edges are sorted by their targets.
 pub struct Graph {
     pub operations: Vec<Operation>,
     pub nodes: Vec<Node>,

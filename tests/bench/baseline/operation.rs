@@ -130,7 +130,7 @@ impl Operation {
     }
 }
 
-/// Appends an opcode and its operands, each behind the text before it.
+/// Appends an opcode and its operands, each after the text before it.
 #[inline]
 fn push<const N: usize>(out: &mut Vec<u8>, opcode: &str, operands: [(&str, u32); N]) {
     out.extend_from_slice(opcode.as_bytes());

@@ -4,7 +4,7 @@ use std::collections::BinaryHeap;
 
 use crate::operation::Kind;
 
-/// What bars what: no two of one class stand in a row, but for the rest.
+/// What bars what: no two of one class are in a row, but for the rest.
 #[derive(Clone, Copy, PartialEq, Eq)]
 pub enum Class {
     Memory,

@@ -38,13 +38,13 @@ impl Table {
         Table { numbers: vec![0; count], set: Vec::new() }
     }
 
-    /// The number at an index, or None behind the last.
+    /// The number at an index, or None past the last.
     #[inline]
     pub fn get(&self, index: u32) -> Option<u32> {
         self.numbers.get(index as usize).copied()
     }
 
-    /// Sets the number at an index; false behind the last.
+    /// Sets the number at an index; false past the last.
     #[inline]
     pub fn set(&mut self, index: u32, number: u32) -> bool {
         let Some(place) = self.numbers.get_mut(index as usize) else {
@@ -62,7 +62,7 @@ impl Table {
     }
 }
 
-/// A number for each register, 0 when a block starts. Registers of high numbers stand in a map.
+/// A number for each register, 0 when a block starts. Registers of high numbers are in a map.
 pub struct Registers {
     low: Table,
     high: HashMap<u32, u32, BuildHasherDefault<Spread>>,

@@ -40,7 +40,7 @@ struct Line<'a> {
     operation: Option<Operation>,
 }
 
-/// The rest of the input. Each reading call takes what it read from its front, or gives None where that isn't there.
+/// The rest of the input. Each reading call takes what it read from its start, or gives None where that isn't there.
 struct Reader<'a> {
     rest: &'a [u8],
     has_large_number: bool,
@@ -154,7 +154,7 @@ impl<'a> Reader<'a> {
         Some(Operation::StoreAI { source, base: self.register_and_comma()?, offset: self.number()? })
     }
 
-    /// The operands of the opcode with this key, behind its blanks.
+    /// The operands of the opcode with this key, after its blanks.
     fn operation(&mut self, opcode: u64) -> Option<Operation> {
         match opcode {
             LOAD => Some(Operation::Load { address: self.register()?, target: self.target()? }),
@@ -177,7 +177,7 @@ impl<'a> Reader<'a> {
         }
     }
 
-    /// Moves behind the line end, or to the end of the input.
+    /// Moves past the line end, or to the end of the input.
     fn comment(&mut self) -> Option<()> {
         self.token(b"//")?;
         self.rest.skip_until(b'\n').ok()?;
@@ -198,7 +198,7 @@ impl<'a> Reader<'a> {
         }
     }
 
-    /// A line behind its first blanks that has an operation with operands and no label. None where that isn't so at
+    /// A line after its first blanks that has an operation with operands and no label. None where that isn't so at
     /// a first look, and then `line` has to look.
     #[inline]
     fn plain_line(&mut self) -> Option<Operation> {
@@ -215,7 +215,7 @@ impl<'a> Reader<'a> {
         Some(operation)
     }
 
-    /// A line behind its first blanks, of whatever form.
+    /// A line after its first blanks, of whatever form.
     #[inline]
     fn any_line(&mut self) -> Option<Line<'a>> {
         let start = self.rest;
@@ -228,7 +228,7 @@ impl<'a> Reader<'a> {
         self.line()
     }
 
-    /// A line behind its first blanks.
+    /// A line after its first blanks.
     fn line(&mut self) -> Option<Line<'a>> {
         let mut label = None;
         let mut word = self.word();
