@@ -11,10 +11,9 @@ import sys
 
 sys.path.insert(0, os.path.dirname(os.path.dirname(os.path.abspath(__file__))))
 import oracle  # noqa: E402,F401  (it finds forms)
+from bench import measure  # noqa: E402
 from forms import SPELLED  # noqa: E402
 from limits import MAX_NUMBER, MOST_BLOCKS, MOST_BYTES, MOST_OPERATIONS  # noqa: E402
-
-SEED = 1
 
 # Operations, what each of their numbers is, and how often they come.
 MIX = [
@@ -31,11 +30,14 @@ FORMS = [SPELLED[opcode].format(*(f"{{{it}}}" for it in names.split())) for opco
 class Draw:
     """Numbers that only the seed decides, whatever the version of Python."""
 
-    def __init__(self):
-        self.fraction = random.Random(SEED).random
+    def __init__(self, seed=1):
+        self.fraction = random.Random(seed).random
 
     def below(self, end):
         return int(self.fraction() * end)
+
+    def one_in(self, count):
+        return self.below(count) == 0
 
     def one_of(self, items):
         return items[self.below(len(items))]
@@ -55,7 +57,7 @@ def block(draw, name, count, registers):
     addresses, values = registers[:some], registers[some:]
     lines = [f"loadI {4 * draw.below(8192)} => r{register}" for register in addresses]
     lines += [operation(draw, addresses, values) for _ in range(count - some)]
-    if draw.below(64) == 0:
+    if draw.one_in(64):
         lines[-1] = "output 2"
     comment = draw.below(count)
     lines[comment] += "  // from the source"
@@ -103,8 +105,7 @@ def comments_and_blanks(draw):
 
 
 def long_number(_):
-    front, behind = b"loadI ", b"8 => r1\n"
-    return front + b"0" * (MOST_BYTES - len(front) - len(behind)) + behind
+    return b"loadI %s8 => r1\n" % (b"0" * (MOST_BYTES - 14))
 
 
 def middling_blocks(draw):
@@ -178,10 +179,7 @@ def make(folder, only=()):
     for maker in MAKERS:
         if only and maker.__name__ not in only:
             continue
-        path = os.path.join(folder, maker.__name__ + ".iloc")
-        with open(path, "wb") as file:
-            file.write(maker(Draw()))
-        yield maker.__name__, path
+        yield maker.__name__, measure.stored(os.path.join(folder, f"{maker.__name__}.iloc"), maker(Draw()))
 
 
 if __name__ == "__main__":

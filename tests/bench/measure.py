@@ -32,6 +32,12 @@ def contents(path):
         return file.read()
 
 
+def stored(path, data):
+    with open(path, "wb") as file:
+        file.write(data)
+    return path
+
+
 @contextmanager
 def adopting_orphans():
     """Meanwhile what a shell left running is a child of this program."""

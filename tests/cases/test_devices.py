@@ -3,11 +3,11 @@ import os
 import resource
 import select
 import subprocess
-import sys
 import tempfile
 
+from bench import measure
 from cases.test_stored import CASES, read
-from harness.program import ALL, SECONDS, TESTED, Run, ending, listed, refused, stored, told
+from harness.program import ALL, SECONDS, TESTED, Run, ending, folder, listed, refused, stored, told
 from harness.suite import Check, table
 from limits import MOST_BLOCKS, MOST_BYTES
 
@@ -20,7 +20,7 @@ BAD = b"nop\nnop nop\n"
 LONG = b"A:\n" * 10_000
 UNREAD, UNWRITTEN = b"reading failed", b"writing failed"
 NO_TEXT = b"error: invalid UTF-8 was detected in one or more arguments\n"
-MOST_KIB = 64 * 1024
+MOST_MIB = 64
 WRITES = 1000
 WORDS_ALONE = [(0, ["--help"]), (2, ["jump"]), (2, ["run", "--at", "2"]), (2, ["run", "--at", "65532", "1", "2"])]
 
@@ -162,20 +162,10 @@ def ended(child):
 
 
 def in_little_memory(words, given):
-    """The run holds at most 64 MiB at any time."""
-    return ending(["-c", MEASURE, TESTED.program, *words], given, sys.executable)
-
-
-# Runs a program, and says on standard error how much memory it held where that was too much. It is a process of
-# its own, since a child counts what its parent held when it was started.
-MEASURE = f"""
-import resource, subprocess, sys
-status = subprocess.call(sys.argv[1:])
-held = resource.getrusage(resource.RUSAGE_CHILDREN).ru_maxrss
-if held > {MOST_KIB}:
-    print(held, "KiB held", file=sys.stderr)
-sys.exit(status)
-"""
+    """The run holds at most 64 MiB at any time; what it held above that counts as said on standard error."""
+    got = measure.run([TESTED.program, *words], stored("given", given), f"{folder()}/got")
+    status, out, err = got.shown()
+    return status, out, err + (b"%d MiB held" % got.mebibytes if got.mebibytes > MOST_MIB else b"")
 
 
 def little_room(words, start):

@@ -36,10 +36,7 @@ def folder():
 
 
 def stored(name, data):
-    path = os.path.join(folder(), name)
-    with open(path, "wb") as file:
-        file.write(data)
-    return path
+    return measure.stored(os.path.join(folder(), name), data)
 
 
 def needs(*tools):

@@ -45,7 +45,7 @@ SELDOM = 8
 
 
 def text_checks():
-    changed = list(changed_texts(KINDS if TESTED.is_short else ALL))
+    changed = list(changed_texts(SHORT, KINDS if TESTED.is_short else ALL))
     cut = [FORMS[:end] for end in range(len(FORMS) + 1)]
     for command in COMMANDS:
         step = SELDOM if TESTED.is_short and command != "run" else 1
@@ -53,11 +53,11 @@ def text_checks():
             yield Check(f"texts/{name}/{command}", wrong_among, command, texts[::step])
 
 
-def changed_texts(others):
-    """A short text with another byte at each place."""
-    for place in range(len(SHORT)):
+def changed_texts(text, others):
+    """The text with another byte at each place."""
+    for place in range(len(text)):
         for byte in others:
-            yield SHORT[:place] + bytes([byte]) + SHORT[place + 1:]
+            yield text[:place] + bytes([byte]) + text[place + 1:]
 
 
 def wrong_among(command, texts):

@@ -30,13 +30,13 @@ def by(workers):
     return ["--workers", str(workers)]
 
 
-def same_bytes(command):
+def same_bytes(command, given=TINY, runs=RUNS, **how):
     """Runs that differ from one with one worker."""
-    due = ending([command, *by(1)], TINY)
+    due = ending([command, *by(1)], given)
     if due[0] != 0 or not due[1]:
         yield f"one worker: {told(due)}"
-    for number in range(1, RUNS + 1):
-        got = ending([command, *by(8)], TINY)
+    for number in range(1, runs + 1):
+        got = ending([command, *by(8)], given, **how)
         if got != due:
             yield f"run {number}: {told(got)} in place of {told(due)}"
 
@@ -61,13 +61,7 @@ def one_processor(command):
     first = min(os.sched_getaffinity(0))
     draw = inputs.Draw()
     blocks = b"".join(inputs.block(draw, "L", 100, range(64)) for _ in range(300))
-    due = ending([command, *by(1)], blocks)
-    if due[0] != 0 or not due[1]:
-        yield f"one worker: {told(due)}"
-    for _ in range(10):
-        got = ending([command, *by(8)], blocks, preexec_fn=lambda: os.sched_setaffinity(0, {first}))
-        if got != due:
-            yield f"{told(got)} in place of {told(due)}"
+    return same_bytes(command, blocks, 10, preexec_fn=lambda: os.sched_setaffinity(0, {first}))
 
 
 def may_start_none():

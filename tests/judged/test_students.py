@@ -7,7 +7,7 @@ from cases.test_stored import stored_cases
 from forms import USUAL
 from harness.program import TESTED, Run, ending, told
 from harness.suite import Check, table
-from hostile.test_texts import KINDS
+from hostile.test_texts import KINDS, changed_texts
 from judged.labs import Given
 from judged.students import RIGHT, WRONG, ours
 from oracle.drawn import lab_block, made_block
@@ -102,7 +102,7 @@ def judging_checks():
     for kind in (*RIGHT, *WRONG):
         yield Check(f"judging/students/{kind.__name__}", of_kind, kind)
     yield Check("judging/texts/cut", judged_texts, [LINES[:end] for end in range(len(LINES) + 1)])
-    yield Check("judging/texts/changed", judged_texts, changed_lines())
+    yield Check("judging/texts/changed", judged_texts, changed_texts(SHORT_LINES, KINDS + b"[];c"))
 
 
 def stored_texts():
@@ -144,13 +144,6 @@ def of_kind(kind):
         for words in ((), WORDS):
             got = ending(request(latencies, words), text)
             yield from wrong_ending(got, text, latencies, words, is_right=kind in RIGHT)
-
-
-def changed_lines():
-    """A short text with another byte at each place."""
-    for at in range(len(SHORT_LINES)):
-        for byte in KINDS + b"[];c":
-            yield SHORT_LINES[:at] + bytes([byte]) + SHORT_LINES[at + 1:]
 
 
 def judged_texts(texts):
