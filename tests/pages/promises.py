@@ -78,7 +78,8 @@ def promise_above(source, start):
     text = "\n".join(it[3:].strip() for it in reversed(lines) if it.startswith("///"))
     paragraphs = [" ".join(it.split()) for it in re.split(r"\n\n|\n(?=Promise: )", text)]
     marked = [it.removeprefix("Promise: ") for it in paragraphs if it.startswith("Promise: ")]
-    return " ".join(marked) or paragraphs[0], bool(marked)
+    said = " ".join(marked) or paragraphs[0]
+    return said[:1].upper() + said[1:], bool(marked)
 
 
 class Module:
