@@ -22,5 +22,5 @@ pub use name::Name;
 pub use no_memory::NoMemory;
 pub use op::{Op, Reg};
 pub use ops::Ops;
-pub use registers::{defines, uses, with_registers};
+pub use registers::{defines, uses};
 pub use spelling::{OP_ROOM, push_number, push_op, write_op, write_text};

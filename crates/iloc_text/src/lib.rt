@@ -24,8 +24,8 @@ mod usual;
 pub use fault::{ReadFault, StreamFault};
 pub use iloc_ops::{
     Block, Blocks, IlocFile, MAX_BLOCKS, MAX_INPUT, MAX_NUMBER, MAX_OPS, Name, NoMemory, OP_ROOM,
-    Op, Ops, Reg, defines, push_column, push_decimal, push_number, push_op, uses, with_registers,
-    write_op, write_text,
+    Op, Ops, Reg, defines, push_column, push_decimal, push_number, push_op, uses, write_op,
+    write_text,
 };
 pub use line::ParseFault;
 pub use line_ends::split_line;
