@@ -10,7 +10,7 @@ abbrev pub is_good : ℤ → Bool
 is_good (pos a) = (a % 4 == 0) && nat_le a LAST_ADDRESS
 is_good (negsuc n) = false
 
--- the address that a value stands for, if it is good
+-- the address that a value denotes, if it is good
 abbrev pub good_address : ℤ → Option ℕ
 good_address (pos a) = if is_good (pos a) then Some a else None
 good_address (negsuc n) = None

@@ -8,7 +8,7 @@ use Rattle.iloc_meaning.specs.declared.effect.Effect.TheVariants.{Faults, Gives,
 use Rattle.iloc_meaning.specs.Address.{good_address}
 use Rattle.iloc_meaning.specs.Arithmetic.{wrapped, constant, shifted_left, shifted_right}
 
--- what is done at the address that a value stands for: a fault where it isn't good
+-- what is done at the address that a value denotes: a fault if it isn't good
 abbrev pub at_address : Option ℕ → (ℕ → Effect) → Effect
 at_address None act = Faults
 at_address (Some a) act = act a

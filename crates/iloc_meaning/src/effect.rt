@@ -23,7 +23,7 @@ pub enum Effect {
     Nothing,
 }
 
-/// The address that a register's value or a constant stands for, if it is good.
+/// The address that a register's value or a constant denotes, if it is good.
 fn good_address(value: i32) -> Option<u32>
     ensures { result ≡ good_address value }
 {
@@ -34,7 +34,7 @@ impl Effect {
     ghost use Rattle.iloc_meaning.specs.Effect.{effect, at_address};
     ghost use Rattle.iloc_meaning.specs.Registers.{value_of};
 
-    /// What an operation does with these registers and this memory.
+    /// Promise: what an operation does when registers and memory have these values.
     #[inline(always)]
     pub fn of(op: &Op, registers: &Registers, memory: &Memory) -> Effect
         ensures { result ≡ effect op.now (value_of registers.now) (word_at memory.now) }
@@ -71,7 +71,7 @@ impl Effect {
         }
     }
 
-    /// A load from the address that a value stands for.
+    /// A load from the address that a value denotes.
     fn load(address: i32, memory: &Memory) -> Effect
         ensures { result ≡
             at_address (good_address address) (λ a. Effect.Gives (word_at memory.now a)) }
@@ -82,7 +82,7 @@ impl Effect {
         }
     }
 
-    /// A store of a word at the address that a value stands for.
+    /// A store of a word at the address that a value denotes.
     fn store(word: i32, address: i32) -> Effect
         ensures { result ≡ at_address (good_address address) (λ a. Effect.Writes a word) }
     {
@@ -92,7 +92,7 @@ impl Effect {
         }
     }
 
-    /// An output from the address that a value stands for.
+    /// An output from the address that a value denotes.
     fn output(address: i32, memory: &Memory) -> Effect
         ensures { result ≡
             at_address (good_address address) (λ a. Effect.Emits (word_at memory.now a)) }

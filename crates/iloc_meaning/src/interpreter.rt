@@ -10,7 +10,7 @@ use iloc_ops::{Block, NoMemory};
 use std::alloc::Global;
 use std::marker::Model;
 
-/// Runs blocks plainly, one after another, each with all registers 0 and the memory first handed in.
+/// Runs blocks plainly, one after another, each with all registers 0 and the memory that was first passed in.
 /// It holds that memory and no copy: what a block wrote is undone before the next one runs.
 #[derive(Drop)]
 pub struct Interpreter {
@@ -27,8 +27,8 @@ impl Model for Interpreter {
 }
 
 impl Interpreter {
-    /// For blocks that start with this memory. Before the first block the outcome is that of a block
-    /// without operations.
+    /// Promise: an interpreter whose blocks all start with this memory; until the first one runs, its outcome is that of
+    /// a block without operations.
     pub fn new(alloc: Global, memory: Memory) -> Result<Interpreter, NoMemory>
         ensures { IfOk result (λ it. it ≡ record { memory = memory; last = Outcome.Finished [] memory }) }
     {
@@ -37,7 +37,9 @@ impl Interpreter {
         })
     }
 
-    /// Runs a block. After a refusal the outcome is any, and the next block is run as after any other.
+    /// Promise: runs a block, whose outcome is then the block's outcome on the first memory, whatever ran before.
+    ///
+    /// After a refusal of memory the outcome is unspecified, and the next block runs as after any other.
     pub fn run(&mut self, block: &Block) -> Result<(), NoMemory>
         ensures memory { self.new.memory ≡ self.old.memory }
         ensures outcome { OnOk result (self.new.last ≡ outcome block.now.ops self.old.memory) }
@@ -46,14 +48,14 @@ impl Interpreter {
         Ok(())
     }
 
-    /// The words that the last block emitted, in order; none where it faulted.
+    /// Promise: the words that the last block emitted, in order, or `None` if it faulted.
     pub fn outputs(&self) -> Option<&[i32]>
         ensures { option_copied result ≡ shown self.now.last }
     {
         self.state.outputs()
     }
 
-    /// The outcome of the last block.
+    /// Promise: the outcome of the last block.
     pub fn into_outcome(self) -> Outcome
         ensures { result ≡ self.last }
     {

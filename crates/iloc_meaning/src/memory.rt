@@ -31,7 +31,7 @@ impl Model for Memory {
 }
 
 impl Memory {
-    /// The memory of zeros.
+    /// Promise: a memory of 16,384 zeros.
     pub fn zero(alloc: Global) -> Result<Memory, NoMemory>
         ensures zeros { IfOk result (λ memory. memory ≡ zeros) }
         ensures size { IfOk result (λ memory. length memory ≡ WORDS) }
@@ -41,7 +41,7 @@ impl Memory {
         })
     }
 
-    /// The memory that has these words, as patterns of 32 bits, from the address `at` on, and else zeros.
+    /// Promise: the memory with these words, as patterns of 32 bits, from the address `at` on, and zeros elsewhere.
     pub fn with_words(alloc: Global, at: u32, words: &[u32]) -> Result<Memory, NoMemory>
         requires aligned { at % 4 ≡ 0 }
         requires start { at ≤ LAST_ADDRESS }
@@ -55,7 +55,7 @@ impl Memory {
         Ok(memory)
     }
 
-    /// A second memory with the same words.
+    /// Promise: a second memory with the same words.
     pub fn copy(&self) -> Result<Memory, NoMemory>
         ensures equal { IfOk result (λ memory. memory ≡ self.now) }
         ensures size { length self.now ≡ WORDS }
@@ -65,7 +65,7 @@ impl Memory {
         })
     }
 
-    /// How many words it has, which is the same for every memory.
+    /// Promise: how many words a memory has: 16,384, whichever memory it is.
     pub fn word_count(&self) -> usize
         ensures count { result ≡ length self.now }
         ensures size { result ≡ WORDS }
@@ -73,14 +73,14 @@ impl Memory {
         self.words.len()
     }
 
-    /// Whether a word stands at this address: a multiple of 4 from 0 to 65,532.
+    /// Promise: whether an address has a word: a multiple of 4 from 0 to 65,532.
     pub fn is_good(address: i32) -> bool
         ensures { result ≡ is_good address }
     {
         (0..=LAST_ADDRESS as i32).contains(&address) && address % 4 == 0
     }
 
-    /// The word at a good address.
+    /// Promise: the word at a good address.
     pub fn get(&self, address: u32) -> i32
         requires { IsTrue (is_good (pos address)) }
         ensures word { result ≡ word_at self.now address }
@@ -89,7 +89,7 @@ impl Memory {
         self.words[address as usize / 4]
     }
 
-    /// Writes the word at a good address, and no other.
+    /// Promise: writes the word at a good address, and changes no other word.
     pub fn set(&mut self, address: u32, word: i32)
         requires { IsTrue (is_good (pos address)) }
         ensures written { self.new ≡ slice_set self.old (address / 4) word }

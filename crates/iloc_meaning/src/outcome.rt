@@ -1,4 +1,4 @@
-//! What comes of a run.
+//! The outcome of a run.
 ghost use Rattle.std.specs.Prelude.{◌≡◌};
 ghost use Rattle.std.specs.Option.{option_copied};
 ghost use Rattle.iloc_meaning.specs.Outcome.{shown};
@@ -21,7 +21,7 @@ pub enum Outcome {
 }
 
 impl Outcome {
-    /// The emitted words, in order; none of a block that faults.
+    /// Promise: the emitted words, in order, or `None` for a block that faults.
     pub fn outputs(&self) -> Option<&[i32]>
         ensures { option_copied result ≡ shown self.now }
     {

@@ -41,7 +41,7 @@ impl Registers {
     ghost use Rattle.iloc_ops.specs.declared.op.Reg.{Reg as Register};
     ghost use Rattle.iloc_meaning.specs.Registers.{value_of, ChangesOnly};
 
-    /// All registers 0.
+    /// Promise: registers that are all 0.
     pub fn new(alloc: Global) -> Result<Registers, NoMemory>
         ensures { IfOk result (λ registers. (r : Register) → value_of registers r ≡ pos 0) }
     {
@@ -52,7 +52,7 @@ impl Registers {
         })
     }
 
-    /// The value of a register.
+    /// Promise: the value of a register.
     #[inline(always)]
     pub fn get(&self, register: Reg) -> i32
         ensures { result ≡ value_of self.now register }
@@ -63,7 +63,7 @@ impl Registers {
         }
     }
 
-    /// Gives a register a value. After a refusal each register keeps its own.
+    /// Promise: sets one register to a value and keeps all others; after a refusal of memory all registers are as before.
     #[inline(always)]
     pub fn set(&mut self, register: Reg, value: i32) -> Result<(), NoMemory>
         ensures ok { OnOk result (ChangesOnly self.old self.new register value) }
@@ -79,7 +79,9 @@ impl Registers {
         Ok(())
     }
 
-    /// Makes all registers 0, by one step for each that was given a value.
+    /// Promise: sets all registers to 0.
+    ///
+    /// It costs a step for each value that was set.
     pub fn clear(&mut self)
         ensures { (r : Register) → value_of self.new r ≡ pos 0 }
     {

@@ -8,8 +8,9 @@ use crate::outcome::Outcome;
 use iloc_ops::{Block, NoMemory};
 use std::alloc::Global;
 
-/// The outcome of a block that starts with all registers 0 and this memory. After a refusal, as
-/// after a fault, the memory is given up.
+/// Promise: the outcome of a block that starts with all registers 0 and this memory.
+///
+/// After a refusal of memory, as after a fault, the memory is dropped.
 pub fn run_block(alloc: Global, block: &Block, memory: Memory) -> Result<Outcome, NoMemory>
     ensures { IfOk result (λ o. o ≡ outcome block.now.ops memory) }
 {

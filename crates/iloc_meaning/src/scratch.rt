@@ -1,4 +1,4 @@
-//! A memory that can be put back.
+//! A memory whose writes can be undone.
 ghost use Rattle.std.specs.Prelude.{◌≡◌, ◌/◌, pos, length, slice_set, OnOk, OnErr, IsTrue};
 ghost use Rattle.iloc_meaning.specs.Address.{is_good};
 
@@ -14,12 +14,12 @@ struct Replaced {
     word: i32,
 }
 
-/// A memory that can be put back to the words first handed in. It keeps what each write replaced, and
-/// no second memory.
+/// A memory that can be restored to the words that were first passed in. It keeps what each write replaced, and no
+/// second memory.
 #[derive(Debug, Drop)]
 pub struct Scratch {
     memory: Memory,
-    // What each write since the last putting back replaced, in order.
+    // What each write since the last restoring replaced, in order.
     replaced: Vec<Replaced>,
 }
 
@@ -35,7 +35,7 @@ impl Model for Scratch {
 }
 
 impl Scratch {
-    /// This memory, nothing written.
+    /// Promise: this memory, with nothing written yet.
     pub fn new(alloc: Global, memory: Memory) -> Scratch
         ensures { result ≡ record { first = memory; words = memory } }
     {
@@ -45,14 +45,14 @@ impl Scratch {
         }
     }
 
-    /// The memory as it stands.
+    /// Promise: lends the memory with all that was written.
     pub fn memory(&self) -> &Memory
         ensures { result.now ≡ self.now.words }
     {
         &self.memory
     }
 
-    /// Writes the word at a good address, and no other. After a refusal nothing was written.
+    /// Promise: writes the word at a good address and changes no other; after a refusal of memory nothing is written.
     pub fn set(&mut self, address: u32, word: i32) -> Result<(), NoMemory>
         requires { IsTrue (is_good (pos address)) }
         ensures first { self.new.first ≡ self.old.first }
@@ -69,7 +69,9 @@ impl Scratch {
         Ok(())
     }
 
-    /// Puts all words back to those first handed in, by one step for each write.
+    /// Promise: restores all words to those that were first passed in.
+    ///
+    /// It costs a step for each write.
     pub fn put_back(&mut self)
         ensures { self.new ≡ record { first = self.old.first; words = self.old.first } }
     {
@@ -78,7 +80,7 @@ impl Scratch {
         }
     }
 
-    /// The memory as it stands.
+    /// Promise: the memory with all that was written.
     pub fn into_memory(self) -> Memory
         ensures { result ≡ self.words }
     {

@@ -17,11 +17,11 @@ use std::alloc::Global;
 pub struct State {
     /// The values of the registers.
     pub registers: Registers,
-    /// The memory, which can be put back to the one first handed in.
+    /// The memory, which can be restored to the one that was first passed in.
     pub memory: Scratch,
     /// The emitted words, in order.
     pub outputs: Vec<i32>,
-    /// Whether the last run came to its end: a fault ends one before.
+    /// Whether the last run came to its end, and wasn't ended by a fault.
     pub finished: bool,
 }
 
@@ -32,7 +32,7 @@ impl State {
     ghost use Rattle.iloc_meaning.specs.Steps.State.{Follows, After};
     ghost use Rattle.iloc_meaning.specs.Trace.{Executed, then_executed};
 
-    /// All registers 0, this memory, no output: a run without operations, at its end.
+    /// Promise: a run without operations, at its end: all registers 0, this memory, no output.
     pub fn new(alloc: Global, memory: Memory) -> Result<State, NoMemory>
         ensures registers { IfOk result (λ state. (r : Reg) → value_of state.registers r ≡ pos 0) }
         ensures memory { IfOk result (λ state. state.memory ≡ record { first = memory; words = memory }) }
@@ -47,7 +47,7 @@ impl State {
         })
     }
 
-    /// All registers 0, the memory first handed in, no output.
+    /// Promise: all registers 0, the memory that was first passed in, no output.
     pub fn restart(&mut self)
         ensures registers { (r : Reg) → value_of self.new.registers r ≡ pos 0 }
         ensures memory { self.new.memory ≡ record { first = self.old.memory.first; words = self.old.memory.first } }
@@ -83,8 +83,8 @@ impl State {
         Ok(true)
     }
 
-    /// Runs operations from the start, on the memory first handed in. Answers whether the run came to
-    /// their end: it ends at a fault.
+    /// Runs operations from the start, on the memory that was first passed in. Answers whether the run came to their
+    /// end: a fault ends it.
     pub(crate) fn run(&mut self, ops: &[Op]) -> Result<bool, NoMemory>
         ensures first { self.new.memory.first ≡ self.old.memory.first }
         ensures outcome { IfOk result (λ finished.
@@ -99,7 +99,7 @@ impl State {
         Ok(true)
     }
 
-    /// The words that the last run emitted, in order; none where it faulted.
+    /// Promise: the words that the last run emitted, in order, or `None` if it faulted.
     pub fn outputs(&self) -> Option<&[i32]>
         ensures { option_copied result ≡ shown (leaves self.now.finished self.now) }
     {
@@ -110,7 +110,7 @@ impl State {
         }
     }
 
-    /// The outcome of the last run.
+    /// Promise: the outcome of the last run.
     pub fn into_outcome(self) -> Outcome
         ensures { result ≡ leaves self.finished self }
     {

@@ -18,21 +18,21 @@ impl Model for Words {
 }
 
 impl Words {
-    /// These words.
+    /// Promise: these words, in this order.
     pub fn new(items: Vec<i32>) -> Words
         ensures { result ≡ items.items }
     {
         Words { items }
     }
 
-    /// The words, lent.
+    /// Promise: lends the words, in order.
     pub fn as_slice(&self) -> &[i32]
         ensures { result.now ≡ self.now }
     {
         self.items.as_slice()
     }
 
-    /// Gives the words back.
+    /// Promise: gives the words back, in order.
     pub fn into_vec(self) -> Vec<i32>
         ensures { result.items ≡ self }
     {

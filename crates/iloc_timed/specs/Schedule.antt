@@ -34,7 +34,7 @@ pub record IsFirstBadRow (ops : List Op) (rows : List Row) (c : ℕ) : Type 0 wh
   pub bad : IsFalse (is_sound ops (row_at rows c))
   pub others : (b : ℕ) → b < c → IsTrue (is_sound ops (row_at rows b))
 
--- each of so many operations stands in exactly one slot
+-- each of so many operations is in exactly one slot
 abbrev pub AreOnce : ℕ → List Row → Type 0
 AreOnce count rows = (i : ℕ) → i < count → times_issued rows i ≡ 1
 

@@ -4,15 +4,14 @@ ghost use Rattle.std.specs.Prelude.{◌≡◌};
 use std::alloc::AllocError;
 use thiserror::Error;
 
-/// Why operations and rows make no schedule. A bad row comes before an operation that doesn't stand
-/// in exactly one slot.
+/// Why operations and rows make no schedule. A bad row is reported before an operation that isn't in exactly one slot.
 #[derive(Clone, Copy, Debug, Drop, Error, PartialEq, Eq)]
 pub enum BuildFault {
     /// This row is the first with a number that isn't an operation's or with a broken rule of the
     /// units.
     #[error("row {0}: an operation that isn't there, or that can't be issued there")]
     BadRow(usize),
-    /// This operation is the first that doesn't stand in exactly one slot.
+    /// This operation is the first that isn't in exactly one slot.
     #[error("operation {0}: not in exactly one slot")]
     NotOnce(usize),
     /// The growth of a list was refused.

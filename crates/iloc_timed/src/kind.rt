@@ -22,7 +22,7 @@ pub enum Kind {
 impl Kind {
     ghost use Rattle.iloc_timed.specs.Units.{needs_zero, needs_one, stands_alone};
 
-    /// The kind of an operation.
+    /// Promise: the kind of an operation.
     pub fn of(op: &Op) -> Kind
         ensures { result ≡ kind op.now }
     {
@@ -35,21 +35,21 @@ impl Kind {
         }
     }
 
-    /// Whether operations of this kind stand on unit 0 alone.
+    /// Promise: whether operations of this kind run on unit 0 only.
     pub fn needs_zero(self) -> bool
         ensures { result ≡ needs_zero self }
     {
         matches!(self, Kind::Load | Kind::Store)
     }
 
-    /// Whether operations of this kind stand on unit 1 alone.
+    /// Promise: whether operations of this kind run on unit 1 only.
     pub fn needs_one(self) -> bool
         ensures { result ≡ needs_one self }
     {
         self == Kind::Mult
     }
 
-    /// Whether at most one operation of this kind stands in a row, on whichever unit.
+    /// Promise: whether a row has at most one operation of this kind, on whichever unit.
     pub fn stands_alone(self) -> bool
         ensures { result ≡ stands_alone self }
     {

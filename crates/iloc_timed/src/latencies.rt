@@ -1,4 +1,4 @@
-//! How many cycles operations take.
+//! Latencies: how many cycles operations take.
 ghost use Rattle.std.specs.Prelude.{◌≡◌, ◌≤◌, ◌↔◌, IsSome, IfSome};
 ghost use Rattle.iloc_timed.specs.Limits.{LONGEST_LATENCY};
 
@@ -29,7 +29,7 @@ impl Latencies {
     ghost use Rattle.iloc_timed.specs.Latency.{IsLatency, latency_of};
     ghost use Rattle.iloc_timed.specs.Steps.Longest.{longest};
 
-    /// These latencies; `None` where one of them isn't from 1 to 16.
+    /// Promise: these latencies, or `None` if one of them isn't from 1 to 16.
     pub fn new(load: u32, store: u32, mult: u32) -> Option<Latencies>
         ensures within { IsSome result ↔ (IsLatency load × IsLatency store × IsLatency mult) }
         ensures load { IfSome result (λ latencies. latencies.load ≡ load) }
@@ -44,7 +44,7 @@ impl Latencies {
         }
     }
 
-    /// Loads and stores take five cycles, products three.
+    /// Promise: the default latencies: loads and stores take five cycles, products three.
     pub fn usual() -> Latencies
         ensures load { result.load ≡ 5 }
         ensures store { result.store ≡ 5 }
@@ -57,7 +57,7 @@ impl Latencies {
         }
     }
 
-    /// How many cycles after its issue the result of an operation of this kind arrives.
+    /// Promise: how many cycles after its issue the result of an operation of this kind arrives, from 1 to 16.
     #[inline(always)]
     pub fn of(&self, kind: Kind) -> u32
         ensures latency { result ≡ latency_of self.now kind }

@@ -4,6 +4,7 @@ ghost use Rattle.iloc_ops.specs.declared.op.Reg.{Reg as Register};
 ghost use Rattle.iloc_meaning.specs.Address.{is_good};
 ghost use Rattle.iloc_meaning.specs.Memory.{word_at};
 ghost use Rattle.iloc_meaning.specs.Registers.{value_of};
+ghost use Rattle.iloc_timed.specs.Limits.{LONGEST_LATENCY};
 ghost use Rattle.iloc_timed.specs.Steps.Pending.{landed_in_register, landed_in_word, CanLand};
 
 use crate::latencies::Latencies;
@@ -56,7 +57,7 @@ fn land_all(
     Ok(())
 }
 
-/// A schedule in mid-run: what was due is written, and the rest is under way.
+/// A schedule in mid-run: results that were due are written, and the others are under way.
 #[derive(Drop)]
 pub(crate) struct Machine {
     pub(crate) state: State,
@@ -82,7 +83,7 @@ impl Machine {
         })
     }
 
-    /// All registers 0, the memory first handed in, no output, nothing under way.
+    /// All registers 0, the memory that was first passed in, no output, nothing under way.
     fn restart(&mut self)
         ensures first { self.new.state.memory.first ≡ self.old.state.memory.first }
         ensures follows { Follows self.old.state.memory.first 0 [] self.new }
@@ -111,7 +112,7 @@ impl Machine {
     fn issue(&mut self, op: &Op, due: usize) -> Result<bool, NoMemory>
         ensures first { self.new.state.memory.first ≡ self.old.state.memory.first }
         ensures after { IfOk result (λ goes_on. (memory : List ℤ) (c : ℕ) (log : List Issued) →
-            c ≤ due → due < c + 16 → Follows memory c log self.old →
+            c ≤ due → due < c + LONGEST_LATENCY → Follows memory c log self.old →
             After goes_on memory c (then_issued memory c due op.now log) self.new) }
     {
         match Effect::of(op, &self.state.registers, self.state.memory.memory()) {
@@ -185,7 +186,7 @@ impl Machine {
         requires { from ≤ MAX_ROWS }
         ensures first { self.new.state.memory.first ≡ self.old.state.memory.first }
         ensures follows { OnOk result ((memory : List ℤ) (log : List Issued) →
-            Follows memory from log self.old → Follows memory (from + 16) log self.new) }
+            Follows memory from log self.old → Follows memory (from + LONGEST_LATENCY) log self.new) }
     {
         for cycle in from..from + LONGEST {
             self.land(cycle)?;
@@ -193,8 +194,8 @@ impl Machine {
         Ok(())
     }
 
-    /// Runs a schedule from the start, on the memory first handed in. Answers whether the run came to
-    /// its end: it ends at a fault.
+    /// Runs a schedule from the start, on the memory that was first passed in. Answers whether the run came to its end:
+    /// a fault ends it.
     pub(crate) fn run(
         &mut self,
         schedule: &Schedule,

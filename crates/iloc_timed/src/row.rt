@@ -33,8 +33,7 @@ impl Row {
         in_range(self.one) && in_range(self.zero) && self.keeps_units(ops)
     }
 
-    /// Whether loads and stores stand on unit 0, products on unit 1, and at most one output stands
-    /// in the row.
+    /// Whether loads and stores are on unit 0, products on unit 1, and at most one output is in the row.
     fn keeps_units(&self, ops: &[Op]) -> bool
         ensures { result ≡ keeps_units ops.now self.now }
     {

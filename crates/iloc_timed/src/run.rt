@@ -9,12 +9,12 @@ use iloc_meaning::{Memory, Outcome};
 use iloc_ops::NoMemory;
 use std::alloc::Global;
 
-/// The outcome of a schedule that starts with all registers 0 and this memory. At the start of each
-/// cycle the results that are due are written, in order of issue (unit 0 before unit 1); then the
-/// operations of its row read the registers and memory as they stand. A read before a result has
-/// arrived gets the old value. Outputs and faults happen at issue, and the run ends at the first
-/// fault. After the last row the results that are still under way are written, in order of due
-/// cycle, then of issue. After a refusal, as after a fault, the memory is given up.
+/// Promise: the outcome on the timed machine of a schedule that starts with all registers 0 and this memory.
+///
+/// At the start of each cycle the results that are due are written, in order of issue (unit 0 before unit 1); then the
+/// operations of its row read registers and memory. A read before a result has arrived gets the old value. Outputs and
+/// faults happen at issue, and the run ends at the first fault. After the last row the results that are still under way
+/// are written, in order of due cycle, then of issue. After a refusal of memory, as after a fault, the memory is dropped.
 pub fn run_schedule(
     alloc: Global,
     schedule: &Schedule,

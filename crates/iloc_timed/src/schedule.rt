@@ -13,9 +13,10 @@ use std::marker::Model;
 /// The most rows that a schedule may have.
 pub const MAX_ROWS: usize = 4_000_000_000;
 
-/// Operations, and the rows in which they are issued, the first in cycle 0. Each number in a row is
-/// an operation's, each operation stands in exactly one slot, and each row keeps the rules of the
-/// units: loads and stores on unit 0, products on unit 1, at most one output.
+/// Operations, and the rows in which they are issued, the first in cycle 0.
+///
+/// Promise: each number in a row is an operation's, each operation is in exactly one slot, and each row keeps the rules of
+/// the units: loads and stores on unit 0, products on unit 1, at most one output.
 #[derive(Debug, Drop)]
 pub struct Schedule {
     ops: Vec<Op>,
@@ -38,10 +39,11 @@ impl Model for Schedule {
 impl Schedule {
     /// The schedule of these operations in these rows, of which there are at most `MAX_ROWS`.
     ///
-    /// The rows are gone through twice and the operations once: first each row is tested by itself, then it is counted
-    /// where each operation stands. Refused are rows with a number that isn't an operation's or with a broken rule of
-    /// the units, and operations that don't stand in exactly one slot; the fault names the first. Then both lists are
-    /// given up, as they are where memory for the count is lacking.
+    /// Promise: a schedule comes only of rows that keep the rules, and has just these operations and rows; a fault names
+    /// the first row that breaks a rule, or else the first operation that isn't in exactly one slot.
+    ///
+    /// The rows are visited twice and the operations once. After a fault, as after a refusal of memory, both lists are
+    /// dropped.
     pub fn new(alloc: Global, ops: Vec<Op>, rows: Vec<Row>) -> Result<Schedule, BuildFault>
         requires { vec_len rows ≤ MAX_ROWS }
         ensures table { OnOk result (IsTable ops.items rows.items) }
@@ -58,7 +60,7 @@ impl Schedule {
         Ok(Schedule { ops, rows })
     }
 
-    /// The schedule of these operations in these rows, where the rules are known to hold.
+    /// Promise: the schedule of these operations in these rows, which are known to keep the rules.
     pub fn of_table(ops: Vec<Op>, rows: Vec<Row>) -> Schedule
         requires table { IsTable ops.items rows.items }
         requires few { vec_len rows ≤ MAX_ROWS }
@@ -68,7 +70,7 @@ impl Schedule {
         Schedule { ops, rows }
     }
 
-    /// Gives back the operations and the rows.
+    /// Promise: gives back the operations and the rows, which keep the rules.
     pub fn into_parts(self) -> (Vec<Op>, Vec<Row>)
         ensures ops { result.0.items ≡ self.ops }
         ensures rows { result.1.items ≡ self.rows }
@@ -77,7 +79,7 @@ impl Schedule {
         (self.ops, self.rows)
     }
 
-    /// The operations, by their numbers.
+    /// Promise: lends the operations, by their numbers.
     pub fn ops(&self) -> &[Op]
         ensures ops { result.now ≡ self.now.ops }
         ensures table { IsTable self.now.ops self.now.rows }
@@ -85,7 +87,7 @@ impl Schedule {
         self.ops.as_slice()
     }
 
-    /// The rows, by their cycles.
+    /// Promise: lends the rows, by their cycles, 4,000,000,000 at most.
     pub fn rows(&self) -> &[Row]
         ensures rows { result.now ≡ self.now.rows }
         ensures few { length self.now.rows ≤ MAX_ROWS }

@@ -12,9 +12,8 @@ use iloc_ops::NoMemory;
 use std::alloc::Global;
 use std::marker::Model;
 
-/// Runs schedules on the timed machine, one after another, each with all registers 0 and the memory
-/// first handed in. It holds that memory and no copy: what a schedule wrote is undone before the next
-/// one runs.
+/// Runs schedules on the timed machine, one after another, each with all registers 0 and the memory that was first
+/// passed in. It holds that memory and no copy: what a schedule wrote is undone before the next one runs.
 #[derive(Drop)]
 pub struct Simulator {
     machine: Machine,
@@ -30,8 +29,8 @@ impl Model for Simulator {
 }
 
 impl Simulator {
-    /// For schedules that start with this memory. Before the first one the outcome is that of a
-    /// schedule without operations.
+    /// Promise: a simulator whose schedules all start with this memory; until the first one runs, its outcome is that of
+    /// a schedule without operations.
     pub fn new(alloc: Global, memory: Memory) -> Result<Simulator, NoMemory>
         ensures { IfOk result (λ it. it ≡ record { memory = memory; last = Outcome.Finished [] memory }) }
     {
@@ -40,8 +39,9 @@ impl Simulator {
         })
     }
 
-    /// Runs a schedule, as `run_schedule` says. After a refusal the outcome is any, and the next
-    /// schedule is run as after any other.
+    /// Promise: runs a schedule, whose outcome is then that of `run_schedule` on the first memory, whatever ran before.
+    ///
+    /// After a refusal of memory the outcome is unspecified, and the next schedule runs as after any other.
     pub fn run(&mut self, schedule: &Schedule, latencies: &Latencies) -> Result<(), NoMemory>
         ensures memory { self.new.memory ≡ self.old.memory }
         ensures outcome { OnOk result (self.new.last
@@ -51,14 +51,14 @@ impl Simulator {
         Ok(())
     }
 
-    /// The words that the last schedule emitted, in order; none where it faulted.
+    /// Promise: the words that the last schedule emitted, in order, or `None` if it faulted.
     pub fn outputs(&self) -> Option<&[i32]>
         ensures { option_copied result ≡ shown self.now.last }
     {
         self.machine.state.outputs()
     }
 
-    /// The outcome of the last schedule.
+    /// Promise: the outcome of the last schedule.
     pub fn into_outcome(self) -> Outcome
         ensures { result ≡ self.last }
     {

@@ -1,4 +1,4 @@
-//! Where operations stand in rows.
+//! The slots that operations are in.
 ghost use Rattle.std.specs.Prelude.{ℕ, ◌≡◌, ◌≢◌, ◌+◌, ◌<◌, min, length, slice_index, count_by, option_to_list, ◌==◌, MatchOption, IfOk, IfSome};
 ghost use Rattle.iloc_timed.specs.Rows.{times_issued};
 ghost use Rattle.iloc_timed.specs.Schedule.{AreSound, AreInRange, AreOnce, IsFirstBadRow, IsFirstNotOnce};
@@ -38,7 +38,7 @@ fn count_rows(times: &mut [u8], rows: &[Row])
     }
 }
 
-/// The first of so many operations that doesn't stand in exactly one slot.
+/// The first of `op_count` operations that isn't in exactly one slot.
 pub(crate) fn first_not_once(
     alloc: Global,
     op_count: usize,

@@ -39,9 +39,8 @@ fn write_row(line: &mut [u8], end: usize, ops: &[Op], row: &Row) -> usize
     write_text(line, end, b"[ ")
 }
 
-/// Appends a row: `[ X ; Y ]`, the operation on unit 0 first, with `nop` for an empty slot.
-///
-/// Where memory is refused the text stays as it was.
+/// Promise: appends a row, `[ X ; Y ]`, the operation on unit 0 first, with `nop` for an empty slot; after a refusal of
+/// memory the text is as before.
 pub fn push_row(text: &mut Vec<u8>, ops: &[Op], row: &Row) -> Result<(), NoMemory>
     ensures ok { OnOk result (text.new.items ≡ text.old.items ++ row_spelling ops.now row.now) }
     ensures err { OnErr result (text.new.items ≡ text.old.items) }
@@ -52,9 +51,7 @@ pub fn push_row(text: &mut Vec<u8>, ops: &[Op], row: &Row) -> Result<(), NoMemor
     Ok(())
 }
 
-/// Appends a row on a line of its own.
-///
-/// Where memory is refused the text stays as it was.
+/// Promise: appends a row and a line end; after a refusal of memory the text is as before.
 pub fn push_row_line(text: &mut Vec<u8>, ops: &[Op], row: &Row) -> Result<(), NoMemory>
     ensures ok { OnOk result (text.new.items ≡ text.old.items ++ row_line ops.now row.now) }
     ensures err { OnErr result (text.new.items ≡ text.old.items) }

@@ -11,7 +11,7 @@ use crate::row::Row;
 use crate::schedule::{MAX_ROWS, Schedule};
 use iloc_ops::Op;
 
-/// How many cycles after its issue the result of an operation arrives.
+/// Promise: how many cycles after its issue the result of an operation arrives, from 1 to 16.
 pub fn latency(op: &Op, latencies: &Latencies) -> u64
     ensures latency { result ≡ latency latencies.now op.now }
     ensures within { IsLatency result }
@@ -31,8 +31,10 @@ fn arrival(ops: &[Op], latencies: &Latencies, cycle: usize, slot: Option<usize>)
     }
 }
 
-/// How many cycles rows take, until their last result has arrived: the greatest cycle of issue and
-/// latency together, 0 where there is no operation. The rows may break the rules of the units.
+/// Promise: how many cycles rows take until their last result has arrived: the greatest sum of a cycle of issue and a
+/// latency, 0 if there is no operation.
+///
+/// The rows may break the rules of the units.
 pub fn cycles_of(ops: &[Op], rows: &[Row], latencies: &Latencies) -> u64
     requires numbered { AreNumbered ops.now rows.now }
     requires few { length rows.now ≤ MAX_ROWS }
@@ -51,7 +53,7 @@ pub fn cycles_of(ops: &[Op], rows: &[Row], latencies: &Latencies) -> u64
     last
 }
 
-/// How many cycles a schedule takes, until its last result has arrived.
+/// Promise: how many cycles a schedule takes until its last result has arrived.
 pub fn cycles(schedule: &Schedule, latencies: &Latencies) -> u64
     ensures { result ≡ cycles latencies.now schedule.now.ops schedule.now.rows }
 {

@@ -1,5 +1,6 @@
 //! Results on their way to where they are written.
 ghost use Rattle.std.specs.Prelude.{◌≡◌, ◌%◌, ◌++◌, ◌∷◌, [], ℕ, length, replicate, slice_set, All, IfOk, OnOk};
+ghost use Rattle.iloc_timed.specs.Limits.{LONGEST_LATENCY};
 ghost use Rattle.iloc_timed.specs.Wheel.{list_at};
 
 use crate::latencies::LONGEST_LATENCY;
@@ -16,7 +17,7 @@ pub(crate) enum Pending {
     Word { address: u32, word: i32 },
 }
 
-/// What goes round on a wheel.
+/// What a wheel can hold.
 pub trait Lands {
     // It may be written where it goes.
     ghost can_land: { Self → Type 0 };
@@ -40,18 +41,19 @@ pub struct Wheel<T: Lands> {
 impl<T: Lands> Model for Wheel<T> {
     ghost use Rattle.std.specs.Prelude.{◌≡◌, List, map, vec_len};
     ghost use Rattle.std.specs.List.{All};
+    ghost use Rattle.iloc_timed.specs.Limits.{LONGEST_LATENCY};
 
     ghost Value = { List (List T) };
 
     ghost view = { λ wheel. map (λ list. list.items) wheel.lists.items };
 
-    ghost invariant = { λ wheel. (vec_len wheel.lists ≡ 16) × All (λ list. All T.can_land list.items) wheel.lists.items };
+    ghost invariant = { λ wheel. (vec_len wheel.lists ≡ LONGEST_LATENCY) × All (λ list. All T.can_land list.items) wheel.lists.items };
 }
 
 impl<T: Lands + Drop> Wheel<T> {
-    /// Nothing under way.
+    /// Promise: a wheel with nothing under way.
     pub fn new(alloc: Global) -> Result<Wheel<T>, NoMemory>
-        ensures { IfOk result (λ wheel. wheel ≡ replicate 16 []) }
+        ensures { IfOk result (λ wheel. wheel ≡ replicate LONGEST_LATENCY []) }
     {
         let mut lists = Vec::with_capacity(alloc, LONGEST)?;
         for _ in 0..LONGEST {
@@ -60,7 +62,7 @@ impl<T: Lands + Drop> Wheel<T> {
         Ok(Wheel { lists })
     }
 
-    /// What is due at a cycle.
+    /// Promise: lends what is due at a cycle, in order of issue.
     pub fn due(&self, cycle: usize) -> &[T]
         ensures due { result.now ≡ list_at self.now cycle }
         ensures can_land { All T.can_land result.now }
@@ -68,25 +70,25 @@ impl<T: Lands + Drop> Wheel<T> {
         self.lists[cycle % LONGEST].as_slice()
     }
 
-    /// Adds a result that is due at a cycle.
+    /// Promise: adds a result that is due at a cycle, after those that are due then already.
     pub fn push(&mut self, cycle: usize, pending: T) -> Result<(), NoMemory>
         requires { T.can_land pending }
-        ensures { OnOk result (self.new ≡ slice_set self.old (cycle % 16) (list_at self.old cycle ++ pending ∷ [])) }
+        ensures { OnOk result (self.new ≡ slice_set self.old (cycle % LONGEST_LATENCY) (list_at self.old cycle ++ pending ∷ [])) }
     {
         self.lists[cycle % LONGEST].push(pending)?;
         Ok(())
     }
 
-    /// Takes out what was due at a cycle.
+    /// Promise: removes what is due at a cycle, and nothing else.
     pub fn clear(&mut self, cycle: usize)
-        ensures { self.new ≡ slice_set self.old (cycle % 16) [] }
+        ensures { self.new ≡ slice_set self.old (cycle % LONGEST_LATENCY) [] }
     {
         self.lists[cycle % LONGEST].clear();
     }
 
-    /// Takes out all.
+    /// Promise: removes everything.
     pub fn clear_all(&mut self)
-        ensures count { length self.new ≡ 16 }
+        ensures count { length self.new ≡ LONGEST_LATENCY }
         ensures empty { (cycle : ℕ) → list_at self.new cycle ≡ [] }
     {
         for cycle in 0..self.lists.len() {

@@ -7,7 +7,7 @@ use Rattle.iloc_meaning.specs.Registers.{value_of}
 use Rattle.iloc_meaning.specs.Trace.{Executed, register_after, word_after}
 use Rattle.iloc_meaning.specs.Outcome.{has_fault, emitted}
 
--- the state stands where the trace leads from the memory handed in, and nothing faulted
+-- the state is what the trace leads to from the memory that was passed in, and nothing faulted
 pub record Follows (memory : List ℤ) (trace : List Executed) (state : State) : Type 0 where
   pub size : length memory ≡ WORDS
   pub first : state.memory.first ≡ memory

@@ -11,6 +11,7 @@ use Rattle.iloc_meaning.specs.Trace.{Executed}
 use Rattle.iloc_meaning.specs.Outcome.{is_fault, has_fault, emitted}
 use Rattle.iloc_meaning.specs.Results.{GoesTo}
 use Rattle.iloc_timed.specs.declared.machine.Machine.{Machine}
+use Rattle.iloc_timed.specs.Limits.{LONGEST_LATENCY}
 use Rattle.iloc_timed.specs.Timed.{Issued, register_in, word_in, executed_in}
 use Rattle.iloc_timed.specs.Steps.Wheel.{AreUnderWay}
 
@@ -35,7 +36,7 @@ pub record Follows (memory : List ℤ) (c : ℕ) (log : List Issued) (machine : 
   pub registers : (r : Reg) → value_of machine.state.registers r ≡ register_in (landed c log) r
   pub words : (a : ℕ) → IsTrue (is_good (pos a)) → word_at machine.state.memory.words a ≡ word_in memory (landed c log) a
   pub under_way : AreUnderWay c log machine.wheel
-  pub all_land : AllLand (c + 16) log
+  pub all_land : AllLand (c + LONGEST_LATENCY) log
   pub outputs : machine.state.outputs.items ≡ emitted (executed_in log)
 
 -- the operation, due at this cycle: it reads what has landed before cycle c
