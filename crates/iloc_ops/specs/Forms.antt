@@ -6,7 +6,7 @@ use Rattle.iloc_ops.specs.declared.op.Op.TheVariants.{Load, LoadI, Store, Add, S
 use Rattle.iloc_ops.specs.declared.forms.Opcode.{Opcode}
 use Rattle.iloc_ops.specs.declared.forms.Opcode.TheVariants as O
 
--- what an operand stands behind
+-- what precedes an operand
 pub data Lead : Type 0 where
   space : Lead
   comma : Lead

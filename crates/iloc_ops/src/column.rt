@@ -6,7 +6,7 @@ ghost use Rattle.iloc_ops.specs.Columns.{column};
 use crate::no_memory::NoMemory;
 use itoa::Buffer;
 
-/// Appends `number` in decimal.
+/// Promise: appends a number in decimal.
 pub fn push_decimal(text: &mut Vec<u8>, number: u64) -> Result<(), NoMemory>
     ensures { OnOk result (text.new.items ≡ text.old.items ++ decimal number) }
 {
@@ -14,7 +14,9 @@ pub fn push_decimal(text: &mut Vec<u8>, number: u64) -> Result<(), NoMemory>
     Ok(text.extend_from_slice(buffer.format(number).as_bytes())?)
 }
 
-/// Appends ` NAME N`. Where memory is refused a part of it may stand behind the text.
+/// Promise: appends a space, the name, a space and the number in decimal.
+///
+/// After a refusal of memory a part of these may have been appended.
 pub fn push_column(text: &mut Vec<u8>, name: &str, number: u64) -> Result<(), NoMemory>
     ensures { OnOk result (text.new.items ≡ text.old.items ++ column name.now number) }
 {

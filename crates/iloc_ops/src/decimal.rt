@@ -1,5 +1,5 @@
 //! Numbers as they are written. Those of up to four digits, as most are, are written without a branch for each digit,
-//! since it is seldom foreseen how many digits a number has.
+//! since how many digits a number has is hard to predict.
 ghost use Rattle.std.specs.Prelude.{◌≡◌, ◌++◌, ◌+◌, ◌/◌, ◌%◌, ◌<◌, ◌≤◌, ◌∷◌, [], drop, length};
 ghost use Rattle.std.specs.Fmt.{decimal};
 

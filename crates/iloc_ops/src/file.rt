@@ -30,21 +30,21 @@ impl Model for Blocks {
 }
 
 impl Blocks {
-    /// These blocks.
+    /// Promise: these blocks, in this order.
     pub fn new(items: Vec<Block>) -> Blocks
         ensures { result ≡ items.items }
     {
         Blocks { items }
     }
 
-    /// The blocks, lent.
+    /// Promise: lends the blocks, in order.
     pub fn as_slice(&self) -> &[Block]
         ensures { result.now ≡ self.now }
     {
         self.items.as_slice()
     }
 
-    /// Gives the blocks back.
+    /// Promise: gives the blocks back, in order.
     pub fn into_vec(self) -> Vec<Block>
         ensures { result.items ≡ self }
     {

@@ -27,7 +27,7 @@ pub enum Opcode {
     StoreAI,
 }
 
-/// The operands of an operation: what stands behind its opcode.
+/// The operands of an operation: what follows its opcode.
 #[derive(Clone, Copy, Debug, PartialEq, Eq)]
 pub enum Operands {
     /// None.
@@ -49,7 +49,7 @@ pub enum Operands {
 }
 
 impl Opcode {
-    /// The opcode as it is written.
+    /// Promise: the text of an opcode, of seven bytes at most.
     #[inline(always)]
     pub fn text(self) -> &'static [u8]
         ensures text { result.now ≡ opcode_text self }
@@ -76,7 +76,7 @@ impl Opcode {
         }
     }
 
-    /// The opcode as it is written, at the end of eight bytes.
+    /// Promise: eight bytes that end with the text of an opcode.
     #[inline(always)]
     pub fn padded(self) -> &'static [u8; 8]
         ensures text { drop (8 - length (opcode_text self)) result.now ≡ opcode_text self }
@@ -103,7 +103,7 @@ impl Opcode {
     }
 }
 
-/// The opcode and the operands of an operation.
+/// Promise: the opcode of an operation, and its operands from left to right.
 #[inline(always)]
 pub fn form_of(op: &Op) -> (Opcode, Operands)
     ensures opcode { result.0 ≡ opcode op.now }
@@ -143,7 +143,7 @@ fn number_at(numbers: &[u32], place: usize) -> u32
     numbers.get(place).copied().unwrap_or(0)
 }
 
-/// The operation of an opcode and numbers, left to right; 0 stands for a number that isn't there.
+/// Promise: the operation that has this opcode and these numbers, from left to right, with 0 for each missing number.
 #[inline(always)]
 pub fn op_of(opcode: Opcode, numbers: &[u32]) -> Op
     ensures { result ≡ op_of opcode numbers.now }

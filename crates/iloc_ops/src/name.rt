@@ -12,7 +12,7 @@ const SHORT: usize = 16;
 /// The text of a name.
 #[derive(Debug, Drop)]
 enum Text {
-    /// It lies in the value itself.
+    /// In the value itself.
     Short(ArrayString<SHORT>),
     Long(String),
 }
@@ -33,7 +33,7 @@ impl Model for Name {
 }
 
 impl Name {
-    /// The name with this text.
+    /// Promise: the name with this text.
     pub fn new(text: String) -> Name
         ensures { result ≡ string_bytes text }
     {
@@ -42,7 +42,9 @@ impl Name {
         }
     }
 
-    /// The name with a copy of this text; a short one takes no memory of its own.
+    /// Promise: a name with a copy of this text.
+    ///
+    /// A copy of at most 16 bytes needs no allocation.
     pub fn from_str(alloc: Global, text: &str) -> Result<Name, NoMemory>
         ensures { IfOk result (λ name. name ≡ text.now) }
     {
@@ -53,7 +55,7 @@ impl Name {
         Ok(Name { text })
     }
 
-    /// The text of the name.
+    /// Promise: the text of the name.
     pub fn as_str(&self) -> &str
         ensures { result.now ≡ self.now }
     {

@@ -10,9 +10,9 @@ use std::fmt;
 use std::marker::Model;
 use std::sync::Arc;
 
-/// Operations that stand side by side in a list that blocks share.
+/// A range of a list of operations that blocks share.
 #[derive(Drop)]
-struct Part {
+struct Shared {
     all: Arc<Vec<Op>>,
     start: usize,
     end: usize,
@@ -26,22 +26,22 @@ enum Held {
     /// In a list of their own, which may grow.
     Own(Vec<Op>),
     /// In one that blocks share.
-    Part(Part),
+    Shared(Shared),
 }
 
-impl Part {
-    ghost use Rattle.iloc_ops.specs.Steps.Held.{part_of};
+impl Shared {
+    ghost use Rattle.iloc_ops.specs.Steps.Held.{shared_ops};
 
     fn as_slice(&self) -> &[Op]
-        ensures { result.now ≡ part_of self.now }
+        ensures { result.now ≡ shared_ops self.now }
     {
         &self.all[self.start..self.end]
     }
 
-    /// A copy of the operations, and one more behind them.
+    /// A copy of the operations, followed by one more.
     #[cold]
     fn with(&self, op: Op) -> Result<Vec<Op>, NoMemory>
-        ensures { IfOk result (λ items. items.items ≡ part_of self.now ++ op ∷ []) }
+        ensures { IfOk result (λ items. items.items ≡ shared_ops self.now ++ op ∷ []) }
     {
         let mut items = Vec::from_slice(*self.all.allocator(), self.as_slice())?;
         items.push(op)?;
@@ -66,7 +66,7 @@ impl Model for Ops {
 }
 
 impl Ops {
-    /// These operations.
+    /// Promise: these operations, in this order.
     pub fn new(items: Vec<Op>) -> Ops
         ensures { result ≡ items.items }
     {
@@ -75,7 +75,9 @@ impl Ops {
         }
     }
 
-    /// Those of a list from one place to another. The list is shared, not copied.
+    /// Promise: the operations of a list from `start` up to `end`.
+    ///
+    /// The list is shared, not copied.
     pub fn of_shared(all: &Arc<Vec<Op>>, start: usize, end: usize) -> Result<Ops, NoMemory>
         requires ordered { start ≤ end }
         requires there { end ≤ length (arc_value all.now).items }
@@ -83,25 +85,27 @@ impl Ops {
     {
         let all = Arc::try_clone(all)?;
         Ok(Ops {
-            held: Held::Part(Part { all, start, end }),
+            held: Held::Shared(Shared { all, start, end }),
         })
     }
 
-    /// How many operations there are.
+    /// Promise: how many operations there are.
     pub fn len(&self) -> usize
         ensures { result ≡ length self.now }
     {
         self.as_slice().len()
     }
 
-    /// There is no operation.
+    /// Promise: whether there is no operation.
     pub fn is_empty(&self) -> bool
         ensures { IsTrue result ↔ (length self.now ≡ 0) }
     {
         self.as_slice().is_empty()
     }
 
-    /// Adds an operation at the end; where memory is refused nothing changes. Shared operations are copied first.
+    /// Promise: adds an operation at the end; after a refusal of memory the operations are as before.
+    ///
+    /// Shared operations are copied first.
     #[inline(always)]
     pub fn push(&mut self, op: Op) -> Result<(), NoMemory>
         ensures ok { OnOk result (self.new ≡ self.old ++ op ∷ []) }
@@ -109,13 +113,14 @@ impl Ops {
     {
         match &mut self.held {
             Held::Own(items) => items.push(op)?,
-            Held::Part(part) => self.held = Held::Own(part.with(op)?),
+            Held::Shared(shared) => self.held = Held::Own(shared.with(op)?),
         }
         Ok(())
     }
 
-    /// Adds an operation at the end where there are fewer than `limit`, and says whether it did. Shared operations
-    /// are copied first.
+    /// Promise: adds an operation at the end if there are fewer than `limit`, and says whether it did.
+    ///
+    /// Shared operations are copied first.
     #[inline(always)]
     pub fn push_within(&mut self, limit: usize, op: Op) -> Result<bool, NoMemory>
         ensures added { IfOk result (λ added. added ≡ true → self.new ≡ self.old ++ op ∷ []) }
@@ -130,34 +135,36 @@ impl Ops {
                 }
                 items.push(op)?;
             }
-            Held::Part(part) => {
-                if part.as_slice().len() >= limit {
+            Held::Shared(shared) => {
+                if shared.as_slice().len() >= limit {
                     return Ok(false);
                 }
-                self.held = Held::Own(part.with(op)?);
+                self.held = Held::Own(shared.with(op)?);
             }
         }
         Ok(true)
     }
 
-    /// Lets all operations go. Where they stood in a list of their own, its room stays.
+    /// Promise: removes all operations.
+    ///
+    /// A list of their own keeps its capacity.
     pub fn clear(&mut self)
         ensures { self.new ≡ [] }
     {
         match &mut self.held {
             Held::Own(items) => items.clear(),
-            Held::Part(part) => self.held = Held::Own(Vec::new(*part.all.allocator())),
+            Held::Shared(shared) => self.held = Held::Own(Vec::new(*shared.all.allocator())),
         }
     }
 
-    /// The operations, lent.
+    /// Promise: lends the operations, in order.
     #[inline]
     pub fn as_slice(&self) -> &[Op]
         ensures { result.now ≡ self.now }
     {
         match &self.held {
             Held::Own(items) => items.as_slice(),
-            Held::Part(part) => part.as_slice(),
+            Held::Shared(shared) => shared.as_slice(),
         }
     }
 }

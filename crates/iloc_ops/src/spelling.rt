@@ -14,12 +14,11 @@ use crate::no_memory::NoMemory;
 use crate::op::{Op, Reg};
 use itoa::Buffer;
 
-/// More bytes than an operation is spelled with.
+/// An operation is spelled in at most so many bytes.
 pub const OP_ROOM: usize = 64;
 
-/// Appends `number` in decimal, with a `-` before a negative one and no other sign.
-///
-/// Where memory is refused the text stays as it was.
+/// Promise: appends a number in decimal, with a `-` before a negative one and no other sign; after a refusal of memory,
+/// which comes only where the text must grow, the text is as before.
 pub fn push_number(text: &mut Vec<u8>, number: i64) -> Result<(), NoMemory>
     ensures ok { OnOk result (text.new.items ≡ text.old.items ++ signed_decimal number) }
     ensures err { OnErr result (text.new.items ≡ text.old.items) }
@@ -31,10 +30,10 @@ pub fn push_number(text: &mut Vec<u8>, number: i64) -> Result<(), NoMemory>
     Ok(())
 }
 
-/// Appends the spelling of `op`: one space after the opcode, `, ` between two sources and ` => `
-/// before the target.
+/// Appends the spelling of `op`: one space after the opcode, `, ` between two sources and ` => ` before the target.
 ///
-/// Where memory is refused the text stays as it was.
+/// Promise: appends the operation as it is spelled; after a refusal of memory, which comes only where the text must
+/// grow, the text is as before.
 pub fn push_op(text: &mut Vec<u8>, op: &Op) -> Result<(), NoMemory>
     ensures ok { OnOk result (text.new.items ≡ text.old.items ++ spelling op.now) }
     ensures err { OnErr result (text.new.items ≡ text.old.items) }
@@ -47,7 +46,9 @@ pub fn push_op(text: &mut Vec<u8>, op: &Op) -> Result<(), NoMemory>
     Ok(())
 }
 
-/// Writes the spelling of `op`, as `push_op` has it, so that it ends at `end`, and gives where it starts.
+/// Writes the spelling of `op`, as `push_op` has it, and gives where it starts.
+///
+/// Promise: the operation is spelled out just before `end`, in at most `OP_ROOM` bytes; the bytes after `end` stay.
 #[inline(always)]
 pub fn write_op(line: &mut [u8], end: usize, op: &Op) -> usize
     requires { (OP_ROOM ≤ end) × (end ≤ length line.old) }
@@ -98,7 +99,7 @@ fn write_operands(line: &mut [u8], end: usize, operands: Operands) -> usize
     }
 }
 
-/// Writes `source => target` behind a space, so that it ends at `end`, and gives where it starts.
+/// Writes `source => target` after a space, so that it ends at `end`, and gives where it starts.
 fn write_transfer(line: &mut [u8], end: usize, source: Reg, target: Reg) -> usize
     requires { (34 ≤ end) × (end ≤ length line.old) }
     ensures room { (result ≤ end) × (end ≤ result + 27) }
@@ -110,7 +111,7 @@ fn write_transfer(line: &mut [u8], end: usize, source: Reg, target: Reg) -> usiz
     write_operand(line, start, b" r", source.0)
 }
 
-/// Writes `left, right => dest` behind a space, so that it ends at `end`, and gives where it starts.
+/// Writes `left, right => dest` after a space, so that it ends at `end`, and gives where it starts.
 fn write_two_sources(line: &mut [u8], end: usize, left: Reg, right: Reg, dest: Reg) -> usize
     requires { (OP_ROOM ≤ end) × (end ≤ length line.old) }
     ensures room { (result ≤ end) × (end ≤ result + 40) }
@@ -123,7 +124,7 @@ fn write_two_sources(line: &mut [u8], end: usize, left: Reg, right: Reg, dest: R
     write_operand(line, end, b" r", left.0)
 }
 
-/// Writes `left, value => dest` behind a space, so that it ends at `end`, and gives where it starts.
+/// Writes `left, value => dest` after a space, so that it ends at `end`, and gives where it starts.
 fn write_immediate(line: &mut [u8], end: usize, left: Reg, value: u32, dest: Reg) -> usize
     requires { (OP_ROOM ≤ end) × (end ≤ length line.old) }
     ensures room { (result ≤ end) × (end ≤ result + 40) }
@@ -148,7 +149,9 @@ fn write_operand(line: &mut [u8], end: usize, lead: &[u8], number: u32) -> usize
     write_text(line, start, lead)
 }
 
-/// Writes the text so that it ends at `end`, and gives where it starts.
+/// Writes the text, and gives where it starts.
+///
+/// Promise: the text is written just before `end`; the bytes after `end` stay.
 #[inline(always)]
 pub fn write_text(line: &mut [u8], end: usize, text: &[u8]) -> usize
     requires { (length text.now ≤ end) × (end ≤ length line.old) }

@@ -3,7 +3,7 @@ use Rattle.std.proofs.lemmas.List.{drop-drop, drop-append-le}
 use Rattle.iloc_ops.specs.Forms.{opcode_text}
 use Rattle.iloc_ops.proofs.spelling.write_opcode.Goals as goal
 
--- what stands behind a part of the front that begins at a place
+-- what follows once a part of the front is passed
 behind : (cut start : ℕ) (line front rest text : List ℕ) → drop start line ≡ front ++ rest → cut ≤ length front
     → drop cut front ≡ text → drop (start + cut) line ≡ text ++ rest
 behind cut start line front rest text is inside end =
