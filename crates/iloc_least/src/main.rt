@@ -2,7 +2,7 @@
 #![tactic(auto)]
 
 use iloc_sched::least;
-use iloc_text::{MAX_OPS, read_file_from};
+use iloc_text::read_file_from;
 use iloc_timed::Latencies;
 use std::process::ExitCode;
 
@@ -15,11 +15,9 @@ fn main(rt: HostRuntime) -> ExitCode {
         }
     };
     for block in file.blocks.as_slice() {
-        if block.ops.as_slice().len() <= MAX_OPS {
-            match least(rt.alloc(), block, &Latencies::usual()) {
-                Ok(cycles) if println!(rt; "{cycles}").is_ok() => {}
-                _ => return ExitCode::FAILURE,
-            }
+        match least(rt.alloc(), block, &Latencies::usual()) {
+            Ok(cycles) if println!(rt; "{cycles}").is_ok() => {}
+            _ => return ExitCode::FAILURE,
         }
     }
     ExitCode::SUCCESS

@@ -13,7 +13,7 @@ use Rattle.iloc_ops.specs.Limits.{MAX_INPUT, MAX_BLOCKS, MAX_OPS}
 abbrev pub HasNoLineEnd : List ℕ → Type 0
 HasNoLineEnd line = AllByRecursion (λ c. c ≡ 10 → ⊥) line
 
--- the lines, none of which has a line end, are the input where a line end stands between each two
+-- the lines, none of which has a line end, are the input when a line end is put between each two
 pub record AreLines (input : List ℕ) (lines : List (List ℕ)) : Type 0 where
   pub some : 0 < length lines
   pub each : AllByRecursion HasNoLineEnd lines
@@ -37,7 +37,7 @@ ReadAs (line ∷ lines) (r ∷ rs) = Reads line r.label r.op × ReadAs lines rs
 abbrev pub labels : List Reading → List (List ℕ)
 labels rs = filter_map (λ r. r.label) rs
 
--- an operation stands before every label
+-- an operation comes before every label
 abbrev pub opens_unnamed : List Reading → Bool
 opens_unnamed [] = false
 opens_unnamed (r ∷ rs) = not (is_some r.label) && (is_some r.op || opens_unnamed rs)
@@ -87,6 +87,10 @@ NoneFaulty rs = AllByRecursion IsWithin (fronts rs)
 
 -- Files and refusals
 
+-- at most 65,535 blocks, each of at most 10,000 operations
+abbrev pub AreWithinLimits : List Block → Type 0
+AreWithinLimits blocks = (length blocks ≤ MAX_BLOCKS) × AllByRecursion (λ b. length b.ops ≤ MAX_OPS) blocks
+
 -- the bytes denote the blocks
 pub record Denotes (input : List ℕ) (blocks : List Block) : Type 0 where
   pub short : length input ≤ MAX_INPUT
@@ -97,7 +101,7 @@ pub record Denotes (input : List ℕ) (blocks : List Block) : Type 0 where
   pub none_faulty : NoneFaulty readings
   pub file : blocks ≡ file_of readings
 
--- a line behind lines with these readings reads so, and one block or one operation too much comes of it
+-- a line after lines with these readings reads so, and makes one block or one operation too many
 pub record StartsTooManyBlocks (rs : List Reading) (line : List ℕ) : Type 0 where
   pub reading : Reading
   pub read : Reads line reading.label reading.op
@@ -109,7 +113,7 @@ pub record HoldsTooManyOperations (rs : List Reading) (line : List ℕ) : Type 0
   pub blocks : block_count (rs ++ reading ∷ []) ≤ MAX_BLOCKS
   pub operations : MAX_OPS < length (ops_of (block_count (rs ++ reading ∷ [])) (rs ++ reading ∷ []))
 
--- line n, behind lines with these readings, has this fault
+-- line n, after lines with these readings, has this fault
 abbrev pub IsFaulty : List Reading → List ℕ → ℕ → ReadFault → Type 0
 IsFaulty rs line n InputTooLong = ⊥
 IsFaulty rs line n (BadLine k) = (k ≡ n) × (HasWideReading line → ⊥)

@@ -53,7 +53,7 @@ Arrow = Blanks ⋅ Text (codes "=>") ⋅ Blanks
 abbrev pub Comma : List ℕ → Type 0
 Comma = Blanks ⋅ Text (codes ",") ⋅ Blanks
 
--- what stands before an operand: one blank or more, a comma, or an arrow
+-- what precedes an operand: one blank or more, a comma, or an arrow
 abbrev pub LeadText : Lead → List ℕ → Type 0
 LeadText space = SomeBlanks
 LeadText comma = Comma
@@ -64,7 +64,7 @@ ValueText (Use r) = Register r
 ValueText (Definition r) = Register r
 ValueText (Constant n) = Number n
 
--- the operands in order, each behind what stands before it
+-- the operands in order, each after what precedes it
 abbrev pub OperandsText : List Operand → List ℕ → Type 0
 OperandsText [] = Text []
 OperandsText (o ∷ more) = LeadText o.lead ⋅ ValueText o.value ⋅ OperandsText more

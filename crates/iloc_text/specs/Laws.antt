@@ -1,15 +1,15 @@
 -- What holds of the language as a whole.
 use Rattle.std.specs.Prelude.{◌≡◌, ℕ, ◌≤◌, Option, Some, None, ◌⊎◌, List, length}
-use Rattle.std.specs.List.{AllByRecursion, AllZip, flat_map}
+use Rattle.std.specs.List.{AllZip, flat_map}
 use Rattle.iloc_ops.specs.declared.op.Op.{Op}
 use Rattle.iloc_ops.specs.declared.file.Block.{Block}
 use Rattle.iloc_text.specs.declared.fault.ReadFault.{ReadFault}
 use Rattle.iloc_text.specs.Grammar.{Reads, IsWithinLimit}
 use Rattle.iloc_ops.specs.Spelling.{spelling}
-use Rattle.iloc_text.specs.Files.{Denotes, IsRefused}
+use Rattle.iloc_text.specs.Files.{AreWithinLimits, Denotes, IsRefused}
 use Rattle.iloc_text.specs.Parts.{AreParts}
 use Rattle.iloc_text.specs.ScheduleLines.{Said, Says}
-use Rattle.iloc_ops.specs.Limits.{MAX_INPUT, MAX_BLOCKS, MAX_OPS}
+use Rattle.iloc_ops.specs.Limits.{MAX_INPUT, MAX_BLOCKS}
 
 -- a line has at most one reading
 abbrev pub LinesHaveOneReading : Type 0
@@ -35,10 +35,10 @@ abbrev pub TextsHaveAnAnswer : Type 0
 TextsHaveAnAnswer = (input : List ℕ)
     → ((blocks : List Block) × Denotes input blocks) ⊎ ((fault : ReadFault) × IsRefused input fault)
 
--- a file has at most 65,535 blocks, each of at most 10,000 operations
+-- a file is within the limits
 abbrev pub FilesAreWithinLimits : Type 0
 FilesAreWithinLimits = (input : List ℕ) (blocks : List Block) → Denotes input blocks
-    → (length blocks ≤ MAX_BLOCKS) × AllByRecursion (λ b. length b.ops ≤ MAX_OPS) blocks
+    → AreWithinLimits blocks
 
 -- where each part of a text denotes a file, the text denotes the blocks of all, if they and it are within the limits
 abbrev pub PartsAreReadApart : Type 0

@@ -13,7 +13,7 @@ pub record BeginsLabelled (text : List ℕ) : Type 0 where
   pub op : Option Op
   pub reads : Reads line (Some name) op
 
--- the text falls in two at a line end, behind which a line with a label stands
+-- the text falls in two at a line end, which a line with a label follows
 pub record FallsInto (text front back : List ℕ) : Type 0 where
   pub whole : text ≡ front ++ 10 ∷ back
   pub labelled : BeginsLabelled back

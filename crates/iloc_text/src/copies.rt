@@ -8,12 +8,12 @@ use std::alloc::Global;
 use std::mem;
 use std::sync::Arc;
 
-/// So many operations are kept in one list, or those of one block where it has more.
-const ROOM: usize = 4096;
+/// A shared list has at most so many operations, or those of a single block that has more.
+const MOST_SHARED: usize = 4096;
 
-/// A block whose operations stand in the list that is being filled.
+/// A block whose operations are in the list that is being filled.
 #[derive(Drop)]
-struct Waiting {
+struct Unsettled {
     name: Option<Name>,
     count: usize,
 }
@@ -23,11 +23,11 @@ struct Waiting {
 pub struct Copies {
     /// The first blocks.
     done: Vec<Block>,
-    /// Those behind them.
-    waiting: Vec<Waiting>,
+    /// The blocks after them.
+    unsettled: Vec<Unsettled>,
     /// The operations of those.
     ops: Vec<Op>,
-    ghost whole: { sum_by (λ w. w.count) waiting.items ≡ length ops.items },
+    ghost whole: { sum_by (λ w. w.count) unsettled.items ≡ length ops.items },
 }
 
 /// A copy of the name, if there is one.
@@ -49,21 +49,21 @@ impl Copies {
     {
         Copies {
             done: Vec::new(alloc),
-            waiting: Vec::new(alloc),
+            unsettled: Vec::new(alloc),
             ops: Vec::new(alloc),
         }
     }
 
-    /// No block waits any more: those that did share the list of their operations.
+    /// Settles all blocks: those that weren't share the list of their operations.
     fn settle(&mut self, alloc: Global) -> Result<(), NoMemory>
         ensures all { OnOk result (all_of self.new ≡ all_of self.old) }
-        ensures none { OnOk result (self.new.waiting.items ≡ []) }
+        ensures none { OnOk result (self.new.unsettled.items ≡ []) }
     {
-        let mut waiting = mem::replace(&mut self.waiting, Vec::new(alloc));
+        let mut unsettled = mem::replace(&mut self.unsettled, Vec::new(alloc));
         let ops = mem::replace(&mut self.ops, Vec::new(alloc));
         let all = Arc::new(alloc, ops)?;
         let mut start = 0;
-        for block in waiting.drain(..) {
+        for block in unsettled.drain(..) {
             let end = start + block.count;
             self.done.push(Block {
                 name: block.name,
@@ -71,19 +71,19 @@ impl Copies {
             })?;
             start = end;
         }
-        self.waiting = waiting;
+        self.unsettled = unsettled;
         Ok(())
     }
 
-    /// Adds a copy of the block, which waits.
+    /// Adds a copy of the block, which isn't settled yet.
     fn add(&mut self, alloc: Global, block: &Block) -> Result<(), NoMemory>
         ensures { OnOk result (all_of self.new ≡ all_of self.old ++ block.now ∷ []) }
     {
         let name = copy_of_name(alloc, block.name.as_ref())?;
         let ops = block.ops.as_slice();
-        self.waiting.reserve(1)?;
+        self.unsettled.reserve(1)?;
         self.ops.extend_from_slice(ops)?;
-        self.waiting.push_reserved(Waiting {
+        self.unsettled.push_reserved(Unsettled {
             name,
             count: ops.len(),
         });
@@ -109,9 +109,9 @@ impl TakeBlocks for Copies {
     ghost took = { λ start blocks now. all_of now ≡ all_of start ++ blocks };
 
     fn take(&mut self, alloc: Global, _number: usize, block: &Block) -> Result<(), NoMemory> {
-        if self.ops.len() + block.ops.len() > ROOM {
+        if self.ops.len() + block.ops.len() > MOST_SHARED {
             self.settle(alloc)?;
-            self.ops.reserve(ROOM.max(block.ops.len()))?;
+            self.ops.reserve(MOST_SHARED.max(block.ops.len()))?;
         }
         self.add(alloc, block)
     }

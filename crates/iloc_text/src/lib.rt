@@ -2,6 +2,7 @@
 #![tactic(auto)]
 
 mod copies;
+mod fast_path;
 mod fault;
 pub mod laws;
 mod line;
@@ -19,7 +20,6 @@ mod stream;
 mod taker;
 mod text_parts;
 mod text_reader;
-mod usual;
 
 pub use fault::{ReadFault, StreamFault};
 pub use iloc_ops::{

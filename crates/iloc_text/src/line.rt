@@ -27,7 +27,7 @@ pub enum ParseFault {
     NumberTooLarge,
 }
 
-/// A label, or none where no word stands with a colon behind it, and what stands behind that.
+/// A label, or none if no word is followed by a colon, and what follows that.
 #[tactic(auto, unfolding(crate::specs::Steps::Scan::optional_label_at))]
 pub fn optional_label_at(bytes: &[u8]) -> (Option<&[u8]>, &[u8])
     ensures { (option_map (λ name. name.now) result.0, result.1.now) ≡ optional_label_at bytes.now }
@@ -51,8 +51,7 @@ pub fn is_end(rest: &[u8]) -> bool
     matches!(rest, [] | [b'/', b'/', ..])
 }
 
-/// The operation of what stands behind a label, or that there is none; its numbers count as
-/// `ABOVE_LIMIT` where they are above the limit.
+/// The operation in what follows a label, or that there is none; numbers above the limit count as `ABOVE_LIMIT`.
 #[tactic(auto, unfolding(crate::specs::Steps::Scan::body_at))]
 fn body_at(bytes: &[u8]) -> Option<Option<Op>>
     ensures { result ≡ body_at bytes.now }

@@ -11,7 +11,7 @@ fn line_end(text: &[u8]) -> Option<usize>
     memchr(b'\n', text)
 }
 
-/// The line before the first line end, and what stands behind that line end, if there is one.
+/// Promise: the first line of a text, and what follows its line end, if it has one.
 #[inline(always)]
 pub fn split_line(text: &[u8]) -> (&[u8], Option<&[u8]>)
     ensures { lines_of text.now ≡ result.0.now ∷ lines_left result.1 }

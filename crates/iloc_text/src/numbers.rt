@@ -1,5 +1,5 @@
-//! Numbers. Those of few digits, as most are, are read without a branch for each digit, since it is seldom foreseen
-//! how many digits a number has, and with some bytes behind them, so that where the text ends need not be asked.
+//! Numbers. Those of few digits, as most are, are read without a branch for each digit, since how many digits a number
+//! has is hard to predict. Some bytes follow them, so the end of the text needs no test.
 ghost use Rattle.std.specs.Prelude.{◌≡◌, ◌≤◌, ◌<◌, ◌-◌, ◌+◌, ◌*◌, true, if◌then◌else◌, nat_lt, option_map, Some, IfSome, length, drop};
 ghost use Rattle.std.specs.Char.{is_ascii_digit};
 ghost use Rattle.iloc_text.specs.Steps.Scan.{capped, digits_after, number_at};
@@ -7,10 +7,10 @@ ghost use Rattle.iloc_text.specs.Steps.Scan.{capped, digits_after, number_at};
 use crate::scan::ABOVE_LIMIT;
 use iloc_ops::MAX_NUMBER;
 
-/// So many digits are enough for each number within the limit.
+/// How many digits the longest number within the limit has.
 const MOST_DIGITS: usize = 10;
 
-/// The number that `digit` makes when it is written behind `value`, as far as the limit goes.
+/// The number that `digit` makes when it is appended to `value`, up to the limit.
 #[cold]
 #[inline(never)]
 fn with_digit(value: u32, digit: u8) -> u32
@@ -21,7 +21,7 @@ fn with_digit(value: u32, digit: u8) -> u32
     wide.min(u64::from(ABOVE_LIMIT)) as u32
 }
 
-/// The number that `value` becomes with the digits at the front behind it, and how many they are.
+/// The number that `value` becomes when the digits at the front are appended, and how many they are.
 #[cold]
 #[inline(never)]
 fn with_digits(value: u32, bytes: &[u8]) -> (u32, usize)
@@ -52,7 +52,7 @@ fn digit_in(byte: u8) -> u8
     byte.wrapping_sub(b'0')
 }
 
-/// The number that `digit` makes when it is written behind `value`, where it counts.
+/// The number that `digit` makes when it is appended to `value`, if it counts.
 #[inline(always)]
 fn grown(value: u32, digit: u8, counts: bool) -> u32
     requires { value < 100000 }
@@ -63,7 +63,7 @@ fn grown(value: u32, digit: u8, counts: bool) -> u32
     if counts { longer } else { value }
 }
 
-/// A number, which counts as `ABOVE_LIMIT` where it is greater.
+/// A number, which counts as `ABOVE_LIMIT` if it is greater.
 pub fn number_at(bytes: &[u8]) -> Option<(u32, &[u8])>
     ensures { option_map (λ found. (found.0, found.1.now)) result ≡ number_at bytes.now }
 {
@@ -76,8 +76,8 @@ pub fn number_at(bytes: &[u8]) -> Option<(u32, &[u8])>
     }
 }
 
-/// A number within the limit and how many digits it has; no digits where none stands, or one with more than
-/// `MOST_DIGITS`, of which no more than one further digit is looked at.
+/// A number within the limit and how many digits it has; no digits if there is none, or one of more than `MOST_DIGITS`
+/// digits, of which at most one more is looked at.
 #[cold]
 #[inline(never)]
 fn long_number_at(bytes: &[u8]) -> (u32, usize)
@@ -139,7 +139,7 @@ fn four_digits_at(bytes: &[u8]) -> Option<(u32, usize)>
 
 /// The number of a register, within the limit and of up to `MOST_DIGITS` digits, and how many these are.
 #[inline(always)]
-pub fn usual_register_number_at(bytes: &[u8]) -> Option<(u32, usize)>
+pub fn fast_register_number_at(bytes: &[u8]) -> Option<(u32, usize)>
     requires { 3 ≤ length bytes.now }
     ensures is { IfSome result (λ found. number_at bytes.now ≡ Some (found.0, drop found.1 bytes.now)) }
     ensures small { IfSome result (λ found. nat_lt found.0 ABOVE_LIMIT ≡ true) }
@@ -156,9 +156,9 @@ pub fn usual_register_number_at(bytes: &[u8]) -> Option<(u32, usize)>
     }
 }
 
-/// As `usual_register_number_at`, of a constant.
+/// As `fast_register_number_at`, of a constant.
 #[inline(always)]
-pub fn usual_number_at(bytes: &[u8]) -> Option<(u32, usize)>
+pub fn fast_number_at(bytes: &[u8]) -> Option<(u32, usize)>
     requires { 5 ≤ length bytes.now }
     ensures is { IfSome result (λ found. number_at bytes.now ≡ Some (found.0, drop found.1 bytes.now)) }
     ensures small { IfSome result (λ found. nat_lt found.0 ABOVE_LIMIT ≡ true) }

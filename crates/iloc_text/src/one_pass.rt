@@ -3,15 +3,15 @@ ghost use Rattle.std.specs.Prelude.{None, Some, Ok, IfSome};
 ghost use Rattle.iloc_text.specs.Grammar.{◌⋅◌, Blanks, OptionalComment};
 ghost use Rattle.iloc_text.specs.Steps.LineReads.{FirstIs, FirstBody, FirstLine};
 
+use crate::fast_path::fast_called_at;
 use crate::line::{Line, are_within_limit, optional_label_at};
 use crate::line_ends::split_line;
 use crate::opcode::opcode_at;
 use crate::operation::numbers_at;
 use crate::scan::after_blanks;
-use crate::usual::usual_called_at;
 use iloc_ops::{Op, op_of};
 
-/// What stands behind the first line end, if there is one, where nothing but a comment stands before it.
+/// What follows the first line end, if there is one, and nothing but a comment precedes it.
 #[inline(always)]
 fn behind_comment(bytes: &[u8]) -> Option<Option<&[u8]>>
     ensures { IfSome result (FirstIs OptionalComment bytes.now) }
@@ -24,7 +24,7 @@ fn behind_comment(bytes: &[u8]) -> Option<Option<&[u8]>>
     }
 }
 
-/// What stands behind the first line end, if there is one, where nothing but blanks and a comment stands before it.
+/// What follows the first line end, if there is one, and nothing but blanks and a comment precede it.
 #[inline(always)]
 fn behind_line_end(bytes: &[u8]) -> Option<Option<&[u8]>>
     ensures { IfSome result (FirstIs (Blanks ⋅ OptionalComment) bytes.now) }
@@ -35,32 +35,32 @@ fn behind_line_end(bytes: &[u8]) -> Option<Option<&[u8]>>
     behind_comment(after_blanks(bytes))
 }
 
-/// The operation that stands at the front in the usual spelling and is the last of its line, and what stands behind
-/// the line end. This is what most lines are.
+/// The operation at the front, found on the fast path, and what follows the line end after it. This is what most lines
+/// are.
 #[inline(never)]
-fn usual_operation(bytes: &[u8]) -> Option<(Op, &[u8])>
+fn fast_operation(bytes: &[u8]) -> Option<(Op, &[u8])>
     ensures { IfSome result (λ found. FirstBody bytes.now (Some found.0) (Some found.1)) }
 {
     let (opcode, behind) = opcode_at(bytes)?;
-    let (op, rest) = usual_called_at(opcode, behind)?;
+    let (op, rest) = fast_called_at(opcode, behind)?;
     let after = behind_line_end(rest)??;
     Some((op, after))
 }
 
-/// What the line at the front says where that is an operation in the usual spelling, or nothing but a comment,
-/// without a label and without blanks before it, and what stands behind its line end, if it has one.
+/// What the line at the front says if that is an operation found on the fast path, or nothing but a comment, without a
+/// label and without blanks before it, and what follows its line end, if it has one.
 #[inline(always)]
-pub fn usual_body(bytes: &[u8]) -> Option<(Option<Op>, Option<&[u8]>)>
+pub fn fast_body(bytes: &[u8]) -> Option<(Option<Op>, Option<&[u8]>)>
     ensures { IfSome result (λ found. FirstBody bytes.now found.0 found.1) }
 {
-    if let Some((op, after)) = usual_operation(bytes) {
+    if let Some((op, after)) = fast_operation(bytes) {
         return Some((Some(op), Some(after)));
     }
     let after = behind_line_end(bytes)?;
     Some((None, after))
 }
 
-/// As `usual_operation`, however it is spelled, and though the text may end with it.
+/// As `fast_operation`, however it is spelled, and though the text may end with it.
 #[inline(never)]
 fn any_operation(bytes: &[u8]) -> Option<(Op, Option<&[u8]>)>
     ensures { IfSome result (λ found. FirstBody bytes.now (Some found.0) found.1) }
@@ -75,8 +75,8 @@ fn any_operation(bytes: &[u8]) -> Option<(Op, Option<&[u8]>)>
     }
 }
 
-/// What the line at the front says behind a label, if it has one, and blanks. Behind no label the usual spelling isn't
-/// looked for: where it stands there `usual_body` finds it.
+/// What the line at the front says after a label, if it has one, and blanks. Without a label the fast path isn't tried:
+/// `fast_body` has tried it.
 #[inline(always)]
 fn body_behind<'a>(label: Option<&[u8]>, bytes: &'a [u8]) -> Option<(Option<Op>, Option<&'a [u8]>)>
     ensures { IfSome result (λ found. FirstBody bytes.now found.0 found.1) }
@@ -85,7 +85,7 @@ fn body_behind<'a>(label: Option<&[u8]>, bytes: &'a [u8]) -> Option<(Option<Op>,
         return Some((None, after));
     }
     if label.is_some()
-        && let Some((op, after)) = usual_operation(bytes)
+        && let Some((op, after)) = fast_operation(bytes)
     {
         return Some((Some(op), Some(after)));
     }
@@ -93,9 +93,9 @@ fn body_behind<'a>(label: Option<&[u8]>, bytes: &'a [u8]) -> Option<(Option<Op>,
     Some((Some(op), after))
 }
 
-/// What the first line of the text reads as, and what stands behind its line end, if it has one.
+/// What the first line of the text reads as, and what follows its line end, if it has one.
 #[inline(always)]
-pub fn usual_line(text: &[u8]) -> Option<(Line<'_>, Option<&[u8]>)>
+pub fn fast_line(text: &[u8]) -> Option<(Line<'_>, Option<&[u8]>)>
     ensures { IfSome result (λ found. FirstLine text.now (Ok found)) }
 {
     let (label, behind) = optional_label_at(after_blanks(text));

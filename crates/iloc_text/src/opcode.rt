@@ -42,7 +42,7 @@ pub fn opcode_of(word: &[u8]) -> Option<Opcode>
     ALL.iter().copied().find(|opcode| opcode.text() == word)
 }
 
-/// What stands behind the text, where the bytes begin with it.
+/// What follows the text, if the bytes begin with it.
 #[inline(always)]
 fn behind_text<'a>(text: &[u8], bytes: &'a [u8]) -> Option<&'a [u8]>
     ensures { IfSome result (λ rest. bytes.now ≡ text.now ++ rest.now) }
@@ -58,7 +58,7 @@ fn behind_text<'a>(text: &[u8], bytes: &'a [u8]) -> Option<&'a [u8]>
     Some(&bytes[text.len()..])
 }
 
-/// The first of the opcodes that stands at the front of the bytes, and what stands behind it.
+/// The first of the opcodes that is at the front of the bytes, and what follows it.
 #[inline(always)]
 fn first_of<'a>(opcodes: &[Opcode], bytes: &'a [u8]) -> Option<(Opcode, &'a [u8])>
     ensures { IfSome result (λ found. bytes.now ≡ opcode_text found.0 ++ found.1.now) }
@@ -71,7 +71,7 @@ fn first_of<'a>(opcodes: &[Opcode], bytes: &'a [u8]) -> Option<(Opcode, &'a [u8]
     None
 }
 
-/// The longest opcode at the front of the bytes, and what stands behind it.
+/// The longest opcode at the front of the bytes, and what follows it.
 ///
 /// The first letter picks the few opcodes whose texts are compared, each longer one before its own front.
 /// The compiler unrolls the comparisons, since these lists and the texts are known to it.

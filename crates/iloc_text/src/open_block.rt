@@ -13,7 +13,7 @@ use iloc_ops::{Block, MAX_BLOCKS, MAX_OPS, Name, NoMemory, Op, Ops};
 use std::alloc::Global;
 use std::str;
 
-/// The block whose lines are being read, within the limits. Its room serves block after block.
+/// The block whose lines are being read, within the limits. Its buffers are reused for each block.
 #[derive(Drop)]
 pub struct OpenBlock {
     // How many blocks there are with this one; 0 where none is open yet.

@@ -1,4 +1,4 @@
-//! The operands of a line, each with what stands before it, however they are spelled.
+//! The operands of a line, each with what precedes it, however they are spelled.
 ghost use Rattle.std.specs.Prelude.{◌≡◌, option_map};
 ghost use Rattle.iloc_ops.specs.Forms.Lead.{space, comma, arrow};
 ghost use Rattle.iloc_ops.specs.Forms.{◌▹◌};

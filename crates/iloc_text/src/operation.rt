@@ -1,4 +1,4 @@
-//! The operation of a line, scanned with numbers that count as `ABOVE_LIMIT` where they are above the limit.
+//! The operation of a line, scanned so that numbers above the limit count as `ABOVE_LIMIT`.
 ghost use Rattle.std.specs.Prelude.{◌≡◌, option_map};
 ghost use Rattle.iloc_ops.specs.Forms.{op_of};
 ghost use Rattle.iloc_text.specs.Steps.Scan.{called_at, operation_at, optional_operation_at};
@@ -11,7 +11,7 @@ use crate::operand::{
 use crate::scan::{is_word_byte, word_at};
 use iloc_ops::{Op, Opcode, Operands, op_of};
 
-/// The numbers behind an opcode by their places, with 0 in each that it has no place for.
+/// The numbers after an opcode by their places, with 0 in each place that it doesn't have.
 #[tactic(auto, using(crate::proofs::Zeros::zero_stands_for_none, crate::proofs::Zeros::zeros_stand_for_none, crate::proofs::Zeros::all_zeros_stand_for_none), unfolding(crate::specs::Steps::Scan::called_at, crate::specs::Steps::Scan::operand_then))]
 pub fn numbers_at(opcode: Opcode, bytes: &[u8]) -> Option<([u32; 3], &[u8])>
     ensures { option_map (λ found. (op_of opcode found.0, found.1.now)) result ≡ called_at opcode bytes.now }
@@ -53,7 +53,7 @@ pub fn numbers_at(opcode: Opcode, bytes: &[u8]) -> Option<([u32; 3], &[u8])>
     }
 }
 
-/// What stands behind an opcode: the operands that belong there.
+/// The operation of an opcode and of the operands that follow it.
 fn called_at(opcode: Opcode, bytes: &[u8]) -> Option<(Op, &[u8])>
     ensures { option_map (λ found. (found.0, found.1.now)) result ≡ called_at opcode bytes.now }
 {
@@ -61,7 +61,7 @@ fn called_at(opcode: Opcode, bytes: &[u8]) -> Option<(Op, &[u8])>
     Some((op_of(opcode, &numbers), rest))
 }
 
-/// An opcode and what belongs behind it.
+/// An opcode and its operands.
 #[tactic(auto, unfolding(crate::specs::Steps::Scan::operation_at))]
 pub fn operation_at(bytes: &[u8]) -> Option<(Op, &[u8])>
     ensures { option_map (λ found. (found.0, found.1.now)) result ≡ operation_at bytes.now }
@@ -70,7 +70,7 @@ pub fn operation_at(bytes: &[u8]) -> Option<(Op, &[u8])>
     called_at(opcode_of(word)?, rest)
 }
 
-/// An operation, or none where no word stands.
+/// An operation, or none if there is no word.
 #[tactic(auto, unfolding(crate::specs::Steps::Scan::optional_operation_at))]
 pub fn optional_operation_at(bytes: &[u8]) -> Option<(Option<Op>, &[u8])>
     ensures { option_map (λ found. (found.0, found.1.now)) result ≡ optional_operation_at bytes.now }

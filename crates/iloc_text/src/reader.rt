@@ -6,25 +6,25 @@ ghost use Rattle.iloc_text.specs.Steps.LineReads.{FirstLine};
 ghost use Rattle.iloc_text.specs.Lines.{lines_of};
 ghost use Rattle.iloc_text.specs.Steps.Open.{HasTaken};
 ghost use Rattle.iloc_text.specs.Steps.Verdicts.{Answered, answer_from};
-ghost use Rattle.iloc_text.specs.Files.{Denotes, IsRefused};
+ghost use Rattle.iloc_text.specs.Files.{AreWithinLimits, Denotes, IsRefused};
 
 use crate::copies::Copies;
 use crate::fault::ReadFault;
 use crate::line::{Line, ParseFault, read_line};
 use crate::line_ends::split_line;
-use crate::one_pass::{usual_body, usual_line};
+use crate::one_pass::{fast_body, fast_line};
 use crate::open_block::OpenBlock;
 use crate::scan::after_blanks;
 use crate::taker::TakeBlocks;
 use iloc_ops::{IlocFile, MAX_INPUT};
 use std::alloc::Global;
 
-/// The first line of the text and what stands behind its line end, if it has one; or why it has no reading.
+/// The first line of the text and what follows its line end, if it has one; or why it has no reading.
 #[inline(never)]
 fn first_line(text: &[u8]) -> Result<(Line<'_>, Option<&[u8]>), ParseFault>
     ensures { FirstLine text.now result }
 {
-    if let Some(found) = usual_line(text) {
+    if let Some(found) = fast_line(text) {
         return Ok(found);
     }
     let (bytes, after) = split_line(text);
@@ -32,8 +32,8 @@ fn first_line(text: &[u8]) -> Result<(Line<'_>, Option<&[u8]>), ParseFault>
     Ok((line, after))
 }
 
-/// Reads the lines of the text, before which so many lines were read, and hands each block over as soon as the next one
-/// opens. Answers how many lines were read then.
+/// Reads the lines of the text, after `before` lines, and hands each block over as soon as the next one opens. Answers
+/// how many lines were read in all.
 pub(crate) fn read_lines<T: TakeBlocks>(
     alloc: Global,
     text: &[u8],
@@ -50,7 +50,7 @@ pub(crate) fn read_lines<T: TakeBlocks>(
     let mut rest = Some(text);
     while let Some(text) = rest {
         number += 1;
-        if let Some((op, after)) = usual_body(after_blanks(text)) {
+        if let Some((op, after)) = fast_body(after_blanks(text)) {
             open_block.add_op(alloc, taker, op, number)?;
             rest = after;
             continue;
@@ -66,13 +66,13 @@ pub(crate) fn read_lines<T: TakeBlocks>(
     Ok(number)
 }
 
-/// Reads a text of ILOC and hands each block over, in order, as soon as its last line is read: exactly the
-/// blocks that the text denotes, or the refusal that it denotes.
+/// Reads a text of ILOC and hands each block over, in order, as soon as its last line is read.
 ///
-/// A text that is too long is refused before any line is looked at; otherwise the earliest faulty line
-/// is named. On one line `BadLine` comes before `NumberTooLarge`, `TooManyBlocks` and
-/// `TooManyOperations`. `NoMemory` may come besides, where the taker answers it or a growth is refused.
-/// Where a text is refused, blocks may have been handed over.
+/// Promise: the taker gets exactly the blocks that the text denotes, in order, or the text is refused as it denotes.
+///
+/// A text that is too long is refused before any line is looked at; otherwise the earliest faulty line is named. On one
+/// line `BadLine` comes before `NumberTooLarge`, `TooManyBlocks` and `TooManyOperations`. `NoMemory` may come instead, if
+/// the taker answers it or a growth is refused. When a text is refused, blocks may have been handed over already.
 pub fn read_blocks<T: TakeBlocks>(
     alloc: Global,
     input: &[u8],
@@ -91,10 +91,13 @@ pub fn read_blocks<T: TakeBlocks>(
     Ok(())
 }
 
-/// Reads a file of ILOC: exactly the file that the text denotes, or the refusal that it denotes, as
-/// `read_blocks` says.
+/// Reads a file of ILOC, as `read_blocks` does.
+///
+/// Promise: exactly the file that the text denotes, of at most 65,535 blocks, each of at most 10,000 operations, or the
+/// refusal that it denotes.
 pub fn read_file(alloc: Global, input: &[u8]) -> Result<IlocFile, ReadFault>
     ensures ok { IfOk result (λ file. Denotes input.now file.blocks) }
+    ensures limits { IfOk result (λ file. AreWithinLimits file.blocks) }
     ensures err { IfErr result (λ fault. fault ≢ no_memory → IsRefused input.now fault) }
 {
     let mut copies = Copies::new(alloc);

@@ -1,11 +1,11 @@
-//! The tokens of a line. Each function reads one at the front of the bytes and gives what stands behind it.
+//! The tokens of a line. Each function reads one at the front of the bytes and gives what follows it.
 ghost use Rattle.std.specs.Prelude.{◌≡◌, ◌≤◌, option_map, length};
 ghost use Rattle.iloc_text.specs.Grammar.{is_blank, is_word_byte};
 ghost use Rattle.iloc_text.specs.Steps.Scan.{after_blanks, some_blanks_at, arrow_at, comma_at, after_word, word_of};
 
 use iloc_ops::MAX_NUMBER;
 
-/// The least number above the limit. While a line is scanned it stands for every such number.
+/// The least number above the limit. While a line is scanned it represents every such number.
 pub const ABOVE_LIMIT: u32 = MAX_NUMBER + 1;
 
 fn is_blank(byte: u8) -> bool
@@ -28,7 +28,7 @@ fn after_all_blanks(bytes: &[u8]) -> &[u8]
     rest
 }
 
-/// The bytes behind the blanks at the front.
+/// The bytes after the blanks at the front.
 #[inline(always)]
 pub fn after_blanks(bytes: &[u8]) -> &[u8]
     ensures { result.now ≡ after_blanks bytes.now }
@@ -39,7 +39,7 @@ pub fn after_blanks(bytes: &[u8]) -> &[u8]
     }
 }
 
-/// The bytes behind one blank or more.
+/// The bytes after one blank or more.
 #[inline(always)]
 pub fn some_blanks_at(bytes: &[u8]) -> Option<&[u8]>
     ensures { option_map (λ rest. rest.now) result ≡ some_blanks_at bytes.now }
@@ -84,7 +84,7 @@ pub fn is_word_byte(byte: u8) -> bool
     byte.is_ascii_alphanumeric() || byte == b'_'
 }
 
-/// The bytes behind the letters, digits and underscores at the front.
+/// The bytes after the letters, digits and underscores at the front.
 fn after_word(bytes: &[u8]) -> &[u8]
     ensures rest { result.now ≡ after_word bytes.now }
     ensures shorter { length result.now ≤ length bytes.now }
@@ -98,7 +98,7 @@ fn after_word(bytes: &[u8]) -> &[u8]
     rest
 }
 
-/// The letters, digits and underscores at the front, of which there may be none, and what stands behind them.
+/// The letters, digits and underscores at the front, of which there may be none, and what follows them.
 pub fn word_at(bytes: &[u8]) -> (&[u8], &[u8])
     ensures word { result.0.now ≡ word_of bytes.now }
     ensures rest { result.1.now ≡ after_word bytes.now }

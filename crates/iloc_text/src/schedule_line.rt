@@ -12,7 +12,7 @@ use iloc_ops::Op;
 /// What a line of a schedule says.
 #[derive(Clone, Copy)]
 pub enum ScheduleLine<'a> {
-    /// Nothing: blanks and a comment stand there, or not even those.
+    /// Nothing: only blanks and a comment, or not even those.
     Empty,
     /// `[ zero ; one ]`: the operations that are issued in a cycle, on unit 0 and on unit 1.
     Row { zero: Op, one: Op },
@@ -24,7 +24,7 @@ pub enum ScheduleLine<'a> {
     Total(u32),
 }
 
-/// An operation and what stands behind it, with any blanks on both sides.
+/// An operation and what follows it, with any blanks on both sides.
 #[tactic(auto, unfolding(crate::specs::Steps::ScheduleScan::slot_at))]
 fn slot_at(bytes: &[u8]) -> Option<(Op, &[u8])>
     ensures { option_map (λ found. (found.0, found.1.now)) result ≡ slot_at bytes.now }
@@ -33,7 +33,7 @@ fn slot_at(bytes: &[u8]) -> Option<(Op, &[u8])>
     Some((op, after_blanks(rest)))
 }
 
-/// What stands behind this byte.
+/// What follows this byte.
 fn behind_byte(byte: u8, bytes: &[u8]) -> Option<&[u8]>
     ensures { option_map (λ rest. rest.now) result ≡ behind_byte byte bytes.now }
 {
@@ -79,7 +79,7 @@ fn head_at(bytes: &[u8]) -> Option<(ScheduleLine<'_>, &[u8])>
     Some((ScheduleLine::Head { number, name }, rest))
 }
 
-/// What is said with this word, and behind it.
+/// What is said with this word, and what follows.
 #[tactic(auto, unfolding(crate::specs::Steps::ScheduleScan::cycles_at, crate::specs::Steps::ScheduleScan::total_at, crate::specs::Steps::ScheduleScan::number_behind))]
 fn worded_at<'a>(word: &[u8], rest: &'a [u8]) -> Option<(ScheduleLine<'a>, &'a [u8])>
     ensures { option_map (λ found. (said_of found.0, found.1.now)) result ≡ worded_at word.now rest.now }
@@ -97,7 +97,7 @@ fn worded_at<'a>(word: &[u8], rest: &'a [u8]) -> Option<(ScheduleLine<'a>, &'a [
     }
 }
 
-/// What is said, or nothing where neither a bracket nor a word stands.
+/// What is said, or nothing if there is neither a bracket nor a word.
 #[tactic(auto, unfolding(crate::specs::Steps::ScheduleScan::said_at))]
 fn said_at(bytes: &[u8]) -> Option<(ScheduleLine<'_>, &[u8])>
     ensures { option_map (λ found. (said_of found.0, found.1.now)) result ≡ said_at bytes.now }
@@ -138,7 +138,7 @@ fn is_said_within(line: &ScheduleLine<'_>) -> bool
     }
 }
 
-/// What a line of a schedule says, or why it isn't understood. The line has no line end.
+/// Promise: what a line of a schedule says, or why it isn't understood; the line comes without its line end.
 pub fn read_schedule_line(line: &[u8]) -> Result<ScheduleLine<'_>, ParseFault>
     ensures { IsSaidBy line.now result }
 {

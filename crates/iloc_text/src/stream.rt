@@ -1,7 +1,7 @@
 //! Files that are read as their bytes come from a stream.
 ghost use Rattle.std.specs.Prelude.{IfErr, IfOk, OnOk, List, [], ℕ};
 ghost use Rattle.iloc_ops.specs.declared.file.Block.{Block};
-ghost use Rattle.iloc_text.specs.Files.{Denotes};
+ghost use Rattle.iloc_text.specs.Files.{AreWithinLimits, Denotes};
 ghost use Rattle.iloc_text.specs.Steps.TextReads.{HasRead};
 ghost use Rattle.iloc_text.specs.Streams.{EndsStream, ReadsText};
 
@@ -13,7 +13,7 @@ use iloc_ops::{IlocFile, MAX_INPUT};
 use std::alloc::Global;
 use std::io::Read;
 
-/// At most so many bytes are asked for at a time.
+/// How many bytes are asked for at a time, at most.
 const PIECE: usize = 32_768;
 
 /// Hands all that comes to a reader of a text to which nothing has come: until the end, or until 16,777,217 bytes have
@@ -43,10 +43,12 @@ fn read_all<R: Read, T: TakeBlocks + Drop>(
     Ok(())
 }
 
-/// Reads a file from a stream and hands each block to the taker as soon as its last line has come: exactly the blocks
-/// that the text denotes, or the refusal that it denotes, as `read_blocks` says. The text is not held.
+/// Reads a file from a stream and hands each block to the taker as soon as its last line has come, as `read_blocks` does.
 ///
-/// Reads until the end, or until 16,777,217 bytes have come. Any error of a read ends it.
+/// Promise: the taker gets exactly the blocks that the text denotes, in order, or the text is refused as it denotes; the
+/// text is what the stream had to its end, or its first 16,777,217 bytes.
+///
+/// Any error of a read ends it. The text isn't kept.
 pub fn read_blocks_from<R: Read, T: TakeBlocks + Drop>(
     alloc: Global,
     stream: &mut R,
@@ -62,11 +64,14 @@ pub fn read_blocks_from<R: Read, T: TakeBlocks + Drop>(
     Ok(text.finish(alloc)?)
 }
 
-/// Reads a file from a stream: exactly the file that the text denotes, or the refusal that it denotes, as
-/// `read_blocks_from` says.
+/// Reads a file from a stream, as `read_blocks_from` does.
+///
+/// Promise: exactly the file that the text denotes, of at most 65,535 blocks, each of at most 10,000 operations, or the
+/// refusal that it denotes; the text is what the stream had to its end, or its first 16,777,217 bytes.
 pub fn read_file_from<R: Read>(alloc: Global, stream: &mut R) -> Result<IlocFile, StreamFault>
     ensures ok { IfOk result (λ file. (text : List ℕ) ×
         ReadsText (R.remaining stream.old) (R.remaining stream.new) text × Denotes text file.blocks) }
+    ensures limits { IfOk result (λ file. AreWithinLimits file.blocks) }
     ensures err { IfErr result (EndsStream (R.remaining stream.old) (R.remaining stream.new)) }
 {
     let copies = read_blocks_from(alloc, stream, Copies::new(alloc))?;

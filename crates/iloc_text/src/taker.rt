@@ -10,7 +10,9 @@ pub trait TakeBlocks {
     // From the first state to the second one it took these blocks.
     ghost took: { Self → List block_value → Self → Type 0 };
 
-    /// Takes the block with this number, counted from 1. The block is lent: its room serves the next one.
+    /// Takes the block with this number, counted from 1. The block is lent: its buffers are reused for the next one.
+    ///
+    /// Promise: after it the taker has taken this block after all earlier ones.
     fn take(&mut self, alloc: Global, number: usize, block: &Block) -> Result<(), NoMemory>
         requires first { 1 ≤ number }
         requires last { number ≤ MAX_BLOCKS }

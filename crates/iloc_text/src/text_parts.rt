@@ -1,26 +1,26 @@
-//! How a text falls into parts that can be read apart, as by several threads.
+//! Splitting a text into parts that can be read apart, by several threads for example.
 ghost use Rattle.std.specs.Prelude.{◌≡◌, ◌≤◌, length, map, IfOk, IfSome, IsTrue};
 ghost use Rattle.iloc_text.specs.Parts.{AreParts, BeginsLabelled, FallsInto};
 
 use crate::line_ends::split_line;
-use crate::one_pass::usual_line;
+use crate::one_pass::fast_line;
 use iloc_ops::NoMemory;
 use std::alloc::Global;
 
-/// A label is looked for on so many lines, about as many as a block of the greatest length has.
+/// On how many lines a label is searched for: about as many as a block of the greatest length has.
 const MOST_LINES: u32 = 16_384;
 
 /// Whether the first line is found to have a label.
 fn begins_labelled(text: &[u8]) -> bool
     ensures { IsTrue result → BeginsLabelled text.now }
 {
-    match usual_line(text) {
+    match fast_line(text) {
         Some((line, _)) => line.label.is_some(),
         None => false,
     }
 }
 
-/// The two parts into which the text is found to fall at the first such line end from this place on.
+/// The two parts before and after the first line end from this place on that a label is found to follow.
 fn split_from(text: &[u8], place: usize) -> Option<(&[u8], &[u8])>
     requires { place ≤ length text.now }
     ensures { IfSome result (λ parts. FallsInto text.now parts.0.now parts.1.now) }
@@ -38,7 +38,9 @@ fn split_from(text: &[u8], place: usize) -> Option<(&[u8], &[u8])>
     None
 }
 
-/// The parts, of about one length and at most `most`, into which the text is found to fall: there may be fewer.
+/// Splits a text into parts of about equal length, at most `most` of them; there may be fewer.
+///
+/// Promise: the parts, joined by line ends, are the text, and each part but the first begins with a label.
 pub fn parts_of(alloc: Global, text: &[u8], most: usize) -> Result<Vec<&[u8]>, NoMemory>
     ensures { IfOk result (λ parts. AreParts text.now (map (λ part. part.now) parts.items)) }
 {

@@ -21,7 +21,7 @@ pub struct TextReader<T> {
     open_block: OpenBlock,
     // How many lines were read.
     number: u32,
-    // What came behind them.
+    // What came after them.
     rest: Vec<u8>,
     // How many bytes came.
     length: usize,
@@ -50,7 +50,7 @@ impl<T: TakeBlocks + Drop> TextReader<T> {
         }
     }
 
-    /// Keeps bytes that no line end stands behind.
+    /// Keeps bytes that no line end follows yet.
     fn keep(&mut self, bytes: &[u8]) -> Result<(), NoMemory>
         requires { self.old.number + vec_len self.old.rest + length bytes.now ≤ self.old.length }
         ensures taker { self.new.taker ≡ self.old.taker }
@@ -86,7 +86,7 @@ impl<T: TakeBlocks + Drop> TextReader<T> {
         )
     }
 
-    /// Reads the lines that end in the piece, and keeps what stands behind them.
+    /// Reads the lines that end in the piece, and keeps what follows them.
     fn read_ended(&mut self, alloc: Global, piece: &[u8]) -> Result<(), ReadFault>
         requires counted { self.old.number + vec_len self.old.rest + length piece.now ≤ self.old.length }
         requires short { self.old.length ≤ MAX_INPUT }
@@ -109,7 +109,7 @@ impl<T: TakeBlocks + Drop> TextReader<T> {
         Ok(())
     }
 
-    /// Reads the next piece of the text. What is wrong with the text is told at its end.
+    /// Reads the next piece of the text. What is wrong with the text is reported at its end.
     pub fn read(&mut self, alloc: Global, piece: &[u8]) -> Result<(), NoMemory>
         ensures { (start : T) (text : List ℕ) → HasRead T.took start self.old text →
             OnOk result (HasRead T.took start self.new (text ++ piece.now)) }

@@ -6,11 +6,11 @@ use Rattle.iloc_text.specs.declared.fault.ReadFault.{ReadFault}
 use Rattle.iloc_text.specs.declared.fault.ReadFault.TheVariants.{TooManyBlocks, TooManyOperations, NoMemory}
 use Rattle.iloc_ops.specs.Limits.{MAX_BLOCKS, MAX_OPS}
 
--- a block without operations stands behind the others
+-- a block without operations comes after the others
 abbrev pub opened : Option (List ℕ) → List Block → List Block
 opened name blocks = blocks ++ record { name = name; ops = [] } ∷ []
 
--- the operation stands at the end of the last block
+-- the operation is the last one of the last block
 abbrev pub with_op : Op → List Block → List Block
 with_op op [] = []
 with_op op (b ∷ []) = record { name = b.name; ops = b.ops ++ op ∷ [] } ∷ []

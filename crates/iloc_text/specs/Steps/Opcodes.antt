@@ -8,6 +8,6 @@ use Rattle.iloc_ops.specs.Forms.{Operand, opcodes, opcode_text, operands, op_of}
 abbrev pub opcode_of : List ℕ → Option Opcode
 opcode_of word = find (λ o. bytes_eq (opcode_text o) word) opcodes
 
--- what stands behind the opcode, with 0 for each number
+-- the operands of the opcode, with 0 for each number
 abbrev pub operands_of : Opcode → List Operand
 operands_of o = operands (op_of o [])

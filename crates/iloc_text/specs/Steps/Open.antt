@@ -1,9 +1,9 @@
--- The block that is being read, behind those that were handed over.
+-- The block that is being read, after those that were handed over.
 use Rattle.std.specs.Prelude.{◌≡◌, ◌-◌, ◌<◌, List, [], ◌∷◌, ◌++◌, length}
 use Rattle.iloc_ops.specs.declared.file.Block.{Block}
 use Rattle.iloc_text.specs.declared.open_block.OpenBlock.{OpenBlock}
 
--- the blocks so far are those done, and behind them the open one, if one is open
+-- the blocks so far are those done, followed by the open one, if one is open
 pub record AreSoFar (done : List Block) (open_block : OpenBlock) (blocks : List Block) : Type 0 where
   pub before : length done ≡ open_block.count - 1
   pub count : length blocks ≡ open_block.count

@@ -1,4 +1,4 @@
--- What the scanner finds at the front of a text: a token, and the rest behind it.
+-- What the scanner finds at the front of a text: a token, and the rest after it.
 use Rattle.std.specs.Prelude.{ℕ, ◌+◌, ◌-◌, ◌*◌, min, nat_lt, Bool, true, false, ◌&&◌, ◌==◌, if◌then◌else◌, Option, Some, None, List, [], ◌∷◌, take, length}
 use Rattle.std.specs.List.{list_all}
 use Rattle.std.specs.Char.{is_ascii_digit, is_ascii_alphabetic}
@@ -79,7 +79,7 @@ value_at _ bytes = register_at bytes
 abbrev pub operand_at : Operand → List ℕ → Option (ℕ × List ℕ)
 operand_at o bytes = lead_at o.lead bytes >>= value_at o.value
 
--- the number of an operand of this kind, and the numbers behind it
+-- the number of an operand of this kind, and the numbers after it
 unfoldable pub operand_then : Operand → (List ℕ → Option (List ℕ × List ℕ)) → List ℕ → Option (List ℕ × List ℕ)
 operand_then o more bytes = do
   found ← operand_at o bytes
@@ -102,22 +102,22 @@ operation_at bytes = do
   opcode ← opcode_of (word_of bytes)
   called_at opcode (after_word bytes)
 
--- an operation, or none where no word stands
+-- an operation, or none if there is no word
 unfoldable pub optional_operation_at : List ℕ → Option (Option Op × List ℕ)
 optional_operation_at [] = Some (None, [])
 optional_operation_at (c ∷ cs) = if is_word_byte c then operation_at (c ∷ cs) >>= (λ found. Some (Some found.0, found.1)) else Some (None, c ∷ cs)
 
--- what stands behind a colon
+-- what follows a colon
 abbrev pub after_colon : List ℕ → Option (List ℕ)
 after_colon [] = None
 after_colon (c ∷ cs) = if c == 58 then Some cs else None
 
--- the word, where a colon was found behind it, and else no label
+-- the word if a colon was found after it, and otherwise no label
 abbrev pub label_or_none : List ℕ → Option (List ℕ) → Option (List ℕ) × List ℕ
 label_or_none bytes None = (None, bytes)
 label_or_none bytes (Some rest) = (Some (word_of bytes), rest)
 
--- a label, or none where no word stands with a colon behind it
+-- a label, or none if no word is followed by a colon
 unfoldable pub optional_label_at : List ℕ → Option (List ℕ) × List ℕ
 optional_label_at [] = (None, [])
 optional_label_at (c ∷ cs) =
@@ -129,7 +129,7 @@ is_end [] = true
 is_end (c ∷ []) = false
 is_end (c ∷ d ∷ cs) = (c == 47) && (d == 47)
 
--- the operation of what stands behind a label, or that there is none
+-- the operation in what follows a label, or that there is none
 unfoldable pub body_at : List ℕ → Option (Option Op)
 body_at bytes = do
   found ← optional_operation_at (after_blanks bytes)

@@ -15,7 +15,7 @@ slot_at bytes = do
   found ← operation_at (after_blanks bytes)
   Some (found.0, after_blanks found.1)
 
--- what stands behind this byte
+-- what follows this byte
 abbrev pub behind_byte : ℕ → List ℕ → Option (List ℕ)
 behind_byte byte [] = None
 behind_byte byte (c ∷ cs) = if c == byte then Some cs else None
@@ -29,7 +29,7 @@ row_at bytes = do
   rest ← behind_byte 93 one.1
   Some (row zero.0 one.0, rest)
 
--- a number behind blanks
+-- a number after blanks
 unfoldable pub number_behind : List ℕ → Option (ℕ × List ℕ)
 number_behind bytes = some_blanks_at bytes >>= number_at
 
@@ -56,14 +56,14 @@ total_at bytes = do
   number ← number_behind bytes
   Some (total number.0, number.1)
 
--- what stands behind a word
+-- what follows a word
 abbrev pub worded_at : List ℕ → List ℕ → Option (Said × List ℕ)
 worded_at word rest =
     if bytes_eq word (codes "block") then head_at rest
     else (if bytes_eq word (codes "cycles") then cycles_at rest
     else (if bytes_eq word (codes "total") then total_at rest else None))
 
--- what is said, or nothing where neither a bracket nor a word stands
+-- what is said, or nothing if there is neither a bracket nor a word
 unfoldable pub said_at : List ℕ → Option (Said × List ℕ)
 said_at [] = Some (nothing, [])
 said_at (c ∷ cs) =

@@ -8,7 +8,7 @@ use Rattle.iloc_text.specs.Lines.{lines_of}
 use Rattle.iloc_text.specs.Steps.Open.{HasTaken}
 use Rattle.iloc_text.specs.Steps.Verdicts.{answer_from}
 
--- whatever comes behind the text, these blocks are those of the lines that were read, and the rest is still to be read
+-- whatever follows the text, these blocks are those of the lines that were read, and the rest is still to be read
 pub record GoesOn {T : Type 0} (took : T → List Block → T → Type 0) (start : T) (reader : TextReader T) (text : List ℕ)
     : Type 0 where
   pub blocks : List Block
@@ -16,7 +16,7 @@ pub record GoesOn {T : Type 0} (took : T → List Block → T → Type 0) (start
   pub answer : (more : List ℕ) → answer_from [] 1 (lines_of (text ++ more))
       ≡ answer_from blocks (reader.number + 1) (lines_of (reader.rest.items ++ more))
 
--- whatever comes behind the text, it has this fault
+-- whatever follows the text, it has this fault
 abbrev pub HasFault : List ℕ → ReadFault → Type 0
 HasFault text fault = (more : List ℕ) → answer_from [] 1 (lines_of (text ++ more)) ≡ Err fault
 

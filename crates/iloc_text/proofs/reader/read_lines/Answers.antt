@@ -32,18 +32,18 @@ pub returns-in_err-add_op-clause-blocks : goal.returns-in_err-add_op-clause-bloc
 returns-in_err-add_op-clause-blocks g c = λ start blocks taken.
     let stands = c.loop-rest.invariant.stands start blocks taken in
     let number = c.loop-rest.number + 1 in
-    let first = body_first c.in-Some.text.now _ _ _ c.after_blanks.ensures c.in-Some-usual_body.ensures in
+    let first = body_first c.in-Some.text.now _ _ _ c.after_blanks.ensures c.in-Some-fast_body.ensures in
     let exit = err_from_is_err_and c.from_residual.result c.from_residual.ensures.1 in
     err_answer _ _ number _ _ c.in_err-add_op.field-0.0 c.from_residual.result
-    (answer_read _ stands.0 number None c.in-Some-usual_body.op stands.2 c.in-Some.is first)
+    (answer_read _ stands.0 number None c.in-Some-fast_body.op stands.2 c.in-Some.is first)
     (c.in_err-add_op.ensures start stands.0 stands.1) (exit.1 ∙ ap (λ e. Err e) exit.2)
 
-pub loop-rest-preserved-in-Some-usual_body : goal.loop-rest-preserved-in-Some-usual_body
-loop-rest-preserved-in-Some-usual_body g c =
+pub loop-rest-preserved-in-Some-fast_body : goal.loop-rest-preserved-in-Some-fast_body
+loop-rest-preserved-in-Some-fast_body g c =
     let now = c.loop-rest.invariant in
     let number = c.loop-rest.number + 1 in
-    let op = c.in-Some-usual_body.op in
-    let first = body_first c.in-Some.text.now _ _ _ c.after_blanks.ensures c.in-Some-usual_body.ensures in
+    let op = c.in-Some-fast_body.op in
+    let first = body_first c.in-Some.text.now _ _ _ c.after_blanks.ensures c.in-Some-fast_body.ensures in
     record {
       counted = omega (arith, now.counted, ap length first.split, ap (λ rest. length (lines_left rest)) c.in-Some.is);
       stands = λ start blocks begun.
@@ -52,13 +52,13 @@ loop-rest-preserved-in-Some-usual_body g c =
             with_line None op stands.0,
             taken,
             answer_read _ stands.0 number None op stands.2 c.in-Some.is first
-                ∙ ap (on_verdict number (lines_left c.in-Some-usual_body.after)) (so_far_within taken.0 _ _ number taken.2),
+                ∙ ap (on_verdict number (lines_left c.in-Some-fast_body.after)) (so_far_within taken.0 _ _ number taken.2),
           );
     }
 
-pub loop-rest-smaller-in-Some-usual_body : goal.loop-rest-smaller-in-Some-usual_body
-loop-rest-smaller-in-Some-usual_body g c =
-    let first = body_first c.in-Some.text.now _ _ _ c.after_blanks.ensures c.in-Some-usual_body.ensures in
+pub loop-rest-smaller-in-Some-fast_body : goal.loop-rest-smaller-in-Some-fast_body
+loop-rest-smaller-in-Some-fast_body g c =
+    let first = body_first c.in-Some.text.now _ _ _ c.after_blanks.ensures c.in-Some-fast_body.ensures in
     omega (arith, ap length first.split, ap (λ rest. length (lines_left rest)) c.in-Some.is)
 
 pub add_line-requires : goal.add_line-requires

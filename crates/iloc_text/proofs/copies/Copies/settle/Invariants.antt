@@ -9,7 +9,7 @@ abbrev pub invariant-loop-block : goal.invariant-loop-block
 invariant-loop-block l = record {
   all : l.self.done.items ++ taken_apart (drain_items l.block-iterator) (drop l.start (arc_value l.all).items) ≡ all_of l.fn.self;
   fits : l.start + sum_by (λ w. w.count) (drain_items l.block-iterator) ≡ length (arc_value l.all).items;
-  waiting : l.self.waiting.items ≡ [];
+  waiting : l.self.unsettled.items ≡ [];
   ops : l.self.ops.items ≡ [];
   kept : drain_kept l.block-iterator ≡ [];
 }

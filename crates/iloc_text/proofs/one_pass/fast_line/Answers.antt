@@ -4,7 +4,7 @@ use Rattle.iloc_text.proofs.Parts.{Before}
 use Rattle.iloc_text.proofs.Tokens.{blanks_read}
 use Rattle.iloc_text.proofs.Labels.{label_read}
 use Rattle.iloc_text.proofs.OnePass.{line_first}
-use Rattle.iloc_text.proofs.one_pass.usual_line.Goals as goal
+use Rattle.iloc_text.proofs.one_pass.fast_line.Goals as goal
 
 pub returns : goal.returns
 returns c =

@@ -2,7 +2,7 @@ use Rattle.std.proofs.Common.{Some, subst}
 use Rattle.iloc_text.specs.Grammar.{◌⋅◌, Blanks, OptionalComment}
 use Rattle.iloc_text.specs.Steps.LineReads.{FirstIs}
 use Rattle.iloc_text.proofs.OnePass.{operation_first}
-use Rattle.iloc_text.proofs.one_pass.usual_operation.Goals as goal
+use Rattle.iloc_text.proofs.one_pass.fast_operation.Goals as goal
 
 pub returns : goal.returns
 returns c =

@@ -1,5 +1,5 @@
-//! Operations in the usual spelling: with numbers of few digits, and few bytes before each. They are looked at by places in
-//! a text that is long enough for each of them, so where it ends is asked once.
+//! The fast path of reading an operation: numbers of few digits, and few bytes before each, as most lines have them. They
+//! are looked at by places in a text that is long enough for all of them, so its length is tested once.
 ghost use Rattle.std.specs.Prelude.{◌≡◌, ◌<◌, ◌≤◌, ◌+◌, ◌++◌, ℕ, List, true, nat_lt, Some, IfSome, length, get_or, drop};
 ghost use Rattle.iloc_text.specs.declared.scan.TheConstants.{ABOVE_LIMIT};
 ghost use Rattle.iloc_ops.specs.Forms.Lead.{space, comma, arrow};
@@ -7,18 +7,18 @@ ghost use Rattle.iloc_ops.specs.Forms.Value.{Use, Constant};
 ghost use Rattle.iloc_ops.specs.Forms.{◌▹◌};
 ghost use Rattle.iloc_text.specs.Steps.Scan.{some_blanks_at, comma_at, arrow_at, register_at, number_at, operand_at, called_at, is_within_limit};
 
-use crate::numbers::{usual_number_at, usual_register_number_at};
+use crate::numbers::{fast_number_at, fast_register_number_at};
 use crate::opcode::shape_of;
 use crate::scan::{arrow_at, comma_at, some_blanks_at};
 use iloc_ops::{Op, Opcode, Operands, op_of};
 
-/// At most so many bytes are passed before a register or a constant, as where these stand in columns.
+/// At most so many bytes are passed before a register or a constant: enough for a text in columns.
 const MOST_PASSED: usize = 20;
 
-/// What stands behind an opcode in the usual spelling is no longer.
-const ROOM: usize = 128;
+/// What follows an opcode on the fast path is no longer.
+const LONGEST: usize = 128;
 
-/// The place at which the rest of the bytes stands; 0 where that is behind `most`.
+/// The place at which the rest of the bytes begins; 0 if that is beyond `most`.
 fn place_of(bytes: &[u8], rest: &[u8], most: usize) -> usize
     requires { (front : List ℕ) × (bytes.now ≡ front ++ rest.now) }
     ensures is { 0 < result → rest.now ≡ drop result bytes.now }
@@ -28,7 +28,7 @@ fn place_of(bytes: &[u8], rest: &[u8], most: usize) -> usize
     if place <= most { place } else { 0 }
 }
 
-/// The place behind blanks of any number at the front; 0 where none stand there, or too many.
+/// The place after all blanks at the front; 0 if there are none, or too many.
 #[cold]
 #[inline(never)]
 fn place_behind_blanks(bytes: &[u8]) -> usize
@@ -41,7 +41,7 @@ fn place_behind_blanks(bytes: &[u8]) -> usize
     }
 }
 
-/// The place behind a comma at a place and any blanks around it; 0 where none stands there, or too many blanks.
+/// The place after a comma at a place and any blanks around it; 0 if there is none, or too many blanks.
 #[cold]
 #[inline(never)]
 fn place_behind_comma(bytes: &[u8], at: usize) -> usize
@@ -55,7 +55,7 @@ fn place_behind_comma(bytes: &[u8], at: usize) -> usize
     }
 }
 
-/// The two bytes of an arrow stand at the place.
+/// Whether the two bytes of an arrow are at the place.
 #[inline(always)]
 fn is_bare_arrow(bytes: &[u8], at: usize) -> bool
     requires { at + 2 ≤ length bytes.now }
@@ -64,8 +64,8 @@ fn is_bare_arrow(bytes: &[u8], at: usize) -> bool
     bytes[at] == b'=' && bytes[at + 1] == b'>'
 }
 
-/// The place behind an arrow at a place and any blanks around it; 0 where none stands there, or too many blanks. An
-/// arrow without blanks is looked for first.
+/// The place after an arrow at a place and any blanks around it; 0 if there is none, or too many blanks. An arrow
+/// without blanks is tried first.
 #[cold]
 #[inline(never)]
 fn place_behind_arrow(bytes: &[u8], at: usize) -> usize
@@ -82,7 +82,7 @@ fn place_behind_arrow(bytes: &[u8], at: usize) -> usize
     }
 }
 
-/// The number of the register at a place, and the place behind it.
+/// The number of the register at a place, and the place after it.
 #[inline(always)]
 fn register_from(bytes: &[u8], at: usize) -> Option<(u32, usize)>
     requires { at + 4 ≤ length bytes.now }
@@ -93,11 +93,11 @@ fn register_from(bytes: &[u8], at: usize) -> Option<(u32, usize)>
     if bytes[at] != b'r' {
         return None;
     }
-    let (value, count) = usual_register_number_at(&bytes[at + 1..])?;
+    let (value, count) = fast_register_number_at(&bytes[at + 1..])?;
     Some((value, at + 1 + count))
 }
 
-/// The constant at a place, and the place behind it.
+/// The constant at a place, and the place after it.
 #[inline(always)]
 fn constant_from(bytes: &[u8], at: usize) -> Option<(u32, usize)>
     requires { at + 5 ≤ length bytes.now }
@@ -105,7 +105,7 @@ fn constant_from(bytes: &[u8], at: usize) -> Option<(u32, usize)>
     ensures small { IfSome result (λ found. nat_lt found.0 ABOVE_LIMIT ≡ true) }
     ensures near { IfSome result (λ found. found.1 ≤ at + 10) }
 {
-    let (value, count) = usual_number_at(&bytes[at..])?;
+    let (value, count) = fast_number_at(&bytes[at..])?;
     Some((value, at + count))
 }
 
@@ -179,7 +179,7 @@ fn constant_behind_comma(bytes: &[u8], at: usize) -> Option<(u32, usize)>
     }
 }
 
-/// The four bytes of an arrow with a space on both sides stand at the place. They are compared as one number.
+/// Whether the four bytes of an arrow with a space on both sides are at the place. They are compared as one number.
 #[inline(always)]
 fn is_spaced_arrow(bytes: &[u8], at: usize) -> bool
     requires { at + 4 ≤ length bytes.now }
@@ -207,11 +207,11 @@ fn register_behind_arrow(bytes: &[u8], at: usize) -> Option<(u32, usize)>
     }
 }
 
-/// The operation of an opcode and of the operands at the front, and the place behind these.
+/// The operation of an opcode and of the operands at the front, and the place after these.
 #[inline(always)]
 #[tactic(auto, unfolding(crate::specs::Steps::Scan::called_at, crate::specs::Steps::Scan::operand_then))]
 fn called_by_places(opcode: Opcode, bytes: &[u8]) -> Option<(Op, usize)>
-    requires { ROOM ≤ length bytes.now }
+    requires { LONGEST ≤ length bytes.now }
     ensures is { IfSome result (λ found. called_at opcode bytes.now ≡ Some (found.0, drop found.1 bytes.now)) }
     ensures small { IfSome result (λ found. is_within_limit found.0 ≡ true) }
     ensures near { IfSome result (λ found. found.1 ≤ length bytes.now) }
@@ -253,14 +253,13 @@ fn called_by_places(opcode: Opcode, bytes: &[u8]) -> Option<(Op, usize)>
     }
 }
 
-/// The operation whose opcode stands before the bytes, with the operands at their front, and what stands behind
-/// those.
+/// The operation whose opcode precedes the bytes, with the operands at their front, and what follows those.
 #[inline(always)]
-pub fn usual_called_at(opcode: Opcode, bytes: &[u8]) -> Option<(Op, &[u8])>
+pub fn fast_called_at(opcode: Opcode, bytes: &[u8]) -> Option<(Op, &[u8])>
     ensures is { IfSome result (λ found. called_at opcode bytes.now ≡ Some (found.0, found.1.now)) }
     ensures small { IfSome result (λ found. is_within_limit found.0 ≡ true) }
 {
-    if bytes.len() < ROOM {
+    if bytes.len() < LONGEST {
         return None;
     }
     let (op, at) = called_by_places(opcode, bytes)?;

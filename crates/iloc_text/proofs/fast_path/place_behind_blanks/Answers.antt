@@ -2,7 +2,7 @@ use Rattle.std.proofs.Common.{refl}
 use Rattle.iloc_text.specs.Steps.Scan.{some_blanks_at}
 use Rattle.iloc_text.proofs.Tokens.{some_blanks_read}
 use Rattle.iloc_text.proofs.Places.{found_in}
-use Rattle.iloc_text.proofs.usual.place_behind_blanks.Goals as goal
+use Rattle.iloc_text.proofs.fast_path.place_behind_blanks.Goals as goal
 
 pub place_of-requires : goal.place_of-requires
 place_of-requires c =
