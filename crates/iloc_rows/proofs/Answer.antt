@@ -121,7 +121,7 @@ same_fault blocks ss line n (NoSuchBlock m) (Read (TooManyBlocks j)) h k = absur
 same_fault blocks ss line n (NoSuchBlock m) (Read NoMemory) h k = absurd k
 same_fault blocks ss line n (NoSuchBlock m) NoBlocks h k = absurd k
 
--- a line with a fault, behind lines that fit behind a front
+-- a line with a fault, after lines that fit after a front
 record Faulty (blocks : List Block) (front : List Said) (n : ℕ) (before : List (List ℕ)) (line : List ℕ)
     (fault : RowsFault) : Type 0 where
   said : List Said

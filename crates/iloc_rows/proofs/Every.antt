@@ -67,7 +67,7 @@ cut (line ∷ lines) = elim (one_or_none line) as (λ _. AreCut (line ∷ lines)
 
 -- One schedule line
 
--- the line says something that fits behind what these lines say
+-- the line says something that fits after what these lines say
 record IsRead (blocks : List Block) (said : List Said) (line : List ℕ) : Type 0 where
   saying : Said
   says : Says line saying

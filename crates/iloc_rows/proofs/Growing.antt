@@ -55,7 +55,7 @@ place_none last count = by (nat_lt 0 last) (count == 1)
     by false true h = cc
     by false false h = refl
 
--- a line is of the place that stands in the state
+-- a line is of the place in the state
 record IsAt (blocks : List Block) (ss : List Said) (i : ℕ) : Type 0 where
   block : block_of ss ≡ 1 + i
   within : i < length blocks

@@ -19,15 +19,15 @@ ops_in-snoc [] r = append-nil (ops_of_row r)
 ops_in-snoc (x ∷ xs) r = ap (λ ops. ops_of_row x ++ ops) (ops_in-snoc xs r)
     ∙ sym (append_assoc (ops_of_row x) (ops_in xs) (ops_of_row r))
 
--- a row that stands behind n operations
-abbrev pub row_behind : ℕ → Op × Op → Row
-row_behind n r = record { zero = slot n r.0; one = slot (n + length (filled r.0)) r.1 }
+-- a row after n operations
+abbrev pub row_after : ℕ → Op × Op → Row
+row_after n r = record { zero = slot n r.0; one = slot (n + length (filled r.0)) r.1 }
 
 numbered-snoc : (n m : ℕ) (rs : List (Op × Op)) (r : Op × Op) → n + length (ops_in rs) ≡ m
-    → numbered n (rs ++ r ∷ []) ≡ numbered n rs ++ row_behind m r ∷ []
-numbered-snoc n m [] r e = let same : n ≡ m = omega arith in ap (λ k. row_behind k r ∷ []) same
+    → numbered n (rs ++ r ∷ []) ≡ numbered n rs ++ row_after m r ∷ []
+numbered-snoc n m [] r e = let same : n ≡ m = omega arith in ap (λ k. row_after k r ∷ []) same
 numbered-snoc n m (x ∷ xs) r e =
-    ap (λ rows. row_behind n x ∷ rows)
+    ap (λ rows. row_after n x ∷ rows)
     (numbered-snoc (n + length (ops_of_row x)) m xs r (omega (arith, length-append (ops_of_row x) (ops_in xs))))
 
 pub length-numbered : (n : ℕ) (rs : List (Op × Op)) → length (numbered n rs) ≡ length rs

@@ -93,7 +93,7 @@ pub last_block-nothing : last_block [] ≡ 0
 unfolding last_head last_block
 last_block-nothing = refl
 
--- behind a line that is of no block
+-- after a line that is of no block
 pub last_block-none : (ss : List Said) (s : Said) → head_number s ≡ None → proposes s ≡ false
     → last_block (ss ++ s ∷ []) ≡ last_block ss
 unfolding last_block
@@ -104,7 +104,7 @@ last_block-none ss s h p =
     or_none true = refl
     or_none false = refl
 
--- behind a row or a claim
+-- after a row or a claim
 pub last_block-more : (ss : List Said) (s : Said) → head_number s ≡ None → proposes s ≡ true
     → last_block (ss ++ s ∷ []) ≡ max 1 (last_block ss)
 unfolding last_block
@@ -116,7 +116,7 @@ last_block-more ss s h p =
     by true = omega arith
     by false = omega arith
 
--- behind the head of a later one
+-- after the head of a later one
 pub last_block-head : (ss : List Said) (k : ℕ) (name : Option (List ℕ)) → last_block ss < k
     → last_block (ss ++ head k name ∷ []) ≡ k
 unfolding last_block

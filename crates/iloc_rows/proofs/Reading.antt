@@ -13,13 +13,13 @@ use Rattle.iloc_text.proofs.Splitting.{lines_are, lines_few}
 use Rattle.iloc_timed.specs.Limits.{MAX_ROWS}
 use Rattle.iloc_rows.specs.declared.fault.RowsFault.{RowsFault}
 use Rattle.iloc_rows.specs.declared.fault.RowsFault.TheVariants.{Read, NoBlocks, NoSuchBlock}
-use Rattle.iloc_rows.specs.declared.blocks_end.Parts.{Parts}
+use Rattle.iloc_rows.specs.declared.blocks_end.CutText.{CutText}
 use Rattle.iloc_rows.specs.declared.proposal.Proposal.{Proposal}
 use Rattle.iloc_rows.specs.declared.proposing.Proposing.{Proposing}
 use Rattle.iloc_rows.specs.Proposing.{proposals_of, Fits, AllFit}
 use Rattle.iloc_rows.specs.Submissions.{SayAll, Propose, Denotes, IsFaulty, HaveFirstFault, HasNoBlocks, BlocksAreRefused, RowsAreRefused, IsRefused, ProposeApart, HaveFault, AreRefusedFor}
 use Rattle.iloc_rows.specs.Steps.Growth.{HasProposed, Adds}
-use Rattle.iloc_rows.specs.Steps.Ends.{ArePartsOf}
+use Rattle.iloc_rows.specs.Steps.Ends.{IsCutOf}
 use Rattle.iloc_rows.proofs.Picking.{last_block-nothing}
 use Rattle.iloc_rows.proofs.Ends.{join-append}
 
@@ -146,18 +146,18 @@ err_is {T} P r fault e h = let Q : Result T RowsFault → Type 0 = λ x. IfErr x
 
 -- The whole text
 
-pub parts_number : {input : List ℕ} {parts : Parts} → ArePartsOf input parts
-    → parts.lines + length (lines_left parts.rows) ≤ length input + 1
-parts_number {input} {parts} a =
-    omega (arith, a.count, lines_few input, ap length a.lines, length-append a.before (lines_left parts.rows))
+pub cut_number : {input : List ℕ} {cut : CutText} → IsCutOf input cut
+    → cut.lines + length (lines_left cut.rows) ≤ length input + 1
+cut_number {input} {cut} a =
+    omega (arith, a.count, lines_few input, ap length a.lines, length-append a.before (lines_left cut.rows))
 
-pub denoted : {input : List ℕ} {parts : Parts} (a : ArePartsOf input parts) (blocks : List Block)
-    (proposals : List Proposal) → length input ≤ MAX_INPUT → files.Denotes parts.blocks.now blocks → 0 < length blocks
-    → Propose blocks (lines_left parts.rows) proposals → Denotes input blocks proposals
-denoted {input} {parts} a blocks proposals short file some propose = record {
+pub denoted : {input : List ℕ} {cut : CutText} (a : IsCutOf input cut) (blocks : List Block)
+    (proposals : List Proposal) → length input ≤ MAX_INPUT → files.Denotes cut.blocks.now blocks → 0 < length blocks
+    → Propose blocks (lines_left cut.rows) proposals → Denotes input blocks proposals
+denoted {input} {cut} a blocks proposals short file some propose = record {
   short = short;
   before = a.before;
-  after = lines_left parts.rows;
+  after = lines_left cut.rows;
   are_lines = subst (AreLines input) a.lines (lines_are input);
   ends = a.ends;
   file = subst (λ t. files.Denotes t blocks) a.blocks file;
@@ -199,42 +199,42 @@ rows_refuse input (Read NoMemory) r = absurd r.first.faulty
 rows_refuse input NoBlocks r = absurd r.first.faulty
 rows_refuse input (NoSuchBlock n) r = r
 
-pub blocks_refused : {input : List ℕ} {parts : Parts} (a : ArePartsOf input parts) (fault : ReadFault)
-    → length input ≤ MAX_INPUT → files.IsRefused parts.blocks.now fault → IsRefused input (Read fault)
-blocks_refused {input} {parts} a fault short h = blocks_refuse input fault (record {
+pub blocks_refused : {input : List ℕ} {cut : CutText} (a : IsCutOf input cut) (fault : ReadFault)
+    → length input ≤ MAX_INPUT → files.IsRefused cut.blocks.now fault → IsRefused input (Read fault)
+blocks_refused {input} {cut} a fault short h = blocks_refuse input fault (record {
   short = short;
   before = a.before;
-  after = lines_left parts.rows;
+  after = lines_left cut.rows;
   are_lines = subst (AreLines input) a.lines (lines_are input);
   ends = a.ends;
   refused = subst (λ t. files.IsRefused t fault) a.blocks h;
 })
 
-pub rows_refused : {input : List ℕ} {parts : Parts} (a : ArePartsOf input parts) (blocks : List Block)
-    (fault : RowsFault) → length input ≤ MAX_INPUT → files.Denotes parts.blocks.now blocks → 0 < length blocks
-    → HaveFirstFault blocks parts.lines (lines_left parts.rows) fault → IsRefused input fault
-rows_refused {input} {parts} a blocks fault short file some h = rows_refuse input fault (record {
+pub rows_refused : {input : List ℕ} {cut : CutText} (a : IsCutOf input cut) (blocks : List Block)
+    (fault : RowsFault) → length input ≤ MAX_INPUT → files.Denotes cut.blocks.now blocks → 0 < length blocks
+    → HaveFirstFault blocks cut.lines (lines_left cut.rows) fault → IsRefused input fault
+rows_refused {input} {cut} a blocks fault short file some h = rows_refuse input fault (record {
   short = short;
   before = a.before;
-  after = lines_left parts.rows;
+  after = lines_left cut.rows;
   are_lines = subst (AreLines input) a.lines (lines_are input);
   ends = a.ends;
   blocks = blocks;
   file = subst (λ t. files.Denotes t blocks) a.blocks file;
   some = some;
-  first = subst (λ n. HaveFirstFault blocks n (lines_left parts.rows) fault) a.count h;
+  first = subst (λ n. HaveFirstFault blocks n (lines_left cut.rows) fault) a.count h;
 })
 
 no_blocks_are : (blocks : List Block) → length blocks ≤ 0 → blocks ≡ []
 no_blocks_are [] few = refl
 no_blocks_are (b ∷ bs) few = absurd (omega arith)
 
-pub no_blocks : {input : List ℕ} {parts : Parts} (a : ArePartsOf input parts) (blocks : List Block)
-    → length input ≤ MAX_INPUT → files.Denotes parts.blocks.now blocks → length blocks ≤ 0 → HasNoBlocks input
-no_blocks {input} {parts} a blocks short file none = record {
+pub no_blocks : {input : List ℕ} {cut : CutText} (a : IsCutOf input cut) (blocks : List Block)
+    → length input ≤ MAX_INPUT → files.Denotes cut.blocks.now blocks → length blocks ≤ 0 → HasNoBlocks input
+no_blocks {input} {cut} a blocks short file none = record {
   short = short;
   before = a.before;
-  after = lines_left parts.rows;
+  after = lines_left cut.rows;
   are_lines = subst (AreLines input) a.lines (lines_are input);
   ends = a.ends;
   file = subst₂ (λ t bs. files.Denotes t bs) a.blocks (no_blocks_are blocks none) file;

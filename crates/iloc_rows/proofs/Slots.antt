@@ -1,4 +1,4 @@
--- Each operation of rows with numbers stands in exactly one slot.
+-- Each operation of rows with numbers is in exactly one slot.
 use Rattle.std.proofs.Common.{◌≡◌, ◌∙◌, ℕ, zero, suc, ◌+◌, ◌<◌, ◌≤◌, nat_lt, ◌==◌, ◌⊎◌, inl, inr, Bool, true, false, cond, List, [], ◌∷◌, ◌++◌, length, length-append, count_by, Option, Some, None, option_to_list, refl, arith, eq-eqb, ne_eqb}
 use Rattle.std.proofs.lemmas.Bool.{cases_lt, cases_eq}
 use Rattle.std.proofs.lemmas.Bool.Decides.{nat_tests}
@@ -8,16 +8,16 @@ use Rattle.iloc_timed.specs.declared.row.Row.{Row}
 use Rattle.iloc_timed.specs.Rows.{slots, times_issued}
 use Rattle.iloc_timed.specs.Schedule.{AreOnce, AreInRange, in_range}
 use Rattle.iloc_rows.specs.Proposing.{is_empty, filled, slot, ops_in, numbered}
-use Rattle.iloc_rows.proofs.Numbering.{ops_of_row, row_behind}
+use Rattle.iloc_rows.proofs.Numbering.{ops_of_row, row_after}
 
 -- One slot
 
--- how often a number stands in a slot
+-- how often a number is in a slot
 abbrev times_in : ℕ → Option ℕ → ℕ
 times_in i None = 0
 times_in i (Some j) = cond (i == j) 1 0
 
--- the next number stands there alone, and only where the slot is filled
+-- the next number is there alone, and only where the slot is filled
 slot_here : (n : ℕ) (op : Op) → times_in n (slot n op) ≡ length (filled op)
 slot_here n op = by (is_empty op) refl
   where
@@ -73,7 +73,7 @@ two_slots i (Some a) (Some b) =
     omega (arith, first, last)
 
 abbrev times_in_row : ℕ → ℕ → Op × Op → ℕ
-times_in_row i n r = count_by (λ j. i == j) (slots (row_behind n r))
+times_in_row i n r = count_by (λ j. i == j) (slots (row_after n r))
 
 -- the next numbers alone stand in a row
 record InRow (i n : ℕ) (r : Op × Op) : Type 0 where
@@ -119,8 +119,8 @@ in_row i n r =
 -- All rows
 
 row_times : (i n : ℕ) (r : Op × Op) (rows : List Row)
-    → times_issued (row_behind n r ∷ rows) i ≡ times_in_row i n r + times_issued rows i
-row_times i n r rows = sum_by-cons (λ row. count_by (λ j. i == j) (slots row)) (row_behind n r) rows
+    → times_issued (row_after n r ∷ rows) i ≡ times_in_row i n r + times_issued rows i
+row_times i n r rows = sum_by-cons (λ row. count_by (λ j. i == j) (slots row)) (row_after n r) rows
 
 none_from : (n : ℕ) (rs : List (Op × Op)) (i : ℕ) → i < n → times_issued (numbered n rs) i ≡ 0
 none_from n [] i below = refl
@@ -150,7 +150,7 @@ once_from n (r ∷ rs) i from upto =
       )
     ]
 
--- each operation stands in exactly one slot
+-- each operation is in exactly one slot
 pub numbered_once : (rs : List (Op × Op)) → AreOnce (length (ops_in rs)) (numbered 0 rs)
 numbered_once rs i below = once_from 0 rs i (omega arith) (omega arith)
 
@@ -160,13 +160,13 @@ below_true : (n count : ℕ) → n < count → nat_lt n count ≡ true
 below_true n count h = grind (arith, nat_tests)
 
 row_in_range : (count n : ℕ) (r : Op × Op) → n + length (ops_of_row r) ≤ count
-    → in_range count (row_behind n r) ≡ true
+    → in_range count (row_after n r) ≡ true
 row_in_range count n r h = by (is_empty r.0) refl (is_empty r.1) refl
   where
     size : length (ops_of_row r) ≡ length (filled r.0) + length (filled r.1)
     size = length-append (filled r.0) (filled r.1)
 
-    by : (a : Bool) → is_empty r.0 ≡ a → (b : Bool) → is_empty r.1 ≡ b → in_range count (row_behind n r) ≡ true
+    by : (a : Bool) → is_empty r.0 ≡ a → (b : Bool) → is_empty r.1 ≡ b → in_range count (row_after n r) ≡ true
     by true e true f = rw (e, f) refl
     by true e false f =
         let long : length (ops_of_row r) ≡ 1 = rw (e, f) refl in

@@ -25,7 +25,7 @@ TextsHaveAnAnswer = (input : List ℕ)
     ⊎ ((fault : RowsFault) × IsRefused input fault)
 
 -- There are at most 65,535 blocks and as many proposals, each of at most 10,000 operations. Each operation of a
--- proposal stands in exactly one slot of its rows, and each number there is an operation's.
+-- proposal is in exactly one slot of its rows, and each number there is an operation's.
 pub record AreWithinLimits (blocks : List Block) (proposals : List Proposal) : Type 0 where
   pub few_blocks : length blocks ≤ MAX_BLOCKS
   pub short_blocks : AllByRecursion (λ b. length b.ops ≤ MAX_OPS) blocks

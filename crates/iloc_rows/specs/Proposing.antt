@@ -89,7 +89,7 @@ rows_of k lines = picked row_in k lines
 abbrev pub claims_of : ℕ → List Said → List ℕ
 claims_of k lines = picked cycles_in k lines
 
--- a `nop` stands for an empty slot
+-- a `nop` is written for an empty slot
 abbrev pub is_empty : Op → Bool
 is_empty Nop = true
 is_empty _ = false
@@ -102,11 +102,11 @@ filled op = if is_empty op then [] else op ∷ []
 abbrev pub ops_in : List (Op × Op) → List Op
 ops_in rows = flat_map (λ r. filled r.0 ++ filled r.1) rows
 
--- a slot whose operation is the next behind n
+-- a slot whose operation is the next after n
 abbrev pub slot : ℕ → Op → Option ℕ
 slot n op = if is_empty op then None else Some n
 
--- the rows with numbers in place of operations, behind n operations: each operation in its own slot, in order
+-- the rows with numbers in place of operations, after n operations: each operation in its own slot, in order
 abbrev pub numbered : ℕ → List (Op × Op) → List Row
 numbered n [] = []
 numbered n (r ∷ rs) =
@@ -138,8 +138,8 @@ is_same_name (Some name) (Some other) = bytes_eq name other
 abbrev pub is_named : List Block → ℕ → Option (List ℕ) → Bool
 is_named blocks k name = option_map_or (λ block. is_same_name block.name name) (slice_get blocks (k - 1)) false
 
--- Behind these lines a line speaks of a block that is there: a head names one behind that of which lines have been last, and
--- a row or a number of cycles stands below a head, or there is one block only.
+-- After these lines a line speaks of a block that is there: a head names one after that of which lines have been last, and
+-- a row or a number of cycles comes below a head, or there is one block only.
 abbrev pub is_of_block : List Block → List Said → Said → Bool
 is_of_block blocks lines nothing = true
 is_of_block blocks lines (row zero one) = nat_lt 0 (last_block lines) || (length blocks == 1)

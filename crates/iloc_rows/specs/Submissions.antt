@@ -68,7 +68,7 @@ pub record DenoteApart (text input : List ℕ) (blocks : List Block) (proposals 
 
 -- Refusals
 
--- behind lines that say this a line speaks of no block that is there, or makes too many operations of its block
+-- after lines that say this a line speaks of no block that is there, or makes too many operations of its block
 pub record SpeaksOfNoBlock (blocks : List Block) (lines : List Said) (line : List ℕ) : Type 0 where
   pub said : Said
   pub says : Says line said
@@ -80,7 +80,7 @@ pub record HoldsTooManyOperations (blocks : List Block) (lines : List Said) (lin
   pub of_block : is_of_block blocks lines said ≡ true
   pub many : MAX_OPS < op_count lines said
 
--- line n, behind schedule lines that say this, has this fault
+-- line n, after schedule lines that say this, has this fault
 abbrev pub IsFaulty : List Block → List Said → List ℕ → ℕ → RowsFault → Type 0
 IsFaulty blocks lines line n (Read InputTooLong) = ⊥
 IsFaulty blocks lines line n (Read (BadLine k)) = (k ≡ n) × (SaysSomethingWidely line → ⊥)
@@ -92,7 +92,7 @@ IsFaulty blocks lines line n (Read NoMemory) = ⊥
 IsFaulty blocks lines line n NoBlocks = ⊥
 IsFaulty blocks lines line n (NoSuchBlock k) = (k ≡ n) × SpeaksOfNoBlock blocks lines line
 
--- the first faulty one of the lines behind line n has this fault
+-- the first faulty one of the lines after line n has this fault
 pub record HaveFirstFault (blocks : List Block) (n : ℕ) (lines : List (List ℕ)) (fault : RowsFault) : Type 0 where
   pub before : List (List ℕ)
   pub line : List ℕ
@@ -112,7 +112,7 @@ pub record BlocksAreRefused (input : List ℕ) (fault : ReadFault) : Type 0 wher
   pub ends : BlocksEnd before after
   pub refused : files.IsRefused (join_with_byte 10 before) fault
 
--- the text has no blocks, whatever stands behind them
+-- the text has no blocks, whatever follows them
 pub record HasNoBlocks (input : List ℕ) : Type 0 where
   pub short : length input ≤ MAX_INPUT
   pub before : List (List ℕ)
@@ -121,7 +121,7 @@ pub record HasNoBlocks (input : List ℕ) : Type 0 where
   pub ends : BlocksEnd before after
   pub file : files.Denotes (join_with_byte 10 before) []
 
--- the text is refused behind its blocks
+-- the text is refused after its blocks
 pub record RowsAreRefused (input : List ℕ) (fault : RowsFault) : Type 0 where
   pub short : length input ≤ MAX_INPUT
   pub before : List (List ℕ)

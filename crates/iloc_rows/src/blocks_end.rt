@@ -1,18 +1,18 @@
 //! Where the blocks of a text end.
 ghost use Rattle.std.specs.Prelude.{◌≡◌, ◌≤◌, MatchBool, length};
 ghost use Rattle.iloc_text.specs.ScheduleLines.{IsScheduleLine, said_of};
-ghost use Rattle.iloc_rows.specs.Steps.Ends.{is_nothing, ArePartsOf};
+ghost use Rattle.iloc_rows.specs.Steps.Ends.{is_nothing, IsCutOf};
 
 use iloc_text::{MAX_INPUT, ParseFault, ScheduleLine, read_schedule_line, split_line};
 
 /// A text, cut before its first schedule line.
 #[derive(Clone, Copy)]
-pub struct Parts<'a> {
+pub struct CutText<'a> {
     /// The lines before that one, without their last line end.
     pub blocks: &'a [u8],
     /// How many lines those are.
     pub lines: u32,
-    /// The first schedule line and all that stands behind it, if there is one.
+    /// The first schedule line and all that follows it, if there is one.
     pub rows: Option<&'a [u8]>,
 }
 
@@ -35,9 +35,9 @@ fn is_schedule_line(line: &[u8]) -> bool
 }
 
 /// Cuts the text before its first schedule line.
-pub fn parts_of(input: &[u8]) -> Parts<'_>
+pub fn cut_before_rows(input: &[u8]) -> CutText<'_>
     requires { length input.now ≤ MAX_INPUT }
-    ensures { ArePartsOf input.now result }
+    ensures { IsCutOf input.now result }
 {
     let mut lines = 0;
     let mut rest = Some(input);
@@ -45,7 +45,7 @@ pub fn parts_of(input: &[u8]) -> Parts<'_>
         let (line, after) = split_line(text);
         if is_schedule_line(line) {
             let end = (input.len() - text.len()).saturating_sub(1);
-            return Parts {
+            return CutText {
                 blocks: &input[..end],
                 lines,
                 rows: Some(text),
@@ -54,7 +54,7 @@ pub fn parts_of(input: &[u8]) -> Parts<'_>
         lines += 1;
         rest = after;
     }
-    Parts {
+    CutText {
         blocks: input,
         lines,
         rows: None,

@@ -9,13 +9,13 @@ use std::fmt::{self, Display, Formatter};
 /// Why a text denotes no blocks with proposals. Lines are counted from 1.
 #[derive(Clone, Copy, Debug, Drop, PartialEq, Eq)]
 pub enum RowsFault {
-    /// As a file of blocks is refused; of a schedule line, that it isn't understood, that it would be if numbers had
-    /// no limit, or that it holds operation 10,001 of its block's rows.
+    /// As a file of blocks is refused; of a schedule line, that it isn't understood, that it would be if numbers had no
+    /// limit, or that it has operation 10,001 of its block's rows.
     Read(ReadFault),
     /// There is no block.
     NoBlocks,
-    /// This line is a head that names no block behind that of the lines before it, or has another name; or a row or a
-    /// number of cycles without a head where there isn't exactly one block.
+    /// This line is a head that names no block after that of the lines before it, or has another name; or it is a row or
+    /// a number of cycles without a head, when there isn't exactly one block.
     NoSuchBlock(u32),
 }
 

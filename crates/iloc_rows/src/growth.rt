@@ -12,14 +12,14 @@ use iloc_text::{Block, MAX_OPS, Name, NoMemory, Op, Ops, ReadFault, ScheduleLine
 use iloc_timed::{MAX_ROWS, Row};
 use std::alloc::Global;
 
-/// A `nop` stands for an empty slot.
+/// Whether the operation fills no slot: a `nop` is written for an empty one.
 fn is_empty(op: &Op) -> bool
     ensures { result ≡ is_empty op.now }
 {
     matches!(op, Op::Nop)
 }
 
-/// The same name, or none both.
+/// Whether both are the same name, or both none.
 fn is_same_name(own: Option<&Name>, name: Option<&[u8]>) -> bool
     ensures { result ≡ is_same_name (option_copied own.entry) (option_map (λ text. text.now) name.entry) }
 {
@@ -30,7 +30,7 @@ fn is_same_name(own: Option<&Name>, name: Option<&[u8]>) -> bool
     }
 }
 
-/// Whether the block with this number, counted from 1, is there and has this name.
+/// Whether there is a block with this number, counted from 1, and it has this name.
 fn is_named(blocks: &[Block], number: u32, name: Option<&[u8]>) -> bool
     requires { 0 < number }
     ensures { result ≡ is_named blocks.now number (option_map (λ text. text.now) name.entry) }
@@ -79,7 +79,7 @@ impl Proposal {
 }
 
 impl Proposing {
-    /// Nothing is proposed for so many blocks.
+    /// Nothing is proposed for `count` blocks.
     pub fn none(alloc: Global, count: usize) -> Result<Proposing, NoMemory>
         ensures proposals { IfOk result (λ state. state.proposals.items ≡ proposals_of count []) }
         ensures last { IfOk result (λ state. state.last ≡ 0) }
@@ -91,7 +91,7 @@ impl Proposing {
         Ok(Proposing { proposals, last: 0 })
     }
 
-    /// The place of the block of which rows and numbers of cycles are, if there is one.
+    /// The place of the block to which rows and numbers of cycles belong, if there is one.
     fn place(&self) -> Option<usize>
         ensures place { result ≡ place self.now.last (vec_len self.now.proposals) }
         ensures within { IfSome result (λ i. i < vec_len self.now.proposals) }
@@ -108,7 +108,7 @@ impl Proposing {
     /// Adds a row to what is proposed for the block at this place.
     fn push_row(&mut self, i: usize, zero: Op, one: Op) -> Result<(), NoMemory>
         requires within { i < vec_len self.old.proposals }
-        requires room { length (at_place self.old.proposals.items i).rows < MAX_ROWS }
+        requires few { length (at_place self.old.proposals.items i).rows < MAX_ROWS }
         ensures proposals { OnOk result (self.new.proposals.items
             ≡ slice_set self.old.proposals.items i (with_row (at_place self.old.proposals.items i) zero one)) }
         ensures last { self.new.last ≡ self.old.last }
@@ -117,7 +117,7 @@ impl Proposing {
         Ok(())
     }
 
-    /// The last claim of the block at this place is so many cycles.
+    /// Sets the last claim of the block at this place.
     fn set_cycles(&mut self, i: usize, cycles: u32)
         requires { i < vec_len self.old.proposals }
         ensures proposals { self.new.proposals.items

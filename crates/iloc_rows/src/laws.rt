@@ -1,28 +1,28 @@
 //! Laws of texts with rows, as contracts of functions that do nothing.
 ghost use Rattle.iloc_rows.specs.Laws.{TextsHaveOneAnswer, TextsHaveAnAnswer, HandInsDontChangeTheTask, TextsApartHaveOneAnswer, SubmissionsAreWithinLimits};
 
-/// A text denotes at most one list of blocks with one list of proposals, or one refusal, and never both.
+/// Promise: a text denotes at most one list of blocks with one list of proposals, or one refusal, and never both.
 pub fn texts_have_one_answer()
     ensures { TextsHaveOneAnswer }
 {}
 
-/// Each text denotes blocks with proposals, or a refusal, so want of memory is never the only answer to it.
+/// Promise: each text denotes blocks with proposals, or a refusal, so out of memory is never the only answer to it.
 pub fn texts_have_an_answer()
     ensures { TextsHaveAnAnswer }
 {}
 
-/// A text denotes at most 65,535 blocks and as many proposals, each of at most 10,000 operations; each operation of a
-/// proposal stands in exactly one slot of its rows, and each number there is an operation's.
+/// Promise: a text denotes at most 65,535 blocks and as many proposals, each of at most 10,000 operations; each operation
+/// of a proposal is in exactly one slot of its rows, and each number there is an operation's.
 pub fn submissions_are_within_limits()
     ensures { SubmissionsAreWithinLimits }
 {}
 
-/// Whatever rows are handed in for a task, apart from it, the task's blocks are the same.
+/// Promise: whatever rows are handed in for a task, apart from it, the task's blocks are the same.
 pub fn hand_ins_dont_change_the_task()
     ensures { HandInsDontChangeTheTask }
 {}
 
-/// A task, and rows apart from it, denote at most one list of blocks with one list of proposals.
+/// Promise: a task, and rows apart from it, denote at most one list of blocks with one list of proposals.
 pub fn texts_apart_have_one_answer()
     ensures { TextsApartHaveOneAnswer }
 {}

@@ -1,5 +1,4 @@
-//! Schedules that others made: blocks of ILOC and behind them, as schedules are listed, the rows that are proposed for
-//! each.
+//! Schedules that others made: blocks of ILOC, followed by the rows that are proposed for each, as schedules are listed.
 #![tactic(auto)]
 
 mod blocks_end;

@@ -7,7 +7,7 @@ use iloc_timed::{MAX_ROWS, Row};
 use std::alloc::Global;
 use std::marker::Model;
 
-/// The rows that are proposed for a block, the first for cycle 0; no more than a schedule may have.
+/// The rows that are proposed for a block, the first for cycle 0, no more than a schedule may have.
 #[derive(Debug, Drop)]
 pub struct Rows {
     items: Vec<Row>,
@@ -15,17 +15,18 @@ pub struct Rows {
 
 impl Model for Rows {
     ghost use Rattle.std.specs.Prelude.{◌≤◌, List, vec_len};
+    ghost use Rattle.iloc_timed.specs.Limits.{MAX_ROWS};
     ghost use Rattle.iloc_timed.specs.declared.row.Row.{Row};
 
     ghost Value = { List Row };
 
     ghost view = { λ rows. rows.items.items };
 
-    ghost invariant = { λ rows. vec_len rows.items ≤ 4_000_000_000 };
+    ghost invariant = { λ rows. vec_len rows.items ≤ MAX_ROWS };
 }
 
 impl Rows {
-    /// No rows.
+    /// Promise: no rows.
     pub fn none(alloc: Global) -> Rows
         ensures { result ≡ [] }
     {
@@ -34,7 +35,7 @@ impl Rows {
         }
     }
 
-    /// The rows, lent.
+    /// Promise: lends the rows, in order, 4,000,000,000 at most.
     pub fn as_slice(&self) -> &[Row]
         ensures rows { result.now ≡ self.now }
         ensures few { length self.now ≤ MAX_ROWS }
@@ -42,7 +43,7 @@ impl Rows {
         self.items.as_slice()
     }
 
-    /// Gives the rows back.
+    /// Promise: gives the rows back, in order, 4,000,000,000 at most.
     pub fn into_vec(self) -> Vec<Row>
         ensures rows { result.items ≡ self }
         ensures few { vec_len result ≤ MAX_ROWS }
@@ -64,11 +65,11 @@ impl Rows {
 /// each operation in its own slot; and how many cycles are claimed, if any are.
 #[derive(Debug, Drop)]
 pub struct Proposal {
-    /// The operations, but for the `nop`s, which stand for empty slots.
+    /// The operations, without the `nop`s, which are written for empty slots.
     pub ops: Ops,
     /// The rows, with the numbers of the operations.
     pub rows: Rows,
-    /// The last number of cycles that is said of the block.
+    /// The last number of cycles that is claimed for the block.
     pub claimed: Option<u32>,
 }
 
@@ -88,21 +89,21 @@ impl Model for Proposals {
 }
 
 impl Proposals {
-    /// These proposals.
+    /// Promise: these proposals, in this order.
     pub fn new(items: Vec<Proposal>) -> Proposals
         ensures { result ≡ items.items }
     {
         Proposals { items }
     }
 
-    /// The proposals, lent.
+    /// Promise: lends the proposals, in order.
     pub fn as_slice(&self) -> &[Proposal]
         ensures { result.now ≡ self.now }
     {
         self.items.as_slice()
     }
 
-    /// Gives the proposals back.
+    /// Promise: gives the proposals back, in order.
     pub fn into_vec(self) -> Vec<Proposal>
         ensures { result.items ≡ self }
     {

@@ -8,7 +8,7 @@ use crate::proposal::Proposal;
 pub struct Proposing {
     /// For each block.
     pub proposals: Vec<Proposal>,
-    /// The number of the block of which the lines were last, 0 where they were of none.
+    /// The number of the block to which the last lines belong, 0 if they belong to none.
     pub last: u32,
     ghost within: { last ≤ vec_len proposals },
 }

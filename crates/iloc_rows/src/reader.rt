@@ -5,7 +5,7 @@ ghost use Rattle.iloc_text.specs.Lines.{lines_left};
 ghost use Rattle.iloc_rows.specs.declared.fault.RowsFault.TheVariants.{Read as read};
 ghost use Rattle.iloc_rows.specs.Submissions.{Denotes, IsRefused, Propose, HaveFirstFault, IsTask, IsNoTask, ProposeApart, AreRefusedFor};
 
-use crate::blocks_end::parts_of;
+use crate::blocks_end::cut_before_rows;
 use crate::fault::RowsFault;
 use crate::proposal::Proposals;
 use crate::proposing::Proposing;
@@ -23,7 +23,7 @@ pub struct Submission {
     pub proposals: Proposals,
 }
 
-/// What the schedule lines propose for the blocks, or the first fault; `lines` lines stand before them.
+/// What the schedule lines, after `lines` other lines, propose for the blocks, or the first fault.
 fn read_proposals(
     alloc: Global,
     blocks: &[Block],
@@ -54,14 +54,14 @@ fn read_proposals(
     Ok(Proposals::new(proposing.proposals))
 }
 
-/// Reads blocks of ILOC and, behind them, schedule lines: exactly the blocks and proposals that the text denotes, or
-/// the refusal that it denotes.
+/// Reads blocks of ILOC, followed by schedule lines.
 ///
-/// The blocks end before the first schedule line, and what stands before it is read as `iloc_text::read_file` reads it.
-/// Where that is no block, the text is refused whatever stands behind it.
-/// A text that is too long is refused before any line is looked at; otherwise the earliest faulty line is named. On one
-/// line `BadLine` comes before `NumberTooLarge`, `NoSuchBlock` and `TooManyOperations`. `NoMemory` may come besides,
-/// where a growth is refused.
+/// Promise: exactly the blocks and proposals that the text denotes, or the refusal that it denotes.
+///
+/// The blocks end before the first schedule line, and what precedes it is read as `iloc_text::read_file` reads it. If that
+/// has no block, the text is refused whatever follows. A text that is too long is refused before any line is looked at;
+/// otherwise the earliest faulty line is named. On one line `BadLine` comes before `NumberTooLarge`, `NoSuchBlock` and
+/// `TooManyOperations`. `NoMemory` may come instead, if a growth is refused.
 pub fn read_submission(alloc: Global, input: &[u8]) -> Result<Submission, RowsFault>
     ensures ok { IfOk result (λ found. Denotes input.now found.blocks found.proposals) }
     ensures err { IfErr result (λ fault. fault ≢ read no_memory → IsRefused input.now fault) }
@@ -69,22 +69,25 @@ pub fn read_submission(alloc: Global, input: &[u8]) -> Result<Submission, RowsFa
     if input.len() > MAX_INPUT {
         return Err(RowsFault::Read(ReadFault::InputTooLong));
     }
-    let parts = parts_of(input);
-    let file = read_file(alloc, parts.blocks)?;
+    let cut = cut_before_rows(input);
+    let file = read_file(alloc, cut.blocks)?;
     let blocks = file.blocks.as_slice();
     if blocks.is_empty() {
         return Err(RowsFault::NoBlocks);
     }
-    let proposals = read_proposals(alloc, blocks, parts.rows, parts.lines)?;
+    let proposals = read_proposals(alloc, blocks, cut.rows, cut.lines)?;
     Ok(Submission {
         blocks: file.blocks,
         proposals,
     })
 }
 
-/// Reads a task, apart from what is handed in for it: exactly the blocks that the text denotes, or the refusal that it
-/// denotes. It is read as `iloc_text::read_file` reads it, so a schedule line is a bad line, and it has a block at least.
-/// `NoMemory` may come besides, where a growth is refused.
+/// Reads a task, apart from what is handed in for it.
+///
+/// Promise: exactly the blocks that the text denotes, at least one, or the refusal that it denotes.
+///
+/// It is read as `iloc_text::read_file` reads it, so a schedule line is a bad line. `NoMemory` may come instead, if a
+/// growth is refused.
 pub fn read_task(alloc: Global, input: &[u8]) -> Result<Blocks, RowsFault>
     ensures ok { IfOk result (IsTask input.now) }
     ensures err { IfErr result (λ fault. fault ≢ read no_memory → IsNoTask input.now fault) }
@@ -96,11 +99,12 @@ pub fn read_task(alloc: Global, input: &[u8]) -> Result<Blocks, RowsFault>
     Ok(file.blocks)
 }
 
-/// Reads schedule lines alone, as somebody hands them in for these blocks: exactly the proposals that the text denotes, or
-/// the refusal that it denotes. Its lines are counted from its first.
+/// Reads schedule lines alone, as somebody hands them in for these blocks. Its lines are counted from its first.
+///
+/// Promise: exactly the proposals that the text denotes for these blocks, or the refusal that it denotes.
 ///
 /// A text that is too long is refused before any line is looked at; otherwise the earliest faulty line is named, as by
-/// `read_submission`. `NoMemory` may come besides, where a growth is refused.
+/// `read_submission`. `NoMemory` may come instead, if a growth is refused.
 pub fn read_rows(alloc: Global, blocks: &[Block], input: &[u8]) -> Result<Proposals, RowsFault>
     ensures ok { IfOk result (ProposeApart blocks.now input.now) }
     ensures err { IfErr result (λ fault. fault ≢ read no_memory → AreRefusedFor blocks.now input.now fault) }

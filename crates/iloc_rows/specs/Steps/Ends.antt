@@ -4,7 +4,7 @@ use Rattle.std.specs.List.{join_with_byte}
 use Rattle.iloc_text.specs.ScheduleLines.{Said}
 use Rattle.iloc_text.specs.ScheduleLines.Said.{nothing, row, head, cycles, total}
 use Rattle.iloc_text.specs.Lines.{lines_of, lines_left}
-use Rattle.iloc_rows.specs.declared.blocks_end.Parts.{Parts}
+use Rattle.iloc_rows.specs.declared.blocks_end.CutText.{CutText}
 use Rattle.iloc_rows.specs.Submissions.{BlocksEnd}
 
 -- whether nothing is said
@@ -16,9 +16,9 @@ is_nothing (cycles c) = false
 is_nothing (total t) = false
 
 -- these are the two parts of the text, with the number of the lines of the first
-pub record ArePartsOf (input : List ℕ) (parts : Parts) : Type 0 where
+pub record IsCutOf (input : List ℕ) (cut : CutText) : Type 0 where
   pub before : List (List ℕ)
-  pub lines : lines_of input ≡ before ++ lines_left parts.rows
-  pub ends : BlocksEnd before (lines_left parts.rows)
-  pub blocks : parts.blocks.now ≡ join_with_byte 10 before
-  pub count : parts.lines ≡ length before
+  pub lines : lines_of input ≡ before ++ lines_left cut.rows
+  pub ends : BlocksEnd before (lines_left cut.rows)
+  pub blocks : cut.blocks.now ≡ join_with_byte 10 before
+  pub count : cut.lines ≡ length before

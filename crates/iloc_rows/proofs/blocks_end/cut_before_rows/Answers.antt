@@ -1,6 +1,6 @@
 use Rattle.std.proofs.Common.{◌∙◌, Some, None, ap, take, arith}
 use Rattle.iloc_rows.proofs.Ends.{AreBlocks, end_here, blocks_step, blocks_number, starts, all_blocks}
-use Rattle.iloc_rows.proofs.blocks_end.parts_of.Goals as goal
+use Rattle.iloc_rows.proofs.blocks_end.cut_before_rows.Goals as goal
 
 pub overflow_sub-input : goal.overflow_sub-input
 overflow_sub-input c =

@@ -1,7 +1,7 @@
 use Rattle.std.proofs.Common.{length}
 use Rattle.iloc_text.specs.Lines.{lines_left}
 use Rattle.iloc_rows.proofs.Ends.{AreBlocks}
-use Rattle.iloc_rows.proofs.blocks_end.parts_of.Given as goal
+use Rattle.iloc_rows.proofs.blocks_end.cut_before_rows.Given as goal
 
 abbrev pub invariant-loop-rest : goal.invariant-loop-rest
 invariant-loop-rest l = AreBlocks l.fn.input l.lines l.rest
