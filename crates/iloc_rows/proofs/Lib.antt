@@ -4,7 +4,6 @@ pub mod Growing
 pub mod Ends
 pub mod Reading
 pub mod Answer
-pub mod Facts
 pub mod Slots
 pub mod Within
 pub mod Every

@@ -7,13 +7,14 @@ use Rattle.iloc_ops.specs.declared.op.Op.{Op}
 use Rattle.iloc_ops.specs.declared.file.Block.{Block}
 use Rattle.iloc_text.specs.ScheduleLines.{Said}
 use Rattle.iloc_text.specs.ScheduleLines.Said.{nothing, row, head, cycles, total}
+use Rattle.iloc_text.specs.Files as files
 use Rattle.iloc_text.proofs.Within.{files_within}
 use Rattle.iloc_rows.specs.declared.proposal.Proposal.{Proposal}
 use Rattle.iloc_rows.specs.Proposing.{block_of, row_in, rows_of, ops_in, proposal_of, proposals_of, Fits, AllFit}
-use Rattle.iloc_rows.specs.Laws.{SubmissionsAreWithinLimits}
+use Rattle.iloc_rows.specs.Laws.{AreWithinLimits, SubmissionsApartAreWithinLimits, SubmissionsAreWithinLimits}
+use Rattle.iloc_rows.specs.Submissions.{Propose}
 use Rattle.iloc_rows.proofs.Picking.{picked-nothing, picked-here, picked-else, picked-none}
-use Rattle.iloc_rows.proofs.Growing.{still_of}
-use Rattle.iloc_rows.proofs.Facts.{as_many}
+use Rattle.iloc_rows.proofs.Growing.{length-proposals, still_of}
 use Rattle.iloc_rows.proofs.Slots.{numbered_once, numbered_in_range}
 
 -- Operations
@@ -63,16 +64,25 @@ all_proposed : (P : Proposal → Type 0) (count : ℕ) (ss : List Said) (proposa
 all_proposed P count ss proposals e h =
     subst (AllByRecursion P) (sym e) (all-map P (proposal_of ss) (range_with_len 1 count) h)
 
-pub submissions_within : SubmissionsAreWithinLimits
-submissions_within input blocks proposals d =
-    let file = files_within _ blocks d.file in
-    let said = d.propose.said in
+-- what lines propose for the blocks of a file is within the limits
+proposals_within : (text : List ℕ) (blocks : List Block) (lines : List (List ℕ)) (proposals : List Proposal)
+    → files.Denotes text blocks → Propose blocks lines proposals → AreWithinLimits blocks proposals
+proposals_within text blocks lines proposals file propose =
+    let few = files_within text blocks file in
+    let said = propose.said in
     record {
-      few_blocks = file.0;
-      short_blocks = file.1;
-      as_many = as_many input blocks proposals d;
-      short_proposals = all_proposed (λ p. length p.ops ≤ MAX_OPS) (length blocks) said proposals d.propose.are
-          (few-lines blocks [] said d.propose.fit few-none);
-      once = all_proposed _ (length blocks) said proposals d.propose.are (λ k. numbered_once (rows_of k said));
-      in_range = all_proposed _ (length blocks) said proposals d.propose.are (λ k. numbered_in_range (rows_of k said));
+      few_blocks = few.0;
+      short_blocks = few.1;
+      as_many = ap length propose.are ∙ length-proposals (length blocks) said;
+      short_proposals = all_proposed (λ p. length p.ops ≤ MAX_OPS) (length blocks) said proposals propose.are
+          (few-lines blocks [] said propose.fit few-none);
+      once = all_proposed _ (length blocks) said proposals propose.are (λ k. numbered_once (rows_of k said));
+      in_range = all_proposed _ (length blocks) said proposals propose.are (λ k. numbered_in_range (rows_of k said));
     }
+
+pub submissions_within : SubmissionsAreWithinLimits
+submissions_within input blocks proposals d = proposals_within _ blocks d.after proposals d.file d.propose
+
+pub submissions_apart_within : SubmissionsApartAreWithinLimits
+submissions_apart_within task input blocks proposals d =
+    proposals_within task blocks d.rows.lines proposals d.task.file d.rows.propose

@@ -39,6 +39,11 @@ abbrev pub SubmissionsAreWithinLimits : Type 0
 SubmissionsAreWithinLimits = (input : List ℕ) (blocks : List Block) (proposals : List Proposal)
     → Denotes input blocks proposals → AreWithinLimits blocks proposals
 
+-- so are the blocks of a task and the proposals that stand apart from them
+abbrev pub SubmissionsApartAreWithinLimits : Type 0
+SubmissionsApartAreWithinLimits = (task input : List ℕ) (blocks : List Block) (proposals : List Proposal)
+    → DenoteApart task input blocks proposals → AreWithinLimits blocks proposals
+
 -- whatever is handed in for a task, its blocks are the same
 abbrev pub HandInsDontChangeTheTask : Type 0
 HandInsDontChangeTheTask = (task input input' : List ℕ) (blocks blocks' : List Block) (proposals proposals' : List Proposal)

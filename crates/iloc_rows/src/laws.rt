@@ -1,5 +1,6 @@
 //! Laws of texts with rows, as contracts of functions that do nothing.
-ghost use Rattle.iloc_rows.specs.Laws.{TextsHaveOneAnswer, TextsHaveAnAnswer, HandInsDontChangeTheTask, TextsApartHaveOneAnswer, SubmissionsAreWithinLimits};
+ghost use Rattle.iloc_rows.specs.Laws.{TextsHaveOneAnswer, TextsHaveAnAnswer, HandInsDontChangeTheTask, TextsApartHaveOneAnswer};
+ghost use Rattle.iloc_rows.specs.Laws.{SubmissionsApartAreWithinLimits, SubmissionsAreWithinLimits};
 
 /// Promise: a text denotes at most one list of blocks with one list of proposals, or one refusal, and never both.
 pub fn texts_have_one_answer()
@@ -15,6 +16,11 @@ pub fn texts_have_an_answer()
 /// of a proposal is in exactly one slot of its rows, and each number there is an operation's.
 pub fn submissions_are_within_limits()
     ensures { SubmissionsAreWithinLimits }
+{}
+
+/// Promise: a task and the rows that are handed in apart from it are within the same limits.
+pub fn submissions_apart_are_within_limits()
+    ensures { SubmissionsApartAreWithinLimits }
 {}
 
 /// Promise: whatever rows are handed in for a task, apart from it, the task's blocks are the same.
