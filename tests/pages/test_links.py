@@ -17,7 +17,7 @@ class Links(unittest.TestCase):
                     self.assertTrue(os.path.exists(f"{os.path.dirname(page)}/{link}"), link)
 
     def test_map(self):
-        """Where to find it: each definition, each file of code and each test."""
+        """Where to find it: each definition, each file of code with what is named there, and each test."""
         table = read(f"{TOP}/docs/ARCHITECTURE.md").split("## Where to find it", 1)[1].split("\n## ", 1)[0]
         rows = re.findall(r"^\| ([^|]*) \| ([^|]*) \| ([^|]*) \| ([^|]*) \|$", table, re.M)
         for what, specs, code, tests in rows[1:]:
@@ -26,7 +26,11 @@ class Links(unittest.TestCase):
                 crate, folder = first.split("/", 1)[0], os.path.dirname(first.removesuffix("/"))
                 for it in [first, *(f"{folder}/{name}" for name in more if name[0].isupper())]:
                     self.assertTrue(os.path.exists(f"{CRATES}/{it}.antt") or os.path.isdir(f"{CRATES}/{it}"), it)
-                for it in re.findall(r"`([\w/]+(?:\.rt|/))`", code):
-                    self.assertTrue(glob.glob(f"{CRATES}/{crate}/src/**/{it}", recursive=True), it)
+                for it, name in re.findall(r"`([\w/]+(?:\.rt|/))`(?: \(`(\w+)`\))?", code):
+                    found = glob.glob(f"{CRATES}/{crate}/src/**/{it}", recursive=True)
+                    self.assertTrue(found, it)
+                    self.assertTrue(not name or f"fn {name}" in read(found[0]), name)
+                for it, name in re.findall(r"`([\w/]+)` \(`(\w+)`\)", specs):
+                    self.assertIn(f"{name} :", read(f"{CRATES}/{it}.antt"))
                 for it in re.findall(r"`([\w/]+)`", tests):
                     self.assertTrue(glob.glob(f"{TOP}/{it}*") or glob.glob(f"{CRATES}/{it}*"), it)
