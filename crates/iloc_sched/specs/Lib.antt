@@ -6,6 +6,7 @@ pub mod Starts
 pub mod Lawful
 pub mod Greedy
 pub mod Heuristics
+pub mod Scheduled
 pub mod Least
 pub mod Laws
 pub mod Steps

@@ -1,21 +1,17 @@
 //! The list scheduler.
-ghost use Rattle.std.specs.Prelude.{ℕ, ◌≡◌, ◌≤◌, ◌<◌, ◌+◌, ◌*◌, List, length, sum_by, IfOk, OnOk, ℤ};
+ghost use Rattle.std.specs.Prelude.{◌≡◌, ◌≤◌, ◌+◌, ◌*◌, List, length, IfOk, OnOk};
 ghost use Rattle.iloc_ops.specs.declared.op.Op.{Op};
-ghost use Rattle.iloc_meaning.specs.Outcome.{outcome};
-ghost use Rattle.iloc_timed.specs.declared.row.Row.{Row};
-ghost use Rattle.iloc_timed.specs.Cycles.{cycles};
-ghost use Rattle.iloc_timed.specs.Latency.{latency};
-ghost use Rattle.iloc_timed.specs.Rows.{issue_cycle};
-ghost use Rattle.iloc_timed.specs.Timed.{timed_outcome};
 ghost use Rattle.iloc_sched.specs.Renaming.{renamed};
-ghost use Rattle.iloc_sched.specs.Priority.{priority};
-ghost use Rattle.iloc_sched.specs.Lawful.{IsLawful};
-ghost use Rattle.iloc_sched.specs.Greedy.{IsGreedy, IsGreedyBy};
+ghost use Rattle.iloc_sched.specs.Priority.{priorities};
+ghost use Rattle.iloc_sched.specs.Greedy.{IsGreedyBy};
 ghost use Rattle.iloc_sched.specs.Heuristics.{priorities_by};
+ghost use Rattle.iloc_sched.specs.Least.{least};
+ghost use Rattle.iloc_sched.specs.Scheduled.{IsTheSchedule};
 ghost use Rattle.iloc_sched.specs.Steps.SoFar.{IsPlan};
 
 use crate::heuristic::Heuristic;
 use crate::lasts::Lasts;
+use crate::lower_bound::least_by;
 use crate::plan::Plan;
 use crate::queues::Queues;
 use crate::renaming::Names;
@@ -26,7 +22,7 @@ use iloc_timed::{Latencies, Row, Schedule};
 use std::alloc::Global;
 use std::mem;
 
-/// Schedules blocks, one after another. The room that one block took is kept for those after it.
+/// Schedules blocks, one after another. Its buffers are kept from block to block.
 #[derive(Drop)]
 pub struct Scheduler {
     alloc: Global,
@@ -39,7 +35,7 @@ pub struct Scheduler {
 }
 
 impl Scheduler {
-    /// A scheduler that has no room yet.
+    /// A scheduler that has no memory yet.
     pub fn new(alloc: Global) -> Scheduler {
         Scheduler {
             alloc,
@@ -52,19 +48,12 @@ impl Scheduler {
         }
     }
 
-    /// The greedy schedule of a block, as `schedule` has it. After a refusal the next block is scheduled as after any
-    /// other.
+    /// The greedy schedule of a block. After a refusal the next block is scheduled as after any other.
+    ///
+    /// Promise: It is the schedule that `schedule` promises, whatever blocks came before.
     pub fn schedule(&mut self, block: &Block, latencies: &Latencies) -> Result<Schedule, NoMemory>
         requires { length block.now.ops ≤ MAX_OPS }
-        ensures greedy { IfOk result (λ s. IsGreedy latencies.now block.now.ops s.ops s.rows) }
-        ensures only { IfOk result (λ s. (ops : List Op) (rows : List Row) →
-            IsGreedy latencies.now block.now.ops ops rows → (ops ≡ s.ops) × (rows ≡ s.rows)) }
-        ensures outcome { OnOk result ((ops : List Op) (rows : List Row) (memory : List ℤ) →
-            IsLawful latencies.now block.now.ops ops rows
-            → timed_outcome latencies.now ops rows memory ≡ outcome block.now.ops memory) }
-        ensures least { IfOk result (λ s. (i : ℕ) → i < length s.ops →
-            issue_cycle s.rows i + priority latencies.now s.ops i ≤ cycles latencies.now s.ops s.rows) }
-        ensures most { IfOk result (λ s. cycles latencies.now s.ops s.rows ≤ sum_by (latency latencies.now) s.ops) }
+        ensures { IfOk result (IsTheSchedule (priorities latencies.now) latencies.now block.now.ops) }
     {
         let own = self.lend(block, latencies)?;
         let schedule = own.clone()?;
@@ -72,23 +61,20 @@ impl Scheduler {
         Ok(schedule)
     }
 
-    /// The greedy schedule of a block, as `schedule` has it, in the scheduler's own room, which `take_back` takes back.
+    /// The greedy schedule of a block, in the scheduler's own buffers, which `take_back` takes back.
+    ///
+    /// Promise: It is the schedule that `schedule` promises, whatever blocks came before.
     pub fn lend(&mut self, block: &Block, latencies: &Latencies) -> Result<Schedule, NoMemory>
         requires { length block.now.ops ≤ MAX_OPS }
-        ensures greedy { IfOk result (λ s. IsGreedy latencies.now block.now.ops s.ops s.rows) }
-        ensures only { IfOk result (λ s. (ops : List Op) (rows : List Row) →
-            IsGreedy latencies.now block.now.ops ops rows → (ops ≡ s.ops) × (rows ≡ s.rows)) }
-        ensures outcome { OnOk result ((ops : List Op) (rows : List Row) (memory : List ℤ) →
-            IsLawful latencies.now block.now.ops ops rows
-            → timed_outcome latencies.now ops rows memory ≡ outcome block.now.ops memory) }
-        ensures least { IfOk result (λ s. (i : ℕ) → i < length s.ops →
-            issue_cycle s.rows i + priority latencies.now s.ops i ≤ cycles latencies.now s.ops s.rows) }
-        ensures most { IfOk result (λ s. cycles latencies.now s.ops s.rows ≤ sum_by (latency latencies.now) s.ops) }
+        ensures { IfOk result (IsTheSchedule (priorities latencies.now) latencies.now block.now.ops) }
     {
         self.lend_as(block, latencies, Heuristic::Chain)
     }
 
     /// The schedule of a block that is greedy by a heuristic.
+    ///
+    /// Promise: It is the only greedy schedule of the block by the heuristic's priorities, with the block's outcome, and its
+    /// cycles lie between the bounds of `schedule`.
     pub fn schedule_as(
         &mut self,
         block: &Block,
@@ -96,17 +82,7 @@ impl Scheduler {
         heuristic: Heuristic,
     ) -> Result<Schedule, NoMemory>
         requires { length block.now.ops ≤ MAX_OPS }
-        ensures greedy { IfOk result (λ s.
-            IsGreedyBy (priorities_by heuristic latencies.now s.ops) latencies.now block.now.ops s.ops s.rows) }
-        ensures only { IfOk result (λ s. (ops : List Op) (rows : List Row) →
-            IsGreedyBy (priorities_by heuristic latencies.now ops) latencies.now block.now.ops ops rows
-            → (ops ≡ s.ops) × (rows ≡ s.rows)) }
-        ensures outcome { OnOk result ((ops : List Op) (rows : List Row) (memory : List ℤ) →
-            IsLawful latencies.now block.now.ops ops rows
-            → timed_outcome latencies.now ops rows memory ≡ outcome block.now.ops memory) }
-        ensures least { IfOk result (λ s. (i : ℕ) → i < length s.ops →
-            issue_cycle s.rows i + priority latencies.now s.ops i ≤ cycles latencies.now s.ops s.rows) }
-        ensures most { IfOk result (λ s. cycles latencies.now s.ops s.rows ≤ sum_by (latency latencies.now) s.ops) }
+        ensures { IfOk result (IsTheSchedule (priorities_by heuristic latencies.now) latencies.now block.now.ops) }
     {
         let own = self.lend_as(block, latencies, heuristic)?;
         let schedule = own.clone()?;
@@ -114,8 +90,9 @@ impl Scheduler {
         Ok(schedule)
     }
 
-    /// The schedule of a block that is greedy by a heuristic, as `schedule_as` has it, in the scheduler's own room, which
-    /// `take_back` takes back.
+    /// The schedule of a block that is greedy by a heuristic, in the scheduler's own buffers, which `take_back` takes back.
+    ///
+    /// Promise: It is the schedule that `schedule_as` promises.
     pub fn lend_as(
         &mut self,
         block: &Block,
@@ -123,17 +100,7 @@ impl Scheduler {
         heuristic: Heuristic,
     ) -> Result<Schedule, NoMemory>
         requires { length block.now.ops ≤ MAX_OPS }
-        ensures greedy { IfOk result (λ s.
-            IsGreedyBy (priorities_by heuristic latencies.now s.ops) latencies.now block.now.ops s.ops s.rows) }
-        ensures only { IfOk result (λ s. (ops : List Op) (rows : List Row) →
-            IsGreedyBy (priorities_by heuristic latencies.now ops) latencies.now block.now.ops ops rows
-            → (ops ≡ s.ops) × (rows ≡ s.rows)) }
-        ensures outcome { OnOk result ((ops : List Op) (rows : List Row) (memory : List ℤ) →
-            IsLawful latencies.now block.now.ops ops rows
-            → timed_outcome latencies.now ops rows memory ≡ outcome block.now.ops memory) }
-        ensures least { IfOk result (λ s. (i : ℕ) → i < length s.ops →
-            issue_cycle s.rows i + priority latencies.now s.ops i ≤ cycles latencies.now s.ops s.rows) }
-        ensures most { IfOk result (λ s. cycles latencies.now s.ops s.rows ≤ sum_by (latency latencies.now) s.ops) }
+        ensures { IfOk result (IsTheSchedule (priorities_by heuristic latencies.now) latencies.now block.now.ops) }
     {
         self.plan.fill(
             &mut self.names,
@@ -146,7 +113,9 @@ impl Scheduler {
         self.lend_planned()
     }
 
-    /// The schedule of a block that is greedy by these priorities, as `schedule_by` has it.
+    /// The schedule of a block that is greedy by these priorities.
+    ///
+    /// Promise: It is the schedule that `schedule_by` promises, whatever blocks came before.
     pub fn schedule_by(
         &mut self,
         block: &Block,
@@ -155,15 +124,7 @@ impl Scheduler {
     ) -> Result<Schedule, NoMemory>
         requires few { length block.now.ops ≤ MAX_OPS }
         requires priorities { length priorities.now ≡ length (renamed block.now.ops) }
-        ensures greedy { IfOk result (λ s. IsGreedyBy priorities.now latencies.now block.now.ops s.ops s.rows) }
-        ensures only { IfOk result (λ s. (ops : List Op) (rows : List Row) →
-            IsGreedyBy priorities.now latencies.now block.now.ops ops rows → (ops ≡ s.ops) × (rows ≡ s.rows)) }
-        ensures outcome { OnOk result ((ops : List Op) (rows : List Row) (memory : List ℤ) →
-            IsLawful latencies.now block.now.ops ops rows
-            → timed_outcome latencies.now ops rows memory ≡ outcome block.now.ops memory) }
-        ensures least { IfOk result (λ s. (i : ℕ) → i < length s.ops →
-            issue_cycle s.rows i + priority latencies.now s.ops i ≤ cycles latencies.now s.ops s.rows) }
-        ensures most { IfOk result (λ s. cycles latencies.now s.ops s.rows ≤ sum_by (latency latencies.now) s.ops) }
+        ensures { IfOk result (IsTheSchedule (λ _. priorities.now) latencies.now block.now.ops) }
     {
         let own = self.lend_by(block, latencies, priorities)?;
         let schedule = own.clone()?;
@@ -171,8 +132,10 @@ impl Scheduler {
         Ok(schedule)
     }
 
-    /// The schedule of a block that is greedy by these priorities, as `schedule_by` has it, in the scheduler's own room,
-    /// which `take_back` takes back.
+    /// The schedule of a block that is greedy by these priorities, in the scheduler's own buffers, which `take_back` takes
+    /// back.
+    ///
+    /// Promise: It is the schedule that `schedule_by` promises, whatever blocks came before.
     pub fn lend_by(
         &mut self,
         block: &Block,
@@ -181,15 +144,7 @@ impl Scheduler {
     ) -> Result<Schedule, NoMemory>
         requires few { length block.now.ops ≤ MAX_OPS }
         requires priorities { length priorities.now ≡ length (renamed block.now.ops) }
-        ensures greedy { IfOk result (λ s. IsGreedyBy priorities.now latencies.now block.now.ops s.ops s.rows) }
-        ensures only { IfOk result (λ s. (ops : List Op) (rows : List Row) →
-            IsGreedyBy priorities.now latencies.now block.now.ops ops rows → (ops ≡ s.ops) × (rows ≡ s.rows)) }
-        ensures outcome { OnOk result ((ops : List Op) (rows : List Row) (memory : List ℤ) →
-            IsLawful latencies.now block.now.ops ops rows
-            → timed_outcome latencies.now ops rows memory ≡ outcome block.now.ops memory) }
-        ensures least { IfOk result (λ s. (i : ℕ) → i < length s.ops →
-            issue_cycle s.rows i + priority latencies.now s.ops i ≤ cycles latencies.now s.ops s.rows) }
-        ensures most { IfOk result (λ s. cycles latencies.now s.ops s.rows ≤ sum_by (latency latencies.now) s.ops) }
+        ensures { IfOk result (IsTheSchedule (λ _. priorities.now) latencies.now block.now.ops) }
     {
         self.plan.fill_by(
             &mut self.names,
@@ -201,7 +156,34 @@ impl Scheduler {
         self.lend_planned()
     }
 
-    /// The greedy schedule of the plan, in the scheduler's own room.
+    /// The schedule that `lend_as` promises, and the lower bound on the cycles of the block's lawful schedules.
+    ///
+    /// Promise: The schedule is the one that `schedule_as` promises, and the bound is that of `least`.
+    pub fn lend_with_least(
+        &mut self,
+        block: &Block,
+        latencies: &Latencies,
+        heuristic: Heuristic,
+    ) -> Result<(Schedule, u64), NoMemory>
+        requires { length block.now.ops ≤ MAX_OPS }
+        ensures schedule { IfOk result (λ found.
+            IsTheSchedule (priorities_by heuristic latencies.now) latencies.now block.now.ops found.0) }
+        ensures least { IfOk result (λ found. found.1 ≡ least latencies.now block.now.ops) }
+    {
+        self.plan.fill(
+            &mut self.names,
+            &mut self.lasts,
+            block,
+            latencies,
+            heuristic,
+            self.alloc,
+        )?;
+        let least = least_by(self.alloc, &self.plan.kinds, latencies, &self.plan.edges)?;
+        let schedule = self.lend_planned()?;
+        Ok((schedule, least))
+    }
+
+    /// The greedy schedule of the plan, in the scheduler's own buffers.
     fn lend_planned(&mut self) -> Result<Schedule, NoMemory>
         requires plan { IsPlan self.old.plan }
         requires named { (block : List Op) × (self.old.plan.ops.items ≡ renamed block) }
@@ -214,7 +196,7 @@ impl Scheduler {
         Ok(Schedule::of_table(ops, rows))
     }
 
-    /// Takes back the room of a schedule, for the next block.
+    /// Takes back the buffers of a schedule, for the next block.
     pub fn take_back(&mut self, schedule: Schedule) {
         (self.plan.ops, self.rows) = schedule.into_parts();
     }
@@ -244,20 +226,13 @@ impl Scheduler {
 /// The greedy schedule of a block, of at most `MAX_OPS` operations: in each cycle the first of the ready operations is
 /// issued, with the first of the others that can go beside it, in order of priority, then of number.
 ///
-/// It is the only greedy one, and like every lawful schedule of the block it has the block's outcome. It takes at
-/// least as many cycles as lie from an operation's issue to the end by its priority, and at most as many as the
-/// latencies of all operations together. For many blocks make one `Scheduler`.
+/// For many blocks make one `Scheduler`.
+///
+/// Promise: It is the only greedy schedule of the block, and on every memory it has the block's outcome; it takes at least
+/// as many cycles as an operation's issue and its priority together, and at most as many as all latencies together.
 pub fn schedule(alloc: Global, block: &Block, latencies: &Latencies) -> Result<Schedule, NoMemory>
     requires { length block.now.ops ≤ MAX_OPS }
-    ensures greedy { IfOk result (λ s. IsGreedy latencies.now block.now.ops s.ops s.rows) }
-    ensures only { IfOk result (λ s. (ops : List Op) (rows : List Row) →
-        IsGreedy latencies.now block.now.ops ops rows → (ops ≡ s.ops) × (rows ≡ s.rows)) }
-    ensures outcome { OnOk result ((ops : List Op) (rows : List Row) (memory : List ℤ) →
-        IsLawful latencies.now block.now.ops ops rows
-        → timed_outcome latencies.now ops rows memory ≡ outcome block.now.ops memory) }
-    ensures least { IfOk result (λ s. (i : ℕ) → i < length s.ops →
-        issue_cycle s.rows i + priority latencies.now s.ops i ≤ cycles latencies.now s.ops s.rows) }
-    ensures most { IfOk result (λ s. cycles latencies.now s.ops s.rows ≤ sum_by (latency latencies.now) s.ops) }
+    ensures { IfOk result (IsTheSchedule (priorities latencies.now) latencies.now block.now.ops) }
 {
     Scheduler::new(alloc).schedule(block, latencies)
 }
@@ -266,8 +241,8 @@ pub fn schedule(alloc: Global, block: &Block, latencies: &Latencies) -> Result<S
 /// operation (`rename`): in each cycle the first of the ready operations is issued, with the first of the others that
 /// can go beside it, in order of falling priority, then of number.
 ///
-/// It is the only one that is greedy by them, and like every lawful schedule of the block it has the block's outcome.
-/// Its cycles lie between the bounds that hold of `schedule`, whose priorities are the longest chains of delays.
+/// Promise: It is the only schedule of the block that is greedy by these priorities, with the block's outcome, and its
+/// cycles lie between the bounds of `schedule`.
 pub fn schedule_by(
     alloc: Global,
     block: &Block,
@@ -276,15 +251,7 @@ pub fn schedule_by(
 ) -> Result<Schedule, NoMemory>
     requires few { length block.now.ops ≤ MAX_OPS }
     requires priorities { length priorities.now ≡ length (renamed block.now.ops) }
-    ensures greedy { IfOk result (λ s. IsGreedyBy priorities.now latencies.now block.now.ops s.ops s.rows) }
-    ensures only { IfOk result (λ s. (ops : List Op) (rows : List Row) →
-        IsGreedyBy priorities.now latencies.now block.now.ops ops rows → (ops ≡ s.ops) × (rows ≡ s.rows)) }
-    ensures outcome { OnOk result ((ops : List Op) (rows : List Row) (memory : List ℤ) →
-        IsLawful latencies.now block.now.ops ops rows
-        → timed_outcome latencies.now ops rows memory ≡ outcome block.now.ops memory) }
-    ensures least { IfOk result (λ s. (i : ℕ) → i < length s.ops →
-        issue_cycle s.rows i + priority latencies.now s.ops i ≤ cycles latencies.now s.ops s.rows) }
-    ensures most { IfOk result (λ s. cycles latencies.now s.ops s.rows ≤ sum_by (latency latencies.now) s.ops) }
+    ensures { IfOk result (IsTheSchedule (λ _. priorities.now) latencies.now block.now.ops) }
 {
     Scheduler::new(alloc).schedule_by(block, latencies, priorities)
 }

@@ -1,18 +1,16 @@
--- The finished schedule by the names that callers see: `schedule` (`greedy`, `only`, `least`, `most`).
-use Rattle.std.proofs.Common.{◌≡◌, ℕ, ◌+◌, ◌<◌, ◌≤◌, List, length, ap, sym, ◌∙◌, subst}
-use Rattle.std.specs.Prelude.{sum_by}
+-- The finished schedule by the names that callers see: `schedule`.
+use Rattle.std.proofs.Common.{◌≡◌, ℕ, List, ap, sym, ◌∙◌, subst}
 use Rattle.iloc_ops.specs.declared.op.Op.{Op}
 use Rattle.iloc_timed.specs.declared.latencies.Latencies.{Latencies}
 use Rattle.iloc_timed.specs.declared.row.Row.{Row}
-use Rattle.iloc_timed.specs.Rows.{issue_cycle}
-use Rattle.iloc_timed.specs.Cycles.{cycles}
-use Rattle.iloc_timed.specs.Latency.{latency}
+use Rattle.iloc_timed.specs.Schedule.{Table}
 use Rattle.iloc_sched.specs.Renaming.{renamed}
-use Rattle.iloc_sched.specs.Priority.{priority}
 use Rattle.iloc_sched.specs.Greedy.{IsGreedyBy}
+use Rattle.iloc_sched.specs.Scheduled.{IsTheSchedule}
 use Rattle.iloc_sched.proofs.Bounds.PriorityBound.{priority_bound}
 use Rattle.iloc_sched.proofs.Bounds.BusyCycles.{busy_bound_by}
-use Rattle.iloc_sched.proofs.Choice.OneGreedy.{greedy_same_by, greedy_same_as}
+use Rattle.iloc_sched.proofs.Outcome.LawfulOutcomes.{lawful_same_outcome}
+use Rattle.iloc_sched.proofs.Choice.OneGreedy.{greedy_same_as}
 
 -- the same operations and rows in other places
 pub handed_out : (prios : List ℕ) (lat : Latencies) (block ops ops' : List Op) (rows rows' : List Row) → ops' ≡ ops
@@ -36,22 +34,21 @@ seen_greedy_as by prios lat lat' block ops rows are same greedy =
     seen_greedy prios (by lat' ops) lat lat' block ops rows
     (are ∙ ap (λ l. by l (renamed block)) same ∙ ap (by lat') (sym greedy.lawful.names)) same greedy
 
-pub greedy_only_by : (prios : List ℕ) (lat : Latencies) (block ops ops' : List Op) (rows rows' : List Row)
-    → IsGreedyBy prios lat block ops rows → IsGreedyBy prios lat block ops' rows' → (ops' ≡ ops) × (rows' ≡ rows)
-greedy_only_by prios lat block ops ops' rows rows' greedy other =
-    greedy_same_by prios lat block ops' ops rows' rows other greedy
+-- a greedy schedule has all that is promised of it
+pub the_schedule : (by : List Op → List ℕ) (lat : Latencies) (block : List Op) (s : Table)
+    → IsGreedyBy (by s.ops) lat block s.ops s.rows → IsTheSchedule by lat block s
+the_schedule by lat block s greedy = record {
+  greedy = greedy;
+  only = λ ops rows other. greedy_same_as by lat block ops s.ops rows s.rows other greedy;
+  outcome = λ ops rows memory lawful. lawful_same_outcome lat block ops rows memory lawful;
+  least = λ i below. priority_bound lat s.ops s.rows greedy.lawful.waits i below;
+  most = busy_bound_by (by s.ops) lat block s.ops s.rows greedy;
+}
 
-pub greedy_only_as : (prios : List Op → List ℕ) (lat : Latencies) (block ops ops' : List Op) (rows rows' : List Row)
-    → IsGreedyBy (prios ops) lat block ops rows → IsGreedyBy (prios ops') lat block ops' rows'
-    → (ops' ≡ ops) × (rows' ≡ rows)
-greedy_only_as prios lat block ops ops' rows rows' greedy other =
-    greedy_same_as prios lat block ops' ops rows' rows other greedy
-
-pub greedy_least : (prios : List ℕ) (lat : Latencies) (block ops : List Op) (rows : List Row)
-    → IsGreedyBy prios lat block ops rows → (i : ℕ) → i < length ops
-    → issue_cycle rows i + priority lat ops i ≤ cycles lat ops rows
-greedy_least prios lat block ops rows greedy i below = priority_bound lat ops rows greedy.lawful.waits i below
-
-pub greedy_most : (prios : List ℕ) (lat : Latencies) (block ops : List Op) (rows : List Row)
-    → IsGreedyBy prios lat block ops rows → cycles lat ops rows ≤ sum_by (latency lat) ops
-greedy_most prios lat block ops rows greedy = busy_bound_by prios lat block ops rows greedy
+-- the schedule of a plan by priorities that latencies and operations determine
+pub the_schedule_as : (by : Latencies → List Op → List ℕ) (prios : List ℕ) (lat lat' : Latencies) (names block : List Op)
+    (s : Table) → names ≡ renamed block → prios ≡ by lat names → lat ≡ lat'
+    → IsGreedyBy prios lat block s.ops s.rows → IsTheSchedule (by lat') lat' block s
+the_schedule_as by prios lat lat' names block s named are same greedy =
+    the_schedule (by lat') lat' block s
+    (seen_greedy_as by prios lat lat' block s.ops s.rows (are ∙ ap (by lat) named) same greedy)

@@ -1,0 +1,28 @@
+-- What the scheduler promises of a schedule.
+use Rattle.std.specs.Prelude.{ℕ, ◌+◌, ◌≡◌, ◌<◌, ◌≤◌, List, length, sum_by, ℤ}
+use Rattle.iloc_ops.specs.declared.op.Op.{Op}
+use Rattle.iloc_meaning.specs.Outcome.{outcome}
+use Rattle.iloc_timed.specs.declared.latencies.Latencies.{Latencies}
+use Rattle.iloc_timed.specs.declared.row.Row.{Row}
+use Rattle.iloc_timed.specs.Cycles.{cycles}
+use Rattle.iloc_timed.specs.Latency.{latency}
+use Rattle.iloc_timed.specs.Rows.{issue_cycle}
+use Rattle.iloc_timed.specs.Schedule.{Table}
+use Rattle.iloc_timed.specs.Timed.{timed_outcome}
+use Rattle.iloc_sched.specs.Priority.{priority}
+use Rattle.iloc_sched.specs.Lawful.{IsLawful}
+use Rattle.iloc_sched.specs.Greedy.{IsGreedyBy}
+
+-- This is the schedule of the block by priorities, one for each renamed operation, that those may determine.
+pub record IsTheSchedule (by : List Op → List ℕ) (lat : Latencies) (block : List Op) (s : Table) : Type 0 where
+  -- It is lawful, and greedy by these priorities.
+  pub greedy : IsGreedyBy (by s.ops) lat block s.ops s.rows
+  -- No other schedule of the block is.
+  pub only : (ops : List Op) (rows : List Row) → IsGreedyBy (by ops) lat block ops rows → (ops ≡ s.ops) × (rows ≡ s.rows)
+  -- As every lawful schedule of the block does, it has the block's outcome on every memory.
+  pub outcome : (ops : List Op) (rows : List Row) (memory : List ℤ) → IsLawful lat block ops rows
+      → timed_outcome lat ops rows memory ≡ outcome block memory
+  -- It takes at least as many cycles as an operation's issue and the longest chain of delays from there together,
+  pub least : (i : ℕ) → i < length s.ops → issue_cycle s.rows i + priority lat s.ops i ≤ cycles lat s.ops s.rows
+  -- and at most as many as the latencies of all operations together.
+  pub most : cycles lat s.ops s.rows ≤ sum_by (latency lat) s.ops
