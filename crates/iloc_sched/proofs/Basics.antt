@@ -8,3 +8,4 @@ pub mod LastOnes
 pub mod Registers
 pub mod Slots
 pub mod IssueCycles
+pub mod CountedRanges

@@ -7,6 +7,8 @@ pub mod Raised
 pub mod Dependents
 pub mod DependentsFound
 pub mod DependentsCounted
+pub mod Successors
+pub mod UsesCounted
 pub mod Named
 pub mod Slacks
 pub mod Tails

@@ -6,7 +6,7 @@ use Rattle.iloc_meaning.specs.Trace.{op_at}
 use Rattle.iloc_timed.specs.declared.latencies.Latencies.{Latencies}
 use Rattle.iloc_timed.specs.Latency.{latency}
 use Rattle.iloc_sched.specs.declared.heuristic.Heuristic.{Heuristic}
-use Rattle.iloc_sched.specs.declared.heuristic.Heuristic.TheVariants.{Chain, Order, Latency, Slack, Descendants}
+use Rattle.iloc_sched.specs.declared.heuristic.Heuristic.TheVariants.{Chain, Slack, Descendants, Successors, Latency, Order}
 use Rattle.iloc_sched.specs.Delays.{delays}
 use Rattle.iloc_sched.specs.Priority.{priorities, priority}
 use Rattle.iloc_sched.specs.Starts.{start}
@@ -19,13 +19,17 @@ through lat ops i = start lat ops i + priority lat ops i
 abbrev pub longest : Latencies → List Op → ℕ
 longest lat ops = fold max 0 (priorities lat ops)
 
--- the slack of operation i: how far its latest start, by the longest chain of all, lies behind its start
+-- the slack of operation i: how far its latest start, by the longest chain of all, exceeds its start
 abbrev pub slack : Latencies → List Op → ℕ → ℕ
 slack lat ops i = longest lat ops - priority lat ops i - start lat ops i
 
 -- whether operation j has to wait for operation i
 abbrev pub waits_for : Latencies → List Op → ℕ → ℕ → Bool
 waits_for lat ops i j = nat_lt i j && nat_lt 0 (length (delays lat (op_at ops i) (op_at ops j)))
+
+-- how many operations wait for operation i directly
+abbrev pub successors : Latencies → List Op → ℕ → ℕ
+successors lat ops i = count_by (waits_for lat ops i) (range_with_len 0 (length ops))
 
 -- whether a chain of delays leads from operation i to operation j, of n at most
 abbrev pub depends : Latencies → List Op → ℕ → ℕ → ℕ → Bool
@@ -44,7 +48,8 @@ descendants lat ops i = count_by (depends_on lat ops i) (range_with_len 0 (lengt
 -- the priorities of renamed operations by a heuristic
 abbrev pub priorities_by : Heuristic → Latencies → List Op → List ℕ
 priorities_by Chain lat ops = priorities lat ops
-priorities_by Order lat ops = map (λ op. 0) ops
-priorities_by Latency lat ops = map (latency lat) ops
 priorities_by Slack lat ops = map (through lat ops) (range_with_len 0 (length ops))
 priorities_by Descendants lat ops = map (descendants lat ops) (range_with_len 0 (length ops))
+priorities_by Successors lat ops = map (successors lat ops) (range_with_len 0 (length ops))
+priorities_by Latency lat ops = map (latency lat) ops
+priorities_by Order lat ops = map (λ op. 0) ops

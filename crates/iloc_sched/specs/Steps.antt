@@ -15,6 +15,7 @@ pub mod Shares
 pub mod Starts
 pub mod Tails
 pub mod Dependents
+pub mod Successors
 pub mod Queued
 pub mod SoFar
 pub mod Opening

@@ -36,7 +36,7 @@ fn uses_result(first: &Op, second: &Op) -> bool
 }
 
 /// Whether the second operation reads what the first may have stored.
-fn reads_stored(first: Kind, second: Kind) -> bool
+pub(crate) fn reads_stored(first: Kind, second: Kind) -> bool
     ensures { result ≡ reads_stored first second }
 {
     matches!((first, second), (Kind::Store, Kind::Load | Kind::Output))
@@ -44,7 +44,7 @@ fn reads_stored(first: Kind, second: Kind) -> bool
 
 /// Whether the second operation has to come after the first: a store after what reads or writes memory,
 /// an output after an output.
-fn keeps_order(first: Kind, second: Kind) -> bool
+pub(crate) fn keeps_order(first: Kind, second: Kind) -> bool
     ensures { result ≡ keeps_order first second }
 {
     matches!(
@@ -53,7 +53,7 @@ fn keeps_order(first: Kind, second: Kind) -> bool
     )
 }
 
-/// The delays in cycles that the first operation puts on the second, which stands behind it: rising, each once.
+/// The delays in cycles that the first operation puts on the second, which comes later: rising, each once.
 pub fn delays(first: &Op, second: &Op, latencies: &Latencies) -> ArrayVec<u64, 2>
     ensures { result.items ≡ rising (delays latencies.now first.now second.now) }
 {

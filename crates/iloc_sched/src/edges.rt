@@ -49,6 +49,7 @@ impl Edges {
     ghost use Rattle.iloc_sched.specs.Steps.Lasts.{IsNext, loads_before};
     ghost use Rattle.iloc_sched.specs.Steps.Registers.{listed};
     ghost use Rattle.iloc_sched.specs.Steps.PartialGraph.{IsPartialGraph, KeepsFrame, Grows, AddsFrom, CoversUse, CoversUses, CoversMemory};
+    ghost use Rattle.iloc_sched.specs.Steps.Successors.{leads_into};
     ghost use Rattle.iloc_sched.specs.Steps.Views.{edge_at, graph_of};
 
     /// No operation and no edge.
@@ -98,6 +99,17 @@ impl Edges {
         ensures { result ≡ (graph_of self.now).head i }
     {
         self.heads[i]
+    }
+
+    /// Whether there is this edge, and it leads into operation j.
+    pub fn leads_into(&self, edge: Option<u32>, j: u32) -> bool
+        requires { (x : ℕ) → edge ≡ Some x → x < length self.now.edges.items }
+        ensures { result ≡ leads_into (graph_of self.now) j edge }
+    {
+        match edge {
+            Some(x) => self.edges[x as usize].to == j,
+            None => false,
+        }
     }
 
     /// No edge between so many operations.

@@ -1,7 +1,8 @@
 //! By what the ready operations are ranked.
-ghost use Rattle.std.specs.Prelude.{◌≡◌, List, length, map, replicate, OnOk};
+ghost use Rattle.std.specs.Prelude.{◌≡◌, ◌+◌, List, length, map, replicate, OnOk};
 ghost use Rattle.iloc_ops.specs.declared.op.Op.{Op};
 ghost use Rattle.iloc_timed.specs.declared.latencies.Latencies.{Latencies};
+ghost use Rattle.iloc_timed.specs.Kinds.{kind};
 ghost use Rattle.iloc_timed.specs.Latency.{latency};
 ghost use Rattle.iloc_sched.specs.Heuristics.{priorities_by};
 ghost use Rattle.iloc_sched.specs.Steps.Graph.{IsGraphOf, AreLatencies};
@@ -11,7 +12,9 @@ use crate::descendants::count_descendants;
 use crate::edges::Edges;
 use crate::priority::raise_priorities;
 use crate::slack::raise_to_through;
+use crate::successors::count_successors;
 use iloc_ops::NoMemory;
+use iloc_timed::Kind;
 use std::alloc::Global;
 
 /// By what the ready operations are ranked: the one of which it is most goes first, and of equals the one of lower number.
@@ -19,14 +22,16 @@ use std::alloc::Global;
 pub enum Heuristic {
     /// The longest chain of delays that begins with the operation.
     Chain,
-    /// Nothing, so the order of the block decides.
-    Order,
-    /// The operation's own latency.
-    Latency,
     /// The longest chain of delays through the operation: the longer it is, the less slack is left.
     Slack,
     /// How many operations have to wait for the operation, themselves or by way of others.
     Descendants,
+    /// How many operations have to wait for the operation themselves.
+    Successors,
+    /// The operation's own latency.
+    Latency,
+    /// Nothing, so the order of the block decides.
+    Order,
 }
 
 /// Leaves zeros in place of numbers.
@@ -39,24 +44,32 @@ fn set_to_zero(prios: &mut Vec<u32>) -> Result<(), NoMemory>
     Ok(())
 }
 
-/// Turns the latencies of operations into their priorities by a heuristic.
+/// Turns the latencies of operations of these kinds into their priorities by a heuristic.
 #[inline(always)]
 pub(crate) fn rank_by(
     heuristic: Heuristic,
     alloc: Global,
     prios: &mut Vec<u32>,
+    kinds: &[Kind],
     edges: &Edges,
 ) -> Result<(), NoMemory>
-    requires { AreLatencies (graph_of edges.now) prios.old.items }
+    requires own { AreLatencies (graph_of edges.now) prios.old.items }
+    requires kinds { (lat : Latencies) × (ops : List Op) × IsGraphOf lat ops (graph_of edges.now) × (kinds.now ≡ map kind ops) }
+    requires starts { length edges.now.starts.items ≡ length edges.now.heads.items + 1 }
     ensures { OnOk result ((lat : Latencies) (ops : List Op) → IsGraphOf lat ops (graph_of edges.now)
-        → prios.old.items ≡ map (latency lat) ops → prios.new.items ≡ priorities_by heuristic lat ops) }
+        → kinds.now ≡ map kind ops → prios.old.items ≡ map (latency lat) ops
+        → prios.new.items ≡ priorities_by heuristic lat ops) }
 {
     match heuristic {
         Heuristic::Chain => raise_priorities(prios, edges),
-        Heuristic::Order => set_to_zero(prios)?,
-        Heuristic::Latency => {}
         Heuristic::Slack => raise_to_through(alloc, prios, edges)?,
         Heuristic::Descendants => count_descendants(alloc, prios, edges)?,
+        Heuristic::Successors => {
+            set_to_zero(prios)?;
+            count_successors(prios, kinds, edges);
+        }
+        Heuristic::Latency => {}
+        Heuristic::Order => set_to_zero(prios)?,
     }
     Ok(())
 }

@@ -160,7 +160,13 @@ impl Plan {
     {
         self.latencies = *latencies;
         self.gather(names, lasts, block)?;
-        rank_by(heuristic, alloc, &mut self.priorities, &self.edges)?;
+        rank_by(
+            heuristic,
+            alloc,
+            &mut self.priorities,
+            &self.kinds,
+            &self.edges,
+        )?;
         Ok(())
     }
 

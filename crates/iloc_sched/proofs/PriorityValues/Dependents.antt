@@ -35,12 +35,12 @@ some_delay : (ds : List ℕ) → nat_lt 0 (length ds) ≡ true → (d : ℕ) × 
 some_delay [] some = absurd (true≢false (sym some))
 some_delay (d ∷ ds) some = (d, inl refl)
 
-pair_waits : (lat : Latencies) (ops : List Op) (i k d : ℕ) → IsDelayPair lat ops i k d → waits_for lat ops i k ≡ true
+pub pair_waits : (lat : Latencies) (ops : List Op) (i k d : ℕ) → IsDelayPair lat ops i k d → waits_for lat ops i k ≡ true
 pair_waits lat ops i k d pair =
     both (nat_lt i k) (nat_lt 0 (length (delays lat (op_at ops i) (op_at ops k)))) (lt-ltb i k pair.order)
     (not_empty (delays lat (op_at ops i) (op_at ops k)) d (in_from (delays lat (op_at ops i) (op_at ops k)) d pair.delay))
 
-waits_pair : (lat : Latencies) (ops : List Op) (i k : ℕ) → k < length ops → waits_for lat ops i k ≡ true
+pub waits_pair : (lat : Latencies) (ops : List Op) (i k : ℕ) → k < length ops → waits_for lat ops i k ≡ true
     → (d : ℕ) × IsDelayPair lat ops i k d
 waits_pair lat ops i k within waits =
     let parts = and_parts (nat_lt i k) (nat_lt 0 (length (delays lat (op_at ops i) (op_at ops k)))) waits in

@@ -8,54 +8,14 @@ use Rattle.std.proofs.lemmas.Nat.Bits.{bit_at-lt, bit_at_above, same_from_bits}
 use Rattle.std.proofs.lemmas.Simd.{ones-mask_l, bit_mask_l}
 use Rattle.std.proofs.lemmas.Bool.{cases_lt, true≢false}
 use Rattle.std.proofs.lemmas.List.{get_or_past}
-use Rattle.std.proofs.lemmas.List.Sums.{sum_by-cons}
 use Rattle.std.proofs.lemmas.List.FromFn.{length-map-range_with_len, get_or-map-range_with_len}
 use Rattle.iloc_ops.specs.declared.op.Op.{Op}
 use Rattle.iloc_timed.specs.declared.latencies.Latencies.{Latencies}
 use Rattle.iloc_meaning.proofs.Cases.{by_bool}
 use Rattle.iloc_sched.specs.Heuristics.{depends_on, descendants}
 use Rattle.iloc_sched.specs.Steps.Dependents.{AreMarked}
+use Rattle.iloc_sched.proofs.Basics.CountedRanges.{count_range, none_in_range}
 use Rattle.iloc_sched.proofs.PriorityValues.Dependents.{depends_within}
-
-count_first : (p : ℕ → Bool) (a n : ℕ) → count_by p (range_with_len a (suc n))
-    ≡ cond (p a) 1 0 + count_by p (range_with_len (suc a) n)
-count_first p a n =
-    let next : a + 1 ≡ suc a = omega arith in
-    sum_by-cons (λ k. cond (p k) 1 0) a (range_with_len (a + 1) n)
-    ∙ ap (λ k. cond (p a) 1 0 + count_by p (range_with_len k n)) next
-
--- the numbers of a range, up to b and from b on
-count_range : (p : ℕ → Bool) (a m n b : ℕ) → a + m ≡ b → count_by p (range_with_len a (m + n))
-    ≡ count_by p (range_with_len a m) + count_by p (range_with_len b n)
-count_range p a zero n b end =
-    let same : a ≡ b = omega arith in
-    let size : 0 + n ≡ n = omega arith in
-    let left : count_by p (range_with_len a (0 + n)) ≡ count_by p (range_with_len a n) =
-    ap (λ k. count_by p (range_with_len a k)) size in
-    let right : count_by p (range_with_len a n) ≡ count_by p (range_with_len b n) =
-    ap (λ k. count_by p (range_with_len k n)) same in
-    let none : count_by p (range_with_len a 0) ≡ 0 = refl in
-    omega arith
-count_range p a (suc m) n b end =
-    let rest : count_by p (range_with_len (suc a) (m + n))
-    ≡ count_by p (range_with_len (suc a) m) + count_by p (range_with_len b n) =
-    count_range p (suc a) m n b (omega arith) in
-    let size : suc m + n ≡ suc (m + n) = omega arith in
-    let more : count_by p (range_with_len a (suc m + n)) ≡ count_by p (range_with_len a (suc (m + n))) =
-    ap (λ k. count_by p (range_with_len a k)) size in
-    let left = count_first p a (m + n) in
-    let right = count_first p a m in
-    omega arith
-
-none_in_range : (p : ℕ → Bool) (a n : ℕ) → ((k : ℕ) → a ≤ k → p k ≡ false) → count_by p (range_with_len a n) ≡ 0
-none_in_range p a zero none = refl
-none_in_range p a (suc n) none =
-    let rest : count_by p (range_with_len (suc a) n) ≡ 0 = none_in_range p (suc a) n (λ k after. none k (omega arith)) in
-    let not : p a ≡ false = none a (omega arith) in
-    let first : cond {A = ℕ} (p a) 1 0 ≡ 0 = ap (λ (v : Bool). cond {A = ℕ} v 1 0) not in
-    let all : count_by p (range_with_len a (suc n)) ≡ cond {A = ℕ} (p a) 1 0 + count_by p (range_with_len (suc a) n) =
-    count_first p a n in
-    omega arith
 
 -- a set of 64 bits is the mask of what depends on the operation
 mask_is : (p : ℕ → Bool) (base m : ℕ) → m < 2 ^ 64 → ((b : ℕ) → b < 64 → bit_at m b ≡ 1 → p (base + b) ≡ true)
@@ -110,7 +70,7 @@ counted_all lat ops i n enough =
     + count_by (depends_on lat ops i) (range_with_len (length ops) rest) =
     count_range (depends_on lat ops i) 0 (length ops) rest (length ops) (omega arith) in
     let none : count_by (depends_on lat ops i) (range_with_len (length ops) rest) ≡ 0 =
-    none_in_range (depends_on lat ops i) (length ops) rest (λ k after. by_bool (depends_on lat ops i k)
+    none_in_range (depends_on lat ops i) (length ops) rest (λ k after below. by_bool (depends_on lat ops i k)
     (λ t. let below : k < length ops = depends_within lat ops i k t in absurd (omega arith)) (λ f. f)) in
     let size : n ≡ length ops + rest = omega arith in
     let same : count_by (depends_on lat ops i) (range_with_len 0 n)

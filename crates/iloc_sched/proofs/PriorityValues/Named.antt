@@ -6,8 +6,8 @@ use Rattle.iloc_ops.specs.declared.op.Op.{Op}
 use Rattle.iloc_timed.specs.declared.latencies.Latencies.{Latencies}
 use Rattle.iloc_timed.specs.Latency.{latency}
 use Rattle.iloc_sched.specs.declared.heuristic.Heuristic.{Heuristic}
-use Rattle.iloc_sched.specs.declared.heuristic.Heuristic.TheVariants.{Chain, Order, Latency, Slack, Descendants}
-use Rattle.iloc_sched.specs.Heuristics.{through, descendants, priorities_by}
+use Rattle.iloc_sched.specs.declared.heuristic.Heuristic.TheVariants.{Chain, Slack, Descendants, Successors, Latency, Order}
+use Rattle.iloc_sched.specs.Heuristics.{through, descendants, successors, priorities_by}
 use Rattle.iloc_sched.proofs.PriorityValues.Longest.{length-priorities}
 
 pub length-priorities_by : (heuristic : Heuristic) (lat : Latencies) (ops : List Op)
@@ -17,3 +17,4 @@ length-priorities_by Order lat ops = length-map ops (λ op. 0)
 length-priorities_by Latency lat ops = length-map ops (latency lat)
 length-priorities_by Slack lat ops = length-map-range_with_len (through lat ops) 0 (length ops)
 length-priorities_by Descendants lat ops = length-map-range_with_len (descendants lat ops) 0 (length ops)
+length-priorities_by Successors lat ops = length-map-range_with_len (successors lat ops) 0 (length ops)

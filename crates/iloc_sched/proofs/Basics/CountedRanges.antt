@@ -1,0 +1,68 @@
+-- How many numbers of a range pass a test, for the counts of `Heuristic`.
+use Rattle.std.proofs.Common.{◌≡◌, ℕ, zero, suc, ◌+◌, ◌<◌, ◌≤◌, Bool, true, false, cond, length, refl, ◌∙◌, ap, arith}
+use Rattle.std.specs.Prelude.{count_by}
+use Rattle.std.specs.List.{range_with_len}
+use Rattle.std.proofs.lemmas.List.Sums.{sum_by-cons, count_by-le-length}
+use Rattle.std.proofs.lemmas.List.FromFn.{length-range_with_len}
+
+pub count_first : (p : ℕ → Bool) (a n : ℕ) → count_by p (range_with_len a (suc n))
+    ≡ cond (p a) 1 0 + count_by p (range_with_len (suc a) n)
+count_first p a n =
+    let next : a + 1 ≡ suc a = omega arith in
+    sum_by-cons (λ k. cond (p k) 1 0) a (range_with_len (a + 1) n)
+    ∙ ap (λ k. cond (p a) 1 0 + count_by p (range_with_len k n)) next
+
+-- the numbers of a range, up to b and from b on
+pub count_range : (p : ℕ → Bool) (a m n b : ℕ) → a + m ≡ b → count_by p (range_with_len a (m + n))
+    ≡ count_by p (range_with_len a m) + count_by p (range_with_len b n)
+count_range p a zero n b end =
+    let same : a ≡ b = omega arith in
+    let size : 0 + n ≡ n = omega arith in
+    let left : count_by p (range_with_len a (0 + n)) ≡ count_by p (range_with_len a n) =
+    ap (λ k. count_by p (range_with_len a k)) size in
+    let right : count_by p (range_with_len a n) ≡ count_by p (range_with_len b n) =
+    ap (λ k. count_by p (range_with_len k n)) same in
+    let none : count_by p (range_with_len a 0) ≡ 0 = refl in
+    omega arith
+count_range p a (suc m) n b end =
+    let rest : count_by p (range_with_len (suc a) (m + n))
+    ≡ count_by p (range_with_len (suc a) m) + count_by p (range_with_len b n) =
+    count_range p (suc a) m n b (omega arith) in
+    let size : suc m + n ≡ suc (m + n) = omega arith in
+    let more : count_by p (range_with_len a (suc m + n)) ≡ count_by p (range_with_len a (suc (m + n))) =
+    ap (λ k. count_by p (range_with_len a k)) size in
+    let left = count_first p a (m + n) in
+    let right = count_first p a m in
+    omega arith
+
+pub none_in_range : (p : ℕ → Bool) (a n : ℕ) → ((k : ℕ) → a ≤ k → k < a + n → p k ≡ false) → count_by p (range_with_len a n) ≡ 0
+none_in_range p a zero none = refl
+none_in_range p a (suc n) none =
+    let rest : count_by p (range_with_len (suc a) n) ≡ 0 = none_in_range p (suc a) n (λ k after below. none k (omega arith) (omega arith)) in
+    let not : p a ≡ false = none a (omega arith) (omega arith) in
+    let first : cond {A = ℕ} (p a) 1 0 ≡ 0 = ap (λ (v : Bool). cond {A = ℕ} v 1 0) not in
+    let all : count_by p (range_with_len a (suc n)) ≡ cond {A = ℕ} (p a) 1 0 + count_by p (range_with_len (suc a) n) =
+    count_first p a n in
+    omega arith
+
+-- where each number passes one test as often as two others together
+pub count_sum : (p q r : ℕ → Bool) (a n : ℕ)
+    → ((k : ℕ) → a ≤ k → k < a + n → cond {A = ℕ} (p k) 1 0 ≡ cond {A = ℕ} (q k) 1 0 + cond {A = ℕ} (r k) 1 0)
+    → count_by p (range_with_len a n) ≡ count_by q (range_with_len a n) + count_by r (range_with_len a n)
+count_sum p q r a zero each = refl
+count_sum p q r a (suc n) each =
+    let rest : count_by p (range_with_len (suc a) n)
+    ≡ count_by q (range_with_len (suc a) n) + count_by r (range_with_len (suc a) n) =
+    count_sum p q r (suc a) n (λ k after below. each k (omega arith) (omega arith)) in
+    let first = each a (omega arith) (omega arith) in
+    let all_p = count_first p a n in
+    let all_q = count_first q a n in
+    let all_r = count_first r a n in
+    omega arith
+
+pub count_most : (p : ℕ → Bool) (a n : ℕ) → count_by p (range_with_len a n) ≤ n
+count_most p a n =
+    let most : count_by p (range_with_len a n) ≤ length (range_with_len a n) =
+    count_by-le-length p (range_with_len a n) in
+    let size : length (range_with_len a n) ≡ n = length-range_with_len a n in
+    omega arith

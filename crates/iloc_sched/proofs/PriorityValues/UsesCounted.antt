@@ -1,0 +1,183 @@
+-- The edges into an operation, each source once, are the operations that it waits for by use; for `Heuristic::Successors`.
+use Rattle.std.proofs.Common.{◌≡◌, ◌≢◌, ℕ, ◌+◌, ◌<◌, ◌≤◌, Bool, true, false, cond, ◌==◌, ◌||◌, ◌&&◌, List, length, set, get_or, Option, Some, None, inl, inr, refl, sym, ◌∙◌, ap, subst, arith}
+use Rattle.std.specs.Prelude.{not}
+use Rattle.std.proofs.lemmas.Bool.{and_parts, eq-eqb, eqb-true, true≢false}
+use Rattle.std.proofs.lemmas.List.{get_or-set_same, get_or-set_other, length-set}
+use Rattle.iloc_ops.specs.declared.op.Op.{Op}
+use Rattle.iloc_meaning.specs.Trace.{op_at}
+use Rattle.iloc_timed.specs.declared.kind.Kind.{Kind}
+use Rattle.iloc_timed.specs.declared.latencies.Latencies.{Latencies}
+use Rattle.iloc_timed.specs.Kinds.{kind}
+use Rattle.iloc_timed.specs.Latency.{latency}
+use Rattle.iloc_meaning.proofs.Cases.{by_bool}
+use Rattle.iloc_sched.specs.Delays.{delays, uses_result, IsDelayPair}
+use Rattle.iloc_sched.specs.Heuristics.{waits_for}
+use Rattle.iloc_sched.specs.Steps.Graph.{Graph, IsGraphOf, IsLast}
+use Rattle.iloc_sched.specs.Steps.Successors.{waits_by_kind, waits_by_use, leads_into, adds_one, IsCounting}
+use Rattle.iloc_sched.proofs.Basics.Cases.{by_eq, by_lt, by_option}
+use Rattle.iloc_sched.proofs.PriorityValues.Dependents.{pair_waits}
+use Rattle.iloc_sched.proofs.PriorityValues.Successors.{waits_order, use_pair}
+
+module _ (lat : Latencies) (ops : List Op) (graph : Graph) (is : IsGraphOf lat ops graph) (j : ℕ) (there : j < graph.ops) where
+  -- whether operation j waits for operation i by their kinds
+  abbrev by_kind : ℕ → Bool
+  by_kind i = waits_by_kind (kind (op_at ops i)) (kind (op_at ops j))
+
+  pub none_counting : (found : List ℕ) (x : ℕ) → x ≡ graph.start j → IsCounting ops graph found found j x
+  none_counting found x first = record {
+    size = refl;
+    kept = λ i same. refl;
+    some = λ i y apart low high source. absurd (omega arith);
+    none = λ i not. refl;
+  }
+
+  -- an edge between these leads into operation j
+  pub into_j : (x : ℕ) → graph.start j ≤ x → x < graph.start (j + 1) → (x < graph.count) × (graph.to x ≡ j)
+  into_j x low high =
+      let up : graph.start (j + 1) ≤ graph.start graph.ops = is.is_graph.rises (j + 1) graph.ops (omega arith) (omega arith) in
+      let last : graph.start graph.ops ≡ graph.count = is.is_graph.last in
+      (omega arith, is.is_graph.into j x there low high)
+
+  -- an edge before x out of the same source is its previous one, or lies before that
+  again : (x y : ℕ) → graph.start j ≤ x → x < graph.start (j + 1) → graph.start j ≤ y → y < x
+      → graph.from y ≡ graph.from x → leads_into graph j (graph.previous x) ≡ true
+  again x y low high low_y before same =
+      let known = into_j x low high in
+      let last = is.is_graph.previous_edges x known.0 in
+      by_option (graph.previous x)
+      (λ none. absurd ((subst (λ o. IsLast (λ z. graph.from z ≡ graph.from x) x o) none last) y before same))
+      (λ p some.
+      let found : (p < x) × (graph.from p ≡ graph.from x) × ((k : ℕ) → p < k → k < x → graph.from k ≡ graph.from x → ⊥) =
+      subst (λ o. IsLast (λ z. graph.from z ≡ graph.from x) x o) some last in
+      let below : p < x = found.0 in
+      by_lt p y (λ less. absurd (found.2 y less before same))
+      (λ after. ap (λ o. leads_into graph j o) some ∙ eq-eqb (graph.to p) j (into_j p (omega arith) (omega arith)).1))
+
+  -- where the previous edge leads into operation j too, it is one of those before x
+  is_again : (x : ℕ) → graph.start j ≤ x → x < graph.start (j + 1) → leads_into graph j (graph.previous x) ≡ true
+      → (y : ℕ) × (graph.start j ≤ y) × (y < x) × (graph.from y ≡ graph.from x)
+  is_again x low high leads =
+      let known = into_j x low high in
+      let last = is.is_graph.previous_edges x known.0 in
+      by_option (graph.previous x)
+      (λ none. absurd (true≢false (sym leads ∙ ap (λ o. leads_into graph j o) none)))
+      (λ p some.
+      let found : (p < x) × (graph.from p ≡ graph.from x) × ((k : ℕ) → p < k → k < x → graph.from k ≡ graph.from x → ⊥) =
+      subst (λ o. IsLast (λ z. graph.from z ≡ graph.from x) x o) some last in
+      let below : p < x = found.0 in
+      let count : x < graph.count = known.0 in
+      let to_j : graph.to p ≡ j = eqb-true (graph.to p) j (sym (ap (λ o. leads_into graph j o) some) ∙ leads) in
+      let place : (graph.to p < graph.ops) × (graph.start (graph.to p) ≤ p) × (p < graph.start (graph.to p + 1)) =
+      is.is_graph.to_there p (omega arith) in
+      let first : graph.start j ≤ p = subst (λ t. graph.start t ≤ p) to_j place.1 in
+      (p, first, found.0, found.1))
+
+  -- the test of edge x, by what it is made of
+  tested : (x : ℕ) → graph.start j ≤ x → x < graph.start (j + 1)
+      → adds_one ops graph x ≡ (not (by_kind (graph.from x)) && not (leads_into graph j (graph.previous x)))
+  tested x low high = ap (λ t. not (waits_by_kind (kind (op_at ops (graph.from x))) (kind (op_at ops t)))
+      && not (leads_into graph t (graph.previous x))) (into_j x low high).1
+
+  -- edge x doesn't count
+  pub skipped : (old found : List ℕ) (x : ℕ) → IsCounting ops graph old found j x → graph.start j ≤ x
+      → x < graph.start (j + 1) → adds_one ops graph x ≡ false → IsCounting ops graph old found j (x + 1)
+  skipped old found x counting low high not_one = record {
+    size = counting.size;
+    kept = counting.kept;
+    some = λ i y apart low_y high_y source. by_eq y x
+        (λ same.
+        let from_x : graph.from x ≡ i = ap graph.from (sym same) ∙ source in
+        by_bool (leads_into graph j (graph.previous x))
+        (λ t.
+        let earlier = is_again x low high t in
+        counting.some i earlier.0 apart earlier.1 earlier.2 (earlier.3 ∙ from_x))
+        (λ f.
+        let both : (not (by_kind (graph.from x)) && not (leads_into graph j (graph.previous x))) ≡ true =
+        ap (λ k. not (by_kind k) && not (leads_into graph j (graph.previous x))) from_x
+        ∙ ap (λ k. not k && not (leads_into graph j (graph.previous x))) apart
+        ∙ ap (λ k. not k) f in
+        absurd (true≢false (sym both ∙ sym (tested x low high) ∙ not_one))))
+        (λ other. counting.some i y apart low_y (omega arith) source);
+    none = λ i not_there. counting.none i (λ y low_y high_y source. not_there y low_y (omega arith) source);
+  }
+
+  -- edge x counts
+  pub counts : (old found : List ℕ) (x from : ℕ) → IsCounting ops graph old found j x → graph.start j ≤ x
+      → x < graph.start (j + 1) → adds_one ops graph x ≡ true → from ≡ graph.from x → from < length found
+      → IsCounting ops graph old (set found from (get_or found from 0 + 1)) j (x + 1)
+  counts old found x from counting low high one from_is within =
+      let parts = and_parts (not (by_kind (graph.from x))) (not (leads_into graph j (graph.previous x)))
+      (sym (tested x low high) ∙ one) in
+      let by_use : by_kind (graph.from x) ≡ false = by_bool (by_kind (graph.from x))
+      (λ t. absurd (true≢false (sym parts.0 ∙ ap not t))) (λ f. f) in
+      let first : leads_into graph j (graph.previous x) ≡ false = by_bool (leads_into graph j (graph.previous x))
+      (λ t. absurd (true≢false (sym parts.1 ∙ ap not t))) (λ f. f) in
+      let grown : List ℕ = set found from (get_or found from 0 + 1) in
+      let own : get_or grown from 0 ≡ get_or found from 0 + 1 = get_or-set_same found from _ 0 within in
+      let other : (k : ℕ) → k ≢ from → get_or grown k 0 ≡ get_or found k 0 =
+      (λ k apart. get_or-set_other found from k _ 0 apart) in
+      let before : get_or found from 0 ≡ get_or old from 0 = counting.none from (λ y low_y high_y source.
+      true≢false (sym (again x y low high low_y high_y (source ∙ from_is)) ∙ first)) in
+      record {
+        size = length-set found from _ ∙ counting.size;
+        kept = λ i same. by_eq i from
+            (λ e. absurd (true≢false (sym same ∙ ap by_kind (e ∙ from_is) ∙ by_use)))
+            (λ apart. other i apart ∙ counting.kept i same);
+        some = λ i y apart low_y high_y source. by_eq i from
+            (λ e. ap (λ k. get_or grown k 0) e ∙ own ∙ ap (λ n. n + 1) before
+            ∙ ap (λ k. get_or old k 0 + 1) (sym e))
+            (λ differs.
+            let earlier : y ≢ x = (λ e. differs (sym source ∙ ap graph.from e ∙ sym from_is)) in
+            other i differs ∙ counting.some i y apart low_y (by_lt y x (λ l. l) (λ l. absurd (earlier (omega arith)))) source);
+        none = λ i not_there. by_eq i from
+            (λ e. absurd (not_there x low (omega arith) (sym (e ∙ from_is))))
+            (λ apart. other i apart
+            ∙ counting.none i (λ y low_y high_y source. not_there y low_y (omega arith) source));
+      }
+
+  -- what a source had before it is counted
+  pub before_count : (old found : List ℕ) (x : ℕ) → IsCounting ops graph old found j x → graph.start j ≤ x
+      → x < graph.start (j + 1) → adds_one ops graph x ≡ true → get_or found (graph.from x) 0 ≡ get_or old (graph.from x) 0
+  before_count old found x counting low high one =
+      let parts = and_parts (not (by_kind (graph.from x))) (not (leads_into graph j (graph.previous x)))
+      (sym (tested x low high) ∙ one) in
+      counting.none (graph.from x) (λ y low_y high_y source.
+      true≢false (sym parts.1 ∙ ap not (again x y low high low_y high_y source)))
+
+  -- all edges into operation j are counted
+  pub all_counting : (old found : List ℕ) (x : ℕ) → IsCounting ops graph old found j x → x ≡ graph.start (j + 1) → (i : ℕ)
+      → get_or found i 0 ≡ get_or old i 0 + cond {A = ℕ} (waits_by_use lat ops i j) 1 0
+  all_counting old found x counting end i = by_bool (by_kind i)
+      (λ t.
+      let kept = counting.kept i t in
+      let value : cond {A = ℕ} (waits_by_use lat ops i j) 1 0 ≡ 0 =
+      by_bool (waits_for lat ops i j)
+      (λ w. ap (λ v. cond {A = ℕ} (v && not (by_kind i)) 1 0) w ∙ ap (λ v. cond {A = ℕ} (not v) 1 0) t)
+      (λ w. ap (λ v. cond {A = ℕ} (v && not (by_kind i)) 1 0) w) in
+      omega arith)
+      (λ f. by_bool (waits_for lat ops i j)
+      (λ w.
+      let pair : IsDelayPair lat ops i j (latency lat (op_at ops i)) = (use_pair lat ops i j w f size_there).0 in
+      let edge : (y : ℕ) × (y < graph.count) × (graph.to y ≡ j) × (graph.from y ≡ i) × (latency lat (op_at ops i) ≤ graph.delay y) =
+      is.all i j (latency lat (op_at ops i)) pair (use_pair lat ops i j w f size_there).1 in
+      let place : (graph.to edge.0 < graph.ops) × (graph.start (graph.to edge.0) ≤ edge.0)
+      × (edge.0 < graph.start (graph.to edge.0 + 1)) = is.is_graph.to_there edge.0 edge.1 in
+      let low : graph.start j ≤ edge.0 = subst (λ t. graph.start t ≤ edge.0) edge.2 place.1 in
+      let high : edge.0 < graph.start (j + 1) = subst (λ t. edge.0 < graph.start (t + 1)) edge.2 place.2 in
+      let counted = counting.some i edge.0 f low (omega arith) edge.3 in
+      let value : cond {A = ℕ} (waits_by_use lat ops i j) 1 0 ≡ 1 =
+      ap (λ v. cond {A = ℕ} (v && not (by_kind i)) 1 0) w ∙ ap (λ v. cond {A = ℕ} (not v) 1 0) f in
+      omega arith)
+      (λ w.
+      let counted = counting.none i (λ y low high source.
+      let known = into_j y low (omega arith) in
+      let pair : IsDelayPair lat ops i j (graph.delay y) =
+      subst (λ s. IsDelayPair lat ops s j (graph.delay y)) source
+      (subst (λ t. IsDelayPair lat ops (graph.from y) t (graph.delay y)) known.1 (is.sound y known.0)) in
+      true≢false (sym (pair_waits lat ops i j (graph.delay y) pair) ∙ w)) in
+      let value : cond {A = ℕ} (waits_by_use lat ops i j) 1 0 ≡ 0 =
+      ap (λ v. cond {A = ℕ} (v && not (by_kind i)) 1 0) w in
+      omega arith))
+    where
+      size_there : j < length ops
+      size_there = let size : graph.ops ≡ length ops = is.size in omega arith

@@ -1,0 +1,86 @@
+//! The priorities of renamed operations, by each heuristic.
+ghost use Rattle.std.specs.Prelude.{◌≡◌, ◌≤◌, length, IfOk, OnOk};
+ghost use Rattle.iloc_sched.specs.Priority.{priorities};
+ghost use Rattle.iloc_sched.specs.Heuristics.{priorities_by};
+ghost use Rattle.iloc_sched.specs.Renaming.{IsRenamed};
+
+use crate::edges::Edges;
+use crate::heuristic::{Heuristic, rank_by};
+use crate::kinds::{Operations, fill_kinds};
+use crate::lasts::Lasts;
+use crate::priority::fill_latencies;
+use iloc_ops::{MAX_OPS, NoMemory, Op};
+use iloc_timed::Latencies;
+use std::alloc::Global;
+
+/// Fills a list with the priorities of renamed operations.
+fn fill_priorities(
+    prios: &mut Vec<u32>,
+    alloc: Global,
+    ops: &[Op],
+    latencies: &Latencies,
+    heuristic: Heuristic,
+) -> Result<(), NoMemory>
+    requires renamed { IsRenamed ops.now }
+    requires few { length ops.now ≤ MAX_OPS }
+    ensures { OnOk result (prios.new.items ≡ priorities_by heuristic latencies.now ops.now) }
+{
+    let mut kinds = Vec::new(alloc);
+    fill_kinds(&mut kinds, ops)?;
+    fill_latencies(prios, &kinds, latencies)?;
+    let operations = Operations {
+        ops,
+        kinds: &kinds,
+        latencies: prios,
+    };
+    let mut edges = Edges::new(alloc);
+    edges.fill(
+        &mut Lasts::new(alloc),
+        &operations,
+        3 * ops.len(),
+        latencies,
+    )?;
+    rank_by(heuristic, alloc, prios, &kinds, &edges)
+}
+
+/// By operation its priority by a heuristic: of ready operations the one of the highest goes first, and of equals the one
+/// of the lowest number.
+///
+/// The operations are renamed, as by `rename`, and at most `MAX_OPS`. It takes time linear in their number where their
+/// registers have numbers below three times that, but for `Heuristic::Descendants`, which takes n * n / 64.
+///
+/// Promise: The priorities are those that the heuristic defines over the delay pairs of the operations.
+pub fn priorities_by(
+    alloc: Global,
+    ops: &[Op],
+    latencies: &Latencies,
+    heuristic: Heuristic,
+) -> Result<Vec<u64>, NoMemory>
+    requires renamed { IsRenamed ops.now }
+    requires few { length ops.now ≤ MAX_OPS }
+    ensures { IfOk result (λ prios. prios.items ≡ priorities_by heuristic latencies.now ops.now) }
+{
+    let mut found = Vec::new(alloc);
+    fill_priorities(&mut found, alloc, ops, latencies, heuristic)?;
+    let mut prios = Vec::new(alloc);
+    prios.reserve(found.len())?;
+    for prio in found.as_slice() {
+        prios.push(u64::from(*prio))?;
+    }
+    Ok(prios)
+}
+
+/// By operation its priority: how many cycles are left at least from its issue to the end of the block.
+///
+/// The operations are renamed, as by `rename`, and at most `MAX_OPS`. It takes time linear in their number where their
+/// registers have numbers below three times that.
+///
+/// Promise: The priority of an operation is the greatest of its latency and, over the operations that have to wait for it,
+/// of the delay and their priority together.
+pub fn priorities(alloc: Global, ops: &[Op], latencies: &Latencies) -> Result<Vec<u64>, NoMemory>
+    requires renamed { IsRenamed ops.now }
+    requires few { length ops.now ≤ MAX_OPS }
+    ensures { IfOk result (λ prios. prios.items ≡ priorities latencies.now ops.now) }
+{
+    priorities_by(alloc, ops, latencies, Heuristic::Chain)
+}
