@@ -14,7 +14,6 @@ NOTHING, GROWTH, GROWTH_OF_A_START, THREAD = range(4)
 # takes room as the items come. So nothing is lost, and the next refusal is reported.
 DOES_WITHOUT = {
     "+threads::entry": "the words after the program's name, in run_program, which is inlined into main",
-    "iloc_sched::priority::priorities": "the priorities that are answered",
 }
 GROWS = re.compile(r"rattle_(?:re)?alloc|std_alloc::vec::Vec::grow_amortized")
 

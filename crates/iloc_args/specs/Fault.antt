@@ -11,7 +11,7 @@ line_text (Help text) = string_bytes text
 line_text (Refused text) = string_bytes text
 line_text (BadStart at) = codes "--at is not a multiple of 4"
 line_text TooManyWords = codes "the words do not fit into memory"
-line_text NoSuchPriority = codes "--priority is none of chain, slack, descendants, latency, order"
+line_text NoSuchPriority = codes "--priority is none of chain, slack, descendants, successors, latency, order"
 line_text NoMemory = codes "out of memory"
 
 -- the exit status of a fault

@@ -2,13 +2,14 @@
 use Rattle.std.specs.Prelude.{◌≢◌, codes}
 use Rattle.clap.specs.Words.{Text}
 use Rattle.iloc_sched.specs.declared.heuristic.Heuristic.{Heuristic}
-use Rattle.iloc_sched.specs.declared.heuristic.Heuristic.TheVariants.{Chain, Slack, Descendants, Latency, Order}
+use Rattle.iloc_sched.specs.declared.heuristic.Heuristic.TheVariants.{Chain, Slack, Descendants, Successors, Latency, Order}
 
 -- the word for a heuristic
 abbrev pub priority_word : Heuristic → Text
 priority_word Chain = codes "chain"
 priority_word Slack = codes "slack"
 priority_word Descendants = codes "descendants"
+priority_word Successors = codes "successors"
 priority_word Latency = codes "latency"
 priority_word Order = codes "order"
 

@@ -174,7 +174,7 @@ fn priority_arg<'a>(alloc: Global) -> Arg<'a>
         alloc,
         "priority",
         "NAME",
-        "What goes first: chain, slack, descendants, latency or order",
+        "First goes by: chain, slack, descendants, successors, latency, order",
     )
     .default_value("chain")
 }

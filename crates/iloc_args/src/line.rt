@@ -176,6 +176,7 @@ fn heuristic_of(name: &str) -> Option<Heuristic>
         "chain" => Some(Heuristic::Chain),
         "slack" => Some(Heuristic::Slack),
         "descendants" => Some(Heuristic::Descendants),
+        "successors" => Some(Heuristic::Successors),
         "latency" => Some(Heuristic::Latency),
         "order" => Some(Heuristic::Order),
         _ => None,
