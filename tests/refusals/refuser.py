@@ -10,11 +10,6 @@ from functools import cache
 from harness.program import TESTED, ending, folder, needs, stored
 
 NOTHING, GROWTH, GROWTH_OF_A_START, THREAD = range(4)
-# Lists that are collected from an iterator: the library asks for the whole room at once, and where that is refused it
-# takes room as the items come. So nothing is lost, and the next refusal is reported.
-DOES_WITHOUT = {
-    "+threads::entry": "the words after the program's name, in run_program, which is inlined into main",
-}
 GROWS = re.compile(r"rattle_(?:re)?alloc|std_alloc::vec::Vec::grow_amortized")
 
 
@@ -57,14 +52,14 @@ class Symbols:
         self.functions = sorted((int(address, 16), name) for address, _, name in found)
 
     def place(self, address):
-        """The function that an address lies in, without the numbers of its instance, and how far after its start."""
-        start, name = self.functions[bisect.bisect(self.functions, (address, "\x7f")) - 1]
-        return re.fullmatch(r"(.+?)(::<#[0-9a-f]+>)?(\+.*)?", name)[1], address - start
+        """The function that an address lies in, without the numbers of its instance."""
+        _, name = self.functions[bisect.bisect(self.functions, (address, "\x7f")) - 1]
+        return re.fullmatch(r"(.+?)(::<#[0-9a-f]+>)?(\+.*)?", name)[1]
 
     def asker(self, report):
-        """Who asked for the growth that was refused: the innermost call that isn't a list's own."""
-        places = [self.place(address) for address in report.calls if address]
-        return next((it for it in places if not GROWS.match(it[0])), ("nobody known", 0))
+        """What asked for the growth that was refused: the innermost call that isn't a list's own."""
+        places = (self.place(address) for address in report.calls if address)
+        return next((it for it in places if not GROWS.match(it)), "nobody known")
 
 
 @cache
@@ -91,13 +86,3 @@ def refusing(asked, program=None, **what):
     end = ending(asked.words, asked.given, program or TESTED.program, env=around)
     with open(path, "rb") as file:
         return end, Report.of(file.read())
-
-
-def tried_again(unneeded):
-    """What is wrong with the calls whose growths were refused, after which all ended as always."""
-    for name in sorted({name for name, _ in unneeded}):
-        places = [place for other, place in unneeded if other == name]
-        if name not in DOES_WITHOUT:
-            yield f"{name} does without a growth that was refused"
-        elif len(places) > 1:
-            yield f"{name} does without growths at {len(places)} places"

@@ -3,15 +3,15 @@
 The tests below are run as `rt test` or the gate built them (crates/CRATE/out). A run in which a growth was refused must
 end with the error of a call that memory, or a thread, was refused to: a test that looks at what is left after the
 refusal and tries again ends with that error all the same. One in which none was refused passes. A run that stops
-elsewhere, at an assertion for one, or doesn't end in time, fails; and so does one that passes though a growth was refused,
-unless refuser.py lists what asked for it. Each run with a refusal counts.
+elsewhere, at an assertion for one, or doesn't end in time, fails; and so does one that passes though a growth was refused.
+Each run with a refusal counts.
 """
 import itertools
 import os
 
 from harness.program import TOP, told
 from harness.suite import Case, table
-from refusals.refuser import NOTHING, Asked, refusing, symbols, tried_again
+from refusals.refuser import NOTHING, Asked, refusing, symbols
 
 TESTS = {
     "iloc_block_tests": [
@@ -67,20 +67,16 @@ class Growths(Case):
 
     def passes(self):
         self.assertTrue(os.path.exists(self.program), f"{self.program} isn't built: .ci/run or rt test makes it")
-        unneeded = {}
         for number in itertools.count(1):
             end, report = refusing(Asked([self.test], "", b""), self.program, growth=number)
             if report.refused == NOTHING:
                 break
             with self.subTest(growth=number):
                 if end[0] == 0:
-                    unneeded.setdefault(symbols(self.program).asker(report), number)
-                elif not is_told(end):
+                    self.fail(f"{symbols(self.program).asker(report)} does without a growth that was refused")
+                if not is_told(end):
                     self.fail(told(end))
         print(f"{self.test}: {number - 1} growths refused", flush=True)
-        for it in tried_again(unneeded):
-            with self.subTest("tried again"):
-                self.fail(it)
         self.assertEqual(end[0], 0, told(end))
         self.assertGreater(number, 1, "no growth was refused")
 

@@ -6,9 +6,9 @@ that reads: without it one thread reads the whole text, and all ends as always. 
 program asks for is `out of memory`, or, before the last worker is started, may belong to a start. With several workers
 the growths come in another order each time, and each run is judged by what was refused in it.
 
-Where a growth was refused and the program ends as always, what asked for it has to be listed (DOES_WITHOUT), and
-at one place of that function alone. So a body that tries again where it has to answer a refusal is found.
+No growth that was refused is done without. So a body that tries again where it has to answer a refusal is found.
 """
+from collections import Counter
 from dataclasses import dataclass, field
 
 from bench import inputs
@@ -18,7 +18,7 @@ from harness.suite import Check, table
 from oracle.judge import proposed
 from oracle.reader import read
 from oracle.scheduler import Schedule
-from refusals.refuser import GROWTH, GROWTH_OF_A_START, NOTHING, THREAD, Asked, refusing, symbols, tried_again
+from refusals.refuser import GROWTH, GROWTH_OF_A_START, NOTHING, THREAD, Asked, refusing, symbols
 
 NO_MEMORY = (3, b"", b"ilocfarm: out of memory\n")
 NO_WORKER = (3, b"", b"ilocfarm: a worker could not be started\n")
@@ -41,7 +41,7 @@ class Tally:
     whole: tuple
     memory: int = 0
     workers: int = 0
-    unneeded: dict = field(default_factory=dict)    # how many, by what asked
+    unneeded: Counter = field(default_factory=Counter)      # by what asked
     wrong: list = field(default_factory=list)
 
     def add(self, ending, report, what, goes_on=False):
@@ -50,8 +50,7 @@ class Tally:
         self.memory += ending == NO_MEMORY
         self.workers += ending == NO_WORKER
         if ending == self.whole and report.refused == GROWTH:
-            asker = symbols(TESTED.program).asker(report)
-            self.unneeded[asker] = self.unneeded.get(asker, 0) + 1
+            self.unneeded[symbols(TESTED.program).asker(report)] += 1
 
     def may_end(self, report, goes_on):
         """The endings that are right."""
@@ -64,10 +63,11 @@ class Tally:
         return [NO_MEMORY, *[NO_WORKER] * is_starting, *[self.whole] * (not goes_on)]
 
     def faults(self):
-        unneeded = sum(self.unneeded.values())
+        unneeded = self.unneeded.total()
         print(f"{self.run}: {self.memory} without memory, {self.workers} without a worker, {unneeded} unneeded")
         few = [] if self.memory + self.workers > unneeded else [f"{self.run}: hardly anything was refused"]
-        return self.wrong + few + [f"{self.run}: {it}" for it in tried_again(self.unneeded)]
+        again = [f"{self.run}: {it} does without a growth that was refused" for it in sorted(self.unneeded)]
+        return self.wrong + few + again
 
 
 def middling():
