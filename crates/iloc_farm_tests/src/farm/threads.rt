@@ -1,11 +1,12 @@
 //! The farm's threads: that all of them work, and that what they find does not depend on them.
 ghost use Rattle.std.specs.Prelude.{◌<◌, ◌≤◌};
 
+use crate::asserted::assert_list;
 use iloc_board::{FreeGate, Gate};
 use iloc_farm::schedule_all;
 use iloc_text::laws::files_are_within_limits;
-use iloc_text::read_file;
-use iloc_timed::{Latencies, Schedule};
+use iloc_text::{Op, Reg, read_file};
+use iloc_timed::{Latencies, Row, Schedule};
 use std::alloc::Global;
 use std::process::Abort;
 use std::sync::Wait;
@@ -165,13 +166,22 @@ fn no_block_is_no_work(rt: HostRuntime) -> Result<(), Fail> {
     Ok(())
 }
 
+/// A row with the first operation alone, on unit 0.
+const ON_UNIT_0: Row = Row {
+    zero: Some(0),
+    one: None,
+};
+
 #[test]
 fn more_workers_than_blocks(rt: HostRuntime) -> Result<(), Fail> {
     let text = b"A: loadI 4 => r1\nB:\noutput 0\n";
     let found = schedules(&rt, rt.alloc(), text, 8, &FreeGate)?;
+    let dest = Reg(0);
+    let first = Op::LoadI { value: 4, dest };
     assert!(rt; found.len() == 2);
-    for schedule in &found {
-        assert!(rt; (schedule.ops().len(), schedule.rows().len()) == (1, 1));
+    for (schedule, op) in found.iter().zip([first, Op::Output { addr: 0 }]) {
+        assert_list(&rt, schedule.ops(), &[op]);
+        assert_list(&rt, schedule.rows(), &[ON_UNIT_0]);
     }
     Ok(())
 }
