@@ -1,3 +1,4 @@
+pub mod Limits
 pub mod Core
 pub mod Sequential
 pub mod History

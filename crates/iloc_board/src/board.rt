@@ -38,8 +38,7 @@ pub enum Tried {
     NoneLeft,
 }
 
-/// A row of words that threads share: the number of the next job, and behind it each job's cost.
-/// No call waits for another.
+/// A row of words that threads share: the number of the next job, and then each job's cost. No call waits for another.
 #[derive(Drop)]
 pub struct Board<'a, J: Jobs> {
     pub(crate) jobs: &'a J,
@@ -62,6 +61,8 @@ impl<'a, J: Jobs> Model for Board<'a, J> {
 
 impl<'a, J: Jobs> Board<'a, J> {
     /// A board for these jobs, with a root that may make `workers` passes.
+    ///
+    /// Promise: board and root belong together; no pass was made, and no journal or answer gathered.
     pub fn new(
         alloc: Global,
         jobs: &'a J,
@@ -94,7 +95,9 @@ impl<'a, J: Jobs> Board<'a, J> {
         Ok((board, root))
     }
 
-    /// Makes a pass. It has the next number, starts where the gathered passes had got to, and has done nothing.
+    /// Makes a pass.
+    ///
+    /// Promise: the pass has the next number, starts no earlier than the gathered passes had got, and has done nothing.
     pub fn pass(&self, root: &mut Root<'a, J>) -> Pass<'a, J>
         requires own { root.old.board ≡ self.now }
         requires room { root.old.made < root.old.workers }
@@ -114,6 +117,9 @@ impl<'a, J: Jobs> Board<'a, J> {
     }
 
     /// Which job is next. The pass holds none.
+    ///
+    /// Promise: the look is the next step in the pass's journal; it never shows a job below one that the pass has seen, and after
+    /// `NoneLeft` it always answers `NoneLeft`.
     pub fn look(&self, pass: &mut Pass<'a, J>) -> Seen
         requires own { pass.old.board ≡ self.now }
         requires free { is_holding (state pass.old) ≡ false }
@@ -136,6 +142,9 @@ impl<'a, J: Jobs> Board<'a, J> {
     }
 
     /// Tries to take the job that the pass has looked at.
+    ///
+    /// Promise: the try is the next step in the pass's journal; the pass takes the very job that it looked at, or is shown a later
+    /// one, or learns that none is left.
     pub fn try_take(&self, pass: &mut Pass<'a, J>) -> Tried
         requires own { pass.old.board ≡ self.now }
         requires looked { is_looking (state pass.old) ≡ true }
@@ -166,8 +175,10 @@ impl<'a, J: Jobs> Board<'a, J> {
         }
     }
 
-    /// Hands back an answer to the job that the pass holds. For want of memory the answer is given back, and
-    /// nothing has changed.
+    /// Hands back an answer to the job that the pass holds.
+    ///
+    /// Promise: the pass keeps the answer and is free again, and the hand-back, at the answer's cost, is the next step in its
+    /// journal. If memory is refused, the answer is given back and nothing has changed.
     pub fn hand_back(
         &self,
         pass: &mut Pass<'a, J>,
@@ -196,7 +207,10 @@ impl<'a, J: Jobs> Board<'a, J> {
         Ok(())
     }
 
-    /// Takes the pass's answers into the root. For want of memory the pass is given back, and nothing has changed.
+    /// Takes the pass's answers into the root.
+    ///
+    /// Promise: the root has the pass's journal and its answers after those that it had. If memory is refused, the pass is given
+    /// back and nothing has changed.
     pub fn gather(
         &self,
         root: &mut Root<'a, J>,

@@ -3,6 +3,7 @@ ghost use Rattle.std.specs.Prelude.{◌≡◌, ℕ, ◌<◌, ◌≤◌, IfOk, le
 ghost use Rattle.std.specs.Option.{unwrap_or};
 ghost use Rattle.std.specs.BTreeMap.{get};
 ghost use Rattle.std.specs.Ordering.{nat_cmp};
+ghost use Rattle.iloc_board.specs.Limits.{MOST_JOBS};
 ghost use Rattle.iloc_board.specs.Core.{Core, IsWithin, worker_of, look_reply, try_reply, hand_reply, reply_at, reply_to, state_after, after, opening};
 ghost use Rattle.iloc_board.specs.History.{IsExact};
 ghost use Rattle.iloc_board.specs.Play.{replies, final, IsLegal, TakesEachOnce, EndsAlike};
@@ -25,7 +26,7 @@ pub struct Played {
     pub costs: Vec<u64>,
 }
 
-// The core with the workers' states in a map: a worker that stands not in it is free.
+// The core with the workers' states in a map: a worker that isn't in it is free.
 #[derive(Drop)]
 struct RunningCore {
     count: u32,
@@ -116,7 +117,7 @@ impl RunningCore {
 
     /// Makes a step. The workers' states name jobs of the board alone.
     fn step(&mut self, step: Step) -> Result<Reply, NoMemory>
-        requires few { self.old.count ≤ 65535 }
+        requires few { self.old.count ≤ MOST_JOBS }
         requires costs { length self.old.costs.items ≡ self.old.count }
         requires within { (q : ℕ) → IsWithin self.old.count (state_in self.old.states q) }
         ensures { IfOk result (λ r. (c : Core) → Shows self.old.next self.old.costs.items self.old.states c
@@ -137,11 +138,14 @@ impl RunningCore {
     }
 }
 
-/// Makes these steps, one after another, at a board of `count` jobs, of which none was taken before.
-/// A worker may have any number.
+/// Makes these steps, one after another, at a board of `count` jobs, of which none was taken before. A worker may have any
+/// number.
+///
+/// Promise: replies, next job and costs are those of the core, and whatever the steps, their takes and hand-backs are one legal
+/// history of a board of one thread, in which no job is taken twice.
 #[tactic(auto, using(crate::proofs::Laws::legal, crate::proofs::Laws::once, crate::proofs::Laws::ends_alike, crate::proofs::Laws::exact_play))]
 pub fn play(alloc: Global, count: u32, steps: &[Step]) -> Result<Played, NoMemory>
-    requires { count ≤ 65535 }
+    requires { count ≤ MOST_JOBS }
     ensures replies { IfOk result (λ p. p.replies.items ≡ replies count steps.now) }
     ensures next { IfOk result (λ p. p.next ≡ (final count steps.now).next) }
     ensures costs { IfOk result (λ p. p.costs.items ≡ (final count steps.now).costs) }

@@ -5,10 +5,12 @@ use crate::fault::NoMemory;
 use crate::jobs::Jobs;
 use std::alloc::Global;
 
-/// Jobs whose answers can be made at a desk: something that a worker has for itself alone, as room that it keeps from one
-/// answer to the next. No fact is kept of a desk: whatever it holds, the next answer fits.
+/// Jobs whose answers can be made at a desk: scratch space that a worker has for itself and keeps from one answer to the next.
+/// No fact is kept of a desk.
 pub trait AtDesk<D>: Jobs {
     /// An answer to the job `i`, made at this desk.
+    ///
+    /// Promise: whatever the desk holds, the answer fits the job.
     fn answer_at(&self, desk: &mut D, alloc: Global, i: u32) -> Result<Self::Answer, NoMemory>
         requires { i < Self.number self.now }
         ensures { IfOk result (λ a. Self.fits self.now i a) };

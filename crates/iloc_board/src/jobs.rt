@@ -1,5 +1,6 @@
 //! What a board's jobs are.
 ghost use Rattle.std.specs.Prelude.{◌≡◌, ℕ, ◌<◌, ◌≤◌, IfOk};
+ghost use Rattle.iloc_board.specs.Limits.{MOST_COST, MOST_JOBS};
 
 use crate::fault::NoMemory;
 use std::alloc::Global;
@@ -18,17 +19,23 @@ pub trait Jobs {
     // What an answer costs.
     ghost price: { Self → Self.Answer → ℕ };
 
-    /// How many jobs there are, at most 65,535.
+    /// How many jobs there are.
+    ///
+    /// Promise: this is their number, at most 65,535.
     fn count(&self) -> u32
         ensures number { result ≡ number self.now }
-        ensures few { result ≤ 65535 };
+        ensures few { result ≤ MOST_JOBS };
 
-    /// What the answer costs, at most 4,294,967,296.
+    /// What the answer costs.
+    ///
+    /// Promise: this is its price, at most 4,294,967,296.
     fn cost(&self, answer: &Self::Answer) -> u64
         ensures price { result ≡ price self.now answer.now }
-        ensures small { result ≤ 4294967296 };
+        ensures small { result ≤ MOST_COST };
 
     /// An answer to the job `i`.
+    ///
+    /// Promise: the answer fits the job.
     fn answer(&self, alloc: Global, i: u32) -> Result<Self::Answer, NoMemory>
         requires { i < number self.now }
         ensures { IfOk result (λ a. fits self.now i a) };

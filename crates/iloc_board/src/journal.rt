@@ -2,7 +2,7 @@
 use crate::step::Entry;
 use std::collections::LinkedList;
 
-/// The entries that a worker has made, in order. A journal stands in proofs alone: no value of it is made.
+/// The entries that a worker has made, in order. A journal is in proofs alone: no value of it is made.
 pub struct Journal {
     /// The worker's number.
     pub worker: u32,

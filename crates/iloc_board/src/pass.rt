@@ -43,13 +43,18 @@ impl<'a, J: Jobs> Model for Pass<'a, J> {
 
 impl<'a, J: Jobs> Pass<'a, J> {
     /// The worker's number.
+    ///
+    /// Promise: this is the number in the pass's journal.
     pub fn worker(&self) -> u32
         ensures { result ≡ self.now.journal.worker }
     {
         self.worker
     }
 
-    /// What the worker is about. It has a fitting answer for each job that it handed back.
+    /// What the worker is about.
+    ///
+    /// Promise: this is the state that the pass's journal leads to, and the pass has a fitting answer for each job that it
+    /// handed back.
     pub fn state(&self) -> State
         ensures state { result ≡ state self.now }
         ensures within { IsWithin (J.number self.now.board.jobs) result }
@@ -96,13 +101,17 @@ impl<'a, J: Jobs> Model for Root<'a, J> {
 
 impl<'a, J: Jobs> Root<'a, J> {
     /// How many passes there may be.
+    ///
+    /// Promise: this is the number that the board was made with.
     pub fn workers(&self) -> u32
         ensures { result ≡ self.now.workers }
     {
         self.workers
     }
 
-    /// How many passes were made. The root has a fitting answer for each job that a gathered pass handed back.
+    /// How many passes were made.
+    ///
+    /// Promise: this is that number, and the root has a fitting answer for each job that a gathered pass handed back.
     pub fn made(&self) -> u32
         ensures made { result ≡ self.now.made }
         ensures answers { let jobs = self.now.board.jobs in

@@ -1,4 +1,4 @@
-//! What the holder of a seat at the board's table knows. It stands in proofs alone: no value of it is made.
+//! What the holder of a seat at the board's table knows. It is in proofs alone: no value of it is made.
 use crate::journal::Journal;
 use std::collections::LinkedList;
 

@@ -15,7 +15,9 @@ use crate::pass::Pass;
 
 /// Takes jobs and hands back their answers, until none is left. The pass is free at first.
 ///
-/// For want of memory the run ends with the pass holding the job whose answer was lost.
+/// Promise: each job that the worker hands back has an answer that fits. At `Ok` the worker is free and was told that none is
+/// left. If memory is refused, the pass holds the job whose answer was lost. It adds at most `3 * count + 1` steps, whatever
+/// the other workers do.
 pub fn work<'a, J: Jobs, G: Gate>(
     board: &Board<'a, J>,
     pass: &mut Pass<'a, J>,
@@ -33,6 +35,8 @@ pub fn work<'a, J: Jobs, G: Gate>(
 }
 
 /// The same, with the answers made at this desk.
+///
+/// Promise: what `work` promises, whatever the desk holds.
 pub fn work_at<'a, J: AtDesk<D>, D, G: Gate>(
     board: &Board<'a, J>,
     pass: &mut Pass<'a, J>,

@@ -2,6 +2,7 @@
 use Rattle.std.specs.Prelude.{◌≡◌, ℕ, ◌+◌, ◌≤◌, []}
 use Rattle.atomic_table.specs.Seated.{TableId}
 use Rattle.iloc_board.specs.declared.state.State.{State}
+use Rattle.iloc_board.specs.Limits.{MOST_JOBS}
 use Rattle.iloc_board.specs.Core.{IsWithin}
 use Rattle.iloc_board.specs.Journal.{state_of, handed, all_handed}
 use Rattle.iloc_board.specs.Steps.Rule.{Sat, pass_seat, root_seat}
@@ -10,7 +11,7 @@ use Rattle.iloc_board.specs.Views.{PassView, RootView, AllFit, priced}
 -- the table was told the number of jobs, and has a word for the next job and one for each cost
 pub record IsBoard (number count key : ℕ) (id : TableId) : Type 0 where
   pub count_is : count ≡ number
-  pub few : count ≤ 65535
+  pub few : count ≤ MOST_JOBS
   pub told : key ≡ count
   pub words : id.words ≡ count + 1
   pub slots : id.slots ≡ 0
