@@ -8,7 +8,6 @@ the growths come in another order each time, and each run is judged by what was 
 
 No growth that was refused is done without. So a body that tries again where it has to answer a refusal is found.
 """
-from collections import Counter
 from dataclasses import dataclass, field
 
 from bench import inputs
@@ -41,16 +40,18 @@ class Tally:
     whole: tuple
     memory: int = 0
     workers: int = 0
-    unneeded: Counter = field(default_factory=Counter)      # by what asked
+    readers: int = 0    # one thread fewer read, and all ended as always
     wrong: list = field(default_factory=list)
 
     def add(self, ending, report, what, goes_on=False):
-        if ending not in self.may_end(report, goes_on):
+        if ending == self.whole and report.refused == GROWTH:
+            asker = symbols(TESTED.program).asker(report)
+            self.wrong.append(f"{self.run}, {what}: {asker} does without a growth that was refused")
+        elif ending not in self.may_end(report, goes_on):
             self.wrong.append(f"{self.run}, {what}: {told(ending)}")
         self.memory += ending == NO_MEMORY
         self.workers += ending == NO_WORKER
-        if ending == self.whole and report.refused == GROWTH:
-            self.unneeded[symbols(TESTED.program).asker(report)] += 1
+        self.readers += ending == self.whole and report.refused in (GROWTH_OF_A_START, THREAD)
 
     def may_end(self, report, goes_on):
         """The endings that are right."""
@@ -60,14 +61,12 @@ class Tally:
             is_reader = report.started_before < self.run.readers
             return [self.whole] if is_reader and not goes_on else [NO_WORKER, *[NO_MEMORY] * is_reader]
         is_starting = report.started_before < self.run.workers and (goes_on or not report.by_worker)
-        return [NO_MEMORY, *[NO_WORKER] * is_starting, *[self.whole] * (not goes_on)]
+        return [NO_MEMORY, *[NO_WORKER] * is_starting]
 
     def faults(self):
-        unneeded = self.unneeded.total()
-        print(f"{self.run}: {self.memory} without memory, {self.workers} without a worker, {unneeded} unneeded")
-        few = [] if self.memory + self.workers > unneeded else [f"{self.run}: hardly anything was refused"]
-        again = [f"{self.run}: {it} does without a growth that was refused" for it in sorted(self.unneeded)]
-        return self.wrong + few + again
+        print(f"{self.run}: {self.memory} without memory, {self.workers} without a worker, {self.readers} without a reader")
+        is_some = self.memory + self.workers + self.readers
+        return self.wrong if is_some else [f"{self.run}: nothing was refused"]
 
 
 def middling():
