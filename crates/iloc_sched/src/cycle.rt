@@ -13,7 +13,7 @@ use crate::wheel::LONGEST_DELAY;
 use iloc_ops::NoMemory;
 use iloc_timed::Row;
 
-/// The row of a choice with what stands beside it. A product stands on unit 1, a load or a store on unit 0.
+/// The row of a choice with what goes beside it. A product goes on unit 1, a load or a store on unit 0.
 fn row_of(a: &Choice, b: &Option<Choice>) -> Row
     ensures { result ≡ row_with a.now b.now }
 {
@@ -32,7 +32,7 @@ fn row_of(a: &Choice, b: &Option<Choice>) -> Row
     }
 }
 
-/// In how many slots a choice stands with what is beside it.
+/// How many slots a choice takes with what goes beside it.
 fn slot_count(beside: &Option<Choice>) -> usize
     ensures { result ≡ slot_count beside.now }
 {

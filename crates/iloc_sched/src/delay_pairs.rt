@@ -53,7 +53,7 @@ pub(crate) fn keeps_order(first: Kind, second: Kind) -> bool
     )
 }
 
-/// The delays in cycles that the first operation puts on the second, which comes later: rising, each once.
+/// Promise: The delays in cycles that the first operation puts on the second, which comes later: rising, each once.
 pub fn delays(first: &Op, second: &Op, latencies: &Latencies) -> ArrayVec<u64, 2>
     ensures { result.items ≡ rising (delays latencies.now first.now second.now) }
 {
@@ -107,9 +107,10 @@ fn push_pairs_to(
     Ok(())
 }
 
-/// The delay pairs of renamed operations, each once, in order of the later operation, then of the earlier one,
-/// then of the delay. The operations are at most `MAX_OPS`; of n operations each is set against each, which takes time
-/// in n * n.
+/// The delay pairs of renamed operations, at most `MAX_OPS`, in order of the later operation, then of the earlier one,
+/// then of the delay. Each operation is compared with each, so n operations take time of order n * n.
+///
+/// Promise: Each delay pair of the operations is listed once, in that order, and nothing else is.
 pub fn pairs(alloc: Global, ops: &[Op], latencies: &Latencies) -> Result<Vec<Pair>, NoMemory>
     requires renamed { IsRenamed ops.now }
     requires size { length ops.now ≤ MAX_OPS }

@@ -129,7 +129,7 @@ impl Edges {
         Ok(())
     }
 
-    /// No operation, with room for so many.
+    /// No operation, with capacity for `room`.
     pub fn empty(&mut self, room: usize) -> Result<(), NoMemory>
         ensures partial { OnOk result ((lat : Latencies) (ops : List Op) → length ops ≡ 0
             → IsPartialGraph lat ops (graph_of self.new) 0) }

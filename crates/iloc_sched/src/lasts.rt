@@ -11,7 +11,7 @@ use iloc_ops::{MAX_OPS, NoMemory, Reg};
 use iloc_timed::Kind;
 use std::alloc::Global;
 
-/// What stands last before an operation.
+/// The last definitions, store, output and loads before an operation.
 #[derive(Debug, Drop)]
 pub struct Lasts {
     /// By register the last operation that defines it.

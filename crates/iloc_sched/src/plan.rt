@@ -49,7 +49,7 @@ impl Plan {
         }
     }
 
-    /// No operation, with room for so many.
+    /// No operation, with capacity for `count`.
     fn clear(&mut self, lasts: &mut Lasts, count: usize) -> Result<(), NoMemory>
         requires { count ≤ MAX_OPS }
         ensures filling { OnOk result (IsFilling self.new lasts.new) }
@@ -96,7 +96,7 @@ impl Plan {
     }
 
     /// Takes the operations of a block, with their latencies in place of priorities. Each is renamed and gets the edges
-    /// into it in one go: which operation comes next can't be foretold, so it is looked at once.
+    /// into it at once: the branch on its kind is seldom predicted, so it is taken once.
     fn gather(
         &mut self,
         names: &mut Names,

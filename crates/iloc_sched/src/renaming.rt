@@ -237,8 +237,10 @@ pub(crate) fn is_nop(op: &Op) -> bool
     matches!(op, Op::Nop)
 }
 
-/// The operations of the block without its `nop`s, with each definition in a register of its own: registers
-/// are numbered from 0 in the order in which they are named first. The block has at most `MAX_OPS` operations.
+/// Promise: The operations of the block without its `nop`s, with each definition in a register of its own: registers are
+/// numbered from 0 in the order in which they are named first.
+///
+/// The block has at most `MAX_OPS` operations.
 pub fn rename(alloc: Global, block: &Block) -> Result<Vec<Op>, NoMemory>
     requires { length block.now.ops ≤ MAX_OPS }
     ensures renamed { IfOk result (λ ops. ops.items ≡ renamed block.now.ops) }

@@ -38,7 +38,7 @@ fn raise_sources(found: &mut Vec<u32>, edges: &Edges, j: usize)
     }
 }
 
-/// The tail of an operation of this kind, of which latency and delays leave so much: a store's by what the loads behind it
+/// The tail of an operation of this kind, of which latency and delays leave `chain`: a store's by what the loads after it
 /// need too. A load is put among the loads.
 fn tail_of(kind: Kind, chain: u32, store: u32, loads: &mut Packing) -> u32
     requires packed { (xs : List ℕ) × IsPacking xs loads.old × (needed 1 (chain ∷ xs) + 1 < length loads.old.links.items) }

@@ -10,7 +10,7 @@ pub const LONGEST_DELAY: usize = 16;
 // More than the longest delay, so the operations of one bucket become ready at the same cycle.
 const BUCKETS: usize = 2 * LONGEST_DELAY;
 
-/// So many operations, of which the first is known.
+/// `count` operations, of which the first is known.
 #[derive(Clone, Copy, Debug)]
 struct Bucket {
     first: u32,
@@ -24,11 +24,11 @@ fn one_of(chosen: bool, number: u32, other: u32) -> u32
     if chosen { number } else { other }
 }
 
-/// Operations in buckets, by a cycle modulo 32.
+/// Operations in buckets, by a cycle modulo `BUCKETS`.
 #[derive(Debug, Drop)]
 pub struct Wheel {
     buckets: [Bucket; BUCKETS],
-    // By operation the one behind it in its bucket. It is as long as the longest block so far.
+    // By operation the next in its bucket. It is as long as the longest block so far.
     behind: Vec<u32>,
 }
 
@@ -36,7 +36,7 @@ impl Wheel {
     ghost use Rattle.iloc_sched.specs.Steps.Members.{In};
     ghost use Rattle.iloc_sched.specs.Steps.Wheel.{bucket_of};
 
-    /// No operation, and room for none.
+    /// No operation, and capacity for none.
     pub fn new(alloc: Global) -> Wheel
         ensures { (b : ℕ) → bucket_of result b ≡ [] }
     {
@@ -46,7 +46,7 @@ impl Wheel {
         }
     }
 
-    /// Takes out all operations, and has room for at least so many.
+    /// Takes out all operations, and has capacity for at least `count`.
     pub fn clear(&mut self, count: usize) -> Result<(), NoMemory>
         ensures empty { (b : ℕ) → bucket_of self.new b ≡ [] }
         ensures room { OnOk result (count ≤ length self.new.behind.items) }
@@ -58,8 +58,8 @@ impl Wheel {
         Ok(())
     }
 
-    /// Puts an operation that is in no bucket into that of a cycle, if it is ready then. It takes no branch, since it is
-    /// seldom foreseen whether an operation is ready.
+    /// Puts an operation that is in no bucket into that of a cycle, if it is ready then. It takes no branch, since whether an
+    /// operation is ready is seldom predicted.
     pub fn put_if(&mut self, ready: bool, j: u32, cycle: u32)
         requires there { j < length self.old.behind.items }
         requires new { (b : ℕ) → b < 32 → In (bucket_of self.old b) j → ⊥ }

@@ -63,10 +63,15 @@ use_pair lat ops i j waits apart within =
     let held : In (delays lat (op_at ops i) (op_at ops j)) (latency lat (op_at ops i)) =
     in_left (when (uses_result (op_at ops i) (op_at ops j)) (latency lat (op_at ops i)))
     (memory_delays lat (op_at ops i) (op_at ops j)) (latency lat (op_at ops i))
-    (subst (λ u. In (when u (latency lat (op_at ops i))) (latency lat (op_at ops i))) (sym uses) (inl refl)) in
-    (record { order = order; within = within; delay = contains_from (delays lat (op_at ops i) (op_at ops j))
-    (latency lat (op_at ops i)) held },
-    inl (uses, refl))
+    (subst (λ u. In (when u (latency lat (op_at ops i))) (latency lat (op_at ops i))) (sym uses) (inl refl)) in (
+      record {
+        order = order;
+        within = within;
+        delay = contains_from (delays lat (op_at ops i) (op_at ops j))
+            (latency lat (op_at ops i)) held;
+      },
+      inl (uses, refl),
+    )
 
 -- by use or by kind, each once
 parted : (u k : Bool) → cond {A = ℕ} (u || k) 1 0 ≡ cond {A = ℕ} ((u || k) && not k) 1 0 + cond {A = ℕ} k 1 0
