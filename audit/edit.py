@@ -6,6 +6,7 @@ from dataclasses import dataclass, field
 # The names of the lines; what follows a name is the line's text, blanks and all.
 LINE = re.compile(r"(only|gate|file|old|new):(?: (.*))?")
 FILE = re.compile(r"src/[\w/]+\.rt")
+CONSTANT = re.compile(r"\s*(pub )?const (?!fn)")
 
 
 class BadEdit(Exception):
@@ -19,6 +20,9 @@ class Edit:
     only: str = ""              # the function whose contract refuses it, by its path below the crate
     is_gates: bool = False
     changes: list = field(default_factory=list)     # file, old text, new text
+
+    def changes_a_constant(self):
+        return any(CONSTANT.match(old) for _, old, _ in self.changes)
 
     def change(self, texts, folder):
         """Adds the files that it changes, of the crate in this folder, as it makes them of these texts and the others."""

@@ -144,6 +144,23 @@ class Audit(InFolder):
         self.expect("status with one more of a function", status, 1)
         self.expect("lines", lines, [goals[0], "FAILED high/fourth: it is still proved", goals[1], "2 passed, 1 failed"])
         self.expect("checks", len(self.asked("checked")), 3)
+        self.status_and_lines()
+        self.expect("checks of all, first without edits", len(self.asked("checked")), 6)
+
+    def test_one_that_does_not_read(self):
+        """It keeps no other from being tried."""
+        self.edit("bad", "unread", **GATES)
+        self.edit("third", "unanswered", **GATES, **OF_G)
+        status, lines = self.status_and_lines("--gate")
+        self.expect("lines", [status, lines[0].split(":")[0], lines[-1]], [1, "FAILED high/bad", "1 passed, 1 failed"])
+
+    def test_constant(self):
+        """An edit of one is tried alone."""
+        self.write("top/crates/high/src/g.rt", "const G: right = 1;\nfn g() { right }\n")
+        self.edit("another", "wrong", **GATES)
+        self.edit("third", "const G: left", old="const G: right", only="only: g\n", gate="gate: yes\n", file="src/g.rt")
+        self.status_and_lines("--gate")
+        self.expect("checks", ["--only f" in it for it in self.asked("checked")], [True, False])
 
     def test_crate_that_is_not_there(self):
         self.edit("first", "wrong")
