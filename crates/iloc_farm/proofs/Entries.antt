@@ -148,13 +148,13 @@ module _ {F : Type 0} (lists lists' : ℕ → Block → List ℕ → F → Type 
 module _ (request : Request) where
   lines_of : (k : ℕ) (blocks : List Block) (found : List ℕ) → length found ≡ length blocks
       → ((i : ℕ) (c : ℕ) → slice_get found i ≡ Some c
-      → MatchOption (slice_get blocks i) ⊥ (λ (b : Block). IsCount request.latencies b c))
+      → MatchOption (slice_get blocks i) ⊥ (λ (b : Block). IsCount request.priority request.latencies b c))
       → AreEntries (IsCountEntry request) k blocks found (entries count_line k blocks found)
   lines_of k [] [] long each = refl
   lines_of k [] (c ∷ found) long each = absurd (omega arith)
   lines_of k (b ∷ blocks) [] long each = absurd (omega arith)
   lines_of k (b ∷ blocks) (c ∷ found) long each =
-      let count : IsCount request.latencies b c = each 0 c refl in (
+      let count : IsCount request.priority request.latencies b c = each 0 c refl in (
         count_line k b.name c,
         entries count_line (k + 1) blocks found,
         record {
@@ -168,7 +168,7 @@ module _ (request : Request) where
       )
 
   pub counted_listing : (blocks : List Block) (found : List ℕ) (text : List ℕ)
-      → AreListed (λ k b c. IsCount request.latencies b c) blocks found
+      → AreListed (λ k b c. IsCount request.priority request.latencies b c) blocks found
       → text ≡ entries count_line 1 blocks found ++ total_of_all found
       → IsListingOf (IsCountEntry request) total_of_all blocks text
   counted_listing blocks found text are whole = record {

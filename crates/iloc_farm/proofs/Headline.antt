@@ -5,29 +5,30 @@ use Rattle.std.specs.Option.{IfSome}
 use Rattle.iloc_ops.specs.declared.file.Block.{Block}
 use Rattle.iloc_timed.specs.declared.latencies.Latencies.{Latencies}
 use Rattle.iloc_timed.specs.Schedule.{Table}
-use Rattle.iloc_sched.specs.Greedy.{IsGreedy}
+use Rattle.iloc_sched.specs.declared.heuristic.Heuristic.{Heuristic}
 use Rattle.iloc_sched.proofs.Outcome.LawfulOutcomes.{lawful_same_outcome}
 use Rattle.iloc_board.specs.Finished.{IsFinished}
 use Rattle.iloc_board.specs.Journal.{JournalView}
 use Rattle.iloc_farm.specs.Headline.{Headline}
 use Rattle.iloc_farm.specs.Listing.{cycles_of}
-use Rattle.iloc_farm.specs.Schedules.{IsScheduleOf}
+use Rattle.iloc_farm.specs.Schedules.{IsGreedyAs, IsScheduleOf}
 
-module _ (lat : Latencies) (blocks : List Block) where
-  greedy_of : (i : ℕ) (b : Block) (s : Table) → slice_get blocks i ≡ Some b → IsScheduleOf lat blocks i s
-      → IsGreedy lat b.ops s.ops s.rows
+module _ (heuristic : Heuristic) (lat : Latencies) (blocks : List Block) where
+  greedy_of : (i : ℕ) (b : Block) (s : Table) → slice_get blocks i ≡ Some b → IsScheduleOf heuristic lat blocks i s
+      → IsGreedyAs heuristic lat b.ops s
   greedy_of i b s at fits =
-      let P : Option Block → Type 0 = λ b. IfSome b (λ (b : Block). IsGreedy lat b.ops s.ops s.rows) in
+      let P : Option Block → Type 0 = λ b. IfSome b (λ (b : Block). IsGreedyAs heuristic lat b.ops s) in
       subst P at fits
 
   pub headline : (workers : ℕ) (journals : List JournalView) (handed : List (ℕ × Table)) (schedules : List Table)
       (cycles : List ℕ)
-      → IsFinished (length blocks) (IsScheduleOf lat blocks) (cycles_of lat) workers journals handed schedules cycles
-      → Headline lat blocks workers journals handed schedules cycles
+      → IsFinished (length blocks) (IsScheduleOf heuristic lat blocks) (cycles_of lat) workers journals handed schedules
+      cycles
+      → Headline heuristic lat blocks workers journals handed schedules cycles
   headline workers journals handed schedules cycles h = record {
     history = h;
     each = λ i b s block at.
-        let greedy : IsGreedy lat b.ops s.ops s.rows = greedy_of i b s block (h.in_order.each i s at).1 in
+        let greedy : IsGreedyAs heuristic lat b.ops s = greedy_of i b s block (h.in_order.each i s at).1 in
         record {
           lawful = greedy.lawful;
           same = λ memory. lawful_same_outcome lat b.ops s.ops s.rows memory greedy.lawful;

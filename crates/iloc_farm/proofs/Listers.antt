@@ -4,7 +4,7 @@ use Rattle.std.specs.Prelude.{codes}
 use Rattle.iloc_ops.specs.declared.file.Block.{Block}
 use Rattle.iloc_timed.specs.declared.latencies.Latencies.{Latencies}
 use Rattle.iloc_timed.specs.Schedule.{Table}
-use Rattle.iloc_sched.specs.Greedy.{IsGreedy}
+use Rattle.iloc_sched.specs.declared.heuristic.Heuristic.{Heuristic}
 use Rattle.iloc_explain.specs.Listing.{IsExplanation}
 use Rattle.iloc_explain.proofs.OneText.{one_explanation}
 use Rattle.iloc_graph.specs.Listing.{IsCluster}
@@ -25,7 +25,7 @@ use Rattle.iloc_farm.specs.Commands.Simulate.{IsSimulateEntry}
 use Rattle.iloc_farm.specs.Laws.{AskAlike, SimulatingListsRuns}
 use Rattle.iloc_farm.specs.Listing.{block_head, count_entry, cycles_of, outcome_entry, schedule_entry, schedule_lines, shown_entry, total_of_all}
 use Rattle.iloc_farm.specs.Run.{IsListingFor}
-use Rattle.iloc_farm.specs.Schedules.{IsTheGreedy}
+use Rattle.iloc_farm.specs.Schedules.{IsGreedyAs, IsTheGreedy}
 use Rattle.iloc_farm.specs.Steps.Listed.{Adds, IsCount}
 use Rattle.iloc_farm.proofs.Entries.{listing_also, one_listing}
 use Rattle.iloc_farm.proofs.Schedules.{one_schedule}
@@ -34,8 +34,12 @@ parts_joined : (text head line entry : List ℕ) → ((text ++ head) ++ line) ++
 parts_joined text head line entry = simp append_assoc
 
 -- the schedule that was found is the one greedy schedule
-pub the_greedy : (lat : Latencies) (b : Block) (s : Table) → IsGreedy lat b.ops s.ops s.rows → IsTheGreedy lat b s
-the_greedy lat b s greedy = record { greedy = greedy; only = λ t other. one_schedule lat b.ops s t greedy other }
+pub the_greedy : (heuristic : Heuristic) (lat : Latencies) (b : Block) (s : Table) → IsGreedyAs heuristic lat b.ops s
+    → IsTheGreedy heuristic lat b s
+the_greedy heuristic lat b s greedy = record {
+  greedy = greedy;
+  only = λ t other. one_schedule heuristic lat b.ops s t greedy other;
+}
 
 -- what a call has appended is the entry, by the name and the words or cycles that it was handed
 
@@ -56,7 +60,7 @@ module _ (request : Request) (k : ℕ) (b : Block) (text more : List ℕ) (name 
     added = added ∙ append_assoc text (opening_at k) cluster;
   }
 
-  module _ (s : Table) (greedy : IsGreedy request.latencies b.ops s.ops s.rows) where
+  module _ (s : Table) (greedy : IsGreedyAs request.priority request.latencies b.ops s) where
     pub simulate_listed : (words : Option (List ℤ))
         → words ≡ shown (timed_outcome request.latencies s.ops s.rows (initial_memory request))
         → more ≡ text ++ shown_entry k name words → Adds (IsSimulateEntry request k b) text more tt
@@ -64,7 +68,7 @@ module _ (request : Request) (k : ℕ) (b : Block) (text more : List ℕ) (name 
       entry = outcome_entry k b.name (timed_outcome request.latencies s.ops s.rows (initial_memory request));
       right = record {
         schedule = s;
-        greedy = the_greedy request.latencies b s greedy;
+        greedy = the_greedy request.priority request.latencies b s greedy;
         timed = refl;
         plain = ap (outcome_entry k b.name)
             (lawful_same_outcome request.latencies b.ops s.ops s.rows (initial_memory request) greedy.lawful);
@@ -78,7 +82,7 @@ module _ (request : Request) (k : ℕ) (b : Block) (text more : List ℕ) (name 
           → more ≡ text ++ schedule_lines k name s shown → IsScheduleEntry request k b entry cycles
       schedule_is shown same empty entry is added = record {
         schedule = s;
-        greedy = the_greedy request.latencies b s greedy;
+        greedy = the_greedy request.priority request.latencies b s greedy;
         listed = is ∙ (added ∙ (ap (λ t. t ++ schedule_lines k name s shown) empty
             ∙ ap₂ (λ n c. schedule_lines k n s c) named (same ∙ counted)));
         counted = counted;
@@ -91,7 +95,7 @@ module _ (request : Request) (k : ℕ) (b : Block) (text more : List ℕ) (name 
         entry = block_head k b.name ++ codes "\n" ++ explanation;
         right = record {
           schedule = s;
-          greedy = the_greedy request.latencies b s greedy;
+          greedy = the_greedy request.priority request.latencies b s greedy;
           text = explanation;
           explains = explains;
           listed = refl;
@@ -102,9 +106,13 @@ module _ (request : Request) (k : ℕ) (b : Block) (text more : List ℕ) (name 
       }
 
 -- the cycles that were found are those of the greedy schedule
-pub is_count : (lat : Latencies) (b : Block) (s : Table) → IsGreedy lat b.ops s.ops s.rows → (cycles : ℕ)
-    → cycles ≡ cycles_of lat s → IsCount lat b cycles
-is_count lat b s greedy cycles counted = record { schedule = s; greedy = the_greedy lat b s greedy; counted = counted }
+pub is_count : (heuristic : Heuristic) (lat : Latencies) (b : Block) (s : Table) → IsGreedyAs heuristic lat b.ops s
+    → (cycles : ℕ) → cycles ≡ cycles_of lat s → IsCount heuristic lat b cycles
+is_count heuristic lat b s greedy cycles counted = record {
+  schedule = s;
+  greedy = the_greedy heuristic lat b s greedy;
+  counted = counted;
+}
 
 -- what holds at `Ok` holds of what is answered
 pub if_ok : {T E P : Type 0} (Q : T → Type 0) (result : Result T E) → ((x : T) → P → Q x) → OnOk result P → IfOk result Q
@@ -122,10 +130,12 @@ module _ (r q : Request) (alike : AskAlike r q) (k : ℕ) (b : Block) where
       (is ∙ (ap (λ m. outcome_entry k b.name (outcome b.ops m)) (one_memory r q alike) ∙ sym is'), refl)
 
   -- a schedule that is the greedy one for the one request is so for the other
-  same_schedule : (s s' : Table) → IsTheGreedy r.latencies b s → IsTheGreedy q.latencies b s' → s ≡ s'
+  same_schedule : (s s' : Table) → IsTheGreedy r.priority r.latencies b s → IsTheGreedy q.priority q.latencies b s'
+      → s ≡ s'
   same_schedule s s' is is' =
-      let P : Latencies → Type 0 = λ lat. IsTheGreedy lat b s in
-      let moved : IsTheGreedy q.latencies b s = subst P alike.latencies is in
+      let P : Latencies → Type 0 = λ lat. IsTheGreedy r.priority lat b s in
+      let Q : Heuristic → Type 0 = λ heuristic. IsTheGreedy heuristic q.latencies b s in
+      let moved : IsTheGreedy q.priority q.latencies b s = subst Q alike.priority (subst P alike.latencies is) in
       is'.only s moved.greedy
 
   cycles_same : (s s' : Table) (c c' : ℕ) → s ≡ s' → c ≡ cycles_of r.latencies s → c' ≡ cycles_of q.latencies s' → c ≡ c'

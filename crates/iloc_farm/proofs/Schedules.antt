@@ -18,15 +18,19 @@ use Rattle.iloc_timed.specs.Rows.{issue_cycle}
 use Rattle.iloc_timed.proofs.WholeRuns.{short_latency}
 use Rattle.iloc_sched.specs.declared.wheel.TheConstants.{LONGEST_DELAY}
 use Rattle.iloc_sched.specs.Renaming.{renamed, renamed_op, without_nops, numbering, is_nop}
-use Rattle.iloc_sched.specs.Greedy.{IsGreedy}
-use Rattle.iloc_sched.proofs.Bounds.BusyCycles.{busy_bound}
+use Rattle.iloc_sched.specs.declared.heuristic.Heuristic.{Heuristic}
+use Rattle.iloc_sched.specs.declared.heuristic.Heuristic.TheVariants.{Chain}
+use Rattle.iloc_sched.specs.Greedy.{IsGreedy, IsGreedyBy}
+use Rattle.iloc_sched.specs.Heuristics.{priorities_by}
+use Rattle.iloc_sched.specs.Priority.{priorities}
+use Rattle.iloc_sched.proofs.Bounds.BusyCycles.{busy_bound_by}
 use Rattle.iloc_sched.proofs.Basics.Members.{from_map}
 use Rattle.iloc_sched.proofs.Basics.Maxima.{fold_max_reached}
 use Rattle.iloc_sched.proofs.Basics.IssueCycles.{issue_cycle_within}
-use Rattle.iloc_sched.proofs.Choice.OneGreedy.{greedy_same}
+use Rattle.iloc_sched.proofs.Choice.OneGreedy.{greedy_same_as}
 use Rattle.iloc_sched.proofs.Outcome.LawfulOutcomes.{lawful_same_outcome}
 use Rattle.iloc_farm.specs.Listing.{cycles_of, total_cycles}
-use Rattle.iloc_farm.specs.Schedules.{AreGreedy, IsScheduleOf, IsWithinLimits, KeepOutcomes}
+use Rattle.iloc_farm.specs.Schedules.{AreGreedy, AreGreedyAs, IsGreedyAs, IsScheduleOf, IsWithinLimits, KeepOutcomes}
 use Rattle.iloc_farm.specs.Steps.Limits.{most_cycles}
 
 -- One list
@@ -38,34 +42,40 @@ table_same s t ops rows = λ i. record { ops = ops i; rows = rows i }
 pub cons_same : {X : Type 0} (x y : X) (xs ys : List X) → x ≡ y → xs ≡ ys → x ∷ xs ≡ y ∷ ys
 cons_same x y xs ys head tail = rw (head, tail) refl
 
--- a block has one greedy schedule
-pub one_schedule : (lat : Latencies) (block : List Op) (s t : Table) → IsGreedy lat block s.ops s.rows
-    → IsGreedy lat block t.ops t.rows → t ≡ s
-one_schedule lat block s t greedy other =
-    let same : (t.ops ≡ s.ops) × (t.rows ≡ s.rows) = greedy_same lat block t.ops s.ops t.rows s.rows other greedy in
+-- by one heuristic a block has one greedy schedule
+pub one_schedule : (heuristic : Heuristic) (lat : Latencies) (block : List Op) (s t : Table)
+    → IsGreedyAs heuristic lat block s → IsGreedyAs heuristic lat block t → t ≡ s
+one_schedule heuristic lat block s t greedy other =
+    let same : (t.ops ≡ s.ops) × (t.rows ≡ s.rows) =
+    greedy_same_as (priorities_by heuristic lat) lat block t.ops s.ops t.rows s.rows other greedy in
     table_same t s same.0 same.1
+
+pub greedy_all_same_as : (heuristic : Heuristic) (lat : Latencies) (blocks : List Block) (schedules others : List Table)
+    → AreGreedyAs heuristic lat blocks schedules → AreGreedyAs heuristic lat blocks others → others ≡ schedules
+greedy_all_same_as heuristic lat [] [] [] greedy other = refl
+greedy_all_same_as heuristic lat [] [] (t ∷ others) greedy other = absurd other
+greedy_all_same_as heuristic lat [] (s ∷ schedules) others greedy other = absurd greedy
+greedy_all_same_as heuristic lat (b ∷ blocks) [] others greedy other = absurd greedy
+greedy_all_same_as heuristic lat (b ∷ blocks) (s ∷ schedules) [] greedy other = absurd other
+greedy_all_same_as heuristic lat (b ∷ blocks) (s ∷ schedules) (t ∷ others) greedy other =
+    cons_same t s others schedules (one_schedule heuristic lat b.ops s t greedy.0 other.0)
+    (greedy_all_same_as heuristic lat blocks schedules others greedy.1 other.1)
 
 pub greedy_all_same : (lat : Latencies) (blocks : List Block) (schedules others : List Table)
     → AreGreedy lat blocks schedules → AreGreedy lat blocks others → others ≡ schedules
-greedy_all_same lat [] [] [] greedy other = refl
-greedy_all_same lat [] [] (t ∷ others) greedy other = absurd other
-greedy_all_same lat [] (s ∷ schedules) others greedy other = absurd greedy
-greedy_all_same lat (b ∷ blocks) [] others greedy other = absurd greedy
-greedy_all_same lat (b ∷ blocks) (s ∷ schedules) [] greedy other = absurd other
-greedy_all_same lat (b ∷ blocks) (s ∷ schedules) (t ∷ others) greedy other =
-    cons_same t s others schedules (one_schedule lat b.ops s t greedy.0 other.0)
-    (greedy_all_same lat blocks schedules others greedy.1 other.1)
+greedy_all_same lat blocks schedules others greedy other =
+    greedy_all_same_as Chain lat blocks schedules others greedy other
 
 -- Outcomes
 
-pub keep_outcomes : (lat : Latencies) (blocks : List Block) (schedules : List Table) → AreGreedy lat blocks schedules
-    → KeepOutcomes lat blocks schedules
-keep_outcomes lat [] [] greedy memory = refl
-keep_outcomes lat [] (s ∷ schedules) greedy memory = absurd greedy
-keep_outcomes lat (b ∷ blocks) [] greedy memory = absurd greedy
-keep_outcomes lat (b ∷ blocks) (s ∷ schedules) greedy memory =
+pub keep_outcomes : (heuristic : Heuristic) (lat : Latencies) (blocks : List Block) (schedules : List Table)
+    → AreGreedyAs heuristic lat blocks schedules → KeepOutcomes lat blocks schedules
+keep_outcomes heuristic lat [] [] greedy memory = refl
+keep_outcomes heuristic lat [] (s ∷ schedules) greedy memory = absurd greedy
+keep_outcomes heuristic lat (b ∷ blocks) [] greedy memory = absurd greedy
+keep_outcomes heuristic lat (b ∷ blocks) (s ∷ schedules) greedy memory =
     cons_same _ _ _ _ (lawful_same_outcome lat b.ops s.ops s.rows memory greedy.0.lawful)
-    (keep_outcomes lat blocks schedules greedy.1 memory)
+    (keep_outcomes heuristic lat blocks schedules greedy.1 memory)
 
 -- Cycles
 
@@ -83,13 +93,18 @@ renamed_no_longer block =
     rw (length-map-range_with_len (renamed_op (without_nops block) (numbering (without_nops block))) 0
     (length (without_nops block))) kept
 
-pub cycles_few : (lat : Latencies) (block : List Op) (s : Table) → IsGreedy lat block s.ops s.rows
-    → length block ≤ MAX_OPS → cycles_of lat s ≤ most_cycles
-cycles_few lat block s greedy short =
-    let busy : cycles lat s.ops s.rows ≤ sum_by (latency lat) s.ops = busy_bound lat block s.ops s.rows greedy in
+pub cycles_few_by : (prios : List ℕ) (lat : Latencies) (block : List Op) (s : Table)
+    → IsGreedyBy prios lat block s.ops s.rows → length block ≤ MAX_OPS → cycles_of lat s ≤ most_cycles
+cycles_few_by prios lat block s greedy short =
+    let busy : cycles lat s.ops s.rows ≤ sum_by (latency lat) s.ops =
+    busy_bound_by prios lat block s.ops s.rows greedy in
     let most : sum_by (latency lat) s.ops ≤ LONGEST_DELAY * length s.ops = latencies_at_most lat s.ops in
     let longest : length s.ops ≤ length block = rw greedy.lawful.names (renamed_no_longer block) in
     omega arith
+
+pub cycles_few : (lat : Latencies) (block : List Op) (s : Table) → IsGreedy lat block s.ops s.rows
+    → length block ≤ MAX_OPS → cycles_of lat s ≤ most_cycles
+cycles_few lat block s greedy short = cycles_few_by (priorities lat s.ops) lat block s greedy short
 
 pub total_few : (lat : Latencies) (blocks : List Block) (schedules : List Table) → AreGreedy lat blocks schedules
     → AllByRecursion (λ b. length b.ops ≤ MAX_OPS) blocks → total_cycles lat schedules ≤ most_cycles * length blocks
@@ -119,14 +134,15 @@ cycles_within lat ops rows = elim (fold_max_reached 0 (map ends (range_with_len 
 -- what is collected
 
 -- each schedule is that of its block
-pub are_greedy : (lat : Latencies) (blocks : List Block) (schedules : List Table) → length schedules ≡ length blocks
-    → ((i : ℕ) (s : Table) → slice_get schedules i ≡ Some s → IsScheduleOf lat blocks i s)
-    → AreGreedy lat blocks schedules
-are_greedy lat [] [] long each = tt
-are_greedy lat [] (s ∷ schedules) long each = absurd (omega arith)
-are_greedy lat (b ∷ blocks) [] long each = absurd (omega arith)
-are_greedy lat (b ∷ blocks) (s ∷ schedules) long each =
-    (each 0 s refl, are_greedy lat blocks schedules (omega arith) (λ i t at. each (suc i) t at))
+pub are_greedy : (heuristic : Heuristic) (lat : Latencies) (blocks : List Block) (schedules : List Table)
+    → length schedules ≡ length blocks
+    → ((i : ℕ) (s : Table) → slice_get schedules i ≡ Some s → IsScheduleOf heuristic lat blocks i s)
+    → AreGreedyAs heuristic lat blocks schedules
+are_greedy heuristic lat [] [] long each = tt
+are_greedy heuristic lat [] (s ∷ schedules) long each = absurd (omega arith)
+are_greedy heuristic lat (b ∷ blocks) [] long each = absurd (omega arith)
+are_greedy heuristic lat (b ∷ blocks) (s ∷ schedules) long each =
+    (each 0 s refl, are_greedy heuristic lat blocks schedules (omega arith) (λ i t at. each (suc i) t at))
 
 pub greedy_long : (lat : Latencies) (blocks : List Block) (schedules : List Table) → AreGreedy lat blocks schedules
     → length schedules ≡ length blocks

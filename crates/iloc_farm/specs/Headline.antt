@@ -5,6 +5,7 @@ use Rattle.iloc_meaning.specs.Outcome.{outcome}
 use Rattle.iloc_timed.specs.declared.latencies.Latencies.{Latencies}
 use Rattle.iloc_timed.specs.Schedule.{Table}
 use Rattle.iloc_timed.specs.Timed.{timed_outcome}
+use Rattle.iloc_sched.specs.declared.heuristic.Heuristic.{Heuristic}
 use Rattle.iloc_sched.specs.Lawful.{IsLawful}
 use Rattle.iloc_board.specs.Finished.{IsFinished}
 use Rattle.iloc_board.specs.Journal.{JournalView}
@@ -19,12 +20,13 @@ pub record KeepsItsBlock (lat : Latencies) (b : Block) (s : Table) : Type 0 wher
 
 -- So many workers, with these journals, handed back these schedules of the blocks, each behind the number of its block.
 -- In the order of the blocks they are these, with these cycles.
-pub record Headline (lat : Latencies) (blocks : List Block) (workers : ℕ) (journals : List JournalView)
+pub record Headline (heuristic : Heuristic) (lat : Latencies) (blocks : List Block) (workers : ℕ) (journals : List JournalView)
     (handed : List (ℕ × Table)) (schedules : List Table) (cycles : List ℕ) : Type 0 where
   -- What the workers did is one legal history of a board of one thread. In it no block is taken twice or handed back
-  -- twice, and at its end none waits and none is out. Each block has exactly one schedule, the greedy one, which was
-  -- handed back for it at its cycles.
-  pub history : IsFinished (length blocks) (IsScheduleOf lat blocks) (cycles_of lat) workers journals handed schedules cycles
+  -- twice, and at its end none waits and none is out. Each block has exactly one schedule, the one that is greedy by
+  -- this heuristic, which was handed back for it at its cycles.
+  pub history : IsFinished (length blocks) (IsScheduleOf heuristic lat blocks) (cycles_of lat) workers journals handed schedules
+      cycles
   -- Each schedule keeps its block.
   pub each : (i : ℕ) (b : Block) (s : Table) → slice_get blocks i ≡ Some b → slice_get schedules i ≡ Some s
       → KeepsItsBlock lat b s

@@ -28,6 +28,7 @@ pub record AskAlike (r q : Request) : Type 0 where
   pub at : r.at ≡ q.at
   pub words : r.words.items ≡ q.words.items
   pub latencies : r.latencies ≡ q.latencies
+  pub priority : r.priority ≡ q.priority
 
 -- What such requests list of one file is one text. A check lists no file: which of two right verdicts it gives is not
 -- settled, so of one input it may list more than one text.

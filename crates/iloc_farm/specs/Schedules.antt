@@ -2,38 +2,55 @@
 use Rattle.std.specs.Prelude.{◌≡◌, ℕ, ◌≤◌, ℤ, List, length, [], ◌∷◌, map, slice_get, IfSome}
 use Rattle.std.specs.List.{AllByRecursion}
 use Rattle.iloc_ops.specs.Limits.{MAX_BLOCKS, MAX_OPS}
+use Rattle.iloc_ops.specs.declared.op.Op.{Op}
 use Rattle.iloc_ops.specs.declared.file.Block.{Block}
 use Rattle.iloc_meaning.specs.declared.outcome.Outcome.{Outcome}
 use Rattle.iloc_meaning.specs.Outcome.{outcome}
 use Rattle.iloc_timed.specs.declared.latencies.Latencies.{Latencies}
 use Rattle.iloc_timed.specs.Schedule.{Table}
 use Rattle.iloc_timed.specs.Timed.{timed_outcome}
-use Rattle.iloc_sched.specs.Greedy.{IsGreedy}
+use Rattle.iloc_sched.specs.declared.heuristic.Heuristic.{Heuristic}
+use Rattle.iloc_sched.specs.declared.heuristic.Heuristic.TheVariants.{Chain}
+use Rattle.iloc_sched.specs.Greedy.{IsGreedyBy}
+use Rattle.iloc_sched.specs.Heuristics.{priorities_by}
 
 -- at most 65,535 blocks, each of at most 10,000 operations, as each file has
 pub record IsWithinLimits (blocks : List Block) : Type 0 where
   pub few_blocks : length blocks ≤ MAX_BLOCKS
   pub short_blocks : AllByRecursion (λ (b : Block). length b.ops ≤ MAX_OPS) blocks
 
--- the schedules are the greedy ones of the blocks, one by one
+-- the schedule of the block is greedy by the priorities that this heuristic gives its operations
+abbrev pub IsGreedyAs : Heuristic → Latencies → List Op → Table → Type 0
+IsGreedyAs heuristic lat block s = IsGreedyBy (priorities_by heuristic lat s.ops) lat block s.ops s.rows
+
+-- the schedules are those of the blocks that are greedy by this heuristic, one by one
+abbrev pub AreGreedyAs : Heuristic → Latencies → List Block → List Table → Type 0
+AreGreedyAs heuristic lat [] [] = Unit {0}
+AreGreedyAs heuristic lat [] (s ∷ schedules) = ⊥
+AreGreedyAs heuristic lat (b ∷ blocks) [] = ⊥
+AreGreedyAs heuristic lat (b ∷ blocks) (s ∷ schedules) =
+    IsGreedyAs heuristic lat b.ops s × AreGreedyAs heuristic lat blocks schedules
+
+-- by the longest chains of delays
 abbrev pub AreGreedy : Latencies → List Block → List Table → Type 0
-AreGreedy lat [] [] = Unit {0}
-AreGreedy lat [] (s ∷ schedules) = ⊥
-AreGreedy lat (b ∷ blocks) [] = ⊥
-AreGreedy lat (b ∷ blocks) (s ∷ schedules) = IsGreedy lat b.ops s.ops s.rows × AreGreedy lat blocks schedules
+AreGreedy lat blocks schedules = AreGreedyAs Chain lat blocks schedules
 
--- the schedule is the greedy one of block i
-abbrev pub IsScheduleOf : Latencies → List Block → ℕ → Table → Type 0
-IsScheduleOf lat blocks i s = IfSome (slice_get blocks i) (λ (b : Block). IsGreedy lat b.ops s.ops s.rows)
+-- the schedule is that of block i, greedy by this heuristic
+abbrev pub IsScheduleOf : Heuristic → Latencies → List Block → ℕ → Table → Type 0
+IsScheduleOf heuristic lat blocks i s = IfSome (slice_get blocks i) (λ (b : Block). IsGreedyAs heuristic lat b.ops s)
 
--- the schedule is the greedy one of the block, which has no other
-pub record IsTheGreedy (lat : Latencies) (b : Block) (s : Table) : Type 0 where
-  pub greedy : IsGreedy lat b.ops s.ops s.rows
-  pub only : (t : Table) → IsGreedy lat b.ops t.ops t.rows → t ≡ s
+-- the schedule is that of the block, greedy by this heuristic, and there is no other
+pub record IsTheGreedy (heuristic : Heuristic) (lat : Latencies) (b : Block) (s : Table) : Type 0 where
+  pub greedy : IsGreedyAs heuristic lat b.ops s
+  pub only : (t : Table) → IsGreedyAs heuristic lat b.ops t → t ≡ s
 
 -- no other list of schedules has that property
+abbrev pub AreTheOnlyGreedyAs : Heuristic → Latencies → List Block → List Table → Type 0
+AreTheOnlyGreedyAs heuristic lat blocks schedules =
+    (others : List Table) → AreGreedyAs heuristic lat blocks others → others ≡ schedules
+
 abbrev pub AreTheOnlyGreedy : Latencies → List Block → List Table → Type 0
-AreTheOnlyGreedy lat blocks schedules = (others : List Table) → AreGreedy lat blocks others → others ≡ schedules
+AreTheOnlyGreedy lat blocks schedules = AreTheOnlyGreedyAs Chain lat blocks schedules
 
 -- what comes of the blocks, each run plainly on this memory
 abbrev pub plain_outcomes : List ℤ → List Block → List Outcome
@@ -47,7 +64,8 @@ timed_outcomes lat memory schedules = map (λ (s : Table). timed_outcome lat s.o
 abbrev pub KeepOutcomes : Latencies → List Block → List Table → Type 0
 KeepOutcomes lat blocks schedules = (memory : List ℤ) → timed_outcomes lat memory schedules ≡ plain_outcomes memory blocks
 
--- these blocks are to be scheduled for a machine with these latencies
+-- these blocks are to be scheduled for a machine with these latencies, by this heuristic
 pub record ToSchedule : Type 0 where
   pub blocks : List Block
   pub latencies : Latencies
+  pub heuristic : Heuristic

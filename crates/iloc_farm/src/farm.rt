@@ -2,12 +2,12 @@
 ghost use Rattle.std.specs.Prelude.{◌≡◌, ◌≤◌, IfOk};
 ghost use Rattle.iloc_board.specs.Collecting.{IsWhole};
 ghost use Rattle.iloc_farm.specs.Headline.{Headline};
-ghost use Rattle.iloc_farm.specs.Schedules.{AreGreedy, AreTheOnlyGreedy, IsWithinLimits, KeepOutcomes};
+ghost use Rattle.iloc_farm.specs.Schedules.{AreGreedyAs, AreTheOnlyGreedyAs, IsWithinLimits, KeepOutcomes};
 
 use crate::fault::FarmFault;
 use crate::workers::work_all;
 use iloc_board::{Board, Collected, Gate, Jobs, NoDesk, NoMemory, Root};
-use iloc_sched::schedule;
+use iloc_sched::{Heuristic, Scheduler};
 use iloc_text::{Block, IlocFile};
 use iloc_timed::{Latencies, MAX_ROWS, Schedule, cycles};
 use std::alloc::Global;
@@ -15,12 +15,13 @@ use std::marker::Model;
 use std::sync::Wait;
 use std::thread::Threads;
 
-/// Blocks to be scheduled for a machine with these latencies. The answer to job i is the schedule of block i, and costs its
+/// Blocks to be scheduled for a machine with these latencies, by this heuristic. The answer to job i is the schedule of block i, and costs its
 /// cycles.
 #[derive(Drop)]
 pub struct BlockJobs<'f> {
     blocks: &'f [Block],
     latencies: Latencies,
+    heuristic: Heuristic,
 }
 
 impl<'f> Model for BlockJobs<'f> {
@@ -31,7 +32,11 @@ impl<'f> Model for BlockJobs<'f> {
 
     ghost Value = { ToSchedule };
 
-    ghost view = { λ jobs. record { blocks = jobs.blocks.now; latencies = jobs.latencies } };
+    ghost view = { λ jobs. record {
+      blocks = jobs.blocks.now;
+      latencies = jobs.latencies;
+      heuristic = jobs.heuristic;
+    } };
 
     ghost invariant = { λ jobs. (length jobs.blocks.now ≤ MAX_BLOCKS)
         × All (λ b. length b.ops ≤ MAX_OPS) jobs.blocks.now };
@@ -39,13 +44,19 @@ impl<'f> Model for BlockJobs<'f> {
 
 impl<'f> BlockJobs<'f> {
     /// The blocks of this file.
-    pub fn new(file: &'f IlocFile, latencies: &Latencies) -> BlockJobs<'f>
+    pub fn new(
+        file: &'f IlocFile,
+        latencies: &Latencies,
+        heuristic: Heuristic,
+    ) -> BlockJobs<'f>
         requires { IsWithinLimits file.now.blocks }
-        ensures { result ≡ record { blocks = file.now.blocks; latencies = latencies.now } }
+        ensures { result
+            ≡ record { blocks = file.now.blocks; latencies = latencies.now; heuristic = heuristic } }
     {
         BlockJobs {
             blocks: file.blocks.as_slice(),
             latencies: *latencies,
+            heuristic,
         }
     }
 }
@@ -59,7 +70,7 @@ impl<'f> Jobs for BlockJobs<'f> {
 
     ghost number = { λ jobs. length jobs.blocks };
 
-    ghost fits = { λ jobs i schedule. IsScheduleOf jobs.latencies jobs.blocks i schedule };
+    ghost fits = { λ jobs i schedule. IsScheduleOf jobs.heuristic jobs.latencies jobs.blocks i schedule };
 
     ghost price = { λ jobs schedule. cycles_of jobs.latencies schedule };
 
@@ -73,11 +84,14 @@ impl<'f> Jobs for BlockJobs<'f> {
     }
 
     fn answer(&self, alloc: Global, i: u32) -> Result<Schedule, NoMemory> {
-        schedule(alloc, &self.blocks[i as usize], &self.latencies).map_err(|_| NoMemory)
+        let block = &self.blocks[i as usize];
+        Scheduler::new(alloc)
+            .schedule_as(block, &self.latencies, self.heuristic)
+            .map_err(|_| NoMemory)
     }
 }
 
-/// The greedy schedule of each block, in the order of the file, found by `workers` threads that take
+/// The schedule of each block that is greedy by a heuristic, in the order of the file, found by `workers` threads that take
 /// the blocks from one board.
 ///
 /// # Errors
@@ -89,6 +103,7 @@ pub fn schedule_all<R: Threads + Wait + Sync, G: Gate + Sync>(
     alloc: Global,
     file: &IlocFile,
     latencies: &Latencies,
+    heuristic: Heuristic,
     workers: u32,
     gate: &G,
 ) -> Result<Vec<Schedule>, FarmFault>
@@ -96,13 +111,13 @@ pub fn schedule_all<R: Threads + Wait + Sync, G: Gate + Sync>(
     requires few_workers { workers ≤ 8 }
     requires limits { IsWithinLimits file.now.blocks }
     ensures greedy { IfOk result (λ schedules.
-        AreGreedy latencies.now file.now.blocks schedules.items) }
+        AreGreedyAs heuristic latencies.now file.now.blocks schedules.items) }
     ensures only { IfOk result (λ schedules.
-        AreTheOnlyGreedy latencies.now file.now.blocks schedules.items) }
+        AreTheOnlyGreedyAs heuristic latencies.now file.now.blocks schedules.items) }
     ensures outcomes { IfOk result (λ schedules.
         KeepOutcomes latencies.now file.now.blocks schedules.items) }
 {
-    let jobs = BlockJobs::new(file, latencies);
+    let jobs = BlockJobs::new(file, latencies, heuristic);
     let (board, mut root) = Board::new(alloc, &jobs, workers)?;
     let desks = vec![in alloc; NoDesk; workers as usize]?;
     work_all(rt, alloc, &board, &mut root, desks, gate)?;
@@ -117,10 +132,10 @@ pub fn collect_schedules<'j, 'f>(
     requires own { root.board ≡ board }
     requires whole { IsWhole root.made root.gathered }
     ensures headline { let jobs = board.entry.jobs in IfOk result (λ c.
-        Headline jobs.latencies jobs.blocks root.entry.made root.entry.gathered root.entry.answers
+        Headline jobs.heuristic jobs.latencies jobs.blocks root.entry.made root.entry.gathered root.entry.answers
         c.answers.items c.costs.items) }
     ensures greedy { let jobs = board.entry.jobs in IfOk result (λ c.
-        AreGreedy jobs.latencies jobs.blocks c.answers.items) }
+        AreGreedyAs jobs.heuristic jobs.latencies jobs.blocks c.answers.items) }
 {
     board.finish(root)
 }

@@ -6,9 +6,9 @@ use Rattle.iloc_args.specs.declared.request.Request.{Request}
 use Rattle.iloc_farm.specs.Listing.{count_entry, cycles_of}
 use Rattle.iloc_farm.specs.Schedules.{IsTheGreedy}
 
--- the entry of block k: the cycles of its greedy schedule, which are found
+-- the entry of block k: the cycles of its schedule, greedy by what the request ranks by, which are found
 pub record IsCountEntry (request : Request) (k : ℕ) (b : Block) (entry : List ℕ) (cycles : ℕ) : Type 0 where
   pub schedule : Table
-  pub greedy : IsTheGreedy request.latencies b schedule
+  pub greedy : IsTheGreedy request.priority request.latencies b schedule
   pub listed : entry ≡ count_entry request.latencies k b.name schedule
   pub counted : cycles ≡ cycles_of request.latencies schedule

@@ -10,7 +10,7 @@ use Rattle.iloc_farm.specs.Schedules.{IsTheGreedy}
 -- the entry of block k: its number and its name, and what explains its greedy schedule, whose cycles are found
 pub record IsExplainEntry (request : Request) (k : ℕ) (b : Block) (entry : List ℕ) (cycles : ℕ) : Type 0 where
   pub schedule : Table
-  pub greedy : IsTheGreedy request.latencies b schedule
+  pub greedy : IsTheGreedy request.priority request.latencies b schedule
   pub text : List ℕ
   pub explains : IsExplanation request.latencies b.ops schedule.ops schedule.rows text
   pub listed : entry ≡ block_head k b.name ++ codes "\n" ++ text

@@ -9,6 +9,6 @@ use Rattle.iloc_farm.specs.Schedules.{IsTheGreedy}
 -- the entry of block k: its greedy schedule, a line for each row, and its cycles, which are found
 pub record IsScheduleEntry (request : Request) (k : ℕ) (b : Block) (entry : List ℕ) (cycles : ℕ) : Type 0 where
   pub schedule : Table
-  pub greedy : IsTheGreedy request.latencies b schedule
+  pub greedy : IsTheGreedy request.priority request.latencies b schedule
   pub listed : entry ≡ schedule_entry request.latencies k b.name schedule
   pub counted : cycles ≡ cycles_of request.latencies schedule

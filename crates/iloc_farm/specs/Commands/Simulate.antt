@@ -12,7 +12,7 @@ use Rattle.iloc_farm.specs.Schedules.{IsTheGreedy}
 -- faults. It is the entry that `run` has.
 pub record IsSimulateEntry (request : Request) (k : ℕ) (b : Block) (entry : List ℕ) (found : Unit {0}) : Type 0 where
   pub schedule : Table
-  pub greedy : IsTheGreedy request.latencies b schedule
+  pub greedy : IsTheGreedy request.priority request.latencies b schedule
   pub timed : entry ≡ outcome_entry k b.name
       (timed_outcome request.latencies schedule.ops schedule.rows (initial_memory request))
   pub plain : IsRunEntry request k b entry found

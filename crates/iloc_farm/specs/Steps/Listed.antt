@@ -4,6 +4,7 @@ use Rattle.iloc_ops.specs.declared.file.Block.{Block}
 use Rattle.iloc_text.specs.Files.{Denotes}
 use Rattle.iloc_timed.specs.declared.latencies.Latencies.{Latencies}
 use Rattle.iloc_timed.specs.Schedule.{Table}
+use Rattle.iloc_sched.specs.declared.heuristic.Heuristic.{Heuristic}
 use Rattle.iloc_args.specs.declared.request.Request.{Request}
 use Rattle.iloc_farm.specs.Device.{ReadsInput}
 use Rattle.iloc_farm.specs.Entries.{AreEntries}
@@ -16,10 +17,10 @@ pub record Adds {F : Type 0} (is : List ℕ → F → Type 0) (text more : List 
   pub right : is entry found
   pub added : more ≡ text ++ entry
 
--- these are the cycles of the block's greedy schedule
-pub record IsCount (lat : Latencies) (b : Block) (cycles : ℕ) : Type 0 where
+-- these are the cycles of the block's schedule that is greedy by this heuristic
+pub record IsCount (heuristic : Heuristic) (lat : Latencies) (b : Block) (cycles : ℕ) : Type 0 where
   pub schedule : Table
-  pub greedy : IsTheGreedy lat b schedule
+  pub greedy : IsTheGreedy heuristic lat b schedule
   pub counted : cycles ≡ cycles_of lat schedule
 
 -- the blocks are listed for this request

@@ -22,7 +22,7 @@ impl FarmedLister for CountLister {
 
     type Answer = u32;
 
-    ghost answers = { λ request _ block cycles. IsCount request.latencies block cycles };
+    ghost answers = { λ request _ block cycles. IsCount request.priority request.latencies block cycles };
 
     ghost cycles_in = { λ cycles. cycles };
 
@@ -39,7 +39,9 @@ impl FarmedLister for CountLister {
         _number: usize,
         block: &Block,
     ) -> Result<u32, NoMemory> {
-        let schedule = self.0.lend(block, &request.latencies)?;
+        let schedule = self
+            .0
+            .lend_as(block, &request.latencies, request.priority)?;
         let cycles = count_of(&schedule, &request.latencies);
         self.0.take_back(schedule);
         Ok(cycles)
@@ -56,7 +58,8 @@ impl FarmedLister for CountLister {
         cycles: Vec<u32>,
     ) -> Result<Listing, NoMemory>
         requires few { length blocks ≤ MAX_BLOCKS }
-        requires right { AreListed (λ _ block count. IsCount _request.now.latencies block count) blocks cycles.items }
+        requires right { AreListed (λ _ block count. IsCount _request.now.priority _request.now.latencies block count)
+            blocks cycles.items }
         ensures { IfOk result (IsListingOf (IsCountEntry _request.now) total_of_all blocks) }
     {
         let mut text = Vec::new(alloc);

@@ -55,7 +55,9 @@ impl FarmedLister for ScheduleLister {
         block: &Block,
     ) -> Result<Entry, NoMemory> {
         self.text.clear();
-        let schedule = self.scheduler.lend(block, &request.latencies)?;
+        let schedule = self
+            .scheduler
+            .lend_as(block, &request.latencies, request.priority)?;
         let cycles = count_of(&schedule, &request.latencies);
         push_schedule(
             &mut self.text,

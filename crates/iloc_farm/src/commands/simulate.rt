@@ -42,7 +42,9 @@ impl Lister for SimulateLister {
         block: &Block,
         text: &mut Vec<u8>,
     ) -> Result<(), NoMemory> {
-        let schedule = self.scheduler.lend(block, &request.latencies)?;
+        let schedule = self
+            .scheduler
+            .lend_as(block, &request.latencies, request.priority)?;
         self.simulator.run(&schedule, &request.latencies)?;
         self.scheduler.take_back(schedule);
         push_outcome(text, number, block.name.as_ref(), self.simulator.outputs())

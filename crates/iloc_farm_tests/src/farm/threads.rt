@@ -4,6 +4,7 @@ ghost use Rattle.std.specs.Prelude.{◌<◌, ◌≤◌};
 use crate::asserted::assert_list;
 use iloc_board::{FreeGate, Gate};
 use iloc_farm::schedule_all;
+use iloc_sched::Heuristic;
 use iloc_text::laws::files_are_within_limits;
 use iloc_text::{Op, Reg, read_file};
 use iloc_timed::{Latencies, Row, Schedule};
@@ -105,7 +106,16 @@ fn schedules<R: Threads + Wait + Sync, G: Gate + Sync>(
 {
     files_are_within_limits();
     let file = read_file(alloc, text)?;
-    Ok(schedule_all(rt, alloc, &file, &Latencies::usual(), workers, gate)?)
+    let latencies = Latencies::usual();
+    Ok(schedule_all(
+        rt,
+        alloc,
+        &file,
+        &latencies,
+        Heuristic::Chain,
+        workers,
+        gate,
+    )?)
 }
 
 /// Blocks of one output, of two, and so on: no two have one schedule.
