@@ -174,7 +174,7 @@ fn priority_arg<'a>(alloc: Global) -> Arg<'a>
         alloc,
         "priority",
         "NAME",
-        "First goes by: chain, slack, descendants, successors, latency, order",
+        "What goes first: chain, slack, descendants, successors, latency or order",
     )
     .default_value("chain")
 }

@@ -43,7 +43,9 @@ impl Display for LineFault {
             LineFault::BadStart(_) => f.write_str("--at is not a multiple of 4"),
             LineFault::TooManyWords => f.write_str("the words do not fit into memory"),
             LineFault::NoSuchPriority => {
-                f.write_str("--priority is none of chain, slack, descendants, successors, latency, order")
+                f.write_str(
+                    "--priority is none of chain, slack, descendants, successors, latency, order",
+                )
             }
             LineFault::NoMemory => f.write_str("out of memory"),
         }

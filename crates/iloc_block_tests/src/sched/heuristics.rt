@@ -1,6 +1,6 @@
 //! Schedules by other priorities than the longest chains.
 use crate::written::{USUAL, block_of, latencies};
-use iloc_sched::{Heuristic, Scheduler, least, rename, schedule_by};
+use iloc_sched::{Heuristic, Scheduler, least, priorities_by, rename, schedule_by};
 use iloc_timed::cycles;
 use std::test::Fail;
 
@@ -29,6 +29,34 @@ fn ranks_by_each_heuristic(rt: HostRuntime) -> Result<(), Fail> {
     for (heuristic, wanted) in CYCLES {
         let schedule = scheduler.schedule_as(&block, &times, *heuristic)?;
         assert!(rt; cycles(&schedule, &times) == *wanted, "{heuristic:?}");
+    }
+    Ok(())
+}
+
+/// A load whose user uses it twice, and which a store uses that waits for it anyway.
+const TWICE: &[u8] =
+    b"loadI 4 => r0\nload r0 => r1\nadd r1, r1 => r2\nstore r1 => r0\nstore r2 => r0\n\
+    output 4\noutput 4\n";
+
+#[test]
+fn counts_who_waits_once(rt: HostRuntime) -> Result<(), Fail> {
+    let ops = rename(rt.alloc(), &block_of(rt.alloc(), TWICE)?)?;
+    let times = latencies(USUAL)?;
+    let found = priorities_by(rt.alloc(), &ops, &times, Heuristic::Successors)?;
+    assert!(rt; found.as_slice() == [3, 3, 1, 3, 2, 1, 0]);
+    Ok(())
+}
+
+#[test]
+fn lends_with_the_bound(rt: HostRuntime) -> Result<(), Fail> {
+    let block = block_of(rt.alloc(), DOT)?;
+    let times = latencies(USUAL)?;
+    let mut scheduler = Scheduler::new(rt.alloc());
+    for (heuristic, wanted) in CYCLES {
+        let (schedule, bound) = scheduler.lend_with_least(&block, &times, *heuristic)?;
+        assert!(rt; cycles(&schedule, &times) == *wanted, "{heuristic:?}");
+        assert!(rt; bound == 21);
+        scheduler.take_back(schedule);
     }
     Ok(())
 }
