@@ -1,8 +1,9 @@
 """The toolchain's prover, on single functions of a crate.
 
-`rt must-fail` would need no such script, and names goals too: 29 edits of iloc_meaning took it 10 processor minutes, about
-what they take here. But it first proves the whole crate from nothing, and `rt ci` does so for each crate that has edits: that
-is all proofs once more in each gate. Here the functions that edits name are checked, over libraries that are built.
+`rt must-fail` would need no such script, and names goals too. But it first proves the whole crate from nothing, in `rt ci` too:
+that is all proofs once more in each gate. It checks the crate again for each edit: 11 of iloc_ops took it 7 processor minutes.
+And it passes an edit that only the proof of another function falls at. Here the functions that edits name are checked, many
+at once, over libraries that are built: 27 edits of iloc_ops, iloc_meaning and iloc_timed take 6 processor minutes.
 """
 import os
 import shutil
