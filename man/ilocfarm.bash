@@ -2,7 +2,7 @@
 _ilocfarm() {
     local words
     COMPREPLY=()
-    case $COMP_CWORD,${COMP_WORDS[COMP_CWORD - 1]} in *,[\<\>]*|*,--at|*,--load|*,--mult|*,--store|*,--workers) return ;; esac
+    case $COMP_CWORD,${COMP_WORDS[COMP_CWORD - 1]} in *,[\<\>]*|*,--at|*,--load|*,--mult|*,--store|*,--task|*,--workers) return ;; esac
     case $COMP_CWORD,${COMP_WORDS[1]} in
     1,*) words="run simulate schedule counts explain check graph help --help --version" ;;
     *,run) words="--at --help" ;;
@@ -10,7 +10,7 @@ _ilocfarm() {
     *,schedule) words="--workers --load --store --mult --help" ;;
     *,counts) words="--workers --load --store --mult --help" ;;
     *,explain) words="--load --store --mult --help" ;;
-    *,check) words="--at --load --store --mult --help" ;;
+    *,check) words="--at --load --store --mult --task --help" ;;
     *,graph) words="--load --store --mult --help" ;;
     2,help) words="run simulate schedule counts explain check graph" ;;
     *) return ;;

@@ -108,9 +108,13 @@ counts_entry = record {
 abbrev pub explain_entry : Entry
 explain_entry = record { name = codes "explain"; task = Explain; rules = latency_rules ++ priority_rule ∷ [] }
 
--- `check [--at N] [WORD].. [--load N] [--store N] [--mult N]`
+-- `check [--at N] [WORD].. [--load N] [--store N] [--mult N] [--task FILE]`
 abbrev pub check_entry : Entry
-check_entry = record { name = codes "check"; task = Check; rules = at_rule ∷ words_rule ∷ latency_rules }
+check_entry = record {
+  name = codes "check";
+  task = Check;
+  rules = at_rule ∷ words_rule ∷ (latency_rules ++ task_rule ∷ []);
+}
 
 -- `graph [--load N] [--store N] [--mult N]`
 abbrev pub graph_entry : Entry

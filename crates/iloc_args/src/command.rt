@@ -318,13 +318,14 @@ fn explain_command<'a>(alloc: Global) -> Result<Command<'a>, AllocError>
     with_arg(command, priority_arg(alloc))
 }
 
-/// `check [--at N] [WORD]... [--load N] [--store N] [--mult N]`
+/// `check [--at N] [WORD]... [--load N] [--store N] [--mult N] [--task FILE]`
 fn check_command<'a>(alloc: Global) -> Result<Command<'a>, AllocError>
     ensures { IfOk result (HasApp (app check_entry)) }
 {
     let about = "Judge schedules that others made, given after their blocks";
     let usage = "ilocfarm check [OPTIONS] [WORD]... < BLOCKS_AND_ROWS";
-    with_latencies(alloc, memory_command(alloc, "check", about, usage))
+    let check = with_latencies(alloc, memory_command(alloc, "check", about, usage));
+    with_arg(check, task_arg(alloc))
 }
 
 /// `graph [--load N] [--store N] [--mult N]`

@@ -7,6 +7,7 @@ pub mod Parted
 pub mod Routines
 pub mod Checks
 pub mod Status
+pub mod Tasks
 pub mod Gathered
 pub mod Schedules
 pub mod Headline

@@ -16,6 +16,7 @@ use Rattle.iloc_sched.proofs.Outcome.LawfulOutcomes.{lawful_same_outcome}
 use Rattle.iloc_args.specs.declared.request.Request.{Request}
 use Rattle.iloc_args.specs.declared.request.Task.{Task}
 use Rattle.iloc_args.specs.declared.request.Task.TheVariants as task
+use Rattle.iloc_farm.specs.Apart.{Held}
 use Rattle.iloc_farm.specs.Commands.Counts.{IsCountEntry}
 use Rattle.iloc_farm.specs.Commands.Explain.{IsExplainEntry}
 use Rattle.iloc_farm.specs.Commands.Graph.{IsGraphEntry, drawing_end, opening_at}
@@ -24,9 +25,11 @@ use Rattle.iloc_farm.specs.Commands.Schedule.{IsScheduleEntry}
 use Rattle.iloc_farm.specs.Commands.Simulate.{IsSimulateEntry}
 use Rattle.iloc_farm.specs.Laws.{AskAlike, SimulatingListsRuns}
 use Rattle.iloc_farm.specs.Listing.{block_head, count_entry, cycles_of, outcome_entry, schedule_entry, schedule_lines, shown_entry, total_of_all}
-use Rattle.iloc_farm.specs.Run.{IsListingFor}
+use Rattle.iloc_farm.specs.Run.{IsListingFor, Lists, ListsAs, ListsFile, ListsFor, ListsFrom}
 use Rattle.iloc_farm.specs.Schedules.{IsGreedyAs, IsTheGreedy}
-use Rattle.iloc_farm.specs.Steps.Listed.{Adds, IsCount}
+use Rattle.iloc_farm.specs.Steps.Listed.{Adds, IsCount, ListsRead}
+use Rattle.iloc_farm.specs.declared.commands.Finding.TheVariants.{Passed}
+use Rattle.iloc_farm.specs.declared.commands.Listed.{Listed}
 use Rattle.iloc_farm.proofs.Entries.{listing_also, one_listing}
 use Rattle.iloc_farm.proofs.Schedules.{one_schedule}
 
@@ -201,3 +204,21 @@ of_one_task task.Check r q alike blocks text text' lists lists' = absurd lists
 pub simulating_lists_runs : SimulatingListsRuns
 simulating_lists_runs request blocks text is =
     listing_also (IsSimulateEntry request) (IsRunEntry request) (λ k b e f entry. entry.plain) no_ending blocks text is
+
+-- what is listed of a file that was read is what the request lists, where its task is no check
+pub file_listed : (held : Held) (t : Task) (request : Request) (old new : Option (List ℕ)) (text : List ℕ)
+    (listed : Listed) → request.task ≡ t
+    → ((input : List ℕ) → ListsFile request input text × (Passed ≡ Passed) → ListsFor t request input Passed text)
+    → (Lists request old new Passed text → ListsAs t request.task_file held request old new Passed text)
+    → ListsRead (λ blocks text. IsListingFor t request blocks text) old new text
+    → listed ≡ record { text = text; finding = Passed } → ListsFrom held request old new listed.finding listed.text
+file_listed held t request old new text listed is files lists read made =
+    let P : Task → Type 0 = λ t. IsListingFor t request read.blocks text in
+    let Q : Task → Type 0 = λ t. ListsFor t request read.input Passed text in
+    let R : Task → Type 0 = λ t. ListsAs t request.task_file held request old new Passed text in
+    let S : Listed → Type 0 = λ l. ListsFrom held request old new l.finding l.text in
+    let file : ListsFile request read.input text =
+    record { blocks = read.blocks; denoted = read.denoted; listed = subst P (sym is) read.listed } in
+    let input : Lists request old new Passed text =
+    record { input = read.input; read = read.read; listed = subst Q (sym is) (files read.input (file, refl)) } in
+    subst S (sym made) (subst R (sym is) (lists input))

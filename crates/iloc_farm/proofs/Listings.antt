@@ -1,14 +1,18 @@
 -- What is listed of one input does not depend on the workers, and greedy schedules can be listed.
-use Rattle.std.proofs.Common.{ℕ, List, ℤ, sym, ◌∙◌, subst}
+use Rattle.std.proofs.Common.{◌≡◌, ℕ, List, ℤ, None, Option, Some, sym, ap, ◌∙◌, subst}
+use Rattle.std.specs.declared.alloc.Global.{Global}
+use Rattle.std.specs.declared.string.String.{String}
 use Rattle.iloc_ops.specs.declared.file.Block.{Block}
 use Rattle.iloc_text.proofs.Answer.{one_answer}
 use Rattle.iloc_timed.specs.declared.latencies.Latencies.{Latencies}
 use Rattle.iloc_args.specs.declared.request.Request.{Request}
 use Rattle.iloc_args.specs.declared.request.Task.{Task}
+use Rattle.iloc_args.specs.declared.request.Task.TheVariants as task
 use Rattle.iloc_farm.specs.Commands.Check.{ListsChecked}
 use Rattle.iloc_farm.specs.Commands.Run.{initial_memory}
 use Rattle.iloc_farm.specs.Laws.{AskAlike, ChecksIgnoreWorkers, GreedySchedulesCanBeListed, ListingsIgnoreWorkers}
-use Rattle.iloc_farm.specs.Run.{IsListing, IsListingFor, ListsFor, ListsSubmission}
+use Rattle.iloc_farm.specs.Apart.{Held}
+use Rattle.iloc_farm.specs.Run.{IsListing, IsListingFor, Lists, ListsApart, ListsAs, ListsFor, ListsFrom, ListsSubmission}
 use Rattle.iloc_farm.specs.declared.commands.Finding.{Finding}
 use Rattle.iloc_farm.proofs.Listers.{of_one_task, one_memory}
 use Rattle.iloc_farm.proofs.Schedules.{greedy_long, total_small}
@@ -33,11 +37,44 @@ submission_alike r q alike input finding text lists =
       checked = subst Q (one_memory r q alike) (subst P alike.latencies lists.checked);
     }
 
+apart_alike : (r q : Request) → AskAlike r q → (known old new : Option (List ℕ)) (finding : Finding) (text : List ℕ)
+    → ListsApart known r old new finding text → ListsApart known q old new finding text
+apart_alike r q alike known old new finding text lists =
+    let P : Latencies → Type 0 = λ lat. ListsChecked lat (initial_memory r) lists.blocks lists.proposals finding text in
+    let Q : List ℤ → Type 0 = λ memory. ListsChecked q.latencies memory lists.blocks lists.proposals finding text in
+    record {
+      blocks = lists.blocks;
+      proposals = lists.proposals;
+      read = lists.read;
+      checked = subst Q (one_memory r q alike) (subst P alike.latencies lists.checked);
+    }
+
+-- so is one of an input
+lists_alike : (r q : Request) → AskAlike r q → r.task ≡ task.Check → (old new : Option (List ℕ)) (finding : Finding)
+    (text : List ℕ) → Lists r old new finding text → Lists q old new finding text
+lists_alike r q alike is old new finding text lists =
+    let P : Task → Type 0 = λ t. ListsFor t r lists.input finding text in
+    let Q : Task → Type 0 = λ t. ListsFor t q lists.input finding text in
+    record {
+      input = lists.input;
+      read = lists.read;
+      listed = subst Q (sym is ∙ alike.task) (submission_alike r q alike lists.input finding text (subst P is lists.listed));
+    }
+
+as_alike : (held : Held) (r q : Request) → AskAlike r q → r.task ≡ task.Check → (file : Option (String Global))
+    (old new : Option (List ℕ)) (finding : Finding) (text : List ℕ) → ListsAs task.Check file held r old new finding text
+    → ListsAs task.Check file held q old new finding text
+as_alike held r q alike is None old new finding text lists = lists_alike r q alike is old new finding text lists
+as_alike held r q alike is (Some name) old new finding text lists =
+    apart_alike r q alike _ old new finding text lists
+
 pub checks_ignore_workers : ChecksIgnoreWorkers
-checks_ignore_workers r q alike is input finding text lists =
-    let P : Task → Type 0 = λ t. ListsFor t r input finding text in
-    let Q : Task → Type 0 = λ t. ListsFor t q input finding text in
-    subst Q (sym is ∙ alike.task) (submission_alike r q alike input finding text (subst P is lists))
+checks_ignore_workers r q alike is held old new finding text lists =
+    let P : Task → Type 0 = λ t. ListsAs t r.task_file held r old new finding text in
+    let Q : Task → Type 0 = λ t. ListsAs t q.task_file held q old new finding text in
+    let R : Option (String Global) → Type 0 = λ file. ListsAs task.Check file held q old new finding text in
+    subst Q (sym is ∙ alike.task) (subst R alike.task_file
+    (as_alike held r q alike is r.task_file old new finding text (subst P is lists)))
 
 pub can_be_listed : GreedySchedulesCanBeListed
 can_be_listed lat blocks schedules limits greedy =

@@ -1,5 +1,7 @@
 -- What a status of 0 tells, where the words ask for a check.
-use Rattle.std.proofs.Common.{◌≡◌, ℕ, List, Ok, Err, Option, Result, Some, arith, sym, ap, ◌∙◌, subst, inl, inr}
+use Rattle.std.proofs.Common.{◌≡◌, ℕ, List, Ok, Err, None, Option, Result, Some, arith, refl, sym, ap, ◌∙◌, subst, inl, inr}
+use Rattle.std.specs.Prelude.{option_map}
+use Rattle.std.specs.String.{string_bytes}
 use Rattle.std.specs.declared.io.Error.{Error}
 use Rattle.std.specs.declared.alloc.Global.{Global}
 use Rattle.std.specs.declared.string.String.{String}
@@ -7,23 +9,28 @@ use Rattle.iloc_text.specs.declared.fault.ReadFault.{ReadFault}
 use Rattle.iloc_text.specs.declared.fault.ReadFault.TheVariants as text
 use Rattle.iloc_rows.specs.declared.fault.RowsFault.{RowsFault}
 use Rattle.iloc_rows.specs.declared.fault.RowsFault.TheVariants as rows
+use Rattle.iloc_ops.specs.declared.file.Block.{Block}
+use Rattle.iloc_rows.specs.declared.proposal.Proposal.{Proposal}
 use Rattle.iloc_args.specs.Asked.{Asked, asked_in}
 use Rattle.iloc_args.specs.declared.fault.LineFault.TheVariants as line
 use Rattle.iloc_args.specs.declared.request.Request.{Request}
 use Rattle.iloc_args.specs.declared.request.Task.{Task}
 use Rattle.iloc_args.specs.declared.request.Task.TheVariants as task
-use Rattle.iloc_farm.specs.declared.fault.RunFault.TheVariants.{ReadFailed, Text, Rows, Farm, WriteFailed}
+use Rattle.iloc_farm.specs.declared.fault.RunFault.TheVariants.{ReadFailed, Text, Rows, Task as of_task, Farm, WriteFailed}
+use Rattle.iloc_farm.specs.declared.fault.TaskFault.{TaskFault}
+use Rattle.iloc_farm.specs.declared.fault.TaskFault.TheVariants as task_fault
 use Rattle.iloc_farm.specs.declared.commands.Finding.{Finding}
 use Rattle.iloc_farm.specs.declared.commands.Finding.TheVariants.{Passed, Failed}
 use Rattle.iloc_farm.specs.declared.program.Fault.{Fault}
 use Rattle.iloc_farm.specs.declared.program.Fault.TheVariants.{Line, Run}
+use Rattle.iloc_farm.specs.Apart.{Held}
 use Rattle.iloc_farm.specs.Commands.Check.{ListsChecked}
-use Rattle.iloc_farm.specs.Fault.{text_status, rows_status}
+use Rattle.iloc_farm.specs.Fault.{rows_status, task_status, text_status}
 use Rattle.iloc_farm.specs.Fault.{status_of_finding}
 use Rattle.iloc_farm.specs.Commands.Run.{initial_memory}
-use Rattle.iloc_farm.specs.Laws.{ReadsTheSame, Status0MeansTheSame}
+use Rattle.iloc_farm.specs.Laws.{ReadsRows, ReadsTheSame, Status0MeansTheSame}
 use Rattle.iloc_farm.specs.Program.{Args, AskFor, IsListed, IsStopped, MakeNone, status_of}
-use Rattle.iloc_farm.specs.Run.{ListsFor, ListsSubmission}
+use Rattle.iloc_farm.specs.Run.{ListsApart, ListsAs, ListsFor, ListsFrom, ListsSubmission}
 use Rattle.iloc_farm.proofs.Checks.{passed_keep_outcomes}
 
 -- No fault has status 0
@@ -41,19 +48,26 @@ rows_above_0 (rows.Read fault) zero = text_above_0 fault zero
 rows_above_0 rows.NoBlocks zero = omega arith
 rows_above_0 (rows.NoSuchBlock n) zero = omega arith
 
-above_0 : (words : Result Args Error) (read_old read_new written_old written_new : Option (List ℕ)) (fault : Fault)
-    → IsStopped words read_old read_new written_old written_new fault → status_of fault ≡ 0 → ⊥
-above_0 words ro rn wo wn (Line (line.Help help)) stopped zero = stopped.no_help
-above_0 words ro rn wo wn (Line (line.Refused said)) stopped zero = omega arith
-above_0 words ro rn wo wn (Line (line.BadStart at)) stopped zero = omega arith
-above_0 words ro rn wo wn (Line line.TooManyWords) stopped zero = omega arith
-above_0 words ro rn wo wn (Line line.NoSuchPriority) stopped zero = omega arith
-above_0 words ro rn wo wn (Line line.NoMemory) stopped zero = omega arith
-above_0 words ro rn wo wn (Run ReadFailed) stopped zero = omega arith
-above_0 words ro rn wo wn (Run (Text fault)) stopped zero = text_above_0 fault zero
-above_0 words ro rn wo wn (Run (Rows fault)) stopped zero = rows_above_0 fault zero
-above_0 words ro rn wo wn (Run (Farm fault)) stopped zero = omega arith
-above_0 words ro rn wo wn (Run WriteFailed) stopped zero = omega arith
+task_above_0 : (fault : TaskFault) → task_status fault ≡ 0 → ⊥
+task_above_0 task_fault.NoFile zero = omega arith
+task_above_0 task_fault.NotOpened zero = omega arith
+task_above_0 task_fault.ReadFailed zero = omega arith
+task_above_0 (task_fault.Text fault) zero = rows_above_0 fault zero
+
+above_0 : (held : Held) (words : Result Args Error) (read_old read_new written_old written_new : Option (List ℕ)) (fault : Fault)
+    → IsStopped held words read_old read_new written_old written_new fault → status_of fault ≡ 0 → ⊥
+above_0 held words ro rn wo wn (Line (line.Help help)) stopped zero = stopped.no_help
+above_0 held words ro rn wo wn (Line (line.Refused said)) stopped zero = omega arith
+above_0 held words ro rn wo wn (Line (line.BadStart at)) stopped zero = omega arith
+above_0 held words ro rn wo wn (Line line.TooManyWords) stopped zero = omega arith
+above_0 held words ro rn wo wn (Line line.NoSuchPriority) stopped zero = omega arith
+above_0 held words ro rn wo wn (Line line.NoMemory) stopped zero = omega arith
+above_0 held words ro rn wo wn (Run ReadFailed) stopped zero = omega arith
+above_0 held words ro rn wo wn (Run (Text fault)) stopped zero = text_above_0 fault zero
+above_0 held words ro rn wo wn (Run (Rows fault)) stopped zero = rows_above_0 fault zero
+above_0 held words ro rn wo wn (Run (of_task fault)) stopped zero = task_above_0 fault zero
+above_0 held words ro rn wo wn (Run (Farm fault)) stopped zero = omega arith
+above_0 held words ro rn wo wn (Run WriteFailed) stopped zero = omega arith
 
 passed_at_0 : (finding : Finding) → status_of_finding finding ≡ 0 → finding ≡ Passed
 passed_at_0 Passed zero = λ i. Passed
@@ -72,37 +86,70 @@ one_asked (Err error) a b asks also = absurd asks
 
 -- A check that passed
 
-listed_same : (words : Result Args Error) (read_old read_new : Option (List ℕ)) (finding : Finding) (text : List ℕ)
-    (a : Asked) → IsListed words read_old read_new finding text → finding ≡ Passed → AskFor words a
-    → a.task ≡ task.Check → ReadsTheSame a read_old read_new
-listed_same words read_old read_new finding text a listed passed asks check =
+-- blocks and rows were read, and what is said of them passed
+record Judges (held : Held) (request : Request) (old new : Option (List ℕ)) (finding : Finding) (text : List ℕ)
+    : Type 0 where
+  blocks : List Block
+  proposals : List Proposal
+  read : ReadsRows held (option_map string_bytes request.task_file) old new blocks proposals
+  checked : ListsChecked request.latencies (initial_memory request) blocks proposals finding text
+
+-- a listing of a check is of blocks and rows that were read
+judges : (held : Held) (request : Request) (old new : Option (List ℕ)) (finding : Finding) (text : List ℕ)
+    (t : Task) (file : Option (String Global)) → t ≡ request.task → t ≡ task.Check → file ≡ request.task_file
+    → ListsAs t file held request old new finding text → Judges held request old new finding text
+judges held request old new finding text task.Check None is check named lists =
+    let P : Task → Type 0 = λ t. ListsFor t request lists.input finding text in
+    let own : ListsSubmission request lists.input finding text = subst P (sym is) lists.listed in
+    let Q : Option (String Global) → Type 0 = λ file.
+    ReadsRows held (option_map string_bytes file) old new own.blocks own.proposals in
+    record {
+      blocks = own.blocks;
+      proposals = own.proposals;
+      read = subst Q named (record { input = lists.input; read = lists.read; denoted = own.denoted });
+      checked = own.checked;
+    }
+judges held request old new finding text task.Check (Some name) is check named lists =
+    let Q : Option (String Global) → Type 0 = λ file.
+    ReadsRows held (option_map string_bytes file) old new lists.blocks lists.proposals in
+    record {
+      blocks = lists.blocks;
+      proposals = lists.proposals;
+      read = subst Q named lists.read;
+      checked = lists.checked;
+    }
+judges held request old new finding text _ file is check named lists = cc
+
+listed_same : (held : Held) (words : Result Args Error) (read_old read_new : Option (List ℕ)) (finding : Finding)
+    (text : List ℕ) (a : Asked) → IsListed held words read_old read_new finding text → finding ≡ Passed → AskFor words a
+    → a.task ≡ task.Check → ReadsTheSame held a read_old read_new
+listed_same held words read_old read_new finding text a listed passed asks check =
     let request : Request = listed.request in
     let same : asked_in request ≡ a = one_asked words (asked_in request) a listed.asked asks in
     let is : request.task ≡ task.Check = ap (λ (x : Asked). x.task) same ∙ check in
-    let P : Task → Type 0 = λ t. ListsFor t request listed.listed.input finding text in
-    let lists : ListsSubmission request listed.listed.input finding text = subst P is listed.listed.listed in
+    let judged : Judges held request read_old read_new finding text =
+    judges held request read_old read_new finding text request.task request.task_file refl is refl listed.listed in
     let Q : Finding → Type 0 =
-    λ f. ListsChecked request.latencies (initial_memory request) lists.blocks lists.proposals f text in
+    λ f. ListsChecked request.latencies (initial_memory request) judged.blocks judged.proposals f text in
+    let R : Option (List ℕ) → Type 0 = λ file. ReadsRows held file read_old read_new judged.blocks judged.proposals in
     record {
-      input = listed.listed.input;
-      read = listed.listed.read;
-      blocks = lists.blocks;
-      proposals = lists.proposals;
-      denoted = lists.denoted;
+      blocks = judged.blocks;
+      proposals = judged.proposals;
+      read = subst R (ap (λ (x : Asked). x.task_file) same) judged.read;
       latencies = request.latencies;
       load = ap (λ (x : Asked). x.load) same;
       store = ap (λ (x : Asked). x.store) same;
       mult = ap (λ (x : Asked). x.mult) same;
-      same = passed_keep_outcomes request.latencies (initial_memory request) lists.blocks lists.proposals text
-          (subst Q passed lists.checked);
+      same = passed_keep_outcomes request.latencies (initial_memory request) judged.blocks judged.proposals text
+          (subst Q passed judged.checked);
     }
 
 pub status_0_means_the_same : Status0MeansTheSame
-status_0_means_the_same words ro rn wo wn so sn ending (inl well) zero a asks check =
+status_0_means_the_same held words ro rn wo wn so sn ending (inl well) zero a asks check =
     let passed : well.finding ≡ Passed = passed_at_0 well.finding (sym well.status ∙ zero) in
     elim well.done.asked [
       | inl help ↦ absurd (no_help words help.0.help a help.0.asked asks)
-      | inr listed ↦ listed_same words ro rn well.finding well.done.text a listed passed asks check
+      | inr listed ↦ listed_same held words ro rn well.finding well.done.text a listed passed asks check
     ]
-status_0_means_the_same words ro rn wo wn so sn ending (inr stopped) zero a asks check =
-    absurd (above_0 words ro rn wo wn stopped.fault stopped.stopped (sym stopped.status ∙ zero))
+status_0_means_the_same held words ro rn wo wn so sn ending (inr stopped) zero a asks check =
+    absurd (above_0 held words ro rn wo wn stopped.fault stopped.stopped (sym stopped.status ∙ zero))

@@ -12,10 +12,11 @@ use Rattle.iloc_args.specs.Due.{Asks, IsDue}
 use Rattle.iloc_args.specs.declared.fault.LineFault.{LineFault}
 use Rattle.iloc_args.specs.declared.fault.LineFault.TheVariants.{Help}
 use Rattle.iloc_args.specs.declared.request.Request.{Request}
+use Rattle.iloc_farm.specs.Apart.{Held}
 use Rattle.iloc_farm.specs.Program.{Args, AskFor, IsHelp, IsStopped, MakeNone}
 use Rattle.iloc_farm.specs.Run.{EndsRun}
 use Rattle.iloc_farm.specs.declared.fault.RunFault.{RunFault}
-use Rattle.iloc_farm.specs.declared.fault.RunFault.TheVariants.{ReadFailed, Text, Rows, Farm, WriteFailed}
+use Rattle.iloc_farm.specs.declared.fault.RunFault.TheVariants.{ReadFailed, Text, Rows, Task, Farm, WriteFailed}
 use Rattle.iloc_farm.specs.declared.program.Fault.TheVariants.{Run}
 
 -- what the words behind the name ask for is what the words do
@@ -39,19 +40,21 @@ made_none words args behind result given same due =
     (subst (λ (b : List (String Global)). IfErr result (IsDue (map string_bytes b))) same due)
 
 -- a fault that ends the run stops the program
-pub run_stopped : (words : Result Args Error) (request : Request)
+pub run_stopped : (held : Held) (words : Result Args Error) (request : Request)
     (read_old read_new written_old written_new : Option (List ℕ)) (fault : RunFault) → AskFor words (asked_in request)
-    → EndsRun request read_old read_new written_old written_new fault
-    → IsStopped words read_old read_new written_old written_new (Run fault)
-run_stopped words request read_old read_new written_old written_new ReadFailed asked ended =
+    → EndsRun held request read_old read_new written_old written_new fault
+    → IsStopped held words read_old read_new written_old written_new (Run fault)
+run_stopped held words request read_old read_new written_old written_new ReadFailed asked ended =
     record { request = request; asked = asked; ended = ended }
-run_stopped words request read_old read_new written_old written_new (Text fault) asked ended =
+run_stopped held words request read_old read_new written_old written_new (Text fault) asked ended =
     record { request = request; asked = asked; ended = ended }
-run_stopped words request read_old read_new written_old written_new (Rows fault) asked ended =
+run_stopped held words request read_old read_new written_old written_new (Rows fault) asked ended =
     record { request = request; asked = asked; ended = ended }
-run_stopped words request read_old read_new written_old written_new (Farm fault) asked ended =
+run_stopped held words request read_old read_new written_old written_new (Task fault) asked ended =
     record { request = request; asked = asked; ended = ended }
-run_stopped words request read_old read_new written_old written_new WriteFailed asked ended =
+run_stopped held words request read_old read_new written_old written_new (Farm fault) asked ended =
+    record { request = request; asked = asked; ended = ended }
+run_stopped held words request read_old read_new written_old written_new WriteFailed asked ended =
     record {
       finding = ended.0;
       text = ended.1;
@@ -66,10 +69,10 @@ made_err (Ok x) made P is p = tt
 made_err (Err e) made P is p = subst P (sym is) p
 
 -- the text that is written is that of the help
-pub is_help : (words : Result Args Error) (read : Option (List ℕ)) (fault : LineFault) (help shown : String Global)
+pub is_help : (held : Held) (words : Result Args Error) (read : Option (List ℕ)) (fault : LineFault) (help shown : String Global)
     (text : List ℕ) → MakeNone words fault
-    → fault ≡ Help help → shown ≡ help → text ≡ string_bytes shown → IsHelp words read read text
-is_help words read fault help shown text asked is same whole = record {
+    → fault ≡ Help help → shown ≡ help → text ≡ string_bytes shown → IsHelp held words read read text
+is_help held words read fault help shown text asked is same whole = record {
   help = help;
   asked = subst (MakeNone words) is asked;
   whole = whole ∙ ap string_bytes same;

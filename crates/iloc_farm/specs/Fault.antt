@@ -1,5 +1,5 @@
 -- How a run ends: what it finds or what stops it, what is said of a fault, and the exit status.
-use Rattle.std.specs.Prelude.{◌≡◌, ℕ, Bool, true, false, List, codes}
+use Rattle.std.specs.Prelude.{◌≡◌, ℕ, Bool, true, false, List, ◌++◌, codes}
 use Rattle.iloc_text.specs.Fault.{fault_text}
 use Rattle.iloc_text.specs.declared.fault.ReadFault.{ReadFault}
 use Rattle.iloc_text.specs.declared.fault.ReadFault.TheVariants as text
@@ -15,7 +15,9 @@ use Rattle.iloc_farm.specs.declared.commands.Finding.TheVariants.{Passed, Failed
 use Rattle.iloc_farm.specs.declared.fault.FarmFault.{FarmFault}
 use Rattle.iloc_farm.specs.declared.fault.FarmFault.TheVariants as farm
 use Rattle.iloc_farm.specs.declared.fault.RunFault.{RunFault}
-use Rattle.iloc_farm.specs.declared.fault.RunFault.TheVariants.{ReadFailed, Text, Rows, Farm, WriteFailed}
+use Rattle.iloc_farm.specs.declared.fault.RunFault.TheVariants.{ReadFailed, Text, Rows, Task, Farm, WriteFailed}
+use Rattle.iloc_farm.specs.declared.fault.TaskFault.{TaskFault}
+use Rattle.iloc_farm.specs.declared.fault.TaskFault.TheVariants as of_task
 
 -- what judged somebody's schedules passed where all are the same
 abbrev pub finding_of : Bool → Finding
@@ -42,11 +44,19 @@ rows_status (rows.Read fault) = text_status fault
 rows_status rows.NoBlocks = 1
 rows_status (rows.NoSuchBlock n) = 1
 
+-- 1 for a fault in the text of a task, 4 where it could not be had
+abbrev pub task_status : TaskFault → ℕ
+task_status of_task.NoFile = 4
+task_status of_task.NotOpened = 4
+task_status of_task.ReadFailed = 4
+task_status (of_task.Text fault) = rows_status fault
+
 -- 1 for a fault in the text, 3 for want of memory or of a thread, 4 for a device that failed
 abbrev pub run_status_of : RunFault → ℕ
 run_status_of ReadFailed = 4
 run_status_of (Text fault) = text_status fault
 run_status_of (Rows fault) = rows_status fault
+run_status_of (Task fault) = task_status fault
 run_status_of (Farm fault) = 3
 run_status_of WriteFailed = 4
 
@@ -55,11 +65,19 @@ abbrev pub farm_text : FarmFault → List ℕ
 farm_text farm.NoThread = codes "a worker could not be started"
 farm_text farm.NoMemory = codes "out of memory"
 
+-- what is said of a task that there isn't: of its own text, and so that it is told apart from the other
+abbrev pub task_text : TaskFault → List ℕ
+task_text of_task.NoFile = codes "task: no such file"
+task_text of_task.NotOpened = codes "task: opening failed"
+task_text of_task.ReadFailed = codes "task: reading failed"
+task_text (of_task.Text fault) = codes "task: " ++ rows_fault_text fault
+
 -- what is said of a fault of a run
 abbrev pub run_text : RunFault → List ℕ
 run_text ReadFailed = codes "reading failed"
 run_text (Text fault) = fault_text fault
 run_text (Rows fault) = rows_fault_text fault
+run_text (Task fault) = task_text fault
 run_text (Farm fault) = farm_text fault
 run_text WriteFailed = codes "writing failed"
 

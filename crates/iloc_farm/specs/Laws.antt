@@ -1,5 +1,5 @@
 -- What holds of listings as a whole.
-use Rattle.std.specs.Prelude.{◌≡◌, ℕ, ℤ, ◌<◌, ◌^◌, List, length, Option, Result}
+use Rattle.std.specs.Prelude.{◌≡◌, ℕ, ℤ, ◌<◌, ◌^◌, List, length, Option, Some, None, Result}
 use Rattle.std.specs.List.{AllZip}
 use Rattle.std.specs.declared.io.Error.{Error}
 use Rattle.iloc_ops.specs.declared.file.Block.{Block}
@@ -15,11 +15,12 @@ use Rattle.iloc_args.specs.declared.request.Task.TheVariants as task
 use Rattle.iloc_farm.specs.declared.commands.Finding.{Finding}
 use Rattle.iloc_farm.specs.declared.commands.Finding.TheVariants.{Passed}
 use Rattle.iloc_farm.specs.declared.program.Ending.{Ending}
+use Rattle.iloc_farm.specs.Apart.{Held, ReadsApart}
 use Rattle.iloc_farm.specs.Commands.Check.{ListsChecked}
 use Rattle.iloc_farm.specs.Device.{ReadsInput}
 use Rattle.iloc_farm.specs.Listing.{total_cycles}
 use Rattle.iloc_farm.specs.Program.{Args, AskFor, Ends}
-use Rattle.iloc_farm.specs.Run.{IsListing, IsListingFor, ListsInput}
+use Rattle.iloc_farm.specs.Run.{IsListing, IsListingFor, ListsFrom}
 use Rattle.iloc_farm.specs.Schedules.{AreGreedy, IsWithinLimits}
 
 -- the requests ask for the same, but maybe of other workers
@@ -29,6 +30,7 @@ pub record AskAlike (r q : Request) : Type 0 where
   pub words : r.words.items ≡ q.words.items
   pub latencies : r.latencies ≡ q.latencies
   pub priority : r.priority ≡ q.priority
+  pub task_file : r.task_file ≡ q.task_file
 
 -- What such requests list of one file is one text. A check lists no file: which of two right verdicts it gives is not
 -- settled, so of one input it may list more than one text.
@@ -42,11 +44,11 @@ abbrev pub SimulatingListsRuns : Type 0
 SimulatingListsRuns = (request : Request) (blocks : List Block) (text : List ℕ)
     → IsListingFor task.Simulate request blocks text → IsListingFor task.Run request blocks text
 
--- what one of such requests may list of an input as a check, so may the other
+-- what one of such requests may list of what is read as a check, so may the other
 abbrev pub ChecksIgnoreWorkers : Type 0
 ChecksIgnoreWorkers = (r q : Request) → AskAlike r q → r.task ≡ task.Check
-    → (input : List ℕ) (finding : Finding) (text : List ℕ) → ListsInput r input finding text
-    → ListsInput q input finding text
+    → (held : Held) (old new : Option (List ℕ)) (finding : Finding) (text : List ℕ) → ListsFrom held r old new finding text
+    → ListsFrom held q old new finding text
 
 -- where a check passed, the rows that are proposed for each block keep the rules of the units and have its outcome on
 -- every memory
@@ -55,14 +57,23 @@ PassedChecksKeepOutcomes = (lat : Latencies) (memory : List ℤ) (blocks : List 
     (text : List ℕ) → ListsChecked lat memory blocks proposals Passed text
     → AllZip (λ (b : Block) (p : Proposal). DoTheSame lat b.ops p.ops p.rows) blocks proposals
 
--- What was read is blocks and rows that are proposed for them. With the latencies that are asked for, the rows for each
--- block keep the rules of the units and have its outcome on every memory.
-pub record ReadsTheSame (asked : Asked) (old new : Option (List ℕ)) : Type 0 where
+-- one input was read, which denotes blocks and the rows that are proposed for them
+pub record ReadsSubmission (old new : Option (List ℕ)) (blocks : List Block) (proposals : List Proposal) : Type 0 where
   pub input : List ℕ
   pub read : ReadsInput old new input
+  pub denoted : submissions.Denotes input blocks proposals
+
+-- blocks and rows were read: of one input or, where a file is named, the blocks of that file alone
+abbrev pub ReadsRows : Held → Option (List ℕ) → Option (List ℕ) → Option (List ℕ) → List Block → List Proposal → Type 0
+ReadsRows held None old new blocks proposals = ReadsSubmission old new blocks proposals
+ReadsRows held (Some name) old new blocks proposals = ReadsApart (held name) old new blocks proposals
+
+-- Blocks were read, and rows that are proposed for them. With the latencies that are asked for, the rows for each block keep
+-- the rules of the units and have its outcome on every memory.
+pub record ReadsTheSame (held : Held) (asked : Asked) (old new : Option (List ℕ)) : Type 0 where
   pub blocks : List Block
   pub proposals : List Proposal
-  pub denoted : submissions.Denotes input blocks proposals
+  pub read : ReadsRows held asked.task_file old new blocks proposals
   pub latencies : Latencies
   pub load : latencies.load ≡ asked.load
   pub store : latencies.store ≡ asked.store
@@ -71,10 +82,16 @@ pub record ReadsTheSame (asked : Asked) (old new : Option (List ℕ)) : Type 0 w
 
 -- so it is where the program ends with status 0 and its words ask for a check
 abbrev pub Status0MeansTheSame : Type 0
-Status0MeansTheSame = (words : Result Args Error)
+Status0MeansTheSame = (held : Held) (words : Result Args Error)
     (read_old read_new written_old written_new said_old said_new : Option (List ℕ)) (ending : Ending)
-    → Ends words read_old read_new written_old written_new said_old said_new ending → ending.status ≡ 0
-    → (asked : Asked) → AskFor words asked → asked.task ≡ task.Check → ReadsTheSame asked read_old read_new
+    → Ends held words read_old read_new written_old written_new said_old said_new ending → ending.status ≡ 0
+    → (asked : Asked) → AskFor words asked → asked.task ≡ task.Check → ReadsTheSame held asked read_old read_new
+
+-- of a text that is known, two checks judge the same blocks, whatever was handed in to each
+abbrev pub HandInsDontChangeTheTask : Type 0
+HandInsDontChangeTheTask = (known : List ℕ) (old new old' new' : Option (List ℕ)) (blocks blocks' : List Block)
+    (proposals proposals' : List Proposal) → ReadsApart (Some known) old new blocks proposals
+    → ReadsApart (Some known) old' new' blocks' proposals' → blocks ≡ blocks'
 
 -- The greedy schedules of blocks within the limits are as many as the blocks, and their cycles together are below 2^63,
 -- as the listings of schedules want.

@@ -1,3 +1,4 @@
+pub mod Apart
 pub mod Commands
 pub mod Device
 pub mod Entries

@@ -15,10 +15,11 @@ use Rattle.iloc_args.specs.Fault.{line_text, status_of as line_status_of}
 use Rattle.iloc_args.specs.declared.fault.LineFault.{LineFault}
 use Rattle.iloc_args.specs.declared.fault.LineFault.TheVariants.{Help, Refused, BadStart, TooManyWords, NoSuchPriority, NoMemory}
 use Rattle.iloc_args.specs.declared.request.Request.{Request}
+use Rattle.iloc_farm.specs.Apart.{Held}
 use Rattle.iloc_farm.specs.Device.{WritesFront}
 use Rattle.iloc_farm.specs.Fault.{run_status_of, run_text}
 use Rattle.iloc_farm.specs.Fault.{status_of_finding}
-use Rattle.iloc_farm.specs.Run.{EndsRun, Lists}
+use Rattle.iloc_farm.specs.Run.{EndsRun, ListsFrom}
 use Rattle.iloc_farm.specs.declared.listing.writing.WriteFailed.{WriteFailed}
 use Rattle.iloc_farm.specs.declared.program.Fault.{Fault}
 use Rattle.iloc_farm.specs.declared.program.Fault.TheVariants.{Line, Run}
@@ -66,9 +67,9 @@ abbrev pub IsNoHelp : LineFault → Type 0
 IsNoHelp (Help text) = ⊥
 IsNoHelp _ = Unit {0}
 
--- ---- what becomes of the input and of the two writers, by what is known of them before and after
+-- ---- what becomes of the input and of the two writers, by what is known of them before and after, and of named texts
 
-module _ (words : Result Args Error) (read_old read_new : Option (List ℕ)) where
+module _ (held : Held) (words : Result Args Error) (read_old read_new : Option (List ℕ)) where
   -- the words ask for help, which is this text, and nothing is read
   pub record IsHelp (text : List ℕ) : Type 0 where
     pub help : String Global
@@ -80,7 +81,7 @@ module _ (words : Result Args Error) (read_old read_new : Option (List ℕ)) whe
   pub record IsListed (finding : Finding) (text : List ℕ) : Type 0 where
     pub request : Request
     pub asked : AskFor words (asked_in request)
-    pub listed : Lists request read_old read_new finding text
+    pub listed : ListsFrom held request read_old read_new finding text
 
   -- the text is the one that the words ask for, with this finding; help judges nothing
   abbrev pub IsAskedFor : Finding → List ℕ → Type 0
@@ -111,7 +112,7 @@ module _ (words : Result Args Error) (read_old read_new : Option (List ℕ)) whe
     pub record IsEnded (fault : RunFault) : Type 0 where
       pub request : Request
       pub asked : AskFor words (asked_in request)
-      pub ended : EndsRun request read_old read_new written_old written_new fault
+      pub ended : EndsRun held request read_old read_new written_old written_new fault
 
     -- this fault stops the program
     abbrev pub IsStopped : Fault → Type 0
@@ -142,11 +143,12 @@ status_of (Run fault) = run_status_of fault
 abbrev pub Says : {T : Type 0} → Option (List ℕ) → Option (List ℕ) → Result T WriteFailed → List ℕ → Type 0
 Says old new told text = MatchResult told (λ _. Appends old new text) (λ _. WritesFront old new text)
 
-module _ (words : Result Args Error) (read_old read_new written_old written_new said_old said_new : Option (List ℕ)) where
+module _ (held : Held) (words : Result Args Error)
+    (read_old read_new written_old written_new said_old said_new : Option (List ℕ)) where
   -- the program does what the words ask for: the status tells the finding, 0 or 5, and nothing is said
   pub record EndsWell (ending : Ending) : Type 0 where
     pub finding : Finding
-    pub done : IsDone words read_old read_new written_old written_new finding
+    pub done : IsDone held words read_old read_new written_old written_new finding
     pub status : ending.status ≡ status_of_finding finding
     pub told : ending.told ≡ Ok tt
     pub unsaid : Keeps said_old said_new
@@ -154,7 +156,7 @@ module _ (words : Result Args Error) (read_old read_new written_old written_new 
   -- a fault stops the program: it ends with the fault's status and says what it was
   pub record EndsByFault (ending : Ending) : Type 0 where
     pub fault : Fault
-    pub stopped : IsStopped words read_old read_new written_old written_new fault
+    pub stopped : IsStopped held words read_old read_new written_old written_new fault
     pub status : ending.status ≡ status_of fault
     pub said : Says said_old said_new ending.told (fault_line fault)
 

@@ -1,18 +1,24 @@
 -- What a run writes for what it reads.
-use Rattle.std.specs.Prelude.{◌≡◌, ◌≢◌, ℕ, List, Option}
+use Rattle.std.specs.Prelude.{◌≡◌, ◌≢◌, ℕ, List, Option, Some, None}
 use Rattle.std.specs.Io.KnownBytes.{Keeps}
+use Rattle.std.specs.String.{string_bytes}
+use Rattle.std.specs.declared.alloc.Global.{Global}
+use Rattle.std.specs.declared.string.String.{String}
 use Rattle.iloc_ops.specs.declared.file.Block.{Block}
 use Rattle.iloc_text.specs.Files as files
 use Rattle.iloc_rows.specs.declared.proposal.Proposal.{Proposal}
+use Rattle.iloc_rows.specs.declared.fault.RowsFault.{RowsFault}
 use Rattle.iloc_rows.specs.Submissions as submissions
 use Rattle.iloc_args.specs.declared.request.Request.{Request}
 use Rattle.iloc_args.specs.declared.request.Task.{Task}
 use Rattle.iloc_args.specs.declared.request.Task.TheVariants as task
 use Rattle.iloc_farm.specs.declared.fault.FarmFault.TheVariants as farm
 use Rattle.iloc_farm.specs.declared.fault.RunFault.{RunFault}
-use Rattle.iloc_farm.specs.declared.fault.RunFault.TheVariants.{ReadFailed, Text, Rows, Farm, WriteFailed}
+use Rattle.iloc_farm.specs.declared.fault.RunFault.TheVariants.{ReadFailed, Text, Rows, Task as of_task, Farm, WriteFailed}
+use Rattle.iloc_farm.specs.declared.fault.TaskFault.{TaskFault}
 use Rattle.iloc_farm.specs.declared.commands.Finding.{Finding}
 use Rattle.iloc_farm.specs.declared.commands.Finding.TheVariants.{Passed}
+use Rattle.iloc_farm.specs.Apart.{AreRefusedApart, HasNoTask, Held, ReadsApart}
 use Rattle.iloc_farm.specs.Commands.Check.{ListsChecked}
 use Rattle.iloc_farm.specs.Commands.Counts.{IsCountEntry}
 use Rattle.iloc_farm.specs.Commands.Explain.{IsExplainEntry}
@@ -67,12 +73,43 @@ pub record Lists (request : Request) (old new : Option (List ℕ)) (finding : Fi
   pub read : ReadsInput old new input
   pub listed : ListsInput request input finding text
 
+-- a task was read from a text of which this is known, and rows apart from it, and the text is what is said of them, with
+-- this finding
+pub record ListsApart (known : Option (List ℕ)) (request : Request) (old new : Option (List ℕ)) (finding : Finding)
+    (text : List ℕ) : Type 0 where
+  pub blocks : List Block
+  pub proposals : List Proposal
+  pub read : ReadsApart known old new blocks proposals
+  pub checked : ListsChecked request.latencies (initial_memory request) blocks proposals finding text
+
+-- The request lists this text of what was read, with this finding: as a check for which a file is named of that file and,
+-- apart from it, of rows, else of one input.
+abbrev pub ListsAs : Task → Option (String Global) → Held → Request → Option (List ℕ) → Option (List ℕ) → Finding → List ℕ
+    → Type 0
+ListsAs task.Check (Some name) held request old new finding text =
+    ListsApart (held (string_bytes name)) request old new finding text
+ListsAs task.Check None held request old new finding text = Lists request old new finding text
+ListsAs _ file held request old new finding text = Lists request old new finding text
+
+abbrev pub ListsFrom : Held → Request → Option (List ℕ) → Option (List ℕ) → Finding → List ℕ → Type 0
+ListsFrom held request old new finding text = ListsAs request.task request.task_file held request old new finding text
+
 -- the bytes that were read are refused for this fault
 pub record Refuses {F : Type 0} (is_refused : List ℕ → F → Type 0) (old new : Option (List ℕ)) (fault : F)
     : Type 0 where
   pub input : List ℕ
   pub read : ReadsInput old new input
   pub refused : is_refused input fault
+
+-- the bytes that were read are refused in a check: as blocks with rows, or as rows for the blocks of the file that is named
+abbrev pub RefusesRows : Held → Option (String Global) → Option (List ℕ) → Option (List ℕ) → RowsFault → Type 0
+RefusesRows held None old new fault = Refuses submissions.IsRefused old new fault
+RefusesRows held (Some name) old new fault = AreRefusedApart (held (string_bytes name)) old new fault
+
+-- why the file that is named is no task
+abbrev pub RefusesTask : Held → Option (String Global) → TaskFault → Type 0
+RefusesTask held None fault = ⊥
+RefusesTask held (Some name) fault = HasNoTask (held (string_bytes name)) fault
 
 -- the bytes that were read denote a file
 pub record ReadsFile (old new : Option (List ℕ)) : Type 0 where
@@ -87,17 +124,22 @@ IsFarmed task.Schedule = Unit {0}
 IsFarmed task.Counts = Unit {0}
 IsFarmed _ = ⊥
 
--- What holds where a run of the request ends with this fault: a check reads blocks with rows, the others read a file. A
--- worker that can't be started is a fault only where the file was read.
-abbrev pub EndsRun : Request → Option (List ℕ) → Option (List ℕ) → Option (List ℕ) → Option (List ℕ) → RunFault → Type 0
-EndsRun request read_old read_new written_old written_new ReadFailed = Keeps written_old written_new
-EndsRun request read_old read_new written_old written_new (Text fault) =
+-- What holds where a run of the request ends with this fault: a check reads blocks with rows, or a task and rows, the others
+-- read a file. Of a bad task no row is read. A worker that can't be started is a fault only where the file was read.
+abbrev pub EndsRun : Held → Request → Option (List ℕ) → Option (List ℕ) → Option (List ℕ) → Option (List ℕ) → RunFault
+    → Type 0
+EndsRun held request read_old read_new written_old written_new ReadFailed = Keeps written_old written_new
+EndsRun held request read_old read_new written_old written_new (Text fault) =
     (request.task ≢ task.Check) × Refuses files.IsRefused read_old read_new fault × Keeps written_old written_new
-EndsRun request read_old read_new written_old written_new (Rows fault) =
-    (request.task ≡ task.Check) × Refuses submissions.IsRefused read_old read_new fault × Keeps written_old written_new
-EndsRun request read_old read_new written_old written_new (Farm farm.NoThread) =
+EndsRun held request read_old read_new written_old written_new (Rows fault) =
+    (request.task ≡ task.Check) × RefusesRows held request.task_file read_old read_new fault
+    × Keeps written_old written_new
+EndsRun held request read_old read_new written_old written_new (of_task fault) =
+    (request.task ≡ task.Check) × RefusesTask held request.task_file fault × Keeps read_old read_new
+    × Keeps written_old written_new
+EndsRun held request read_old read_new written_old written_new (Farm farm.NoThread) =
     IsFarmed request.task × ReadsFile read_old read_new × Keeps written_old written_new
-EndsRun request read_old read_new written_old written_new (Farm farm.NoMemory) = Keeps written_old written_new
-EndsRun request read_old read_new written_old written_new WriteFailed =
-    (finding : Finding) × (text : List ℕ) × Lists request read_old read_new finding text
+EndsRun held request read_old read_new written_old written_new (Farm farm.NoMemory) = Keeps written_old written_new
+EndsRun held request read_old read_new written_old written_new WriteFailed =
+    (finding : Finding) × (text : List ℕ) × ListsFrom held request read_old read_new finding text
     × WritesFront written_old written_new text

@@ -4,5 +4,6 @@ pub mod Joined
 pub mod Listed
 pub mod Reading
 pub mod OfInput
+pub mod OfTask
 pub mod Limits
 pub mod Checking

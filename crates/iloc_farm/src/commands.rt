@@ -1,7 +1,7 @@
 //! The commands: what each lists of what is read, and what it finds.
 ghost use Rattle.std.specs.Prelude.{◌≡◌, IfErr, IfOk};
 ghost use Rattle.iloc_farm.specs.Fault.{finding_of, status_of_finding};
-ghost use Rattle.iloc_farm.specs.Run.{Lists};
+ghost use Rattle.iloc_farm.specs.Run.{ListsFrom};
 ghost use Rattle.iloc_farm.specs.Steps.OfInput.{EndsReading};
 
 mod check;
@@ -17,6 +17,7 @@ use crate::farmed::listed_by_workers;
 use crate::fault::RunFault;
 use crate::lister::listed_as_read;
 use crate::listing::text::Listing;
+use crate::texts::Texts;
 use check::checked;
 use counts::CountLister;
 use explain::ExplainLister;
@@ -81,16 +82,18 @@ impl Listed {
     }
 }
 
-/// What the request lists of what the reader gives.
-pub(crate) fn list<H: Threads + Wait + Sync, R: Read>(
+/// What the request lists of what the reader gives and, where it names a file of blocks, of that text.
+pub(crate) fn list<H: Threads + Wait + Sync, T: Texts, R: Read>(
     rt: &H,
     alloc: Global,
+    texts: &T,
     reader: &mut R,
     request: &Request,
 ) -> Result<Listed, RunFault>
-    ensures ok { IfOk result (λ listed.
-        Lists request.now (R.remaining reader.old) (R.remaining reader.new) listed.finding listed.text) }
-    ensures err { IfErr result (EndsReading request.now (R.remaining reader.old) (R.remaining reader.new)) }
+    ensures ok { IfOk result (λ listed. ListsFrom (T.held texts.now) request.now
+        (R.remaining reader.old) (R.remaining reader.new) listed.finding listed.text) }
+    ensures err { IfErr result (EndsReading (T.held texts.now) request.now
+        (R.remaining reader.old) (R.remaining reader.new)) }
 {
     match request.task {
         Task::Run => {
@@ -117,6 +120,6 @@ pub(crate) fn list<H: Threads + Wait + Sync, R: Read>(
             let text = listed_as_read::<GraphLister, R>(alloc, reader, request)?;
             Ok(Listed::of_file(text))
         }
-        Task::Check => checked(alloc, reader, request),
+        Task::Check => checked(alloc, texts, reader, request),
     }
 }

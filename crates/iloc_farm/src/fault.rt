@@ -35,6 +35,37 @@ impl Display for FarmFault {
 
 impl Error for FarmFault {}
 
+/// Why there is no task, whose blocks are in a text of their own.
+#[derive(Clone, Copy, Debug, Drop, PartialEq, Eq)]
+pub enum TaskFault {
+    /// There is no text of that name.
+    NoFile,
+    /// It could not be opened.
+    NotOpened,
+    /// A read of it failed, as of a folder.
+    ReadFailed,
+    /// It is refused; its lines are counted by themselves. Want of memory is never told here.
+    Text(RowsFault),
+}
+
+impl Display for TaskFault {
+    ghost use Rattle.std.specs.Prelude.{Some};
+    ghost use Rattle.iloc_farm.specs.Fault.{task_text};
+
+    ghost output = { λ fault. Some (task_text fault) };
+
+    fn fmt<W: fmt::Write>(&self, f: &mut Formatter<W>) -> fmt::Result {
+        match self {
+            TaskFault::NoFile => f.write_str("task: no such file"),
+            TaskFault::NotOpened => f.write_str("task: opening failed"),
+            TaskFault::ReadFailed => f.write_str("task: reading failed"),
+            TaskFault::Text(fault) => write!(f, "task: {fault}"),
+        }
+    }
+}
+
+impl Error for TaskFault {}
+
 /// Why a run of a request failed.
 #[derive(Clone, Copy, Debug, Drop, PartialEq, Eq)]
 pub enum RunFault {
@@ -44,6 +75,8 @@ pub enum RunFault {
     Text(ReadFault),
     /// The input of a check is no blocks with rows. Want of memory is never told here.
     Rows(RowsFault),
+    /// The task is none, or it could not be read.
+    Task(TaskFault),
     /// The work failed, or memory was wanting, also while the input was read.
     Farm(FarmFault),
     /// A write or the flush failed.
@@ -61,6 +94,7 @@ impl Display for RunFault {
             RunFault::ReadFailed => f.write_str("reading failed"),
             RunFault::Text(fault) => write!(f, "{fault}"),
             RunFault::Rows(fault) => write!(f, "{fault}"),
+            RunFault::Task(fault) => write!(f, "{fault}"),
             RunFault::Farm(fault) => write!(f, "{fault}"),
             RunFault::WriteFailed => f.write_str("writing failed"),
         }
@@ -76,9 +110,10 @@ pub fn run_status(fault: &RunFault) -> u8
     match fault {
         RunFault::Farm(_)
         | RunFault::Text(ReadFault::NoMemory)
-        | RunFault::Rows(RowsFault::Read(ReadFault::NoMemory)) => 3,
-        RunFault::Text(_) | RunFault::Rows(_) => 1,
-        RunFault::ReadFailed | RunFault::WriteFailed => 4,
+        | RunFault::Rows(RowsFault::Read(ReadFault::NoMemory))
+        | RunFault::Task(TaskFault::Text(RowsFault::Read(ReadFault::NoMemory))) => 3,
+        RunFault::Text(_) | RunFault::Rows(_) | RunFault::Task(TaskFault::Text(_)) => 1,
+        RunFault::Task(_) | RunFault::ReadFailed | RunFault::WriteFailed => 4,
     }
 }
 

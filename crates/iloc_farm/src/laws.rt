@@ -1,5 +1,5 @@
 //! Laws of listings, as contracts of functions that do nothing.
-ghost use Rattle.iloc_farm.specs.Laws.{ChecksIgnoreWorkers, GreedySchedulesCanBeListed};
+ghost use Rattle.iloc_farm.specs.Laws.{ChecksIgnoreWorkers, GreedySchedulesCanBeListed, HandInsDontChangeTheTask};
 ghost use Rattle.iloc_farm.specs.Laws.{ListingsIgnoreWorkers, PassedChecksKeepOutcomes};
 ghost use Rattle.iloc_farm.specs.Laws.{SimulatingListsRuns, Status0MeansTheSame};
 
@@ -28,6 +28,13 @@ pub fn passed_checks_keep_outcomes()
 /// the blocks and rows that were read.
 pub fn status_0_means_the_same()
     ensures { Status0MeansTheSame }
+{}
+
+/// Whatever is handed in, the blocks that are judged are those of the task's file, where one is named.
+///
+/// Promise: a hand-in can't change the task.
+pub fn hand_ins_dont_change_the_task()
+    ensures { HandInsDontChangeTheTask }
 {}
 
 /// The greedy schedules of blocks within the limits are as many as the blocks, and their cycles

@@ -11,14 +11,16 @@ mod lister;
 mod listing;
 mod program;
 mod reading;
+mod texts;
 mod workers;
 
 pub use commands::Finding;
 pub use farm::{BlockJobs, collect_schedules, schedule_all};
-pub use fault::{FarmFault, RunFault, run_status};
+pub use fault::{FarmFault, RunFault, TaskFault, run_status};
 pub use lister::initial_memory;
 pub use listing::schedules_text;
 pub use listing::writing::{WriteFailed, write_text};
 pub use program::{Ending, run, run_program};
 pub use reading::{InputFault, MOST_READ, read_input};
+pub use texts::Texts;
 pub use workers::work_all;

@@ -5,11 +5,12 @@ ghost use Rattle.std.specs.Vec.Iter.{into_iter_items};
 ghost use Rattle.iloc_args.specs.Asked.{asked_in};
 ghost use Rattle.iloc_farm.specs.Program.{AskFor, Ends, IsDone, IsStopped, MakeNone, Says};
 ghost use Rattle.iloc_farm.specs.Program.{named_line, words_line};
-ghost use Rattle.iloc_farm.specs.Run.{EndsRun, Lists};
+ghost use Rattle.iloc_farm.specs.Run.{EndsRun, ListsFrom};
 
 use crate::commands::{Finding, Listed, list};
 use crate::fault::{RunFault, run_status};
 use crate::listing::writing::{WriteFailed, write_text};
+use crate::texts::Texts;
 use arrayvec::ArrayString;
 use iloc_args::{LineFault, Request, line_status, parse_line};
 use std::alloc::{AllocError, Global};
@@ -90,22 +91,23 @@ impl From<WriteFailed> for Fault {
 
 /// Runs the program on its words, the first of which is its own name: writes what they ask for to
 /// `writer`, or what stopped it to `faults`. Where it wrote what they ask for, its status is 0, or 5
-/// where a check failed.
+/// where a check failed. `texts` opens the file of blocks that they may name.
 ///
 /// An error in place of the words means that one of them is no text, or want of memory.
-pub fn run_program<H: Threads + Wait + Sync, R: Read, W: Write, F: Write>(
+pub fn run_program<H: Threads + Wait + Sync, T: Texts, R: Read, W: Write, F: Write>(
     rt: &H,
     alloc: Global,
     words: io::Result<Args>,
+    texts: &T,
     reader: &mut R,
     writer: &mut W,
     faults: &mut F,
 ) -> Ending
-    ensures { Ends words (R.remaining reader.old) (R.remaining reader.new)
+    ensures { Ends (T.held texts.now) words (R.remaining reader.old) (R.remaining reader.new)
         (W.contents writer.old) (W.contents writer.new)
         (F.contents faults.old) (F.contents faults.new) result }
 {
-    match serve(rt, alloc, words, reader, writer) {
+    match serve(rt, alloc, words, texts, reader, writer) {
         Ok(finding) => Ending {
             status: finding.status(),
             told: Ok(()),
@@ -118,46 +120,49 @@ pub fn run_program<H: Threads + Wait + Sync, R: Read, W: Write, F: Write>(
 }
 
 /// Reads an input, writes what the request lists of it, and answers what was found. For `Check` the
-/// input is blocks with rows, else it is a file, of which nothing is judged. For `Run`, `Simulate` and
+/// input is blocks with rows or, where the request names a file, rows for that file's blocks, which
+/// are read first; else it is a file, of which nothing is judged. For `Run`, `Simulate` and
 /// `Check` each block starts with the request's memory; for `Schedule` and `Counts` the request's
 /// workers are threads.
 ///
 /// The whole listing is made before the first byte is written. After `WriteFailed` a front of it was
 /// written, after any other fault nothing.
-pub fn run<H: Threads + Wait + Sync, R: Read, W: Write>(
+pub fn run<H: Threads + Wait + Sync, T: Texts, R: Read, W: Write>(
     rt: &H,
     alloc: Global,
+    texts: &T,
     reader: &mut R,
     writer: &mut W,
     request: &Request,
 ) -> Result<Finding, RunFault>
     ensures ok { IfOk result (λ finding. (text : List ℕ) ×
-        Lists request.now (R.remaining reader.old) (R.remaining reader.new) finding text ×
+        ListsFrom (T.held texts.now) request.now (R.remaining reader.old) (R.remaining reader.new) finding text ×
         Appends (W.contents writer.old) (W.contents writer.new) text) }
-    ensures err { IfErr result (EndsRun request.now
+    ensures err { IfErr result (EndsRun (T.held texts.now) request.now
         (R.remaining reader.old) (R.remaining reader.new)
         (W.contents writer.old) (W.contents writer.new)) }
 {
-    let Listed { text, finding } = list(rt, alloc, reader, request)?;
+    let Listed { text, finding } = list(rt, alloc, texts, reader, request)?;
     text.write_to(writer)?;
     Ok(finding)
 }
 
 /// Does what the words ask for, and answers what was found.
-fn serve<H: Threads + Wait + Sync, R: Read, W: Write>(
+fn serve<H: Threads + Wait + Sync, T: Texts, R: Read, W: Write>(
     rt: &H,
     alloc: Global,
     words: io::Result<Args>,
+    texts: &T,
     reader: &mut R,
     writer: &mut W,
 ) -> Result<Finding, Fault>
-    ensures ok { IfOk result (IsDone words (R.remaining reader.old) (R.remaining reader.new)
+    ensures ok { IfOk result (IsDone (T.held texts.now) words (R.remaining reader.old) (R.remaining reader.new)
         (W.contents writer.old) (W.contents writer.new)) }
-    ensures err { IfErr result (IsStopped words (R.remaining reader.old) (R.remaining reader.new)
+    ensures err { IfErr result (IsStopped (T.held texts.now) words (R.remaining reader.old) (R.remaining reader.new)
         (W.contents writer.old) (W.contents writer.new)) }
 {
     match request_of(alloc, words) {
-        Ok(request) => Ok(run(rt, alloc, reader, writer, &request)?),
+        Ok(request) => Ok(run(rt, alloc, texts, reader, writer, &request)?),
         Err(LineFault::Help(text)) => {
             write_text(writer, text.as_bytes())?;
             Ok(Finding::Passed)

@@ -7,6 +7,7 @@ ghost use Rattle.iloc_farm.specs.Schedules.{IsWithinLimits};
 ghost use Rattle.iloc_farm.specs.Steps.OfInput.{EndsFile, EndsText};
 
 mod parts;
+pub(crate) mod task;
 
 use crate::fault::RunFault;
 use iloc_args::Request;

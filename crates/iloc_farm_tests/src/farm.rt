@@ -1,3 +1,4 @@
+mod apart;
 mod end_to_end;
 mod fakes;
 mod listings;

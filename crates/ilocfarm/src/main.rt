@@ -2,10 +2,29 @@
 #![tactic(auto)]
 
 use iloc_args::parse_line;
-use iloc_farm::run_program;
+use iloc_farm::{Texts, run_program};
 use std::env;
-use std::io::IsTerminal;
+use std::fs::{self, File};
+use std::io::{self, IsTerminal};
 use std::process::ExitCode;
+
+/// The files of the system. What is in them isn't known.
+#[derive(Drop)]
+struct Files<'a> {
+    rt: &'a HostRuntime,
+}
+
+impl<'a> Texts for Files<'a> {
+    ghost use Rattle.std.specs.Prelude.{None};
+
+    type Text = File;
+
+    ghost held = { λ _ _. None };
+
+    fn open_text(&self, name: &str) -> io::Result<File> {
+        fs::open(self.rt, name)
+    }
+}
 
 /// Said on a terminal, where nothing else shows that the program waits.
 const READS_TERMINAL: &str =
@@ -35,6 +54,7 @@ fn main(rt: HostRuntime) -> ExitCode {
         &rt,
         rt.alloc(),
         env::args(&rt),
+        &Files { rt: &rt },
         &mut rt.stdin(),
         &mut rt.stdout(),
         &mut rt.stderr(),

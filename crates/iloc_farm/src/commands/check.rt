@@ -6,8 +6,10 @@ ghost use Rattle.iloc_rows.specs.declared.fault.RowsFault.TheVariants.{Read as r
 ghost use Rattle.iloc_text.specs.declared.fault.ReadFault.TheVariants.{NoMemory as no_memory};
 ghost use Rattle.iloc_args.specs.declared.request.Task.TheVariants as task;
 ghost use Rattle.iloc_farm.specs.Commands.Check.{ListsChecked};
-ghost use Rattle.iloc_farm.specs.Run.{Lists};
-ghost use Rattle.iloc_farm.specs.Steps.OfInput.{EndsReading};
+ghost use Rattle.iloc_farm.specs.Commands.Run.{initial_memory};
+ghost use Rattle.iloc_farm.specs.Run.{Lists, ListsApart, ListsFrom};
+ghost use Rattle.iloc_farm.specs.Steps.OfInput.{EndsReading, EndsSubmission};
+ghost use Rattle.iloc_farm.specs.Steps.OfTask.{EndsApart};
 
 use crate::commands::totals::Totals;
 use crate::commands::{Finding, Listed};
@@ -16,6 +18,8 @@ use crate::lister::initial_memory;
 use crate::listing::push_block_head;
 use crate::listing::text::Listing;
 use crate::reading::read_input;
+use crate::reading::task::submission_apart;
+use crate::texts::Texts;
 use iloc_args::Request;
 use iloc_judge::push_check;
 use iloc_meaning::Memory;
@@ -77,8 +81,22 @@ fn checked_text(
     })
 }
 
+/// What a request lists of the proposals for some blocks.
+fn listed_rows(alloc: Global, submission: Submission, request: &Request) -> Result<Listed, NoMemory>
+    requires { AreWithinLimits submission.blocks submission.proposals }
+    ensures { IfOk result (λ listed. ListsChecked request.now.latencies (initial_memory request.now)
+        submission.blocks submission.proposals listed.finding listed.text) }
+{
+    let memory = initial_memory(alloc, request)?;
+    let checked = checked_text(alloc, submission, &request.latencies, &memory)?;
+    Ok(Listed {
+        text: Listing::of_text(alloc, checked.text)?,
+        finding: checked.finding,
+    })
+}
+
 /// What is said of the rows that an input proposes for its blocks.
-pub(crate) fn checked<R: Read>(
+fn checked_whole<R: Read>(
     alloc: Global,
     reader: &mut R,
     request: &Request,
@@ -86,13 +104,45 @@ pub(crate) fn checked<R: Read>(
     requires { request.now.task ≡ task.Check }
     ensures ok { IfOk result (λ listed.
         Lists request.now (R.remaining reader.old) (R.remaining reader.new) listed.finding listed.text) }
-    ensures err { IfErr result (EndsReading request.now (R.remaining reader.old) (R.remaining reader.new)) }
+    ensures err { IfErr result (EndsSubmission (R.remaining reader.old) (R.remaining reader.new)) }
 {
     let submission = submission_of(alloc, read_input(alloc, reader)?)?;
-    let memory = initial_memory(alloc, request)?;
-    let checked = checked_text(alloc, submission, &request.latencies, &memory)?;
-    Ok(Listed {
-        text: Listing::of_text(alloc, checked.text)?,
-        finding: checked.finding,
-    })
+    Ok(listed_rows(alloc, submission, request)?)
+}
+
+/// What is said of the rows that an input proposes for the blocks of the task with this name.
+fn checked_apart<T: Texts, R: Read>(
+    alloc: Global,
+    texts: &T,
+    name: &str,
+    reader: &mut R,
+    request: &Request,
+) -> Result<Listed, RunFault>
+    ensures ok { IfOk result (λ listed. ListsApart (T.held texts.now name.now) request.now
+        (R.remaining reader.old) (R.remaining reader.new) listed.finding listed.text) }
+    ensures err { IfErr result
+        (EndsApart (T.held texts.now name.now) (R.remaining reader.old) (R.remaining reader.new)) }
+{
+    let submission = submission_apart(alloc, texts, name, reader)?;
+    Ok(listed_rows(alloc, submission, request)?)
+}
+
+/// What is said of the rows that are proposed for blocks: for those of the input or, where the request names a file, for
+/// those of that file alone.
+pub(crate) fn checked<T: Texts, R: Read>(
+    alloc: Global,
+    texts: &T,
+    reader: &mut R,
+    request: &Request,
+) -> Result<Listed, RunFault>
+    requires { request.now.task ≡ task.Check }
+    ensures ok { IfOk result (λ listed. ListsFrom (T.held texts.now) request.now
+        (R.remaining reader.old) (R.remaining reader.new) listed.finding listed.text) }
+    ensures err { IfErr result (EndsReading (T.held texts.now) request.now
+        (R.remaining reader.old) (R.remaining reader.new)) }
+{
+    match &request.task_file {
+        None => checked_whole(alloc, reader, request),
+        Some(name) => checked_apart(alloc, texts, name.as_str(), reader, request),
+    }
 }

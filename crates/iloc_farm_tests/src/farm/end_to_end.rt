@@ -1,4 +1,4 @@
-use super::fakes::{Sink, Source, giving, taking_all};
+use super::fakes::{EMPTY_SHELF, Sink, Source, giving, taking_all};
 use super::sample::{GIVES_7, STORES_7, TWO_OUTPUTS};
 use crate::asked::asked;
 use crate::asserted::assert_list;
@@ -55,7 +55,14 @@ fn assert_read<H: Abort + AllocGlobal + Threads + Wait + Sync>(
         turns: 0,
     };
     let mut writer = taking_all(rt.alloc());
-    let found = run(rt, rt.alloc(), &mut reader, &mut writer, request);
+    let found = run(
+        rt,
+        rt.alloc(),
+        &EMPTY_SHELF,
+        &mut reader,
+        &mut writer,
+        request,
+    );
     assert!(rt; (found, reader.turns) == (answer, turns));
     assert_list(rt, &writer.taken, written);
 }
@@ -75,7 +82,14 @@ fn reads_no_further_than_the_end(rt: HostRuntime) -> Result<(), Fail> {
     let input = vec![in rt.alloc(); b'\n'; 80_000]?;
     let mut reader = giving(&input);
     let mut writer = taking_all(rt.alloc());
-    run(&rt, rt.alloc(), &mut reader, &mut writer, &request)?;
+    run(
+        &rt,
+        rt.alloc(),
+        &EMPTY_SHELF,
+        &mut reader,
+        &mut writer,
+        &request,
+    )?;
     assert!(rt; reader.turns == 4);
     Ok(())
 }
@@ -126,7 +140,14 @@ fn assert_written<H: Abort + AllocGlobal + Threads + Wait + Sync>(
         flushes,
         ..taking_all(rt.alloc())
     };
-    let found = run(rt, rt.alloc(), &mut giving(input), &mut writer, request);
+    let found = run(
+        rt,
+        rt.alloc(),
+        &EMPTY_SHELF,
+        &mut giving(input),
+        &mut writer,
+        request,
+    );
     assert!(rt; (found, writer.flushed) == (answer, flushed));
     assert_list(rt, &writer.taken, written);
 }
@@ -168,6 +189,7 @@ fn keeps_the_status_where_a_fault_cannot_be_told(rt: HostRuntime) -> Result<(), 
             &rt,
             rt.alloc(),
             Ok(words),
+            &EMPTY_SHELF,
             &mut reader,
             &mut writer,
             &mut faults,

@@ -1,4 +1,5 @@
 //! Readers and writers that are slow or fail.
+use iloc_farm::Texts;
 use std::alloc::Global;
 use std::io::{Error, ErrorKind, Read, Result as IoResult, Write};
 
@@ -35,6 +36,39 @@ pub(crate) fn giving(bytes: &[u8]) -> Source<'_> {
         turns: 0,
     }
 }
+
+/// Holds one text, or none. Whoever asks for any is given it.
+#[derive(Drop)]
+pub(crate) struct Shelf<'a> {
+    /// The text, or why it can't be opened.
+    pub text: Result<&'a [u8], ErrorKind>,
+    /// How it ends.
+    pub end: Option<ErrorKind>,
+}
+
+impl<'a> Texts for Shelf<'a> {
+    ghost use Rattle.std.specs.Prelude.{None};
+
+    type Text = Source<'a>;
+
+    ghost held = { λ _ _. None };
+
+    fn open_text(&self, _name: &str) -> IoResult<Source<'a>> {
+        match self.text {
+            Ok(bytes) => Ok(Source {
+                end: self.end,
+                ..giving(bytes)
+            }),
+            Err(kind) => Err(Error::from(kind)),
+        }
+    }
+}
+
+/// Holds nothing.
+pub(crate) const EMPTY_SHELF: Shelf = Shelf {
+    text: Err(ErrorKind::NotFound),
+    end: None,
+};
 
 /// Takes `room` bytes, at most `at_once` a turn, and then fails.
 #[derive(Drop)]

@@ -6,12 +6,12 @@ use Rattle.iloc_farm.proofs.program.serve.Goals as goal
 pub returns-in_err-run-in-Ok-clause-err : goal.returns-in_err-run-in-Ok-clause-err
 returns-in_err-run-in-Ok-clause-err g c =
     made_err c.from_residual.result _ _ c.from_residual.ensures.1
-    (run_stopped _ c.in-Ok.request _ _ _ _ c.in_err-run-in-Ok.field-0.0 c.in-Ok.ensures.ok
+    (run_stopped _ _ c.in-Ok.request _ _ _ _ c.in_err-run-in-Ok.field-0.0 c.in-Ok.ensures.ok
     c.in_err-run-in-Ok.ensures.err)
 
 pub returns-in_err-write_text-in-Err-Help-clause-err : goal.returns-in_err-write_text-in-Err-Help-clause-err
 returns-in_err-write_text-in-Err-Help-clause-err g c =
-    let help = is_help c.args.words (g.R.Read.remaining c.args.reader.now) c.in-Err-Help.field-0 c.in-Err-Help.text _ _
+    let help = is_help (g.T.Texts.held c.args.texts.now) c.args.words (g.R.Read.remaining c.args.reader.now) c.in-Err-Help.field-0 c.in-Err-Help.text _ _
     c.in-Err-Help.ensures.err c.in-Err-Help.field-0-is c.in-Err-Help.text-is c.as_bytes.ensures.value in
     made_err c.from_residual-in_err-write_text-in-Err-Help.result _ _
     c.from_residual-in_err-write_text-in-Err-Help.ensures.1
@@ -31,7 +31,7 @@ returns-in_ok-run-in-Ok-clause-ok g c = let done = c.in_ok-run-in-Ok.ensures.ok 
 
 pub returns-in_ok-write_text-in-Err-Help-clause-ok : goal.returns-in_ok-write_text-in-Err-Help-clause-ok
 returns-in_ok-write_text-in-Err-Help-clause-ok g c =
-    let help = is_help c.args.words (g.R.Read.remaining c.args.reader.now) c.in-Err-Help.field-0 c.in-Err-Help.text _ _
+    let help = is_help (g.T.Texts.held c.args.texts.now) c.args.words (g.R.Read.remaining c.args.reader.now) c.in-Err-Help.field-0 c.in-Err-Help.text _ _
     c.in-Err-Help.ensures.err c.in-Err-Help.field-0-is c.in-Err-Help.text-is c.as_bytes.ensures.value in
     record {
       text = c.as_bytes.result.now;

@@ -1,0 +1,44 @@
+-- A task that is read from a text of its own.
+use Rattle.std.proofs.Common.{◌≡◌, ◌∙◌, ◌++◌, ◌≤◌, ℕ, List, None, Option, Some, ap, append-nil, arith, length, refl, subst, sym}
+use Rattle.std.specs.Io.KnownBytes.{Consumes, IsAtEnd}
+use Rattle.iloc_ops.specs.Limits.{MAX_INPUT}
+use Rattle.iloc_ops.specs.declared.file.Block.{Block}
+use Rattle.iloc_text.specs.Files.{Denotes}
+use Rattle.iloc_text.proofs.Answer.{one_answer}
+use Rattle.iloc_rows.specs.Laws.{AreWithinLimits, SubmissionsApartAreWithinLimits}
+use Rattle.iloc_rows.specs.Submissions.{DenoteApart, ProposeApart}
+use Rattle.iloc_rows.specs.declared.proposal.Proposal.{Proposal}
+use Rattle.iloc_farm.specs.Apart.{Holds, ReadsApart, ReadsTask}
+use Rattle.iloc_farm.specs.Device.{ReadsInput}
+use Rattle.iloc_farm.specs.Laws.{HandInsDontChangeTheTask}
+
+-- what was read is all that the text holds, where it is no longer than a text may be
+whole_text : (known task : List ℕ) → Holds (Some known) task → length task ≤ MAX_INPUT → task ≡ known
+whole_text known task held short = go held.left held.read.taken (held.read.whole (omega arith))
+  where
+    go : (left : Option (List ℕ)) → Consumes (Some known) left task → IsAtEnd left → task ≡ known
+    go None taken end = absurd taken
+    go (Some rest) taken end = sym (taken ∙ (ap (λ bytes. task ++ bytes) end ∙ append-nil task))
+
+pub hand_ins_dont_change_the_task : HandInsDontChangeTheTask
+hand_ins_dont_change_the_task known old new old' new' blocks blocks' proposals proposals' one other =
+    let file : Denotes one.task blocks = one.denoted.task.file in
+    let file' : Denotes other.task blocks' = other.denoted.task.file in
+    let P : List ℕ → Type 0 = λ text. Denotes text blocks in
+    let Q : List ℕ → Type 0 = λ text. Denotes text blocks' in
+    one_answer.file known blocks blocks' (subst P (whole_text known one.task one.held file.short) file)
+    (subst Q (whole_text known other.task other.held file'.short) file')
+
+-- rows that propose for the blocks of a task were read apart from it
+pub apart_read : (known old new : Option (List ℕ)) (blocks lent : List Block) (rows bytes : List ℕ)
+    (proposals : List Proposal) → SubmissionsApartAreWithinLimits → ReadsTask known blocks → ReadsInput old new rows
+    → lent ≡ blocks → bytes ≡ rows → ProposeApart lent bytes proposals
+    → ReadsApart known old new blocks proposals × AreWithinLimits blocks proposals
+apart_read known old new blocks lent rows bytes proposals limits task read same whole propose =
+    let P : List Block → Type 0 = λ bs. ProposeApart bs bytes proposals in
+    let Q : List ℕ → Type 0 = λ text. ProposeApart blocks text proposals in
+    let denoted : DenoteApart task.input rows blocks proposals =
+    record { task = task.task; rows = subst Q whole (subst P same propose) } in (
+      record { task = task.input; held = task.held; rows = rows; read = read; denoted = denoted },
+      limits task.input rows blocks proposals denoted,
+    )
