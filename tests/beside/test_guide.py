@@ -47,7 +47,7 @@ class Guide(Place):
         self.expect("mark", self.call("examples/class/mark", "class", "3", "4"), (0, (
             b"ann  9  same cycles 1 ours 1 least 1; same cycles 2 ours 1 least 1\n"
             b"bob  0  same cycles 1 ours 1 least 1; differs cycles 2 ours 1 least 1, output 1: 3 for 4\n"
-            b"cid  0  ilocfarm: line 5: not understood\n"), b""))
+            b"cid  0  ilocfarm: line 1: not understood\n"), b""))
 
     def test_marks_nothing_by_mistake(self):
         """A program, a folder or files that are missing stop the scripts, and nobody gets a mark."""
@@ -68,7 +68,9 @@ class Guide(Place):
         self.write("class/ann.rows", ROWS % 1028)
         self.write("class/ann.iloc", TWO)
         for script, file, text, words, said in (
-                ("mark", "task.iloc", TWO, ["x"], "class/ann.rows is not marked: error: invalid value 'x'"),
+                ("mark", "task.iloc", TWO, ["x"], "class/task.iloc: error: invalid value 'x'"),
+                ("mark", "task.iloc", b"output 1\n", [], "class/task.iloc faults"),
+                ("mark", "task.iloc", b"// none\n", [], "class/task.iloc: ilocfarm: task: no blocks"),
                 ("mark", "task.iloc", b"add\n", [], "class/task.iloc: ilocfarm: line 1: not understood"),
                 ("grade", "tests", b"3 x:4\n", [], "class/tests: 3 x: error: invalid value 'x'")):
             self.write(f"class/{file}", text)

@@ -1,9 +1,10 @@
 """The cases of stored/.
 
-NAME.in is an input, and NAME.args the words after the program's name, one a line (none: `run`). NAME.status is the
-exit status (none: 0), NAME.out what standard output must have (none: some text), NAME.err what standard error must
-have (none: nothing where the status is 0, else some text). NAME.TAG.out is what other words must print of the same
-input: those of NAME.TAG.args (none: the one word TAG).
+NAME.in is an input, and NAME.args the words after the program's name, one a line (none: `run`). Where there is a file
+NAME.task, the words `--task` and its path follow them. NAME.status is the exit status (none: 0), NAME.out what standard
+output must have (none: some text), NAME.err what standard error must have (none: nothing where the status is 0, else
+some text). NAME.TAG.out is what other words must print of the same input: those of NAME.TAG.args (none: the one word
+TAG).
 
 From these follow more cases, since a rule of the program says so:
 - NAME/spaced has blanks round each line end and no last line end, which change no answer;
@@ -34,6 +35,8 @@ def stored_cases():
     for name in sorted(f[:-3] for f in os.listdir(CASES) if f.endswith(".in")):
         base = os.path.join(CASES, name)
         words = words_of(base + ".args", b"run\n")
+        if os.path.exists(base + ".task"):
+            words += ["--task", base + ".task"]
         given = read(base + ".in", b"")
         status = int(read(base + ".status", b"0"))
         out, err = read(base + ".out", None), read(base + ".err", None if status else b"")

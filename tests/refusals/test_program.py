@@ -12,7 +12,7 @@ from dataclasses import dataclass, field
 
 from bench import inputs
 from forms import USUAL
-from harness.program import TESTED, ending, told
+from harness.program import TESTED, ending, stored, told
 from harness.suite import Check, table
 from oracle.judge import proposed
 from oracle.reader import read
@@ -92,6 +92,7 @@ def runs(name, given, rows):
     yield Asked(["explain"], name, given)
     yield Asked(["graph"], name, given)
     yield Asked(["check", "--at", "0", "5", "6"], name, given + rows)
+    yield Asked(["check", "--task", stored(f"{name}.iloc", given)], f"rows for {name}", rows)
     for command in ("schedule", "counts"):
         for workers in (1, 8):
             yield Asked([command, "--workers", str(workers)], name, given, workers)
@@ -101,6 +102,7 @@ def few_runs():
     yield from runs("3 blocks", SMALL, ROWS)
     yield Asked(["counts"], "a bad line", BAD)
     yield Asked(["check"], "a bad row", NO_ROW)
+    yield Asked(["check", "--task", stored("bad.iloc", BAD)], "a bad task", ROWS)
     yield Asked(["run", "--help"], "nothing", b"")
     yield Asked(["run", "--at", "2"], "nothing", b"")
     yield Asked([], "nothing", b"")

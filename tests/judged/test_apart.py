@@ -1,0 +1,110 @@
+"""Tasks in files of their own (`--task`): what is said of rows is what is said of them after their blocks, and what
+tries to change the task, or to pass without solving it, doesn't pass."""
+import os
+
+from harness.program import TOP, Run, ending, folder, stored, told
+from harness.suite import Check, table
+from judged.test_rows import LISTED, SAME, UNLIKE, VERDICTS, WORDS, spread
+from limits import MOST_BYTES
+
+ROW_STARTS = ("[", "block ", "cycles", "total")
+CLASS = f"{TOP}/examples/class/schedules"
+PASSED, NOT_READ, NO_DEVICE, FAILED = 0, 1, 4, 5
+
+# What students hand in for examples/class/schedules/task.iloc in place of a schedule.
+CHEATS = {
+    "task_of_their_own": b"// mine\noutput 1\n[ output 1 ; nop ]\n",
+    "fault": b"[ output 1 ; nop ]\n",
+    "nothing": b"",
+    "comments": b"// done\n",
+    "empty_row": b"[ nop ; nop ]\n",
+    "claim": b"cycles 1\n",
+    "head": b"block 1 both\n",
+    "another_label": b"both:\n[ nop ; nop ]\n",
+    "end_of_the_task": b"total 0\nboth:\noutput 1\n[ output 1 ; nop ]\n",
+    "block_without_a_head": b"[ nop ; nop ]\nblock 1 both\n[ nop ; nop ]\n",
+    "second_block": b"block 2 mine\n[ nop ; nop ]\n",
+    "words_stored_over": b"[ loadI 1024 => r0 ; nop ]\n[ store r0 => r0 ; nop ]\n",
+    "outputs_alone": b"[ output 1032 ; nop ]\n[ output 1036 ; nop ]\n",
+    "constants": b"[ loadI 7 => r1 ; loadI 1032 => r2 ]\n[ store r1 => r2 ; nop ]\n" + b"[ nop ; nop ]\n" * 4
+                 + b"[ output 1032 ; nop ]\n[ output 1036 ; nop ]\n",
+    "operation": b"nop\n",
+    "zero_byte": b"\x00[ nop ; nop ]\n",
+}
+
+
+def parts(text):
+    """A text, cut before its first row."""
+    lines = text.split("\n")
+    at = next((i for i, line in enumerate(lines) if line.strip().startswith(ROW_STARTS)), len(lines))
+    return "\n".join(lines[:at]), "\n".join(lines[at:])
+
+
+def as_together(text):
+    task, rows = (part.encode("latin-1") for part in parts(text))
+    together = ending(WORDS, text.encode("latin-1"))
+    apart = ending([*WORDS, "--task", stored("task.iloc", task)], rows)
+    if apart != together:
+        yield f"{text!r}: {told(apart)} in place of {told(together)}"
+
+
+def all_as_together():
+    for pairs in (SAME, UNLIKE, VERDICTS):
+        for block, theirs, *_ in pairs.values():
+            yield from as_together(block + spread(theirs))
+    for text, *_ in LISTED.values():
+        yield from as_together(text)
+
+
+def is_refused(given):
+    """Anything but a pass, with no byte listed where the rows aren't read."""
+    end = ending(["check", "--task", f"{CLASS}/task.iloc", "3", "4"], given)
+    if end[0] not in (NOT_READ, FAILED) or end[0] == NOT_READ and end[1]:
+        yield told(end)
+
+
+def cut_anywhere():
+    """A hand-in that is cut passes nowhere before its last row."""
+    with open(f"{CLASS}/ada.rows", "rb") as file:
+        rows = file.read()
+    for end in range(rows.index(b"[ output 1036")):
+        yield from is_refused(rows[:end])
+
+
+def faults():
+    """Of each text its own; of a bad task no row is read."""
+    task, none = stored("task.iloc", b"output 0\n"), os.path.join(folder(), "none")
+    long = stored("long", b" " * (MOST_BYTES + 1))
+    most = stored("most", b"output 0\n".ljust(MOST_BYTES, b" "))
+    bad_rows = b"output 0\n"
+    for name, file, rows, said, status in (
+            ("most", most, bad_rows, "line 1: not understood", NOT_READ),
+            ("long", long, bad_rows, "task: input longer than 16777216 bytes", NOT_READ),
+            ("long_rows", task, b" " * (MOST_BYTES + 1), "input longer than 16777216 bytes", NOT_READ),
+            ("missing", none, bad_rows, "task: no such file", NO_DEVICE),
+            ("under_a_file", f"{task}/x", bad_rows, "task: opening failed", NO_DEVICE),
+            ("folder", folder(), bad_rows, "task: reading failed", NO_DEVICE),
+            ("memory", "/proc/self/mem", bad_rows, "task: reading failed", NO_DEVICE),
+            ("empty", "/dev/null", bad_rows, "task: no blocks", NOT_READ),
+            ("no_name", "", bad_rows, None, None)):
+        out = f"ilocfarm: {said}\n".encode() if said else None
+        if status is None:
+            yield Check(f"apart/{name}", fails_somehow, file, rows)
+        else:
+            yield Run(f"apart/{name}", ["check", "--task", file], rows, b"", out, status)
+
+
+def fails_somehow(file, rows):
+    end = ending(["check", "--task", file], rows)
+    if end[0] not in (2, NO_DEVICE) or end[1] or not end[2]:
+        yield told(end)
+
+
+def apart_cases():
+    yield Check("apart/as_together", all_as_together)
+    yield from (Check(f"apart/cheat_{name}", is_refused, rows) for name, rows in CHEATS.items())
+    yield Check("apart/cut_anywhere", cut_anywhere)
+    yield from faults()
+
+
+load_tests = table(apart_cases)
