@@ -14,3 +14,4 @@ pub mod EarliestCycles
 pub mod Kept
 pub mod InOrder
 pub mod GivenSources
+pub mod SameIssues

@@ -97,3 +97,13 @@ pub record IsScheduleUnder (lat : Latencies) (block ops : List Op) (rows : List 
 abbrev pub IsByTheBook : Latencies → List Op → List Op → List Row → Type 0
 IsByTheBook lat block ops rows =
     (origin : ℕ → ℕ) × (partner : ℕ → ℕ) × IsScheduleUnder lat (without_nops block) ops rows origin partner
+
+-- Rows in other words
+
+-- the operations that a row issues, on unit 0 and on unit 1
+abbrev pub issued_in : List Op → Row → Option Op × Option Op
+issued_in ops row = (option_map (op_at ops) row.zero, option_map (op_at ops) row.one)
+
+-- in each cycle they issue the same operations on the same units, whatever their numbers are
+abbrev pub IssueTheSame : List Op → List Row → List Op → List Row → Type 0
+IssueTheSame ops rows ops' rows' = map (issued_in ops) rows ≡ map (issued_in ops') rows'

@@ -5,10 +5,11 @@ use Rattle.iloc_meaning.specs.Outcome.{outcome}
 use Rattle.iloc_timed.specs.declared.latencies.Latencies.{Latencies}
 use Rattle.iloc_timed.specs.declared.row.Row.{Row}
 use Rattle.iloc_timed.specs.Cycles.{cycles}
+use Rattle.iloc_timed.specs.Rows.{AreNumbered}
 use Rattle.iloc_timed.specs.Timed.{timed_outcome}
 use Rattle.iloc_sched.specs.Lawful.{IsLawful}
 use Rattle.iloc_sched.specs.Least.{least}
-use Rattle.iloc_validation.specs.ByTheBook.{IsByTheBook}
+use Rattle.iloc_validation.specs.ByTheBook.{IsByTheBook, IssueTheSame}
 
 -- on every memory they have the block's outcome
 abbrev pub ByTheBookKeepsTheOutcome : Type 0
@@ -24,3 +25,9 @@ ByTheBookTakesTheLeast = (lat : Latencies) (block ops : List Op) (rows : List Ro
 abbrev pub LawfulSchedulesAreByTheBook : Type 0
 LawfulSchedulesAreByTheBook = (lat : Latencies) (block ops : List Op) (rows : List Row)
     → IsLawful lat block ops rows → IsByTheBook lat block ops rows
+
+-- so are rows that issue the same, with other numbers for the operations
+abbrev pub OwnRowsAreByTheBook : Type 0
+OwnRowsAreByTheBook = (lat : Latencies) (block ops ops' : List Op) (rows rows' : List Row)
+    → IsLawful lat block ops rows → AreNumbered ops' rows' → IssueTheSame ops rows ops' rows'
+    → IsByTheBook lat block ops' rows'

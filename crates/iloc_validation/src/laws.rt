@@ -1,17 +1,31 @@
 //! Laws of schedules by the book, as contracts of functions that do nothing.
-ghost use Rattle.iloc_validation.specs.Laws.{ByTheBookKeepsTheOutcome, ByTheBookTakesTheLeast, LawfulSchedulesAreByTheBook};
+ghost use Rattle.iloc_validation.specs.Laws.{ByTheBookKeepsTheOutcome, ByTheBookTakesTheLeast};
+ghost use Rattle.iloc_validation.specs.Laws.{LawfulSchedulesAreByTheBook, OwnRowsAreByTheBook};
 
 /// Rows that are a schedule of a block by the book have the block's outcome, on every memory.
+///
+/// Promise: rows by the book do what the block does, on every memory, whatever registers they use.
 pub fn by_the_book_keeps_the_outcome()
     ensures { ByTheBookKeepsTheOutcome }
 {}
 
 /// They take no fewer cycles than `least` of the block.
+///
+/// Promise: no rows by the book take fewer cycles than the bound.
 pub fn by_the_book_takes_the_least()
     ensures { ByTheBookTakesTheLeast }
 {}
 
 /// Each lawful schedule of a block is one by the book.
+///
+/// Promise: each lawful schedule is by the book.
 pub fn lawful_schedules_are_by_the_book()
     ensures { LawfulSchedulesAreByTheBook }
+{}
+
+/// So are rows that issue what a lawful schedule issues, however its operations are numbered.
+///
+/// Promise: a lawful schedule that was written down and read again is by the book.
+pub fn own_rows_are_by_the_book()
+    ensures { OwnRowsAreByTheBook }
 {}
