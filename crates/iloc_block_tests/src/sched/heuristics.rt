@@ -43,7 +43,7 @@ fn counts_who_waits_once(rt: HostRuntime) -> Result<(), Fail> {
     let ops = rename(rt.alloc(), &block_of(rt.alloc(), TWICE)?)?;
     let times = latencies(USUAL)?;
     let found = priorities_by(rt.alloc(), &ops, &times, Heuristic::Successors)?;
-    assert!(rt; found.as_slice() == [3, 3, 1, 3, 2, 1, 0]);
+    assert!(rt; found.as_slice() == [3, 3, 1, 3, 2, 1, 0].as_slice());
     Ok(())
 }
 
