@@ -1,0 +1,134 @@
+-- What one more line does to the counts of blocks and operations.
+use Rattle.std.proofs.Common.{◌≡◌, ◌∙◌, ℕ, ◌+◌, ◌<◌, ◌≤◌, Bool, true, false, ◌==◌, List, [], ◌∷◌, ◌++◌, length, refl, sym, ap, Option, Some, None, is_some, option_to_list, length-append, inl, inr, eq-eqb, ne_eqb, arith}
+use Rattle.std.specs.List.{filter_map}
+use Rattle.std.proofs.lemmas.List.Elements.{filter_map-append}
+use Rattle.iloc_ops.specs.declared.op.Op.{Op}
+use Rattle.iloc_text.specs.Files.{Reading, block_count, ops_of}
+use Rattle.iloc_text.proofs.Counts.{count-label, count-empty, count-op, count-first, none_or_some}
+use Rattle.iloc_text.proofs.BlockOps.{ops_of-here, filter_map-one, no_more}
+use Rattle.iloc_lint.specs.Faults.{empty, ops_in}
+use Rattle.iloc_lint.specs.declared.counts.Counts.{Counts}
+use Rattle.iloc_lint.specs.Steps.Counted.{Count, grown}
+
+-- how many operations the last block has
+abbrev pub last_in : List Reading → ℕ
+last_in rs = length (ops_of (block_count rs) rs)
+
+-- a line with a label, or the first with an operation, starts a block, which has its operation alone
+pub record Starts (rs : List Reading) (r : Reading) : Type 0 where
+  pub blocks : block_count (rs ++ r ∷ []) ≡ block_count rs + 1
+  pub last : last_in (rs ++ r ∷ []) ≡ length (option_to_list r.op)
+
+-- any other adds to the last block
+pub record Goes (rs : List Reading) (r : Reading) : Type 0 where
+  pub blocks : block_count (rs ++ r ∷ []) ≡ block_count rs
+  pub last : last_in (rs ++ r ∷ []) ≡ last_in rs + length (option_to_list r.op)
+
+last_here : (k : ℕ) (rs : List Reading) (r : Reading) → block_count (rs ++ r ∷ []) ≡ k
+    → last_in (rs ++ r ∷ []) ≡ length (ops_of k rs) + length (option_to_list r.op)
+last_here k rs r e = ap (λ n. length (ops_of n (rs ++ r ∷ []))) e ∙ ap length (ops_of-here k rs r e)
+    ∙ length-append (ops_of k rs) (option_to_list r.op)
+
+starts_by : (rs : List Reading) (r : Reading) → block_count (rs ++ r ∷ []) ≡ block_count rs + 1 → Starts rs r
+starts_by rs r e = record {
+  blocks = e;
+  last = let here = last_here (block_count rs + 1) rs r e in
+      let none = ap length ((no_more rs).1 (block_count rs + 1) (omega arith)) in omega arith;
+}
+
+pub label_starts : (rs : List Reading) (r : Reading) (name : List ℕ) → r.label ≡ Some name → Starts rs r
+label_starts rs r name h = starts_by rs r (count-label rs r name h)
+
+pub first_starts : (rs : List Reading) (r : Reading) (op : Op) → r.label ≡ None → r.op ≡ Some op → block_count rs ≡ 0
+    → Starts rs r
+first_starts rs r op h g none = starts_by rs r (let one = count-first rs r op h g none in omega arith)
+
+goes_by : (rs : List Reading) (r : Reading) → block_count (rs ++ r ∷ []) ≡ block_count rs → Goes rs r
+goes_by rs r e = record { blocks = e; last = last_here (block_count rs) rs r e }
+
+pub empty_goes : (rs : List Reading) (r : Reading) → r.label ≡ None → r.op ≡ None → Goes rs r
+empty_goes rs r h g = goes_by rs r (count-empty rs r h g)
+
+pub op_goes : (rs : List Reading) (r : Reading) (op : Op) → r.label ≡ None → r.op ≡ Some op → 0 < block_count rs
+    → Goes rs r
+op_goes rs r op h g some = goes_by rs r (count-op rs r op h g some)
+
+-- all operations
+pub ops_more : (rs : List Reading) (r : Reading) → length (ops_in (rs ++ r ∷ [])) ≡ length (ops_in rs)
+    + length (option_to_list r.op)
+ops_more rs r = ap length (filter_map-append (λ (s : Reading). s.op) rs (r ∷ [])
+    ∙ ap (λ o. ops_in rs ++ o) (filter_map-one (λ (s : Reading). s.op) r))
+    ∙ length-append (ops_in rs) (option_to_list r.op)
+
+pub ops_few : (rs : List Reading) → length (ops_in rs) ≤ length rs
+ops_few [] = omega arith
+ops_few (r ∷ rs) = by r.op (ops_few rs)
+  where
+    by : (op : Option Op) → length (ops_in rs) ≤ length rs
+        → length (ops_in (record { label = r.label; op = op } ∷ rs)) ≤ length (r ∷ rs)
+    by None few = omega arith
+    by (Some op) few = omega arith
+
+-- the counts with one more line
+
+-- what follows from counts that are said to have grown
+record HasGrown (rs : List Reading) (g : ℕ × ℕ) : Type 0 where
+  blocks : block_count rs ≡ g.0
+  last : last_in rs ≡ g.1
+
+grown_by : (before : List Reading) (counts : Counts) (label : Option (List ℕ)) (op : Option Op) → Count before counts
+    → HasGrown (before ++ record { label = label; op = op } ∷ []) (grown counts.blocks counts.last (is_some label) (is_some op))
+grown_by before counts (Some name) op count = by op (label_starts before (record { label = Some name; op = op }) name refl)
+  where
+    by : (op : Option Op) → Starts before (record { label = Some name; op = op })
+        → HasGrown (before ++ record { label = Some name; op = op } ∷ [])
+        (grown counts.blocks counts.last true (is_some op))
+    by None s = let b = count.blocks in record { blocks = omega (arith, s.blocks); last = omega (arith, s.last) }
+    by (Some o) s = let b = count.blocks in record { blocks = omega (arith, s.blocks); last = omega (arith, s.last) }
+grown_by before counts None None count =
+    let s = empty_goes before (record { label = None; op = None }) refl refl in
+    let b = count.blocks in
+    let l = count.last in
+    record { blocks = omega (arith, s.blocks); last = omega (arith, s.last) }
+grown_by before counts None (Some op) count = elim (none_or_some (block_count before)) [
+  | inl none ↦ (let s = first_starts before (record { label = None; op = Some op }) op refl refl none in
+      let is : (counts.blocks == 0) ≡ true = eq-eqb _ _ (count.blocks ∙ none) in
+      rw is (record { blocks = omega (arith, s.blocks); last = omega (arith, s.last) }))
+  | inr some ↦ (let s = op_goes before (record { label = None; op = Some op }) op refl refl some in
+      let b = count.blocks in
+      let l = count.last in
+      let is : (counts.blocks == 0) ≡ false = ne_eqb _ _ (λ z. omega arith) in
+      rw is (record { blocks = omega (arith, s.blocks); last = omega (arith, s.last) }))
+]
+
+pub counted : (before : List Reading) (counts : Counts) (label : Option (List ℕ)) (op : Option Op) (labelled : Bool)
+    (g : ℕ × ℕ) → Count before counts → labelled ≡ is_some label
+    → g ≡ grown counts.blocks counts.last labelled (is_some op)
+    → (block_count (before ++ record { label = label; op = op } ∷ []) ≡ g.0)
+    × (last_in (before ++ record { label = label; op = op } ∷ []) ≡ g.1)
+counted before counts label op labelled g count same is =
+    let found = grown_by before counts label op count in
+    let all : grown counts.blocks counts.last (is_some label) (is_some op) ≡ g =
+    ap (λ l. grown counts.blocks counts.last l (is_some op)) (sym same) ∙ sym is in
+    (found.blocks ∙ ap (λ p. p.0) all, found.last ∙ ap (λ p. p.1) all)
+
+-- an empty line changes none
+pub empty_counted : (before : List Reading) (counts : Counts) → Count before counts → Count (before ++ empty ∷ []) counts
+empty_counted before counts count =
+    let s = empty_goes before empty refl refl in
+    let b = count.blocks in
+    let l = count.last in
+    let o = count.ops in
+    record {
+      blocks = omega (arith, s.blocks);
+      last = omega (arith, s.last);
+      ops = omega (arith, ops_more before empty);
+    }
+
+pub none_counted : block_count [] ≡ 0
+unfolding block_count
+none_counted = refl
+
+pub none_last : last_in [] ≡ 0
+unfolding ops_of
+none_last = refl

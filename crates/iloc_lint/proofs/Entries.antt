@@ -1,0 +1,35 @@
+-- The entries of refusals, one after another.
+use Rattle.std.proofs.Common.{◌≡◌, ◌∙◌, ℕ, ◌+◌, ◌<◌, List, [], ◌∷◌, ◌++◌, length, map, take, get_or, refl, sym, ap, subst, append_assoc, append-nil}
+use Rattle.std.proofs.lemmas.List.{map-append, take_more}
+use Rattle.iloc_lint.specs.Faults.{Refusal}
+use Rattle.iloc_lint.specs.Refused.{refusal_of, refusals_of}
+use Rattle.iloc_lint.specs.declared.refused.Refused.{Refused}
+use Rattle.iloc_lint.specs.Listing.{IsEntry, AreEntries}
+
+one_more : (refusals : List Refusal) (r : Refusal) (text entry : List ℕ) → AreEntries refusals text
+    → IsEntry r.line r.fault entry → AreEntries (refusals ++ r ∷ []) (text ++ entry)
+one_more [] r text entry are is = (entry, [], is, refl, ap (λ t. t ++ entry) are ∙ sym (append-nil entry))
+one_more (x ∷ xs) r text entry are is = (
+  are.0,
+  are.1 ++ entry,
+  are.2,
+  one_more xs r are.1 entry are.3 is,
+  ap (λ t. t ++ entry) are.4 ∙ append_assoc are.0 are.1 entry,
+)
+
+-- the text so far has the entries of the first refusals
+abbrev pub Has : List Refused → ℕ → List ℕ → List ℕ → Type 0
+Has faults n start text = (entries : List ℕ) × AreEntries (refusals_of (take n faults)) entries × (text ≡ start ++ entries)
+
+pub entry_added : (faults : List Refused) (n : ℕ) (d : Refused) (start text new entry : List ℕ) → n < length faults
+    → Has faults n start text → IsEntry (get_or faults n d).line.now (get_or faults n d).fault entry
+    → new ≡ text ++ entry → Has faults (n + 1) start new
+entry_added faults n d start text new entry within has is added =
+    let whole : refusals_of (take (n + 1) faults) ≡ refusals_of (take n faults) ++ refusal_of (get_or faults n d) ∷ [] =
+    ap refusals_of (take_more faults n d within)
+    ∙ map-append refusal_of (take n faults) (get_or faults n d ∷ []) in (
+      has.0 ++ entry,
+      subst (λ rs. AreEntries rs (has.0 ++ entry)) (sym whole)
+          (one_more (refusals_of (take n faults)) (refusal_of (get_or faults n d)) has.0 entry has.1 is),
+      added ∙ ap (λ t. t ++ entry) has.2 ∙ append_assoc start has.0 entry,
+    )

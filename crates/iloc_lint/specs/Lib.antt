@@ -1,0 +1,5 @@
+pub mod Faults
+pub mod Refused
+pub mod Laws
+pub mod Listing
+pub mod Steps

@@ -1,0 +1,76 @@
+-- What is listed of a text that is read for its faults.
+use Rattle.std.specs.Prelude.{◌≡◌, ℕ, ◌+◌, ◌-◌, ◌≤◌, nat_lt, Bool, ◌&&◌, ◌==◌, if◌then◌else◌, List, [], ◌∷◌, ◌++◌, length, take, drop, codes}
+use Rattle.std.specs.Fmt.{decimal}
+use Rattle.std.specs.List.{flat_map}
+use Rattle.iloc_text.specs.declared.fault.ReadFault.{ReadFault}
+use Rattle.iloc_text.specs.declared.fault.ReadFault.TheVariants.{InputTooLong, BadLine, NumberTooLarge, TooManyBlocks, TooManyOperations, NoMemory}
+use Rattle.iloc_text.specs.Fault.{fault_text, of_line}
+use Rattle.iloc_lint.specs.Faults.{Refusal, IsLinted}
+
+-- a byte in one column: a tab as a space, and what can't be printed as `?`
+abbrev pub shown_byte : ℕ → ℕ
+shown_byte c = if c == 9 then 32 else (if nat_lt 31 c && nat_lt c 127 then c else 63)
+
+abbrev pub shown : List ℕ → List ℕ
+shown bytes = flat_map (λ c. shown_byte c ∷ []) bytes
+
+-- `..` where something is left out
+abbrev pub cut : Bool → List ℕ
+cut left_out = if left_out then codes ".." else []
+
+-- the line from this place on, 64 bytes of it at most
+abbrev pub text_line : List ℕ → ℕ → List ℕ
+text_line line from =
+    codes "    " ++ cut (nat_lt 0 from) ++ shown (take 64 (drop from line)) ++ cut (nat_lt 64 (length (drop from line)))
+    ++ codes "\n"
+
+-- as many spaces as come before a caret at most
+abbrev pub spaces : List ℕ
+spaces = codes "                                        "
+
+-- a caret below the byte at a place
+abbrev pub caret_line : ℕ → ℕ → List ℕ
+caret_line from at = codes "    " ++ (if nat_lt 0 from then codes "  " else []) ++ take (at - from) spaces ++ codes "^\n"
+
+-- what is said of line n: what is wrong, its text, and a caret below the byte at this place, of which 40 bytes come before it
+-- at most
+abbrev pub line_entry : ℕ → List ℕ → List ℕ → ℕ → List ℕ
+line_entry n what line at =
+    of_line n (codes ": " ++ what ++ codes "\n") ++ text_line line (at - 40) ++ caret_line (at - 40) at
+
+-- The entry of a line that is refused. What is said of one that has no reading is free.
+abbrev pub IsEntry : List ℕ → ReadFault → List ℕ → Type 0
+IsEntry line InputTooLong entry = entry ≡ fault_text InputTooLong ++ codes "\n"
+IsEntry line (BadLine n) entry =
+    (what : List ℕ) × (at : ℕ) × (at ≤ length line) × (entry ≡ line_entry n what line at)
+IsEntry line (NumberTooLarge n) entry =
+    (at : ℕ) × (at ≤ length line) × (entry ≡ line_entry n (codes "a number above 2147483647") line at)
+IsEntry line (TooManyBlocks n) entry = entry ≡ line_entry n (codes "more than 65535 blocks") line 0
+IsEntry line (TooManyOperations n) entry = entry ≡ line_entry n (codes "more than 10000 operations in a block") line 0
+IsEntry line NoMemory entry = ⊥
+
+-- an entry for each
+abbrev pub AreEntries : List Refusal → List ℕ → Type 0
+AreEntries [] text = text ≡ []
+AreEntries (refusal ∷ refusals) text =
+    (entry : List ℕ) × (rest : List ℕ) × IsEntry refusal.line refusal.fault entry × AreEntries refusals rest
+    × (text ≡ entry ++ rest)
+
+-- the last line
+abbrev pub total_line : ℕ → ℕ → ℕ → List ℕ
+total_line blocks ops faults =
+    codes "blocks " ++ decimal blocks ++ codes " operations " ++ decimal ops ++ codes " faults " ++ decimal faults
+    ++ codes "\n"
+
+-- The listing of a text that reads or doesn't: an entry for each line that is refused, then hints, which are free, and what
+-- the text holds.
+pub record ListsLint (input : List ℕ) (reads : Bool) (listing : List ℕ) : Type 0 where
+  pub faults : List Refusal
+  pub blocks : ℕ
+  pub ops : ℕ
+  pub linted : IsLinted input faults blocks ops
+  pub entries : List ℕ
+  pub are_entries : AreEntries faults entries
+  pub hints : List ℕ
+  pub listed : listing ≡ entries ++ hints ++ total_line blocks ops (length faults)
+  pub finds : reads ≡ (length faults == 0)

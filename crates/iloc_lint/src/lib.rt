@@ -1,0 +1,18 @@
+//! What is wrong with a text: every line that the grammar refuses.
+#![tactic(auto)]
+
+mod alone;
+mod counts;
+mod faults;
+mod hints;
+mod judging;
+pub mod laws;
+mod listing;
+mod place;
+mod refused;
+mod shown;
+mod wording;
+
+pub use faults::{Linted, lint};
+pub use listing::{Report, report_of};
+pub use refused::Refused;

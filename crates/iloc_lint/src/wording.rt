@@ -1,0 +1,172 @@
+//! What is wrong with a line, in words.
+ghost use Rattle.std.specs.Prelude.{◌≤◌, length};
+
+use crate::place::{
+    Item, OPCODES, Place, blanks_at, is_word_byte, label_at, operands_at, place_of, word_at,
+};
+use crate::shown::push_shown;
+use iloc_ops::Opcode;
+use iloc_text::NoMemory;
+use std::alloc::Global;
+
+/// Opcodes of the book and of other machines that this language doesn't have.
+const FOREIGN: [&[u8]; 31] = [
+    b"div", b"divI", b"rsubI", b"rdivI", b"and", b"andI", b"or", b"orI", b"xor", b"xorI", b"not",
+    b"neg", b"loadAO", b"storeAO", b"cloadAI", b"cload", b"cstore", b"i2i", b"c2c", b"c2i", b"i2c",
+    b"cbr", b"jump", b"jumpI", b"tbl", b"phi", b"halt", b"cmp_LT", b"cmp_EQ", b"mul", b"mov",
+];
+
+/// The longest part of a word that is shown.
+const MOST_QUOTED: usize = 24;
+
+/// The opcode that is written so.
+fn opcode_of(word: &[u8]) -> Option<Opcode> {
+    OPCODES.iter().copied().find(|opcode| opcode.text() == word)
+}
+
+/// Whether one of the two, but for the case of letters, is the other with one byte more at its end.
+fn is_near(word: &[u8], text: &[u8]) -> bool {
+    match (word, text) {
+        ([front @ .., _], _) if front.eq_ignore_ascii_case(text) => true,
+        (_, [front @ .., _]) => word.len() > 1 && word.eq_ignore_ascii_case(front),
+        _ => false,
+    }
+}
+
+/// The opcode that may be meant: one that differs in the case of letters alone, else one that is near.
+fn meant_by(word: &[u8]) -> Option<Opcode> {
+    if let Some(opcode) = OPCODES
+        .iter()
+        .copied()
+        .find(|opcode| word.eq_ignore_ascii_case(opcode.text()))
+    {
+        return Some(opcode);
+    }
+    OPCODES
+        .iter()
+        .copied()
+        .find(|opcode| is_near(word, opcode.text()))
+}
+
+/// Appends the start of a text in quotes.
+fn push_quoted(what: &mut Vec<u8>, text: &[u8]) -> Result<(), NoMemory> {
+    what.push(b'"')?;
+    push_shown(what, &text[..text.len().min(MOST_QUOTED)])?;
+    if text.len() > MOST_QUOTED {
+        what.extend_from_slice(b"..")?;
+    }
+    what.push(b'"')?;
+    Ok(())
+}
+
+/// Where the word starts that goes on at a place; the place itself where none does.
+fn word_start(line: &[u8], at: usize) -> usize
+    requires { at ≤ length line.now }
+    ensures { result ≤ at }
+{
+    let mut start = at;
+    while start > 0 && is_word_byte(line[start - 1]) {
+        start -= 1;
+    }
+    start
+}
+
+/// Appends what is found at a place: a word, an arrow, a byte, or the end of the line.
+fn push_found(what: &mut Vec<u8>, line: &[u8], at: usize) -> Result<(), NoMemory>
+    requires { at ≤ length line.now }
+{
+    what.extend_from_slice(b", found ")?;
+    let start = if at > 0 && line[at - 1] == b'/' {
+        at - 1
+    } else {
+        at
+    };
+    let rest = &line[start..];
+    match (word_at(rest), rest) {
+        (_, []) => Ok(what.extend_from_slice(b"the end of the line")?),
+        (0, [b'=', b'>', ..]) => push_quoted(what, b"=>"),
+        (0, [first, ..]) => push_quoted(what, &[*first]),
+        (count, _) => push_quoted(what, &rest[..count]),
+    }
+}
+
+/// What is wanted where an item stops a line, and how many bytes before that place it starts.
+fn wanted(opcode: Opcode, place: &Place) -> (&'static [u8], usize) {
+    match place.item {
+        None => (b"the end of the line", 0),
+        Some((_, Item::Byte(b'r'))) => (b"a register", 0),
+        Some((Some(Item::Byte(b'r')), Item::Number)) => (b"a register", 1),
+        Some((_, Item::Number)) => (b"a number", 0),
+        Some((_, Item::Byte(b','))) => (b"\",\"", 0),
+        Some((_, Item::Byte(b'>'))) => (b"\"=>\"", 1),
+        Some((_, Item::Byte(_))) => (b"\"=>\"", 0),
+        Some((_, Item::Blank | Item::Blanks)) => match opcode {
+            Opcode::LoadI | Opcode::Output => (b"a number", 0),
+            _ => (b"a register", 0),
+        },
+    }
+}
+
+/// What is wrong with a word that is no opcode.
+fn push_no_opcode(what: &mut Vec<u8>, word: &[u8], rest: &[u8]) -> Result<(), NoMemory> {
+    if FOREIGN.iter().any(|foreign| *foreign == word) {
+        push_shown(what, word)?;
+        what.extend_from_slice(b" isn't an operation of this language")?;
+        return Ok(());
+    }
+    what.extend_from_slice(b"no such opcode ")?;
+    push_quoted(what, word)?;
+    if let Some(opcode) = meant_by(word) {
+        what.extend_from_slice(b": ")?;
+        what.extend_from_slice(opcode.text())?;
+        what.extend_from_slice(b"?")?;
+    } else if opcode_of(&rest[..word_at(rest)]).is_some() {
+        what.extend_from_slice(b": a label ends with \":\"")?;
+    }
+    Ok(())
+}
+
+/// What is wrong behind an opcode, whose operands start at this place of the line.
+fn push_operands(
+    what: &mut Vec<u8>,
+    opcode: Opcode,
+    line: &[u8],
+    start: usize,
+) -> Result<(), NoMemory>
+    requires { start ≤ length line.now }
+{
+    let place = operands_at(opcode, &line[start..]);
+    let at = start + place.at;
+    what.extend_from_slice(b"expected ")?;
+    let begun = word_start(line, at);
+    if at < line.len() && is_word_byte(line[at]) && begun < at {
+        what.extend_from_slice(if line[begun] == b'r' {
+            b"a register"
+        } else {
+            b"a number"
+        })?;
+        return push_found(what, line, begun);
+    }
+    let (name, back) = wanted(opcode, &place);
+    what.extend_from_slice(name)?;
+    push_found(what, line, at.saturating_sub(back))
+}
+
+/// What is wrong with a line that has no reading, in words.
+pub fn wording(alloc: Global, line: &[u8]) -> Result<Vec<u8>, NoMemory> {
+    let mut what = Vec::new(alloc);
+    let label = label_at(line);
+    let start = label + blanks_at(&line[label..]);
+    let count = word_at(&line[start..]);
+    let word = &line[start..start + count];
+    if count == 0 {
+        what.extend_from_slice(b"expected an operation or \"//\"")?;
+        push_found(&mut what, line, place_of(line))?;
+    } else if let Some(opcode) = opcode_of(word) {
+        push_operands(&mut what, opcode, line, start + count)?;
+    } else {
+        let rest = &line[start + count..];
+        push_no_opcode(&mut what, word, &rest[blanks_at(rest)..])?;
+    }
+    Ok(what)
+}
