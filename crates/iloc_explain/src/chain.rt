@@ -39,8 +39,9 @@ fn continues(ops: &[Op], latencies: &Latencies, priorities: &[u64], i: usize, j:
 
 /// A longest chain of delays of renamed operations, by their priorities: it starts with the first operation of the
 /// greatest priority, and goes on with the first operation whose delay and priority together are that of the one
-/// before. So the delays and the latency of the last operation together are the greatest priority. It takes time linear
-/// in the number of operations.
+/// before. It takes time linear in the number of operations.
+///
+/// Promise: The chain is that one, and its delays and the latency of its last operation together are the greatest priority.
 pub fn longest_chain(
     alloc: Global,
     ops: &[Op],

@@ -45,6 +45,9 @@ fn unit_of(row: Row, i: usize) -> Unit
 }
 
 /// Explains each operation of a schedule of renamed operations, by their priorities, in the order of their numbers.
+///
+/// Promise: Each operation is listed with its cycle of issue, its unit, its priority, the first cycle at which all that it
+/// waits for is over, and just the operations for which it waited until then.
 pub fn explain(
     alloc: Global,
     schedule: &Schedule,

@@ -7,7 +7,7 @@ use iloc_ops::NoMemory;
 use iloc_timed::Schedule;
 use std::alloc::Global;
 
-/// Notes the cycle of what stands in a slot.
+/// Notes the cycle of what a slot holds.
 fn note(cycles: &mut Vec<usize>, slot: Option<usize>, cycle: usize)
     requires { IfSome slot (λ i. i < length cycles.old.items) }
     ensures { cycles.new.items ≡ with_slot cycles.old.items slot cycle }

@@ -61,7 +61,7 @@ impl Latest {
         }
     }
 
-    /// The cycle at which an operation behind these is ready.
+    /// The cycle at which an operation after these is ready.
     pub(crate) fn ready(&self, op: &Op) -> u64
         ensures { result ≡ ready_after self.now op.now }
     {

@@ -13,7 +13,7 @@ use iloc_sched::{least, priorities};
 use iloc_timed::{Latencies, Schedule, cycles};
 use std::alloc::Global;
 
-/// Appends each number behind this mark.
+/// Appends each number after this mark.
 fn push_marked(text: &mut Vec<u8>, mark: &[u8], numbers: &[usize]) -> Result<(), NoMemory>
     ensures { OnOk result (text.new.items
         ≡ text.old.items ++ flat_map (λ n. mark.now ++ decimal n) numbers.now) }
@@ -48,7 +48,7 @@ fn unit_number(unit: Unit) -> u64
     }
 }
 
-/// Appends the line of operation j, which stands so in the block and is renamed so.
+/// Appends the line of operation j, as the block has it and as it is renamed.
 fn push_explained(
     text: &mut Vec<u8>,
     j: usize,
@@ -85,7 +85,7 @@ fn push_chain(text: &mut Vec<u8>, chain: &[usize]) -> Result<(), NoMemory>
     Ok(text.extend_from_slice(b"\n")?)
 }
 
-/// Appends the lines of all operations of a block that are no `nop`, as they stand and as they are renamed.
+/// Appends the lines of all operations of a block that are no `nop`, as the block has them and as they are renamed.
 fn push_lines(
     text: &mut Vec<u8>,
     block: &[Op],
@@ -112,6 +112,8 @@ fn push_lines(
 
 /// Appends what explains a schedule of a block, whose operations are the block's renamed ones: a line for each
 /// operation, the cycles with their lower bound, and a longest chain of delays.
+///
+/// Promise: What is appended is a text that explains the schedule.
 pub fn push_explanation(
     alloc: Global,
     text: &mut Vec<u8>,

@@ -21,7 +21,7 @@ pub(crate) fn has_delay(ops: &[Op], latencies: &Latencies, i: usize, j: usize, d
         .contains(&delay)
 }
 
-/// Whether operation j waits for operation i for so many cycles.
+/// Whether operation j waits `delay` cycles for operation i.
 fn waits_for(ops: &[Op], latencies: &Latencies, i: usize, j: usize, delay: u64) -> bool
     requires first { i < length ops.now }
     requires second { j < length ops.now }
@@ -30,7 +30,7 @@ fn waits_for(ops: &[Op], latencies: &Latencies, i: usize, j: usize, delay: u64) 
     i < j && has_delay(ops, latencies, i, j, delay)
 }
 
-/// Adds what stands in a slot where operation j waits for it for so many cycles.
+/// Adds what a slot holds where operation j waits `delay` cycles for it.
 fn push_waited(
     waited: &mut Vec<usize>,
     slot: Option<usize>,

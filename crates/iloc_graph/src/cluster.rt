@@ -14,7 +14,7 @@ use iloc_sched::{Pair, priorities, rename};
 use iloc_timed::{Kind, Latencies};
 use std::alloc::Global;
 
-/// Appends what comes before the first block, with the colours of the page.
+/// Promise: Appends what comes before the first block, with the colours of the page.
 pub fn push_opening(text: &mut Vec<u8>) -> Result<(), NoMemory>
     ensures { OnOk result (text.new.items ≡ text.old.items ++ listed.opening) }
 {
@@ -31,15 +31,15 @@ pub fn push_opening(text: &mut Vec<u8>) -> Result<(), NoMemory>
     Ok(())
 }
 
-/// Appends what comes after the last block.
+/// Promise: Appends what comes after the last block.
 pub fn push_closing(text: &mut Vec<u8>) -> Result<(), NoMemory>
     ensures { OnOk result (text.new.items ≡ text.old.items ++ listed.closing) }
 {
     Ok(text.extend_from_slice(b"}\n")?)
 }
 
-/// Appends a number behind these words.
-fn push_behind(text: &mut Vec<u8>, words: &[u8], number: u64) -> Result<(), NoMemory>
+/// Appends words and a number.
+fn push_numbered(text: &mut Vec<u8>, words: &[u8], number: u64) -> Result<(), NoMemory>
     ensures { OnOk result (text.new.items ≡ text.old.items ++ words.now ++ decimal number) }
 {
     text.extend_from_slice(words)?;
@@ -88,8 +88,8 @@ fn push_head(text: &mut Vec<u8>, number: usize, name: Option<&Name>) -> Result<(
     ensures { OnOk result
         (text.new.items ≡ text.old.items ++ listed.head_lines number (option_copied name.entry)) }
 {
-    push_behind(text, b"    subgraph cluster_", number as u64)?;
-    push_behind(text, b" {\n        label=\"block ", number as u64)?;
+    push_numbered(text, b"    subgraph cluster_", number as u64)?;
+    push_numbered(text, b" {\n        label=\"block ", number as u64)?;
     text.extend_from_slice(b" ")?;
     push_name(text, name)?;
     Ok(text.extend_from_slice(b"\";\n")?)
@@ -99,8 +99,8 @@ fn push_head(text: &mut Vec<u8>, number: usize, name: Option<&Name>) -> Result<(
 fn push_node(text: &mut Vec<u8>, number: usize, i: usize) -> Result<(), NoMemory>
     ensures { OnOk result (text.new.items ≡ text.old.items ++ listed.node number i) }
 {
-    push_behind(text, b"b", number as u64)?;
-    push_behind(text, b"_", i as u64)
+    push_numbered(text, b"b", number as u64)?;
+    push_numbered(text, b"_", i as u64)
 }
 
 /// Appends the end of the line of an operation of this kind.
@@ -125,10 +125,10 @@ fn push_operation(
 {
     text.extend_from_slice(b"        ")?;
     push_node(text, number, i)?;
-    push_behind(text, b" [label=\"", i as u64)?;
+    push_numbered(text, b" [label=\"", i as u64)?;
     text.extend_from_slice(b": ")?;
     push_op(text, op)?;
-    push_behind(text, b"\\npriority ", priority)?;
+    push_numbered(text, b"\\npriority ", priority)?;
     push_fill(text, Kind::of(op))
 }
 
@@ -164,7 +164,7 @@ fn push_edge(text: &mut Vec<u8>, number: usize, pair: &Pair) -> Result<(), NoMem
     push_node(text, number, pair.first)?;
     text.extend_from_slice(b" -> ")?;
     push_node(text, number, pair.second)?;
-    push_behind(text, b" [label=\"", pair.delay)?;
+    push_numbered(text, b" [label=\"", pair.delay)?;
     Ok(text.extend_from_slice(b"\"];\n")?)
 }
 
@@ -227,8 +227,10 @@ fn push_chain(text: &mut Vec<u8>, number: usize, chain: &[usize]) -> Result<(), 
 }
 
 /// Appends what draws the block with this number, counted from 1: a cluster with a node for each operation, an edge for
-/// each nearest pair, labelled with its delay, and a longest chain of delays, which is marked. Where memory is refused a
-/// part of it may stand behind the text.
+/// each nearest pair, labelled with its delay, and a longest chain of delays, which is marked. Where an allocation fails a
+/// part of it may follow the text.
+///
+/// Promise: What is appended is a text that draws the block.
 pub fn push_cluster(
     alloc: Global,
     text: &mut Vec<u8>,

@@ -48,6 +48,8 @@ fn push_pairs(
 /// from each result to its uses, from a store to the loads and outputs after it and to the next store, from a load to the
 /// next store, and from an output to the next output and to the stores up to it. Of two operations it has the longest
 /// delay alone. It takes time of order n log n in the number of operations.
+///
+/// Promise: The pairs are just the nearest ones, each once, in that order.
 pub fn nearest_pairs(
     alloc: Global,
     ops: &[Op],

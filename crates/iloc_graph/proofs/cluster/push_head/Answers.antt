@@ -7,7 +7,7 @@ returns c =
       c.in_ok-extend_from_slice-2.ensures.items,
       c.in_ok-push_name.ensures,
       c.in_ok-extend_from_slice.ensures.items,
-      c.in_ok-push_behind-2.ensures,
-      c.in_ok-push_behind.ensures,
+      c.in_ok-push_numbered-2.ensures,
+      c.in_ok-push_numbered.ensures,
     )
     (head_joined c.args.text.now.items _ _ _ _ _ _)

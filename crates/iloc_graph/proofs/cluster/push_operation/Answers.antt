@@ -9,10 +9,10 @@ returns c =
     pushed
     ∙ rw (
       c.of.ensures,
-      c.in_ok-push_behind-2.ensures,
+      c.in_ok-push_numbered-2.ensures,
       c.in_ok-push_op.ensures.ok,
       c.in_ok-extend_from_slice-2.ensures.items,
-      c.in_ok-push_behind.ensures,
+      c.in_ok-push_numbered.ensures,
       c.in_ok-push_node.ensures,
       c.in_ok-extend_from_slice.ensures.items,
     )
