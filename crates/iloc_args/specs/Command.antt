@@ -8,7 +8,7 @@ use Rattle.clap.specs.Simple.{new_shape}
 use Rattle.iloc_meaning.specs.Address.{LAST_ADDRESS}
 use Rattle.iloc_timed.specs.Limits.{LONGEST_LATENCY}
 use Rattle.iloc_args.specs.declared.request.Task.{Task}
-use Rattle.iloc_args.specs.declared.request.Task.TheVariants.{Run, Simulate, Schedule, Counts, Explain, Check, Graph}
+use Rattle.iloc_args.specs.declared.request.Task.TheVariants.{Run, Simulate, Schedule, Counts, Compare, Explain, Check, Graph}
 
 -- `--NAME N`, a number within these bounds, and this one where it is not given
 abbrev pub number_rule : Text → Text → ℕ → ℕ → Rule
@@ -96,12 +96,20 @@ schedule_entry = record {
   rules = workers_rule ∷ latency_rules ++ priority_rule ∷ [];
 }
 
--- `counts [--workers N] [--load N] [--store N] [--mult N] [--priority NAME]`
+-- `counts [--workers N] [--load N] [--store N] [--mult N] [--priority NAME] [--csv]`
 abbrev pub counts_entry : Entry
 counts_entry = record {
   name = codes "counts";
   task = Counts;
-  rules = workers_rule ∷ latency_rules ++ priority_rule ∷ [];
+  rules = workers_rule ∷ latency_rules ++ priority_rule ∷ csv_rule ∷ [];
+}
+
+-- `compare [--workers N] [--load N] [--store N] [--mult N] [--csv]`
+abbrev pub compare_entry : Entry
+compare_entry = record {
+  name = codes "compare";
+  task = Compare;
+  rules = workers_rule ∷ latency_rules ++ csv_rule ∷ [];
 }
 
 -- `explain [--load N] [--store N] [--mult N] [--priority NAME]`
@@ -127,6 +135,7 @@ entries =
     ∷ simulate_entry
     ∷ schedule_entry
     ∷ counts_entry
+    ∷ compare_entry
     ∷ explain_entry
     ∷ check_entry
     ∷ graph_entry

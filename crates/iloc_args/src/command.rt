@@ -2,7 +2,7 @@
 ghost use Rattle.std.specs.Prelude.{IfOk, IsOkAnd, codes};
 ghost use Rattle.clap.specs.Simple.{new_shape};
 ghost use Rattle.clap.specs.Words.{AddsSubcommand};
-ghost use Rattle.iloc_args.specs.Command.{at_rule, check_entry, counts_entry, csv_rule, explain_entry};
+ghost use Rattle.iloc_args.specs.Command.{at_rule, check_entry, compare_entry, counts_entry, csv_rule, explain_entry};
 ghost use Rattle.iloc_args.specs.Command.{farm_app, flag_rule, latency_rule, latency_rules, lawful_rule};
 ghost use Rattle.iloc_args.specs.Command.{priority_rule, run_entry, schedule_entry, simulate_entry};
 ghost use Rattle.iloc_args.specs.Command.{graph_entry};
@@ -298,14 +298,25 @@ fn schedule_command<'a>(alloc: Global) -> Result<Command<'a>, AllocError>
     with_arg(command, priority_arg(alloc))
 }
 
-/// `counts [--workers N] [--load N] [--store N] [--mult N] [--priority NAME]`
+/// `counts [--workers N] [--load N] [--store N] [--mult N] [--priority NAME] [--csv]`
 fn counts_command<'a>(alloc: Global) -> Result<Command<'a>, AllocError>
     ensures { IfOk result (HasApp (app counts_entry)) }
 {
     let about = "Schedule each block, and print how many cycles the schedule takes";
     let usage = "ilocfarm counts [OPTIONS] < BLOCKS";
     let command = with_latencies(alloc, workers_command(alloc, "counts", about, usage));
-    with_arg(command, priority_arg(alloc))
+    let command = with_arg(command, priority_arg(alloc));
+    with_arg(command, csv_arg(alloc))
+}
+
+/// `compare [--workers N] [--load N] [--store N] [--mult N] [--csv]`
+fn compare_command<'a>(alloc: Global) -> Result<Command<'a>, AllocError>
+    ensures { IfOk result (HasApp (app compare_entry)) }
+{
+    let about = "Schedule each block by each priority, and print the cycles beside their bound";
+    let usage = "ilocfarm compare [OPTIONS] < BLOCKS";
+    let command = with_latencies(alloc, workers_command(alloc, "compare", about, usage));
+    with_arg(command, csv_arg(alloc))
 }
 
 /// `explain [--load N] [--store N] [--mult N] [--priority NAME]`
@@ -371,6 +382,7 @@ pub(crate) fn farm_command<'a>(alloc: Global) -> Result<Command<'a>, AllocError>
     let farm = with_command(farm, simulate_command(alloc));
     let farm = with_command(farm, schedule_command(alloc));
     let farm = with_command(farm, counts_command(alloc));
+    let farm = with_command(farm, compare_command(alloc));
     let farm = with_command(farm, explain_command(alloc));
     let farm = with_command(farm, check_command(alloc));
     with_command(farm, graph_command(alloc))

@@ -94,6 +94,8 @@ impl<T: Drop> From<AllocFailed<T>> for LineFault {
 
 /// The exit status of the program: 0 where help or the version was asked for, 2 for a mistake in the words, 3 for
 /// want of memory.
+///
+/// Promise: the status is 0 where help or the version was asked for, and else 2, or 3 if an allocation failed.
 pub fn line_status(fault: &LineFault) -> u8
     ensures { result ≡ status_of fault.now }
 {

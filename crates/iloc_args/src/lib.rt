@@ -4,8 +4,10 @@
 mod command;
 mod fault;
 mod line;
+mod priority;
 mod request;
 
 pub use fault::{LineFault, line_status};
 pub use line::parse_line;
+pub use priority::priority_name;
 pub use request::{Request, Task};

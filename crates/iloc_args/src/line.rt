@@ -32,6 +32,8 @@ const DEFAULT_PRIORITY: &str = "chain";
 
 /// The request that the words after the program's name ask for.
 ///
+/// Promise: the words are taken as the one request that they ask for, or refused for a fault that they have.
+///
 /// # Errors
 ///
 /// `Help` or `Refused` with the parser's text where it gives no matches, `BadStart` where the words
@@ -58,6 +60,7 @@ fn task_of(name: &str) -> Task
         "simulate" => Task::Simulate,
         "schedule" => Task::Schedule,
         "counts" => Task::Counts,
+        "compare" => Task::Compare,
         "explain" => Task::Explain,
         "check" => Task::Check,
         "graph" => Task::Graph,

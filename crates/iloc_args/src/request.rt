@@ -17,6 +17,8 @@ pub enum Task {
     Schedule,
     /// Schedule it, and list how many cycles the schedule takes.
     Counts,
+    /// Schedule it by each heuristic, and list how many cycles the schedules take.
+    Compare,
     /// Schedule it, and list why the schedule takes its cycles.
     Explain,
     /// Judge the rows that stand behind the blocks.

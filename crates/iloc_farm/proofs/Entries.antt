@@ -1,15 +1,14 @@
 -- The entries of a file's blocks, one after another or made by several workers.
-use Rattle.std.proofs.Common.{◌≡◌, ℕ, suc, ◌+◌, List, [], ◌∷◌, ◌++◌, length, map, Some, refl, sym, ap, ap₂, ◌∙◌, subst, arith, append_assoc, append-nil}
+use Rattle.std.proofs.Common.{◌≡◌, ℕ, suc, ◌+◌, List, [], ◌∷◌, ◌++◌, length, map, Option, Some, refl, sym, ap, ap₂, ◌∙◌, subst, arith, append_assoc, append-nil}
 use Rattle.std.specs.Prelude.{slice_get, MatchOption}
 use Rattle.std.specs.List.{flat_map}
 use Rattle.std.proofs.lemmas.Grind.{flat_map-append}
 use Rattle.std.proofs.lemmas.List.Concat.{flat_map-cons}
 use Rattle.iloc_ops.specs.declared.file.Block.{Block}
 use Rattle.iloc_args.specs.declared.request.Request.{Request}
-use Rattle.iloc_farm.specs.Commands.Counts.{IsCountEntry}
-use Rattle.iloc_farm.specs.Entries.{AreEntries, IsListingOf}
-use Rattle.iloc_farm.specs.Listing.{count_line, entries, total_of_all}
-use Rattle.iloc_farm.specs.Steps.Listed.{AreListed, Grows, IsCount, OfBlock, ToList}
+use Rattle.iloc_farm.specs.Entries.{AreEntries, IsListingAfter, IsListingOf}
+use Rattle.iloc_farm.specs.Listing.{entries, total_of_all}
+use Rattle.iloc_farm.specs.Steps.Listed.{AreListed, Grows, OfBlock, ToList}
 
 module _ {F : Type 0} (lists : ℕ → Block → List ℕ → F → Type 0) where
   -- one block more
@@ -118,11 +117,19 @@ module _ {F : Type 0} (lists lists' : ℕ → Block → List ℕ → F → Type 
         ap₂ (λ x xs. x ∷ xs) first.1 rest.1,
       )
 
+  pub one_listing_after : (opening opening' : List ℕ) (ending ending' : List F → List ℕ) (blocks : List Block)
+      (text text' : List ℕ)
+      → opening ≡ opening' → ending ≡ ending' → IsListingAfter lists opening ending blocks text
+      → IsListingAfter lists' opening' ending' blocks text' → text ≡ text'
+  one_listing_after opening opening' ending ending' blocks text text' opens ends is is' =
+      let same = entries_same 1 blocks is.found is'.found is.entries is'.entries is.listed is'.listed in
+      is.whole ∙ (ap₂ (λ t fs. opening ++ t ++ ending fs) same.0 same.1
+      ∙ (ap₂ (λ first last. first ++ is'.entries ++ last is'.found) opens ends ∙ sym is'.whole))
+
   pub one_listing : (ending : List F → List ℕ) (blocks : List Block) (text text' : List ℕ)
       → IsListingOf lists ending blocks text → IsListingOf lists' ending blocks text' → text ≡ text'
   one_listing ending blocks text text' is is' =
-      let same = entries_same 1 blocks is.found is'.found is.entries is'.entries is.listed is'.listed in
-      is.whole ∙ (ap₂ (λ t fs. t ++ ending fs) same.0 same.1 ∙ sym is'.whole)
+      one_listing_after [] [] ending ending blocks text text' refl refl is is'
 
 -- where an entry of the one kind is one of the other, so it is with listings
 module _ {F : Type 0} (lists lists' : ℕ → Block → List ℕ → F → Type 0)
@@ -144,36 +151,33 @@ module _ {F : Type 0} (lists lists' : ℕ → Block → List ℕ → F → Type 
     whole = is.whole;
   }
 
--- the listing of the cycles that were found
-module _ (request : Request) where
-  lines_of : (k : ℕ) (blocks : List Block) (found : List ℕ) → length found ≡ length blocks
-      → ((i : ℕ) (c : ℕ) → slice_get found i ≡ Some c
-      → MatchOption (slice_get blocks i) ⊥ (λ (b : Block). IsCount request.priority request.latencies b c))
-      → AreEntries (IsCountEntry request) k blocks found (entries count_line k blocks found)
+-- the listing of what was found of each block, where a line says it
+module _ {X : Type 0} (lists : ℕ → Block → List ℕ → X → Type 0) (Finds : Block → X → Type 0)
+    (line : ℕ → Option (List ℕ) → X → List ℕ)
+    (entry : (k : ℕ) (b : Block) (x : X) → Finds b x → lists k b (line k b.name x) x) where
+  lines_of : (k : ℕ) (blocks : List Block) (found : List X) → length found ≡ length blocks
+      → ((i : ℕ) (x : X) → slice_get found i ≡ Some x
+      → MatchOption (slice_get blocks i) ⊥ (λ (b : Block). Finds b x))
+      → AreEntries lists k blocks found (entries line k blocks found)
   lines_of k [] [] long each = refl
-  lines_of k [] (c ∷ found) long each = absurd (omega arith)
+  lines_of k [] (x ∷ found) long each = absurd (omega arith)
   lines_of k (b ∷ blocks) [] long each = absurd (omega arith)
-  lines_of k (b ∷ blocks) (c ∷ found) long each =
-      let count : IsCount request.priority request.latencies b c = each 0 c refl in (
-        count_line k b.name c,
-        entries count_line (k + 1) blocks found,
-        record {
-          schedule = count.schedule;
-          greedy = count.greedy;
-          listed = ap (count_line k b.name) count.counted;
-          counted = count.counted;
-        },
-        lines_of (k + 1) blocks found (omega arith) (λ i x at. each (suc i) x at),
-        refl,
-      )
+  lines_of k (b ∷ blocks) (x ∷ found) long each = (
+    line k b.name x,
+    entries line (k + 1) blocks found,
+    entry k b x (each 0 x refl),
+    lines_of (k + 1) blocks found (omega arith) (λ i y at. each (suc i) y at),
+    refl,
+  )
 
-  pub counted_listing : (blocks : List Block) (found : List ℕ) (text : List ℕ)
-      → AreListed (λ k b c. IsCount request.priority request.latencies b c) blocks found
-      → text ≡ entries count_line 1 blocks found ++ total_of_all found
-      → IsListingOf (IsCountEntry request) total_of_all blocks text
-  counted_listing blocks found text are whole = record {
+  pub lined_listing : (opening : List ℕ) (ending : List X → List ℕ) (blocks : List Block) (found : List X)
+      (text : List ℕ)
+      → AreListed (λ k b x. Finds b x) blocks found
+      → text ≡ (opening ++ entries line 1 blocks found) ++ ending found
+      → IsListingAfter lists opening ending blocks text
+  lined_listing opening ending blocks found text are whole = record {
     found = found;
-    entries = entries count_line 1 blocks found;
+    entries = entries line 1 blocks found;
     listed = lines_of 1 blocks found are.many are.each;
     whole = whole;
   }

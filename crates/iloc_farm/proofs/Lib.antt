@@ -14,6 +14,7 @@ pub mod Headline
 pub mod HeldRows
 pub mod Listings
 pub mod Entries
+pub mod Comparisons
 pub mod Listers
 pub mod Unfolded
 pub mod Streamed

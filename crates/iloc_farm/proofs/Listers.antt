@@ -17,20 +17,23 @@ use Rattle.iloc_args.specs.declared.request.Request.{Request}
 use Rattle.iloc_args.specs.declared.request.Task.{Task}
 use Rattle.iloc_args.specs.declared.request.Task.TheVariants as task
 use Rattle.iloc_farm.specs.Apart.{Held}
-use Rattle.iloc_farm.specs.Commands.Counts.{IsCountEntry}
+use Rattle.iloc_farm.specs.Commands.Compare.{IsCompareEntry, IsCompareListing, IsComparison, compare_ending, compare_header, compare_line}
+use Rattle.iloc_farm.specs.Commands.Counts.{IsCountEntry, IsCountListing, count_ending, count_header, count_line}
 use Rattle.iloc_farm.specs.Commands.Explain.{IsExplainEntry}
 use Rattle.iloc_farm.specs.Commands.Graph.{IsGraphEntry, drawing_end, opening_at}
 use Rattle.iloc_farm.specs.Commands.Run.{IsRunEntry, initial_memory, no_ending}
 use Rattle.iloc_farm.specs.Commands.Schedule.{IsScheduleEntry}
 use Rattle.iloc_farm.specs.Commands.Simulate.{IsSimulateEntry}
 use Rattle.iloc_farm.specs.Laws.{AskAlike, SimulatingListsRuns}
-use Rattle.iloc_farm.specs.Listing.{block_head, count_entry, cycles_of, outcome_entry, schedule_entry, schedule_lines, shown_entry, total_of_all}
+use Rattle.iloc_farm.specs.Listing.{block_head, cycles_of, entries, opening_as, outcome_entry, schedule_entry, schedule_lines, shown_entry, total_of_all}
 use Rattle.iloc_farm.specs.Run.{IsListingFor, Lists, ListsAs, ListsFile, ListsFor, ListsFrom}
 use Rattle.iloc_farm.specs.Schedules.{IsGreedyAs, IsTheGreedy}
-use Rattle.iloc_farm.specs.Steps.Listed.{Adds, IsCount, ListsRead}
+use Rattle.iloc_farm.specs.Steps.Listed.{Adds, AreListed, IsCount, ListsRead}
 use Rattle.iloc_farm.specs.declared.commands.Finding.TheVariants.{Passed}
 use Rattle.iloc_farm.specs.declared.commands.Listed.{Listed}
-use Rattle.iloc_farm.proofs.Entries.{listing_also, one_listing}
+use Rattle.iloc_farm.specs.declared.commands.compare.Comparison.{Comparison}
+use Rattle.iloc_farm.proofs.Comparisons.{one_comparison}
+use Rattle.iloc_farm.proofs.Entries.{lined_listing, listing_also, one_listing, one_listing_after}
 use Rattle.iloc_farm.proofs.Schedules.{one_schedule}
 
 parts_joined : (text head line entry : List ℕ) → ((text ++ head) ++ line) ++ entry ≡ text ++ ((head ++ line) ++ entry)
@@ -117,6 +120,32 @@ is_count heuristic lat b s greedy cycles counted = record {
   counted = counted;
 }
 
+-- the listing of the cycles that were found
+pub counted_listing : (request : Request) (blocks : List Block) (found : List ℕ) (text : List ℕ)
+    → AreListed (λ k b c. IsCount request.priority request.latencies b c) blocks found
+    → text ≡ (opening_as request.csv count_header ++ entries (count_line request.csv) 1 blocks found)
+    ++ count_ending request.csv found
+    → IsCountListing request blocks text
+counted_listing request blocks found text are whole =
+    lined_listing (IsCountEntry request) (IsCount request.priority request.latencies) (count_line request.csv)
+    (λ k b c count. record {
+      schedule = count.schedule;
+      greedy = count.greedy;
+      listed = ap (count_line request.csv k b.name) count.counted;
+      counted = count.counted;
+    }) (opening_as request.csv count_header) (count_ending request.csv) blocks found text are whole
+
+-- and of what was compared
+pub compared_listing : (request : Request) (blocks : List Block) (found : List Comparison) (text : List ℕ)
+    → AreListed (λ k b c. IsComparison request.latencies b c) blocks found
+    → text ≡ (opening_as request.csv compare_header ++ entries (compare_line request.csv) 1 blocks found)
+    ++ compare_ending request.csv found
+    → IsCompareListing request blocks text
+compared_listing request blocks found text are whole =
+    lined_listing (IsCompareEntry request) (IsComparison request.latencies) (compare_line request.csv)
+    (λ k b c compares. record { compares = compares; listed = refl }) (opening_as request.csv compare_header)
+    (compare_ending request.csv) blocks found text are whole
+
 -- what holds at `Ok` holds of what is answered
 pub if_ok : {T E P : Type 0} (Q : T → Type 0) (result : Result T E) → ((x : T) → P → Q x) → OnOk result P → IfOk result Q
 if_ok Q (Ok x) f p = f x p
@@ -156,11 +185,19 @@ module _ (r q : Request) (alike : AskAlike r q) (k : ℕ) (b : Block) where
 
   count_same : (e e' : List ℕ) (c c' : ℕ) → IsCountEntry r k b e c → IsCountEntry q k b e' c' → (e ≡ e') × (c ≡ c')
   count_same e e' c c' is is' =
-      let same = same_schedule is.schedule is'.schedule is.greedy is'.greedy in (
-        is.listed ∙ (ap (λ lat. count_entry lat k b.name is.schedule) alike.latencies
-            ∙ (ap (count_entry q.latencies k b.name) same ∙ sym is'.listed)),
-        cycles_same is.schedule is'.schedule c c' same is.counted is'.counted,
+      let same = same_schedule is.schedule is'.schedule is.greedy is'.greedy in
+      let cycles = cycles_same is.schedule is'.schedule c c' same is.counted is'.counted in (
+        is.listed ∙ (ap (count_line r.csv k b.name) (sym is.counted) ∙ (ap₂ (λ csv n. count_line csv k b.name n) alike.csv cycles
+            ∙ (ap (count_line q.csv k b.name) is'.counted ∙ sym is'.listed))),
+        cycles,
       )
+
+  compare_same : (e e' : List ℕ) (c c' : Comparison) → IsCompareEntry r k b e c → IsCompareEntry q k b e' c'
+      → (e ≡ e') × (c ≡ c')
+  compare_same e e' c c' is is' =
+      let P : Latencies → Type 0 = λ lat. IsComparison lat b c in
+      let same : c ≡ c' = one_comparison q.latencies b c c' (subst P alike.latencies is.compares) is'.compares in
+      (is.listed ∙ (ap₂ (λ csv x. compare_line csv k b.name x) alike.csv same ∙ sym is'.listed), same)
 
   explain_same : (e e' : List ℕ) (c c' : ℕ) → IsExplainEntry r k b e c → IsExplainEntry q k b e' c'
       → (e ≡ e') × (c ≡ c')
@@ -194,7 +231,13 @@ of_one_task task.Schedule r q alike blocks text text' lists lists' =
     one_listing (IsScheduleEntry r) (IsScheduleEntry q) (schedule_same r q alike) total_of_all blocks text text'
     lists lists'
 of_one_task task.Counts r q alike blocks text text' lists lists' =
-    one_listing (IsCountEntry r) (IsCountEntry q) (count_same r q alike) total_of_all blocks text text' lists lists'
+    one_listing_after (IsCountEntry r) (IsCountEntry q) (count_same r q alike) (opening_as r.csv count_header)
+    (opening_as q.csv count_header) (count_ending r.csv) (count_ending q.csv) blocks text text'
+    (ap (λ csv. opening_as csv count_header) alike.csv) (ap count_ending alike.csv) lists lists'
+of_one_task task.Compare r q alike blocks text text' lists lists' =
+    one_listing_after (IsCompareEntry r) (IsCompareEntry q) (compare_same r q alike) (opening_as r.csv compare_header)
+    (opening_as q.csv compare_header) (compare_ending r.csv) (compare_ending q.csv) blocks text text'
+    (ap (λ csv. opening_as csv compare_header) alike.csv) (ap compare_ending alike.csv) lists lists'
 of_one_task task.Explain r q alike blocks text text' lists lists' =
     one_listing (IsExplainEntry r) (IsExplainEntry q) (explain_same r q alike) total_of_all blocks text text' lists lists'
 of_one_task task.Graph r q alike blocks text text' lists lists' =

@@ -3,6 +3,7 @@ pub mod Run
 pub mod Simulate
 pub mod Schedule
 pub mod Counts
+pub mod Compare
 pub mod Explain
 pub mod Graph
 pub mod Check

@@ -31,6 +31,7 @@ pub record AskAlike (r q : Request) : Type 0 where
   pub latencies : r.latencies ≡ q.latencies
   pub priority : r.priority ≡ q.priority
   pub task_file : r.task_file ≡ q.task_file
+  pub csv : r.csv ≡ q.csv
 
 -- What such requests list of one file is one text. A check lists no file: which of two right verdicts it gives is not
 -- settled, so of one input it may list more than one text.

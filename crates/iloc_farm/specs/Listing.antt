@@ -1,7 +1,8 @@
 -- The listings: of outcomes, of schedules and of their cycles.
-use Rattle.std.specs.Prelude.{ℕ, ◌+◌, Bool, ◌&&◌, if◌then◌else◌, List, [], ◌∷◌, ◌++◌, sum, sum_by, Option, Some, None, is_none, ℤ, codes}
+use Rattle.std.specs.Prelude.{ℕ, ◌+◌, Bool, true, false, ◌&&◌, if◌then◌else◌, List, [], ◌∷◌, ◌++◌, sum, sum_by, Option, Some, None, is_none, ℤ, codes}
 use Rattle.std.specs.List.{flat_map, list_all}
 use Rattle.std.specs.Fmt.{decimal, signed_decimal}
+use Rattle.iloc_ops.specs.Columns.{column}
 use Rattle.iloc_ops.specs.declared.file.Block.{Block}
 use Rattle.iloc_meaning.specs.declared.outcome.Outcome.{Outcome}
 use Rattle.iloc_meaning.specs.Outcome.{shown}
@@ -69,12 +70,23 @@ schedule_lines k name s cycles =
 abbrev pub schedule_entry : Latencies → ℕ → Option (List ℕ) → Table → List ℕ
 schedule_entry lat k name s = schedule_lines k name s (cycles_of lat s)
 
--- `block K NAME cycles C`
-abbrev pub count_line : ℕ → Option (List ℕ) → ℕ → List ℕ
-count_line k name cycles = block_head k name ++ codes " cycles " ++ decimal cycles ++ codes "\n"
+-- Tables of comma-separated values
 
-abbrev pub count_entry : Latencies → ℕ → Option (List ℕ) → Table → List ℕ
-count_entry lat k name s = count_line k name (cycles_of lat s)
+-- how the entry of a block begins: `K,NAME` in a table, and else `block K NAME`
+abbrev pub head_as : Bool → ℕ → Option (List ℕ) → List ℕ
+head_as true k name = decimal k ++ codes "," ++ shown_name name
+head_as false k name = block_head k name
+
+-- a number with its label: `,N` in a table, and else ` LABEL N`
+abbrev pub field : Bool → List ℕ → ℕ → List ℕ
+field true label n = codes "," ++ decimal n
+field false label n = column label n
+
+-- a table has its header before the first row
+abbrev pub opening_as : Bool → List ℕ → List ℕ
+opening_as csv header = if csv then header else []
+
+-- Totals
 
 -- the cycles of all schedules together
 abbrev pub total_cycles : Latencies → List Table → ℕ

@@ -20,7 +20,8 @@ use Rattle.iloc_farm.specs.declared.commands.Finding.{Finding}
 use Rattle.iloc_farm.specs.declared.commands.Finding.TheVariants.{Passed}
 use Rattle.iloc_farm.specs.Apart.{AreRefusedApart, HasNoTask, Held, ReadsApart}
 use Rattle.iloc_farm.specs.Commands.Check.{ListsChecked}
-use Rattle.iloc_farm.specs.Commands.Counts.{IsCountEntry}
+use Rattle.iloc_farm.specs.Commands.Compare.{IsCompareListing}
+use Rattle.iloc_farm.specs.Commands.Counts.{IsCountListing}
 use Rattle.iloc_farm.specs.Commands.Explain.{IsExplainEntry}
 use Rattle.iloc_farm.specs.Commands.Graph.{IsGraphEntry, drawing_end}
 use Rattle.iloc_farm.specs.Commands.Run.{IsRunEntry, initial_memory, no_ending}
@@ -36,7 +37,8 @@ abbrev pub IsListingFor : Task → Request → List Block → List ℕ → Type 
 IsListingFor task.Run request blocks text = IsListingOf (IsRunEntry request) no_ending blocks text
 IsListingFor task.Simulate request blocks text = IsListingOf (IsSimulateEntry request) no_ending blocks text
 IsListingFor task.Schedule request blocks text = IsListingOf (IsScheduleEntry request) total_of_all blocks text
-IsListingFor task.Counts request blocks text = IsListingOf (IsCountEntry request) total_of_all blocks text
+IsListingFor task.Counts request blocks text = IsCountListing request blocks text
+IsListingFor task.Compare request blocks text = IsCompareListing request blocks text
 IsListingFor task.Explain request blocks text = IsListingOf (IsExplainEntry request) total_of_all blocks text
 IsListingFor task.Graph request blocks text = IsListingOf (IsGraphEntry request) drawing_end blocks text
 IsListingFor task.Check request blocks text = ⊥
@@ -122,6 +124,7 @@ pub record ReadsFile (old new : Option (List ℕ)) : Type 0 where
 abbrev pub IsFarmed : Task → Type 0
 IsFarmed task.Schedule = Unit {0}
 IsFarmed task.Counts = Unit {0}
+IsFarmed task.Compare = Unit {0}
 IsFarmed _ = ⊥
 
 -- What holds where a run of the request ends with this fault: a check reads blocks with rows, or a task and rows, the others

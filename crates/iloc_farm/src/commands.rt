@@ -5,6 +5,7 @@ ghost use Rattle.iloc_farm.specs.Run.{ListsFrom};
 ghost use Rattle.iloc_farm.specs.Steps.OfInput.{EndsReading};
 
 mod check;
+mod compare;
 mod counts;
 mod explain;
 mod graph;
@@ -19,6 +20,7 @@ use crate::lister::listed_as_read;
 use crate::listing::text::Listing;
 use crate::texts::Texts;
 use check::checked;
+use compare::CompareLister;
 use counts::CountLister;
 use explain::ExplainLister;
 use graph::GraphLister;
@@ -110,6 +112,10 @@ pub(crate) fn list<H: Threads + Wait + Sync, T: Texts, R: Read>(
         }
         Task::Counts => {
             let text = listed_by_workers::<CountLister, H, R>(rt, alloc, reader, request)?;
+            Ok(Listed::of_file(text))
+        }
+        Task::Compare => {
+            let text = listed_by_workers::<CompareLister, H, R>(rt, alloc, reader, request)?;
             Ok(Listed::of_file(text))
         }
         Task::Explain => {

@@ -7,6 +7,7 @@ ghost use Rattle.std.specs.Fmt.{decimal};
 ghost use Rattle.iloc_timed.specs.Spelling.{row_line};
 ghost use Rattle.iloc_farm.specs.Listing as listed;
 
+pub(crate) mod table;
 pub(crate) mod text;
 pub(crate) mod writing;
 
@@ -21,7 +22,7 @@ const LINE_ROOM: usize = 48;
 /// Appends a number with a word before it and one after it, in one go.
 #[inline(always)]
 #[tactic(auto, using(crate::proofs::Numbers::decimal_is_short))]
-fn push_numbered(
+pub(crate) fn push_numbered(
     text: &mut Vec<u8>,
     before: &[u8],
     number: u64,
@@ -135,22 +136,6 @@ pub(crate) fn push_schedule(
     text.push(b'\n')?;
     push_rows(text, schedule.ops(), held_rows(schedule.rows()))?;
     push_numbered(text, b"cycles ", cycles, b"\n")
-}
-
-/// Appends the line of the block with this number, counted from 1, whose schedule takes so many cycles.
-pub(crate) fn push_count(
-    text: &mut Vec<u8>,
-    number: usize,
-    name: Option<&Name>,
-    cycles: u64,
-) -> Result<(), NoMemory>
-    requires number { number < 2 ^ 63 }
-    requires cycles { cycles < 2 ^ 63 }
-    ensures { OnOk result
-        (text.new.items ≡ text.old.items ++ listed.count_line number (option_copied name.entry) cycles) }
-{
-    push_block_head(text, number, name)?;
-    push_numbered(text, b" cycles ", cycles, b"\n")
 }
 
 /// Appends the line of the cycles of all.

@@ -1,23 +1,56 @@
 //! `counts`: how many cycles blocks' schedules take.
-ghost use Rattle.std.specs.Prelude.{◌≤◌, length, IfOk};
+ghost use Rattle.std.specs.Prelude.{◌≡◌, ◌≤◌, ◌<◌, ◌^◌, ◌++◌, length, IfOk, OnOk};
+ghost use Rattle.std.specs.Option.{option_copied};
 ghost use Rattle.iloc_ops.specs.Limits.{MAX_BLOCKS};
+ghost use Rattle.iloc_farm.specs.Commands.Counts.{count_ending, count_line};
 
 use crate::farmed::FarmedLister;
+use crate::listing::table::{push_head, push_opening};
 use crate::listing::text::Listing;
-use crate::listing::{count_of, push_count, push_total_of};
+use crate::listing::{count_of, push_numbered, push_total_of};
 use iloc_args::Request;
 use iloc_sched::Scheduler;
-use iloc_text::{Block, Blocks, NoMemory};
+use iloc_text::{Block, Blocks, Name, NoMemory};
 use std::alloc::Global;
+
+/// What a table begins with.
+const HEADER: &[u8] = b"block,name,cycles\n";
+
+/// Appends the line of the block with this number, counted from 1, whose schedule takes so many cycles, or its row in a
+/// table.
+fn push_count(
+    text: &mut Vec<u8>,
+    csv: bool,
+    number: usize,
+    name: Option<&Name>,
+    cycles: u64,
+) -> Result<(), NoMemory>
+    requires { number < 2 ^ 63 }
+    ensures { OnOk result (text.new.items
+        ≡ text.old.items ++ count_line csv number (option_copied name.entry) cycles) }
+{
+    push_head(text, csv, number, name)?;
+    let label: &[u8] = if csv { b"," } else { b" cycles " };
+    push_numbered(text, label, cycles, b"\n")
+}
+
+/// Appends the line of these cycles together, but in a table.
+fn push_ending(text: &mut Vec<u8>, csv: bool, cycles: &[u32]) -> Result<(), NoMemory>
+    requires { length cycles.now ≤ MAX_BLOCKS }
+    ensures { OnOk result (text.new.items ≡ text.old.items ++ count_ending csv cycles.now) }
+{
+    if csv {
+        return Ok(());
+    }
+    push_total_of(text, cycles)
+}
 
 /// Schedules each block, and answers how many cycles its schedule takes.
 #[derive(Drop)]
 pub(crate) struct CountLister(Scheduler);
 
 impl FarmedLister for CountLister {
-    ghost use Rattle.iloc_farm.specs.Commands.Counts.{IsCountEntry};
-    ghost use Rattle.iloc_farm.specs.Entries.{IsListingOf};
-    ghost use Rattle.iloc_farm.specs.Listing.{total_of_all};
+    ghost use Rattle.iloc_farm.specs.Commands.Counts.{IsCountListing};
     ghost use Rattle.iloc_farm.specs.Steps.Listed.{AreListed, IsCount};
 
     type Answer = u32;
@@ -26,7 +59,7 @@ impl FarmedLister for CountLister {
 
     ghost cycles_in = { λ cycles. cycles };
 
-    ghost lists = { λ request. IsListingOf (IsCountEntry request) total_of_all };
+    ghost lists = { λ request. IsCountListing request };
 
     fn new(alloc: Global) -> CountLister {
         CountLister(Scheduler::new(alloc))
@@ -53,21 +86,23 @@ impl FarmedLister for CountLister {
 
     fn listing(
         alloc: Global,
-        _request: &Request,
+        request: &Request,
         blocks: Blocks,
         cycles: Vec<u32>,
     ) -> Result<Listing, NoMemory>
         requires few { length blocks ≤ MAX_BLOCKS }
-        requires right { AreListed (λ _ block count. IsCount _request.now.priority _request.now.latencies block count)
+        requires right { AreListed (λ _ block count. IsCount request.now.priority request.now.latencies block count)
             blocks cycles.items }
-        ensures { IfOk result (IsListingOf (IsCountEntry _request.now) total_of_all blocks) }
+        ensures { IfOk result (IsCountListing request.now blocks) }
     {
         let mut text = Vec::new(alloc);
+        push_opening(&mut text, request.csv, HEADER)?;
         for (index, block) in blocks.as_slice().iter().enumerate() {
             let count = u64::from(cycles[index]);
-            push_count(&mut text, index + 1, block.name.as_ref(), count)?;
+            let name = block.name.as_ref();
+            push_count(&mut text, request.csv, index + 1, name, count)?;
         }
-        push_total_of(&mut text, &cycles)?;
+        push_ending(&mut text, request.csv, &cycles)?;
         Listing::of_text(alloc, text)
     }
 }

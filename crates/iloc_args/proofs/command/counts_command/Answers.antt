@@ -5,4 +5,6 @@ pub returns : goal.returns
 returns c =
     let timed = if_more_rules _ _ _ c.with_latencies-command.result c.workers_command.ensures
     c.with_latencies-command.ensures in
-    if_one_argument _ _ c.with_latencies-command.result c.with_arg.result _ timed c.priority_arg.ensures c.with_arg.ensures
+    let ranked = if_one_argument _ _ c.with_latencies-command.result c.with_arg-command.result _ timed
+    c.priority_arg.ensures c.with_arg-command.ensures in
+    if_one_argument _ _ c.with_arg-command.result c.with_arg.result _ ranked c.csv_arg.ensures c.with_arg.ensures

@@ -7,6 +7,7 @@ returns c =
     let two = if_more_command _ _ _ _ _ one c.simulate_command.ensures c.with_command-farm-2.ensures in
     let three = if_more_command _ _ _ _ _ two c.schedule_command.ensures c.with_command-farm-3.ensures in
     let four = if_more_command _ _ _ _ _ three c.counts_command.ensures c.with_command-farm-4.ensures in
-    let five = if_more_command _ _ _ _ _ four c.explain_command.ensures c.with_command-farm-5.ensures in
-    let six = if_more_command _ _ _ _ _ five c.check_command.ensures c.with_command-farm-6.ensures in
-    if_more_command _ _ _ _ _ six c.graph_command.ensures c.with_command.ensures
+    let five = if_more_command _ _ _ _ _ four c.compare_command.ensures c.with_command-farm-5.ensures in
+    let six = if_more_command _ _ _ _ _ five c.explain_command.ensures c.with_command-farm-6.ensures in
+    let seven = if_more_command _ _ _ _ _ six c.check_command.ensures c.with_command-farm-7.ensures in
+    if_more_command _ _ _ _ _ seven c.graph_command.ensures c.with_command.ensures

@@ -18,7 +18,8 @@ unreachable-requires c =
     let simulate = apart (codes "simulate") c.args.name.now c.in_default.not-simulate in
     let schedule = apart (codes "schedule") c.args.name.now c.in_default.not-schedule in
     let counts = apart (codes "counts") c.args.name.now c.in_default.not-counts in
+    let compare = apart (codes "compare") c.args.name.now c.in_default.not-compare in
     let explain = apart (codes "explain") c.args.name.now c.in_default.not-explain in
     let check = apart (codes "check") c.args.name.now c.in_default.not-check in
     let graph = apart (codes "graph") c.args.name.now c.in_default.not-graph in
-    false≢true (rw (run, simulate, schedule, counts, explain, check, graph) at c.requires)
+    false≢true (rw (run, simulate, schedule, counts, compare, explain, check, graph) at c.requires)

@@ -1,21 +1,24 @@
 use Rattle.std.proofs.Common.{◌+◌, ◌∙◌, ◌++◌, ap, ap₂, arith, drop, append-nil, sym}
 use Rattle.std.proofs.lemmas.List.{drop_all}
 use Rattle.std.proofs.lemmas.Result.{IfOk-weaker}
-use Rattle.iloc_farm.specs.Listing.{count_line, entries, total_of_all}
-use Rattle.iloc_farm.proofs.Entries.{counted_listing}
+use Rattle.iloc_farm.specs.Commands.Counts.{count_ending, count_header, count_line}
+use Rattle.iloc_farm.specs.Listing.{entries, opening_as}
+use Rattle.iloc_farm.proofs.Listers.{counted_listing}
 use Rattle.iloc_farm.proofs.commands.counts.CountListerFarmedLister.listing.Goals as goal
 
 pub returns : goal.returns
 returns c =
     let i = c.loop-index.index in
+    let csv = c.args.request.now.csv in
     let blocks = c.as_slice-block-items.result.now in
     let none = drop_all i blocks (omega arith) in
     let lines = sym (append-nil c.loop-index.text.items)
-    ∙ (ap (λ bs. c.loop-index.text.items ++ entries count_line (i + 1) bs (drop i c.args.cycles.items)) (sym none)
+    ∙ (ap (λ bs. c.loop-index.text.items ++ entries (count_line csv) (i + 1) bs (drop i c.args.cycles.items)) (sym none)
     ∙ (c.loop-index.invariant
-    ∙ ap (λ bs. entries count_line 1 bs c.args.cycles.items) c.as_slice-block-items.ensures)) in
+    ∙ ap (λ bs. opening_as csv count_header ++ entries (count_line csv) 1 bs c.args.cycles.items)
+    c.as_slice-block-items.ensures)) in
     IfOk-weaker c.of_text.result _ _
-    (λ text is. counted_listing c.args._request.now c.args.blocks c.args.cycles.items text c.requires.right
-    (is ∙ (c.in_ok-push_total_of.ensures
-    ∙ ap₂ (λ t counts. t ++ total_of_all counts) lines c.deref.ensures.value)))
+    (λ text is. counted_listing c.args.request.now c.args.blocks c.args.cycles.items text c.requires.right
+    (is ∙ (c.in_ok-push_ending.ensures
+    ∙ ap₂ (λ t each. t ++ count_ending csv each) lines c.deref.ensures.value)))
     c.of_text.ensures

@@ -1,0 +1,10 @@
+use Rattle.std.proofs.Common.{◌≡◌, ◌+◌, ◌++◌, drop}
+use Rattle.iloc_farm.specs.Commands.Compare.{compare_header, compare_line}
+use Rattle.iloc_farm.specs.Listing.{entries, opening_as}
+use Rattle.iloc_farm.proofs.commands.compare.CompareListerFarmedLister.listing.Given as goal
+
+abbrev pub invariant-loop-index : goal.invariant-loop-index
+invariant-loop-index l =
+    l.text.items
+    ++ entries (compare_line l.request.csv) (l.index + 1) (drop l.index l.block-items) (drop l.index l.found.items)
+    ≡ opening_as l.request.csv compare_header ++ entries (compare_line l.request.csv) 1 l.block-items l.found.items

@@ -1,0 +1,307 @@
+//! `compare`: the bound on blocks' cycles, and the cycles of their schedules by each heuristic.
+ghost use Rattle.std.specs.Prelude.{◌≡◌, ◌≤◌, ◌<◌, ◌^◌, ◌++◌, false, length, sum_by, IfOk, OnOk};
+ghost use Rattle.std.specs.Option.{option_copied};
+ghost use Rattle.iloc_ops.specs.Limits.{MAX_BLOCKS, MAX_OPS};
+ghost use Rattle.iloc_farm.specs.Commands.Compare as compare;
+ghost use Rattle.iloc_farm.specs.Steps.Listed.{IsCount};
+ghost use Rattle.iloc_farm.specs.Steps.Tallies.{counted};
+
+use crate::farmed::FarmedLister;
+use crate::listing::table::{push_field, push_head, push_opening};
+use crate::listing::text::Listing;
+use crate::listing::{count_of, push_numbered};
+use iloc_args::{Request, priority_name};
+use iloc_sched::{Heuristic, Scheduler, least};
+use iloc_text::{Block, Blocks, Name, NoMemory};
+use iloc_timed::Latencies;
+use std::alloc::Global;
+
+/// The heuristics, in the order in which they are listed.
+const HEURISTICS: [Heuristic; 6] = [
+    Heuristic::Chain,
+    Heuristic::Slack,
+    Heuristic::Descendants,
+    Heuristic::Successors,
+    Heuristic::Latency,
+    Heuristic::Order,
+];
+
+/// What a table begins with.
+const HEADER: &[u8] = b"block,name,least,chain,slack,descendants,successors,latency,order\n";
+
+/// The bound on a block's cycles, and the cycles of its schedules by each heuristic.
+#[derive(Clone, Copy, Debug, Drop)]
+pub struct Comparison {
+    /// How many cycles a lawful schedule takes at least.
+    pub least: u32,
+    /// How many each schedule takes, in the order in which the heuristics are listed.
+    pub cycles: [u32; 6],
+}
+
+/// The place of a heuristic among them.
+fn place(heuristic: Heuristic) -> usize
+    ensures { result ≡ compare.place heuristic }
+{
+    match heuristic {
+        Heuristic::Chain => 0,
+        Heuristic::Slack => 1,
+        Heuristic::Descendants => 2,
+        Heuristic::Successors => 3,
+        Heuristic::Latency => 4,
+        Heuristic::Order => 5,
+    }
+}
+
+/// How many cycles the schedule by this heuristic takes.
+fn cycles_by(heuristic: Heuristic, comparison: &Comparison) -> u32
+    ensures { result ≡ compare.cycles_by heuristic comparison.now }
+{
+    comparison.cycles[place(heuristic)]
+}
+
+/// Whether the schedule by no heuristic takes fewer.
+fn is_fewest(heuristic: Heuristic, comparison: &Comparison) -> bool
+    ensures { result ≡ compare.is_fewest heuristic comparison.now }
+{
+    let cycles = cycles_by(heuristic, comparison);
+    comparison.cycles.iter().all(|other| cycles <= *other)
+}
+
+/// What is summed over blocks.
+#[derive(Clone, Copy)]
+enum Tally {
+    /// The cycles of their schedules.
+    Cycles,
+    /// In how many the schedule by no other heuristic takes fewer.
+    Fewest,
+    /// In how many the schedule takes as many as the bound.
+    Optimal,
+}
+
+impl Tally {
+    /// What one block adds.
+    fn of(self, heuristic: Heuristic, comparison: &Comparison) -> u32
+        ensures { result ≡ counted self heuristic comparison.now }
+    {
+        match self {
+            Tally::Cycles => cycles_by(heuristic, comparison),
+            Tally::Fewest => u32::from(is_fewest(heuristic, comparison)),
+            Tally::Optimal => u32::from(cycles_by(heuristic, comparison) == comparison.least),
+        }
+    }
+
+    /// What all add.
+    fn sum(self, heuristic: Heuristic, found: &[Comparison]) -> u64
+        requires { length found.now ≤ MAX_BLOCKS }
+        ensures { result ≡ sum_by (counted self heuristic) found.now }
+    {
+        let mut sum = 0;
+        for comparison in found {
+            sum += u64::from(self.of(heuristic, comparison));
+        }
+        sum
+    }
+}
+
+/// The bounds of all blocks together.
+fn sum_of_bounds(found: &[Comparison]) -> u64
+    requires { length found.now ≤ MAX_BLOCKS }
+    ensures { result ≡ sum_by (λ c. c.least) found.now }
+{
+    let mut sum = 0;
+    for comparison in found {
+        sum += u64::from(comparison.least);
+    }
+    sum
+}
+
+/// Appends a number by its heuristic.
+fn push_number_by(
+    text: &mut Vec<u8>,
+    csv: bool,
+    heuristic: Heuristic,
+    number: u64,
+) -> Result<(), NoMemory>
+    ensures { OnOk result (text.new.items ≡ text.old.items ++ compare.column csv heuristic number) }
+{
+    push_field(text, csv, priority_name(heuristic), number)
+}
+
+/// Appends for each of these heuristics the cycles of its schedule.
+fn push_cycles(
+    text: &mut Vec<u8>,
+    csv: bool,
+    heuristics: &[Heuristic],
+    comparison: &Comparison,
+) -> Result<(), NoMemory>
+    ensures { OnOk result (text.new.items ≡ text.old.items
+        ++ compare.columns csv (λ heuristic. compare.cycles_by heuristic comparison.now) heuristics.now) }
+{
+    for heuristic in heuristics {
+        let cycles = cycles_by(*heuristic, comparison);
+        push_number_by(text, csv, *heuristic, u64::from(cycles))?;
+    }
+    Ok(())
+}
+
+/// Appends for each of these heuristics what is summed over all blocks.
+fn push_sums(
+    text: &mut Vec<u8>,
+    heuristics: &[Heuristic],
+    tally: Tally,
+    found: &[Comparison],
+) -> Result<(), NoMemory>
+    requires { length found.now ≤ MAX_BLOCKS }
+    ensures { OnOk result (text.new.items ≡ text.old.items
+        ++ compare.columns false (λ heuristic. sum_by (counted tally heuristic) found.now) heuristics.now) }
+{
+    for heuristic in heuristics {
+        let sum = tally.sum(*heuristic, found);
+        push_number_by(text, false, *heuristic, sum)?;
+    }
+    Ok(())
+}
+
+/// Appends the line of the block with this number, counted from 1, or its row in a table.
+fn push_comparison(
+    text: &mut Vec<u8>,
+    csv: bool,
+    number: usize,
+    name: Option<&Name>,
+    comparison: &Comparison,
+) -> Result<(), NoMemory>
+    requires { number < 2 ^ 63 }
+    ensures { OnOk result (text.new.items ≡ text.old.items
+        ++ compare.compare_line csv number (option_copied name.entry) comparison.now) }
+{
+    push_head(text, csv, number, name)?;
+    push_field(text, csv, "least", u64::from(comparison.least))?;
+    push_cycles(text, csv, &HEURISTICS, comparison)?;
+    text.push(b'\n')?;
+    Ok(())
+}
+
+/// Appends the line of the bounds and the cycles of all blocks together.
+fn push_sums_line(text: &mut Vec<u8>, found: &[Comparison]) -> Result<(), NoMemory>
+    requires { length found.now ≤ MAX_BLOCKS }
+    ensures { OnOk result (text.new.items ≡ text.old.items ++ compare.sums_line found.now) }
+{
+    push_numbered(text, b"total least ", sum_of_bounds(found), b"")?;
+    push_sums(text, &HEURISTICS, Tally::Cycles, found)?;
+    text.push(b'\n')?;
+    Ok(())
+}
+
+/// Appends the line of what is counted of all blocks, after this label.
+fn push_tally_line(
+    text: &mut Vec<u8>,
+    label: &[u8],
+    tally: Tally,
+    found: &[Comparison],
+) -> Result<(), NoMemory>
+    requires { length found.now ≤ MAX_BLOCKS }
+    ensures { OnOk result
+        (text.new.items ≡ text.old.items ++ compare.tally_line label.now (counted tally) found.now) }
+{
+    text.extend_from_slice(label)?;
+    push_sums(text, &HEURISTICS, tally, found)?;
+    push_numbered(text, b" of ", found.len() as u64, b"\n")
+}
+
+/// Appends what all blocks add up to, but in a table.
+fn push_totals(text: &mut Vec<u8>, csv: bool, found: &[Comparison]) -> Result<(), NoMemory>
+    requires { length found.now ≤ MAX_BLOCKS }
+    ensures { OnOk result (text.new.items ≡ text.old.items ++ compare.compare_ending csv found.now) }
+{
+    if csv {
+        return Ok(());
+    }
+    push_sums_line(text, found)?;
+    push_tally_line(text, b"fewest", Tally::Fewest, found)?;
+    push_tally_line(text, b"optimal", Tally::Optimal, found)
+}
+
+/// Schedules each block by each heuristic, and answers how many cycles the schedules take.
+#[derive(Drop)]
+pub(crate) struct CompareLister(Scheduler);
+
+impl CompareLister {
+    /// How many cycles the block's schedule by this heuristic takes.
+    fn count(
+        &mut self,
+        block: &Block,
+        latencies: &Latencies,
+        heuristic: Heuristic,
+    ) -> Result<u32, NoMemory>
+        requires { length block.now.ops ≤ MAX_OPS }
+        ensures { IfOk result (IsCount heuristic latencies.now block.now) }
+    {
+        let schedule = self.0.lend_as(block, latencies, heuristic)?;
+        let cycles = count_of(&schedule, latencies);
+        self.0.take_back(schedule);
+        Ok(cycles)
+    }
+}
+
+impl FarmedLister for CompareLister {
+    ghost use Rattle.iloc_sched.specs.declared.heuristic.Heuristic.TheVariants.{Chain};
+    ghost use Rattle.iloc_farm.specs.Commands.Compare.{IsCompareListing, IsComparison, cycles_by};
+    ghost use Rattle.iloc_farm.specs.Steps.Listed.{AreListed};
+
+    type Answer = Comparison;
+
+    ghost answers = { λ request _ block found. IsComparison request.latencies block found };
+
+    ghost cycles_in = { λ found. cycles_by Chain found };
+
+    ghost lists = { λ request. IsCompareListing request };
+
+    fn new(alloc: Global) -> CompareLister {
+        CompareLister(Scheduler::new(alloc))
+    }
+
+    fn answer(
+        &mut self,
+        alloc: Global,
+        request: &Request,
+        _number: usize,
+        block: &Block,
+    ) -> Result<Comparison, NoMemory> {
+        let latencies = &request.latencies;
+        let chain = self.count(block, latencies, Heuristic::Chain)?;
+        let slack = self.count(block, latencies, Heuristic::Slack)?;
+        let descendants = self.count(block, latencies, Heuristic::Descendants)?;
+        let successors = self.count(block, latencies, Heuristic::Successors)?;
+        let latency = self.count(block, latencies, Heuristic::Latency)?;
+        let order = self.count(block, latencies, Heuristic::Order)?;
+        let bound = least(alloc, block, latencies)?;
+        Ok(Comparison {
+            least: bound as u32,
+            cycles: [chain, slack, descendants, successors, latency, order],
+        })
+    }
+
+    fn cycles(found: &Comparison) -> u32 {
+        cycles_by(Heuristic::Chain, found)
+    }
+
+    fn listing(
+        alloc: Global,
+        request: &Request,
+        blocks: Blocks,
+        found: Vec<Comparison>,
+    ) -> Result<Listing, NoMemory>
+        requires few { length blocks ≤ MAX_BLOCKS }
+        requires right { AreListed (λ _ block each. IsComparison request.now.latencies block each) blocks found.items }
+        ensures { IfOk result (IsCompareListing request.now blocks) }
+    {
+        let mut text = Vec::new(alloc);
+        push_opening(&mut text, request.csv, HEADER)?;
+        for (index, block) in blocks.as_slice().iter().enumerate() {
+            let name = block.name.as_ref();
+            push_comparison(&mut text, request.csv, index + 1, name, &found[index])?;
+        }
+        push_totals(&mut text, request.csv, &found)?;
+        Listing::of_text(alloc, text)
+    }
+}
