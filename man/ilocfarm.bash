@@ -2,17 +2,18 @@
 _ilocfarm() {
     local words
     COMPREPLY=()
-    case $COMP_CWORD,${COMP_WORDS[COMP_CWORD - 1]} in *,[\<\>]*|*,--at|*,--load|*,--mult|*,--store|*,--task|*,--workers) return ;; esac
+    case $COMP_CWORD,${COMP_WORDS[COMP_CWORD - 1]} in *,[\<\>]*|*,--at|*,--load|*,--mult|*,--priority|*,--store|*,--task|*,--workers) return ;; esac
     case $COMP_CWORD,${COMP_WORDS[1]} in
-    1,*) words="run simulate schedule counts explain check graph help --help --version" ;;
+    1,*) words="run simulate schedule counts compare explain check graph help --help --version" ;;
     *,run) words="--at --help" ;;
-    *,simulate) words="--at --load --store --mult --help" ;;
-    *,schedule) words="--workers --load --store --mult --help" ;;
-    *,counts) words="--workers --load --store --mult --help" ;;
-    *,explain) words="--load --store --mult --help" ;;
+    *,simulate) words="--at --load --store --mult --priority --help" ;;
+    *,schedule) words="--workers --load --store --mult --priority --help" ;;
+    *,counts) words="--workers --load --store --mult --priority --csv --help" ;;
+    *,compare) words="--workers --load --store --mult --csv --help" ;;
+    *,explain) words="--load --store --mult --priority --help" ;;
     *,check) words="--at --load --store --mult --task --help" ;;
     *,graph) words="--load --store --mult --help" ;;
-    2,help) words="run simulate schedule counts explain check graph" ;;
+    2,help) words="run simulate schedule counts compare explain check graph" ;;
     *) return ;;
     esac
     mapfile -t COMPREPLY < <(compgen -W "$words" -- "${COMP_WORDS[COMP_CWORD]}")

@@ -5,6 +5,7 @@ local -a commands=(
     'simulate:Schedule each block, and run the schedule'
     'schedule:Schedule each block, and print the schedule'
     'counts:Schedule each block, and print how many cycles the schedule takes'
+    'compare:Schedule each block by each priority, and print the cycles beside their bound'
     'explain:Schedule each block, and print why the schedule takes its cycles'
     'check:Judge schedules that others made, given after their blocks'
     'graph:Print the dependence graph of each block, for Graphviz'
@@ -23,23 +24,35 @@ simulate) shift words; (( CURRENT-- ))
         '--load[Cycles that load and loadAI take, 1 to 16 \[default\: 5\]]:N:' \
         '--store[Cycles that store and storeAI take, 1 to 16 \[default\: 5\]]:N:' \
         '--mult[Cycles that mult and multI take, 1 to 16 \[default\: 3\]]:N:' \
+        '--priority[What goes first\: chain, slack, descendants, successors, latency or order \[default\: chain\]]:N:' \
         '--help[Print help]' ;;
 schedule) shift words; (( CURRENT-- ))
     _arguments '--workers[How many workers share the blocks, 1 to 8 \[default\: 2\]]:N:' \
         '--load[Cycles that load and loadAI take, 1 to 16 \[default\: 5\]]:N:' \
         '--store[Cycles that store and storeAI take, 1 to 16 \[default\: 5\]]:N:' \
         '--mult[Cycles that mult and multI take, 1 to 16 \[default\: 3\]]:N:' \
+        '--priority[What goes first\: chain, slack, descendants, successors, latency or order \[default\: chain\]]:N:' \
         '--help[Print help]' ;;
 counts) shift words; (( CURRENT-- ))
     _arguments '--workers[How many workers share the blocks, 1 to 8 \[default\: 2\]]:N:' \
         '--load[Cycles that load and loadAI take, 1 to 16 \[default\: 5\]]:N:' \
         '--store[Cycles that store and storeAI take, 1 to 16 \[default\: 5\]]:N:' \
         '--mult[Cycles that mult and multI take, 1 to 16 \[default\: 3\]]:N:' \
+        '--priority[What goes first\: chain, slack, descendants, successors, latency or order \[default\: chain\]]:N:' \
+        '--csv[Print a table of comma-separated values, a row for each block]' \
+        '--help[Print help]' ;;
+compare) shift words; (( CURRENT-- ))
+    _arguments '--workers[How many workers share the blocks, 1 to 8 \[default\: 2\]]:N:' \
+        '--load[Cycles that load and loadAI take, 1 to 16 \[default\: 5\]]:N:' \
+        '--store[Cycles that store and storeAI take, 1 to 16 \[default\: 5\]]:N:' \
+        '--mult[Cycles that mult and multI take, 1 to 16 \[default\: 3\]]:N:' \
+        '--csv[Print a table of comma-separated values, a row for each block]' \
         '--help[Print help]' ;;
 explain) shift words; (( CURRENT-- ))
     _arguments '--load[Cycles that load and loadAI take, 1 to 16 \[default\: 5\]]:N:' \
         '--store[Cycles that store and storeAI take, 1 to 16 \[default\: 5\]]:N:' \
         '--mult[Cycles that mult and multI take, 1 to 16 \[default\: 3\]]:N:' \
+        '--priority[What goes first\: chain, slack, descendants, successors, latency or order \[default\: chain\]]:N:' \
         '--help[Print help]' ;;
 check) shift words; (( CURRENT-- ))
     _arguments '--at[Address of the first WORD, a multiple of 4 up to 65532 \[default\: 1024\]]:N:' \

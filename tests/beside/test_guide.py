@@ -1,4 +1,4 @@
-"""Cases of docs/GRADING.md: its commands print what is shown, and make the pictures that it shows; and of its scripts."""
+"""Cases of docs/GRADING.md and docs/COMPARING.md: their commands print what is shown, and make the pictures that it shows; and of its scripts."""
 import os
 import re
 
@@ -16,6 +16,9 @@ class Guide(Place):
         for name in PICTURES:
             if self.read(f"docs/{name}") != self.read(name):
                 self.fail(f"docs/{name} is not what the guide's commands make")
+
+    def test_comparing(self):
+        self.follows(shown_on("docs/COMPARING.md"))
 
     def test_book(self):
         """README's picture of the book's example, which takes the book's 13 cycles."""

@@ -9,7 +9,7 @@ from oracle.graph import OPENING, cluster
 from oracle.machine import outcome, row_text, signed, words_from
 from oracle.operations import text_of, words_for
 from oracle.reader import read
-from oracle.scheduler import Schedule
+from oracle.scheduler import ORDERS, Schedule
 
 WORDS = [3, 4_294_967_295, 8, 70, 5, 1_000_000]
 ODD = {"load": 1, "store": 2, "mult": 16}
@@ -38,10 +38,10 @@ LEAST = [
 ]
 
 
-def listing(command, blocks, latencies):
+def listing(command, blocks, latencies, by="chain"):
     lines, total = [], 0
     for k, ops in enumerate(blocks, 1):
-        schedule = Schedule(ops, latencies)
+        schedule = Schedule(ops, latencies, by)
         head, cycles = f"block {k} B{k}", schedule.cycles()
         lines += {"explain": lambda: [head, *schedule.lines()], "counts": lambda: [f"{head} cycles {cycles}"],
                   "schedule": lambda: [head, *map(row_text, schedule.rows), f"cycles {cycles}"],
@@ -51,6 +51,31 @@ def listing(command, blocks, latencies):
     ending = {"run": [], "simulate": [], "graph": ["}"]}.get(command, [f"total {total}"])
     lines[:0] = [OPENING] if command == "graph" else []
     return "\n".join(map(str, [*lines, *ending, ""])).encode()
+
+
+def compared(blocks, latencies):
+    """The bound and the cycles by each order, of each block."""
+    schedules = [[Schedule(ops, latencies, by) for by in ORDERS] for ops in blocks]
+    return [[row[0].least(), *(it.cycles() for it in row)] for row in schedules]
+
+
+def columns(numbers, names=ORDERS):
+    return "".join(f" {name} {number}" for name, number in zip(names, numbers))
+
+
+def comparison(blocks, latencies):
+    rows = compared(blocks, latencies)
+    lines = [f"block {k} B{k}" + columns(row, ("least", *ORDERS)) for k, row in enumerate(rows, 1)]
+    lines.append("total" + columns(map(sum, zip(*rows)), ("least", *ORDERS)))
+    for name, best in (("fewest", lambda row: min(row[1:])), ("optimal", lambda row: row[0])):
+        counts = [sum(row[at] == best(row) for row in rows) for at in range(1, len(ORDERS) + 1)]
+        lines.append(f"{name}{columns(counts)} of {len(rows)}")
+    return "\n".join([*lines, ""]).encode()
+
+
+def table_of(head, rows):
+    lines = [f"block,name,{','.join(head)}", *(",".join(map(str, [k, f"B{k}", *row])) for k, row in enumerate(rows, 1))]
+    return "\n".join([*lines, ""]).encode()
 
 
 def outputs(ops):
@@ -79,6 +104,22 @@ def made(name, blocks, latencies):
         words = [] if command == "run" else words_for(latencies)
         words += ["--at", "0", *map(str, WORDS)] if command in ("run", "simulate") else []
         yield listed(f"drawn/{name}/{command}", text_of(blocks), listing(command, blocks, latencies), [command, *words])
+    yield from by_orders(name, blocks, latencies)
+
+
+def by_orders(name, blocks, latencies):
+    text, words = text_of(blocks), words_for(latencies)
+    yield listed(f"drawn/{name}/compare", text, comparison(blocks, latencies), ["compare", *words])
+    yield listed(f"drawn/{name}/compare_csv", text, table_of(("least", *ORDERS), compared(blocks, latencies)),
+                 ["compare", "--csv", *words])
+    by = random.Random(name).choice(ORDERS)
+    rows = [[Schedule(ops, latencies, by).cycles()] for ops in blocks]
+    yield listed(f"drawn/{name}/counts_csv", text, table_of(["cycles"], rows), ["counts", "--csv", "--priority", by, *words])
+    for command in ("schedule", "counts"):
+        yield listed(f"drawn/{name}/{command}_by_{by}", text, listing(command, blocks, latencies, by),
+                     [command, "--priority", by, *words])
+    yield listed(f"drawn/{name}/simulate_by_{by}", text, listing("simulate", blocks, latencies, by),
+                 ["simulate", "--priority", by, *words, "--at", "0", *map(str, WORDS)])
 
 
 def known(name, text, latencies, **told):

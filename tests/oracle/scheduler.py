@@ -4,6 +4,8 @@ from oracle.operations import Op
 
 SHARES = (({"load", "store"}, 1), ({"mult"}, 1), ({"output"}, 1), (None, 2))    # kinds, and how many a row can hold
 
+ORDERS = ("chain", "slack", "descendants", "successors", "latency", "order")
+
 
 def renamed(ops):
     names, made, given = {}, [], 0
