@@ -44,11 +44,7 @@ impl<'f> Model for BlockJobs<'f> {
 
 impl<'f> BlockJobs<'f> {
     /// The blocks of this file.
-    pub fn new(
-        file: &'f IlocFile,
-        latencies: &Latencies,
-        heuristic: Heuristic,
-    ) -> BlockJobs<'f>
+    pub fn new(file: &'f IlocFile, latencies: &Latencies, heuristic: Heuristic) -> BlockJobs<'f>
         requires { IsWithinLimits file.now.blocks }
         ensures { result
             ≡ record { blocks = file.now.blocks; latencies = latencies.now; heuristic = heuristic } }

@@ -72,9 +72,7 @@ impl FarmedLister for CountLister {
         _number: usize,
         block: &Block,
     ) -> Result<u32, NoMemory> {
-        let schedule = self
-            .0
-            .lend_as(block, &request.latencies, request.priority)?;
+        let schedule = self.0.lend_as(block, &request.latencies, request.priority)?;
         let cycles = count_of(&schedule, &request.latencies);
         self.0.take_back(schedule);
         Ok(cycles)

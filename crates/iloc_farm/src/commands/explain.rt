@@ -36,9 +36,7 @@ impl Lister for ExplainLister {
         block: &Block,
         text: &mut Vec<u8>,
     ) -> Result<u32, NoMemory> {
-        let schedule = self
-            .0
-            .lend_as(block, &request.latencies, request.priority)?;
+        let schedule = self.0.lend_as(block, &request.latencies, request.priority)?;
         let cycles = count_of(&schedule, &request.latencies);
         push_block_head(text, number, block.name.as_ref())?;
         text.push(b'\n')?;
