@@ -22,6 +22,11 @@ returns-in_ok-text-in-Counts-clause-ok g c =
     file_listed _ task.Counts _ _ _ _ c.of_file-in-Counts.result c.in-Counts.is (λ input file. file) (λ lists. lists) c.in_ok-text-in-Counts.ensures.ok
     c.of_file-in-Counts.ensures
 
+pub returns-in_ok-text-in-Compare-clause-ok : goal.returns-in_ok-text-in-Compare-clause-ok
+returns-in_ok-text-in-Compare-clause-ok g c =
+    file_listed _ task.Compare _ _ _ _ c.of_file-in-Compare.result c.in-Compare.is (λ input file. file) (λ lists. lists) c.in_ok-text-in-Compare.ensures.ok
+    c.of_file-in-Compare.ensures
+
 pub returns-in_ok-text-in-Explain-clause-ok : goal.returns-in_ok-text-in-Explain-clause-ok
 returns-in_ok-text-in-Explain-clause-ok g c =
     file_listed _ task.Explain _ _ _ _ c.of_file-in-Explain.result c.in-Explain.is (λ input file. file) (λ lists. lists) c.in_ok-text-in-Explain.ensures.ok
