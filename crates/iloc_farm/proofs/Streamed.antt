@@ -1,26 +1,18 @@
 -- What was read from a stream as it came.
-use Rattle.std.proofs.Common.{ℕ, List, Option, arith}
+use Rattle.std.proofs.Common.{ℕ, List, Option}
 use Rattle.iloc_text.specs.declared.fault.ReadFault.{ReadFault}
 use Rattle.iloc_text.specs.declared.fault.ReadFault.TheVariants.{InputTooLong, BadLine, NumberTooLarge, TooManyBlocks, TooManyOperations, NoMemory}
 use Rattle.iloc_text.specs.declared.fault.StreamFault.{StreamFault}
 use Rattle.iloc_text.specs.declared.fault.StreamFault.TheVariants as stream
 use Rattle.iloc_text.specs.Files.{IsRefused}
 use Rattle.iloc_text.specs.Streams.{ReadsText, EndsStream}
-use Rattle.iloc_farm.specs.Device.{ReadsInput}
 use Rattle.iloc_farm.specs.Fault.{fault_of_stream}
 use Rattle.iloc_farm.specs.Run.{Refuses}
 use Rattle.iloc_farm.specs.Steps.OfInput.{EndsFile}
 
-pub reads_input : (old new : Option (List ℕ)) (text : List ℕ) → ReadsText old new text → ReadsInput old new text
-reads_input old new text read = record {
-  taken = read.taken;
-  most = read.most;
-  whole = λ short. read.whole (omega (arith, short));
-}
-
 refuses : (old new : Option (List ℕ)) (fault : ReadFault)
     → (text : List ℕ) × ReadsText old new text × IsRefused text fault → Refuses IsRefused old new fault
-refuses old new fault h = record { input = h.0; read = reads_input old new h.0 h.1; refused = h.2 }
+refuses old new fault h = record { input = h.0; read = h.1; refused = h.2 }
 
 pub ends_file : (old new : Option (List ℕ)) (fault : StreamFault) → EndsStream old new fault
     → EndsFile old new (fault_of_stream fault)

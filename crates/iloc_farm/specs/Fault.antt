@@ -1,5 +1,5 @@
 -- How a run ends: what it finds or what stops it, what is said of a fault, and the exit status.
-use Rattle.std.specs.Prelude.{◌≡◌, ℕ, Bool, true, false, List, ◌++◌, codes}
+use Rattle.std.specs.Prelude.{◌≡◌, ℕ, Bool, true, false, List, [], ◌++◌, codes}
 use Rattle.iloc_text.specs.Fault.{fault_text}
 use Rattle.iloc_text.specs.declared.fault.ReadFault.{ReadFault}
 use Rattle.iloc_text.specs.declared.fault.ReadFault.TheVariants as text
@@ -8,6 +8,7 @@ use Rattle.iloc_text.specs.declared.fault.StreamFault.TheVariants as stream
 use Rattle.iloc_rows.specs.Fault.{rows_fault_text}
 use Rattle.iloc_rows.specs.declared.fault.RowsFault.{RowsFault}
 use Rattle.iloc_rows.specs.declared.fault.RowsFault.TheVariants as rows
+use Rattle.iloc_board.specs.Journal.{JournalView}
 use Rattle.iloc_farm.specs.declared.reading.InputFault.{InputFault}
 use Rattle.iloc_farm.specs.declared.reading.InputFault.TheVariants as input
 use Rattle.iloc_farm.specs.declared.commands.Finding.{Finding}
@@ -115,9 +116,10 @@ fault_of_rows (rows.Read text.NoMemory) = no_memory
 fault_of_rows rows.NoBlocks = Rows rows.NoBlocks
 fault_of_rows (rows.NoSuchBlock n) = Rows (rows.NoSuchBlock n)
 
--- What holds where so many workers were to work off a board, for which so many passes were made, and it ended with this
--- fault: no thread was tried before all passes were made. It can't be said that one was refused, or that memory was, nor
--- that no thread is left, since contracts know nothing of what there is.
-abbrev pub EndsWork : ℕ → ℕ → FarmFault → Type 0
-EndsWork workers made farm.NoThread = made ≡ workers
-EndsWork workers made farm.NoMemory = Unit {0}
+-- What holds where so many workers were to do the jobs of a board, for which so many passes were made and these journals
+-- gathered, and it ended with this fault. No thread is started before all passes are made, and one that can't be started is
+-- answered before any pass is gathered, so before memory that was refused to a worker. Contracts know nothing of what there
+-- is, so it can't be said that a thread was refused, or memory, nor that no thread is left.
+abbrev pub EndsWork : ℕ → ℕ → List JournalView → FarmFault → Type 0
+EndsWork workers made gathered farm.NoThread = (made ≡ workers) × (gathered ≡ [])
+EndsWork workers made gathered farm.NoMemory = Unit {0}

@@ -44,6 +44,8 @@ impl<'f> Model for BlockJobs<'f> {
 
 impl<'f> BlockJobs<'f> {
     /// The blocks of this file.
+    ///
+    /// Promise: the jobs are the file's blocks, to be scheduled by this heuristic with these latencies.
     pub fn new(file: &'f IlocFile, latencies: &Latencies, heuristic: Heuristic) -> BlockJobs<'f>
         requires { IsWithinLimits file.now.blocks }
         ensures { result
@@ -87,13 +89,16 @@ impl<'f> Jobs for BlockJobs<'f> {
     }
 }
 
-/// The schedule of each block that is greedy by a heuristic, in the order of the file, found by `workers` threads that take
-/// the blocks from one board.
+/// Schedules the blocks of a file by `workers` threads, which take them from one board.
+///
+/// Promise: the answer is the schedule of each block that is greedy by the heuristic, in the order of the file, and no other
+/// list of schedules is. On every memory each schedule has its block's outcome. What the workers did, `work_all` and
+/// `collect_schedules` say.
 ///
 /// # Errors
 ///
-/// `NoThread` where a thread could not be started, `NoMemory` where a growth was refused. After
-/// either every thread that was started has ended.
+/// `NoThread` where a thread could not be started, `NoMemory` where memory was refused. After either every thread that was
+/// started has ended.
 pub fn schedule_all<R: Threads + Wait + Sync, G: Gate + Sync>(
     rt: &R,
     alloc: Global,
@@ -104,7 +109,6 @@ pub fn schedule_all<R: Threads + Wait + Sync, G: Gate + Sync>(
     gate: &G,
 ) -> Result<Vec<Schedule>, FarmFault>
     requires some_worker { 1 ≤ workers }
-    requires few_workers { workers ≤ 8 }
     requires limits { IsWithinLimits file.now.blocks }
     ensures greedy { IfOk result (λ schedules.
         AreGreedyAs heuristic latencies.now file.now.blocks schedules.items) }
@@ -120,7 +124,11 @@ pub fn schedule_all<R: Threads + Wait + Sync, G: Gate + Sync>(
     Ok(collect_schedules(board, root)?.answers)
 }
 
-/// The schedules that workers made at this board, whose blocks are all done, each with its cycles, in the order of the file.
+/// Closes a board at which all blocks were scheduled: the schedules, each with its cycles, in the order of the file.
+///
+/// Promise: what the workers did, by the journals that the root gathered, is one legal history of a board of one thread, in
+/// which each block is taken once and its schedule handed back once. The answer has just these schedules, at their cycles: each
+/// is the greedy one, keeps the rules of units and latencies, and has its block's outcome on every memory.
 pub fn collect_schedules<'j, 'f>(
     board: Board<'j, BlockJobs<'f>>,
     root: Root<'j, BlockJobs<'f>>,

@@ -104,6 +104,8 @@ impl Display for RunFault {
 impl Error for RunFault {}
 
 /// The exit status of a program that ends with this fault.
+///
+/// Promise: 1 for a fault in the text, 3 where memory or a thread was refused, 4 where a device failed.
 pub fn run_status(fault: &RunFault) -> u8
     ensures { result ≡ run_status_of fault.now }
 {

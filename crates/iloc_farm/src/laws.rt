@@ -3,17 +3,23 @@ ghost use Rattle.iloc_farm.specs.Laws.{ChecksIgnoreWorkers, GreedySchedulesCanBe
 ghost use Rattle.iloc_farm.specs.Laws.{ListingsIgnoreWorkers, PassedChecksKeepOutcomes};
 ghost use Rattle.iloc_farm.specs.Laws.{SimulatingListsRuns, Status0MeansTheSame};
 
-/// Requests that are equal but for their workers list one text of one file.
+/// The number of workers leaves no trace in a listing.
+///
+/// Promise: requests that are equal but for their workers list one text of one file.
 pub fn listings_ignore_workers()
     ensures { ListingsIgnoreWorkers }
 {}
 
-/// What `simulate` lists of blocks is what `run` lists of them.
+/// `simulate` and `run` list the same.
+///
+/// Promise: what `simulate` lists of blocks is what `run` lists of them.
 pub fn simulating_lists_runs()
     ensures { SimulatingListsRuns }
 {}
 
-/// What a check may list of an input does not depend on its workers.
+/// The number of workers leaves no trace in a check.
+///
+/// Promise: what a check may list of an input doesn't depend on its workers.
 pub fn checks_ignore_workers()
     ensures { ChecksIgnoreWorkers }
 {}
@@ -37,8 +43,9 @@ pub fn hand_ins_dont_change_the_task()
     ensures { HandInsDontChangeTheTask }
 {}
 
-/// The greedy schedules of blocks within the limits are as many as the blocks, and their cycles
-/// together are below 2^63, as `schedules_text` requires.
+/// `schedules_text` takes the greedy schedules of every file.
+///
+/// Promise: of blocks within the limits there are as many greedy schedules as blocks, and their cycles together are below 2^63.
 pub fn greedy_schedules_can_be_listed()
     ensures { GreedySchedulesCanBeListed }
 {}

@@ -36,7 +36,7 @@ pub trait Lister: Drop {
         ensures { IfOk result (λ lister. memory request.now lister ≡ initial_memory request.now) };
 
     /// Appends the entry of the block with this number, counted from 1, and answers what is found of it. After a refusal a
-    /// part of the entry may stand behind the text.
+    /// part of the entry may follow the text.
     fn list(
         &mut self,
         alloc: Global,
@@ -57,7 +57,9 @@ pub trait Lister: Drop {
         ensures { OnOk result (text.new.items ≡ text.old.items ++ ending found.now) };
 }
 
-/// The memory that a request has each block start with: its words from its start on, and else 0.
+/// The memory that a request has each block start with.
+///
+/// Promise: it has the request's words from its start on, and 0 at every other address.
 pub fn initial_memory(alloc: Global, request: &Request) -> Result<Memory, NoMemory>
     ensures { IfOk result (λ memory. memory ≡ initial_memory request.now) }
 {

@@ -70,7 +70,7 @@ fn push_words(text: &mut Vec<u8>, words: &[i32]) -> Result<(), NoMemory>
 }
 
 /// Appends what is listed of the block with this number, counted from 1, which emitted these words,
-/// or faulted where there are none. After a refusal a part of it may stand behind the text.
+/// or faulted where there are none. After a refusal a part of it may follow the text.
 pub(crate) fn push_outcome(
     text: &mut Vec<u8>,
     number: usize,
@@ -166,8 +166,10 @@ pub(crate) fn push_total_of(text: &mut Vec<u8>, cycles: &[u32]) -> Result<(), No
     push_total(text, total)
 }
 
-/// The listing of a file's blocks with their schedules: for each its rows and its cycles, and at the
-/// end the cycles of all.
+/// The listing of a file's blocks with their schedules.
+///
+/// Promise: for each block the listing has its head, a line for each row up to the last operation, and its cycles; at the end
+/// the cycles of all.
 pub fn schedules_text(
     alloc: Global,
     file: &IlocFile,

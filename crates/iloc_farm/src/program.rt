@@ -20,7 +20,7 @@ use std::io::{self, ErrorKind, Read, Write};
 use std::sync::Wait;
 use std::thread::Threads;
 
-/// What is said of words that are no text.
+/// What is said of words that aren't UTF-8.
 const NO_TEXT: &str = "error: invalid UTF-8 was detected in one or more arguments\n";
 
 /// At most so many bytes are said of a fault that the parser didn't find.
@@ -89,11 +89,11 @@ impl From<WriteFailed> for Fault {
     }
 }
 
-/// Runs the program on its words, the first of which is its own name: writes what they ask for to
-/// `writer`, or what stopped it to `faults`. Where it wrote what they ask for, its status is 0, or 5
-/// where a check failed. `texts` opens the file of blocks that they may name.
+/// Runs the program on its words, the first of which is its own name. An error in place of the words means that one of them
+/// isn't UTF-8, or that memory was refused. `texts` opens the file of blocks that they may name.
 ///
-/// An error in place of the words means that one of them is no text, or want of memory.
+/// Promise: the program does what its words ask for and ends with status 0, or 5 where a check failed. Or a fault stops it: then
+/// it says which on one line of `faults`, or in the parser's own words, and ends with that fault's status.
 pub fn run_program<H: Threads + Wait + Sync, T: Texts, R: Read, W: Write, F: Write>(
     rt: &H,
     alloc: Global,
@@ -119,14 +119,13 @@ pub fn run_program<H: Threads + Wait + Sync, T: Texts, R: Read, W: Write, F: Wri
     }
 }
 
-/// Reads an input, writes what the request lists of it, and answers what was found. For `Check` the
-/// input is blocks with rows or, where the request names a file, rows for that file's blocks, which
-/// are read first; else it is a file, of which nothing is judged. For `Run`, `Simulate` and
-/// `Check` each block starts with the request's memory; for `Schedule` and `Counts` the request's
-/// workers are threads.
+/// Reads an input, writes what the request lists of it, and answers what was found. For `Check` the input is blocks with rows
+/// or, where the request names a file, rows for that file's blocks, which are read first; else it is a file, of which nothing
+/// is judged. For `Schedule` and `Counts` the request's workers are threads.
 ///
-/// The whole listing is made before the first byte is written. After `WriteFailed` a front of it was
-/// written, after any other fault nothing.
+/// Promise: at `Ok` the listing of just this input was written, whole. After `WriteFailed` a prefix of it was, and after any other
+/// fault nothing. A fault of the text is the first that the text has; that no worker could be started is answered only where
+/// the text has none.
 pub fn run<H: Threads + Wait + Sync, T: Texts, R: Read, W: Write>(
     rt: &H,
     alloc: Global,

@@ -20,9 +20,6 @@ use std::io::Read;
 use std::sync::Wait;
 use std::thread::Threads;
 
-/// At most so many bytes are read: one more than the longest text that is a file.
-pub const MOST_READ: usize = MAX_INPUT + 1;
-
 /// At most so many bytes are asked for at a time.
 const PIECE: usize = 8192;
 
@@ -34,7 +31,7 @@ const LEAST_SHARED: usize = 262_144;
 pub enum InputFault {
     /// A read failed.
     ReadFailed,
-    /// The growth of the input was refused.
+    /// Memory for the input was refused.
     NoMemory,
 }
 
@@ -49,16 +46,18 @@ impl From<AllocError> for InputFault {
     }
 }
 
-/// Reads until the end, or until 16,777,217 bytes have come. Any error of a read ends it.
+/// Reads the whole input. Any error of a read ends it.
+///
+/// Promise: the input is what the reader gave, to its end or until 16,777,217 bytes had come.
 pub fn read_input<R: Read>(alloc: Global, reader: &mut R) -> Result<Vec<u8>, InputFault>
     ensures { IfOk result (λ input.
         ReadsInput (R.remaining reader.old) (R.remaining reader.new) input.items) }
 {
     let mut input = Vec::new(alloc);
     let mut piece = [0; PIECE];
-    while input.len() < MOST_READ {
-        let room = PIECE.min(MOST_READ - input.len());
-        let Ok(count) = reader.read(&mut piece[..room]) else {
+    while input.len() <= MAX_INPUT {
+        let count = PIECE.min(MAX_INPUT + 1 - input.len());
+        let Ok(count) = reader.read(&mut piece[..count]) else {
             return Err(InputFault::ReadFailed);
         };
         if count == 0 {

@@ -49,13 +49,16 @@ impl<'s, 'a, J: AtDesk<D>, D: Drop, G: Gate> Routine for Shift<'s, 'a, J, D, G> 
     }
 }
 
-/// Has all jobs of a new board done by as many workers as its root may make: a pass is made for each, with one of these
-/// desks, all work at once on a thread each, and all are gathered.
+/// Has all jobs of a new board done by as many workers as its root may make: each has a pass, one of these desks and a thread
+/// of its own.
+///
+/// Promise: at `Ok` the root has gathered one journal of each worker, in order, and each worker was told that no job is left.
+/// `NoThread` comes only after all passes were made and before any was gathered.
 ///
 /// # Errors
 ///
-/// `NoThread` where a thread could not be started, `NoMemory` where a growth was refused. After
-/// either every thread that was started has ended.
+/// `NoThread` where a thread could not be started, whatever became of the workers before it; else `NoMemory` where memory was
+/// refused. After either every thread that was started has ended.
 pub fn work_all<'a, J: AtDesk<D> + Sync, D: Send + Drop, G: Gate + Sync, R: Threads + Wait + Sync>(
     rt: &R,
     alloc: Global,
@@ -76,7 +79,7 @@ where
     ensures journals { OnOk result (workers_of root.new.gathered ≡ range_with_len 0 root.old.workers) }
     ensures done { OnOk result (All IsDone root.new.gathered) }
     ensures whole { OnOk result (IsWhole root.new.made root.new.gathered) }
-    ensures order { IfErr result (EndsWork root.old.workers root.new.made) }
+    ensures order { IfErr result (EndsWork root.old.workers root.new.made root.new.gathered) }
 {
     let shifts = shifts(alloc, board, root, desks, gate)?;
     let worked = crew(rt, alloc, shifts)?;
@@ -116,7 +119,7 @@ fn shifts<'s, 'a, J: AtDesk<D>, D: Drop, G: Gate>(
     Ok(made)
 }
 
-/// Gathers a pass that has worked, and tells whether memory sufficed for its work and for the gathering.
+/// Gathers a pass that has worked, and answers whether memory sufficed for its work and for the gathering.
 fn gather_one<'a, J: Jobs>(
     board: &Board<'a, J>,
     root: &mut Root<'a, J>,
@@ -135,7 +138,7 @@ fn gather_one<'a, J: Jobs>(
     done
 }
 
-/// Gathers every pass, and then tells whether memory sufficed for all of them.
+/// Gathers every pass, and then answers whether memory sufficed for all of them.
 fn gather_all<'a, J: Jobs>(
     board: &Board<'a, J>,
     root: &mut Root<'a, J>,

@@ -10,7 +10,9 @@ use std::io::Write;
 #[derive(Clone, Copy, Debug, Drop, PartialEq, Eq)]
 pub struct WriteFailed;
 
-/// Writes the whole text, then flushes. After a failure a prefix of the text was written.
+/// Writes the whole text, then flushes.
+///
+/// Promise: at `Ok` the text was written, once and whole; after a failure a prefix of it was.
 pub fn write_text<W: Write>(writer: &mut W, text: &[u8]) -> Result<(), WriteFailed>
     ensures ok { OnOk result (Appends (W.contents writer.old) (W.contents writer.new) text.now) }
     ensures err { OnErr result

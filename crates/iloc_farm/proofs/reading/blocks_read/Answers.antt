@@ -2,7 +2,7 @@ use Rattle.std.proofs.Common.{◌∙◌, Err, IfErr, ap, sym, subst}
 use Rattle.std.proofs.lemmas.Result.{err_from_is_err_and}
 use Rattle.iloc_farm.specs.Schedules.{IsWithinLimits}
 use Rattle.iloc_farm.specs.Steps.OfInput.{EndsFile}
-use Rattle.iloc_farm.proofs.Streamed.{reads_input, ends_file}
+use Rattle.iloc_farm.proofs.Streamed.{ends_file}
 use Rattle.iloc_farm.proofs.reading.blocks_read.Goals as goal
 
 pub returns-clause-ok : goal.returns-clause-ok
@@ -10,7 +10,7 @@ returns-clause-ok g c =
     let read = c.in_ok-read_blocks_from.ensures.ok in
     let limits = c.files_are_within_limits.ensures read.0 read.2 read.3 in
     let within : IsWithinLimits read.2 = record { few_blocks = limits.0; short_blocks = limits.1 } in
-    (read.0, reads_input _ _ read.0 read.1, read.2, read.3, within, read.4)
+    (read.0, read.1, read.2, read.3, within, read.4)
 
 pub returns-in_err-read_blocks_from-clause-err : goal.returns-in_err-read_blocks_from-clause-err
 returns-in_err-read_blocks_from-clause-err g c =
