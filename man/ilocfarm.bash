@@ -4,7 +4,7 @@ _ilocfarm() {
     COMPREPLY=()
     case $COMP_CWORD,${COMP_WORDS[COMP_CWORD - 1]} in *,[\<\>]*|*,--at|*,--load|*,--mult|*,--priority|*,--store|*,--task|*,--workers) return ;; esac
     case $COMP_CWORD,${COMP_WORDS[1]} in
-    1,*) words="run simulate schedule counts compare explain check graph help --help --version" ;;
+    1,*) words="run simulate schedule counts compare explain check graph lint help --help --version" ;;
     *,run) words="--at --help" ;;
     *,simulate) words="--at --load --store --mult --priority --help" ;;
     *,schedule) words="--workers --load --store --mult --priority --help" ;;
@@ -13,7 +13,8 @@ _ilocfarm() {
     *,explain) words="--load --store --mult --priority --help" ;;
     *,check) words="--at --load --store --mult --task --help" ;;
     *,graph) words="--load --store --mult --help" ;;
-    2,help) words="run simulate schedule counts compare explain check graph" ;;
+    *,lint) words="--help" ;;
+    2,help) words="run simulate schedule counts compare explain check graph lint" ;;
     *) return ;;
     esac
     mapfile -t COMPREPLY < <(compgen -W "$words" -- "${COMP_WORDS[COMP_CWORD]}")

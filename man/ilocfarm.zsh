@@ -9,6 +9,7 @@ local -a commands=(
     'explain:Schedule each block, and print why the schedule takes its cycles'
     'check:Judge schedules that others made, given after their blocks'
     'graph:Print the dependence graph of each block, for Graphviz'
+    'lint:Print every fault of the text, and what is wanted there'
     'help:Print this message or the help of the given subcommand(s)'
 )
 if (( CURRENT == 2 )) || [[ $words[2] = help && $CURRENT = 3 ]]; then
@@ -66,4 +67,6 @@ graph) shift words; (( CURRENT-- ))
         '--store[Cycles that store and storeAI take, 1 to 16 \[default\: 5\]]:N:' \
         '--mult[Cycles that mult and multI take, 1 to 16 \[default\: 3\]]:N:' \
         '--help[Print help]' ;;
+lint) shift words; (( CURRENT-- ))
+    _arguments '--help[Print help]' ;;
 esac

@@ -51,6 +51,9 @@ def text_checks():
         step = SELDOM if TESTED.is_short and command != "run" else 1
         for name, texts in (("cut", cut), ("changed", changed)):
             yield Check(f"texts/{name}/{command}", wrong_among, command, texts[::step])
+    step = SELDOM if TESTED.is_short else 1
+    for name, texts in (("cut", cut), ("changed", changed)):
+        yield Check(f"texts/{name}/lint", unlike_run, texts[::step])
 
 
 def changed_texts(text, others):
@@ -72,6 +75,16 @@ def wrong_among(command, texts):
     print(f"{command}: {len(texts)} texts")
     if statuses != {0, 1}:
         yield f"the texts end with the statuses {statuses} in place of 0 and 1"
+
+
+def unlike_run(texts):
+    """Where the first line that `lint` lists isn't that for which `run` refuses the text."""
+    for text in texts:
+        status, out, err = ending(["lint"], text)
+        said = ending(["run"], text)[2]
+        first = out.split(b":")[0] if status else b""
+        if err or said.removeprefix(b"ilocfarm: ").split(b":")[0] != first:
+            yield f"{text!r}: {first} beside {said}"
 
 
 load_tests = table(text_checks)

@@ -91,6 +91,7 @@ def runs(name, given, rows):
     yield Asked(["simulate"], name, given)
     yield Asked(["explain"], name, given)
     yield Asked(["graph"], name, given)
+    yield Asked(["lint"], name, given)
     yield Asked(["check", "--at", "0", "5", "6"], name, given + rows)
     yield Asked(["check", "--task", stored(f"{name}.iloc", given)], f"rows for {name}", rows)
     yield Asked(["counts", "--csv", "--workers", "1"], name, given, 1)
@@ -102,6 +103,7 @@ def runs(name, given, rows):
 def few_runs():
     yield from runs("3 blocks", SMALL, ROWS)
     yield Asked(["counts"], "a bad line", BAD)
+    yield Asked(["lint"], "a bad line", BAD)
     yield Asked(["check"], "a bad row", NO_ROW)
     yield Asked(["check", "--task", stored("bad.iloc", BAD)], "a bad task", ROWS)
     yield Asked(["run", "--help"], "nothing", b"")

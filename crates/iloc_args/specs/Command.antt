@@ -8,7 +8,7 @@ use Rattle.clap.specs.Simple.{new_shape}
 use Rattle.iloc_meaning.specs.Address.{LAST_ADDRESS}
 use Rattle.iloc_timed.specs.Limits.{LONGEST_LATENCY}
 use Rattle.iloc_args.specs.declared.request.Task.{Task}
-use Rattle.iloc_args.specs.declared.request.Task.TheVariants.{Run, Simulate, Schedule, Counts, Compare, Explain, Check, Graph}
+use Rattle.iloc_args.specs.declared.request.Task.TheVariants.{Run, Simulate, Schedule, Counts, Compare, Explain, Check, Graph, Lint}
 
 -- `--NAME N`, a number within these bounds, and this one where it is not given
 abbrev pub number_rule : Text → Text → ℕ → ℕ → Rule
@@ -128,6 +128,10 @@ check_entry = record {
 abbrev pub graph_entry : Entry
 graph_entry = record { name = codes "graph"; task = Graph; rules = latency_rules }
 
+-- `lint`
+abbrev pub lint_entry : Entry
+lint_entry = record { name = codes "lint"; task = Lint; rules = [] }
+
 -- the commands that there are
 abbrev pub entries : List Entry
 entries =
@@ -139,6 +143,7 @@ entries =
     ∷ explain_entry
     ∷ check_entry
     ∷ graph_entry
+    ∷ lint_entry
     ∷ []
 
 -- a command as the parser has it

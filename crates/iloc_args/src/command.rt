@@ -5,7 +5,7 @@ ghost use Rattle.clap.specs.Words.{AddsSubcommand};
 ghost use Rattle.iloc_args.specs.Command.{at_rule, check_entry, compare_entry, counts_entry, csv_rule, explain_entry};
 ghost use Rattle.iloc_args.specs.Command.{farm_app, flag_rule, latency_rule, latency_rules, lawful_rule};
 ghost use Rattle.iloc_args.specs.Command.{priority_rule, run_entry, schedule_entry, simulate_entry};
-ghost use Rattle.iloc_args.specs.Command.{graph_entry};
+ghost use Rattle.iloc_args.specs.Command.{graph_entry, lint_entry};
 ghost use Rattle.iloc_args.specs.Command.{task_rule, text_rule, top_shape, words_rule, workers_rule};
 ghost use Rattle.iloc_args.specs.Steps.Building.{AddsArgument, AddsRules, HasApp, HasRule, alone, app};
 ghost use Rattle.iloc_args.specs.Steps.Building.{memory_shape, option_rule, workers_shape};
@@ -348,6 +348,15 @@ fn graph_command<'a>(alloc: Global) -> Result<Command<'a>, AllocError>
     with_latencies(alloc, Ok(bare_command(alloc, "graph", about, usage)))
 }
 
+/// `lint`
+fn lint_command<'a>(alloc: Global) -> Result<Command<'a>, AllocError>
+    ensures { IfOk result (HasApp (app lint_entry)) }
+{
+    let about = "Print every fault of the text, and what is wanted there";
+    let usage = "ilocfarm lint < BLOCKS";
+    Ok(bare_command(alloc, "lint", about, usage))
+}
+
 /// The program without its commands.
 fn top_command<'a>(alloc: Global) -> Result<Command<'a>, AllocError>
     ensures { IfOk result (HasApp (alone top_shape)) }
@@ -385,5 +394,6 @@ pub(crate) fn farm_command<'a>(alloc: Global) -> Result<Command<'a>, AllocError>
     let farm = with_command(farm, compare_command(alloc));
     let farm = with_command(farm, explain_command(alloc));
     let farm = with_command(farm, check_command(alloc));
-    with_command(farm, graph_command(alloc))
+    let farm = with_command(farm, graph_command(alloc));
+    with_command(farm, lint_command(alloc))
 }

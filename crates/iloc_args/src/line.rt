@@ -64,6 +64,7 @@ fn task_of(name: &str) -> Task
         "explain" => Task::Explain,
         "check" => Task::Check,
         "graph" => Task::Graph,
+        "lint" => Task::Lint,
         _ => unreachable!(),
     }
 }

@@ -25,6 +25,8 @@ pub enum Task {
     Check,
     /// List its dependence graph.
     Graph,
+    /// List every fault of the text.
+    Lint,
 }
 
 /// A command with its options; an option that the command does not take has its default.

@@ -243,6 +243,7 @@ of_one_task task.Explain r q alike blocks text text' lists lists' =
 of_one_task task.Graph r q alike blocks text text' lists lists' =
     one_listing (IsGraphEntry r) (IsGraphEntry q) (graph_same r q alike) drawing_end blocks text text' lists lists'
 of_one_task task.Check r q alike blocks text text' lists lists' = absurd lists
+of_one_task task.Lint r q alike blocks text text' lists lists' = absurd lists
 
 pub simulating_lists_runs : SimulatingListsRuns
 simulating_lists_runs request blocks text is =

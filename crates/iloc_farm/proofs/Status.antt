@@ -20,7 +20,7 @@ use Rattle.iloc_farm.specs.declared.fault.RunFault.TheVariants.{ReadFailed, Text
 use Rattle.iloc_farm.specs.declared.fault.TaskFault.{TaskFault}
 use Rattle.iloc_farm.specs.declared.fault.TaskFault.TheVariants as task_fault
 use Rattle.iloc_farm.specs.declared.commands.Finding.{Finding}
-use Rattle.iloc_farm.specs.declared.commands.Finding.TheVariants.{Passed, Failed}
+use Rattle.iloc_farm.specs.declared.commands.Finding.TheVariants.{Passed, Failed, Unread}
 use Rattle.iloc_farm.specs.declared.program.Fault.{Fault}
 use Rattle.iloc_farm.specs.declared.program.Fault.TheVariants.{Line, Run}
 use Rattle.iloc_farm.specs.Apart.{Held}
@@ -72,6 +72,7 @@ above_0 held words ro rn wo wn (Run WriteFailed) stopped zero = omega arith
 passed_at_0 : (finding : Finding) → status_of_finding finding ≡ 0 → finding ≡ Passed
 passed_at_0 Passed zero = λ i. Passed
 passed_at_0 Failed zero = absurd (omega arith)
+passed_at_0 Unread zero = absurd (omega arith)
 
 -- The words ask for one thing
 

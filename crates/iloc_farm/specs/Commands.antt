@@ -7,3 +7,4 @@ pub mod Compare
 pub mod Explain
 pub mod Graph
 pub mod Check
+pub mod Lint

@@ -12,7 +12,7 @@ use Rattle.iloc_board.specs.Journal.{JournalView}
 use Rattle.iloc_farm.specs.declared.reading.InputFault.{InputFault}
 use Rattle.iloc_farm.specs.declared.reading.InputFault.TheVariants as input
 use Rattle.iloc_farm.specs.declared.commands.Finding.{Finding}
-use Rattle.iloc_farm.specs.declared.commands.Finding.TheVariants.{Passed, Failed}
+use Rattle.iloc_farm.specs.declared.commands.Finding.TheVariants.{Passed, Failed, Unread}
 use Rattle.iloc_farm.specs.declared.fault.FarmFault.{FarmFault}
 use Rattle.iloc_farm.specs.declared.fault.FarmFault.TheVariants as farm
 use Rattle.iloc_farm.specs.declared.fault.RunFault.{RunFault}
@@ -25,10 +25,16 @@ abbrev pub finding_of : Bool → Finding
 finding_of true = Passed
 finding_of false = Failed
 
--- 0 where they passed, 5 where they didn't
+-- a text that was searched for faults reads or doesn't
+abbrev pub finding_of_text : Bool → Finding
+finding_of_text true = Passed
+finding_of_text false = Unread
+
+-- 0 where they passed, 5 where they didn't, 1 where the text doesn't read
 abbrev pub status_of_finding : Finding → ℕ
 status_of_finding Passed = 0
 status_of_finding Failed = 5
+status_of_finding Unread = 1
 
 -- 1 for a fault in the text, 3 for want of memory
 abbrev pub text_status : ReadFault → ℕ

@@ -23,6 +23,7 @@ use Rattle.iloc_farm.specs.Commands.Check.{ListsChecked}
 use Rattle.iloc_farm.specs.Commands.Compare.{IsCompareListing}
 use Rattle.iloc_farm.specs.Commands.Counts.{IsCountListing}
 use Rattle.iloc_farm.specs.Commands.Explain.{IsExplainEntry}
+use Rattle.iloc_farm.specs.Commands.Lint.{ListsLinted}
 use Rattle.iloc_farm.specs.Commands.Graph.{IsGraphEntry, drawing_end}
 use Rattle.iloc_farm.specs.Commands.Run.{IsRunEntry, initial_memory, no_ending}
 use Rattle.iloc_farm.specs.Commands.Schedule.{IsScheduleEntry}
@@ -31,8 +32,8 @@ use Rattle.iloc_farm.specs.Device.{ReadsInput, WritesFront}
 use Rattle.iloc_farm.specs.Entries.{IsListingOf}
 use Rattle.iloc_farm.specs.Listing.{total_of_all}
 
--- The text is what a request with this task lists of a file's blocks: an entry for each, and an ending. A check lists no
--- file.
+-- The text is what a request with this task lists of a file's blocks: an entry for each, and an ending. A check and
+-- a search for faults list no file.
 abbrev pub IsListingFor : Task → Request → List Block → List ℕ → Type 0
 IsListingFor task.Run request blocks text = IsListingOf (IsRunEntry request) no_ending blocks text
 IsListingFor task.Simulate request blocks text = IsListingOf (IsSimulateEntry request) no_ending blocks text
@@ -42,6 +43,7 @@ IsListingFor task.Compare request blocks text = IsCompareListing request blocks 
 IsListingFor task.Explain request blocks text = IsListingOf (IsExplainEntry request) total_of_all blocks text
 IsListingFor task.Graph request blocks text = IsListingOf (IsGraphEntry request) drawing_end blocks text
 IsListingFor task.Check request blocks text = ⊥
+IsListingFor task.Lint request blocks text = ⊥
 
 -- the text is what the request lists of the blocks, and that does not depend on its workers
 abbrev pub IsListing : Request → List Block → List ℕ → Type 0
@@ -63,6 +65,7 @@ pub record ListsSubmission (request : Request) (input : List ℕ) (finding : Fin
 -- what a request with this task lists of an input and what it finds: of a file it judges nothing
 abbrev pub ListsFor : Task → Request → List ℕ → Finding → List ℕ → Type 0
 ListsFor task.Check request input finding text = ListsSubmission request input finding text
+ListsFor task.Lint request input finding text = ListsLinted input finding text
 ListsFor _ request input finding text = ListsFile request input text × (finding ≡ Passed)
 
 -- the request lists this text of the input, with this finding
@@ -133,7 +136,7 @@ abbrev pub EndsRun : Held → Request → Option (List ℕ) → Option (List ℕ
     → Type 0
 EndsRun held request read_old read_new written_old written_new ReadFailed = Keeps written_old written_new
 EndsRun held request read_old read_new written_old written_new (Text fault) =
-    (request.task ≢ task.Check) × Refuses files.IsRefused read_old read_new fault × Keeps written_old written_new
+    (request.task ≢ task.Check) × (request.task ≢ task.Lint) × Refuses files.IsRefused read_old read_new fault × Keeps written_old written_new
 EndsRun held request read_old read_new written_old written_new (Rows fault) =
     (request.task ≡ task.Check) × RefusesRows held request.task_file read_old read_new fault
     × Keeps written_old written_new

@@ -1,6 +1,6 @@
 //! The commands: what each lists of what is read, and what it finds.
 ghost use Rattle.std.specs.Prelude.{◌≡◌, IfErr, IfOk};
-ghost use Rattle.iloc_farm.specs.Fault.{finding_of, status_of_finding};
+ghost use Rattle.iloc_farm.specs.Fault.{finding_of, finding_of_text, status_of_finding};
 ghost use Rattle.iloc_farm.specs.Run.{ListsFrom};
 ghost use Rattle.iloc_farm.specs.Steps.OfInput.{EndsReading};
 
@@ -9,6 +9,7 @@ mod compare;
 mod counts;
 mod explain;
 mod graph;
+mod lint;
 mod run;
 mod schedule;
 mod simulate;
@@ -25,6 +26,7 @@ use counts::CountLister;
 use explain::ExplainLister;
 use graph::GraphLister;
 use iloc_args::{Request, Task};
+use lint::linted;
 use run::RunLister;
 use schedule::ScheduleLister;
 use simulate::SimulateLister;
@@ -40,6 +42,8 @@ pub enum Finding {
     Passed,
     /// Of something that was judged this wasn't found.
     Failed,
+    /// The text that was searched for faults has some.
+    Unread,
 }
 
 impl Finding {
@@ -54,6 +58,17 @@ impl Finding {
         }
     }
 
+    /// What is found of a text that reads or doesn't.
+    fn of_text(reads: bool) -> Finding
+        ensures { result ≡ finding_of_text reads }
+    {
+        if reads {
+            Finding::Passed
+        } else {
+            Finding::Unread
+        }
+    }
+
     /// The exit status of a program that found this.
     pub(crate) fn status(self) -> u8
         ensures { result ≡ status_of_finding self }
@@ -61,6 +76,7 @@ impl Finding {
         match self {
             Finding::Passed => 0,
             Finding::Failed => 5,
+            Finding::Unread => 1,
         }
     }
 }
@@ -127,5 +143,6 @@ pub(crate) fn list<H: Threads + Wait + Sync, T: Texts, R: Read>(
             Ok(Listed::of_file(text))
         }
         Task::Check => checked(alloc, texts, reader, request),
+        Task::Lint => linted(alloc, reader, request),
     }
 }

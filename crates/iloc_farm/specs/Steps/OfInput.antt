@@ -51,10 +51,17 @@ EndsSubmission old new (Farm farm.NoThread) = ⊥
 EndsSubmission old new (Farm farm.NoMemory) = Unit {0}
 EndsSubmission old new WriteFailed = ⊥
 
+-- why an input isn't held
+abbrev pub EndsHolding : RunFault → Type 0
+EndsHolding ReadFailed = Unit {0}
+EndsHolding (Farm farm.NoMemory) = Unit {0}
+EndsHolding _ = ⊥
+
 -- why nothing is listed of what a reader gives
 abbrev pub EndsReading : Held → Request → Option (List ℕ) → Option (List ℕ) → RunFault → Type 0
 EndsReading held request old new ReadFailed = Unit {0}
-EndsReading held request old new (Text fault) = (request.task ≢ task.Check) × Refuses files.IsRefused old new fault
+EndsReading held request old new (Text fault) =
+    (request.task ≢ task.Check) × (request.task ≢ task.Lint) × Refuses files.IsRefused old new fault
 EndsReading held request old new (Rows fault) =
     (request.task ≡ task.Check) × RefusesRows held request.task_file old new fault
 EndsReading held request old new (of_task fault) =

@@ -10,4 +10,5 @@ returns c =
     let five = if_more_command _ _ _ _ _ four c.compare_command.ensures c.with_command-farm-5.ensures in
     let six = if_more_command _ _ _ _ _ five c.explain_command.ensures c.with_command-farm-6.ensures in
     let seven = if_more_command _ _ _ _ _ six c.check_command.ensures c.with_command-farm-7.ensures in
-    if_more_command _ _ _ _ _ seven c.graph_command.ensures c.with_command.ensures
+    let eight = if_more_command _ _ _ _ _ seven c.graph_command.ensures c.with_command-farm-8.ensures in
+    if_more_command _ _ _ _ _ eight c.lint_command.ensures c.with_command.ensures

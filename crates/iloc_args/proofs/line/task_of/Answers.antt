@@ -22,4 +22,5 @@ unreachable-requires c =
     let explain = apart (codes "explain") c.args.name.now c.in_default.not-explain in
     let check = apart (codes "check") c.args.name.now c.in_default.not-check in
     let graph = apart (codes "graph") c.args.name.now c.in_default.not-graph in
-    false≢true (rw (run, simulate, schedule, counts, compare, explain, check, graph) at c.requires)
+    let lint = apart (codes "lint") c.args.name.now c.in_default.not-lint in
+    false≢true (rw (run, simulate, schedule, counts, compare, explain, check, graph, lint) at c.requires)

@@ -1,0 +1,143 @@
+"""What `lint` says of wrong lines, one by one; its hints; and its texts at the limits."""
+from harness.program import ending, told
+from harness.suite import Case, Check, table
+from limits import MOST_BLOCKS, MOST_BYTES, MOST_OPERATIONS
+
+# A line, what is said of it, and how many bytes of it can be read.
+WRONG = [
+    (b"loadi 5 => r1", 'no such opcode "loadi": loadI?', 4),
+    (b"LOAD r1 => r2", 'no such opcode "LOAD": load?', 0),
+    (b"addd r1, r2 => r3", 'no such opcode "addd": add?', 3),
+    (b"ad r1, r2 => r3", 'no such opcode "ad": add?', 2),
+    (b"div r1, r2 => r3", "div isn't an operation of this language", 0),
+    (b"i2i r1 => r2", "i2i isn't an operation of this language", 0),
+    (b"cbr r1 -> L1, L2", "cbr isn't an operation of this language", 0),
+    (b"foo", 'no such opcode "foo"', 0),
+    (b"L1 add r1, r2 => r3", 'no such opcode "L1": a label ends with ":"', 0),
+    (b"1: nop", 'no such opcode "1"', 0),
+    (b"a: b: nop", 'no such opcode "b"', 3),
+    (b"nop nop", 'expected the end of the line, found "nop"', 4),
+    (b"add rA, r2 => r3", 'expected a register, found "rA"', 5),
+    (b"add r1 r2 => r3", 'expected ",", found "r2"', 7),
+    (b"add r1, r2, r3", 'expected "=>", found ","', 10),
+    (b"add r1, r2 = r3", 'expected "=>", found "="', 12),
+    (b"add r1, r2 -> r3", 'expected "=>", found "-"', 11),
+    (b"add r1, r2 => r3 r4", 'expected the end of the line, found "r4"', 17),
+    (b"add r1, r2 =>", "expected a register, found the end of the line", 13),
+    (b"add r1,", "expected a register, found the end of the line", 7),
+    (b"add", "expected a register, found the end of the line", 3),
+    (b"add,r1", 'expected a register, found ","', 3),
+    (b"add r1, 5 => r3", 'expected a register, found "5"', 8),
+    (b"addI r1, r2 => r3", 'expected a number, found "r2"', 9),
+    (b"addI r1, -5 => r3", 'expected a number, found "-"', 9),
+    (b"add r 1, r2 => r3", 'expected a register, found "r"', 5),
+    (b"add R1, r2 => r3", 'expected a register, found "R1"', 4),
+    (b"loadI r1 => r2", 'expected a number, found "r1"', 6),
+    (b"loadI 5, r1", 'expected "=>", found ","', 7),
+    (b"loadI 0x10 => r1", 'expected a number, found "0x10"', 7),
+    (b"loadI 5 => 6", 'expected a register, found "6"', 11),
+    (b"loadI 2147483648 => r1", "a number above 2147483647", 15),
+    (b"load r4294967296 => r1", "a number above 2147483647", 15),
+    (b"output 00000000000000002147483649", "a number above 2147483647", 32),
+    (b"load r1 => r2x", 'expected a register, found "r2x"', 13),
+    (b"load r1, 4 => r2", 'expected "=>", found ","', 7),
+    (b"loadAI r1 => r2", 'expected ",", found "=>"', 10),
+    (b"store r1 => r2, 4", 'expected the end of the line, found ","', 14),
+    (b"storeAI r1, 4 => r2", 'expected "=>", found ","', 10),
+    (b"output r4", 'expected a number, found "r4"', 7),
+    (b"output", "expected a number, found the end of the line", 6),
+    (b"output 4 5", 'expected the end of the line, found "5"', 9),
+    (b"nop ; comment", 'expected the end of the line, found ";"', 4),
+    (b"# comment", 'expected an operation or "//", found "#"', 0),
+    (b"/ comment", 'expected an operation or "//", found "/"', 1),
+    (b"[ add r1, r2 => r3 ; nop ]", 'expected an operation or "//", found "["', 0),
+    (b"a : add r1, r2 => r", 'expected a register, found "r"', 19),
+    (b"=> r1", 'expected an operation or "//", found "=>"', 0),
+    (b"\tadd\tr1,\x0br2 => r3", 'expected a register, found "?"', 8),
+    (b"add r1, r2 => r3\xc3\xa9", 'expected the end of the line, found "?"', 16),
+    (b"\xef\xbb\xbfnop", 'expected an operation or "//", found "?"', 0),
+    (b"averylongwordthatisnoopcodeofanykind r1", 'no such opcode "averylongwordthatisnoopc.."', 1),
+    (b"nop" + b" " * 100 + b"x" * 100, 'expected the end of the line, found "xxxxxxxxxxxxxxxxxxxxxxxx.."', 103),
+]
+HINTS = [
+    (b"loadI 4 => r1\nstore r1 => r1\n", b""),
+    (b"add r0, r0 => r1\n", b"hint: line 1 uses r0, to which nothing before it in the block gives a value: it is 0\n"
+                           b"hint: line 1: nothing uses this value of r1\n"),
+    (b"loadI 4 => r1\nloadI 5 => r1\noutput 4\n\nstore r1 => r1\n",
+     b"hint: line 1: nothing uses this value of r1\n"
+     b"hint: line 5 goes on with the block above it: only a label starts a block\n"),
+    (b"a: output 4\nb: output 8\nc: nop\n", b"hint: each operation has a label, so each is a block of its own\n"),
+    (b"".join(b"loadI 4 => r%d\n" % k for k in range(22)),
+     b"".join(b"hint: line %d: nothing uses this value of r%d\n" % (k + 1, k) for k in range(20))
+     + b"hint: and 2 more like these\n"),
+]
+
+
+def entry(number, line, what, at):
+    start = max(0, at - 40)
+    text = "".join(chr(c) if 32 <= c < 127 else " " if c == 9 else "?" for c in line[start:start + 64])
+    before, after = ".." if start else "", ".." if start + 64 < len(line) else ""
+    caret = " " * (len(before) + at - start) + "^"
+    return f"line {number}: {what}\n    {before}{text}{after}\n    {caret}\n".encode()
+
+
+def totals(blocks, operations, faults):
+    return b"blocks %d operations %d faults %d\n" % (blocks, operations, faults)
+
+
+class Lint(Case):
+    """What `lint` lists of a text, and its status."""
+
+    def __init__(self, name, given, out):
+        super().__init__(f"lint/{name}")
+        self.given, self.out = given, out
+
+    def passes(self):
+        status = 0 if self.out.endswith(b" faults 0\n") else 1
+        end = ending(["lint"], self.given)
+        self.assertEqual(end[1].decode(), self.out.decode())
+        self.assertEqual((end[0], end[2]), (status, b""), told(end))
+
+
+def cases():
+    for line, what, at in WRONG:
+        yield Lint(line.decode("latin-1"), line, entry(1, line, what, at) + totals(0, 0, 1))
+    lines = [it[0] for it in WRONG]
+    entries = b"".join(entry(2 * k + 2, *it) for k, it in enumerate(WRONG))
+    yield Lint("all of them", b"nop\n" + b"\nnop\n".join(lines) + b"\n", entries + totals(1, len(lines), len(lines)))
+    for given, hints in HINTS:
+        blocks = max(1, given.count(b":"))
+        operations = len([it for it in given.split(b"\n") if it])
+        yield Lint(given[:40].decode(), given, hints + totals(blocks, operations, 0))
+    yield from limits()
+
+
+def limits():
+    yield Lint("nothing", b"", totals(0, 0, 0))
+    yield Lint("longest text", b"\n" * MOST_BYTES, totals(0, 0, 0))
+    yield Lint("text too long", b"x" * (MOST_BYTES + 1), b"input longer than 16777216 bytes\n" + totals(0, 0, 1))
+    label = b"a: nop\n"
+    many = entry(MOST_BLOCKS + 1, b"a: nop", "more than 65535 blocks", 0)
+    hint = b"hint: each operation has a label, so each is a block of its own\n"
+    yield Lint("most blocks", label * MOST_BLOCKS, hint + totals(MOST_BLOCKS, MOST_BLOCKS, 0))
+    yield Lint("a block too many", label * (MOST_BLOCKS + 1), many + totals(MOST_BLOCKS, MOST_BLOCKS, 1))
+    beyond = [entry(MOST_OPERATIONS + k, b"nop", "more than 10000 operations in a block", 0) for k in (1, 3)]
+    yield Lint("operations too many", b"nop\n" * (MOST_OPERATIONS + 1) + b"\nnop\nB: nop\n",
+               b"".join(beyond) + totals(2, MOST_OPERATIONS + 1, 2))
+    yield Check("lint/the reader's fault first", wrong_first)
+
+
+def wrong_first():
+    """Where the first fault isn't that of `run`, or a text without its faulty lines is refused."""
+    for line, _, _ in WRONG:
+        given = b"nop\n" + line + b"\nadd r1\n"
+        numbers = [int(it.split(b":")[0][5:]) for it in ending(["lint"], given)[1].split(b"\n") if it.startswith(b"line ")]
+        said = ending(["run"], given)[2]
+        if not said.startswith(b"ilocfarm: line %d: " % numbers[0]):
+            yield f"{line}: {said} of line {numbers[0]}"
+        left = [b"" if k + 1 in numbers else it for k, it in enumerate(given.split(b"\n"))]
+        if ending(["lint"], b"\n".join(left))[0]:
+            yield f"{line}: refused without lines {numbers}"
+
+
+load_tests = table(cases)
