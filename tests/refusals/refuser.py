@@ -61,6 +61,10 @@ class Symbols:
         places = (self.place(address) for address in report.calls if address)
         return next((it for it in places if not GROWS.match(it)), "nobody known")
 
+    def is_of_a_start(self, report):
+        """Whether the growth is the library's own, as it starts a thread: the program's all go by its allocator."""
+        return not GROWS.match(next((self.place(address) for address in report.calls if address), ""))
+
 
 @cache
 def symbols(program):
@@ -85,4 +89,7 @@ def refusing(asked, program=None, **what):
     around.update(LD_PRELOAD=library(), REFUSE_REPORT=path)
     end = ending(asked.words, asked.given, program or TESTED.program, env=around)
     with open(path, "rb") as file:
-        return end, Report.of(file.read())
+        report = Report.of(file.read())
+    if report.refused == GROWTH and symbols(program or TESTED.program).is_of_a_start(report):
+        report.refused = GROWTH_OF_A_START
+    return end, report
