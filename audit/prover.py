@@ -27,13 +27,6 @@ def uses_of(top):
     return uses
 
 
-def newest(folder):
-    """When a source of the crate there was changed last."""
-    found = [os.path.getmtime(f"{at}/{name}") for part in PARTS for at, _, names in os.walk(f"{folder}/{part}")
-             for name in names]
-    return max(found, default=0)
-
-
 class Prover:
     """For the functions of one crate, over the libraries below it: in the gate those that rt ci has just left there."""
 
@@ -50,12 +43,9 @@ class Prover:
         return f"{self.folder}/{name}/out/rlib/{name}.rlib"
 
     def is_of_the_gate(self, name):
-        """Whether rt ci built this library of the sources there. What rt lib built has a stamp, and rt lib knows it."""
-        made = f"{self.rlib(name)}/format"
-        if os.path.exists(f"{self.folder}/{name}/out/rlib/stamp") or not os.path.exists(made):
-            return False
-        return self.in_the_gate or all(newest(f"{self.folder}/{it}") < os.path.getmtime(made)
-                                       for it in [*self.all_below(name), name])
+        """Whether rt ci has just left this library there. What rt lib built has a stamp, and rt lib knows what it is of."""
+        stamp = f"{self.folder}/{name}/out/rlib/stamp"
+        return self.in_the_gate and os.path.exists(f"{self.rlib(name)}/format") and not os.path.exists(stamp)
 
     def build_below(self):
         """Builds the libraries below. Gives what rt said of the first that it couldn't build."""

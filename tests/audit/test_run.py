@@ -169,19 +169,15 @@ class Audit(InFolder):
         self.expect("usage", "audit/run [--gate] [CRATE..]" in ran.stderr, True)
 
     def test_builds_what_stands_below(self):
-        """But for what the gate has built: that has no stamp, and is newer than its sources."""
-        self.edit("first", "wrong")
-        self.status_and_lines()
-        self.status_and_lines()
-        self.expect("asked for", self.asked("asked"), ["low lib --jobs 1"] * 2)
-        rlib = f"{self.path('top')}/crates/low/out/rlib"
-        os.remove(f"{rlib}/stamp")
-        self.status_and_lines()
-        self.expect("asked for", len(self.asked("asked")), 2)
-        source = os.stat(f"{rlib}/low.rlib/format").st_mtime + 10
-        os.utime(f"{self.path('top')}/crates/low/src/lib.rt", (source, source))
-        self.status_and_lines()
-        self.expect("asked for", len(self.asked("asked")), 3)
+        """But, in the gate, for what rt ci has built: that has no stamp."""
+        self.edit("first", "wrong", **GATES)
+        for words, count in (([], 1), (["--gate"], 2)):
+            self.status_and_lines(*words)
+            self.expect(f"asked for with {words}", self.asked("asked"), ["low lib --jobs 1"] * count)
+        os.remove(f"{self.path('top')}/crates/low/out/rlib/stamp")
+        for words, count in ((["--gate"], 2), ([], 3)):
+            self.status_and_lines(*words)
+            self.expect(f"asked for with {words} once rt ci has built it", len(self.asked("asked")), count)
 
     def test_fails(self):
         for name, (body, why, how) in FAIL.items():

@@ -16,7 +16,7 @@ TOOLS = ("awk cat chmod cmp cp find flock grep head mkdir mkfifo mktemp mv nproc
          "tar tee wc").split()
 ENDING = (signal.SIGHUP, signal.SIGINT, signal.SIGTERM)
 # It fails with what the file `says` has, and doesn't end where there is a file `hold`. As `rt try` it answers with its
-# words and its input; as `rt ci` it makes a program that does, and prints the number of its build too.
+# words and its input; as `rt ci` it makes a program that does, and prints the number of its build too; `low` it has kept.
 RT = """#!/bin/sh
 [ "$1" != version ] || exec cat "$TEST/kit"
 echo "$1" >>"$TEST/asked"
@@ -30,7 +30,7 @@ if [ "$1" = try ]; then
     printf 'checked: ended status=7\\nraces: not looked for\\nrun=ended status=7 runners=1 proved=no\\n' >&2
     exit 7
 fi
-sed 's/[ :].*//; /^#/d' crates.txt | tee "$TEST/proved" | sed 's/.*/== &\\nlogic=proved\\nrt: & proved/'
+sed 's/[ :].*//; /^#/d' crates.txt | tee "$TEST/proved" | sed 's/.*/== &\\nlogic=proved\\nrt: & proved/; s/rt: low proved/rt: low is kept: as before/'
 mkdir -p crates/ilocfarm/out
 printf '#!/bin/sh\\necho "build %s: $*: $(cat)"\\nexit 7\\n' "$(grep -c ci "$TEST/asked")" >crates/ilocfarm/out/ilocfarm
 chmod +x crates/ilocfarm/out/ilocfarm
@@ -122,7 +122,7 @@ class Answers(Repository):
     def test_unproved_until_it_is_built(self):
         self.answers_unproved()
         self.assertEqual(os.listdir(f"{self.top}/crates/ilocfarm"), ["src", "specs", "out"])
-        self.assertEqual(self.builds(1), "ilocfarm proved, 1 of 3\nhigh proved, 2 of 3\nlow proved, 3 of 3\n")
+        self.assertEqual(self.builds(1), "ilocfarm proved, 1 of 3\nhigh proved, 2 of 3\nlow is kept, 3 of 3\n")
         self.assertEqual(self.ran(by="build"), (0, "", "ilocfarm: out/ilocfarm is proved and built already\n"))
 
     def test_unproved_where_anything_changed(self):
@@ -296,7 +296,7 @@ class Fails(Repository):
         self.fails(f"no crates.txt in {self.folder}: start this in its repository, or by a link to it", by=f"{self.folder}/ilocfarm")
 
     def test_signals(self):
-        advice = {"ilocfarm": ADVICE, "build": "No proof is kept: the next ./build proves from nothing"}
+        advice = {"ilocfarm": ADVICE, "build": "The next ./build proves the rest"}
         for by, number in [(by, number) for by in advice for number in ENDING]:
             with self.subTest(f"{by} {number.name}"):
                 started, child = self.has_begun(by=by)
