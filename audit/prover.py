@@ -1,9 +1,6 @@
 """The toolchain's prover, on single functions of a crate.
 
-`rt must-fail` would need no such script, and names goals too. But it first proves the whole crate from nothing, in `rt ci` too:
-that is all proofs once more in each gate. It checks the crate again for each edit: 11 of iloc_ops took it 7 processor minutes.
-And it passes an edit that only the proof of another function falls at. Here the functions that edits name are checked, many
-at once, over libraries that are built: 27 edits of iloc_ops, iloc_meaning and iloc_timed take 6 processor minutes.
+docs/DECISIONS.md says why not by `rt must-fail`.
 """
 import os
 import shutil
@@ -25,6 +22,14 @@ def uses_of(top):
             if name.strip():
                 uses[name.split()[0]] = used.replace(",", " ").split()
     return uses
+
+
+def linked(one, other):
+    """Gives what was proved a second name: a check replaces such a file, and never writes into it."""
+    try:
+        (os.link if one.endswith(".oantt") else shutil.copyfile)(one, other)
+    except OSError:     # on another disk
+        shutil.copyfile(one, other)
 
 
 class Prover:
@@ -70,6 +75,11 @@ class Prover:
 
     def crate_folder(self):
         return f"{self.folder}/{self.name}"
+
+    def begin(self, kept):
+        """Puts what rt check kept of the crate into this new folder."""
+        if os.path.isdir(f"{self.crate_folder()}/out/incremental"):
+            shutil.copytree(f"{self.crate_folder()}/out/incremental", kept, copy_function=linked)
 
     def check(self, functions, texts, kept):
         """Checks these functions of the crate, and what they call, with these texts in place of its own, over the work

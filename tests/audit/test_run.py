@@ -15,6 +15,8 @@ mkdir -p out/rlib/low.rlib && touch out/rlib/low.rlib/format out/rlib/stamp
 """
 RATTLE = """#!/bin/sh
 echo "$@" >>"$TEST/checked"
+kept=${*##*--incremental }
+cp "${kept%% *}"/* "$TEST" 2>/dev/null
 worst=0
 for name in f g; do
     case " $* " in *" --only $name "*) ;; *) continue ;; esac
@@ -162,13 +164,19 @@ class Audit(InFolder):
         self.status_and_lines("--gate")
         self.expect("checks", ["--only f" in it for it in self.asked("checked")], [True, False])
 
+    def test_begins_with_what_is_kept(self):
+        self.edit("first", "wrong")
+        self.write("top/crates/high/out/incremental/f.oantt", "proved")
+        self.status_and_lines()
+        self.expect("what a check begins with", self.text("f.oantt"), "proved")
+
     def test_crate_that_is_not_there(self):
         self.edit("first", "wrong")
         ran = self.ran("hihg")
         self.expect("status", ran.returncode, 1)
         self.expect("usage", "audit/run [--gate] [CRATE..]" in ran.stderr, True)
 
-    def test_builds_what_stands_below(self):
+    def test_builds_what_is_below(self):
         """But, in the gate, for what rt ci has built: that has no stamp."""
         self.edit("first", "wrong", **GATES)
         for words, count in (([], 1), (["--gate"], 2)):
