@@ -2,7 +2,7 @@
 import os
 import re
 
-from harness.place import Place, shown_on
+from harness.place import Place, crates_of, shown_on
 from harness.program import TOP
 
 PICTURES = ("compare.svg", "timeline.svg")
@@ -31,15 +31,9 @@ class Guide(Place):
         text = self.text("docs/LIBRARY.md")
         program = "".join(f"    {it}".rstrip() + "\n" for it in self.text(f"{TOP}/crates/iloc_least/src/main.rt").splitlines())
         self.expect("the program is shown", program in text, True)
-        needs = dict(re.findall(r"^(\w+): (.*)$", self.text(f"{TOP}/crates.txt"), re.MULTILINE))
-        wanted, left = set(), ["iloc_least"]
-        while left:
-            below = {it for it in needs[left.pop()].split() if it in needs} - wanted
-            wanted |= below
-            left += below
-        shown = dict(re.findall(r"^    (iloc_\w+): (.*)$", text, re.MULTILINE))
-        self.expect("the crates below", shown, {it: needs[it] for it in wanted})
-        self.expect("what yours needs", re.findall(r"^    yours: (.*)$", text, re.MULTILINE), [needs["iloc_least"]])
+        shown = dict(re.findall(r"^    (iloc_\w+|yours): (.*)$", text, re.MULTILINE))
+        shown["iloc_least"] = shown.pop("yours")
+        self.expect("the crates below, and what yours needs", shown, crates_of("iloc_least"))
 
     def test_marks_several_blocks(self):
         """The points are for all blocks together; one that is wrong takes all away; a hand-in can't add to the task."""

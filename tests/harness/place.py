@@ -84,6 +84,16 @@ def shown_on(page):
     return [it for block in blocks for it in COMMAND.findall(re.sub("^    ", "", block, flags=re.MULTILINE))]
 
 
+def crates_of(name):
+    """By name what a crate uses, as crates.txt says, and each crate that it needs."""
+    with open(f"{TOP}/crates.txt", encoding="utf-8") as file:
+        uses = dict(re.findall(r"^(\w+)[^:#\n]*: (.*)$", file.read(), re.MULTILINE))
+    needed = {name}
+    while more := {used for it in needed for used in uses[it].split() if used in uses} - needed:
+        needed |= more
+    return {it: uses[it] for it in needed}
+
+
 def until(what, holds):
     last = time.monotonic() + SECONDS
     while not holds():

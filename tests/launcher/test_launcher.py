@@ -8,7 +8,7 @@ import signal
 import subprocess
 import time
 
-from harness.place import InFolder, until
+from harness.place import InFolder, crates_of, until
 from harness.program import SECONDS, TOP
 from harness.terminal import terminal
 
@@ -176,11 +176,7 @@ class Answers(Repository):
     def test_crates_of_the_repository(self):
         self.with_crates(self.text(f"{TOP}/crates.txt"))
         self.builds(1)
-        lines = [it.partition("#")[0].partition(":") for it in self.text(f"{TOP}/crates.txt").splitlines()]
-        uses, wanted = {name.split()[0]: used.split() for name, _, used in lines if name.strip()}, {"ilocfarm"}
-        while more := {it for name in wanted for it in uses[name] if it in uses} - wanted:
-            wanted |= more
-        self.assertEqual(sorted(self.text("proved").split()), sorted(wanted))
+        self.assertEqual(sorted(self.text("proved").split()), sorted(crates_of("ilocfarm")))
 
     def test_by_links(self):
         os.symlink("../a copy/ilocfarm", f"{self.folder}/bin/near")
