@@ -1,16 +1,28 @@
-"""Tables of comma-separated values: what Python's csv reads of them."""
+"""Tables of comma-separated values: what Python's csv, pandas and R read of them."""
 import csv
 import io
 import random
+import subprocess
+import unittest
 
 from forms import USUAL
-from harness.program import ending
+from harness.program import SECONDS, ending, needs
 from harness.suite import Check, table
 from oracle.drawn import lab_block
 from oracle.operations import text_of
 from oracle.scheduler import ORDERS, Schedule
 
 UNNAMED = b"output 0\nempty:\nA: output 4\nA: load r1 => r2\n"
+# Labels that mean a missing value, or a truth, unless the reader is told otherwise.
+ODD_NAMES = b"NA: output 0\nnan: output 0\nT: output 0\n"
+# What has pandas and R read a table, print it again, and print a letter for each column: i of whole numbers.
+PYTHONS = ("python3", "/usr/bin/python3")       # one from elsewhere may lack what the system's has
+PANDAS = """import pandas, sys
+table = pandas.read_csv(sys.stdin, keep_default_na=False)
+print(table.to_csv(index=False) + "".join(it.kind for it in table.dtypes))"""
+R = """table <- read.csv(file("stdin"), na.strings = character(), colClasses = c(name = "character"))
+write.csv(table, quote = FALSE, row.names = FALSE)
+cat(substr(sapply(table, class), 1, 1), "\n", sep = "")"""
 
 
 def rows_of(words, given):
@@ -46,10 +58,40 @@ def cycles():
         yield "another bound"
 
 
+def has_pandas(python):
+    return subprocess.run([python, "-c", "import pandas"], capture_output=True, check=False).returncode == 0
+
+
+def by_pandas():
+    """The command that has pandas read a table, its program, and how it tells a column of texts."""
+    python = next(filter(has_pandas, PYTHONS), None)
+    if not python:
+        raise unittest.SkipTest("pandas is not installed")
+    return [python, "-c", PANDAS], "O"
+
+
+def by_r():
+    needs("Rscript")
+    return ["Rscript", "-e", R], "c"
+
+
+def read_back(command):
+    """Each row and column is read as it is written, the numbers as whole ones."""
+    words, of_texts = command()
+    for given in (UNNAMED, ODD_NAMES):
+        for asked, numbers in ((["counts", "--csv"], 1), (["compare", "--csv"], 1 + len(ORDERS))):
+            text = ending(asked, given)[1].decode()
+            read = subprocess.run(words, input=text, capture_output=True, text=True, timeout=SECONDS, check=False)
+            if read.stdout != f"{text}i{of_texts}{'i' * numbers}\n":
+                yield f"{asked}: {read.stdout}{read.stderr} in place of {text}"
+
+
 def table_checks():
     yield Check("tables/counts", columns, ["counts", "--csv"], ["block", "name", "cycles"])
     yield Check("tables/compare", columns, ["compare", "--csv"], ["block", "name", "least", *ORDERS])
     yield Check("tables/cycles", cycles)
+    yield Check("tables/pandas", read_back, by_pandas)
+    yield Check("tables/R", read_back, by_r)
 
 
 load_tests = table(table_checks)
