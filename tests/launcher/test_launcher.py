@@ -292,7 +292,7 @@ class Fails(Repository):
         self.fails(f"no crates.txt in {self.folder}: start this in its repository, or by a link to it", by=f"{self.folder}/ilocfarm")
 
     def test_signals(self):
-        advice = {"ilocfarm": ADVICE, "build": "The next ./build proves the rest"}
+        advice = {"ilocfarm": ADVICE, "build": "The next ./build proves what rt has not kept"}
         for by, number in [(by, number) for by in advice for number in ENDING]:
             with self.subTest(f"{by} {number.name}"):
                 started, child = self.has_begun(by=by)
