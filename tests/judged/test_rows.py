@@ -127,6 +127,19 @@ LISTED = {
                        "block 1 - units cycles 6 ours 6 least 6\n  row 2: [ nop ; load r1 => r2 ]"),
     "two_outputs_in_a_row": ("output 4\n[ output 4 ; output 8 ]\n[ mult r1, r1 => r2 ; nop ]\ncycles 1\n",
                              "block 1 - units cycles 4 ours 1 least 1 claimed 1\n  row 1: [ output 4 ; output 8 ]"),
+    # An operation alone is on its unit; one that is left out is a `nop`.
+    "single_operations": ("loadI 4 => r1\nload r1 => r2\nmult r2, r2 => r3\nmultI r3, 1 => r4\nstore r4 => r1\n"
+                          "[ loadI 4 => r1 ]\n[ load r1 => r2 ]\n" + "[ ]\n" * 4 + "[mult r2,r2=>r2]\n[]\n[ nop ]\n"
+                          "[\tmultI r2, 1 => r2 ] // 9\n[ ; ]\n[;]\n[ store r2 => r1 ]\n",
+                          "block 1 - same cycles 17 ours 17 least 17"),
+    "single_operation_on_a_line_of_its_own": ("output 4\n[output 4]", "block 1 - same cycles 1 ours 1 least 1"),
+    "halves_of_rows": ("loadI 4 => r1\noutput 4\n[ ; loadI 4 => r1 ]\n[ output 4 ; ]\n",
+                       "block 1 - same cycles 2 ours 1 least 1"),
+    "empty_row_at_once": ("nop\n[]", "block 1 - same cycles 0 ours 0 least 0"),
+    "product_before_a_semicolon": ("nop\n[ mult r1, r2 => r3 ; ]\n", "block 1 - units cycles 3 ours 0 least 0\n"
+                                                                      "  row 1: [ mult r1, r2 => r3 ; nop ]"),
+    "load_behind_a_semicolon": ("nop\n[ ; load r1 => r2 ]\n", "block 1 - units cycles 5 ours 0 least 0\n"
+                                                               "  row 1: [ nop ; load r1 => r2 ]"),
     "no_head": ("output 0\n[output 0;nop]\ncycles 9\ntotal 3", "block 1 - same cycles 1 ours 1 least 1 claimed 9"),
     "no_head_of_a_name": ("main:\noutput 0\n[output 0;nop]\ncycles 9\ntotal 3",
                           "block 1 main same cycles 1 ours 1 least 1 claimed 9"),
@@ -151,13 +164,14 @@ LISTED = {
 
 # Each is line 4, after a claim.
 NOT_UNDERSTOOD = """\
-[ nop ]|[ nop ; nop|[ nop ; nop ; nop ]|[ nop nop ]|[ ; nop ]|[ nop ; ]|[]|[ A: nop ; nop ]|[ nop // ; nop ]
+[|[ nop ; nop|[ nop ; nop ; nop ]|[ nop nop ]|[ ; ; ]|[ nop|[ ;|[ A: nop ; nop ]|[ nop // ; nop ]|[ [ nop ] ]|[ A: ]|[ 5 ]
+[ nop ] ]|[ nop ] nop|[] []|[ nop , nop ]|[ r1 ]|[ load r1 ]|[//]|]|nop ]|; nop ]|[ mult r1, r2 => r3 add r1, r2 => r3 ]
 [ nop ; nop ] nop|[ nop ; nop ] [ nop ; nop ]|[ output 99999999999 ; add r1 r2 => r3 ]|A: [ nop ; nop ]|block|block 1
 block1 a|block 1a|block a 1|block 1 --|block 1 9|block 1 a b|block -1 a|cycles|cycles5|cycles -5|cycles 5 5|total
-total: 5|Cycles 5|block 1 a cycles 5|[ jump r1 ; nop ]|[ nop ; add r1 => r2 ]|[ ; ]|block a|block 1 1a|cycles nine
+total: 5|Cycles 5|block 1 a cycles 5|[ jump r1 ; nop ]|[ nop ; add r1 => r2 ]|[ jump r1 ]|block a|block 1 1a|cycles nine
 output 0|nop|b:""".replace("\n", "|").split("|")
 # Each is line 2.
-TOO_LARGE = ["[ output 2147483648 ; nop ]", "[ nop ; loadI 1 => r2147483648 ]", "block 2147483648 b",
+TOO_LARGE = ["[ output 2147483648 ; nop ]", "[ output 2147483648 ]", "[ ; multI r1, 2147483648 => r1 ]", "[ nop ; loadI 1 => r2147483648 ]", "block 2147483648 b",
              "block 99999999999999999999 a", "cycles 2147483648", "total 4294967296 // wide"]
 # The last line of each is the third.
 NO_BLOCK = ["a:\nb:\n[ nop ; nop ]", "a:\nb:\ncycles 0", "a:\n[ nop ; nop ]\nblock 1 a", "a:\ncycles 0\nblock 1 a", "a:\nb:\nblock 0 a",

@@ -18,6 +18,7 @@ def operation_form(opcode, form):
 
 
 OPERATIONS = {opcode.encode(): (opcode, operation_form(opcode, form)) for opcode, form in FORMS.items()}
+NOP = Op("nop", [])
 LABEL = re.compile(rb"(" + NAME + rb")[ \t\r]*:")
 HEAD = re.compile(rb"block[ \t\r]+([0-9]+)[ \t\r]+(-|" + NAME + rb")")
 COUNT = re.compile(rb"(cycles|total)[ \t\r]+([0-9]+)")
@@ -49,13 +50,18 @@ def operation_of(text):
 def schedule_line(text):
     """The kind of a schedule line with what it says, or None."""
     if text[:1] == b"[" and text[-1:] == b"]":
-        slots = [operation_of(it.strip(BLANKS)) for it in text[1:-1].split(b";")]
-        return ("row", slots) if len(slots) == 2 and None not in slots else None
+        slots = [operation_of(it.strip(BLANKS) or b"nop") for it in text[1:-1].split(b";")]
+        return None if None in slots or len(slots) > 2 else ("row", slots if len(slots) == 2 else single(*slots))
     if found := HEAD.fullmatch(text):
         return "head", (int(found[1]), found[2].decode())
     if found := COUNT.fullmatch(text):
         return found[1].decode(), int(found[2])
     return None
+
+
+def single(op):
+    """The row of one operation."""
+    return [NOP, op] if op.kind == "mult" else [op, NOP]
 
 
 def numbers_of(kind, said):

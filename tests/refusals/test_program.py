@@ -30,7 +30,7 @@ BAD = b"output 0\nadd r1 r2 => r3\n"
 # Rows for the small blocks: right ones, one with a wrong word, and two outputs in a row.
 ROWS = (b"block 1 A\n[ loadI 64 => r1 ; nop ]\n[ storeAI r1 => r1, 4 ; nop ]\nblock 2 B\n[ output 64 ; nop ]\n"
         b"[ nop ; output 0 ]\nblock 3 C\n[ output 2 ; output 2 ]\n")
-NO_ROW = b"a: output 0\nblock 1 a\n[ nop ]\n"
+NO_ROW = b"a: output 0\nblock 1 a\n[ nop nop ]\n"
 
 
 @dataclass

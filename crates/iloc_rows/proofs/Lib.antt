@@ -7,3 +7,4 @@ pub mod Answer
 pub mod Slots
 pub mod Within
 pub mod Every
+pub mod Single

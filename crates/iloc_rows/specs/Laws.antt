@@ -1,11 +1,15 @@
 -- What holds of texts with rows as a whole.
-use Rattle.std.specs.Prelude.{◌≡◌, ℕ, ◌≤◌, ◌⊎◌, List, length}
+use Rattle.std.specs.Prelude.{◌≡◌, ℕ, ◌≤◌, ◌⊎◌, IsTrue, List, [], ◌∷◌, length}
 use Rattle.std.specs.List.{AllByRecursion}
 use Rattle.iloc_ops.specs.declared.file.Block.{Block}
 use Rattle.iloc_ops.specs.Limits.{MAX_BLOCKS, MAX_OPS}
+use Rattle.iloc_ops.specs.declared.op.Op.{Op}
+use Rattle.iloc_text.specs.ScheduleLines.{alone}
+use Rattle.iloc_timed.specs.Rows.{keeps_units}
 use Rattle.iloc_timed.specs.Schedule.{AreOnce, AreInRange}
 use Rattle.iloc_rows.specs.declared.fault.RowsFault.{RowsFault}
 use Rattle.iloc_rows.specs.declared.proposal.Proposal.{Proposal}
+use Rattle.iloc_rows.specs.Proposing.{ops_in, numbered}
 use Rattle.iloc_rows.specs.Submissions.{Denotes, DenoteApart, IsRefused}
 
 -- a text denotes at most one list of blocks with one list of proposals, or one refusal, and never both
@@ -43,6 +47,11 @@ SubmissionsAreWithinLimits = (input : List ℕ) (blocks : List Block) (proposals
 abbrev pub SubmissionsApartAreWithinLimits : Type 0
 SubmissionsApartAreWithinLimits = (task input : List ℕ) (blocks : List Block) (proposals : List Proposal)
     → DenoteApart task input blocks proposals → AreWithinLimits blocks proposals
+
+-- the row of a single operation keeps the rules of the units
+abbrev pub SingleOperationsKeepTheUnits : Type 0
+SingleOperationsKeepTheUnits = (op : Op)
+    → AllByRecursion (λ row. IsTrue (keeps_units (ops_in (alone op ∷ [])) row)) (numbered 0 (alone op ∷ []))
 
 -- whatever is handed in for a task, its blocks are the same
 abbrev pub HandInsDontChangeTheTask : Type 0

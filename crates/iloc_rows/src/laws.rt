@@ -1,6 +1,6 @@
 //! Laws of texts with rows, as contracts of functions that do nothing.
 ghost use Rattle.iloc_rows.specs.Laws.{TextsHaveOneAnswer, TextsHaveAnAnswer, HandInsDontChangeTheTask, TextsApartHaveOneAnswer};
-ghost use Rattle.iloc_rows.specs.Laws.{SubmissionsApartAreWithinLimits, SubmissionsAreWithinLimits};
+ghost use Rattle.iloc_rows.specs.Laws.{SingleOperationsKeepTheUnits, SubmissionsApartAreWithinLimits, SubmissionsAreWithinLimits};
 
 /// Promise: a text denotes at most one list of blocks with one list of proposals, or one refusal, and never both.
 pub fn texts_have_one_answer()
@@ -21,6 +21,11 @@ pub fn submissions_are_within_limits()
 /// Promise: a task and the rows that are handed in apart from it are within the same limits.
 pub fn submissions_apart_are_within_limits()
     ensures { SubmissionsApartAreWithinLimits }
+{}
+
+/// Promise: the row of a single operation, `[ X ]`, keeps the rules of the units.
+pub fn single_operations_keep_the_units()
+    ensures { SingleOperationsKeepTheUnits }
 {}
 
 /// Promise: whatever rows are handed in for a task, apart from it, the task's blocks are the same.

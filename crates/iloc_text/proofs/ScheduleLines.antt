@@ -1,5 +1,5 @@
 -- The scanner reads what the lines of a schedule say, and each such line.
-use Rattle.std.proofs.Common.{◌≡◌, ◌≢◌, ◌∙◌, ℕ, ◌≤◌, nat_lt, Bool, true, false, cond, ◌&&◌, ◌==◌, List, [], ◌∷◌, ◌++◌, codes, refl, sym, ap, ap₂, subst, Option, Some, None, IfSome, bytes_eq, arith}
+use Rattle.std.proofs.Common.{◌≡◌, ◌≢◌, ◌∙◌, ℕ, ◌≤◌, nat_lt, Bool, true, false, cond, ◌&&◌, ◌==◌, List, [], ◌∷◌, ◌++◌, codes, refl, sym, ap, ap₂, subst, Option, Some, None, IfSome, option_map, unwrap_or, inl, inr, bytes_eq, arith}
 use Rattle.std.specs.List.{AllByRecursion, list_all}
 use Rattle.std.specs.Char.{is_ascii_digit, is_ascii_alphabetic}
 use Rattle.std.proofs.lemmas.Bool.Decides.{nat_tests}
@@ -8,20 +8,21 @@ use Rattle.std.proofs.lemmas.Option.{same_Some}
 use Rattle.iloc_ops.specs.Limits.{MAX_NUMBER}
 use Rattle.iloc_text.specs.declared.scan.TheConstants.{ABOVE_LIMIT}
 use Rattle.iloc_ops.specs.declared.op.Op.{Op}
+use Rattle.iloc_ops.specs.declared.op.Op.TheVariants.{Nop}
 use Rattle.iloc_ops.specs.Forms.{numbers, operands}
 use Rattle.iloc_ops.specs.Forms.Value.{Constant}
-use Rattle.iloc_text.specs.Grammar.{◌⋅◌, Text, is_blank, is_word_byte, SomeBlanks, Number, IsName, IsWithinLimit}
-use Rattle.iloc_text.specs.ScheduleLines.{Said, SlotText, BlockName, SaidText, SaysWidely, said_numbers, Says, SaysSomething, SaysSomethingWidely}
+use Rattle.iloc_text.specs.Grammar.{◌⋅◌, Text, is_blank, is_word_byte, Blanks, SomeBlanks, Number, IsName, IsWithinLimit, OptionalOperation}
+use Rattle.iloc_text.specs.ScheduleLines.{Said, SlotText, alone, RowText, BlockName, SaidText, SaysWidely, said_numbers, Says, SaysSomething, SaysSomethingWidely}
 use Rattle.iloc_text.specs.ScheduleLines.Said.{nothing, row, head, cycles, total}
-use Rattle.iloc_text.specs.Steps.Scan.{capped, after_blanks, some_blanks_at, number_at, word_of, after_word, operation_at, is_end, is_within}
-use Rattle.iloc_text.specs.Steps.ScheduleScan.{slot_at, behind_byte, row_at, number_behind, block_name_at, head_at, cycles_at, total_at, worded_at, said_at, schedule_line_at, is_said_within}
+use Rattle.iloc_text.specs.Steps.Scan.{capped, after_blanks, some_blanks_at, number_at, word_of, after_word, optional_operation_at, is_end, is_within}
+use Rattle.iloc_text.specs.Steps.ScheduleScan.{slot_at, behind_byte, row_from, row_at, number_behind, block_name_at, head_at, cycles_at, total_at, worded_at, said_at, schedule_line_at, is_said_within}
 use Rattle.iloc_text.proofs.Parts.{Before, Before-join, Before-split, Before-all, all-Before, starts}
 use Rattle.iloc_text.proofs.Tokens.{blanks_read, blanks_none, blanks_over, blanks_again, some_blanks_read, some_blanks_again, number_read, number_again, some_map, IsWord, word_again, word_read}
 use Rattle.iloc_text.proofs.Opcodes.{bind_each}
 use Rattle.iloc_text.proofs.Starts.{blanks_fail, text_starts, blank_is_no_digit, blank_is_no_word_byte, digit_is_no_blank, digit_start_by_word, some_fail, value_fails}
 use Rattle.iloc_text.proofs.Names.{capped_op, numbers-capped}
-use Rattle.iloc_text.proofs.Operations.{operation_read, operation_again, operation_starts}
-use Rattle.iloc_text.proofs.Bodies.{end_read, end_again, end_starts, no_blank_start}
+use Rattle.iloc_text.proofs.Operations.{operation_again, operation_starts}
+use Rattle.iloc_text.proofs.Bodies.{optional_read, optional_here, optional_none, end_read, end_again, end_starts, no_blank_start}
 use Rattle.iloc_text.proofs.Labels.{word_is_name, name_is_word}
 use Rattle.iloc_text.proofs.Caps.{all_numbers, capped_within, capped-within, small_all, within_limit}
 
@@ -38,10 +39,27 @@ capped_said (total t) = total (capped t)
 abbrev FindsSlot : List ℕ → Op × List ℕ → Type 0
 FindsSlot bytes found = (op : Op) × Before (SlotText op) found.1 bytes × (found.0 ≡ capped_op op)
 
+-- a slot with an operation, or without one
+abbrev GivenSlot : Option Op → List ℕ → Type 0
+GivenSlot given = Blanks ⋅ OptionalOperation given ⋅ Blanks
+
+slot_before : (given : Option Op) {rest bytes : List ℕ} → Before (GivenSlot given) rest bytes
+    → Before (SlotText (unwrap_or given Nop)) rest bytes
+slot_before given b = record { front = b.front; first = (given, refl, b.first); whole = b.whole }
+
+capped_given : (given : Option Op) → unwrap_or (option_map capped_op given) Nop ≡ capped_op (unwrap_or given Nop)
+unfolding capped_op
+capped_given None = refl
+capped_given (Some op) = refl
+
 slot_read : (bytes : List ℕ) → IfSome (slot_at bytes) (FindsSlot bytes)
 unfolding slot_at
-slot_read bytes = bind_each (FindsSlot bytes) (operation_at (after_blanks bytes)) _ (operation_read (after_blanks bytes))
-    (λ found f. (f.0, Before-join (blanks_read bytes) (Before-join f.1 (blanks_read found.1)), f.2))
+slot_read bytes = bind_each (FindsSlot bytes) (optional_operation_at (after_blanks bytes)) _
+    (optional_read (after_blanks bytes)) (λ found f. (
+      unwrap_or f.0 Nop,
+      slot_before f.0 (Before-join (blanks_read bytes) (Before-join f.1 (blanks_read found.1))),
+      ap (λ given. unwrap_or given Nop) f.2 ∙ capped_given f.0,
+    ))
 
 byte_tells : (c byte : ℕ) → (c == byte) ≡ true → c ≡ byte
 byte_tells c byte h = grind (arith, nat_tests)
@@ -54,8 +72,13 @@ behind_read byte (c ∷ cs) = by (c == byte) refl
     by true e = record { front = c ∷ []; first = ap (λ d. d ∷ []) (byte_tells c byte e); whole = refl }
     by false e = tt
 
+alone_capped : (op : Op) → alone (capped_op op) ≡ (capped_op (alone op).0, capped_op (alone op).1)
+unfolding capped_op
+alone_capped Nop = refl
+alone_capped _ = refl
+
 abbrev RowBody : Op → Op → List ℕ → Type 0
-RowBody zero one = SlotText zero ⋅ Text (codes ";") ⋅ SlotText one ⋅ Text (codes "]")
+RowBody zero one = RowText zero one ⋅ Text (codes "]")
 
 abbrev FindsRow : List ℕ → Said × List ℕ → Type 0
 FindsRow bytes found = (zero : Op) × (one : Op) × Before (RowBody zero one) found.1 bytes
@@ -64,11 +87,30 @@ FindsRow bytes found = (zero : Op) × (one : Op) × Before (RowBody zero one) fo
 row_read : (bytes : List ℕ) → IfSome (row_at bytes) (FindsRow bytes)
 unfolding row_at
 row_read bytes =
-    bind_each (FindsRow bytes) (slot_at bytes) _ (slot_read bytes) (λ zero z.
-    bind_each (FindsRow bytes) (behind_byte 59 zero.1) _ (behind_read 59 zero.1) (λ middle m.
-    bind_each (FindsRow bytes) (slot_at middle) _ (slot_read middle) (λ one o.
-    bind_each (FindsRow bytes) (behind_byte 93 one.1) _ (behind_read 93 one.1) (λ rest r.
-    (z.0, o.0, Before-join z.1 (Before-join m (Before-join o.1 r)), ap₂ row z.2 o.2)))))
+    bind_each (FindsRow bytes) (slot_at bytes) _ (slot_read bytes)
+    (λ first f. by first f (behind_byte 59 first.1) (behind_read 59 first.1))
+  where
+    two : (zero one : Op) (rest : List ℕ) → Before (SlotText zero ⋅ Text (codes ";") ⋅ SlotText one) rest bytes
+        → Before (RowText zero one) rest bytes
+    two zero one rest b = record { front = b.front; first = inl b.first; whole = b.whole }
+
+    single : (op : Op) (rest : List ℕ) → Before (SlotText op) rest bytes
+        → Before (RowText (alone op).0 (alone op).1) rest bytes
+    single op rest b = record { front = b.front; first = inr (op, b.first, refl); whole = b.whole }
+
+    by : (first : Op × List ℕ) → FindsSlot bytes first → (o : Option (List ℕ))
+        → IfSome o (λ middle. Before (Text (codes ";")) middle first.1) → IfSome (row_from first o) (FindsRow bytes)
+    by first f None m =
+        bind_each (FindsRow bytes) (behind_byte 93 first.1) _ (behind_read 93 first.1) (λ rest r. (
+          (alone f.0).0,
+          (alone f.0).1,
+          Before-join (single f.0 first.1 f.1) r,
+          ap (λ op. row (alone op).0 (alone op).1) f.2 ∙ ap (λ pair. row pair.0 pair.1) (alone_capped f.0),
+        ))
+    by first f (Some middle) m =
+        bind_each (FindsRow bytes) (slot_at middle) _ (slot_read middle) (λ one o.
+        bind_each (FindsRow bytes) (behind_byte 93 one.1) _ (behind_read 93 one.1) (λ rest r.
+        (f.0, o.0, Before-join (two f.0 o.0 one.1 (Before-join f.1 (Before-join m o.1))) r, ap₂ row f.2 o.2)))
 
 abbrev FindsBehind : List ℕ → ℕ × List ℕ → Type 0
 FindsBehind bytes found = (n : ℕ) × (mid : List ℕ) × Before SomeBlanks mid bytes × Before (Number n) found.1 mid
@@ -200,18 +242,34 @@ line_read bytes = bind_each (FindsSaidLine bytes) (said_at (after_blanks bytes))
 
 -- Each text of the grammar is found
 
-slot_again : (op : Op) (rest bytes : List ℕ) → Before (SlotText op) rest bytes → starts is_word_byte rest ≡ false
-    → starts is_blank rest ≡ false → slot_at bytes ≡ Some (capped_op op, rest)
+given_again : (given : Option Op) (rest bytes : List ℕ) → Before (GivenSlot given) rest bytes
+    → starts is_word_byte rest ≡ false → starts is_blank rest ≡ false
+    → slot_at bytes ≡ Some (capped_op (unwrap_or given Nop), rest)
 unfolding slot_at
-slot_again op rest bytes b s t =
+given_again None rest bytes b s t =
+    let first = Before-split b in
+    let second = Before-split first.2 in
+    let still = blanks_none rest t in
+    let skipped : after_blanks bytes ≡ rest =
+    blanks_over first.0 bytes first.1 ∙ ap after_blanks (second.1.whole ∙ ap (λ f. f ++ second.0) second.1.first)
+    ∙ blanks_over rest second.0 second.2 ∙ still in
+    rw (skipped, optional_none rest s, still) (ap (λ op. Some (op, rest)) (capped_given None))
+given_again (Some op) rest bytes b s t =
     let first = Before-split b in
     let second = Before-split first.2 in
     let word = operation_starts op second.0 first.0 second.1 in
     rw (
       blanks_again first.0 bytes first.1 (no_blank_start first.0 word),
+      optional_here first.0 word,
       operation_again op second.0 first.0 second.1 (blanks_fail is_word_byte blank_is_no_word_byte second.2 s),
       blanks_again rest second.0 second.2 t,
     ) refl
+
+slot_again : (op : Op) (rest bytes : List ℕ) → Before (SlotText op) rest bytes → starts is_word_byte rest ≡ false
+    → starts is_blank rest ≡ false → slot_at bytes ≡ Some (capped_op op, rest)
+slot_again op rest bytes b s t =
+    let again = given_again b.first.0 rest bytes (record { front = b.front; first = b.first.2; whole = b.whole }) s t in
+    subst (λ o. slot_at bytes ≡ Some (capped_op o, rest)) (sym b.first.1) again
 
 behind_again : (byte : ℕ) (rest bytes : List ℕ) → (byte == byte) ≡ true → Before (Text (byte ∷ [])) rest bytes
     → behind_byte byte bytes ≡ Some rest
@@ -222,16 +280,43 @@ behind_again byte rest bytes e b =
 row_again : (zero one : Op) (rest bytes : List ℕ) → Before (RowBody zero one) rest bytes
     → row_at bytes ≡ Some (row (capped_op zero) (capped_op one), rest)
 unfolding row_at
-row_again zero one rest bytes b =
-    let first = Before-split b in
-    let second = Before-split first.2 in
-    let third = Before-split second.2 in
-    rw (
-      slot_again zero first.0 bytes first.1 (text_starts is_word_byte second.1) (text_starts is_blank second.1),
-      behind_again 59 second.0 first.0 refl second.1,
-      slot_again one third.0 second.0 third.1 (text_starts is_word_byte third.2) (text_starts is_blank third.2),
-      behind_again 93 rest third.0 refl third.2,
-    ) refl
+row_again zero one rest bytes b = by (Before-split b)
+  where
+    two : (mid : List ℕ) → Before (SlotText zero ⋅ Text (codes ";") ⋅ SlotText one) mid bytes
+        → Before (Text (codes "]")) rest mid → row_at bytes ≡ Some (row (capped_op zero) (capped_op one), rest)
+    two mid body end =
+        let first = Before-split body in
+        let second = Before-split first.2 in
+        rw (
+          slot_again zero first.0 bytes first.1 (text_starts is_word_byte second.1) (text_starts is_blank second.1),
+          behind_again 59 second.0 first.0 refl second.1,
+          slot_again one mid second.0 second.2 (text_starts is_word_byte end) (text_starts is_blank end),
+          behind_again 93 rest mid refl end,
+        ) refl
+
+    single : (op : Op) (mid : List ℕ) → Before (SlotText op) mid bytes → Before (Text (codes "]")) rest mid
+        → row_at bytes ≡ Some (row (capped_op (alone op).0) (capped_op (alone op).1), rest)
+    single op mid body end =
+        let none : behind_byte 59 mid ≡ None = ap (behind_byte 59) (end.whole ∙ ap (λ f. f ++ rest) end.first) in
+        rw (
+          slot_again op mid bytes body (text_starts is_word_byte end) (text_starts is_blank end),
+          none,
+          behind_again 93 rest mid refl end,
+        ) (ap (λ pair. Some (row pair.0 pair.1, rest)) (alone_capped op))
+
+    of_text : (mid : List ℕ) (b : Before (RowText zero one) mid bytes) → Before (Text (codes "]")) rest mid
+        → row_at bytes ≡ Some (row (capped_op zero) (capped_op one), rest)
+    of_text mid b end = by b.first
+      where
+        by : RowText zero one b.front → row_at bytes ≡ Some (row (capped_op zero) (capped_op one), rest)
+        by (inl both) = two mid (record { front = b.front; first = both; whole = b.whole }) end
+        by (inr one) =
+            let found = single one.0 mid (record { front = b.front; first = one.1; whole = b.whole }) end in
+            found ∙ ap (λ pair. Some (row (capped_op pair.0) (capped_op pair.1), rest)) (sym one.2)
+
+    by : (mid : List ℕ) × Before (RowText zero one) mid bytes × Before (Text (codes "]")) rest mid
+        → row_at bytes ≡ Some (row (capped_op zero) (capped_op one), rest)
+    by split = of_text split.0 split.1 split.2
 
 number_behind_again : (n : ℕ) (mid rest bytes : List ℕ) → Before SomeBlanks mid bytes → Before (Number n) rest mid
     → starts is_ascii_digit rest ≡ false → number_behind bytes ≡ Some (capped n, rest)

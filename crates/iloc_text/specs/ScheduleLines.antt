@@ -1,14 +1,15 @@
 -- Which texts a line of a schedule may have, as schedules are listed.
-use Rattle.std.specs.Prelude.{◌≢◌, ℕ, ◌≤◌, Option, Some, None, option_map, Result, Ok, Err, List, [], ◌∷◌, ◌++◌, codes}
+use Rattle.std.specs.Prelude.{◌≡◌, ◌≢◌, ◌⊎◌, ℕ, ◌≤◌, Bool, true, false, if◌then◌else◌, Option, Some, None, option_map, unwrap_or, Result, Ok, Err, List, [], ◌∷◌, ◌++◌, codes}
 use Rattle.std.specs.List.{AllByRecursion}
 use Rattle.iloc_ops.specs.Limits.{MAX_NUMBER}
 use Rattle.iloc_ops.specs.declared.op.Op.{Op}
+use Rattle.iloc_ops.specs.declared.op.Op.TheVariants.{Mult, MultI, Nop}
 use Rattle.iloc_text.specs.declared.line.ParseFault.{ParseFault}
 use Rattle.iloc_text.specs.declared.line.ParseFault.TheVariants.{Bad, NumberTooLarge}
 use Rattle.iloc_text.specs.declared.schedule_line.ScheduleLine.{ScheduleLine}
 use Rattle.iloc_text.specs.declared.schedule_line.ScheduleLine.TheVariants.{Empty, Row, Head, Cycles, Total}
 use Rattle.iloc_ops.specs.Forms.{numbers}
-use Rattle.iloc_text.specs.Grammar.{◌⋅◌, Text, Blanks, SomeBlanks, Number, Operation, OptionalComment, Name}
+use Rattle.iloc_text.specs.Grammar.{◌⋅◌, Text, Blanks, SomeBlanks, Number, OptionalOperation, OptionalComment, Name}
 
 -- What a line says: nothing; a row, with the operation on unit 0 and that on unit 1; that what stands below is of the
 -- block with this number and this name; how many cycles a block's schedule takes; or how many all schedules take.
@@ -19,19 +20,34 @@ pub data Said : Type 0 where
   cycles : ℕ → Said
   total : ℕ → Said
 
--- an operation with any blanks on both sides
+-- an operation with any blanks on both sides, or blanks alone, for `nop`
 abbrev pub SlotText : Op → List ℕ → Type 0
-SlotText op = Blanks ⋅ Operation op ⋅ Blanks
+SlotText op bytes =
+    (given : Option Op) × (op ≡ unwrap_or given Nop) × (Blanks ⋅ OptionalOperation given ⋅ Blanks) bytes
+
+abbrev pub is_product : Op → Bool
+is_product (Mult left right dest) = true
+is_product (MultI left value dest) = true
+is_product _ = false
+
+-- the row of a single operation, unit 0 and unit 1: a product goes on unit 1, any other on unit 0
+abbrev pub alone : Op → Op × Op
+alone op = if is_product op then (Nop, op) else (op, Nop)
+
+-- `X ; Y`, or `X` alone, where either may be left out
+abbrev pub RowText : Op → Op → List ℕ → Type 0
+RowText zero one bytes =
+    (SlotText zero ⋅ Text (codes ";") ⋅ SlotText one) bytes ⊎ ((op : Op) × SlotText op bytes × ((zero, one) ≡ alone op))
 
 -- the name of a block, `-` where it has none
 abbrev pub BlockName : Option (List ℕ) → List ℕ → Type 0
 BlockName None = Text (codes "-")
 BlockName (Some name) = Name name
 
--- `[ X ; Y ]`, `block K NAME`, `cycles C` or `total T`, with numbers however large
+-- `[ X ; Y ]` or `[ X ]`, `block K NAME`, `cycles C` or `total T`, with numbers however large
 abbrev pub SaidText : Said → List ℕ → Type 0
 SaidText nothing = Text []
-SaidText (row zero one) = Text (codes "[") ⋅ SlotText zero ⋅ Text (codes ";") ⋅ SlotText one ⋅ Text (codes "]")
+SaidText (row zero one) = Text (codes "[") ⋅ RowText zero one ⋅ Text (codes "]")
 SaidText (head k name) = Text (codes "block") ⋅ SomeBlanks ⋅ Number k ⋅ SomeBlanks ⋅ BlockName name
 SaidText (cycles c) = Text (codes "cycles") ⋅ SomeBlanks ⋅ Number c
 SaidText (total t) = Text (codes "total") ⋅ SomeBlanks ⋅ Number t

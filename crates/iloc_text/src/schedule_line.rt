@@ -1,11 +1,11 @@
 //! What a line of a schedule says, as schedules are listed.
 ghost use Rattle.std.specs.Prelude.{◌≡◌, option_map};
-ghost use Rattle.iloc_text.specs.ScheduleLines.{IsSaidBy, said_of};
+ghost use Rattle.iloc_text.specs.ScheduleLines.{IsSaidBy, said_of, is_product, alone};
 ghost use Rattle.iloc_text.specs.Steps.ScheduleScan.{slot_at, behind_byte, row_at, block_name_at, head_at, cycles_at, total_at, worded_at, said_at, schedule_line_at, is_said_within};
 
 use crate::line::{ParseFault, is_end, is_within};
 use crate::operand::number_behind_blank;
-use crate::operation::operation_at;
+use crate::operation::optional_operation_at;
 use crate::scan::{ABOVE_LIMIT, after_blanks, is_word_byte, some_blanks_at, word_at};
 use iloc_ops::Op;
 
@@ -14,7 +14,8 @@ use iloc_ops::Op;
 pub enum ScheduleLine<'a> {
     /// Nothing: only blanks and a comment, or not even those.
     Empty,
-    /// `[ zero ; one ]`: the operations that are issued in a cycle, on unit 0 and on unit 1.
+    /// `[ zero ; one ]`: the operations that are issued in a cycle, on unit 0 and on unit 1; `nop` for one that is left
+    /// out. In `[ op ]` a product is on unit 1, any other operation on unit 0.
     Row { zero: Op, one: Op },
     /// `block number name`: the lines below are of this block; the name `-` is none.
     Head { number: u32, name: Option<&'a [u8]> },
@@ -24,13 +25,31 @@ pub enum ScheduleLine<'a> {
     Total(u32),
 }
 
-/// An operation and what follows it, with any blanks on both sides.
+/// An operation with any blanks on both sides, `nop` for blanks alone, and what follows.
 #[tactic(auto, unfolding(crate::specs::Steps::ScheduleScan::slot_at))]
 fn slot_at(bytes: &[u8]) -> Option<(Op, &[u8])>
     ensures { option_map (λ found. (found.0, found.1.now)) result ≡ slot_at bytes.now }
 {
-    let (op, rest) = operation_at(after_blanks(bytes))?;
-    Some((op, after_blanks(rest)))
+    let (op, rest) = optional_operation_at(after_blanks(bytes))?;
+    Some((op.unwrap_or(Op::Nop), after_blanks(rest)))
+}
+
+/// Whether the operation is a product.
+fn is_product(op: &Op) -> bool
+    ensures { result ≡ is_product op.now }
+{
+    matches!(op, Op::Mult { .. } | Op::MultI { .. })
+}
+
+/// The row of a single operation: what is issued on unit 0 and on unit 1.
+fn alone(op: Op) -> (Op, Op)
+    ensures { result ≡ alone op }
+{
+    if is_product(&op) {
+        (Op::Nop, op)
+    } else {
+        (op, Op::Nop)
+    }
 }
 
 /// What follows this byte.
@@ -48,9 +67,14 @@ fn behind_byte(byte: u8, bytes: &[u8]) -> Option<&[u8]>
 fn row_at(bytes: &[u8]) -> Option<(ScheduleLine<'_>, &[u8])>
     ensures { option_map (λ found. (said_of found.0, found.1.now)) result ≡ row_at bytes.now }
 {
-    let (zero, rest) = slot_at(bytes)?;
-    let (one, rest) = slot_at(behind_byte(b';', rest)?)?;
+    let (first, rest) = slot_at(bytes)?;
+    if let Some(rest) = behind_byte(b';', rest) {
+        let (one, rest) = slot_at(rest)?;
+        let rest = behind_byte(b']', rest)?;
+        return Some((ScheduleLine::Row { zero: first, one }, rest));
+    }
     let rest = behind_byte(b']', rest)?;
+    let (zero, one) = alone(first);
     Some((ScheduleLine::Row { zero, one }, rest))
 }
 

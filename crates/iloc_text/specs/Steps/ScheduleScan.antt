@@ -1,33 +1,41 @@
 -- What the scanner finds of a line of a schedule.
-use Rattle.std.specs.Prelude.{ℕ, nat_lt, Bool, true, ◌&&◌, ◌==◌, if◌then◌else◌, Option, Some, None, List, [], ◌∷◌, codes}
+use Rattle.std.specs.Prelude.{ℕ, nat_lt, Bool, true, ◌&&◌, ◌==◌, if◌then◌else◌, Option, Some, None, unwrap_or, List, [], ◌∷◌, codes}
 use Rattle.std.specs.Str.{bytes_eq}
 use Rattle.std.specs.Char.{is_ascii_alphabetic}
 use Rattle.iloc_text.specs.declared.scan.TheConstants.{ABOVE_LIMIT}
 use Rattle.iloc_ops.specs.declared.op.Op.{Op}
+use Rattle.iloc_ops.specs.declared.op.Op.TheVariants.{Nop}
 use Rattle.iloc_text.specs.Grammar.{is_word_byte}
-use Rattle.iloc_text.specs.Steps.Scan.{◌>>=◌, after_blanks, some_blanks_at, number_at, word_of, after_word, operation_at, is_end, is_within}
-use Rattle.iloc_text.specs.ScheduleLines.{Said}
+use Rattle.iloc_text.specs.Steps.Scan.{◌>>=◌, after_blanks, some_blanks_at, number_at, word_of, after_word, optional_operation_at, is_end, is_within}
+use Rattle.iloc_text.specs.ScheduleLines.{Said, alone}
 use Rattle.iloc_text.specs.ScheduleLines.Said.{nothing, row, head, cycles, total}
 
--- an operation with any blanks on both sides
+-- an operation with any blanks on both sides, or blanks alone
 unfoldable pub slot_at : List ℕ → Option (Op × List ℕ)
 slot_at bytes = do
-  found ← operation_at (after_blanks bytes)
-  Some (found.0, after_blanks found.1)
+  found ← optional_operation_at (after_blanks bytes)
+  Some (unwrap_or found.0 Nop, after_blanks found.1)
 
 -- what follows this byte
 abbrev pub behind_byte : ℕ → List ℕ → Option (List ℕ)
 behind_byte byte [] = None
 behind_byte byte (c ∷ cs) = if c == byte then Some cs else None
 
+-- the end of a row after its first operation: a second one where a semicolon was found
+abbrev pub row_from : Op × List ℕ → Option (List ℕ) → Option (Said × List ℕ)
+row_from first None = do
+  rest ← behind_byte 93 first.1
+  Some (row (alone first.0).0 (alone first.0).1, rest)
+row_from first (Some middle) = do
+  one ← slot_at middle
+  rest ← behind_byte 93 one.1
+  Some (row first.0 one.0, rest)
+
 -- a row of which the bracket was read
 unfoldable pub row_at : List ℕ → Option (Said × List ℕ)
 row_at bytes = do
-  zero ← slot_at bytes
-  middle ← behind_byte 59 zero.1
-  one ← slot_at middle
-  rest ← behind_byte 93 one.1
-  Some (row zero.0 one.0, rest)
+  first ← slot_at bytes
+  row_from first (behind_byte 59 first.1)
 
 -- a number after blanks
 unfoldable pub number_behind : List ℕ → Option (ℕ × List ℕ)
