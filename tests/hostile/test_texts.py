@@ -1,7 +1,10 @@
-"""Texts that are cut at any byte, or have any byte at any place. What is right the plain Rust program says, which
-reads, runs and schedules in its own way (bench/baseline)."""
+"""Texts that are cut at any byte, or have any byte at any place, or are drawn. What is right the plain Rust program says,
+which reads, runs and schedules in its own way (bench/baseline)."""
+import random
+
 from harness.program import COMMANDS, TESTED, baseline, ending, told
 from harness.suite import Check, table
+from oracle.odd import odd_text
 
 # Each form of a line and of an operation, blanks of each kind and none, leading zeros, the greatest numbers; and a
 # bad line at the end.
@@ -10,7 +13,7 @@ FORMS = b"""\
  \t\r
 // a comment alone, of any bytes \x00\x0b\xff: \xe2\x86\x92
 nop
-\tnop // behind an operation
+\tnop // after an operation
  first :
 second_1:\tloadI 2147483647 => r2147483647 // label, operation and comment
 loadI 1024 => r0//close
@@ -42,18 +45,19 @@ KINDS = b"\x00\n\x0b\r +,/08:=>A_rz\x80"
 ALL = bytes(range(256))
 # In the short mode other commands than `run` are tried with one text in so many.
 SELDOM = 8
+DRAWN, ALL_DRAWN = 400, 20_000
 
 
 def text_checks():
-    changed = list(changed_texts(SHORT, KINDS if TESTED.is_short else ALL))
-    cut = [FORMS[:end] for end in range(len(FORMS) + 1)]
-    for command in COMMANDS:
-        step = SELDOM if TESTED.is_short and command != "run" else 1
-        for name, texts in (("cut", cut), ("changed", changed)):
+    chance = random.Random(5)
+    kinds = {"cut": [FORMS[:end] for end in range(len(FORMS) + 1)],
+             "changed": [*changed_texts(SHORT, KINDS if TESTED.is_short else ALL)],
+             "drawn": [odd_text(chance) for _ in range(DRAWN if TESTED.is_short else ALL_DRAWN)]}
+    for name, texts in kinds.items():
+        for command in COMMANDS:
+            step = SELDOM if TESTED.is_short and command != "run" else 1
             yield Check(f"texts/{name}/{command}", wrong_among, command, texts[::step])
-    step = SELDOM if TESTED.is_short else 1
-    for name, texts in (("cut", cut), ("changed", changed)):
-        yield Check(f"texts/{name}/lint", unlike_run, texts[::step])
+        yield Check(f"texts/{name}/lint", unlike_run, texts[::SELDOM if TESTED.is_short else 1])
 
 
 def changed_texts(text, others):

@@ -1,12 +1,11 @@
 """./ilocfarm, ./build and ./install in a small repository, with a stand-in for the toolchain's rt.
 
-One case has the real rt run a small program unproved. A line says how long a start of the built program takes.
+One case has the real rt run a small program unproved.
 """
 import os
 import shutil
 import signal
 import subprocess
-import time
 
 from harness.place import InFolder, crates_of, until
 from harness.program import SECONDS, TOP
@@ -335,20 +334,3 @@ fn main(rt: HostRuntime) -> io::Result<()> {
         status, out, err = self.ran("run", given="one\ntwo\n", env={"PATH": os.environ["PATH"]})
         self.assertEqual((status, out), (0, "one\ntwo\n"))
         self.assertRegex(err, rf"\A{UNPROVED}(ilocfarm: a word\n){{2}}\Z")
-
-
-class Time(Repository):
-    def test_start(self):
-        self.with_crates(self.text(f"{TOP}/crates.txt"))
-        for it in os.listdir(f"{TOP}/crates"):
-            for part in ("src", "specs", "proofs"):
-                if os.path.isdir(f"{TOP}/crates/{it}/{part}"):
-                    shutil.copytree(f"{TOP}/crates/{it}/{part}", f"{self.top}/crates/{it}/{part}", dirs_exist_ok=True)
-        self.builds(1)
-
-        def seconds(command):
-            begun = time.perf_counter()
-            self.ended(self.start("run", by=command))
-            return time.perf_counter() - begun
-        started, alone = (min(seconds(it) for _ in range(20)) for it in ("ilocfarm", "out/ilocfarm"))
-        print(f"a start takes {1000 * started:.1f} ms, of which the program, here a script, takes {1000 * alone:.1f} ms")

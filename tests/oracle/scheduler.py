@@ -72,10 +72,10 @@ class Schedule:
         if by == "slack":
             return [start + rest for start, rest in zip(starts_of(self.ops, self.pairs), self.priorities)]
         if by == "descendants":
-            behind = [set() for _ in self.ops]
+            after = [set() for _ in self.ops]
             for i, j, _ in sorted(self.pairs, reverse=True):
-                behind[i] |= {j} | behind[j]
-            return [*map(len, behind)]
+                after[i] |= {j} | after[j]
+            return [*map(len, after)]
         return {"chain": self.priorities, "order": [0] * len(self.ops),
                 "latency": [op.latency(self.latencies) for op in self.ops],
                 "successors": [len({j for k, j, _ in self.pairs if k == i}) for i in range(len(self.ops))]}[by]
