@@ -39,6 +39,7 @@ WRONG = [
     (b"loadI 2147483648 => r1", "a number above 2147483647", 15),
     (b"load r4294967296 => r1", "a number above 2147483647", 15),
     (b"output 00000000000000002147483649", "a number above 2147483647", 32),
+    (b"loadI 99999999999 r1", "a number above 2147483647", 15),
     (b"load r1 => r2x", 'expected a register, found "r2x"', 13),
     (b"load r1, 4 => r2", 'expected "=>", found ","', 7),
     (b"loadAI r1 => r2", 'expected ",", found "=>"', 10),

@@ -1,6 +1,5 @@
 -- What one more line does to the counts of blocks and operations.
 use Rattle.std.proofs.Common.{◌≡◌, ◌∙◌, ℕ, ◌+◌, ◌<◌, ◌≤◌, Bool, true, false, ◌==◌, List, [], ◌∷◌, ◌++◌, length, refl, sym, ap, Option, Some, None, is_some, option_to_list, length-append, inl, inr, eq-eqb, ne_eqb, arith}
-use Rattle.std.specs.List.{filter_map}
 use Rattle.std.proofs.lemmas.List.Elements.{filter_map-append}
 use Rattle.iloc_ops.specs.declared.op.Op.{Op}
 use Rattle.iloc_text.specs.Files.{Reading, block_count, ops_of}

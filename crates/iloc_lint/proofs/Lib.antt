@@ -6,3 +6,7 @@ pub mod Entries
 pub mod Readers
 pub mod Short
 pub mod Listed
+pub mod Longest
+pub mod PartsAlong
+pub mod Languages
+pub mod Placed

@@ -1,9 +1,9 @@
 -- All faults of a text, from line to line.
-use Rattle.std.proofs.Common.{◌≡◌, ◌∙◌, ℕ, ◌+◌, ◌<◌, ◌≤◌, List, [], ◌∷◌, ◌++◌, length, map, refl, sym, ap, subst, subst₂, Option, Some, None, option_to_list, append_assoc, append-nil, length-append, arith}
+use Rattle.std.proofs.Common.{◌≡◌, ◌∙◌, ℕ, ◌≤◌, List, [], ◌∷◌, ◌++◌, length, map, refl, sym, ap, subst, subst₂, Option, Some, option_to_list, append_assoc, append-nil, length-append, arith}
 use Rattle.std.specs.List.{AllByRecursion, join_with_byte}
 use Rattle.iloc_ops.specs.Limits.{MAX_INPUT}
 use Rattle.iloc_text.specs.declared.fault.ReadFault.{ReadFault}
-use Rattle.iloc_text.specs.Files.{AreLines, HasNoLineEnd, Reading, block_count}
+use Rattle.iloc_text.specs.Files.{HasNoLineEnd, Reading, block_count}
 use Rattle.std.specs.Borrow.{Bor}
 use Rattle.iloc_text.specs.Lines.{lines_of, lines_left}
 use Rattle.iloc_text.proofs.Splitting.{lines_are}

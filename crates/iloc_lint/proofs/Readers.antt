@@ -1,13 +1,13 @@
 -- The faults beside what the reader answers.
-use Rattle.std.proofs.Common.{◌≡◌, ◌∙◌, ℕ, ◌+◌, ◌≤◌, List, [], ◌∷◌, ◌++◌, length, map, refl, sym, ap, subst, subst₂, append_assoc, append-nil, length-append, inl, inr, arith}
+use Rattle.std.proofs.Common.{◌≡◌, ◌∙◌, ℕ, ◌+◌, List, [], ◌∷◌, ◌++◌, length, map, refl, sym, ap, subst, subst₂, append_assoc, append-nil, length-append, inl, inr, arith}
 use Rattle.std.specs.List.{AllByRecursion}
 use Rattle.iloc_text.specs.declared.fault.ReadFault.{ReadFault}
 use Rattle.iloc_text.specs.declared.fault.ReadFault.TheVariants.{InputTooLong, BadLine, NumberTooLarge, TooManyBlocks, TooManyOperations, NoMemory}
-use Rattle.iloc_text.specs.Files.{AreLines, Reading, ReadAs, IsWithin, NoneFaulty, Denotes, IsFaulty, HasFirstFault, IsRefused, fronts, file_of, block_count}
+use Rattle.iloc_text.specs.Files.{AreLines, Reading, ReadAs, IsWithin, NoneFaulty, IsFaulty, HasFirstFault, IsRefused, fronts, file_of}
 use Rattle.iloc_text.proofs.Counts.{fronts-snoc}
 use Rattle.iloc_text.proofs.Every.{all-snoc}
 use Rattle.iloc_text.proofs.BlockLists.{length-file}
-use Rattle.iloc_lint.specs.Faults.{Refusal, CountsAs, AreRefused, HasFaults, IsTooLong, IsLinted}
+use Rattle.iloc_lint.specs.Faults.{Refusal, CountsAs, AreRefused}
 use Rattle.iloc_lint.specs.Laws.{NoFaultsMeanAFile, TheFirstIsTheReaders}
 
 none-snoc : (rs : List Reading) (r : Reading) → NoneFaulty rs → IsWithin (rs ++ r ∷ []) → NoneFaulty (rs ++ r ∷ [])

@@ -2,4 +2,5 @@ pub mod Faults
 pub mod Refused
 pub mod Laws
 pub mod Listing
+pub mod Place
 pub mod Steps

@@ -1,11 +1,12 @@
 -- What is listed of a text that is read for its faults.
-use Rattle.std.specs.Prelude.{◌≡◌, ℕ, ◌+◌, ◌-◌, ◌≤◌, nat_lt, Bool, ◌&&◌, ◌==◌, if◌then◌else◌, List, [], ◌∷◌, ◌++◌, length, take, drop, codes}
+use Rattle.std.specs.Prelude.{◌≡◌, ℕ, ◌-◌, nat_lt, Bool, ◌&&◌, ◌==◌, if◌then◌else◌, List, [], ◌∷◌, ◌++◌, length, take, drop, codes}
 use Rattle.std.specs.Fmt.{decimal}
 use Rattle.std.specs.List.{flat_map}
 use Rattle.iloc_text.specs.declared.fault.ReadFault.{ReadFault}
 use Rattle.iloc_text.specs.declared.fault.ReadFault.TheVariants.{InputTooLong, BadLine, NumberTooLarge, TooManyBlocks, TooManyOperations, NoMemory}
 use Rattle.iloc_text.specs.Fault.{fault_text, of_line}
 use Rattle.iloc_lint.specs.Faults.{Refusal, IsLinted}
+use Rattle.iloc_lint.specs.Place.{IsPlace}
 
 -- a byte in one column: a tab as a space, and what can't be printed as `?`
 abbrev pub shown_byte : ℕ → ℕ
@@ -36,15 +37,16 @@ caret_line from at = codes "    " ++ (if nat_lt 0 from then codes "  " else []) 
 -- at most
 abbrev pub line_entry : ℕ → List ℕ → List ℕ → ℕ → List ℕ
 line_entry n what line at =
-    of_line n (codes ": " ++ what ++ codes "\n") ++ text_line line (at - 40) ++ caret_line (at - 40) at
+    of_line n (codes ": " ++ shown what ++ codes "\n") ++ text_line line (at - 40) ++ caret_line (at - 40) at
 
--- The entry of a line that is refused. What is said of one that has no reading is free.
+-- The entry of a line that is refused, with a caret where its reading ends. How it is worded that a line has no reading is
+-- free, in one line.
 abbrev pub IsEntry : List ℕ → ReadFault → List ℕ → Type 0
 IsEntry line InputTooLong entry = entry ≡ fault_text InputTooLong ++ codes "\n"
 IsEntry line (BadLine n) entry =
-    (what : List ℕ) × (at : ℕ) × (at ≤ length line) × (entry ≡ line_entry n what line at)
+    (what : List ℕ) × (at : ℕ) × IsPlace line at × (entry ≡ line_entry n what line at)
 IsEntry line (NumberTooLarge n) entry =
-    (at : ℕ) × (at ≤ length line) × (entry ≡ line_entry n (codes "a number above 2147483647") line at)
+    (at : ℕ) × IsPlace line at × (entry ≡ line_entry n (codes "a number above 2147483647") line at)
 IsEntry line (TooManyBlocks n) entry = entry ≡ line_entry n (codes "more than 65535 blocks") line 0
 IsEntry line (TooManyOperations n) entry = entry ≡ line_entry n (codes "more than 10000 operations in a block") line 0
 IsEntry line NoMemory entry = ⊥
@@ -56,14 +58,22 @@ AreEntries (refusal ∷ refusals) text =
     (entry : List ℕ) × (rest : List ℕ) × IsEntry refusal.line refusal.fault entry × AreEntries refusals rest
     × (text ≡ entry ++ rest)
 
+-- a hint, whose wording is free
+abbrev pub hint_line : List ℕ → List ℕ
+hint_line what = codes "hint: " ++ shown what ++ codes "\n"
+
+-- hints are given only where no line is refused
+abbrev pub AreHints : List Refusal → List ℕ → Type 0
+AreHints [] text = (hints : List (List ℕ)) × (text ≡ flat_map hint_line hints)
+AreHints (refusal ∷ refusals) text = text ≡ []
+
 -- the last line
 abbrev pub total_line : ℕ → ℕ → ℕ → List ℕ
 total_line blocks ops faults =
     codes "blocks " ++ decimal blocks ++ codes " operations " ++ decimal ops ++ codes " faults " ++ decimal faults
     ++ codes "\n"
 
--- The listing of a text that reads or doesn't: an entry for each line that is refused, then hints, which are free, and what
--- the text holds.
+-- The listing of a text that reads or doesn't: an entry for each line that is refused, or hints, and what the text holds.
 pub record ListsLint (input : List ℕ) (reads : Bool) (listing : List ℕ) : Type 0 where
   pub faults : List Refusal
   pub blocks : ℕ
@@ -72,5 +82,6 @@ pub record ListsLint (input : List ℕ) (reads : Bool) (listing : List ℕ) : Ty
   pub entries : List ℕ
   pub are_entries : AreEntries faults entries
   pub hints : List ℕ
+  pub are_hints : AreHints faults hints
   pub listed : listing ≡ entries ++ hints ++ total_line blocks ops (length faults)
   pub finds : reads ≡ (length faults == 0)

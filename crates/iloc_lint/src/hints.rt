@@ -4,7 +4,8 @@ ghost use Rattle.iloc_ops.specs.Limits.{MAX_INPUT};
 ghost use Rattle.iloc_text.specs.Files.{HasNoLineEnd};
 
 use crate::alone::{Said, Unread, read_alone};
-use iloc_ops::{NoMemory, Op, defines, push_decimal, uses};
+use crate::hint::Hint;
+use iloc_ops::{NoMemory, Op, defines, uses};
 use iloc_text::{MAX_INPUT, split_line};
 use std::alloc::Global;
 use std::collections::BTreeMap;
@@ -25,8 +26,8 @@ struct Value {
 #[derive(Drop)]
 struct Hints {
     alloc: Global,
-    text: Vec<u8>,
-    /// How many there are.
+    found: Vec<Hint>,
+    /// How many there are, those that aren't given too.
     count: u32,
     /// The values of this block's registers.
     values: BTreeMap<u32, Value>,
@@ -42,7 +43,7 @@ impl Hints {
     fn new(alloc: Global) -> Hints {
         Hints {
             alloc,
-            text: Vec::new(alloc),
+            found: Vec::new(alloc),
             count: 0,
             values: BTreeMap::new(alloc),
             headed: 0,
@@ -51,25 +52,13 @@ impl Hints {
         }
     }
 
-    /// Adds a hint on a line, if there is room for one: what comes before the register's number, and what after it.
-    fn add(
-        &mut self,
-        line: u32,
-        before: &[u8],
-        register: Option<u32>,
-        after: &[u8],
-    ) -> Result<(), NoMemory> {
+    /// Adds a hint, if not too many are given.
+    fn add(&mut self, hint: Hint) -> Result<(), NoMemory> {
         self.count = self.count.saturating_add(1);
-        if self.count > MOST {
-            return Ok(());
+        if self.count <= MOST {
+            self.found.push(hint)?;
         }
-        self.text.extend_from_slice(b"hint: line ")?;
-        push_decimal(&mut self.text, u64::from(line))?;
-        self.text.extend_from_slice(before)?;
-        if let Some(register) = register {
-            push_decimal(&mut self.text, u64::from(register))?;
-        }
-        Ok(self.text.extend_from_slice(after)?)
+        Ok(())
     }
 
     /// Nothing uses this value any more.
@@ -77,12 +66,7 @@ impl Hints {
         if value.is_used {
             return Ok(());
         }
-        self.add(
-            value.line,
-            b": nothing uses this value of r",
-            Some(register),
-            b"\n",
-        )
+        self.add(Hint::Unused(value.line, register))
     }
 
     /// Notes that an operation on a line uses a register.
@@ -90,12 +74,7 @@ impl Hints {
         let line = match self.values.get(&register).copied() {
             Some(value) => value.line,
             None => {
-                self.add(
-                    line,
-                    b" uses r",
-                    Some(register),
-                    b", to which nothing before it in the block gives a value: it is 0\n",
-                )?;
+                self.add(Hint::Unset(line, register))?;
                 line
             }
         };
@@ -145,12 +124,7 @@ impl Hints {
             (_, Some(Op::Output { .. }), 0 | 1) => 1,
             (_, None, 1 | 2) => 2,
             (_, Some(_), 2) => {
-                self.add(
-                    line,
-                    b" goes on with the block above it: only a label starts a block",
-                    None,
-                    b"\n",
-                )?;
+                self.add(Hint::GoesOn(line))?;
                 0
             }
             _ => 0,
@@ -186,24 +160,20 @@ impl Hints {
     }
 
     /// Adds what can only be said at the end.
-    fn finish(mut self) -> Result<Vec<u8>, NoMemory> {
+    fn finish(mut self) -> Result<Vec<Hint>, NoMemory> {
         self.end_block()?;
         if self.count > MOST {
-            self.text.extend_from_slice(b"hint: and ")?;
-            push_decimal(&mut self.text, u64::from(self.count - MOST))?;
-            self.text.extend_from_slice(b" more like these\n")?;
+            self.found.push(Hint::More(self.count - MOST))?;
         }
         if self.headed > 2 && self.others == 0 {
-            self.text.extend_from_slice(
-                b"hint: each operation has a label, so each is a block of its own\n",
-            )?;
+            self.found.push(Hint::AllHeaded)?;
         }
-        Ok(self.text)
+        Ok(self.found)
     }
 }
 
 /// Hints on a text that reads.
-pub fn hints_on(alloc: Global, input: &[u8]) -> Result<Vec<u8>, NoMemory> {
+pub fn hints_on(alloc: Global, input: &[u8]) -> Result<Vec<Hint>, NoMemory> {
     if input.len() > MAX_INPUT {
         return Ok(Vec::new(alloc));
     }

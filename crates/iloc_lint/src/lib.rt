@@ -4,6 +4,7 @@
 mod alone;
 mod counts;
 mod faults;
+mod hint;
 mod hints;
 mod judging;
 pub mod laws;

@@ -1,14 +1,15 @@
 //! What is listed of a text: each faulty line with what is wrong there, hints, and what the text holds.
 ghost use Rattle.std.specs.Prelude.{◌≡◌, ◌≤◌, ◌+◌, ◌++◌, List, ℕ, length, take, IfOk, OnOk};
-ghost use Rattle.iloc_lint.specs.Listing.{AreEntries, IsEntry, ListsLint, caret_line, cut, line_entry, text_line, total_line};
+ghost use Rattle.iloc_lint.specs.Listing.{AreEntries, AreHints, IsEntry, ListsLint, caret_line, cut, line_entry, text_line, total_line};
 ghost use Rattle.iloc_lint.specs.Refused.{refusals_of};
 
 use crate::faults::{Linted, lint};
+use crate::hint::push_hints;
 use crate::hints::hints_on;
 use crate::place::place_of;
 use crate::refused::Refused;
 use crate::shown::push_shown;
-use crate::wording::wording;
+use crate::wording::{ABOVE_LIMIT, wording};
 use iloc_text::{NoMemory, ReadFault, push_column, push_decimal};
 use std::alloc::Global;
 
@@ -81,7 +82,7 @@ fn push_line_entry(
     text.extend_from_slice(b"line ")?;
     push_decimal(text, u64::from(number))?;
     text.extend_from_slice(b": ")?;
-    text.extend_from_slice(what)?;
+    push_shown(text, what)?;
     text.push(b'\n')?;
     let from = at.saturating_sub(MOST_BEFORE);
     push_text_line(text, line, from)?;
@@ -100,13 +101,7 @@ fn push_entry(alloc: Global, text: &mut Vec<u8>, refused: &Refused<'_>) -> Resul
             push_line_entry(text, number, &what, line, place_of(line))
         }
         ReadFault::NumberTooLarge(number) => {
-            push_line_entry(
-                text,
-                number,
-                b"a number above 2147483647",
-                line,
-                place_of(line),
-            )
+            push_line_entry(text, number, ABOVE_LIMIT, line, place_of(line))
         }
         ReadFault::TooManyBlocks(number) => {
             push_line_entry(text, number, b"more than 65535 blocks", line, 0)
@@ -148,13 +143,21 @@ fn push_totals(text: &mut Vec<u8>, found: &Linted<'_>) -> Result<(), NoMemory>
     Ok(text.push(b'\n')?)
 }
 
-/// Hints on a text that reads; none on another.
-fn hints_where(alloc: Global, found: &Linted<'_>, input: &[u8]) -> Result<Vec<u8>, NoMemory> {
+/// Appends hints on a text that reads; none on another.
+fn push_hints_where(
+    alloc: Global,
+    text: &mut Vec<u8>,
+    found: &Linted<'_>,
+    input: &[u8],
+) -> Result<(), NoMemory>
+    ensures { OnOk result ((hints : List ℕ) × AreHints (refusals_of found.now.faults.items) hints
+        × (text.new.items ≡ text.old.items ++ hints)) }
+{
     if found.reads() {
-        hints_on(alloc, input)
-    } else {
-        Ok(Vec::new(alloc))
+        let hints = hints_on(alloc, input)?;
+        push_hints(alloc, text, &hints)?;
     }
+    Ok(())
 }
 
 /// What is listed of a text.
@@ -167,18 +170,18 @@ pub struct Report {
 }
 
 /// What is listed of a text: for each line that is refused its number, what is wrong there, its text, and a caret below the
-/// byte where no reading goes on; hints where the text reads; and at the end how many blocks, operations and faults there
-/// are. The wording, the place of the caret and the hints are free.
+/// first byte with which no reading goes on; hints if the text reads; and at the end how many blocks, operations and faults
+/// there are. The wording of hints and of a line that has no reading is free.
 ///
-/// Promise: the lines that are listed are exactly those that the grammar refuses, each with its number and its text.
+/// Promise: the lines that are listed are exactly those that the grammar refuses, each with its number, its text and the
+/// place where its reading ends.
 pub fn report_of(alloc: Global, input: &[u8]) -> Result<Report, NoMemory>
     ensures { IfOk result (λ report. ListsLint input.now report.reads report.text.items) }
 {
     let found = lint(alloc, input)?;
     let mut text = Vec::new(alloc);
     push_entries(alloc, &mut text, &found.faults)?;
-    let hints = hints_where(alloc, &found, input)?;
-    text.extend_from_slice(&hints)?;
+    push_hints_where(alloc, &mut text, &found, input)?;
     push_totals(&mut text, &found)?;
     Ok(Report {
         text,

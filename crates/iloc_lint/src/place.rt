@@ -1,23 +1,29 @@
-//! How far a line can be read: along the items of each operation, to the first byte that belongs to none.
-ghost use Rattle.std.specs.Prelude.{◌≤◌, length};
+//! How far a line reads: along the parts of each operation, to the first byte that belongs to none.
+ghost use Rattle.std.specs.Prelude.{◌≡◌, ◌≤◌, nat_lt, not, true, ◌&&◌, drop, length};
+ghost use Rattle.std.specs.Char.{is_ascii_digit};
+ghost use Rattle.iloc_text.specs.Grammar.{is_blank, is_word_byte};
+ghost use Rattle.iloc_lint.specs.Place.{IsPlace};
+ghost use Rattle.iloc_lint.specs.Steps.Longest.{Called, Longest, NumberAt, PartAt, RegisterAt, Rest, SignAt, alternate, blanks_in, comment_in, common_in, digits_in, label_in, parts, word_in};
 
 use iloc_ops::{Opcode, Operands, form_of, op_of};
 use iloc_text::MAX_NUMBER;
 
-/// What an operation consists of behind its opcode.
+/// A part of an operation after its opcode.
 #[derive(Clone, Copy, Drop, PartialEq, Eq)]
-pub enum Item {
-    /// One blank.
-    Blank,
-    /// Any blanks.
-    Blanks,
-    /// This byte.
-    Byte(u8),
+pub enum Part {
+    /// One blank or more.
+    Space,
+    /// `,` with any blanks on both sides.
+    Comma,
+    /// `=>` with any blanks on both sides.
+    Arrow,
+    /// `r` and a number within the limit.
+    Register,
     /// A number within the limit.
-    Number,
+    Constant,
 }
 
-use Item::{Blank, Blanks, Byte, Number};
+use Part::{Arrow, Comma, Constant, Register, Space};
 
 /// All opcodes.
 pub const OPCODES: [Opcode; 17] = [
@@ -40,160 +46,158 @@ pub const OPCODES: [Opcode; 17] = [
     Opcode::StoreAI,
 ];
 
-/// The items behind an opcode.
-fn items_of(opcode: Opcode) -> &'static [Item] {
+/// The parts after an opcode.
+fn parts_of(opcode: Opcode) -> &'static [Part]
+    ensures { result.now ≡ parts opcode }
+{
     match form_of(&op_of(opcode, &[])).1 {
-        Operands::Nothing => &[Blanks],
-        Operands::Constant(_) => &[Blank, Blanks, Number, Blanks],
-        Operands::Immediate(..) => &[
-            Blank,
-            Blanks,
-            Number,
-            Blanks,
-            Byte(b'='),
-            Byte(b'>'),
-            Blanks,
-            Byte(b'r'),
-            Number,
-            Blanks,
-        ],
-        Operands::Copied(..) | Operands::Stored(..) => &[
-            Blank,
-            Blanks,
-            Byte(b'r'),
-            Number,
-            Blanks,
-            Byte(b'='),
-            Byte(b'>'),
-            Blanks,
-            Byte(b'r'),
-            Number,
-            Blanks,
-        ],
-        Operands::Sources(..) => &[
-            Blank,
-            Blanks,
-            Byte(b'r'),
-            Number,
-            Blanks,
-            Byte(b','),
-            Blanks,
-            Byte(b'r'),
-            Number,
-            Blanks,
-            Byte(b'='),
-            Byte(b'>'),
-            Blanks,
-            Byte(b'r'),
-            Number,
-            Blanks,
-        ],
-        Operands::WithConstant(..) => &[
-            Blank,
-            Blanks,
-            Byte(b'r'),
-            Number,
-            Blanks,
-            Byte(b','),
-            Blanks,
-            Number,
-            Blanks,
-            Byte(b'='),
-            Byte(b'>'),
-            Blanks,
-            Byte(b'r'),
-            Number,
-            Blanks,
-        ],
-        Operands::StoredAt(..) => &[
-            Blank,
-            Blanks,
-            Byte(b'r'),
-            Number,
-            Blanks,
-            Byte(b'='),
-            Byte(b'>'),
-            Blanks,
-            Byte(b'r'),
-            Number,
-            Blanks,
-            Byte(b','),
-            Blanks,
-            Number,
-            Blanks,
-        ],
+        Operands::Nothing => &[],
+        Operands::Constant(_) => &[Space, Constant],
+        Operands::Immediate(..) => &[Space, Constant, Arrow, Register],
+        Operands::Copied(..) | Operands::Stored(..) => &[Space, Register, Arrow, Register],
+        Operands::Sources(..) => &[Space, Register, Comma, Register, Arrow, Register],
+        Operands::WithConstant(..) => &[Space, Register, Comma, Constant, Arrow, Register],
+        Operands::StoredAt(..) => &[Space, Register, Arrow, Register, Comma, Constant],
     }
 }
 
-fn is_blank(byte: u8) -> bool {
+fn is_blank(byte: u8) -> bool
+    ensures { result ≡ is_blank byte }
+{
     byte == b' ' || byte == b'\t' || byte == b'\r'
 }
 
-pub fn is_word_byte(byte: u8) -> bool {
+pub fn is_word_byte(byte: u8) -> bool
+    ensures { result ≡ is_word_byte byte }
+{
     byte.is_ascii_alphanumeric() || byte == b'_'
 }
 
 /// How many blanks are at the front.
 pub fn blanks_at(bytes: &[u8]) -> usize
-    ensures { result ≤ length bytes.now }
+    ensures count { result ≡ blanks_in bytes.now }
+    ensures within { result ≤ length bytes.now }
 {
-    let mut count = 0;
-    while let Some(byte) = bytes.get(count)
-        && is_blank(*byte)
+    let mut rest = bytes;
+    while let [first, after @ ..] = rest
+        && is_blank(*first)
     {
-        count += 1;
+        rest = after;
     }
-    count
+    bytes.len() - rest.len()
 }
 
 /// How many letters, digits and underscores are at the front.
 pub fn word_at(bytes: &[u8]) -> usize
-    ensures { result ≤ length bytes.now }
+    ensures count { result ≡ word_in bytes.now }
+    ensures within { result ≤ length bytes.now }
 {
-    let mut count = 0;
-    while let Some(byte) = bytes.get(count)
-        && is_word_byte(*byte)
+    let mut rest = bytes;
+    while let [first, after @ ..] = rest
+        && is_word_byte(*first)
     {
-        count += 1;
+        rest = after;
     }
-    count
+    bytes.len() - rest.len()
 }
 
-/// How many digits of a number within the limit are at the front, and whether they are a whole number.
-fn number_at(bytes: &[u8]) -> (usize, bool)
-    ensures { result.0 ≤ length bytes.now }
+/// How many digits of a number within the limit are at the front.
+fn digits_at(bytes: &[u8]) -> usize
+    ensures count { result ≡ digits_in 0 bytes.now }
+    ensures within { result ≤ length bytes.now }
 {
     let mut value = 0;
-    let mut count = 0;
-    while let Some(digit) = bytes.get(count)
+    let mut rest = bytes;
+    while let [digit, after @ ..] = rest
         && digit.is_ascii_digit()
     {
-        let longer = value * 10 + u64::from(*digit - b'0');
-        if longer > u64::from(MAX_NUMBER) {
-            return (count, false);
+        value = value * 10 + u64::from(*digit - b'0');
+        if value > u64::from(MAX_NUMBER) {
+            break;
         }
-        value = longer;
-        count += 1;
+        rest = after;
     }
-    (count, count > 0)
+    bytes.len() - rest.len()
 }
 
-/// How many bytes at the front belong to the item, and whether they are all of it.
-fn item_at(item: Item, bytes: &[u8]) -> (usize, bool)
-    ensures { result.0 ≤ length bytes.now }
+/// How many bytes at the front the two have in common.
+fn common(text: &[u8], bytes: &[u8]) -> usize
+    ensures count { result ≡ common_in text.now bytes.now }
+    ensures inside { result ≤ length bytes.now }
+    ensures within { result ≤ length text.now }
 {
-    match (item, bytes) {
-        (Blanks, _) => (blanks_at(bytes), true),
-        (Number, _) => number_at(bytes),
-        (Blank, [first, ..]) if is_blank(*first) => (1, true),
-        (Byte(byte), [first, ..]) if *first == byte => (1, true),
-        _ => (0, false),
+    let mut left = text;
+    let mut rest = bytes;
+    while let [own, others @ ..] = left
+        && let [first, after @ ..] = rest
+        && *first == *own
+    {
+        left = others;
+        rest = after;
+    }
+    bytes.len() - rest.len()
+}
+
+/// As `digits_at`, and whether they are the whole number.
+fn number_at(bytes: &[u8]) -> (usize, bool)
+    ensures number { NumberAt bytes.now result.0 result.1 }
+    ensures within { result.0 ≤ length bytes.now }
+{
+    let count = digits_at(bytes);
+    let goes_on = match &bytes[count..] {
+        [next, ..] => next.is_ascii_digit(),
+        [] => false,
+    };
+    (count, count > 0 && !goes_on)
+}
+
+/// How many bytes at the front belong to a register, and whether they are all of it.
+fn register_at(bytes: &[u8]) -> (usize, bool)
+    ensures register { RegisterAt bytes.now result.0 result.1 }
+    ensures within { result.0 ≤ length bytes.now }
+{
+    let [b'r', digits @ ..] = bytes else {
+        return (0, false);
+    };
+    let (count, whole) = number_at(digits);
+    (count + 1, whole)
+}
+
+/// How many bytes at the front belong to a sign with any blanks on both sides, and whether they are all of it.
+fn sign_at(sign: &[u8], bytes: &[u8]) -> (usize, bool)
+    ensures sign { SignAt sign.now bytes.now result.0 result.1 }
+    ensures within { result.0 ≤ length bytes.now }
+{
+    let before = blanks_at(bytes);
+    let rest = &bytes[before..];
+    let count = common(sign, rest);
+    if count < sign.len() {
+        return (before + count, false);
+    }
+    (before + (count + blanks_at(&rest[count..])), true)
+}
+
+/// How many bytes at the front belong to the part, and whether they are all of it.
+fn part_at(part: Part, bytes: &[u8]) -> (usize, bool)
+    ensures part { PartAt part bytes.now result.0 result.1 }
+    ensures within { result.0 ≤ length bytes.now }
+{
+    match part {
+        Space => {
+            let count = blanks_at(bytes);
+            (count, count > 0)
+        }
+        Comma => sign_at(b",", bytes),
+        Arrow => sign_at(b"=>", bytes),
+        Register => register_at(bytes),
+        Constant => number_at(bytes),
     }
 }
 
 /// How many bytes at the front belong to a comment.
 fn comment_at(bytes: &[u8]) -> usize
-    ensures { result ≤ length bytes.now }
+    ensures count { result ≡ comment_in bytes.now }
+    ensures within { result ≤ length bytes.now }
 {
     match bytes {
         [b'/', b'/', ..] => bytes.len(),
@@ -202,63 +206,48 @@ fn comment_at(bytes: &[u8]) -> usize
     }
 }
 
-/// How many bytes at the front the two have in common.
-fn common(text: &[u8], bytes: &[u8]) -> usize
-    ensures inside { result ≤ length bytes.now }
-    ensures within { result ≤ length text.now }
-{
-    let mut count = 0;
-    while let Some(byte) = bytes.get(count)
-        && let Some(own) = text.get(count)
-        && *byte == *own
-    {
-        count += 1;
-    }
-    count
-}
-
-/// How far a line can be read, and what is wanted there.
+/// How far bytes read, and what is wanted there.
 #[derive(Clone, Copy, Drop)]
 pub struct Place {
-    /// So many bytes can be read.
+    /// How many bytes read.
     pub at: usize,
-    /// The item that stops it, with the one before; none where a comment or the end would go on.
-    pub item: Option<(Option<Item>, Item)>,
+    /// The part that stops them; none where a comment or the end would go on.
+    pub part: Option<Part>,
 }
 
-/// How far the bytes go along the items and then a comment.
-fn along(items: &[Item], bytes: &[u8]) -> Place
-    ensures { result.at ≤ length bytes.now }
+/// How far the bytes go along the parts, blanks and a comment.
+fn along(parts: &[Part], bytes: &[u8]) -> Place
+    requires { alternate parts.now ≡ true }
+    ensures { Longest (Rest parts.now) bytes.now result.at }
 {
     let mut at = 0;
-    let mut before = None;
-    for item in items {
-        let (count, whole) = item_at(*item, &bytes[at..]);
+    for part in parts {
+        let (count, whole) = part_at(*part, &bytes[at..]);
         at += count;
         if !whole {
             return Place {
                 at,
-                item: Some((before, *item)),
+                part: Some(*part),
             };
         }
-        before = Some(*item);
     }
+    at += blanks_at(&bytes[at..]);
     Place {
         at: at + comment_at(&bytes[at..]),
-        item: None,
+        part: None,
     }
 }
 
-/// How far the bytes behind an opcode go along its operands.
+/// How far the bytes after an opcode go along its operands.
 pub fn operands_at(opcode: Opcode, bytes: &[u8]) -> Place
-    ensures { result.at ≤ length bytes.now }
+    ensures { Longest (Rest (parts opcode)) bytes.now result.at }
 {
-    along(items_of(opcode), bytes)
+    along(parts_of(opcode), bytes)
 }
 
 /// How far the bytes go along an operation with this opcode.
 fn operation_at(opcode: Opcode, bytes: &[u8]) -> usize
-    ensures { result ≤ length bytes.now }
+    ensures { Longest (Called opcode) bytes.now result }
 {
     let text = opcode.text();
     let count = common(text, bytes);
@@ -271,25 +260,27 @@ fn operation_at(opcode: Opcode, bytes: &[u8]) -> usize
 
 /// How many bytes at the front are blanks and a label; 0 where there is none.
 pub fn label_at(line: &[u8]) -> usize
-    ensures { result ≤ length line.now }
+    ensures count { result ≡ label_in line.now }
+    ensures within { result ≤ length line.now }
 {
     let start = blanks_at(line);
     let name = &line[start..];
-    let [first, ..] = name else { return 0 };
-    if !first.is_ascii_alphabetic() {
-        return 0;
-    }
-    let word = word_at(name);
-    let end = word + blanks_at(&name[word..]);
-    match &name[end..] {
-        [b':', ..] => start + end + 1,
+    match name {
+        [first, ..] if first.is_ascii_alphabetic() => {
+            let word = word_at(name);
+            let end = word + blanks_at(&name[word..]);
+            match &name[end..] {
+                [b':', ..] => start + end + 1,
+                _ => 0,
+            }
+        }
         _ => 0,
     }
 }
 
-/// How many bytes of a line without its label some line begins with that has a reading.
+/// How far the line reads.
 pub fn place_of(line: &[u8]) -> usize
-    ensures { result ≤ length line.now }
+    ensures { IsPlace line.now result }
 {
     let label = label_at(line);
     let start = label + blanks_at(&line[label..]);

@@ -1,8 +1,8 @@
 //! What is wrong with a line, in words.
-ghost use Rattle.std.specs.Prelude.{◌≤◌, length};
+ghost use Rattle.std.specs.Prelude.{◌≤◌, ◌<◌, length};
 
 use crate::place::{
-    Item, OPCODES, Place, blanks_at, is_word_byte, label_at, operands_at, place_of, word_at,
+    OPCODES, Part, Place, blanks_at, is_word_byte, label_at, operands_at, place_of, word_at,
 };
 use crate::shown::push_shown;
 use iloc_ops::Opcode;
@@ -15,6 +15,9 @@ const FOREIGN: [&[u8]; 31] = [
     b"neg", b"loadAO", b"storeAO", b"cloadAI", b"cload", b"cstore", b"i2i", b"c2c", b"c2i", b"i2c",
     b"cbr", b"jump", b"jumpI", b"tbl", b"phi", b"halt", b"cmp_LT", b"cmp_EQ", b"mul", b"mov",
 ];
+
+/// What is said of a number that is too large.
+pub const ABOVE_LIMIT: &[u8] = b"a number above 2147483647";
 
 /// The longest part of a word that is shown.
 const MOST_QUOTED: usize = 24;
@@ -90,20 +93,25 @@ fn push_found(what: &mut Vec<u8>, line: &[u8], at: usize) -> Result<(), NoMemory
     }
 }
 
-/// What is wanted where an item stops a line, and how many bytes before that place it starts.
-fn wanted(opcode: Opcode, place: &Place) -> (&'static [u8], usize) {
-    match place.item {
-        None => (b"the end of the line", 0),
-        Some((_, Item::Byte(b'r'))) => (b"a register", 0),
-        Some((Some(Item::Byte(b'r')), Item::Number)) => (b"a register", 1),
-        Some((_, Item::Number)) => (b"a number", 0),
-        Some((_, Item::Byte(b','))) => (b"\",\"", 0),
-        Some((_, Item::Byte(b'>'))) => (b"\"=>\"", 1),
-        Some((_, Item::Byte(_))) => (b"\"=>\"", 0),
-        Some((_, Item::Blank | Item::Blanks)) => match opcode {
-            Opcode::LoadI | Opcode::Output => (b"a number", 0),
-            _ => (b"a register", 0),
-        },
+/// What is wanted where a line stops.
+fn wanted(opcode: Opcode, place: &Place) -> &'static [u8] {
+    match (place.part, opcode) {
+        (None, _) => b"the end of the line",
+        (Some(Part::Comma), _) => b"\",\"",
+        (Some(Part::Arrow), _) => b"\"=>\"",
+        (Some(Part::Constant), _) | (Some(Part::Space), Opcode::LoadI | Opcode::Output) => {
+            b"a number"
+        }
+        (Some(Part::Register | Part::Space), _) => b"a register",
+    }
+}
+
+/// Whether the byte before the place is the first of the part that stops a line.
+fn is_begun(place: &Place, before: u8) -> bool {
+    match place.part {
+        Some(Part::Register) => before == b'r',
+        Some(Part::Arrow) => before == b'=',
+        _ => false,
     }
 }
 
@@ -126,7 +134,22 @@ fn push_no_opcode(what: &mut Vec<u8>, word: &[u8], rest: &[u8]) -> Result<(), No
     Ok(())
 }
 
-/// What is wrong behind an opcode, whose operands start at this place of the line.
+/// What is wrong with a register or a number that starts at a place and doesn't go on at another.
+fn push_broken_off(what: &mut Vec<u8>, line: &[u8], begun: usize, at: usize) -> Result<(), NoMemory>
+    requires { (begun < at) × (at < length line.now) }
+{
+    if line[at].is_ascii_digit() {
+        return Ok(what.extend_from_slice(ABOVE_LIMIT)?);
+    }
+    what.extend_from_slice(if line[begun] == b'r' {
+        b"expected a register"
+    } else {
+        b"expected a number"
+    })?;
+    push_found(what, line, begun)
+}
+
+/// What is wrong after an opcode, whose operands start at this place of the line.
 fn push_operands(
     what: &mut Vec<u8>,
     opcode: Opcode,
@@ -137,19 +160,16 @@ fn push_operands(
 {
     let place = operands_at(opcode, &line[start..]);
     let at = start + place.at;
-    what.extend_from_slice(b"expected ")?;
     let begun = word_start(line, at);
     if at < line.len() && is_word_byte(line[at]) && begun < at {
-        what.extend_from_slice(if line[begun] == b'r' {
-            b"a register"
-        } else {
-            b"a number"
-        })?;
-        return push_found(what, line, begun);
+        return push_broken_off(what, line, begun, at);
     }
-    let (name, back) = wanted(opcode, &place);
-    what.extend_from_slice(name)?;
-    push_found(what, line, at.saturating_sub(back))
+    what.extend_from_slice(b"expected ")?;
+    what.extend_from_slice(wanted(opcode, &place))?;
+    if at > 0 && is_begun(&place, line[at - 1]) {
+        return push_found(what, line, at - 1);
+    }
+    push_found(what, line, at)
 }
 
 /// What is wrong with a line that has no reading, in words.

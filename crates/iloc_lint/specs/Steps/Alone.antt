@@ -1,6 +1,5 @@
 -- What a line says that is read as a text of its own.
-use Rattle.std.specs.Prelude.{◌≡◌, ℕ, Bool, Option, None, is_some, List, [], ◌∷◌, Result, Ok, Err, slice_get}
-use Rattle.iloc_ops.specs.declared.op.Op.{Op}
+use Rattle.std.specs.Prelude.{◌≡◌, ℕ, Option, is_some, List, [], ◌∷◌, Result, Ok, Err, slice_get}
 use Rattle.iloc_ops.specs.declared.file.Block.{Block}
 use Rattle.iloc_text.specs.declared.fault.ReadFault.{ReadFault}
 use Rattle.iloc_text.specs.declared.fault.ReadFault.TheVariants.{NumberTooLarge, NoMemory}

@@ -1,4 +1,4 @@
-use Rattle.std.proofs.Common.{Ok, Err, sym, ap, subst}
+use Rattle.std.proofs.Common.{Err, sym, subst}
 use Rattle.iloc_lint.specs.Steps.Alone.{Says}
 use Rattle.iloc_lint.proofs.OneLine.{line_says, unread_says}
 use Rattle.iloc_lint.proofs.alone.read_alone.Goals as goal

@@ -1,5 +1,12 @@
-use Rattle.std.proofs.Common.{◌≤◌, length}
+use Rattle.std.proofs.Common.{◌≡◌, ◌+◌, ◌≤◌, ℕ, true, drop, length}
+use Rattle.iloc_lint.specs.Steps.Longest.{Longest, Rest, alternate}
 use Rattle.iloc_lint.proofs.place.along.Given as goal
 
-abbrev pub invariant-loop-item : goal.invariant-loop-item
-invariant-loop-item l = l.at ≤ length l.bytes
+-- whatever the rest of the bytes goes along, all of them go along so far and on
+abbrev pub invariant-loop-part : goal.invariant-loop-part
+invariant-loop-part l = record {
+  within : l.at ≤ length l.bytes;
+  fit : alternate (drop l.part-index l.parts) ≡ true;
+  goes_on : (k : ℕ) → Longest (Rest (drop l.part-index l.parts)) (drop l.at l.bytes) k
+      → Longest (Rest l.parts) l.bytes (l.at + k);
+}

@@ -1,8 +1,10 @@
-use Rattle.std.proofs.Common.{◌≤◌, ◌-◌, length}
+use Rattle.std.proofs.Common.{◌≡◌, ◌+◌, ◌≤◌, length}
+use Rattle.iloc_lint.specs.Steps.Longest.{blanks_in}
 use Rattle.iloc_lint.proofs.place.blanks_at.Given as goal
 
-abbrev pub invariant-loop-byte : goal.invariant-loop-byte
-invariant-loop-byte l = l.count ≤ length l.fn.bytes
+abbrev pub invariant-loop-rest : goal.invariant-loop-rest
+invariant-loop-rest l =
+    (length l.rest ≤ length l.fn.bytes) × (blanks_in l.fn.bytes + length l.rest ≡ length l.fn.bytes + blanks_in l.rest)
 
-abbrev pub decreases-loop-byte : goal.decreases-loop-byte
-decreases-loop-byte l = length l.fn.bytes - l.count
+abbrev pub decreases-loop-rest : goal.decreases-loop-rest
+decreases-loop-rest l = length l.rest

@@ -1,8 +1,11 @@
-use Rattle.std.proofs.Common.{◌≤◌, ◌-◌, length}
+use Rattle.std.proofs.Common.{◌≡◌, ◌+◌, ◌≤◌, length}
+use Rattle.iloc_lint.specs.Steps.Longest.{common_in}
 use Rattle.iloc_lint.proofs.place.common.Given as goal
 
-abbrev pub invariant-loop-byte : goal.invariant-loop-byte
-invariant-loop-byte l = (l.count ≤ length l.fn.bytes) × (l.count ≤ length l.fn.text)
+abbrev pub invariant-loop-left : goal.invariant-loop-left
+invariant-loop-left l = (length l.rest ≤ length l.fn.bytes)
+    × (length l.left + length l.fn.bytes ≡ length l.fn.text + length l.rest)
+    × (common_in l.fn.text l.fn.bytes + length l.rest ≡ length l.fn.bytes + common_in l.left l.rest)
 
-abbrev pub decreases-loop-byte : goal.decreases-loop-byte
-decreases-loop-byte l = length l.fn.bytes - l.count
+abbrev pub decreases-loop-left : goal.decreases-loop-left
+decreases-loop-left l = length l.rest

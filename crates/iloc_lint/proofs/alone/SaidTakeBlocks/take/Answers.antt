@@ -1,5 +1,4 @@
-use Rattle.std.proofs.Common.{◌∙◌, sym, ap, ap₂, is_some, slice_get}
-use Rattle.iloc_lint.specs.declared.alone.Said.{Said}
+use Rattle.std.proofs.Common.{◌∙◌, sym, ap, ap₂, slice_get}
 use Rattle.iloc_lint.proofs.OneLine.{said_more}
 use Rattle.iloc_lint.proofs.alone.SaidTakeBlocks.take.Goals as goal
 

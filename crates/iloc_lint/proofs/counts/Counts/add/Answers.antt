@@ -1,4 +1,4 @@
-use Rattle.std.proofs.Common.{◌∙◌, sym, ap, refl, arith}
+use Rattle.std.proofs.Common.{sym, refl, arith}
 use Rattle.iloc_lint.proofs.Counted.{counted, ops_more}
 use Rattle.iloc_lint.proofs.counts.Counts.add.Goals as goal
 

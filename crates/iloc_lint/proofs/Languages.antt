@@ -1,0 +1,263 @@
+-- A line without a label, as a language of parts.
+use Rattle.std.proofs.Common.{◌≡◌, ◌∙◌, ℕ, ◌≤◌, ◌<◌, ◌+◌, max, false, ◌⊎◌, inl, inr, Option, Some, None, List, [], ◌∷◌, ◌++◌, length, map, take, drop, get_or, refl, sym, ap, subst, arith, append_assoc}
+use Rattle.std.specs.List.{AllByRecursion}
+use Rattle.std.proofs.lemmas.List.{take_more}
+use Rattle.iloc_ops.specs.Limits.{MAX_NUMBER}
+use Rattle.iloc_ops.specs.declared.op.Op.{Op}
+use Rattle.iloc_ops.specs.declared.op.Op.TheVariants.{Nop}
+use Rattle.iloc_ops.specs.declared.forms.Opcode.{Opcode}
+use Rattle.iloc_ops.specs.declared.forms.Opcode.TheVariants as O
+use Rattle.iloc_ops.specs.Forms.{Lead, Value, Operand, opcode, operands, opcode_text, opcodes, number_in, number_of, op_of}
+use Rattle.iloc_ops.specs.Forms.Lead.{space, comma, arrow}
+use Rattle.iloc_ops.specs.Forms.Value.{Use, Definition, Constant}
+use Rattle.iloc_text.specs.Grammar.{◌⋅◌, Text, is_blank, Blanks, LeadText, ValueText, OperandsText, OptionalComment, Reads}
+use Rattle.iloc_text.specs.Steps.Opcodes.{operands_of}
+use Rattle.iloc_text.proofs.Operands.{with_number, filled}
+use Rattle.iloc_text.proofs.Names.{opcode-op_of, operands-op_of}
+use Rattle.iloc_text.proofs.Parts.{starts}
+use Rattle.iloc_lint.specs.Steps.Longest.{Longest, PartText, Rest, Called, Bodies, lead_part, value_part, parts_in, parts, blanks_in, common_in}
+use Rattle.iloc_lint.proofs.Longest.{NoBlank, same, either, blanks_along, no_blanks, some_text, text_nothing, text_along, text_stop, comment_no_blank}
+use Rattle.iloc_lint.proofs.PartsAlong.{grouped_left, grouped_right, with_rest, some_rest}
+
+-- blanks and a comment
+abbrev End : List ℕ → Type 0
+End = Blanks ⋅ OptionalComment
+
+-- Operands are parts
+
+lead_text : (lead : Lead) (w : List ℕ) → LeadText lead w → PartText (lead_part lead) w
+lead_text space w h = h
+lead_text comma w h = h
+lead_text arrow w h = h
+
+text_lead : (lead : Lead) (w : List ℕ) → PartText (lead_part lead) w → LeadText lead w
+text_lead space w h = h
+text_lead comma w h = h
+text_lead arrow w h = h
+
+value_text : (value : Value) (w : List ℕ) → number_in value ≤ MAX_NUMBER → ValueText value w
+    → PartText (value_part value) w
+value_text (Use r) w small h = with_rest (λ v n. (r.0, small, n)) w h
+value_text (Definition r) w small h = with_rest (λ v n. (r.0, small, n)) w h
+value_text (Constant n) w small h = (n, small, h)
+
+-- a value of this kind, with its number
+abbrev Valued : Value → List ℕ → Type 0
+Valued value w = (n : ℕ) × (number_in (with_number value n) ≤ MAX_NUMBER) × ValueText (with_number value n) w
+
+text_value : (value : Value) (w : List ℕ) → PartText (value_part value) w → Valued value w
+text_value (Use r) w j = (
+  j.second.0,
+  j.second.1,
+  record { front = j.front; rest = j.rest; first = j.first; second = j.second.2; whole = j.whole },
+)
+text_value (Definition r) w j = (
+  j.second.0,
+  j.second.1,
+  record { front = j.front; rest = j.rest; first = j.first; second = j.second.2; whole = j.whole },
+)
+text_value (Constant n) w j = (j.0, j.1, j.2)
+
+with_first : {A B C : List ℕ → Type 0} → ((w : List ℕ) → A w → B w) → (w : List ℕ) → (A ⋅ C) w → (B ⋅ C) w
+with_first f w j =
+    record { front = j.front; rest = j.rest; first = f j.front j.first; second = j.second; whole = j.whole }
+
+abbrev AreSmall : List ℕ → Type 0
+AreSmall ns = AllByRecursion (λ n. n ≤ MAX_NUMBER) ns
+
+operands_parts : (os : List Operand) (w : List ℕ) → AreSmall (map number_of os) → (OperandsText os ⋅ End) w
+    → Rest (parts_in os) w
+operands_parts [] w small j = text_nothing w j
+operands_parts (o ∷ more) w small j =
+    with_first (lead_text o.lead) w
+    (with_rest (λ v k. with_first (λ u h. value_text o.value u small.0 h) v
+    (with_rest (λ u h. operands_parts more u small.1 h) v (grouped_right v k))) w (grouped_right w j))
+
+-- operands of these kinds
+abbrev Filled : List Operand → List ℕ → Type 0
+Filled os w = (ns : List ℕ) × AreSmall (map number_of (filled os ns)) × (OperandsText (filled os ns) ⋅ End) w
+
+parts_operands : (os : List Operand) (w : List ℕ) → Rest (parts_in os) w → Filled os w
+parts_operands [] w j = ([], tt, some_text [] w j)
+parts_operands (o ∷ more) w j =
+    let value = text_value o.value j.second.front j.second.first in
+    let others = parts_operands more j.second.rest j.second.second in (
+      value.0 ∷ others.0,
+      (value.1, others.1),
+      grouped_left w (record {
+        front = j.front;
+        rest = j.rest;
+        first = text_lead o.lead j.front j.first;
+        second = grouped_left j.rest (record {
+          front = j.second.front;
+          rest = j.second.rest;
+          first = value.2;
+          second = others.2;
+          whole = j.second.whole;
+        });
+        whole = j.whole;
+      }),
+    )
+
+-- What reads
+
+-- a line without a label that reads
+abbrev pub Plain : List ℕ → Type 0
+Plain w = (op : Option Op) × Reads w None op
+
+reads_as : (op : Op) (o : Opcode) (os : List Operand) (w : List ℕ) → opcode op ≡ o → operands op ≡ os
+    → AreSmall (map number_of os) → (Text (opcode_text o) ⋅ (OperandsText os ⋅ End)) w → Reads w None (Some op)
+reads_as op o os w e f small j =
+    let named = subst (λ p. (Text (opcode_text p) ⋅ (OperandsText os ⋅ End)) w) (sym e) j in
+    let whole = subst (λ ps. (Text (opcode_text (opcode op)) ⋅ (OperandsText ps ⋅ End)) w) (sym f) named in (
+      no_blanks w (some_text [] w (no_blanks w (grouped_left w whole))),
+      subst (λ ps. AreSmall (map number_of ps)) (sym f) small,
+    )
+
+called_reads : (o : Opcode) (w : List ℕ) → Called o w → Plain w
+called_reads o w j =
+    let f = parts_operands (operands_of o) j.rest j.second in (
+      Some (op_of o f.0),
+      reads_as (op_of o f.0) o (filled (operands_of o) f.0) w (opcode-op_of o f.0) (operands-op_of o f.0) f.1
+          (record { front = j.front; rest = j.rest; first = j.first; second = f.2; whole = j.whole }),
+    )
+
+comment_reads : (w : List ℕ) → OptionalComment w → Plain w
+comment_reads w h = (None, (no_blanks w (some_text [] w (no_blanks w (some_text [] w (no_blanks w h)))), tt))
+
+bodies_read : (os : List Opcode) (w : List ℕ) → Bodies os w → Plain w
+bodies_read [] w h = comment_reads w h
+bodies_read (o ∷ os) w (inl h) = called_reads o w h
+bodies_read (o ∷ os) w (inr h) = bodies_read os w h
+
+blanks_join : (a b : List ℕ) → Blanks a → Blanks b → Blanks (a ++ b)
+blanks_join [] b h k = k
+blanks_join (c ∷ cs) b h k = (h.0, blanks_join cs b h.1 k)
+
+-- blanks and more of them
+more_blanks : {Q : List ℕ → Type 0} (w : List ℕ) → (Blanks ⋅ (Blanks ⋅ Q)) w → (Blanks ⋅ Q) w
+more_blanks w j = record {
+  front = j.front ++ j.second.front;
+  rest = j.second.rest;
+  first = blanks_join j.front j.second.front j.first j.second.first;
+  second = j.second.second;
+  whole = j.whole ∙ ap (λ r. j.front ++ r) j.second.whole ∙ sym (append_assoc j.front j.second.front j.second.rest);
+}
+
+pub blanks_read_on : (w : List ℕ) → (Blanks ⋅ Plain) w → Plain w
+blanks_read_on w j = (
+  j.second.0,
+  (
+    more_blanks w (record {
+      front = j.front;
+      rest = j.rest;
+      first = j.first;
+      second = j.second.1.0;
+      whole = j.whole;
+    }),
+    j.second.1.1,
+  ),
+)
+
+-- Each opcode is among them
+
+named : (o : Opcode) (w : List ℕ) → Called o w → Bodies opcodes w
+named O.LoadI w h = inl h
+named O.Load w h = inr (inl h)
+named O.Store w h = inr (inr (inl h))
+named O.Add w h = inr (inr (inr (inl h)))
+named O.Sub w h = inr (inr (inr (inr (inl h))))
+named O.Mult w h = inr (inr (inr (inr (inr (inl h)))))
+named O.Lshift w h = inr (inr (inr (inr (inr (inr (inl h))))))
+named O.Rshift w h = inr (inr (inr (inr (inr (inr (inr (inl h)))))))
+named O.Output w h = inr (inr (inr (inr (inr (inr (inr (inr (inl h))))))))
+named O.Nop w h = inr (inr (inr (inr (inr (inr (inr (inr (inr (inl h)))))))))
+named O.AddI w h = inr (inr (inr (inr (inr (inr (inr (inr (inr (inr (inl h))))))))))
+named O.SubI w h = inr (inr (inr (inr (inr (inr (inr (inr (inr (inr (inr (inl h)))))))))))
+named O.MultI w h = inr (inr (inr (inr (inr (inr (inr (inr (inr (inr (inr (inr (inl h))))))))))))
+named O.LshiftI w h = inr (inr (inr (inr (inr (inr (inr (inr (inr (inr (inr (inr (inr (inl h)))))))))))))
+named O.RshiftI w h = inr (inr (inr (inr (inr (inr (inr (inr (inr (inr (inr (inr (inr (inr (inl h))))))))))))))
+named O.LoadAI w h = inr (inr (inr (inr (inr (inr (inr (inr (inr (inr (inr (inr (inr (inr (inr (inl h)))))))))))))))
+named O.StoreAI w h = inr (inr (inr (inr (inr (inr (inr (inr (inr (inr (inr (inr (inr (inr (inr (inr (inl h))))))))))))))))
+
+commented : (os : List Opcode) (w : List ℕ) → OptionalComment w → Bodies os w
+commented [] w h = h
+commented (o ∷ os) w h = inr (commented os w h)
+
+parts_of_op : (op : Op) → parts_in (operands op) ≡ parts (opcode op)
+parts_of_op Nop = refl
+parts_of_op _ = refl
+
+nothing_between : {Q : List ℕ → Type 0} (w : List ℕ) → (Blanks ⋅ (Text [] ⋅ (Blanks ⋅ Q))) w → (Blanks ⋅ Q) w
+nothing_between w j = more_blanks w (with_rest text_nothing w j)
+
+plain_bodies : (w : List ℕ) → Plain w → (Blanks ⋅ Bodies opcodes) w
+plain_bodies w (None, r) =
+    with_rest (commented opcodes) w (nothing_between w (with_rest (with_rest nothing_between) w r.0))
+plain_bodies w (Some op, r) =
+    with_rest
+    (λ v j. named (opcode op) v
+    (subst (λ ps. (Text (opcode_text (opcode op)) ⋅ Rest ps) v) (parts_of_op op)
+    (with_rest (λ u k. operands_parts (operands op) u r.1 k) v (grouped_right v j)))) w
+    (nothing_between w r.0)
+
+-- What they begin with
+
+opcode_no_blank : (o : Opcode) (rest : List ℕ) → starts is_blank (opcode_text o ++ rest) ≡ false
+opcode_no_blank O.Nop rest = refl
+opcode_no_blank _ rest = refl
+
+bodies_no_blank : (os : List Opcode) → NoBlank (Bodies os)
+bodies_no_blank [] c w blank h = comment_no_blank c w blank h
+bodies_no_blank (o ∷ os) c w blank (inl j) =
+    let first : is_blank c ≡ false =
+    ap (starts is_blank) (j.whole ∙ ap (λ f. f ++ j.rest) j.first) ∙ opcode_no_blank o j.rest in cc
+bodies_no_blank (o ∷ os) c w blank (inr h) = bodies_no_blank os c w blank h
+
+-- How far the bytes go along all of them
+
+push_body : (os : List Opcode) (o : Opcode) (w : List ℕ) → Bodies os w ⊎ Called o w → Bodies (os ++ o ∷ []) w
+push_body [] o w (inl h) = inr h
+push_body [] o w (inr h) = inl h
+push_body (x ∷ os) o w (inl (inl h)) = inl h
+push_body (x ∷ os) o w (inl (inr h)) = inr (push_body os o w (inl h))
+push_body (x ∷ os) o w (inr h) = inr (push_body os o w (inr h))
+
+pop_body : (os : List Opcode) (o : Opcode) (w : List ℕ) → Bodies (os ++ o ∷ []) w → Bodies os w ⊎ Called o w
+pop_body [] o w (inl h) = inr h
+pop_body [] o w (inr h) = inl h
+pop_body (x ∷ os) o w (inl h) = inl (inl h)
+pop_body (x ∷ os) o w (inr h) = by (pop_body os o w h)
+  where
+    by : Bodies os w ⊎ Called o w → (Called x w ⊎ Bodies os w) ⊎ Called o w
+    by (inl k) = inl (inr k)
+    by (inr k) = inr k
+
+pub one_more : (os : List Opcode) (o : Opcode) {bytes : List ℕ} {k m : ℕ} → Longest (Bodies os) bytes k
+    → Longest (Called o) bytes m → Longest (Bodies (os ++ o ∷ [])) bytes (max k m)
+one_more os o a b = same (push_body os o) (pop_body os o) (either a b)
+
+pub called_stop : (o : Opcode) (bytes : List ℕ) → common_in (opcode_text o) bytes < length (opcode_text o)
+    → Longest (Called o) bytes (common_in (opcode_text o) bytes)
+called_stop o bytes less = let rest = some_rest (parts o) in text_stop rest.0 rest.1 (opcode_text o) bytes less
+
+pub plain_along : (bytes : List ℕ) (k : ℕ) → Longest (Bodies opcodes) (drop (blanks_in bytes) bytes) k
+    → Longest Plain bytes (blanks_in bytes + k)
+plain_along bytes k l =
+    same (λ w j. blanks_read_on w (with_rest (bodies_read opcodes) w j)) plain_bodies
+    (blanks_along (bodies_no_blank opcodes) bytes k l)
+
+pub called_along : (o : Opcode) (bytes : List ℕ) (count k : ℕ) → count ≡ common_in (opcode_text o) bytes
+    → length (opcode_text o) ≤ count → count ≤ length (opcode_text o)
+    → Longest (Rest (parts o)) (drop count bytes) k → Longest (Called o) bytes (count + k)
+called_along o bytes count k e low high l =
+    let all : count ≡ length (opcode_text o) = omega arith in
+    subst (λ n. Longest (Called o) bytes (n + k)) (sym all)
+    (text_along (opcode_text o) bytes k (sym e ∙ all) (subst (λ n. Longest (Rest (parts o)) (drop n bytes) k) all l))
+
+-- one opcode more
+pub next_opcode : (os : List Opcode) (i : ℕ) (d : Opcode) {bytes : List ℕ} {k m : ℕ} → i < length os
+    → Longest (Bodies (take i os)) bytes k → Longest (Called (get_or os i d)) bytes m
+    → Longest (Bodies (take (i + 1) os)) bytes (max k m)
+next_opcode os i d {bytes} {k} {m} h a b =
+    subst (λ ps. Longest (Bodies ps) bytes (max k m)) (sym (take_more os i d h)) (one_more (take i os) (get_or os i d) a b)
