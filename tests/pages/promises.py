@@ -155,7 +155,7 @@ def imports(text):
     """By name the module of definitions that it comes from; types and functions of the code aren't among them."""
     found = {}
     for crate, module, names, other in IMPORT.findall(text):
-        if not os.path.isdir(os.path.join(CRATES, crate)) or module.startswith("declared"):
+        if not os.path.isdir(os.path.join(CRATES, crate)) or module.startswith(("declared", "contracts")):
             continue
         place = (crate, module)
         if not names:

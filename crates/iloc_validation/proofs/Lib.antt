@@ -15,3 +15,12 @@ pub mod Kept
 pub mod InOrder
 pub mod GivenSources
 pub mod SameIssues
+pub mod AlikeOps
+pub mod CountsLike
+pub mod NthLike
+pub mod PairedCounts
+pub mod WrongUses
+pub mod MostMissing
+pub mod CountReasons
+pub mod AlikeCounts
+pub mod BrokenDelays

@@ -1,6 +1,6 @@
 -- Rows that issue the same as others, with other numbers, are by the book where those are;
 -- `laws::own_rows_are_by_the_book`.
-use Rattle.std.proofs.Common.{◌≡◌, ℕ, zero, suc, ◌+◌, ◌<◌, ◌≤◌, ◌==◌, Bool, true, false, if◌then◌else◌, List, [], ◌∷◌, ◌++◌, map, fold, length, Option, Some, None, unwrap_or, option_map, option_to_list, inl, inr, ◌⊎◌, refl, ap, ap₂, sym, ◌∙◌, subst, arith, eq-eqb, ne_eqb, eqb-true}
+use Rattle.std.proofs.Common.{◌≡◌, ℕ, zero, suc, ◌+◌, ◌<◌, ◌≤◌, ◌==◌, Bool, true, false, if◌then◌else◌, List, [], ◌∷◌, ◌++◌, map, fold, length, Option, Some, None, unwrap_or, option_map, option_to_list, inl, inr, ◌⊎◌, refl, ap, ap₂, sym, ◌∙◌, subst, arith, eq-eqb, ne_eqb}
 use Rattle.std.specs.Prelude.{filter, nat_lt, nat_le, IsTrue}
 use Rattle.std.proofs.lemmas.List.{ext_get_or, length-map, map-append}
 use Rattle.iloc_ops.specs.declared.op.Reg.{Reg}
@@ -13,17 +13,16 @@ use Rattle.iloc_timed.specs.declared.row.Row.{Row}
 use Rattle.iloc_timed.specs.Kinds.{kind}
 use Rattle.iloc_timed.specs.Latency.{latency}
 use Rattle.iloc_timed.specs.Rows.{empty_row, row_at, slots, issue_cycle, times_issued, keeps_units, AreNumbered, IsTable}
-use Rattle.iloc_sched.specs.Lawful.{IsLawful}
 use Rattle.iloc_sched.specs.Renaming.{without_nops}
 use Rattle.iloc_sched.specs.Steps.Members.{In}
-use Rattle.iloc_sched.proofs.Basics.Members.{contains_from, from_append, in_left, in_right, in_map, from_filter}
+use Rattle.iloc_sched.proofs.Basics.Members.{contains_from, in_left, in_right, from_filter}
 use Rattle.iloc_sched.proofs.Basics.Slots.{count_in, count_in_twice, count_in_within, issued_early, issued_there, stands_there, is_issued}
 use Rattle.iloc_sched.proofs.Renamed.OneMoreOperation.{map_same}
-use Rattle.iloc_validation.specs.ByTheBook.{in_order, issued_before, due, last_of, defining, arrived, read, given, label, issued_in, IssueTheSame, IsScheduleUnder, IsByTheBook}
+use Rattle.iloc_validation.specs.ByTheBook.{in_order, issued_before, due, last_of, defining, arrived, read, label, issued_in, IssueTheSame, IsScheduleUnder}
 use Rattle.iloc_validation.specs.Laws.{OwnRowsAreByTheBook}
 use Rattle.iloc_validation.proofs.Issues.{numbers_from_issued}
 use Rattle.iloc_validation.proofs.Lawful.{lawful_by_the_book}
-use Rattle.iloc_validation.proofs.Renumbered.{renumber, length-renumber, row_at-map, AreBelow, cycle_same, units_same}
+use Rattle.iloc_validation.proofs.Renumbered.{renumber, length-renumber, row_at-map, cycle_same, units_same}
 
 -- Two tables that issue the same
 

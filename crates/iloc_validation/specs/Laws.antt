@@ -1,5 +1,5 @@
 -- What holds of rows by the book.
-use Rattle.std.specs.Prelude.{◌≡◌, ◌≤◌, List, ℤ}
+use Rattle.std.specs.Prelude.{◌≡◌, ◌≤◌, List, ℤ, Option}
 use Rattle.iloc_ops.specs.declared.op.Op.{Op}
 use Rattle.iloc_meaning.specs.Outcome.{outcome}
 use Rattle.iloc_timed.specs.declared.latencies.Latencies.{Latencies}
@@ -9,7 +9,12 @@ use Rattle.iloc_timed.specs.Rows.{AreNumbered}
 use Rattle.iloc_timed.specs.Timed.{timed_outcome}
 use Rattle.iloc_sched.specs.Lawful.{IsLawful}
 use Rattle.iloc_sched.specs.Least.{least}
+use Rattle.iloc_validation.specs.declared.finding.LeftOut.{LeftOut}
+use Rattle.iloc_validation.specs.declared.finding.Added.{Added}
+use Rattle.iloc_validation.specs.declared.finding.Reason.TheVariants.{Counts}
+use Rattle.iloc_validation.specs.declared.finding.Finding.TheVariants.{Unlawful}
 use Rattle.iloc_validation.specs.ByTheBook.{IsByTheBook, IssueTheSame}
+use Rattle.iloc_validation.specs.Finding.{IsFinding}
 
 -- on every memory they have the block's outcome
 abbrev pub ByTheBookKeepsTheOutcome : Type 0
@@ -31,3 +36,9 @@ abbrev pub OwnRowsAreByTheBook : Type 0
 OwnRowsAreByTheBook = (lat : Latencies) (block ops ops' : List Op) (rows rows' : List Row)
     → IsLawful lat block ops rows → AreNumbered ops' rows' → IssueTheSame ops rows ops' rows'
     → IsByTheBook lat block ops' rows'
+
+-- rows of which labels don't count as the block's aren't by the book, in whatever order and whatever registers
+abbrev pub CountsThatDifferExcludeByTheBook : Type 0
+CountsThatDifferExcludeByTheBook = (lat : Latencies) (block ops : List Op) (rows : List Row)
+    → (left_out : Option LeftOut) (added : Option Added)
+    → IsFinding lat block ops rows (Unlawful (Counts left_out added)) → IsByTheBook lat block ops rows → ⊥

@@ -8,3 +8,5 @@ pub mod Readings
 pub mod Waits
 pub mod Pairing
 pub mod Sides
+pub mod Counterparts
+pub mod Broken

@@ -14,18 +14,18 @@ pub struct Issue {
 /// Operations of a block that have no counterpart in the rows.
 #[derive(Clone, Copy, Debug, PartialEq, Eq)]
 pub struct LeftOut {
-    /// How many there are.
+    /// How many there are, counted without registers.
     pub count: usize,
-    /// The first of them, as the block has it.
+    /// One of which the rows have too few, as the block has it.
     pub op: Op,
 }
 
 /// Operations of rows that have no counterpart in the block.
 #[derive(Clone, Copy, Debug, PartialEq, Eq)]
 pub struct Added {
-    /// How many there are.
+    /// How many there are, counted without registers.
     pub count: usize,
-    /// The first of them.
+    /// One of which the rows have too many.
     pub issue: Issue,
 }
 

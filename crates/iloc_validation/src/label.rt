@@ -1,6 +1,7 @@
 //! Operations without their registers.
 ghost use Rattle.std.specs.Prelude.{◌≡◌, ◌↔◌, IsTrue};
 ghost use Rattle.iloc_validation.specs.ByTheBook.{label};
+ghost use Rattle.iloc_validation.specs.Finding.{count_like};
 
 use iloc_ops::Op;
 
@@ -49,4 +50,17 @@ pub(crate) fn have_one_label(one: &Op, other: &Op) -> bool
     ensures { IsTrue result ↔ (label one.now ≡ label other.now) }
 {
     Label::of(one) == Label::of(other)
+}
+
+/// How many operations have the label of this one.
+pub(crate) fn count_like(op: &Op, ops: &[Op]) -> usize
+    ensures { result ≡ count_like op.now ops.now }
+{
+    let mut count = 0;
+    for other in ops {
+        if have_one_label(op, other) {
+            count += 1;
+        }
+    }
+    count
 }

@@ -1,6 +1,7 @@
 //! Laws of schedules by the book, as contracts of functions that do nothing.
 ghost use Rattle.iloc_validation.specs.Laws.{ByTheBookKeepsTheOutcome, ByTheBookTakesTheLeast};
 ghost use Rattle.iloc_validation.specs.Laws.{LawfulSchedulesAreByTheBook, OwnRowsAreByTheBook};
+ghost use Rattle.iloc_validation.specs.Laws.{CountsThatDifferExcludeByTheBook};
 
 /// Rows that are a schedule of a block by the book have the block's outcome, on every memory.
 ///
@@ -28,4 +29,11 @@ pub fn lawful_schedules_are_by_the_book()
 /// Promise: a lawful schedule that was written down and read again is by the book.
 pub fn own_rows_are_by_the_book()
     ensures { OwnRowsAreByTheBook }
+{}
+
+/// Where operations of the block are left out, or others are added, no pairing makes the rows a schedule by the book.
+///
+/// Promise: rows of which operations are left out or added aren't by the book.
+pub fn counts_that_differ_exclude_by_the_book()
+    ensures { CountsThatDifferExcludeByTheBook }
 {}

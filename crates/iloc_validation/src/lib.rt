@@ -8,6 +8,7 @@ mod label;
 pub mod laws;
 mod pairing;
 mod reading;
+mod reasons;
 mod run;
 mod search;
 mod sources;

@@ -1,7 +1,8 @@
 //! Pairings of the operations of rows with those of a block.
-ghost use Rattle.std.specs.Prelude.{◌≡◌, ◌<◌, ◌↔◌, ℕ, length, slice_index, IsTrue, IfOk};
+ghost use Rattle.std.specs.Prelude.{◌≡◌, ◌<◌, ◌↔◌, ℕ, length, slice_index, option_map, IsTrue, IfOk};
 ghost use Rattle.iloc_validation.specs.Steps.Pairing.{LeadsBack};
 
+use crate::sources::at;
 use iloc_ops::NoMemory;
 use std::alloc::Global;
 
@@ -50,6 +51,16 @@ impl Pairing {
             origin: numbers(alloc, count)?,
             partner: numbers(alloc, count)?,
         })
+    }
+
+    /// The partner of an operation of the block, if there is an operation.
+    pub(crate) fn partner_of(&self, i: Option<usize>) -> Option<usize>
+        ensures { result ≡ option_map (slice_index self.now.partner.items) i }
+    {
+        match i {
+            Some(i) => Some(at(&self.partner, i)),
+            None => None,
+        }
     }
 
     /// Whether it is one to one.

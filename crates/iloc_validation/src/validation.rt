@@ -5,10 +5,11 @@ ghost use Rattle.iloc_validation.specs.ByTheBook.{IsScheduleUnder};
 ghost use Rattle.iloc_validation.specs.Finding.{IsFinding};
 ghost use Rattle.iloc_validation.specs.Steps.Sides.{AreSides, IsScheduleUnderSome};
 
-use crate::finding::{Finding, Reason};
+use crate::finding::Finding;
 use crate::given::{givens, without_nops};
 use crate::pairing::Pairing;
 use crate::reading::readings;
+use crate::reasons::reason;
 use crate::search::found_pairing;
 use crate::verification::{Sides, is_schedule_under};
 use iloc_ops::{Block, NoMemory};
@@ -32,21 +33,16 @@ fn is_in_order(alloc: Global, sides: &Sides, latencies: &Latencies) -> Result<bo
     is_schedule_under(alloc, sides, &pairing, latencies)
 }
 
-/// Whether they are one under a pairing that is searched for.
-fn is_found(alloc: Global, sides: &Sides, latencies: &Latencies) -> Result<bool, NoMemory>
-    requires { AreSides latencies.now sides.now.block.now sides.now.givens.now sides.now.schedule.now
-        sides.now.readings.now }
-    ensures { IfOk result (λ is. is ≡ true → IsScheduleUnderSome latencies.now sides.now.block.now
-        sides.now.schedule.now.ops sides.now.schedule.now.rows) }
-{
-    let pairing = found_pairing(alloc, sides)?;
-    is_schedule_under(alloc, sides, &pairing, latencies)
-}
-
 /// Decides whether rows that somebody made are a schedule of a block by the book: whether their operations can be paired
 /// with the block's, one to one and whatever registers they name, so that each reads the results that it reads in the
 /// block and waits for what memory and outputs make it wait for (Cooper and Torczon, Engineering a Compiler, chapter on
 /// instruction scheduling). Our own schedules are.
+///
+/// Promise: rows that are found to be lawful are a schedule of the block by the book, our own are found to be, and the
+/// reason that is given of others is true of them.
+///
+/// Where results that nobody uses can be paired in several ways, a pairing may be missed: then the reason is true of
+/// another one. Operations that are left out or added leave none.
 pub fn validate(
     alloc: Global,
     block: &Block,
@@ -67,11 +63,15 @@ pub fn validate(
         schedule,
         readings: &readings,
     };
-    if is_in_order(alloc, &sides, latencies)? || is_found(alloc, &sides, latencies)? {
+    if is_in_order(alloc, &sides, latencies)? {
         return Ok(Finding::Lawful);
     }
-    Ok(Finding::Unlawful(Reason::Counts {
-        left_out: None,
-        added: None,
-    }))
+    let found = found_pairing(alloc, &sides)?;
+    if is_schedule_under(alloc, &sides, &found, latencies)? {
+        return Ok(Finding::Lawful);
+    }
+    match reason(alloc, &sides, found, latencies)? {
+        Some(reason) => Ok(Finding::Unlawful(reason)),
+        None => Ok(Finding::Lawful),
+    }
 }

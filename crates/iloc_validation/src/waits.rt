@@ -1,5 +1,5 @@
 //! How memory and outputs make the operations of a block wait.
-ghost use Rattle.std.specs.Prelude.{◌≡◌, ◌<◌, ◌≤◌, ℕ, length, slice_index, IfOk};
+ghost use Rattle.std.specs.Prelude.{◌≡◌, ◌<◌, ◌≤◌, ◌+◌, ℕ, max, fold, map, length, slice_index, IfOk};
 ghost use Rattle.iloc_meaning.specs.Trace.{op_at};
 ghost use Rattle.iloc_timed.specs.Kinds.{kind};
 ghost use Rattle.iloc_validation.specs.Steps.Readings.{reading_at};
@@ -19,7 +19,7 @@ pub(crate) struct Waits {
 }
 
 impl Waits {
-    ghost use Rattle.iloc_validation.specs.Steps.Waits.{wait_of, noted};
+    ghost use Rattle.iloc_validation.specs.Steps.Waits.{memory_by, wait_of, noted};
     ghost use Rattle.iloc_timed.specs.declared.kind.Kind.{Kind as kind_value};
 
     /// Before the first operation.
@@ -33,8 +33,18 @@ impl Waits {
         }
     }
 
+    /// After one operation of this kind that is issued at this cycle.
+    pub(crate) fn after(kind: Kind, cycle: usize, latencies: &Latencies) -> Waits
+        requires { cycle ≤ MAX_ROWS }
+        ensures { (k : kind_value) → wait_of result k ≡ fold max 0 (map (λ d. cycle + d) (memory_by latencies.now kind k)) }
+    {
+        let mut waits = Waits::none();
+        waits.note(kind, cycle, latencies);
+        waits
+    }
+
     /// That of an operation of this kind.
-    fn of(&self, kind: Kind) -> usize
+    pub(crate) fn of(&self, kind: Kind) -> usize
         ensures { result ≡ wait_of self.now kind }
     {
         match kind {

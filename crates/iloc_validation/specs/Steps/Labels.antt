@@ -1,6 +1,7 @@
 -- Labels as the code has them: the number of a form, and a constant.
 use Rattle.std.specs.Prelude.{ℕ}
 use Rattle.iloc_ops.specs.declared.op.Op.{Op}
+use Rattle.iloc_validation.specs.declared.label.Label.{Label}
 use Rattle.iloc_ops.specs.declared.op.Op.TheVariants.{Load, LoadI, Store, Add, Sub, Mult, Lshift, Rshift, Output, Nop, AddI, SubI, MultI, LshiftI, RshiftI, LoadAI, StoreAI}
 
 -- the number of the form of an operation
@@ -35,3 +36,7 @@ constant (RshiftI left value dest) = value
 constant (LoadAI addr offset dest) = offset
 constant (StoreAI value addr offset) = offset
 constant _ = 0
+
+-- the label as the code has it
+abbrev pub labelled : Op → Label
+labelled op = record { form = form op; constant = constant op }

@@ -13,8 +13,8 @@ is_in_order-requires c = record {
   each_reading = rw c.deref-4.ensures.value c.in_ok-readings.ensures.each;
 }
 
-pub returns-clause-own : goal.returns-clause-own
-returns-clause-own c = λ lawful.
+pub returns-in-Some-clause-own : goal.returns-in-Some-clause-own
+returns-in-Some-clause-own c = λ lawful.
     let lat = c.args.latencies.now in
     let block = c.args.block.now.ops in
     let schedule = c.args.schedule.now in

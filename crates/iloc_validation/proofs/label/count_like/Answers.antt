@@ -1,0 +1,32 @@
+use Rattle.std.proofs.Common.{◌≡◌, ◌+◌, get_or, ap, sym, ◌∙◌, arith}
+use Rattle.std.proofs.lemmas.Bool.{true≢false}
+use Rattle.std.proofs.lemmas.List.{get_or_default}
+use Rattle.iloc_ops.specs.declared.op.Op.{Op}
+use Rattle.iloc_ops.specs.declared.op.Op.TheVariants.{Nop}
+use Rattle.iloc_meaning.specs.Trace.{op_at}
+use Rattle.iloc_validation.specs.ByTheBook.{label}
+use Rattle.iloc_validation.proofs.AlikeCounts.{count_yes, count_no}
+use Rattle.iloc_validation.proofs.label.count_like.Goals as goal
+use Rattle.iloc_validation.proofs.label.count_like.Goals.{then-have_one_label, else-have_one_label}
+
+pub loop-other-preserved : goal.loop-other-preserved
+loop-other-preserved c =
+    let ops = c.args.ops.now in
+    let k = c.loop-other.other-index in
+    let within = c.loop-other-test.true in
+    let same : (d : Op) → get_or ops k d ≡ op_at ops k = λ d. get_or_default ops k d Nop within in
+    elim c.if-have_one_label.branch [
+      | then-have_one_label w ↦ record {
+        count =
+            w.count-is ∙ ap (λ n. n + 1) c.loop-other.invariant.count
+            ∙ sym (count_yes c.args.op.now ops k within (c.have_one_label.ensures.0 w.if-have_one_label.true ∙ ap label (same _)));
+        few = omega (arith, w.count-is, c.loop-other.invariant.few);
+      }
+      | else-have_one_label w ↦ record {
+        count =
+            w.count-is ∙ c.loop-other.invariant.count
+            ∙ sym (count_no c.args.op.now ops k within
+            (λ one. absurd (true≢false (sym (c.have_one_label.ensures.1 (one ∙ ap label (sym (same _)))) ∙ w.if-have_one_label.false))));
+        few = omega (arith, w.count-is, c.loop-other.invariant.few);
+      }
+    ]

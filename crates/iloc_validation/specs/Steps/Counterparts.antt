@@ -1,0 +1,57 @@
+-- The counterparts of operations: each is paired with the one of its label that has as many before it.
+use Rattle.std.specs.Prelude.{ℕ, ◌+◌, ◌≡◌, ◌<◌, ◌≤◌, if◌then◌else◌, true, List, length, take, slice_index_or, count_by, is_none, Option, Some, None}
+use Rattle.std.specs.BTreeMap.{get}
+use Rattle.iloc_ops.specs.declared.op.Op.{Op}
+use Rattle.iloc_meaning.specs.Trace.{op_at}
+use Rattle.iloc_validation.specs.declared.reasons.waiting.Waiting.{Waiting}
+use Rattle.iloc_validation.specs.declared.reasons.counterparts.Chains.{Chains}
+use Rattle.iloc_validation.specs.declared.reasons.counts.Lacking.{Lacking}
+use Rattle.iloc_validation.specs.contracts.label.LabelOrd.TheImpl as of_labels
+use Rattle.iloc_validation.specs.Finding.{are_alike, count_like, lacking, IsShort}
+use Rattle.iloc_validation.specs.Steps.Labels.{labelled}
+
+-- the first operation that waits, of those like this one
+abbrev pub first_like : Waiting → Op → Option ℕ
+first_like waiting op = get (of_labels.ghosts).cmp waiting.first (labelled op)
+
+-- of those like this operation another one waits first
+abbrev pub SetsLike : Waiting → Waiting → Op → Option ℕ → Type 0
+SetsLike old new op first = (other : Op) → first_like new other ≡ (if are_alike op other then first else first_like old other)
+
+-- what is noted at a place
+abbrev pub noted_at : List (Option ℕ) → ℕ → Option ℕ
+noted_at noted k = slice_index_or noted k None
+
+-- the operation like this one that has n before it, if there is one
+abbrev pub IsNth : List Op → Op → ℕ → Option ℕ → Type 0
+IsNth ops op n None = count_like op ops ≤ n
+IsNth ops op n (Some k) = (k < length ops) × (are_alike op (op_at ops k) ≡ true) × (count_like op (take k ops) ≡ n)
+
+-- the chains of the operations from operation k on: of each label the first of them, and of each of them the next like it
+pub record AreChained (ops : List Op) (k : ℕ) (chains : Chains) : Type 0 where
+  pub size : length chains.next.items ≡ length ops
+  pub first : (op : Op) → IsNth ops op (count_like op (take k ops)) (first_like chains.waiting op)
+  pub next : (j : ℕ) → k ≤ j → j < length ops
+      → IsNth ops (op_at ops j) (count_like (op_at ops j) (take j ops) + 1) (noted_at chains.next.items j)
+
+-- the counterpart of operation i among the others: like it, and with as many before it
+abbrev pub IsCounterpart : List Op → List Op → ℕ → Option ℕ → Type 0
+IsCounterpart ops others i o = IsNth others (op_at ops i) (count_like (op_at ops i) (take i ops)) o
+
+-- these are the counterparts of all operations
+pub record AreCounterparts (ops others : List Op) (counterparts : List (Option ℕ)) : Type 0 where
+  pub size : length counterparts ≡ length ops
+  pub each : (i : ℕ) → i < length ops → IsCounterpart ops others i (noted_at counterparts i)
+
+-- how many of these counterparts there aren't, and one of them
+abbrev pub IsLackingIn : List (Option ℕ) → Option Lacking → Type 0
+IsLackingIn counterparts None = count_by is_none counterparts ≡ 0
+IsLackingIn counterparts (Some it) = (it.count ≡ count_by is_none counterparts) × (0 < it.count)
+    × (it.number < length counterparts) × (noted_at counterparts it.number ≡ None)
+
+-- how many operations have no counterpart among the others, and one that is short
+pub record AreLacking (ops others : List Op) (it : Lacking) : Type 0 where
+  pub count : it.count ≡ lacking ops others
+  pub some : 0 < it.count
+  pub within : it.number < length ops
+  pub short : IsShort (op_at ops it.number) ops others
