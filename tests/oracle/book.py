@@ -1,6 +1,14 @@
 """Whether rows are a schedule of a block by the book: each operation reads what it reads in the block, and no delay by memory
-or outputs is broken. Operations are paired by a plain search."""
+or outputs is broken. Operations are paired by a plain search. And whether what is said of other rows is so."""
+import re
+from collections import Counter
+
 from oracle.scheduler import memory_delays
+
+ISSUE = r"row (\d+): ([^:]*)"
+COUNTS = re.compile(rf"(left out|added) (\d+): (?:{ISSUE}|([^:]*))")
+EARLY = re.compile(rf"early by (\d+): {ISSUE} for {ISSUE}")
+READS = re.compile(rf"reads r(\d+): {ISSUE} from (?:no row|{ISSUE}) for (?:no row|{ISSUE})")
 
 
 def label(op):
@@ -46,3 +54,78 @@ def is_by_the_book(block, rows, latencies):
         return False
 
     return len(ops) == len(issued) and search(0)
+
+
+def lacking(ops, others):
+    """By label how many more operations there are than among the others."""
+    return Counter(map(label, ops)) - Counter(map(label, others))
+
+
+class Reasons:
+    """What may be said of rows that aren't by the book: whatever is true of some pairing by label."""
+
+    def __init__(self, block, rows, latencies):
+        self.ops = [op for op in block if op.opcode != "nop"]
+        self.issued = [(cycle, op) for cycle, row in enumerate(rows) for op in row if op]
+        self.given, self.read = [*sources_in_block(self.ops)], [*sources_in_rows(self.issued, latencies)]
+        self.latencies = latencies
+        self.left_out = lacking(self.ops, [op for _, op in self.issued])
+        self.added = lacking([op for _, op in self.issued], self.ops)
+
+    def are(self, lines):
+        """Whether these lines say why, all that has to be said."""
+        if not self.left_out and not self.added:
+            return len(lines) == 1 and (self.is_early(lines[0]) or self.reads(lines[0]))
+        wanted = ["left out"] * bool(self.left_out) + ["added"] * bool(self.added)
+        found = [COUNTS.fullmatch(line) for line in lines]
+        return all(found) and [it[1] for it in found] == wanted and all(map(self.are_counted, found))
+
+    def are_counted(self, found):
+        what, count, row, op, left_out = found.groups()
+        lacking = self.left_out if what == "left out" else self.added
+        named = self.at(row, op) if what == "added" else [it for it in self.ops if str(it) == left_out]
+        return int(count) == lacking.total() and any(lacking[label(it)] for it in named)
+
+    def numbers(self, row, text):
+        """The operations of this row that are written so."""
+        return [k for k, (cycle, op) in enumerate(self.issued) if cycle + 1 == int(row) and str(op) == text]
+
+    def at(self, row, text):
+        return [self.issued[k][1] for k in self.numbers(row, text)]
+
+    def origins(self, k):
+        """The operations of the block that operation k of the rows may be."""
+        return [j for j, op in enumerate(self.ops) if label(op) == label(self.issued[k][1])]
+
+    def delays(self, i, j):
+        uses = {self.ops[i].latency(self.latencies)} if i in self.given[j] else set()
+        return uses | (memory_delays(self.ops[i], self.ops[j], self.latencies) if i < j else set())
+
+    def is_early(self, line):
+        found = EARLY.fullmatch(line)
+        if not found:
+            return False
+        by, row, op, needed_row, needed_op = found.groups()
+        missing = int(by) + int(row) - int(needed_row)
+        return int(by) > 0 and any(missing in self.delays(i, j)
+                                   for k in self.numbers(row, op) for n in self.numbers(needed_row, needed_op) if n != k
+                                   for j in self.origins(k) for i in self.origins(n))
+
+    def reads(self, line):
+        found = READS.fullmatch(line)
+        if not found:
+            return False
+        register, row, op, from_row, from_op, wanted_row, wanted_op = found.groups()
+        return any(self.reads_another(k, place, from_row and self.numbers(from_row, from_op),
+                                      wanted_row and self.numbers(wanted_row, wanted_op))
+                   for k in self.numbers(row, op)
+                   for place, used in enumerate(self.issued[k][1].used) if used == int(register))
+
+    def reads_another(self, k, place, read, wanted):
+        """Whether a use of operation k reads one of these, and may be a use that has to read another."""
+        if self.read[k][place] not in (read if read is not None else [None]):
+            return False
+        given = {self.given[j][place] for j in self.origins(k)}
+        if wanted is None:
+            return None in given and self.read[k][place] is not None
+        return any(i is not None and i in self.origins(n) for i in given for n in wanted if n != self.read[k][place])
