@@ -29,7 +29,7 @@ EXPLAINED = b"""block 1 -
 4 cycle 6 unit 0 ready 6 after 3 priority 7 add r3, r4 => r5 ; add r2, r3 => r4
 5 cycle 7 unit 0 ready 7 after 4 priority 6 store r5 => r2 ; store r4 => r1
 6 cycle 12 unit 0 ready 12 after 5 priority 1 output 8 ; output 8
-cycles 13 least 13
+cycles 13 least 13 optimal
 chain 0 3 4 5 6
 total 13
 """

@@ -94,7 +94,7 @@ def drawn_cases():
         latencies = {name: chance.randint(1, most) for name, most in (("load", 3), ("store", 16), ("mult", 16))}
         yield from made(f"drawn_{seed}", [made_block(chance) for _ in range(20)], latencies)
     for number, (text, latencies, priorities) in enumerate(PRIORITIES):
-        yield known(f"priorities_{number}", text, latencies, priorities=priorities)
+        yield known(f"priorities_{number}", text, latencies, priorities=priorities, ranks=priorities)
     for number, (text, latencies, least) in enumerate(LEAST):
         yield known(f"least_{number}", text, latencies, least=lambda least=least: least)
 
@@ -115,7 +115,7 @@ def by_orders(name, blocks, latencies):
     by = random.Random(name).choice(ORDERS)
     rows = [[Schedule(ops, latencies, by).cycles()] for ops in blocks]
     yield listed(f"drawn/{name}/counts_csv", text, table_of(["cycles"], rows), ["counts", "--csv", "--priority", by, *words])
-    for command in ("schedule", "counts"):
+    for command in ("schedule", "counts", "explain"):
         yield listed(f"drawn/{name}/{command}_by_{by}", text, listing(command, blocks, latencies, by),
                      [command, "--priority", by, *words])
     yield listed(f"drawn/{name}/simulate_by_{by}", text, listing("simulate", blocks, latencies, by),

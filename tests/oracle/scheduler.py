@@ -123,8 +123,9 @@ class Schedule:
             cycle, unit = self.places[j]
             ready = self.ready(j)
             yield (f"{j} cycle {cycle} unit {unit} ready {ready} after {self.after(j, ready)}"
-                   f" priority {self.priorities[j]} {self.originals[j]} ; {op}")
-        yield f"cycles {self.cycles()} least {self.least()}"
+                   f" priority {self.ranks[j]} {self.originals[j]} ; {op}")
+        cycles, least = self.cycles(), self.least()
+        yield f"cycles {cycles} least {least}{' optimal' if cycles == least else ''}"
         yield f"chain {self.chain()}"
 
 

@@ -8,7 +8,6 @@ use Rattle.iloc_timed.specs.declared.latencies.Latencies.{Latencies}
 use Rattle.iloc_timed.specs.declared.row.Row.{Row}
 use Rattle.iloc_timed.specs.Latency.{latency}
 use Rattle.iloc_timed.specs.Rows.{row_at, issue_cycle}
-use Rattle.iloc_sched.specs.Priority.{priority}
 use Rattle.iloc_meaning.specs.Trace.{op_at}
 use Rattle.iloc_explain.specs.declared.explanation.Explained.{Explained}
 use Rattle.iloc_explain.specs.declared.latest.Latest.{Latest}
@@ -32,31 +31,31 @@ each_more P (z ∷ zs) x each last zero y there = each 0 y there
 each_more P (z ∷ zs) x each last (suc j) y there =
     each_more (λ k. P (suc k)) zs x (λ k. each (suc k)) last j y there
 
-pub none_explained : (lat : Latencies) (ops : List Op) (rows : List Row) (latest : Latest) (explained : List Explained)
-    → AreLatest lat ops rows 0 latest → explained ≡ [] → IsExplainedSoFar lat ops rows 0 latest explained
-none_explained lat ops rows latest explained are empty = record {
+pub none_explained : (prios : List ℕ) (lat : Latencies) (ops : List Op) (rows : List Row) (latest : Latest) (explained : List Explained)
+    → AreLatest lat ops rows 0 latest → explained ≡ [] → IsExplainedSoFar prios lat ops rows 0 latest explained
+none_explained prios lat ops rows latest explained are empty = record {
   latest_ones = are;
   all = ap length empty;
   each = λ j e there. absurd (none_there explained j e (ap length empty) there);
 }
 
-pub one_explained : (lat : Latencies) (ops : List Op) (rows : List Row) (n : ℕ) (old new : Latest)
-    (explained more : List Explained) (e : Explained) → IsExplainedSoFar lat ops rows n old explained
-    → AreLatest lat ops rows (n + 1) new → IsExplained lat ops rows n e → more ≡ explained ++ e ∷ []
-    → IsExplainedSoFar lat ops rows (n + 1) new more
-one_explained lat ops rows n old new explained more e so_far are is added = record {
+pub one_explained : (prios : List ℕ) (lat : Latencies) (ops : List Op) (rows : List Row) (n : ℕ) (old new : Latest)
+    (explained more : List Explained) (e : Explained) → IsExplainedSoFar prios lat ops rows n old explained
+    → AreLatest lat ops rows (n + 1) new → IsExplained prios lat ops rows n e → more ≡ explained ++ e ∷ []
+    → IsExplainedSoFar prios lat ops rows (n + 1) new more
+one_explained prios lat ops rows n old new explained more e so_far are is added = record {
   latest_ones = are;
   all =
       let size : length explained ≡ n = so_far.all in
       ap length added ∙ (length-append explained (e ∷ []) ∙ omega arith);
   each = λ j f there.
-      let last : IsExplained lat ops rows (length explained) e = rw so_far.all is in
-      each_more (IsExplained lat ops rows) explained e so_far.each last j f (rw added at there);
+      let last : IsExplained prios lat ops rows (length explained) e = rw so_far.all is in
+      each_more (IsExplained prios lat ops rows) explained e so_far.each last j f (rw added at there);
 }
 
-pub all_explained : (lat : Latencies) (ops : List Op) (rows : List Row) (n : ℕ) (latest : Latest) (explained : List Explained)
-    → IsExplainedSoFar lat ops rows n latest explained → n ≡ length ops → AreExplained lat ops rows explained
-all_explained lat ops rows n latest explained so_far all = record { all = so_far.all ∙ all; each = so_far.each }
+pub all_explained : (prios : List ℕ) (lat : Latencies) (ops : List Op) (rows : List Row) (n : ℕ) (latest : Latest) (explained : List Explained)
+    → IsExplainedSoFar prios lat ops rows n latest explained → n ≡ length ops → AreExplained prios lat ops rows explained
+all_explained prios lat ops rows n latest explained so_far all = record { all = so_far.all ∙ all; each = so_far.each }
 
 -- a noted cycle of issue, read from the list of all
 pub noted_cycle : (cycles : List ℕ) (rows : List Row) (count j c : ℕ) → c ≡ get_or cycles j c → length cycles ≡ count
@@ -65,11 +64,11 @@ noted_cycle cycles rows count j c read size within each =
     read ∙ (get_or_default cycles j c 0 (rw size within) ∙ each j within)
 
 -- what is read of an operation explains it
-pub is_explained : (lat : Latencies) (ops lent : List Op) (rows : List Row) (j : ℕ) (latest : Latest) (other : Op) (row : Row)
+pub is_explained : (prios : List ℕ) (lat : Latencies) (ops lent : List Op) (rows : List Row) (j : ℕ) (latest : Latest) (other : Op) (row : Row)
     (e : Explained) → AreLatest lat ops rows j latest → j < length ops → lent ≡ ops → e.cycle ≡ issue_cycle rows j
     → row ≡ row_at rows e.cycle → e.unit ≡ unit_of row j → e.ready ≡ ready_after latest (get_or lent j other)
-    → e.after.items ≡ waited_until lat ops rows j e.ready → e.priority ≡ priority lat ops j → IsExplained lat ops rows j e
-is_explained lat ops lent rows j latest other row e are within same at stands unit ready after prio =
+    → e.after.items ≡ waited_until lat ops rows j e.ready → e.priority ≡ slice_index prios j → IsExplained prios lat ops rows j e
+is_explained prios lat ops lent rows j latest other row e are within same at stands unit ready after prio =
     let there : get_or ops j other ≡ op_at ops j = get_or_default ops j other Nop within in
     let first : e.ready ≡ ready_after latest (op_at ops j) = rw (same, there) at ready in
     record {

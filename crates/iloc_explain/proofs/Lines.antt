@@ -49,7 +49,7 @@ line_more text new all j explained left rest renamed e op other known there is t
     ∙ (ap (λ xs. text ++ xs) (sym whole) ∙ so_far))
 
 -- the parts of an explanation, pushed one after another
-pub parts_joined : (text lines head cycles middle least tail chain : List ℕ)
-    → ((((((text ++ lines) ++ head) ++ cycles) ++ middle) ++ least) ++ tail) ++ chain
-    ≡ text ++ ((lines ++ ((((head ++ cycles) ++ middle) ++ least) ++ tail)) ++ chain)
-parts_joined text lines head cycles middle least tail chain = simp append_assoc
+pub parts_pushed : (text lines cycles chain first second all : List ℕ) → first ≡ text ++ lines → second ≡ first ++ cycles
+    → all ≡ second ++ chain → all ≡ text ++ (lines ++ cycles ++ chain)
+parts_pushed text lines cycles chain first second all by_lines by_cycles by_chain =
+    by_chain ∙ rw (by_cycles, by_lines) (simp append_assoc)

@@ -4,7 +4,10 @@ use Rattle.std.specs.Prelude.{slice_get}
 use Rattle.iloc_ops.specs.declared.op.Op.{Op}
 use Rattle.iloc_timed.specs.declared.latencies.Latencies.{Latencies}
 use Rattle.iloc_timed.specs.declared.row.Row.{Row}
+use Rattle.iloc_timed.specs.Cycles.{cycles}
 use Rattle.iloc_timed.specs.Rows.{issue_cycle}
+use Rattle.iloc_sched.specs.Heuristics.{priorities_by}
+use Rattle.iloc_sched.specs.Least.{least}
 use Rattle.iloc_sched.specs.Renaming.{without_nops}
 use Rattle.iloc_explain.specs.declared.explanation.Explained.{Explained}
 use Rattle.iloc_explain.specs.Explained.{IsExplained}
@@ -30,9 +33,9 @@ ready_same lat ops rows j c d is also =
     let high : d ≤ c = ready_below lat ops rows j d c also is in
     omega arith
 
-line_same : (lat : Latencies) (ops : List Op) (rows : List Row) (j : ℕ) (e f : Explained) (op new : Op)
-    → IsExplained lat ops rows j e → IsExplained lat ops rows j f → explained_line j e op new ≡ explained_line j f op new
-line_same lat ops rows j e f op new is also =
+line_same : (prios : List ℕ) (lat : Latencies) (ops : List Op) (rows : List Row) (j : ℕ) (e f : Explained) (op new : Op)
+    → IsExplained prios lat ops rows j e → IsExplained prios lat ops rows j f → explained_line j e op new ≡ explained_line j f op new
+line_same prios lat ops rows j e f op new is also =
     let ready : e.ready ≡ f.ready = ready_same lat ops rows j e.ready f.ready is.ready also.ready in
     let after : e.after.items ≡ f.after.items =
     is.after ∙ (ap (waited_until lat ops rows j) ready ∙ sym also.after) in
@@ -41,35 +44,35 @@ line_same lat ops rows j e f op new is also =
     let priority : e.priority ≡ f.priority = is.priority ∙ sym also.priority in
     rw (cycle, unit, ready, after, priority) refl
 
-lines_same : (lat : Latencies) (ops : List Op) (rows : List Row) (k : ℕ) (es fs : List Explained) (block renamed : List Op)
-    → length es ≡ length fs → ((j : ℕ) (e : Explained) → slice_get es j ≡ Some e → IsExplained lat ops rows (k + j) e)
-    → ((j : ℕ) (f : Explained) → slice_get fs j ≡ Some f → IsExplained lat ops rows (k + j) f)
+lines_same : (prios : List ℕ) (lat : Latencies) (ops : List Op) (rows : List Row) (k : ℕ) (es fs : List Explained) (block renamed : List Op)
+    → length es ≡ length fs → ((j : ℕ) (e : Explained) → slice_get es j ≡ Some e → IsExplained prios lat ops rows (k + j) e)
+    → ((j : ℕ) (f : Explained) → slice_get fs j ≡ Some f → IsExplained prios lat ops rows (k + j) f)
     → explained_lines k es block renamed ≡ explained_lines k fs block renamed
-lines_same lat ops rows k [] [] block renamed long are also = refl
-lines_same lat ops rows k [] (f ∷ fs) block renamed long are also = absurd (omega arith)
-lines_same lat ops rows k (e ∷ es) [] block renamed long are also = absurd (omega arith)
-lines_same lat ops rows k (e ∷ es) (f ∷ fs) [] renamed long are also = refl
-lines_same lat ops rows k (e ∷ es) (f ∷ fs) (op ∷ block) [] long are also = refl
-lines_same lat ops rows k (e ∷ es) (f ∷ fs) (op ∷ block) (new ∷ renamed) long are also =
+lines_same prios lat ops rows k [] [] block renamed long are also = refl
+lines_same prios lat ops rows k [] (f ∷ fs) block renamed long are also = absurd (omega arith)
+lines_same prios lat ops rows k (e ∷ es) [] block renamed long are also = absurd (omega arith)
+lines_same prios lat ops rows k (e ∷ es) (f ∷ fs) [] renamed long are also = refl
+lines_same prios lat ops rows k (e ∷ es) (f ∷ fs) (op ∷ block) [] long are also = refl
+lines_same prios lat ops rows k (e ∷ es) (f ∷ fs) (op ∷ block) (new ∷ renamed) long are also =
     let here : k + 0 ≡ k = omega arith in
-    let P : ℕ → Type 0 = λ n. IsExplained lat ops rows n e in
-    let Q : ℕ → Type 0 = λ n. IsExplained lat ops rows n f in
+    let P : ℕ → Type 0 = λ n. IsExplained prios lat ops rows n e in
+    let Q : ℕ → Type 0 = λ n. IsExplained prios lat ops rows n f in
     ap₂ (λ line rest. line ++ rest)
-    (line_same lat ops rows k e f op new (subst P here (are 0 e refl)) (subst Q here (also 0 f refl)))
-    (lines_same lat ops rows (k + 1) es fs block renamed (omega arith)
+    (line_same prios lat ops rows k e f op new (subst P here (are 0 e refl)) (subst Q here (also 0 f refl)))
+    (lines_same prios lat ops rows (k + 1) es fs block renamed (omega arith)
     (λ j x at. let next : k + suc j ≡ (k + 1) + j = omega arith in
-    let R : ℕ → Type 0 = λ n. IsExplained lat ops rows n x in subst R next (are (suc j) x at))
+    let R : ℕ → Type 0 = λ n. IsExplained prios lat ops rows n x in subst R next (are (suc j) x at))
     (λ j x at. let next : k + suc j ≡ (k + 1) + j = omega arith in
-    let R : ℕ → Type 0 = λ n. IsExplained lat ops rows n x in subst R next (also (suc j) x at)))
+    let R : ℕ → Type 0 = λ n. IsExplained prios lat ops rows n x in subst R next (also (suc j) x at)))
 
 pub one_explanation : SchedulesHaveOneExplanation
-one_explanation lat block ops rows text text' is also =
+one_explanation heuristic lat block ops rows text text' is also =
     let long : length is.explained ≡ length also.explained = is.are_explained.all ∙ sym also.are_explained.all in
     let lines : explained_lines 0 is.explained (without_nops block) ops ≡ explained_lines 0 also.explained (without_nops block) ops =
-    lines_same lat ops rows 0 is.explained also.explained (without_nops block) ops long
+    lines_same (priorities_by heuristic lat ops) lat ops rows 0 is.explained also.explained (without_nops block) ops long
     (λ j e at. let here : j ≡ 0 + j = omega arith in
-    let R : ℕ → Type 0 = λ n. IsExplained lat ops rows n e in subst R here (is.are_explained.each j e at))
+    let R : ℕ → Type 0 = λ n. IsExplained (priorities_by heuristic lat ops) lat ops rows n e in subst R here (is.are_explained.each j e at))
     (λ j e at. let here : j ≡ 0 + j = omega arith in
-    let R : ℕ → Type 0 = λ n. IsExplained lat ops rows n e in subst R here (also.are_explained.each j e at)) in
+    let R : ℕ → Type 0 = λ n. IsExplained (priorities_by heuristic lat ops) lat ops rows n e in subst R here (also.are_explained.each j e at)) in
     let chain : is.chain ≡ also.chain = longest_same lat ops is.chain also.chain is.is_longest also.is_longest in
-    is.listed ∙ (ap₂ (λ ls ch. ls ++ cycles_line lat block ops rows ++ chain_line ch) lines chain ∙ sym also.listed)
+    is.listed ∙ (ap₂ (λ ls ch. ls ++ cycles_line (cycles lat ops rows) (least lat block) ++ chain_line ch) lines chain ∙ sym also.listed)

@@ -1,11 +1,10 @@
 -- What is said of each operation of a schedule.
-use Rattle.std.specs.Prelude.{ℕ, ◌≡◌, ◌==◌, if◌then◌else◌, List, length, slice_get, Some, option_to_list}
+use Rattle.std.specs.Prelude.{ℕ, ◌≡◌, ◌==◌, if◌then◌else◌, List, length, slice_get, slice_index, Some, option_to_list}
 use Rattle.std.specs.List.{list_any}
 use Rattle.iloc_ops.specs.declared.op.Op.{Op}
 use Rattle.iloc_timed.specs.declared.latencies.Latencies.{Latencies}
 use Rattle.iloc_timed.specs.declared.row.Row.{Row}
 use Rattle.iloc_timed.specs.Rows.{row_at, issue_cycle}
-use Rattle.iloc_sched.specs.Priority.{priority}
 use Rattle.iloc_explain.specs.declared.explanation.Explained.{Explained}
 use Rattle.iloc_explain.specs.declared.explanation.Unit.{Unit as unit_type}
 use Rattle.iloc_explain.specs.declared.explanation.Unit.TheVariants as unit
@@ -15,15 +14,16 @@ use Rattle.iloc_explain.specs.Waiting.{IsReadyAt, waited_until}
 abbrev pub unit_of : Row → ℕ → unit_type
 unit_of row i = if list_any (λ k. i == k) (option_to_list row.zero) then unit.Zero else unit.One
 
--- This is operation j: when and where it is issued, when it was ready, what it waited for until then, its priority.
-pub record IsExplained (lat : Latencies) (ops : List Op) (rows : List Row) (j : ℕ) (e : Explained) : Type 0 where
+-- This is operation j: when and where it is issued, when it was ready, what it waited for until then, and which of these
+-- priorities is its own.
+pub record IsExplained (prios : List ℕ) (lat : Latencies) (ops : List Op) (rows : List Row) (j : ℕ) (e : Explained) : Type 0 where
   pub cycle : e.cycle ≡ issue_cycle rows j
   pub unit : e.unit ≡ unit_of (row_at rows (issue_cycle rows j)) j
   pub ready : IsReadyAt lat ops rows j e.ready
   pub after : e.after.items ≡ waited_until lat ops rows j e.ready
-  pub priority : e.priority ≡ priority lat ops j
+  pub priority : e.priority ≡ slice_index prios j
 
 -- each operation is explained, in the order of their numbers
-pub record AreExplained (lat : Latencies) (ops : List Op) (rows : List Row) (explained : List Explained) : Type 0 where
+pub record AreExplained (prios : List ℕ) (lat : Latencies) (ops : List Op) (rows : List Row) (explained : List Explained) : Type 0 where
   pub all : length explained ≡ length ops
-  pub each : (j : ℕ) (e : Explained) → slice_get explained j ≡ Some e → IsExplained lat ops rows j e
+  pub each : (j : ℕ) (e : Explained) → slice_get explained j ≡ Some e → IsExplained prios lat ops rows j e

@@ -1,5 +1,5 @@
 -- The listing of what explains a schedule.
-use Rattle.std.specs.Prelude.{ℕ, ◌+◌, ◌≡◌, List, [], ◌∷◌, ◌++◌, codes}
+use Rattle.std.specs.Prelude.{ℕ, ◌+◌, ◌≡◌, ◌==◌, if◌then◌else◌, List, [], ◌∷◌, ◌++◌, codes}
 use Rattle.std.specs.List.{flat_map}
 use Rattle.std.specs.Fmt.{decimal}
 use Rattle.iloc_ops.specs.declared.op.Op.{Op}
@@ -9,6 +9,8 @@ use Rattle.iloc_timed.specs.declared.latencies.Latencies.{Latencies}
 use Rattle.iloc_timed.specs.declared.row.Row.{Row}
 use Rattle.iloc_timed.specs.Cycles.{cycles}
 use Rattle.iloc_sched.specs.Renaming.{without_nops}
+use Rattle.iloc_sched.specs.declared.heuristic.Heuristic.{Heuristic}
+use Rattle.iloc_sched.specs.Heuristics.{priorities_by}
 use Rattle.iloc_sched.specs.Least.{least}
 use Rattle.iloc_explain.specs.declared.explanation.Explained.{Explained}
 use Rattle.iloc_explain.specs.declared.explanation.Unit.{Unit as unit_type}
@@ -45,16 +47,23 @@ abbrev pub chain_line : List ℕ → List ℕ
 chain_line [] = codes "chain -\n"
 chain_line (i ∷ chain) = codes "chain" ++ flat_map (λ j. codes " " ++ decimal j) (i ∷ chain) ++ codes "\n"
 
--- `cycles C least L`: the cycles of a schedule of the block, and their lower bound
-abbrev pub cycles_line : Latencies → List Op → List Op → List Row → List ℕ
-cycles_line lat block ops rows =
-    codes "cycles " ++ decimal (cycles lat ops rows) ++ codes " least " ++ decimal (least lat block) ++ codes "\n"
+-- ` optimal` where the cycles are the lower bound, so that no lawful schedule takes fewer
+abbrev pub optimal_mark : ℕ → ℕ → List ℕ
+optimal_mark taken bound = if taken == bound then codes " optimal" else []
 
--- The text explains these operations in these rows, a schedule of the block: a line for each operation, the cycles
--- with their lower bound, and a longest chain of delays.
-pub record IsExplanation (lat : Latencies) (block ops : List Op) (rows : List Row) (text : List ℕ) : Type 0 where
+-- `cycles C least L`: cycles and their lower bound
+abbrev pub cycles_line : ℕ → ℕ → List ℕ
+cycles_line taken bound =
+    codes "cycles " ++ decimal taken ++ codes " least " ++ decimal bound ++ optimal_mark taken bound ++ codes "\n"
+
+-- The text explains these operations in these rows, a schedule of the block that is ranked by a heuristic: a line for
+-- each operation, the cycles with their lower bound, and a longest chain of delays.
+pub record IsExplanation (heuristic : Heuristic) (lat : Latencies) (block ops : List Op) (rows : List Row) (text : List ℕ) : Type 0 where
   pub explained : List Explained
-  pub are_explained : AreExplained lat ops rows explained
+  pub are_explained : AreExplained (priorities_by heuristic lat ops) lat ops rows explained
   pub chain : List ℕ
   pub is_longest : IsLongestChain lat ops chain
-  pub listed : text ≡ explained_lines 0 explained (without_nops block) ops ++ cycles_line lat block ops rows ++ chain_line chain
+  pub listed : text ≡
+      explained_lines 0 explained (without_nops block) ops
+      ++ cycles_line (cycles lat ops rows) (least lat block)
+      ++ chain_line chain

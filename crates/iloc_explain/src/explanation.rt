@@ -1,6 +1,5 @@
 //! What is said of each operation of a schedule.
-ghost use Rattle.std.specs.Prelude.{◌≡◌, IfOk};
-ghost use Rattle.iloc_sched.specs.Priority.{priorities as all_priorities};
+ghost use Rattle.std.specs.Prelude.{◌≡◌, length, IfOk};
 ghost use Rattle.iloc_explain.specs.Explained.{AreExplained, unit_of};
 
 use crate::issued::issue_cycles;
@@ -30,7 +29,7 @@ pub struct Explained {
     pub ready: usize,
     /// For which operations it waited until then, by their numbers, in the order of their issue.
     pub after: Vec<usize>,
-    /// Its priority: how many cycles are left at least from its issue to the end of the block.
+    /// Its priority, by which it was ranked.
     pub priority: u64,
 }
 
@@ -44,7 +43,8 @@ fn unit_of(row: Row, i: usize) -> Unit
     }
 }
 
-/// Explains each operation of a schedule of renamed operations, by their priorities, in the order of their numbers.
+/// Explains each operation of a schedule of renamed operations, by the priorities that ranked them, in the order of their
+/// numbers.
 ///
 /// Promise: Each operation is listed with its cycle of issue, its unit, its priority, the first cycle at which all that it
 /// waits for is over, and just the operations for which it waited until then.
@@ -54,9 +54,9 @@ pub fn explain(
     latencies: &Latencies,
     priorities: &[u64],
 ) -> Result<Vec<Explained>, NoMemory>
-    requires { priorities.now ≡ all_priorities latencies.now schedule.now.ops }
+    requires { length priorities.now ≡ length schedule.now.ops }
     ensures { IfOk result (λ explained.
-        AreExplained latencies.now schedule.now.ops schedule.now.rows explained.items) }
+        AreExplained priorities.now latencies.now schedule.now.ops schedule.now.rows explained.items) }
 {
     let ops = schedule.ops();
     let rows = schedule.rows();

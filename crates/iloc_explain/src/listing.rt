@@ -1,15 +1,18 @@
 //! The listing of what explains a schedule.
-ghost use Rattle.std.specs.Prelude.{◌≡◌, ◌++◌, ◌≤◌, List, ℕ, length, OnOk, codes};
+ghost use Rattle.std.specs.Prelude.{◌≡◌, ◌++◌, ◌≤◌, List, ℕ, length, IfOk, OnOk, codes};
 ghost use Rattle.std.specs.List.{flat_map};
 ghost use Rattle.std.specs.Fmt.{decimal};
-ghost use Rattle.iloc_sched.specs.Renaming.{renamed, without_nops};
+ghost use Rattle.iloc_sched.specs.Heuristics.{priorities_by as all_priorities_by};
+ghost use Rattle.iloc_sched.specs.Least.{least as least_of_block};
+ghost use Rattle.iloc_sched.specs.Priority.{priorities as all_priorities};
+ghost use Rattle.iloc_sched.specs.Renaming.{renamed, without_nops, IsRenamed};
 ghost use Rattle.iloc_explain.specs.Listing as listed;
 ghost use Rattle.iloc_explain.specs.Listing.{IsExplanation};
 
 use crate::chain::longest_chain;
 use crate::explanation::{Explained, Unit, explain};
 use iloc_ops::{Block, MAX_OPS, NoMemory, Op, push_column, push_decimal, push_op};
-use iloc_sched::{least, priorities};
+use iloc_sched::{Heuristic, priorities, priorities_by};
 use iloc_timed::{Latencies, Schedule, cycles};
 use std::alloc::Global;
 
@@ -110,8 +113,41 @@ fn push_lines(
     Ok(())
 }
 
-/// Appends what explains a schedule of a block, whose operations are the block's renamed ones: a line for each
-/// operation, the cycles with their lower bound, and a longest chain of delays.
+/// Appends the line of the cycles of a schedule and their lower bound.
+fn push_cycles(text: &mut Vec<u8>, cycles: u64, least: u64) -> Result<(), NoMemory>
+    ensures { OnOk result (text.new.items ≡ text.old.items ++ listed.cycles_line cycles least) }
+{
+    text.extend_from_slice(b"cycles ")?;
+    push_decimal(text, cycles)?;
+    text.extend_from_slice(b" least ")?;
+    push_decimal(text, least)?;
+    if cycles == least {
+        text.extend_from_slice(b" optimal")?;
+    }
+    Ok(text.extend_from_slice(b"\n")?)
+}
+
+/// The priorities of renamed operations by a heuristic, where the longest chains from them are known.
+fn ranks(
+    alloc: Global,
+    ops: &[Op],
+    latencies: &Latencies,
+    heuristic: Heuristic,
+    chains: &[u64],
+) -> Result<Vec<u64>, NoMemory>
+    requires renamed { IsRenamed ops.now }
+    requires few { length ops.now ≤ MAX_OPS }
+    requires chains { chains.now ≡ all_priorities latencies.now ops.now }
+    ensures { IfOk result (λ ranks. ranks.items ≡ all_priorities_by heuristic latencies.now ops.now) }
+{
+    match heuristic {
+        Heuristic::Chain => Ok(Vec::from_slice(alloc, chains)?),
+        _ => priorities_by(alloc, ops, latencies, heuristic),
+    }
+}
+
+/// Appends what explains a schedule of a block, whose operations are the block's renamed ones, ranked by a heuristic: a
+/// line for each operation, the cycles with their lower bound (`least`), and a longest chain of delays.
 ///
 /// Promise: What is appended is a text that explains the schedule.
 pub fn push_explanation(
@@ -120,23 +156,21 @@ pub fn push_explanation(
     block: &Block,
     schedule: &Schedule,
     latencies: &Latencies,
+    heuristic: Heuristic,
+    least: u64,
 ) -> Result<(), NoMemory>
     requires few { length block.now.ops ≤ MAX_OPS }
     requires names { schedule.now.ops ≡ renamed block.now.ops }
+    requires least { least ≡ least_of_block latencies.now block.now.ops }
     ensures { OnOk result ((entry : List ℕ)
-        × IsExplanation latencies.now block.now.ops schedule.now.ops schedule.now.rows entry
+        × IsExplanation heuristic latencies.now block.now.ops schedule.now.ops schedule.now.rows entry
         × (text.new.items ≡ text.old.items ++ entry)) }
 {
     let ops = schedule.ops();
-    let priorities = priorities(alloc, ops, latencies)?;
-    let explained = explain(alloc, schedule, latencies, &priorities)?;
-    let chain = longest_chain(alloc, ops, latencies, &priorities)?;
+    let chains = priorities(alloc, ops, latencies)?;
+    let ranks = ranks(alloc, ops, latencies, heuristic, &chains)?;
+    let explained = explain(alloc, schedule, latencies, &ranks)?;
     push_lines(text, block.ops.as_slice(), &explained, ops)?;
-    let least = least(alloc, block, latencies)?;
-    text.extend_from_slice(b"cycles ")?;
-    push_decimal(text, cycles(schedule, latencies))?;
-    text.extend_from_slice(b" least ")?;
-    push_decimal(text, least)?;
-    text.extend_from_slice(b"\n")?;
-    push_chain(text, &chain)
+    push_cycles(text, cycles(schedule, latencies), least)?;
+    push_chain(text, &longest_chain(alloc, ops, latencies, &chains)?)
 }

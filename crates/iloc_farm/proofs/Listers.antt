@@ -94,7 +94,7 @@ module _ (request : Request) (k : ℕ) (b : Block) (text more : List ℕ) (name 
         counted = counted;
       }
 
-      pub explain_listed : (explanation : List ℕ) → IsExplanation request.latencies b.ops s.ops s.rows explanation
+      pub explain_listed : (explanation : List ℕ) → IsExplanation request.priority request.latencies b.ops s.ops s.rows explanation
           → more ≡ ((text ++ block_head k name) ++ codes "\n") ++ explanation
           → Adds (IsExplainEntry request k b) text more cycles
       explain_listed explanation explains added = record {
@@ -203,11 +203,12 @@ module _ (r q : Request) (alike : AskAlike r q) (k : ℕ) (b : Block) where
       → (e ≡ e') × (c ≡ c')
   explain_same e e' c c' is is' =
       let same = same_schedule is.schedule is'.schedule is.greedy is'.greedy in
-      let P : Latencies → Type 0 = λ lat. IsExplanation lat b.ops is.schedule.ops is.schedule.rows is.text in
-      let Q : Table → Type 0 = λ s. IsExplanation q.latencies b.ops s.ops s.rows is.text in
+      let P : Latencies → Type 0 = λ lat. IsExplanation r.priority lat b.ops is.schedule.ops is.schedule.rows is.text in
+      let Q : Heuristic → Type 0 = λ heuristic. IsExplanation heuristic q.latencies b.ops is.schedule.ops is.schedule.rows is.text in
+      let R : Table → Type 0 = λ s. IsExplanation q.priority q.latencies b.ops s.ops s.rows is.text in
       let text : is.text ≡ is'.text =
-      one_explanation q.latencies b.ops is'.schedule.ops is'.schedule.rows is.text is'.text
-      (subst Q same (subst P alike.latencies is.explains)) is'.explains in (
+      one_explanation q.priority q.latencies b.ops is'.schedule.ops is'.schedule.rows is.text is'.text
+      (subst R same (subst Q alike.priority (subst P alike.latencies is.explains))) is'.explains in (
         is.listed ∙ (ap (λ t. block_head k b.name ++ codes "\n" ++ t) text ∙ sym is'.listed),
         cycles_same is.schedule is'.schedule c c' same is.counted is'.counted,
       )

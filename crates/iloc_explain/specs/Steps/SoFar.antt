@@ -9,7 +9,7 @@ use Rattle.iloc_explain.specs.Explained.{IsExplained}
 use Rattle.iloc_explain.specs.Steps.Latest.{AreLatest}
 
 -- the first n operations are explained, and these are the latest of them
-pub record IsExplainedSoFar (lat : Latencies) (ops : List Op) (rows : List Row) (n : ℕ) (latest : Latest) (explained : List Explained) : Type 0 where
+pub record IsExplainedSoFar (prios : List ℕ) (lat : Latencies) (ops : List Op) (rows : List Row) (n : ℕ) (latest : Latest) (explained : List Explained) : Type 0 where
   pub latest_ones : AreLatest lat ops rows n latest
   pub all : length explained ≡ n
-  pub each : (j : ℕ) (e : Explained) → slice_get explained j ≡ Some e → IsExplained lat ops rows j e
+  pub each : (j : ℕ) (e : Explained) → slice_get explained j ≡ Some e → IsExplained prios lat ops rows j e

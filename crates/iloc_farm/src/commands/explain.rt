@@ -36,11 +36,12 @@ impl Lister for ExplainLister {
         block: &Block,
         text: &mut Vec<u8>,
     ) -> Result<u32, NoMemory> {
-        let schedule = self.0.lend_as(block, &request.latencies, request.priority)?;
-        let cycles = count_of(&schedule, &request.latencies);
+        let (latencies, priority) = (&request.latencies, request.priority);
+        let (schedule, least) = self.0.lend_with_least(block, latencies, priority)?;
+        let cycles = count_of(&schedule, latencies);
         push_block_head(text, number, block.name.as_ref())?;
         text.push(b'\n')?;
-        push_explanation(alloc, text, block, &schedule, &request.latencies)?;
+        push_explanation(alloc, text, block, &schedule, latencies, priority, least)?;
         self.0.take_back(schedule);
         Ok(cycles)
     }

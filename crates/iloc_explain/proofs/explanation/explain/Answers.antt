@@ -1,6 +1,5 @@
-use Rattle.std.proofs.Common.{◌≡◌, ◌<◌, ◌≤◌, length, slice_index, ap, arith}
+use Rattle.std.proofs.Common.{◌≡◌, ◌<◌, ◌≤◌, length, ap, arith, refl}
 use Rattle.iloc_sched.specs.declared.wheel.TheConstants.{LONGEST_DELAY}
-use Rattle.iloc_sched.proofs.PriorityValues.Longest.{length-priorities}
 use Rattle.iloc_timed.proofs.Arrivals.{issued_within}
 use Rattle.iloc_timed.specs.Rows.{issue_cycle, row_at}
 use Rattle.iloc_explain.proofs.Explaining.{is_explained, none_explained, noted_cycle, one_explained, read_latest}
@@ -9,7 +8,7 @@ use Rattle.iloc_explain.proofs.explanation.explain.Goals as goal
 
 pub loop-j-init : goal.loop-j-init
 loop-j-init c =
-    none_explained _ _ _ _ _ (none_latest _ _ _ _ c.new-latest.ensures.results c.new-latest.ensures.stored
+    none_explained _ _ _ _ _ _ (none_latest _ _ _ _ c.new-latest.ensures.results c.new-latest.ensures.stored
     c.new-latest.ensures.stores c.new-latest.ensures.loads c.new-latest.ensures.outputs) c.new-explained.ensures.items
 
 pub offset_bounds-rows-cycle : goal.offset_bounds-rows-cycle
@@ -31,7 +30,7 @@ bounds-rows-cycle c =
 
 pub bounds-priorities-j : goal.bounds-priorities-j
 bounds-priorities-j c =
-    omega (arith, ap length c.requires, length-priorities c.args.latencies.now c.args.schedule.now.ops, ap length c.ops-ops.ensures.ops)
+    omega (arith, c.requires, ap length c.ops-ops.ensures.ops)
 
 pub overflow_add-cycle : goal.overflow_add-cycle
 overflow_add-cycle c =
@@ -57,12 +56,12 @@ loop-j-preserved c =
     let known : c.loop-j.j < length c.args.schedule.now.ops = rw c.ops-ops.ensures.ops at c.loop-j-test.true in
     let at : c.index-cycle.result.now ≡ issue_cycle c.args.schedule.now.rows c.loop-j.j =
     noted_cycle _ _ _ _ _ c.index-cycle.ensures c.in_ok-cycles.ensures.size known c.in_ok-cycles.ensures.each in
-    one_explained _ _ _ _ _ _ _ _ _ c.loop-j.invariant
+    one_explained _ _ _ _ _ _ _ _ _ _ c.loop-j.invariant
     (read_latest c.args.latencies.now c.args.schedule.now.ops c.ops-ops.result.now c.args.schedule.now.rows c.loop-j.j _ _ _
     c.loop-j.latest _ c.loop-j.invariant.latest_ones known c.ops-ops.ensures.ops at c.latency.ensures.latency
     c.in_ok-note.ensures)
-    (is_explained c.args.latencies.now c.args.schedule.now.ops c.ops-ops.result.now c.args.schedule.now.rows c.loop-j.j
+    (is_explained c.args.priorities.now c.args.latencies.now c.args.schedule.now.ops c.ops-ops.result.now c.args.schedule.now.rows c.loop-j.j
     c.loop-j.latest _ _ _ c.loop-j.invariant.latest_ones known c.ops-ops.ensures.ops at
     (ap (λ rows. row_at rows c.index-cycle.result.now) c.rows-rows.ensures.rows) c.unit_of.ensures c.ready-ready.ensures
-    c.in_ok-after.ensures (ap (λ ps. slice_index ps c.loop-j.j) c.requires))
+    c.in_ok-after.ensures refl)
     c.in_ok-push.ensures.items

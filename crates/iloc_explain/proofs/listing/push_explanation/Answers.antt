@@ -1,15 +1,13 @@
-use Rattle.std.proofs.Common.{◌∙◌, ◌≤◌, length, arith}
-use Rattle.std.proofs.Common.{◌++◌, refl}
+use Rattle.std.proofs.Common.{◌≡◌, ◌∙◌, ◌++◌, ◌≤◌, length, ap, arith, refl}
 use Rattle.std.proofs.lemmas.Result.{on_ok_weaker}
-use Rattle.std.specs.Prelude.{codes}
-use Rattle.std.specs.Fmt.{decimal}
 use Rattle.iloc_timed.specs.Cycles.{cycles}
 use Rattle.iloc_sched.specs.Least.{least}
-use Rattle.iloc_sched.specs.Renaming.{without_nops}
+use Rattle.iloc_sched.specs.Renaming.{renamed, without_nops, IsRenamed}
+use Rattle.iloc_sched.proofs.PriorityValues.Named.{length-priorities_by}
 use Rattle.iloc_sched.proofs.Renamed.MentionedSources.{length-renamed_by}
-use Rattle.iloc_explain.specs.Listing.{explained_lines, cycles_line, chain_line}
 use Rattle.iloc_sched.proofs.Renamed.RenamedBlocks.{renamed_is_renamed}
-use Rattle.iloc_explain.proofs.Lines.{nops_left_out, parts_joined}
+use Rattle.iloc_explain.specs.Listing.{explained_lines, cycles_line, chain_line}
+use Rattle.iloc_explain.proofs.Lines.{nops_left_out, parts_pushed}
 use Rattle.iloc_explain.proofs.listing.push_explanation.Goals as goal
 
 pub priorities-requires-clause-renamed : goal.priorities-requires-clause-renamed
@@ -22,38 +20,44 @@ priorities-requires-clause-few c =
     (let fewer : length (without_nops c.args.block.now.ops) ≤ length c.args.block.now.ops = nops_left_out c.args.block.now.ops in
     omega (arith, c.requires.few))
 
+pub ranks-requires-clause-renamed : goal.ranks-requires-clause-renamed
+ranks-requires-clause-renamed c =
+    rw (c.ops-ops.ensures.ops, c.requires.names) (renamed_is_renamed c.args.block.now.ops)
+
+pub ranks-requires-clause-few : goal.ranks-requires-clause-few
+ranks-requires-clause-few c =
+    rw (c.ops-ops.ensures.ops, c.requires.names, length-renamed_by)
+    (let fewer : length (without_nops c.args.block.now.ops) ≤ length c.args.block.now.ops = nops_left_out c.args.block.now.ops in
+    omega (arith, c.requires.few))
+
+pub explain-requires : goal.explain-requires
+explain-requires c =
+    rw c.ops-ops.ensures.ops at
+    (ap length (c.deref-2.ensures.value ∙ c.in_ok-ranks.ensures) ∙ length-priorities_by c.args.heuristic c.args.latencies.now c.ops-ops.result.now)
+
 pub push_lines-requires-clause-same : goal.push_lines-requires-clause-same
 push_lines-requires-clause-same c =
     rw (c.as_slice.ensures, c.ops-ops.ensures.ops, c.requires.names, length-renamed_by) refl
 
 pub returns : goal.returns
 returns c =
+    let explained = c.in_ok-explained.explained.items in
+    let chain = c.in_ok-longest_chain.field-0.items in
+    let taken = cycles c.args.latencies.now c.args.schedule.now.ops c.args.schedule.now.rows in
+    let bound = least c.args.latencies.now c.args.block.now.ops in
+    let lines = explained_lines 0 explained (without_nops c.args.block.now.ops) c.args.schedule.now.ops in
     on_ok_weaker c.push_chain.result (λ pushed. (
-      explained_lines 0 c.in_ok-explained.explained.items (without_nops c.args.block.now.ops) c.args.schedule.now.ops
-          ++ cycles_line c.args.latencies.now c.args.block.now.ops c.args.schedule.now.ops c.args.schedule.now.rows ++ chain_line c.in_ok-chain.chain.items,
+      lines ++ cycles_line taken bound ++ chain_line chain,
       record {
-        explained = c.in_ok-explained.explained.items;
-        are_explained = c.in_ok-explained.ensures;
-        chain = c.in_ok-chain.chain.items;
-        is_longest = rw c.ops-ops.ensures.ops at c.in_ok-chain.ensures.chosen;
+        explained = explained;
+        are_explained = rw (c.deref-2.ensures.value, c.in_ok-ranks.ensures, c.ops-ops.ensures.ops) at c.in_ok-explained.ensures;
+        chain = chain;
+        is_longest = rw c.ops-ops.ensures.ops at c.in_ok-longest_chain.ensures.chosen;
         listed = refl;
       },
-      pushed
-          ∙ rw (
-            c.in_ok-extend_from_slice-3.ensures.items,
-            c.in_ok-push_decimal-2.ensures,
-            c.in_ok-extend_from_slice-2.ensures.items,
-            c.in_ok-push_decimal.ensures,
-            c.in_ok-extend_from_slice.ensures.items,
-            c.in_ok-push_lines.ensures,
-            c.deref-3.ensures.value,
-            c.as_slice.ensures,
-            c.ops-ops.ensures.ops,
-            c.deref-4.ensures.value,
-            c.cycles.ensures,
-            c.in_ok-least.ensures,
-          )
-          (parts_joined c.args.text.now.items _ (codes "cycles ") (decimal (cycles c.args.latencies.now
-          c.args.schedule.now.ops c.args.schedule.now.rows)) (codes " least ") (decimal (least c.args.latencies.now
-          c.args.block.now.ops)) (codes "\n") _),
+      parts_pushed c.args.text.now.items lines (cycles_line taken bound) (chain_line chain) c.push_lines.new.text.items
+          c.push_cycles.new.text.items c.push_chain.new.text.items
+          (rw (c.deref-3.ensures.value, c.as_slice.ensures, c.ops-ops.ensures.ops) at c.in_ok-push_lines.ensures)
+          (rw (c.cycles.ensures, c.requires.least) at c.in_ok-push_cycles.ensures)
+          (pushed ∙ ap (λ found. c.push_cycles.new.text.items ++ chain_line found) c.deref-5.ensures.value),
     )) c.push_chain.ensures
