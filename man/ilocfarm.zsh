@@ -61,6 +61,7 @@ check) shift words; (( CURRENT-- ))
         '--store[Cycles that store and storeAI take, 1 to 16 \[default\: 5\]]:N:' \
         '--mult[Cycles that mult and multI take, 1 to 16 \[default\: 3\]]:N:' \
         '--task[Read the blocks from FILE, and only rows from standard input]:FILE:_files' \
+        '--either-slot[Exchange the operations of a row that can be issued only so]' \
         '--help[Print help]' ;;
 graph) shift words; (( CURRENT-- ))
     _arguments '--load[Cycles that load and loadAI take, 1 to 16 \[default\: 5\]]:N:' \

@@ -32,6 +32,7 @@ pub record IsFit (rules : List Rule) : Type 0 where
   pub mult : TakesIn 1 LONGEST_LATENCY (codes "mult") rules
   pub csv : Takes vp.Bool (codes "csv") rules
   pub lawful : Takes vp.Bool (codes "lawful") rules
+  pub either_slot : Takes vp.Bool (codes "either-slot") rules
 
 -- ---- the test
 
@@ -68,7 +69,9 @@ takes_latencies rules =
     && (takes_in 1 LONGEST_LATENCY (codes "store") rules && takes_in 1 LONGEST_LATENCY (codes "mult") rules)
 
 abbrev takes_flags : List Rule → Bool
-takes_flags rules = takes is_flag_parser (codes "csv") rules && takes is_flag_parser (codes "lawful") rules
+takes_flags rules =
+    takes is_flag_parser (codes "csv") rules
+    && (takes is_flag_parser (codes "lawful") rules && takes is_flag_parser (codes "either-slot") rules)
 
 abbrev takes_all : List Rule → Bool
 takes_all rules =
@@ -145,8 +148,10 @@ fits rules e =
     (takes_in 1 LONGEST_LATENCY (codes "store") rules && takes_in 1 LONGEST_LATENCY (codes "mult") rules) both.0 in
     let store = and_parts (takes_in 1 LONGEST_LATENCY (codes "store") rules)
     (takes_in 1 LONGEST_LATENCY (codes "mult") rules) load.1 in
-    let flags = and_parts (takes is_flag_parser (codes "csv") rules) (takes is_flag_parser (codes "lawful") rules)
-    both.1 in
+    let csv = and_parts (takes is_flag_parser (codes "csv") rules)
+    (takes is_flag_parser (codes "lawful") rules && takes is_flag_parser (codes "either-slot") rules) both.1 in
+    let flags = and_parts (takes is_flag_parser (codes "lawful") rules)
+    (takes is_flag_parser (codes "either-slot") rules) csv.1 in
     let number : (low high : ℕ) (id : Text) → takes_in low high id rules ≡ true → TakesIn low high id rules =
     λ low high id. has_parser (is_number_parser low high) (vp.Signed (pos low) (pos high)) (number_parser low high) id
     rules in
@@ -160,6 +165,7 @@ fits rules e =
       load = number 1 LONGEST_LATENCY (codes "load") load.0;
       store = number 1 LONGEST_LATENCY (codes "store") store.0;
       mult = number 1 LONGEST_LATENCY (codes "mult") store.1;
-      csv = flag (codes "csv") flags.0;
-      lawful = flag (codes "lawful") flags.1;
+      csv = flag (codes "csv") csv.0;
+      lawful = flag (codes "lawful") flags.0;
+      either_slot = flag (codes "either-slot") flags.1;
     }

@@ -24,6 +24,7 @@ pub record Asked : Type 0 where
   pub csv : Bool
   pub task_file : Option Text
   pub lawful : Bool
+  pub either_slot : Bool
 
 -- what a request asks for
 abbrev pub asked_in : Request → Asked
@@ -39,6 +40,7 @@ asked_in r = record {
   csv = r.csv;
   task_file = option_map string_bytes r.task_file;
   lawful = r.lawful;
+  either_slot = r.either_slot;
 }
 
 -- the number that a text of digits writes, where a plus may stand first
@@ -75,6 +77,7 @@ asked_as task rows = record {
   csv = flag_in (codes "csv") rows;
   task_file = first_of (codes "task") rows;
   lawful = flag_in (codes "lawful") rows;
+  either_slot = flag_in (codes "either-slot") rows;
 }
 
 -- the task of the command of this name

@@ -70,6 +70,10 @@ task_rule = text_rule (codes "task")
 abbrev pub lawful_rule : Rule
 lawful_rule = flag_rule (codes "lawful")
 
+-- `--either-slot`
+abbrev pub either_slot_rule : Rule
+either_slot_rule = flag_rule (codes "either-slot")
+
 -- a command: its name, the task that it asks for, and its arguments
 pub record Entry : Type 0 where
   pub name : Text
@@ -116,12 +120,12 @@ compare_entry = record {
 abbrev pub explain_entry : Entry
 explain_entry = record { name = codes "explain"; task = Explain; rules = latency_rules ++ priority_rule ∷ [] }
 
--- `check [--at N] [WORD].. [--load N] [--store N] [--mult N] [--task FILE]`
+-- `check [--at N] [WORD].. [--load N] [--store N] [--mult N] [--task FILE] [--either-slot]`
 abbrev pub check_entry : Entry
 check_entry = record {
   name = codes "check";
   task = Check;
-  rules = at_rule ∷ words_rule ∷ (latency_rules ++ task_rule ∷ []);
+  rules = at_rule ∷ words_rule ∷ (latency_rules ++ task_rule ∷ either_slot_rule ∷ []);
 }
 
 -- `graph [--load N] [--store N] [--mult N]`

@@ -2,7 +2,7 @@
 ghost use Rattle.std.specs.Prelude.{IfOk, IsOkAnd, codes};
 ghost use Rattle.clap.specs.Simple.{new_shape};
 ghost use Rattle.clap.specs.Words.{AddsSubcommand};
-ghost use Rattle.iloc_args.specs.Command.{at_rule, check_entry, compare_entry, counts_entry, csv_rule, explain_entry};
+ghost use Rattle.iloc_args.specs.Command.{at_rule, check_entry, compare_entry, counts_entry, csv_rule, either_slot_rule, explain_entry};
 ghost use Rattle.iloc_args.specs.Command.{farm_app, flag_rule, latency_rule, latency_rules, lawful_rule};
 ghost use Rattle.iloc_args.specs.Command.{priority_rule, run_entry, schedule_entry, simulate_entry};
 ghost use Rattle.iloc_args.specs.Command.{graph_entry, lint_entry};
@@ -213,6 +213,17 @@ fn lawful_arg<'a>(alloc: Global) -> Arg<'a>
     )
 }
 
+/// `--either-slot`
+fn either_slot_arg<'a>(alloc: Global) -> Arg<'a>
+    ensures { HasRule either_slot_rule result }
+{
+    flag_arg(
+        alloc,
+        "either-slot",
+        "Exchange the operations of a row that can be issued only so",
+    )
+}
+
 /// The command with this argument after its own, if it could be made.
 fn with_arg<'a>(
     command: Result<Command<'a>, AllocError>,
@@ -329,14 +340,15 @@ fn explain_command<'a>(alloc: Global) -> Result<Command<'a>, AllocError>
     with_arg(command, priority_arg(alloc))
 }
 
-/// `check [--at N] [WORD]... [--load N] [--store N] [--mult N] [--task FILE]`
+/// `check [--at N] [WORD]... [--load N] [--store N] [--mult N] [--task FILE] [--either-slot]`
 fn check_command<'a>(alloc: Global) -> Result<Command<'a>, AllocError>
     ensures { IfOk result (HasApp (app check_entry)) }
 {
     let about = "Judge schedules that others made, given after their blocks";
     let usage = "ilocfarm check [OPTIONS] [WORD]... < BLOCKS_AND_ROWS";
-    let check = with_latencies(alloc, memory_command(alloc, "check", about, usage));
-    with_arg(check, task_arg(alloc))
+    let command = with_latencies(alloc, memory_command(alloc, "check", about, usage));
+    let command = with_arg(command, task_arg(alloc));
+    with_arg(command, either_slot_arg(alloc))
 }
 
 /// `graph [--load N] [--store N] [--mult N]`

@@ -1,10 +1,12 @@
 -- What is listed of one input does not depend on the workers, and greedy schedules can be listed.
-use Rattle.std.proofs.Common.{◌≡◌, ℕ, List, ℤ, None, Option, Some, sym, ap, ◌∙◌, subst}
+use Rattle.std.proofs.Common.{◌≡◌, ℕ, Bool, List, ℤ, None, Option, Some, sym, ◌∙◌, subst}
 use Rattle.std.specs.declared.alloc.Global.{Global}
 use Rattle.std.specs.declared.string.String.{String}
 use Rattle.iloc_ops.specs.declared.file.Block.{Block}
 use Rattle.iloc_text.proofs.Answer.{one_answer}
 use Rattle.iloc_timed.specs.declared.latencies.Latencies.{Latencies}
+use Rattle.iloc_rows.specs.declared.proposal.Proposal.{Proposal}
+use Rattle.iloc_rows.specs.EitherSlot.{placed}
 use Rattle.iloc_args.specs.declared.request.Request.{Request}
 use Rattle.iloc_args.specs.declared.request.Task.{Task}
 use Rattle.iloc_args.specs.declared.request.Task.TheVariants as task
@@ -12,7 +14,7 @@ use Rattle.iloc_farm.specs.Commands.Check.{ListsChecked}
 use Rattle.iloc_farm.specs.Commands.Run.{initial_memory}
 use Rattle.iloc_farm.specs.Laws.{AskAlike, ChecksIgnoreWorkers, GreedySchedulesCanBeListed, ListingsIgnoreWorkers}
 use Rattle.iloc_farm.specs.Apart.{Held}
-use Rattle.iloc_farm.specs.Run.{IsListing, IsListingFor, Lists, ListsApart, ListsAs, ListsFor, ListsFrom, ListsSubmission}
+use Rattle.iloc_farm.specs.Run.{Checks, IsListing, IsListingFor, Lists, ListsApart, ListsAs, ListsFor, ListsSubmission}
 use Rattle.iloc_farm.specs.declared.commands.Finding.{Finding}
 use Rattle.iloc_farm.proofs.Listers.{of_one_task, one_memory}
 use Rattle.iloc_farm.proofs.Schedules.{greedy_long, total_small}
@@ -25,28 +27,34 @@ ignore_workers r q alike input blocks blocks' denotes denotes' text text' lists 
     of_one_task r.task r q alike blocks text text' lists (subst Q (sym alike.task) own)
 
 -- a check of the one request is one of the other
+checks_alike : (r q : Request) → AskAlike r q → (blocks : List Block) (proposals : List Proposal) (finding : Finding)
+    (text : List ℕ) → Checks r blocks proposals finding text → Checks q blocks proposals finding text
+checks_alike r q alike blocks proposals finding text checks =
+    let theirs : List Proposal = placed r.either_slot proposals in
+    let P : Latencies → Type 0 = λ lat. ListsChecked lat (initial_memory r) blocks theirs finding text in
+    let Q : List ℤ → Type 0 = λ memory. ListsChecked q.latencies memory blocks theirs finding text in
+    let R : Bool → Type 0 =
+    λ either_slot. ListsChecked q.latencies (initial_memory q) blocks (placed either_slot proposals) finding text in
+    subst R alike.either_slot (subst Q (one_memory r q alike) (subst P alike.latencies checks))
+
 submission_alike : (r q : Request) → AskAlike r q → (input : List ℕ) (finding : Finding) (text : List ℕ)
     → ListsSubmission r input finding text → ListsSubmission q input finding text
 submission_alike r q alike input finding text lists =
-    let P : Latencies → Type 0 = λ lat. ListsChecked lat (initial_memory r) lists.blocks lists.proposals finding text in
-    let Q : List ℤ → Type 0 = λ memory. ListsChecked q.latencies memory lists.blocks lists.proposals finding text in
     record {
       blocks = lists.blocks;
       proposals = lists.proposals;
       denoted = lists.denoted;
-      checked = subst Q (one_memory r q alike) (subst P alike.latencies lists.checked);
+      checked = checks_alike r q alike lists.blocks lists.proposals finding text lists.checked;
     }
 
 apart_alike : (r q : Request) → AskAlike r q → (known old new : Option (List ℕ)) (finding : Finding) (text : List ℕ)
     → ListsApart known r old new finding text → ListsApart known q old new finding text
 apart_alike r q alike known old new finding text lists =
-    let P : Latencies → Type 0 = λ lat. ListsChecked lat (initial_memory r) lists.blocks lists.proposals finding text in
-    let Q : List ℤ → Type 0 = λ memory. ListsChecked q.latencies memory lists.blocks lists.proposals finding text in
     record {
       blocks = lists.blocks;
       proposals = lists.proposals;
       read = lists.read;
-      checked = subst Q (one_memory r q alike) (subst P alike.latencies lists.checked);
+      checked = checks_alike r q alike lists.blocks lists.proposals finding text lists.checked;
     }
 
 -- so is one of an input

@@ -1,6 +1,7 @@
 -- What a status of 0 tells, where the words ask for a check.
-use Rattle.std.proofs.Common.{◌≡◌, ℕ, List, Ok, Err, None, Option, Result, Some, arith, refl, sym, ap, ◌∙◌, subst, inl, inr}
+use Rattle.std.proofs.Common.{◌≡◌, ℕ, Bool, List, Ok, Err, None, Option, Result, Some, arith, refl, sym, ap, ◌∙◌, subst, inl, inr}
 use Rattle.std.specs.Prelude.{option_map}
+use Rattle.std.specs.List.{AllZip}
 use Rattle.std.specs.String.{string_bytes}
 use Rattle.std.specs.declared.io.Error.{Error}
 use Rattle.std.specs.declared.alloc.Global.{Global}
@@ -10,7 +11,9 @@ use Rattle.iloc_text.specs.declared.fault.ReadFault.TheVariants as text
 use Rattle.iloc_rows.specs.declared.fault.RowsFault.{RowsFault}
 use Rattle.iloc_rows.specs.declared.fault.RowsFault.TheVariants as rows
 use Rattle.iloc_ops.specs.declared.file.Block.{Block}
+use Rattle.iloc_rows.specs.EitherSlot.{placed}
 use Rattle.iloc_rows.specs.declared.proposal.Proposal.{Proposal}
+use Rattle.iloc_judge.specs.Checked.{DoTheSame}
 use Rattle.iloc_args.specs.Asked.{Asked, asked_in}
 use Rattle.iloc_args.specs.declared.fault.LineFault.TheVariants as line
 use Rattle.iloc_args.specs.declared.request.Request.{Request}
@@ -24,13 +27,12 @@ use Rattle.iloc_farm.specs.declared.commands.Finding.TheVariants.{Passed, Failed
 use Rattle.iloc_farm.specs.declared.program.Fault.{Fault}
 use Rattle.iloc_farm.specs.declared.program.Fault.TheVariants.{Line, Run}
 use Rattle.iloc_farm.specs.Apart.{Held}
-use Rattle.iloc_farm.specs.Commands.Check.{ListsChecked}
 use Rattle.iloc_farm.specs.Fault.{rows_status, task_status, text_status}
 use Rattle.iloc_farm.specs.Fault.{status_of_finding}
 use Rattle.iloc_farm.specs.Commands.Run.{initial_memory}
 use Rattle.iloc_farm.specs.Laws.{ReadsRows, ReadsTheSame, Status0MeansTheSame}
 use Rattle.iloc_farm.specs.Program.{Args, AskFor, IsListed, IsStopped, MakeNone, status_of}
-use Rattle.iloc_farm.specs.Run.{ListsApart, ListsAs, ListsFor, ListsFrom, ListsSubmission}
+use Rattle.iloc_farm.specs.Run.{Checks, ListsAs, ListsFor, ListsSubmission}
 use Rattle.iloc_farm.proofs.Checks.{passed_keep_outcomes}
 
 -- No fault has status 0
@@ -93,7 +95,7 @@ record Judges (held : Held) (request : Request) (old new : Option (List ℕ)) (f
   blocks : List Block
   proposals : List Proposal
   read : ReadsRows held (option_map string_bytes request.task_file) old new blocks proposals
-  checked : ListsChecked request.latencies (initial_memory request) blocks proposals finding text
+  checked : Checks request blocks proposals finding text
 
 -- a listing of a check is of blocks and rows that were read
 judges : (held : Held) (request : Request) (old new : Option (List ℕ)) (finding : Finding) (text : List ℕ)
@@ -130,8 +132,10 @@ listed_same held words read_old read_new finding text a listed passed asks check
     let is : request.task ≡ task.Check = ap (λ (x : Asked). x.task) same ∙ check in
     let judged : Judges held request read_old read_new finding text =
     judges held request read_old read_new finding text request.task request.task_file refl is refl listed.listed in
-    let Q : Finding → Type 0 =
-    λ f. ListsChecked request.latencies (initial_memory request) judged.blocks judged.proposals f text in
+    let Q : Finding → Type 0 = λ f. Checks request judged.blocks judged.proposals f text in
+    let S : Bool → Type 0 = λ either_slot.
+    AllZip (λ (b : Block) (p : Proposal). DoTheSame request.latencies b.ops p.ops p.rows) judged.blocks
+    (placed either_slot judged.proposals) in
     let R : Option (List ℕ) → Type 0 = λ file. ReadsRows held file read_old read_new judged.blocks judged.proposals in
     record {
       blocks = judged.blocks;
@@ -141,8 +145,9 @@ listed_same held words read_old read_new finding text a listed passed asks check
       load = ap (λ (x : Asked). x.load) same;
       store = ap (λ (x : Asked). x.store) same;
       mult = ap (λ (x : Asked). x.mult) same;
-      same = passed_keep_outcomes request.latencies (initial_memory request) judged.blocks judged.proposals text
-          (subst Q passed judged.checked);
+      same = subst S (ap (λ (x : Asked). x.either_slot) same)
+          (passed_keep_outcomes request.latencies (initial_memory request) judged.blocks
+          (placed request.either_slot judged.proposals) text (subst Q passed judged.checked));
     }
 
 pub status_0_means_the_same : Status0MeansTheSame

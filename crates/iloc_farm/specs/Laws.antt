@@ -8,6 +8,7 @@ use Rattle.iloc_timed.specs.declared.latencies.Latencies.{Latencies}
 use Rattle.iloc_timed.specs.Schedule.{Table}
 use Rattle.iloc_rows.specs.declared.proposal.Proposal.{Proposal}
 use Rattle.iloc_judge.specs.Checked.{DoTheSame}
+use Rattle.iloc_rows.specs.EitherSlot.{placed}
 use Rattle.iloc_rows.specs.Submissions as submissions
 use Rattle.iloc_args.specs.Asked.{Asked}
 use Rattle.iloc_args.specs.declared.request.Request.{Request}
@@ -32,6 +33,7 @@ pub record AskAlike (r q : Request) : Type 0 where
   pub priority : r.priority ≡ q.priority
   pub task_file : r.task_file ≡ q.task_file
   pub csv : r.csv ≡ q.csv
+  pub either_slot : r.either_slot ≡ q.either_slot
 
 -- What such requests list of one file is one text. A check lists no file: which of two right verdicts it gives is not
 -- settled, so of one input it may list more than one text.
@@ -69,8 +71,8 @@ abbrev pub ReadsRows : Held → Option (List ℕ) → Option (List ℕ) → Opti
 ReadsRows held None old new blocks proposals = ReadsSubmission old new blocks proposals
 ReadsRows held (Some name) old new blocks proposals = ReadsApart (held name) old new blocks proposals
 
--- Blocks were read, and rows that are proposed for them. With the latencies that are asked for, the rows for each block keep
--- the rules of the units and have its outcome on every memory.
+-- Blocks were read, and rows that are proposed for them. With the latencies that are asked for, and in either slot if that is
+-- asked for, the rows for each block keep the rules of the units and have its outcome on every memory.
 pub record ReadsTheSame (held : Held) (asked : Asked) (old new : Option (List ℕ)) : Type 0 where
   pub blocks : List Block
   pub proposals : List Proposal
@@ -79,7 +81,8 @@ pub record ReadsTheSame (held : Held) (asked : Asked) (old new : Option (List �
   pub load : latencies.load ≡ asked.load
   pub store : latencies.store ≡ asked.store
   pub mult : latencies.mult ≡ asked.mult
-  pub same : AllZip (λ (b : Block) (p : Proposal). DoTheSame latencies b.ops p.ops p.rows) blocks proposals
+  pub same : AllZip (λ (b : Block) (p : Proposal). DoTheSame latencies b.ops p.ops p.rows) blocks
+      (placed asked.either_slot proposals)
 
 -- so it is where the program ends with status 0 and its words ask for a check
 abbrev pub Status0MeansTheSame : Type 0

@@ -8,6 +8,7 @@ use Rattle.iloc_ops.specs.declared.file.Block.{Block}
 use Rattle.iloc_text.specs.Files as files
 use Rattle.iloc_rows.specs.declared.proposal.Proposal.{Proposal}
 use Rattle.iloc_rows.specs.declared.fault.RowsFault.{RowsFault}
+use Rattle.iloc_rows.specs.EitherSlot.{placed}
 use Rattle.iloc_rows.specs.Submissions as submissions
 use Rattle.iloc_args.specs.declared.request.Request.{Request}
 use Rattle.iloc_args.specs.declared.request.Task.{Task}
@@ -55,12 +56,18 @@ pub record ListsFile (request : Request) (input text : List ℕ) : Type 0 where
   pub denoted : files.Denotes input blocks
   pub listed : IsListing request blocks text
 
+-- The text is what the request says of what is proposed for blocks, with this finding: of the rows with leave for either slot,
+-- if it gives that.
+abbrev pub Checks : Request → List Block → List Proposal → Finding → List ℕ → Type 0
+Checks request blocks proposals finding text =
+    ListsChecked request.latencies (initial_memory request) blocks (placed request.either_slot proposals) finding text
+
 -- the input denotes blocks and what is proposed for them, and the text is what is said of it, with this finding
 pub record ListsSubmission (request : Request) (input : List ℕ) (finding : Finding) (text : List ℕ) : Type 0 where
   pub blocks : List Block
   pub proposals : List Proposal
   pub denoted : submissions.Denotes input blocks proposals
-  pub checked : ListsChecked request.latencies (initial_memory request) blocks proposals finding text
+  pub checked : Checks request blocks proposals finding text
 
 -- what a request with this task lists of an input and what it finds: of a file it judges nothing
 abbrev pub ListsFor : Task → Request → List ℕ → Finding → List ℕ → Type 0
@@ -85,7 +92,7 @@ pub record ListsApart (known : Option (List ℕ)) (request : Request) (old new :
   pub blocks : List Block
   pub proposals : List Proposal
   pub read : ReadsApart known old new blocks proposals
-  pub checked : ListsChecked request.latencies (initial_memory request) blocks proposals finding text
+  pub checked : Checks request blocks proposals finding text
 
 -- The request lists this text of what was read, with this finding: as a check for which a file is named of that file and,
 -- apart from it, of rows, else of one input.

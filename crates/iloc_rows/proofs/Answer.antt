@@ -14,7 +14,7 @@ use Rattle.iloc_rows.specs.declared.fault.RowsFault.{RowsFault}
 use Rattle.iloc_rows.specs.declared.fault.RowsFault.TheVariants.{Read, NoBlocks, NoSuchBlock}
 use Rattle.iloc_rows.specs.declared.proposal.Proposal.{Proposal}
 use Rattle.iloc_rows.specs.Proposing.{is_of_block, op_count, proposals_of, Fits, AllFit}
-use Rattle.iloc_rows.specs.Submissions.{SayAll, BlocksEnd, StartWithSchedule, Denotes, IsFaulty, HaveFirstFault, HasNoBlocks, BlocksAreRefused, RowsAreRefused, IsRefused, ProposeApart, DenoteApart}
+use Rattle.iloc_rows.specs.Submissions.{SayAll, BlocksEnd, StartWithSchedule, Denotes, IsFaulty, HaveFirstFault, HasNoBlocks, BlocksAreRefused, RowsAreRefused, IsRefused}
 use Rattle.iloc_rows.specs.Laws as laws
 
 -- Where the blocks end

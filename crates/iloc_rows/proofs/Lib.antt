@@ -8,3 +8,4 @@ pub mod Slots
 pub mod Within
 pub mod Every
 pub mod Single
+pub mod EitherSlot

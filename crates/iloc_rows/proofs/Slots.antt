@@ -13,7 +13,7 @@ use Rattle.iloc_rows.proofs.Numbering.{ops_of_row, row_after}
 -- One slot
 
 -- how often a number is in a slot
-abbrev times_in : ℕ → Option ℕ → ℕ
+abbrev pub times_in : ℕ → Option ℕ → ℕ
 times_in i None = 0
 times_in i (Some j) = cond (i == j) 1 0
 
@@ -57,7 +57,7 @@ one_at_most op = by (is_empty op) refl
 
 -- One row
 
-two_slots : (i : ℕ) (one two : Option ℕ)
+pub two_slots : (i : ℕ) (one two : Option ℕ)
     → count_by (λ j. i == j) (option_to_list two ++ option_to_list one) ≡ times_in i one + times_in i two
 two_slots i None None = refl
 two_slots i (Some a) None =

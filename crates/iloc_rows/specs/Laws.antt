@@ -1,5 +1,5 @@
 -- What holds of texts with rows as a whole.
-use Rattle.std.specs.Prelude.{◌≡◌, ℕ, ◌≤◌, ◌⊎◌, IsTrue, List, [], ◌∷◌, length}
+use Rattle.std.specs.Prelude.{◌≡◌, ℕ, ◌≤◌, ◌⊎◌, Bool, IsTrue, List, [], ◌∷◌, length}
 use Rattle.std.specs.List.{AllByRecursion}
 use Rattle.iloc_ops.specs.declared.file.Block.{Block}
 use Rattle.iloc_ops.specs.Limits.{MAX_BLOCKS, MAX_OPS}
@@ -9,6 +9,7 @@ use Rattle.iloc_timed.specs.Rows.{keeps_units}
 use Rattle.iloc_timed.specs.Schedule.{AreOnce, AreInRange}
 use Rattle.iloc_rows.specs.declared.fault.RowsFault.{RowsFault}
 use Rattle.iloc_rows.specs.declared.proposal.Proposal.{Proposal}
+use Rattle.iloc_rows.specs.EitherSlot.{placed}
 use Rattle.iloc_rows.specs.Proposing.{ops_in, numbered}
 use Rattle.iloc_rows.specs.Submissions.{Denotes, DenoteApart, IsRefused}
 
@@ -47,6 +48,11 @@ SubmissionsAreWithinLimits = (input : List ℕ) (blocks : List Block) (proposals
 abbrev pub SubmissionsApartAreWithinLimits : Type 0
 SubmissionsApartAreWithinLimits = (task input : List ℕ) (blocks : List Block) (proposals : List Proposal)
     → DenoteApart task input blocks proposals → AreWithinLimits blocks proposals
+
+-- so are the proposals with leave for either slot
+abbrev pub PlacedRowsAreWithinLimits : Type 0
+PlacedRowsAreWithinLimits = (either_slot : Bool) (blocks : List Block) (proposals : List Proposal)
+    → AreWithinLimits blocks proposals → AreWithinLimits blocks (placed either_slot proposals)
 
 -- the row of a single operation keeps the rules of the units
 abbrev pub SingleOperationsKeepTheUnits : Type 0

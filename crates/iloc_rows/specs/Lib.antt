@@ -1,5 +1,6 @@
 pub mod Fault
 pub mod Proposing
+pub mod EitherSlot
 pub mod Submissions
 pub mod Laws
 pub mod Steps

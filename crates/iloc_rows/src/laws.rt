@@ -1,6 +1,6 @@
 //! Laws of texts with rows, as contracts of functions that do nothing.
 ghost use Rattle.iloc_rows.specs.Laws.{TextsHaveOneAnswer, TextsHaveAnAnswer, HandInsDontChangeTheTask, TextsApartHaveOneAnswer};
-ghost use Rattle.iloc_rows.specs.Laws.{SingleOperationsKeepTheUnits, SubmissionsApartAreWithinLimits, SubmissionsAreWithinLimits};
+ghost use Rattle.iloc_rows.specs.Laws.{PlacedRowsAreWithinLimits, SingleOperationsKeepTheUnits, SubmissionsApartAreWithinLimits, SubmissionsAreWithinLimits};
 
 /// Promise: a text denotes at most one list of blocks with one list of proposals, or one refusal, and never both.
 pub fn texts_have_one_answer()
@@ -21,6 +21,11 @@ pub fn submissions_are_within_limits()
 /// Promise: a task and the rows that are handed in apart from it are within the same limits.
 pub fn submissions_apart_are_within_limits()
     ensures { SubmissionsApartAreWithinLimits }
+{}
+
+/// Promise: proposals that are within these limits are so too with leave for either slot.
+pub fn placed_rows_are_within_limits()
+    ensures { PlacedRowsAreWithinLimits }
 {}
 
 /// Promise: the row of a single operation, `[ X ]`, keeps the rules of the units.

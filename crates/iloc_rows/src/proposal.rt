@@ -2,6 +2,8 @@
 ghost use Rattle.std.specs.Prelude.{◌≡◌, ◌≤◌, ◌<◌, [], ◌∷◌, ◌++◌, List, length, vec_len, OnOk};
 ghost use Rattle.iloc_timed.specs.declared.row.Row.{Row as row_value};
 
+mod either_slot;
+
 use iloc_ops::{NoMemory, Ops};
 use iloc_timed::{MAX_ROWS, Row};
 use std::alloc::Global;

@@ -6,8 +6,7 @@ ghost use Rattle.iloc_rows.specs.declared.fault.RowsFault.TheVariants.{Read as r
 ghost use Rattle.iloc_text.specs.declared.fault.ReadFault.TheVariants.{NoMemory as no_memory};
 ghost use Rattle.iloc_args.specs.declared.request.Task.TheVariants as task;
 ghost use Rattle.iloc_farm.specs.Commands.Check.{ListsChecked};
-ghost use Rattle.iloc_farm.specs.Commands.Run.{initial_memory};
-ghost use Rattle.iloc_farm.specs.Run.{Lists, ListsApart, ListsFrom};
+ghost use Rattle.iloc_farm.specs.Run.{Checks, Lists, ListsApart, ListsFrom};
 ghost use Rattle.iloc_farm.specs.Steps.OfInput.{EndsReading, EndsSubmission};
 ghost use Rattle.iloc_farm.specs.Steps.OfTask.{EndsApart};
 
@@ -23,7 +22,7 @@ use crate::texts::Texts;
 use iloc_args::Request;
 use iloc_judge::push_check;
 use iloc_meaning::Memory;
-use iloc_rows::laws::submissions_are_within_limits;
+use iloc_rows::laws::{placed_rows_are_within_limits, submissions_are_within_limits};
 use iloc_rows::{RowsFault, Submission, read_submission};
 use iloc_sched::Scheduler;
 use iloc_text::NoMemory;
@@ -84,9 +83,14 @@ fn checked_text(
 /// What a request lists of the proposals for some blocks.
 fn listed_rows(alloc: Global, submission: Submission, request: &Request) -> Result<Listed, NoMemory>
     requires { AreWithinLimits submission.blocks submission.proposals }
-    ensures { IfOk result (λ listed. ListsChecked request.now.latencies (initial_memory request.now)
-        submission.blocks submission.proposals listed.finding listed.text) }
+    ensures { IfOk result (λ listed.
+        Checks request.now submission.blocks submission.proposals listed.finding listed.text) }
 {
+    placed_rows_are_within_limits();
+    let submission = Submission {
+        blocks: submission.blocks,
+        proposals: submission.proposals.placed(request.either_slot),
+    };
     let memory = initial_memory(alloc, request)?;
     let checked = checked_text(alloc, submission, &request.latencies, &memory)?;
     Ok(Listed {

@@ -3,5 +3,8 @@ use Rattle.iloc_args.proofs.command.check_command.Goals as goal
 
 pub returns : goal.returns
 returns c =
-    let latencies = if_more_rules _ _ _ c.with_latencies-check.result c.memory_command.ensures c.with_latencies-check.ensures in
-    if_one_argument _ _ _ c.with_arg.result _ latencies c.task_arg.ensures c.with_arg.ensures
+    let timed = if_more_rules _ _ _ c.with_latencies-command.result c.memory_command.ensures
+    c.with_latencies-command.ensures in
+    let apart = if_one_argument _ _ c.with_latencies-command.result c.with_arg-command.result _ timed c.task_arg.ensures
+    c.with_arg-command.ensures in
+    if_one_argument _ _ c.with_arg-command.result c.with_arg.result _ apart c.either_slot_arg.ensures c.with_arg.ensures

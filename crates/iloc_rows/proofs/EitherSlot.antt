@@ -1,0 +1,94 @@
+-- Exchanging the operations of rows keeps the limits.
+use Rattle.std.proofs.Common.{◌≡◌, ◌∙◌, ℕ, zero, suc, ◌≤◌, nat_lt, ◌==◌, ◌&&◌, not, Bool, true, false, cond, List, [], ◌∷◌, length, map, count_by, option_to_list, refl, sym, arith}
+use Rattle.std.specs.List.{AllByRecursion, list_all}
+use Rattle.std.proofs.lemmas.List.{length-map}
+use Rattle.std.proofs.lemmas.List.Folds.{list_all-append}
+use Rattle.std.proofs.lemmas.List.Sums.{sum_by-cons}
+use Rattle.iloc_ops.specs.Limits.{MAX_OPS}
+use Rattle.iloc_ops.specs.declared.op.Op.{Op}
+use Rattle.iloc_timed.specs.declared.row.Row.{Row}
+use Rattle.iloc_timed.specs.Rows.{slots, times_issued, keeps_units}
+use Rattle.iloc_timed.specs.Schedule.{AreOnce, AreInRange, in_range}
+use Rattle.iloc_rows.specs.declared.proposal.Proposal.{Proposal}
+use Rattle.iloc_rows.specs.EitherSlot.{exchanged, in_either_slot, with_either_slot}
+use Rattle.iloc_rows.specs.Laws.{PlacedRowsAreWithinLimits}
+use Rattle.iloc_rows.proofs.Slots.{two_slots}
+
+-- One row
+
+abbrev times_in_row : ℕ → Row → ℕ
+times_in_row i row = count_by (λ j. i == j) (slots row)
+
+exchanged_times : (i : ℕ) (row : Row) → times_in_row i (exchanged row) ≡ times_in_row i row
+exchanged_times i row = omega (arith, two_slots i row.one row.zero, two_slots i row.zero row.one)
+
+either_times : (i : ℕ) (ops : List Op) (row : Row) → times_in_row i (in_either_slot ops row) ≡ times_in_row i row
+either_times i ops row = by (not (keeps_units ops row) && keeps_units ops (exchanged row))
+  where
+    by : (b : Bool) → times_in_row i (cond b (exchanged row) row) ≡ times_in_row i row
+    by true = exchanged_times i row
+    by false = refl
+
+and_swap : (a b : Bool) → (a && b) ≡ (b && a)
+and_swap true true = refl
+and_swap true false = refl
+and_swap false true = refl
+and_swap false false = refl
+
+exchanged_in_range : (count : ℕ) (row : Row) → in_range count (exchanged row) ≡ in_range count row
+exchanged_in_range count row =
+    let test : ℕ → Bool = λ i. nat_lt i count in
+    list_all-append test (option_to_list row.zero) (option_to_list row.one)
+    ∙ and_swap (list_all test (option_to_list row.zero)) (list_all test (option_to_list row.one))
+    ∙ sym (list_all-append test (option_to_list row.one) (option_to_list row.zero))
+
+either_in_range : (count : ℕ) (ops : List Op) (row : Row) → in_range count (in_either_slot ops row) ≡ in_range count row
+either_in_range count ops row = by (not (keeps_units ops row) && keeps_units ops (exchanged row))
+  where
+    by : (b : Bool) → in_range count (cond b (exchanged row) row) ≡ in_range count row
+    by true = exchanged_in_range count row
+    by false = refl
+
+-- All rows
+
+either_issued : (i : ℕ) (ops : List Op) (rows : List Row)
+    → times_issued (map (in_either_slot ops) rows) i ≡ times_issued rows i
+either_issued i ops [] = refl
+either_issued i ops (row ∷ rows) = omega (
+  arith,
+  sum_by-cons (times_in_row i) (in_either_slot ops row) (map (in_either_slot ops) rows),
+  sum_by-cons (times_in_row i) row rows,
+  either_times i ops row,
+  either_issued i ops rows,
+)
+
+either_once : (p : Proposal) → AreOnce (length p.ops) p.rows
+    → AreOnce (length (with_either_slot p).ops) (with_either_slot p).rows
+either_once p once i below = either_issued i p.ops p.rows ∙ once i below
+
+rows_in_range : (count : ℕ) (ops : List Op) (rows : List Row) → AreInRange count rows
+    → AreInRange count (map (in_either_slot ops) rows)
+rows_in_range count ops [] h c below = absurd (omega arith)
+rows_in_range count ops (row ∷ rows) h zero below = either_in_range count ops row ∙ h 0 (omega arith)
+rows_in_range count ops (row ∷ rows) h (suc c) below =
+    rows_in_range count ops rows (λ k under. h (suc k) (omega arith)) c (omega arith)
+
+-- Proposals
+
+all-map : (P Q : Proposal → Type 0) (ps : List Proposal) → ((p : Proposal) → P p → Q (with_either_slot p))
+    → AllByRecursion P ps → AllByRecursion Q (map with_either_slot ps)
+all-map P Q [] step h = tt
+all-map P Q (p ∷ ps) step h = (step p h.0, all-map P Q ps step h.1)
+
+pub placed_within : PlacedRowsAreWithinLimits
+placed_within false blocks proposals w = w
+placed_within true blocks proposals w = record {
+  few_blocks = w.few_blocks;
+  short_blocks = w.short_blocks;
+  as_many = length-map proposals with_either_slot ∙ w.as_many;
+  short_proposals = all-map (λ p. length p.ops ≤ MAX_OPS) (λ p. length p.ops ≤ MAX_OPS) proposals (λ p short. short)
+      w.short_proposals;
+  once = all-map (λ p. AreOnce (length p.ops) p.rows) (λ p. AreOnce (length p.ops) p.rows) proposals either_once w.once;
+  in_range = all-map (λ p. AreInRange (length p.ops) p.rows) (λ p. AreInRange (length p.ops) p.rows) proposals
+      (λ p h. rows_in_range (length p.ops) p.ops p.rows h) w.in_range;
+}

@@ -1,0 +1,7 @@
+use Rattle.std.proofs.Common.{◌≡◌, ◌++◌, map, take, drop}
+use Rattle.iloc_rows.specs.EitherSlot.{with_either_slot}
+use Rattle.iloc_rows.proofs.proposal.Proposals.placed.Given as goal
+
+abbrev pub invariant-loop-proposal : goal.invariant-loop-proposal
+invariant-loop-proposal l =
+    l.proposal-items ≡ map with_either_slot (take l.proposal-index l.fn.self) ++ drop l.proposal-index l.fn.self
