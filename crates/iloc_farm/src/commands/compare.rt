@@ -11,7 +11,7 @@ use crate::listing::table::{push_field, push_head, push_opening};
 use crate::listing::text::Listing;
 use crate::listing::{count_of, push_numbered};
 use iloc_args::{Request, priority_name};
-use iloc_sched::{Heuristic, Scheduler, least};
+use iloc_sched::{Heuristic, Scheduler};
 use iloc_text::{Block, Blocks, Name, NoMemory};
 use iloc_timed::Latencies;
 use std::alloc::Global;
@@ -262,21 +262,22 @@ impl FarmedLister for CompareLister {
 
     fn answer(
         &mut self,
-        alloc: Global,
+        _alloc: Global,
         request: &Request,
         _number: usize,
         block: &Block,
     ) -> Result<Comparison, NoMemory> {
         let latencies = &request.latencies;
-        let chain = self.count(block, latencies, Heuristic::Chain)?;
+        let (schedule, least) = self.0.lend_with_least(block, latencies, Heuristic::Chain)?;
+        let chain = count_of(&schedule, latencies);
+        self.0.take_back(schedule);
         let slack = self.count(block, latencies, Heuristic::Slack)?;
         let descendants = self.count(block, latencies, Heuristic::Descendants)?;
         let successors = self.count(block, latencies, Heuristic::Successors)?;
         let latency = self.count(block, latencies, Heuristic::Latency)?;
         let order = self.count(block, latencies, Heuristic::Order)?;
-        let bound = least(alloc, block, latencies)?;
         Ok(Comparison {
-            least: bound as u32,
+            least: least as u32,
             cycles: [chain, slack, descendants, successors, latency, order],
         })
     }
