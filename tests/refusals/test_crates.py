@@ -21,6 +21,7 @@ TESTS = {
         "text::reader::hands_each_block_over_once",
         "text::reader::reads_blocks_into_a_file",
         "text::stream::reads_a_stream_into_a_file",
+        "text::stream::reads_a_text_as_it_comes",
         "text::spelling::leaves_the_text_as_it_was_where_it_is_refused",
         "text::text_parts::falls_into_parts_before_labels",
         "meaning::effect::reads_registers_and_memory",

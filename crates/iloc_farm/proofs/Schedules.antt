@@ -7,6 +7,7 @@ use Rattle.std.proofs.lemmas.List.FromFn.{length-map-range_with_len}
 use Rattle.iloc_ops.specs.Limits.{MAX_BLOCKS, MAX_OPS}
 use Rattle.iloc_ops.specs.declared.op.Op.{Op}
 use Rattle.iloc_ops.specs.declared.file.Block.{Block}
+use Rattle.iloc_text.specs.Files.{AreWithinLimits}
 use Rattle.iloc_meaning.specs.Trace.{op_at}
 use Rattle.iloc_timed.specs.declared.latencies.Latencies.{Latencies}
 use Rattle.iloc_timed.specs.declared.row.Row.{Row}
@@ -30,7 +31,7 @@ use Rattle.iloc_sched.proofs.Basics.IssueCycles.{issue_cycle_within}
 use Rattle.iloc_sched.proofs.Choice.OneGreedy.{greedy_same_as}
 use Rattle.iloc_sched.proofs.Outcome.LawfulOutcomes.{lawful_same_outcome}
 use Rattle.iloc_farm.specs.Listing.{cycles_of, total_cycles}
-use Rattle.iloc_farm.specs.Schedules.{AreGreedy, AreGreedyAs, IsGreedyAs, IsScheduleOf, IsWithinLimits, KeepOutcomes}
+use Rattle.iloc_farm.specs.Schedules.{AreGreedy, AreGreedyAs, IsGreedyAs, IsScheduleOf, KeepOutcomes}
 use Rattle.iloc_farm.specs.Steps.Limits.{most_cycles}
 
 -- One list
@@ -154,11 +155,11 @@ greedy_long lat (b ∷ blocks) (s ∷ schedules) greedy = let rest : length sche
 
 -- the total of a file's greedy schedules
 pub total_small : (lat : Latencies) (blocks : List Block) (schedules : List Table) → AreGreedy lat blocks schedules
-    → IsWithinLimits blocks → total_cycles lat schedules < 2 ^ 63
+    → AreWithinLimits blocks → total_cycles lat schedules < 2 ^ 63
 total_small lat blocks schedules greedy limits =
     let few : total_cycles lat schedules ≤ most_cycles * length blocks =
-    total_few lat blocks schedules greedy limits.short_blocks in
-    let most : length blocks ≤ MAX_BLOCKS = limits.few_blocks in omega arith
+    total_few lat blocks schedules greedy limits.1 in
+    let most : length blocks ≤ MAX_BLOCKS = limits.0 in omega arith
 
 pub greedy_more : (lat : Latencies) (blocks : List Block) (schedules : List Table) (b : Block) (s : Table)
     → AreGreedy lat blocks schedules → IsGreedy lat b.ops s.ops s.rows

@@ -4,7 +4,7 @@ use Rattle.iloc_ops.specs.declared.file.Block.{Block}
 use Rattle.iloc_rows.specs.declared.fault.RowsFault.{RowsFault}
 use Rattle.iloc_rows.specs.declared.proposal.Proposal.{Proposal}
 use Rattle.iloc_rows.specs.Submissions.{AreRefusedFor, DenoteApart, IsNoTask, IsTask}
-use Rattle.iloc_farm.specs.Device.{ReadsInput}
+use Rattle.iloc_text.specs.Streams.{ReadsText}
 use Rattle.iloc_farm.specs.declared.fault.TaskFault.{TaskFault}
 use Rattle.iloc_farm.specs.declared.fault.TaskFault.TheVariants as of_task
 
@@ -15,7 +15,7 @@ Held = List ℕ → Option (List ℕ)
 -- a text of which this is known was read, from its first byte, and these are its bytes
 pub record Holds (known : Option (List ℕ)) (input : List ℕ) : Type 0 where
   pub left : Option (List ℕ)
-  pub read : ReadsInput known left input
+  pub read : ReadsText known left input
 
 -- it denotes the blocks of a task
 pub record ReadsTask (known : Option (List ℕ)) (blocks : List Block) : Type 0 where
@@ -30,7 +30,7 @@ pub record ReadsApart (known old new : Option (List ℕ)) (blocks : List Block) 
   pub task : List ℕ
   pub held : Holds known task
   pub rows : List ℕ
-  pub read : ReadsInput old new rows
+  pub read : ReadsText old new rows
   pub denoted : DenoteApart task rows blocks proposals
 
 -- Faults
@@ -46,7 +46,7 @@ pub record AreRefusedApart (known old new : Option (List ℕ)) (fault : RowsFaul
   pub blocks : List Block
   pub task : ReadsTask known blocks
   pub rows : List ℕ
-  pub read : ReadsInput old new rows
+  pub read : ReadsText old new rows
   pub refused : AreRefusedFor blocks rows fault
 
 -- why there is no task: its text was not opened or not read, or it is refused

@@ -9,8 +9,8 @@ use Rattle.iloc_rows.specs.Fault.{rows_fault_text}
 use Rattle.iloc_rows.specs.declared.fault.RowsFault.{RowsFault}
 use Rattle.iloc_rows.specs.declared.fault.RowsFault.TheVariants as rows
 use Rattle.iloc_board.specs.Journal.{JournalView}
-use Rattle.iloc_farm.specs.declared.reading.InputFault.{InputFault}
-use Rattle.iloc_farm.specs.declared.reading.InputFault.TheVariants as input
+use Rattle.iloc_text.specs.declared.fault.InputFault.{InputFault}
+use Rattle.iloc_text.specs.declared.fault.InputFault.TheVariants as input
 use Rattle.iloc_farm.specs.declared.commands.Finding.{Finding}
 use Rattle.iloc_farm.specs.declared.commands.Finding.TheVariants.{Passed, Failed, Unread}
 use Rattle.iloc_farm.specs.declared.fault.FarmFault.{FarmFault}

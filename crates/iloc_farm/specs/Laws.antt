@@ -3,7 +3,8 @@ use Rattle.std.specs.Prelude.{◌≡◌, ℕ, ℤ, ◌<◌, ◌^◌, List, lengt
 use Rattle.std.specs.List.{AllZip}
 use Rattle.std.specs.declared.io.Error.{Error}
 use Rattle.iloc_ops.specs.declared.file.Block.{Block}
-use Rattle.iloc_text.specs.Files.{Denotes}
+use Rattle.iloc_text.specs.Files.{AreWithinLimits, Denotes}
+use Rattle.iloc_text.specs.Streams.{ReadsText}
 use Rattle.iloc_timed.specs.declared.latencies.Latencies.{Latencies}
 use Rattle.iloc_timed.specs.Schedule.{Table}
 use Rattle.iloc_rows.specs.declared.proposal.Proposal.{Proposal}
@@ -18,11 +19,10 @@ use Rattle.iloc_farm.specs.declared.commands.Finding.TheVariants.{Passed}
 use Rattle.iloc_farm.specs.declared.program.Ending.{Ending}
 use Rattle.iloc_farm.specs.Apart.{Held, ReadsApart}
 use Rattle.iloc_farm.specs.Commands.Check.{ListsChecked}
-use Rattle.iloc_farm.specs.Device.{ReadsInput}
 use Rattle.iloc_farm.specs.Listing.{total_cycles}
 use Rattle.iloc_farm.specs.Program.{Args, AskFor, Ends}
 use Rattle.iloc_farm.specs.Run.{IsListing, IsListingFor, ListsFrom}
-use Rattle.iloc_farm.specs.Schedules.{AreGreedy, IsWithinLimits}
+use Rattle.iloc_farm.specs.Schedules.{AreGreedy}
 
 -- the requests ask for the same, but maybe of other workers
 pub record AskAlike (r q : Request) : Type 0 where
@@ -63,7 +63,7 @@ PassedChecksKeepOutcomes = (lat : Latencies) (memory : List ℤ) (blocks : List 
 -- one input was read, which denotes blocks and the rows that are proposed for them
 pub record ReadsSubmission (old new : Option (List ℕ)) (blocks : List Block) (proposals : List Proposal) : Type 0 where
   pub input : List ℕ
-  pub read : ReadsInput old new input
+  pub read : ReadsText old new input
   pub denoted : submissions.Denotes input blocks proposals
 
 -- blocks and rows were read: of one input or, where a file is named, the blocks of that file alone
@@ -101,5 +101,5 @@ HandInsDontChangeTheTask = (known : List ℕ) (old new old' new' : Option (List 
 -- as the listings of schedules want.
 abbrev pub GreedySchedulesCanBeListed : Type 0
 GreedySchedulesCanBeListed = (lat : Latencies) (blocks : List Block) (schedules : List Table)
-    → IsWithinLimits blocks → AreGreedy lat blocks schedules
+    → AreWithinLimits blocks → AreGreedy lat blocks schedules
     → (length schedules ≡ length blocks) × (total_cycles lat schedules < 2 ^ 63)

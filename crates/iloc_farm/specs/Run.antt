@@ -6,6 +6,7 @@ use Rattle.std.specs.declared.alloc.Global.{Global}
 use Rattle.std.specs.declared.string.String.{String}
 use Rattle.iloc_ops.specs.declared.file.Block.{Block}
 use Rattle.iloc_text.specs.Files as files
+use Rattle.iloc_text.specs.Streams.{ReadsText}
 use Rattle.iloc_rows.specs.declared.proposal.Proposal.{Proposal}
 use Rattle.iloc_rows.specs.declared.fault.RowsFault.{RowsFault}
 use Rattle.iloc_rows.specs.EitherSlot.{placed}
@@ -29,7 +30,7 @@ use Rattle.iloc_farm.specs.Commands.Graph.{IsGraphEntry, drawing_end}
 use Rattle.iloc_farm.specs.Commands.Run.{IsRunEntry, initial_memory, no_ending}
 use Rattle.iloc_farm.specs.Commands.Schedule.{IsScheduleEntry}
 use Rattle.iloc_farm.specs.Commands.Simulate.{IsSimulateEntry}
-use Rattle.iloc_farm.specs.Device.{ReadsInput, WritesFront}
+use Rattle.iloc_farm.specs.Device.{WritesFront}
 use Rattle.iloc_farm.specs.Entries.{IsListingOf}
 use Rattle.iloc_farm.specs.Listing.{total_of_all}
 
@@ -82,7 +83,7 @@ ListsInput request input finding text = ListsFor request.task request input find
 -- the request lists this text of the bytes that were read, with this finding
 pub record Lists (request : Request) (old new : Option (List ℕ)) (finding : Finding) (text : List ℕ) : Type 0 where
   pub input : List ℕ
-  pub read : ReadsInput old new input
+  pub read : ReadsText old new input
   pub listed : ListsInput request input finding text
 
 -- a task was read from a text of which this is known, and rows apart from it, and the text is what is said of them, with
@@ -110,7 +111,7 @@ ListsFrom held request old new finding text = ListsAs request.task request.task_
 pub record Refuses {F : Type 0} (is_refused : List ℕ → F → Type 0) (old new : Option (List ℕ)) (fault : F)
     : Type 0 where
   pub input : List ℕ
-  pub read : ReadsInput old new input
+  pub read : ReadsText old new input
   pub refused : is_refused input fault
 
 -- the bytes that were read are refused in a check: as blocks with rows, or as rows for the blocks of the file that is named
@@ -126,7 +127,7 @@ RefusesTask held (Some name) fault = HasNoTask (held (string_bytes name)) fault
 -- the bytes that were read denote a file
 pub record ReadsFile (old new : Option (List ℕ)) : Type 0 where
   pub input : List ℕ
-  pub read : ReadsInput old new input
+  pub read : ReadsText old new input
   pub blocks : List Block
   pub denoted : files.Denotes input blocks
 

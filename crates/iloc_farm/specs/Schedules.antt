@@ -1,7 +1,5 @@
 -- The schedules of a file's blocks.
 use Rattle.std.specs.Prelude.{◌≡◌, ℕ, ◌≤◌, ℤ, List, length, [], ◌∷◌, map, slice_get, IfSome}
-use Rattle.std.specs.List.{AllByRecursion}
-use Rattle.iloc_ops.specs.Limits.{MAX_BLOCKS, MAX_OPS}
 use Rattle.iloc_ops.specs.declared.op.Op.{Op}
 use Rattle.iloc_ops.specs.declared.file.Block.{Block}
 use Rattle.iloc_meaning.specs.declared.outcome.Outcome.{Outcome}
@@ -13,11 +11,6 @@ use Rattle.iloc_sched.specs.declared.heuristic.Heuristic.{Heuristic}
 use Rattle.iloc_sched.specs.declared.heuristic.Heuristic.TheVariants.{Chain}
 use Rattle.iloc_sched.specs.Greedy.{IsGreedyBy}
 use Rattle.iloc_sched.specs.Heuristics.{priorities_by}
-
--- at most 65,535 blocks, each of at most 10,000 operations, as each file has
-pub record IsWithinLimits (blocks : List Block) : Type 0 where
-  pub few_blocks : length blocks ≤ MAX_BLOCKS
-  pub short_blocks : AllByRecursion (λ (b : Block). length b.ops ≤ MAX_OPS) blocks
 
 -- the schedule of the block is greedy by the priorities that this heuristic gives its operations
 abbrev pub IsGreedyAs : Heuristic → Latencies → List Op → Table → Type 0

@@ -1,8 +1,9 @@
 //! The farm: the blocks of a file, scheduled by several workers.
 ghost use Rattle.std.specs.Prelude.{◌≡◌, ◌≤◌, IfOk};
+ghost use Rattle.iloc_text.specs.Files.{AreWithinLimits};
 ghost use Rattle.iloc_board.specs.Collecting.{IsWhole};
 ghost use Rattle.iloc_farm.specs.Headline.{Headline};
-ghost use Rattle.iloc_farm.specs.Schedules.{AreGreedyAs, AreTheOnlyGreedyAs, IsWithinLimits, KeepOutcomes};
+ghost use Rattle.iloc_farm.specs.Schedules.{AreGreedyAs, AreTheOnlyGreedyAs, KeepOutcomes};
 
 use crate::fault::FarmFault;
 use crate::workers::work_all;
@@ -47,7 +48,7 @@ impl<'f> BlockJobs<'f> {
     ///
     /// Promise: the jobs are the file's blocks, to be scheduled by this heuristic with these latencies.
     pub fn new(file: &'f IlocFile, latencies: &Latencies, heuristic: Heuristic) -> BlockJobs<'f>
-        requires { IsWithinLimits file.now.blocks }
+        requires { AreWithinLimits file.now.blocks }
         ensures { result
             ≡ record { blocks = file.now.blocks; latencies = latencies.now; heuristic = heuristic } }
     {
@@ -109,7 +110,7 @@ pub fn schedule_all<R: Threads + Wait + Sync, G: Gate + Sync>(
     gate: &G,
 ) -> Result<Vec<Schedule>, FarmFault>
     requires some_worker { 1 ≤ workers }
-    requires limits { IsWithinLimits file.now.blocks }
+    requires limits { AreWithinLimits file.now.blocks }
     ensures greedy { IfOk result (λ schedules.
         AreGreedyAs heuristic latencies.now file.now.blocks schedules.items) }
     ensures only { IfOk result (λ schedules.

@@ -3,7 +3,7 @@ ghost use Rattle.std.specs.Prelude.{◌≡◌, ℕ, ◌≤◌, ◌<◌, ◌^◌,
 ghost use Rattle.iloc_ops.specs.Limits.{MAX_BLOCKS, MAX_OPS};
 ghost use Rattle.iloc_ops.specs.declared.file.Block.{Block as block_value};
 ghost use Rattle.iloc_args.specs.declared.request.Request.{Request as request_value};
-ghost use Rattle.iloc_farm.specs.Schedules.{IsWithinLimits};
+ghost use Rattle.iloc_text.specs.Files.{AreWithinLimits};
 ghost use Rattle.iloc_farm.specs.Steps.Listed.{AreListed, ListsRead};
 ghost use Rattle.iloc_farm.specs.Steps.OfInput.{EndsFarm};
 
@@ -92,7 +92,7 @@ impl<'f, L: FarmedLister> Model for ListedJobs<'f, L> {
 impl<'f, L: FarmedLister> ListedJobs<'f, L> {
     /// These blocks, for this request.
     fn new(blocks: &'f [Block], request: &'f Request) -> ListedJobs<'f, L>
-        requires { IsWithinLimits blocks.now }
+        requires { AreWithinLimits blocks.now }
         ensures { result ≡ record { blocks = blocks.now; request = request.now } }
     {
         ListedJobs {
@@ -157,7 +157,7 @@ fn answers_of<H: Threads + Wait + Sync, L: FarmedLister + Send + Sync>(
 ) -> Result<Vec<L::Answer>, FarmFault>
 where
     L::Answer: Send,
-    requires { IsWithinLimits blocks.now }
+    requires { AreWithinLimits blocks.now }
     ensures { IfOk result (λ all. AreListed (L.answers request.now) blocks.now all.items) }
 {
     let jobs = ListedJobs::<L>::new(blocks, request);

@@ -3,9 +3,8 @@ ghost use Rattle.std.specs.Prelude.{◌≡◌};
 ghost use Rattle.iloc_farm.specs.Fault.{run_status_of};
 
 use crate::listing::writing::WriteFailed;
-use crate::reading::InputFault;
 use iloc_rows::RowsFault;
-use iloc_text::{NoMemory, ReadFault, StreamFault};
+use iloc_text::{InputFault, NoMemory, ReadFault, StreamFault};
 use std::alloc::{AllocError, AllocFailed};
 use std::error::Error;
 use std::fmt::{self, Display, Formatter};

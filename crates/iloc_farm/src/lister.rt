@@ -10,10 +10,10 @@ ghost use Rattle.iloc_farm.specs.Steps.OfInput.{EndsFile};
 
 use crate::fault::RunFault;
 use crate::listing::text::Listing;
-use crate::reading::blocks_read;
 use iloc_args::Request;
 use iloc_meaning::Memory;
-use iloc_text::{Block, NoMemory, TakeBlocks};
+use iloc_text::laws::files_are_within_limits;
+use iloc_text::{Block, NoMemory, TakeBlocks, read_blocks_from};
 use std::alloc::Global;
 use std::io::Read;
 
@@ -114,6 +114,7 @@ pub(crate) fn listed_as_read<L: Lister, R: Read>(
         (ListsRead (IsListingOf (L.lists request.now) L.ending) (R.remaining reader.old) (R.remaining reader.new)) }
     ensures err { IfErr result (EndsFile (R.remaining reader.old) (R.remaining reader.new)) }
 {
+    files_are_within_limits();
     let lister = L::new(alloc, request)?;
     let start = AsRead {
         request,
@@ -121,7 +122,7 @@ pub(crate) fn listed_as_read<L: Lister, R: Read>(
         text: Vec::new(alloc),
         found: Vec::new(alloc),
     };
-    let read = blocks_read(alloc, reader, start)?;
+    let read = read_blocks_from(alloc, reader, start)?;
     let AsRead {
         mut text,
         found,

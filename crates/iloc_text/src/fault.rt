@@ -65,6 +65,25 @@ impl<T: Drop> From<AllocFailed<T>> for ReadFault {
     }
 }
 
+/// Why no text was read from a stream.
+#[derive(Clone, Copy, Debug, Drop, PartialEq, Eq)]
+pub enum InputFault {
+    /// A read failed.
+    ReadFailed,
+    /// The growth of a list was refused.
+    NoMemory,
+}
+
+impl From<NoMemory> for InputFault {
+    ghost use Rattle.iloc_text.specs.declared.fault.InputFault.TheVariants.{NoMemory as no_memory};
+
+    ghost from_gives = { λ _ fault. fault ≡ no_memory };
+
+    fn from(_: NoMemory) -> InputFault {
+        InputFault::NoMemory
+    }
+}
+
 /// Why no file was read from a stream.
 #[derive(Clone, Copy, Debug, Drop, PartialEq, Eq)]
 pub enum StreamFault {
@@ -81,6 +100,19 @@ impl From<ReadFault> for StreamFault {
 
     fn from(fault: ReadFault) -> StreamFault {
         StreamFault::Text(fault)
+    }
+}
+
+impl From<InputFault> for StreamFault {
+    ghost use Rattle.iloc_text.specs.Streams.{stream_fault_of};
+
+    ghost from_gives = { λ fault given. given ≡ stream_fault_of fault };
+
+    fn from(fault: InputFault) -> StreamFault {
+        match fault {
+            InputFault::ReadFailed => StreamFault::ReadFailed,
+            InputFault::NoMemory => StreamFault::Text(ReadFault::NoMemory),
+        }
     }
 }
 

@@ -13,6 +13,7 @@ mod opcode;
 mod open_block;
 mod operand;
 mod operation;
+mod pieces;
 mod reader;
 mod scan;
 mod schedule_line;
@@ -21,7 +22,7 @@ mod taker;
 mod text_parts;
 mod text_reader;
 
-pub use fault::{ReadFault, StreamFault};
+pub use fault::{InputFault, ReadFault, StreamFault};
 pub use iloc_ops::{
     Block, Blocks, IlocFile, MAX_BLOCKS, MAX_INPUT, MAX_NUMBER, MAX_OPS, Name, NoMemory, OP_ROOM,
     Op, Ops, Reg, defines, push_column, push_decimal, push_number, push_op, uses, write_op,
@@ -31,6 +32,6 @@ pub use line::ParseFault;
 pub use line_ends::split_line;
 pub use reader::{read_blocks, read_file};
 pub use schedule_line::{ScheduleLine, read_schedule_line};
-pub use stream::{read_blocks_from, read_file_from};
+pub use stream::{read_blocks_from, read_file_from, read_text_from};
 pub use taker::TakeBlocks;
 pub use text_parts::parts_of;

@@ -1,46 +1,29 @@
-//! Files that are read as their bytes come from a stream.
-ghost use Rattle.std.specs.Prelude.{IfErr, IfOk, OnOk, List, [], ℕ};
+//! Texts and files that are read from a stream.
+ghost use Rattle.std.specs.Prelude.{IfErr, IfOk, List, ℕ};
 ghost use Rattle.iloc_ops.specs.declared.file.Block.{Block};
 ghost use Rattle.iloc_text.specs.Files.{AreWithinLimits, Denotes};
-ghost use Rattle.iloc_text.specs.Steps.TextReads.{HasRead};
 ghost use Rattle.iloc_text.specs.Streams.{EndsStream, ReadsText};
 
 use crate::copies::Copies;
-use crate::fault::StreamFault;
+use crate::fault::{InputFault, StreamFault};
+use crate::pieces::read_pieces;
 use crate::taker::TakeBlocks;
 use crate::text_reader::TextReader;
-use iloc_ops::{IlocFile, MAX_INPUT};
+use iloc_ops::IlocFile;
 use std::alloc::Global;
 use std::io::Read;
 
-/// How many bytes are asked for at a time, at most.
-const PIECE: usize = 32_768;
-
-/// Hands all that comes to a reader of a text to which nothing has come: until the end, or until 16,777,217 bytes have
-/// come. Any error of a read ends it.
-fn read_all<R: Read, T: TakeBlocks + Drop>(
-    alloc: Global,
-    stream: &mut R,
-    text: &mut TextReader<T>,
-) -> Result<(), StreamFault>
-    ensures ok { (start : T) → HasRead T.took start text.old [] → OnOk result ((input : List ℕ) ×
-        ReadsText (R.remaining stream.old) (R.remaining stream.new) input × HasRead T.took start text.new input) }
-    ensures err { IfErr result (EndsStream (R.remaining stream.old) (R.remaining stream.new)) }
+/// Reads a text from a stream.
+///
+/// Promise: the text is what the stream had to its end, or its first 16,777,217 bytes.
+///
+/// Any error of a read ends it.
+pub fn read_text_from<R: Read>(alloc: Global, stream: &mut R) -> Result<Vec<u8>, InputFault>
+    ensures { IfOk result (λ text. ReadsText (R.remaining stream.old) (R.remaining stream.new) text.items) }
 {
-    let mut piece = [0; PIECE];
-    let mut left = MAX_INPUT + 1;
-    while left > 0 {
-        let room = PIECE.min(left);
-        let Ok(count) = stream.read(&mut piece[..room]) else {
-            return Err(StreamFault::ReadFailed);
-        };
-        if count == 0 {
-            return Ok(());
-        }
-        text.read(alloc, &piece[..count])?;
-        left -= count;
-    }
-    Ok(())
+    let mut text = Vec::new(alloc);
+    read_pieces(alloc, stream, &mut text)?;
+    Ok(text)
 }
 
 /// Reads a file from a stream and hands each block to the taker as soon as its last line has come, as `read_blocks` does.
@@ -60,7 +43,7 @@ pub fn read_blocks_from<R: Read, T: TakeBlocks + Drop>(
     ensures err { IfErr result (EndsStream (R.remaining stream.old) (R.remaining stream.new)) }
 {
     let mut text = TextReader::new(alloc, taker);
-    read_all(alloc, stream, &mut text)?;
+    read_pieces(alloc, stream, &mut text)?;
     Ok(text.finish(alloc)?)
 }
 

@@ -7,6 +7,7 @@ ghost use Rattle.iloc_text.specs.Files.{Denotes, IsRefused};
 
 use crate::fault::ReadFault;
 use crate::open_block::OpenBlock;
+use crate::pieces::TakePieces;
 use crate::reader::read_lines;
 use crate::taker::TakeBlocks;
 use iloc_ops::{MAX_INPUT, NoMemory};
@@ -153,4 +154,19 @@ impl<T: TakeBlocks + Drop> TextReader<T> {
         open_block.hand_over(alloc, &mut taker)?;
         Ok(taker)
     }
+}
+
+impl<T: TakeBlocks + Drop> TakePieces for TextReader<T> {
+    ghost use Rattle.std.specs.Prelude.{[]};
+    ghost use Rattle.iloc_text.specs.Steps.TextReads.{HasRead};
+
+    ghost took = { λ start text now.
+        (taker : T) → HasRead T.took taker start [] → HasRead T.took taker now text };
+
+    fn take(&mut self, alloc: Global, piece: &[u8]) -> Result<(), NoMemory> {
+        self.read(alloc, piece)?;
+        Ok(())
+    }
+
+    ghost took_none = { λ _ _ read. read };
 }

@@ -1,6 +1,8 @@
 use crate::asserted::assert_list;
 use crate::text::diary::Diary;
-use iloc_text::{MAX_INPUT, ReadFault, StreamFault, read_blocks_from, read_file_from};
+use iloc_text::{
+    InputFault, MAX_INPUT, ReadFault, StreamFault, read_blocks_from, read_file_from, read_text_from,
+};
 use std::io::{Error, ErrorKind, Read, Result as IoResult};
 use std::test::Fail;
 
@@ -126,5 +128,25 @@ fn reads_a_stream_into_a_file(rt: HostRuntime) -> Result<(), Fail> {
         &diary.lines,
         b"-; output 0; output 4\nlonger; nop\nb\nc; output 8\n",
     );
+    Ok(())
+}
+
+#[test]
+fn reads_a_text_as_it_comes(rt: HostRuntime) -> Result<(), Fail> {
+    let text = read_text_from(rt.alloc(), &mut giving(TEXT, 7))?;
+    assert_list(&rt, &text, TEXT);
+    Ok(())
+}
+
+#[test]
+fn reads_no_text_whose_end_is_a_fault(rt: HostRuntime) -> Result<(), Fail> {
+    let mut source = giving(b"", usize::MAX);
+    source.end = Some(ErrorKind::Other);
+    source.blanks = MAX_INPUT + 1;
+    let text = read_text_from(rt.alloc(), &mut source)?;
+    assert!(rt; text.len() == MAX_INPUT + 1);
+    source.blanks = MAX_INPUT;
+    let told = read_text_from(rt.alloc(), &mut source).err();
+    assert!(rt; told == Some(InputFault::ReadFailed));
     Ok(())
 }

@@ -6,7 +6,7 @@ use Rattle.iloc_timed.specs.declared.latencies.Latencies.{Latencies}
 use Rattle.iloc_timed.specs.Schedule.{Table}
 use Rattle.iloc_sched.specs.declared.heuristic.Heuristic.{Heuristic}
 use Rattle.iloc_args.specs.declared.request.Request.{Request}
-use Rattle.iloc_farm.specs.Device.{ReadsInput}
+use Rattle.iloc_text.specs.Streams.{ReadsText}
 use Rattle.iloc_farm.specs.Entries.{AreEntries}
 use Rattle.iloc_farm.specs.Listing.{cycles_of}
 use Rattle.iloc_farm.specs.Schedules.{IsTheGreedy}
@@ -41,7 +41,7 @@ module _ {F : Type 0} (lists : ℕ → Block → List ℕ → F → Type 0) wher
 pub record ListsRead (is_listing : List Block → List ℕ → Type 0) (old new : Option (List ℕ)) (text : List ℕ)
     : Type 0 where
   pub input : List ℕ
-  pub read : ReadsInput old new input
+  pub read : ReadsText old new input
   pub blocks : List Block
   pub denoted : Denotes input blocks
   pub listed : is_listing blocks text

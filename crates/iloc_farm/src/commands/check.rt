@@ -16,7 +16,6 @@ use crate::fault::RunFault;
 use crate::lister::initial_memory;
 use crate::listing::push_block_head;
 use crate::listing::text::Listing;
-use crate::reading::read_input;
 use crate::reading::task::submission_apart;
 use crate::texts::Texts;
 use iloc_args::Request;
@@ -25,7 +24,7 @@ use iloc_meaning::Memory;
 use iloc_rows::laws::{placed_rows_are_within_limits, submissions_are_within_limits};
 use iloc_rows::{RowsFault, Submission, read_submission};
 use iloc_sched::Scheduler;
-use iloc_text::NoMemory;
+use iloc_text::{NoMemory, read_text_from};
 use iloc_timed::{Latencies, MAX_ROWS};
 use std::alloc::Global;
 use std::io::Read;
@@ -110,7 +109,7 @@ fn checked_whole<R: Read>(
         Lists request.now (R.remaining reader.old) (R.remaining reader.new) listed.finding listed.text) }
     ensures err { IfErr result (EndsSubmission (R.remaining reader.old) (R.remaining reader.new)) }
 {
-    let submission = submission_of(alloc, read_input(alloc, reader)?)?;
+    let submission = submission_of(alloc, read_text_from(alloc, reader)?)?;
     Ok(listed_rows(alloc, submission, request)?)
 }
 

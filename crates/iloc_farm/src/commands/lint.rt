@@ -7,9 +7,9 @@ ghost use Rattle.iloc_farm.specs.Steps.OfInput.{EndsHolding};
 use crate::commands::{Finding, Listed};
 use crate::fault::RunFault;
 use crate::listing::text::Listing;
-use crate::reading::read_input;
 use iloc_args::Request;
 use iloc_lint::report_of;
+use iloc_text::read_text_from;
 use std::alloc::Global;
 use std::io::Read;
 
@@ -24,7 +24,7 @@ pub(crate) fn linted<R: Read>(
         Lists request.now (R.remaining reader.old) (R.remaining reader.new) listed.finding listed.text) }
     ensures err { IfErr result EndsHolding }
 {
-    let input = read_input(alloc, reader)?;
+    let input = read_text_from(alloc, reader)?;
     let report = report_of(alloc, &input)?;
     Ok(Listed {
         text: Listing::of_text(alloc, report.text)?,

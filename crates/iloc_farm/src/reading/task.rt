@@ -5,11 +5,10 @@ ghost use Rattle.iloc_farm.specs.Apart.{Holds, ReadsApart, ReadsTask};
 ghost use Rattle.iloc_farm.specs.Steps.OfTask.{EndsApart, EndsTask};
 
 use crate::fault::{FarmFault, RunFault, TaskFault};
-use crate::reading::{InputFault, read_input};
 use crate::texts::Texts;
 use iloc_rows::laws::submissions_apart_are_within_limits;
 use iloc_rows::{RowsFault, Submission, read_rows, read_task};
-use iloc_text::{Blocks, ReadFault};
+use iloc_text::{Blocks, InputFault, ReadFault, read_text_from};
 use std::alloc::Global;
 use std::io::{ErrorKind, Read};
 
@@ -25,7 +24,7 @@ fn input_named<T: Texts>(alloc: Global, texts: &T, name: &str) -> Result<Vec<u8>
         }
         Err(_) => return Err(RunFault::Task(TaskFault::NotOpened)),
     };
-    match read_input(alloc, &mut text) {
+    match read_text_from(alloc, &mut text) {
         Ok(input) => Ok(input),
         Err(InputFault::ReadFailed) => Err(RunFault::Task(TaskFault::ReadFailed)),
         Err(InputFault::NoMemory) => Err(RunFault::Farm(FarmFault::NoMemory)),
@@ -62,7 +61,7 @@ pub(crate) fn submission_apart<T: Texts, R: Read>(
 {
     submissions_apart_are_within_limits();
     let blocks = task_named(alloc, texts, name)?;
-    let rows = read_input(alloc, reader)?;
+    let rows = read_text_from(alloc, reader)?;
     let proposals = read_rows(alloc, blocks.as_slice(), &rows)?;
     Ok(Submission { blocks, proposals })
 }

@@ -2,14 +2,14 @@ use Rattle.std.proofs.Common.{◌++◌, ◌≤◌, [], refl, sym, subst, take, d
 use Rattle.std.specs.Io.KnownBytes.{Consumes}
 use Rattle.std.proofs.lemmas.List.{take-append-le}
 use Rattle.iloc_text.proofs.Streams.{consumes_none, consumes_further}
-use Rattle.iloc_text.proofs.stream.read_all.Goals as goal
+use Rattle.iloc_text.proofs.pieces.read_pieces.Goals as goal
 
 pub loop-left-init : goal.loop-left-init
 loop-left-init g c = record {
   came = [];
   consumed = consumes_none (g.R.Read.remaining c.args.stream.now);
   count = refl;
-  read = λ start read. read;
+  took = g.met.P.TakePieces.took_none c.args.taker.now;
 }
 
 pub loop-left-preserved : goal.loop-left-preserved
@@ -34,5 +34,5 @@ loop-left-preserved g c =
         length-take c.in-Ok.count (c.read.new.buf ++ drop room c.loop-left.piece),
         length-append c.read.new.buf (drop room c.loop-left.piece),
       );
-      read = λ start read. c.in_ok-read.ensures start now.came (now.read start read);
+      took = c.in_ok-take.ensures c.args.taker.now now.came now.took;
     }

@@ -2,14 +2,7 @@ use Rattle.std.proofs.Common.{◌∙◌, Err, IfErr, ap, sym, subst}
 use Rattle.std.proofs.lemmas.Result.{err_from_is_err_and}
 use Rattle.iloc_farm.specs.Steps.OfInput.{EndsFile}
 use Rattle.iloc_farm.proofs.Streamed.{ends_file}
-use Rattle.iloc_farm.proofs.reading.blocks_as_they_come.Goals as goal
-
-pub returns-clause-ok : goal.returns-clause-ok
-returns-clause-ok g c =
-    let read = c.in_ok-read_file_from.ensures.ok in
-    let blocks = c.in_ok-read_file_from.field-0.blocks in
-    let limits = c.files_are_within_limits.ensures read.0 blocks read.2 in
-    (read.0, read.1, read.2, record { few_blocks = limits.0; short_blocks = limits.1 })
+use Rattle.iloc_farm.proofs.reading.read_blocks.Goals as goal
 
 pub returns-in_err-read_file_from-clause-err : goal.returns-in_err-read_file_from-clause-err
 returns-in_err-read_file_from-clause-err g c =
