@@ -110,7 +110,7 @@ class Curve:
 
     def note(self):
         parts = [f"{len(self.taken)} blocks"]
-        parts += [f"{self.wrong} left out that aren't same"] if self.wrong else []
+        parts += [f"{self.wrong} left out that don't pass"] if self.wrong else []
         parts += [f"{self.empty} left out without cycles"] if self.empty else []
         return ", ".join(parts)
 

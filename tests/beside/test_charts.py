@@ -33,7 +33,7 @@ cycles 13 least 13 optimal
 chain 0 3 4 5 6
 total 13
 """
-CHECKED = b"""block 1 sum same cycles 14 ours 14 least 13
+CHECKED = b"""block 1 sum lawful cycles 14 ours 14 least 13
 block 2 dot differs cycles 19 ours 22 least 20 claimed 8
   output 2: 7 for 8
 total 33 ours 36 least 33
@@ -153,12 +153,12 @@ class Charts(Place):
                                             "2 dot\nada: 19\ndan: 19\nours: 22\nleast: 20\nada: differs"])
 
     def test_compare_leaves_wrong_ones_out(self):
-        """Of a block with another verdict than `same` nothing is in a total, whichever listing has it."""
+        """Of a block whose verdict doesn't pass nothing is in a total, whichever listing has it."""
         self.write("ada", CHECKED)
         self.write("dan", b"block 1 x cycles 15\nblock 2 y cycles 20\ntotal 35\n")
         root = self.picture("charts/compare", "ada", "dan")
         texts = [it.text for it in root.iter(f"{SVG}text")]
-        self.expect("totals", texts[-6:], ["total", "14", "15", "14", "13", "without those that aren't same"])
+        self.expect("totals", texts[-6:], ["total", "14", "15", "14", "13", "without those that don't pass"])
 
     def test_compare_tells_columns_apart(self):
         """Of 36 listings no two have a mark of one shape and colour; a 37th is refused."""
@@ -179,7 +179,7 @@ class Charts(Place):
         self.write("dan", b"".join(b"block %d - cycles 20\n" % k for k in range(1, 101)))
         root = self.picture("charts/compare", "ada", "dan")
         texts = [it.text for it in root.iter(f"{SVG}text")]
-        self.expect("blocks", "99 blocks, 1 left out that aren't same" in texts, True)
+        self.expect("blocks", "99 blocks, 1 left out that don't pass" in texts, True)
         told = tooltips(root)
         self.expect("curves", told, ["ada: 2130 cycles, 24 % as few, 1.074 mean, 1.150 9 in 10, 1.150 worst",
                                 *(f"{it}: 1980 cycles, 100 % as few, 1.000 mean, 1.000 9 in 10, 1.000 worst"

@@ -14,7 +14,7 @@ from limits import MOST_BLOCKS, MOST_BYTES
 FIRST = read(f"{CASES}/first.in", b"")
 ROWS = (b"[ loadI 1024 => r0 ; loadI 7 => r1 ]\n[ store r1 => r0 ; nop ]\n" + b"[ nop ; nop ]\n" * 4
         + b"[ output 1024 ; nop ]\n")
-SAME = b"block 1 - same cycles 7 ours 7 least 7\ntotal 7 ours 7 least 7\n"
+LAWFUL = b"block 1 - lawful cycles 7 ours 7 least 7\ntotal 7 ours 7 least 7\n"
 BAD = b"nop\nnop nop\n"
 # What is listed of it fills a pipe, whatever the command.
 LONG = b"A:\n" * 10_000
@@ -56,7 +56,7 @@ def inputs(command):
         return refused(f"device/{name}/{command}", b"", UNREAD, 4, [command], by=by)
 
     name = "first.out" if command in ("run", "simulate") else f"first.{command}.out"
-    given, out = (FIRST + ROWS, SAME) if command == "check" else (FIRST, read(f"{CASES}/{name}", b""))
+    given, out = (FIRST + ROWS, LAWFUL) if command == "check" else (FIRST, read(f"{CASES}/{name}", b""))
     yield listed(f"device/one_byte_at_a_time/{command}", given, out, [command], by=bytewise)
     yield refused(f"device/input_without_end/{command}", b"", b"input longer than 16777216 bytes", 1, [command],
                   by=files(stdin="/dev/zero"))

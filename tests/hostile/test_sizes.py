@@ -14,6 +14,8 @@ from refusals.test_program import NO_MEMORY
 # At the usual latencies, for processor time and for memory held. The first holds on slow machines too.
 MOST_MS = 10_000
 MOST_MIB = 286    # 300 MB
+# By how much a check of operations that are all alike may take longer than to simulate them.
+ALIKE_MS = 100
 # The greatest latency, and an address space that the listing of its longest schedules doesn't fit into, though their
 # rows are counted there.
 SLOWEST = 16
@@ -83,25 +85,28 @@ def judged_inputs():
     def rows(*parts):
         return b"A:\n" + b"".join(parts)
 
-    empty, same, load = b"[ nop ; nop ]\n", b"block 1 A same ", b"[ load r0 => r1 ; nop ]\n"
+    empty, lawful, load = b"[ nop ; nop ]\n", b"block 1 A lawful ", b"[ load r0 => r1 ; nop ]\n"
     free = b"[ loadI 0 => r1 ; addI r2, 1 => r3 ]\n"
-    yield ("own rows, even", lambda: own(even()[:4_000_000].rsplit(b"L", 1)[0]), b"block 1 L1 same ")
-    yield ("own rows, loads", lambda: own(blocks_of(b"load r0=>r0\n")[:1_100_000].rsplit(b"A", 1)[0]), same)
+    yield ("own rows, even", lambda: own(even()[:4_000_000].rsplit(b"L", 1)[0]), b"block 1 L1 lawful ")
+    yield ("own rows, loads", lambda: own(blocks_of(b"load r0=>r0\n")[:1_100_000].rsplit(b"A", 1)[0]), lawful)
     yield ("own rows, stores and loads", lambda: own(blocks_of(b"store r1=>r0\n", b"load r0=>r0\n")[:1_800_000]
-                                                           .rsplit(b"A", 1)[0]), same)
-    yield ("own rows, sums", lambda: own(b"A:\n" + b"add r0, r1 => r0\nmult r0, r0 => r1\n" * 5000), same)
+                                                           .rsplit(b"A", 1)[0]), lawful)
+    yield ("own rows, sums", lambda: own(b"A:\n" + b"add r0, r1 => r0\nmult r0, r0 => r1\n" * 5000), lawful)
     yield ("own rows, pointers", lambda: own(
-        b"A:\nload r0 => r1\n" + b"store r1 => r1\nload r1 => r1\n" * 4999), same)
+        b"A:\nload r0 => r1\n" + b"store r1 => r1\nload r1 => r1\n" * 4999), lawful)
     yield ("own rows, a table", lambda: own(b"A:\nload r0 => r1\n" + b"".join(
-        b"storeAI r1 => r1, %d\nloadAI r1, %d => r2\n" % (4 * k, 4 * (k - k % 7)) for k in range(4999))), same)
-    yield ("empty rows", lambda: rows(empty * ((MOST_BYTES - 3) // len(empty))), same)
+        b"storeAI r1 => r1, %d\nloadAI r1, %d => r2\n" % (4 * k, 4 * (k - k % 7)) for k in range(4999))), lawful)
+    yield ("empty rows", lambda: rows(empty * ((MOST_BYTES - 3) // len(empty))), lawful)
     yield ("65,535 heads", lambda: b"A:\n" * MOST_BLOCKS + b"".join(
-        b"block %d A\n" % k for k in range(1, MOST_BLOCKS + 1)), same)
+        b"block %d A\n" % k for k in range(1, MOST_BLOCKS + 1)), lawful)
     yield ("most claims", lambda: rows(b"cycles 7\n" * ((MOST_BYTES - 3) // 9)),
-                 same + b"cycles 0 ours 0 least 0 claimed 7")
+                 lawful + b"cycles 0 ours 0 least 0 claimed 7")
     yield ("a load on the wrong unit", lambda: rows(load * 5000, b"[ nop ; load r0 => r1 ]\n", load * 4999),
                  b"block 1 A units cycles 10004 ours 0 least 0\n  row 5001: [ nop ; load r0 => r1 ]\n")
-    yield ("useless operations", lambda: rows(free * 5000), b"block 1 A same cycles 5000 ours 0 least 0\n")
+    yield ("useless operations", lambda: rows(b"output 0\n", free * 4999, b"[ output 0 ; nop ]\n"),
+           b"block 1 A same cycles 5000 ours 1 least 1\n")
+    yield ("rows of a block that shows nothing", lambda: rows(free * 5000),
+           b"block 1 A void cycles 5000 ours 0 least 0\n  the block shows nothing\n")
     yield ("10,001 operations in rows", lambda: rows(free * 5000, load),
            refused_line(f"line 5002: more than {MOST_OPERATIONS} operations in a block"))
     yield "65,535 heads of one block", lambda: rows(b"block 1 A\n" * MOST_BLOCKS), refused_line("line 3: no such block")
@@ -128,6 +133,8 @@ def size_checks():
         yield Check("sizes/slow loads in little memory", in_little_memory)
     for name, make, start in judged_inputs():
         yield Check(f"sizes/check/{name}", begins_so, name, make, start)
+    for name, (op, unit) in ALIKE.items():
+        yield Check(f"sizes/alike/{name}", judged_in_time, op, unit)
 
 
 def measured(name, words, path):
@@ -150,10 +157,36 @@ def as_the_plain_program(name, make):
 def begins_so(name, make, start):
     """How `check` ends, and how its listing or what it says begins."""
     got, wrong = measured(name, ["check"], stored("given", make()))
-    status = 1 if start.startswith(b"ilocfarm: ") else 0 if b" same " in start else NOT_SAME
+    status = 1 if start.startswith(b"ilocfarm: ") else 0 if b" same " in start or b" lawful " in start else NOT_SAME
     begun = front(got.output + ".err" * (status == 1))
     if got.status != status or not begun.startswith(start):
         yield f"check: status {got.status}, {begun[:60]!r}"
+    yield from wrong
+
+
+# Operations of which a block and its rows have nothing else, and the unit of each.
+ALIKE = {"constants": ("loadI 0 => r1", 0), "sums": ("add r0, r0 => r1", 0), "products": ("mult r0, r0 => r1", 1),
+         "loads": ("load r0 => r1", 0), "stores": ("store r0 => r0", 0), "outputs": ("output 0", 1)}
+
+
+def alike(op, unit):
+    """A block of the most operations of one spelling and, for its rows, of another: one a row, after ours would be done."""
+    slots = [op.replace("r1", "r7"), "nop"][::-1 if unit else 1]
+    block = f"A:\noutput 4\n{op}\n" + f"{op}\n" * (MOST_OPERATIONS - 2)
+    rows = "[ {} ; {} ]\n".format(*slots) * (MOST_OPERATIONS - 1)
+    return block.encode(), f"[ nop ; nop ]\n[ output 4 ; nop ]\n{rows}".encode()
+
+
+def judged_in_time(op, unit):
+    """Operations that are all alike are paired with one another, in about the time of `simulate`."""
+    block, rows = alike(op, unit)
+    path = stored("given", block + rows)
+    got, wrong = measured(op, ["check"], path)
+    other, _ = measured(op, ["simulate"], stored("blocks", block))
+    if got.status != 0 or b" lawful " not in front(got.output):
+        yield f"{op}: {front(got.output)[:100]!r}"
+    if got.processor_ms > other.processor_ms + ALIKE_MS:
+        yield f"{op}: {got.processor_ms:.0f} ms, and simulate {other.processor_ms:.0f}"
     yield from wrong
 
 

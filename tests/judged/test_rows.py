@@ -1,9 +1,9 @@
 """Rows with their blocks and the verdicts due, and lines of schedules that are refused; memory has 9 at 4, else 0."""
 from forms import USUAL
-from harness.program import Run
-from harness.suite import table
+from harness.program import Run, ending, told
+from harness.suite import Check, table
 from limits import MOST_BLOCKS, MOST_BYTES, MOST_OPERATIONS
-from oracle.judge import ENTRY, NOT_SAME, entries_of, total
+from oracle.judge import ENTRY, NOT_SAME, entries_of, status_of, total
 from oracle.machine import row_text, words_from
 from oracle.reader import read
 
@@ -23,27 +23,49 @@ TWO_OUTPUTS = "output 4\noutput 8\n"
 FAULTS_FIRST = "output 1\noutput 8\n"
 # It faults on every memory.
 BIG_ADDRESS = "loadI 100000 => r0\nloadI 6 => r1\nloadI 7 => r2\nmult r1, r2 => r3\nstore r3 => r0\noutput 100000\n"
+PRODUCT = BIG_ADDRESS.replace("100000", "1024")
+TWO_ADDRESSES = """\
+loadI 1024 => r1
+loadI 7 => r2
+store r2 => r1
+loadI 1028 => r1
+loadI 9 => r2
+store r2 => r1
+output 1024
+output 1028
+[ loadI 1024 => r1 ; loadI 7 => r2 ]
+[ loadI 1028 => r1 ; nop ]
+[ store r2 => r1 ; loadI 9 => r2 ]
+[ store r2 => r1 ; nop ]
+[ nop ; nop ]
+[ nop ; nop ]
+[ nop ; nop ]
+[ nop ; nop ]
+[ output 1024 ; nop ]
+[ output 1028 ; nop ]
+"""
 # The words of memories that are made up.
 COUNTED = " ".join(map(str, range(1, 65)))
 ADDRESSES = " ".join(map(str, range(8, 264, 4)))
 
-# A block, and somebody's operations that do the same, six cycles apart.
+# A block, somebody's operations that do the same, six cycles apart, and the verdict.
 SAME = {
-    "itself": (LOADS_AND_STORES, LOADS_AND_STORES),
+    "itself": (LOADS_AND_STORES, LOADS_AND_STORES, "lawful"),
     "other_registers": (LOADS_AND_STORES, "loadI 1024 => r9\nloadAI r9, 4 => r7\nmult r7, r7 => r8\n"
-                                          "storeAI r8 => r9, 8\noutput 1032\n"),
+                                          "storeAI r8 => r9, 8\noutput 1032\n", "lawful"),
     "one_register_for_all_words": (LOADS_AND_STORES, "loadI 1028 => r1\nload r1 => r1\nmult r1, r1 => r1\n"
-                                                     "loadI 1032 => r2\nstore r1 => r2\noutput 1032\n"),
-    "product_for_a_shift": (SUM, LOADED + "multI r2, 4 => r3\naddI r3, 12 => r4\nstore r4 => r1\n"),
-    "product_of_a_sum": (SUM, LOADED + "addI r2, 3 => r3\nmultI r3, 4 => r4\nstore r4 => r1\n"),
-    "sums_for_a_shift": (SUM, TWICE_DOUBLED + "addI r4, 12 => r4\nstore r4 => r1\n"),
+                                                     "loadI 1032 => r2\nstore r1 => r2\noutput 1032\n", "same"),
+    "known_product": (PRODUCT, "loadI 1024 => r0\nloadI 42 => r1\nstore r1 => r0\noutput 1024\n", "same"),
+    "product_for_a_shift": (SUM, LOADED + "multI r2, 4 => r3\naddI r3, 12 => r4\nstore r4 => r1\n", "same"),
+    "product_of_a_sum": (SUM, LOADED + "addI r2, 3 => r3\nmultI r3, 4 => r4\nstore r4 => r1\n", "same"),
+    "sums_for_a_shift": (SUM, TWICE_DOUBLED + "addI r4, 12 => r4\nstore r4 => r1\n", "same"),
     "accesses_with_one_base": (LOADS_ELSEWHERE, LOADED + "loadAI r2, 12 => r3\nstoreAI r2 => r2, 8\n"
-                                                         "storeAI r1 => r2, 4\nstore r3 => r1\n"),
-    "word_that_was_stored": (TWO_STORES + "loadAI r2, 8 => r3\nstore r3 => r1\n", FORWARDED),
-    "load_that_cannot_fault": (LOADED + "output 8\n", "output 8\n"),
-    "itself_with_a_fault": (BIG_ADDRESS, BIG_ADDRESS),
-    "outputs": (TWO_OUTPUTS, TWO_OUTPUTS),
-    "square": (SQUARE, SQUARE),
+                                                         "storeAI r1 => r2, 4\nstore r3 => r1\n", "same"),
+    "word_that_was_stored": (TWO_STORES + "loadAI r2, 8 => r3\nstore r3 => r1\n", FORWARDED, "same"),
+    "load_that_cannot_fault": (LOADED + "output 8\n", "output 8\n", "same"),
+    "itself_with_a_fault": (BIG_ADDRESS, BIG_ADDRESS, "lawful"),
+    "outputs": (TWO_OUTPUTS, TWO_OUTPUTS, "lawful"),
+    "square": (SQUARE, SQUARE, "lawful"),
 }
 
 # A block, and somebody's operations that do something else on some memory.
@@ -69,11 +91,15 @@ VERDICTS = {
                                 "differs", "output 1: 9 for 81"),
     "word_too_many": (SQUARE, SQUARE + "loadI 0 => r4\nstore r3 => r4\n", "differs", "word 0: 81 for 0"),
     "fault": (SQUARE, "loadI 4 => r1\nload r1 => r2\nload r2 => r3\noutput 4\n", "differs", "fault"),
-    "no_fault": ("output 1\n", "output 8\n", "differs", "no fault"),
-    # Whatever is after a fault that always comes isn't done; but rows that fault otherwise, or do less, aren't passed.
-    "another_fault": (FAULTS_FIRST, "loadI 1 => r1\nload r1 => r2\n", "agrees", ""),
-    "fault_without_the_product": (BIG_ADDRESS, "loadI 100000 => r0\noutput 100000\n", "agrees", ""),
-    "fault_with_another_product": (BIG_ADDRESS, BIG_ADDRESS.replace("loadI 7", "loadI 8"), "agrees", ""),
+    # Of a block that faults nothing is seen of rows, but they may be by the book.
+    "no_fault": ("output 1\n", "output 8\n", "void", "the block faults: output 1"),
+    "another_fault": (FAULTS_FIRST, "loadI 1 => r1\nload r1 => r2\n", "void", "the block faults: output 1"),
+    "fault_without_the_product": (BIG_ADDRESS, "loadI 100000 => r0\noutput 100000\n", "void",
+                                  "the block faults: store r3 => r0"),
+    "fault_with_another_product": (BIG_ADDRESS, BIG_ADDRESS.replace("loadI 7", "loadI 8"), "void",
+                                   "the block faults: store r3 => r0"),
+    "fault_last": ("output 8\noutput 1\n", "output 8\n", "void", "the block faults: output 1"),
+    "nothing_shown": (LOADED, "loadI 8 => r1\n", "void", "the block shows nothing"),
     # The product of 9 and 9, but of nothing else.
     "refuted_product": (SQUARE, SQUARE.replace("mult r2, r2", "multI r2, 9"), "differs",
                         f"output 1: 9 for 1 with --at 4 {COUNTED}"),
@@ -86,26 +112,31 @@ VERDICTS = {
     "sums_in_another_order": ("loadI 4 => r1\nload r1 => r2\nloadAI r1, 4 => r3\nloadAI r1, 8 => r4\n"
                               "add r2, r3 => r5\nadd r5, r4 => r6\nstore r6 => r1\n",
                               "loadI 4 => r1\nload r1 => r2\nloadAI r1, 4 => r3\nloadAI r1, 8 => r4\n"
-                              "add r3, r4 => r5\nadd r2, r5 => r6\nstore r6 => r1\n", "agrees", ""),
+                              "add r3, r4 => r5\nadd r2, r5 => r6\nstore r6 => r1\n", "agrees"),
+    "register_at_first": ("add r1, r2 => r3\nloadI 4 => r1\nstore r3 => r1\n",
+                          "loadI 4 => r1\nadd r1, r2 => r3\nstore r3 => r1\n", "differs", "word 4: 4 for 0"),
+    "no_result_yet": ("loadI 4 => r1\nadd r1, r1 => r3\nstore r3 => r1\n",
+                      "add r1, r1 => r3\nloadI 4 => r1\nstore r3 => r1\n", "differs", "word 4: 0 for 8"),
 }
 
 # Texts, and what is listed of each block.
 LISTED = {
-    "row_on_unit_0": ("output 4\n[ output 4 ; nop ]\n", "block 1 - same cycles 1 ours 1 least 1"),
-    "row_on_unit_1": ("output 4\n[ nop ; output 4 ]\ncycles 1\n", "block 1 - same cycles 1 ours 1 least 1"),
+    "row_on_unit_0": ("output 4\n[ output 4 ; nop ]\n", "block 1 - lawful cycles 1 ours 1 least 1"),
+    "row_on_unit_1": ("output 4\n[ nop ; output 4 ]\ncycles 1\n", "block 1 - lawful cycles 1 ours 1 least 1"),
     "second_claim": ("output 4\n[ output 4 ; nop ]\ncycles 1\ncycles 0\n",
-                     "block 1 - same cycles 1 ours 1 least 1 claimed 0"),
-    "both_units": ("output 0\n[ output 0 ; loadI 4 => r1 ]\n", "block 1 - same cycles 1 ours 1 least 1"),
+                     "block 1 - lawful cycles 1 ours 1 least 1 claimed 0"),
+    "both_units": ("output 0\n[ output 0 ; loadI 4 => r1 ]\n",
+                   "block 1 - same cycles 1 ours 1 least 1"),
     # Our own rows have both outputs on unit 0, and aren't the only ones that keep the delay between the two.
     "outputs_on_two_units": ("output 0\noutput 4\n[ output 0 ; nop ]\n[ nop ; output 4 ]\n",
-                             "block 1 - same cycles 2 ours 2 least 2"),
+                             "block 1 - lawful cycles 2 ours 2 least 2"),
     # An empty row before it takes a cycle, one after it takes none.
     "empty_rows": ("output 4\n[ nop ; nop ]\n[ output 4 ; nop ]\n[ nop ; nop ]\ncycles 3\n",
-                   "block 1 - same cycles 2 ours 1 least 1 claimed 3"),
+                   "block 1 - lawful cycles 2 ours 1 least 1 claimed 3"),
     # What isn't used is left out, so that they take fewer cycles than any lawful schedule.
     "unused_operations": ("loadI 4 => r1\nmult r1, r1 => r2\noutput 4\n[ output 4 ; nop ]\n",
                           "block 1 - same cycles 1 ours 4 least 4"),
-    "nop": ("nop\ncycles 0\n", "block 1 - same cycles 0 ours 0 least 0"),
+    "nop": ("nop\ncycles 0\n", "block 1 - lawful cycles 0 ours 0 least 0"),
     # The word that is stored is there already.
     "word_put_back": ("loadI 4 => r1\nload r1 => r2\nstore r2 => r1\noutput 4\n[ output 4 ; nop ]\ncycles 1\n",
                       "block 1 - agrees cycles 1 ours 12 least 12"),
@@ -119,10 +150,12 @@ LISTED = {
                       "block 1 - differs cycles 0 ours 7 least 7\n  word 12: 0 for -4"),
     "fault_beside_the_output": ("output 4\n[ output 4 ; loadI 5 => r1 ]\n[ load r1 => r1 ; nop ]\n",
                                 "block 1 - differs cycles 6 ours 1 least 1\n  fault"),
-    "fault_missing": ("output 5\n", "block 1 - differs cycles 0 ours 1 least 1\n  no fault"),
+    "fault_missing": ("output 5\n", "block 1 - void cycles 0 ours 1 least 1\n  the block faults: output 5"),
     # On the memory handed in both words are 0.
     "output_of_another_word": ("output 65532\n[ output 65528 ; nop ]\n",
                                "block 1 - differs cycles 1 ours 1 least 1\n  output 1: 1 for 2 with --at 65528 1 2"),
+    # Two addresses in one register, of which the second is there before the first is read.
+    "address_overwritten": (TWO_ADDRESSES, "block 1 - differs cycles 10 ours 10 least 10\n  output 1: 0 for 7"),
     "load_on_unit_1": ("loadI 4 => r1\nload r1 => r2\n[ loadI 4 => r1 ; nop ]\n[ nop ; load r1 => r2 ]\n",
                        "block 1 - units cycles 6 ours 6 least 6\n  row 2: [ nop ; load r1 => r2 ]"),
     "two_outputs_in_a_row": ("output 4\n[ output 4 ; output 8 ]\n[ mult r1, r1 => r2 ; nop ]\ncycles 1\n",
@@ -131,35 +164,36 @@ LISTED = {
     "single_operations": ("loadI 4 => r1\nload r1 => r2\nmult r2, r2 => r3\nmultI r3, 1 => r4\nstore r4 => r1\n"
                           "[ loadI 4 => r1 ]\n[ load r1 => r2 ]\n" + "[ ]\n" * 4 + "[mult r2,r2=>r2]\n[]\n[ nop ]\n"
                           "[\tmultI r2, 1 => r2 ] // 9\n[ ; ]\n[;]\n[ store r2 => r1 ]\n",
-                          "block 1 - same cycles 17 ours 17 least 17"),
-    "single_operation_on_a_line_of_its_own": ("output 4\n[output 4]", "block 1 - same cycles 1 ours 1 least 1"),
+                          "block 1 - lawful cycles 17 ours 17 least 17"),
+    "single_operation_on_a_line_of_its_own": ("output 4\n[output 4]", "block 1 - lawful cycles 1 ours 1 least 1"),
     "halves_of_rows": ("loadI 4 => r1\noutput 4\n[ ; loadI 4 => r1 ]\n[ output 4 ; ]\n",
-                       "block 1 - same cycles 2 ours 1 least 1"),
-    "empty_row_at_once": ("nop\n[]", "block 1 - same cycles 0 ours 0 least 0"),
+                       "block 1 - lawful cycles 2 ours 1 least 1"),
+    "empty_row_at_once": ("nop\n[]", "block 1 - lawful cycles 0 ours 0 least 0"),
     "product_before_a_semicolon": ("nop\n[ mult r1, r2 => r3 ; ]\n", "block 1 - units cycles 3 ours 0 least 0\n"
                                                                       "  row 1: [ mult r1, r2 => r3 ; nop ]"),
     "load_behind_a_semicolon": ("nop\n[ ; load r1 => r2 ]\n", "block 1 - units cycles 5 ours 0 least 0\n"
                                                                "  row 1: [ nop ; load r1 => r2 ]"),
-    "no_head": ("output 0\n[output 0;nop]\ncycles 9\ntotal 3", "block 1 - same cycles 1 ours 1 least 1 claimed 9"),
+    "no_head": ("output 0\n[output 0;nop]\ncycles 9\ntotal 3", "block 1 - lawful cycles 1 ours 1 least 1 claimed 9"),
     "no_head_of_a_name": ("main:\noutput 0\n[output 0;nop]\ncycles 9\ntotal 3",
-                          "block 1 main same cycles 1 ours 1 least 1 claimed 9"),
-    "no_row": ("a: output 0\nb:", "block 1 a differs cycles 0 ours 1 least 1\n  output 1: none for 0",
-               "block 2 b same cycles 0 ours 0 least 0"),
-    "no_row_and_a_total": ("a:\nb: nop\ntotal 0\n", "block 1 a same cycles 0 ours 0 least 0",
-                           "block 2 b same cycles 0 ours 0 least 0"),
+                          "block 1 main lawful cycles 1 ours 1 least 1 claimed 9"),
+    "no_row": ("a: output 0\nb:", "block 1 a differs cycles 0 ours 1 least 1\n  output 1: none for 0", "block 2 b lawful cycles 0 ours 0 least 0"),
+    "no_row_and_a_total": ("a:\nb: nop\ntotal 0\n", "block 1 a lawful cycles 0 ours 0 least 0",
+                           "block 2 b lawful cycles 0 ours 0 least 0"),
     "blanks_and_comments": ("output 0\r\n block 1 -//\n\tcycles\t05 // claimed\r\n// \x00\xff\n\n [\toutput 00 ;nop\r]//\r\n"
                             "[nop;\rnop\t]\r\ncycles 1\n[ nop ; add r1,r02 =>r3 ]\n\n",
                             "block 1 - same cycles 3 ours 1 least 1 claimed 1"),
     "blanks_in_a_row_that_is_shown": ("nop\n [\tmult r1,r02 =>r3;nop\r]//\r\n",
                                       "block 1 - units cycles 3 ours 0 least 0\n  row 1: [ mult r1, r2 => r3 ; nop ]"),
     "row_of_another_block": ("A: output 4\nB: output 8\nblock 1 A\n[ output 4 ; nop ]\nblock 2 B\n[ output 4 ; nop ]\n",
-                             "block 1 A same cycles 1 ours 1 least 1",
+                             "block 1 A lawful cycles 1 ours 1 least 1",
                              "block 2 B differs cycles 1 ours 1 least 1\n  output 1: 9 for 0"),
-    "blocks_passed_over": ("a:\nb:\nc:\nblock 2 b\n[ nop ; output 4 ]\n", "block 1 a same cycles 0 ours 0 least 0",
-                           "block 2 b differs cycles 1 ours 0 least 0\n  output 1: 9 for none",
-                           "block 3 c same cycles 0 ours 0 least 0"),
+    "blocks_passed_over": ("a:\nb:\nc:\nblock 2 b\n[ nop ; output 4 ]\n", "block 1 a lawful cycles 0 ours 0 least 0",
+                           "block 2 b void cycles 1 ours 0 least 0\n  the block shows nothing",
+                           "block 3 c lawful cycles 0 ours 0 least 0"),
     "largest_numbers": ("a:\ncycles 2147483647\ntotal 2147483647\n[ output 2147483647 ; nop ]",
-                        "block 1 a differs cycles 1 ours 0 least 0 claimed 2147483647\n  fault"),
+                        "block 1 a void cycles 1 ours 0 least 0 claimed 2147483647\n  the block shows nothing"),
+    "fault_left_out": (BIG_ADDRESS + "[ loadI 100000 => r0 ; nop ]\n[ output 100000 ; nop ]\n",
+                       "block 1 - void cycles 2 ours 10 least 10\n  the block faults: store r3 => r0"),
 }
 
 # Each is line 4, after a claim.
@@ -196,13 +230,24 @@ def spread(text, apart=6, product_unit=1):
     return "".join(f"{row_text(it)}\n" for it in rows)
 
 
-def judged(name, text, verdict=None, detail=""):
-    """A case of one block with its rows; without a verdict, some that isn't `same`."""
+def judged(name, text, verdict, *below):
+    """A case of one block with its rows, the verdict, and what is listed below it."""
     given = text.encode("latin-1")
     entry, = entries_of(given, USUAL, words_from(4, [9]))
-    out = entry.text(verdict, detail) if verdict else entry.settled()
-    out = out and (out + total([entry])).encode()
-    return Run(f"judged/{name}", WORDS, given, out, b"", 0 if verdict == "same" else NOT_SAME)
+    out = (entry.text(verdict, *below) + total([entry])).encode()
+    return Run(f"judged/{name}", WORDS, given, out, b"", status_of([verdict]))
+
+
+def isnt_passed(text):
+    """What is wrong with what is said of rows that do something else than the block."""
+    given = text.encode("latin-1")
+    entry, = entries_of(given, USUAL, words_from(4, [9]))
+    status, out, err = ending(WORDS, given)
+    got = ENTRY.match(out)
+    if not got or status != NOT_SAME or err or out[got.end():] != total([entry]).encode():
+        yield told((status, out, err))
+    else:
+        yield from entry.wrong(got, is_right=False)
 
 
 def listed(name, text, *entries):
@@ -210,8 +255,7 @@ def listed(name, text, *entries):
     found = [ENTRY.fullmatch(f"{it}\n".encode()) for it in entries]
     sums = [sum(int(it[number]) for it in found) for number in (4, 5, 6)]
     out = "".join(f"{it}\n" for it in [*entries, "total {} ours {} least {}".format(*sums)])
-    status = 0 if all(it[3] == b"same" for it in found) else NOT_SAME
-    return Run(f"judged/{name}", WORDS, text.encode("latin-1"), out.encode(), b"", status)
+    return Run(f"judged/{name}", WORDS, text.encode("latin-1"), out.encode(), b"", status_of(it[3].decode() for it in found))
 
 
 def refused(name, text, fault):
@@ -219,15 +263,14 @@ def refused(name, text, fault):
 
 
 def judged_cases():
-    for name, (block, theirs) in SAME.items():
-        yield judged(f"same_{name}", block + spread(theirs), "same")
+    for name, (block, theirs, *said) in [*SAME.items(), *VERDICTS.items()]:
+        yield judged(name, block + spread(theirs), *said)
     for name, (block, theirs) in UNLIKE.items():
-        yield judged(f"unlike_{name}", block + spread(theirs))
-    for name, (block, theirs, verdict, detail) in VERDICTS.items():
-        yield judged(name, block + spread(theirs), verdict, detail)
+        yield Check(f"judged/unlike_{name}", isnt_passed, block + spread(theirs))
     # Five cycles apart each result is there; four apart one is used a cycle too early.
-    yield judged("five_apart", LOADS_AND_STORES + spread(LOADS_AND_STORES, 5), "same")
-    yield judged("four_apart", LOADS_AND_STORES + spread(LOADS_AND_STORES, 4))
+    yield judged("five_apart", LOADS_AND_STORES + spread(LOADS_AND_STORES, 5), "lawful")
+    yield judged("four_apart", LOADS_AND_STORES + spread(LOADS_AND_STORES, 4), "differs",
+                 f"output 1: 2 for 1 with --at 1028 {COUNTED}")
     yield judged("product_on_unit_0", SQUARE + spread(SQUARE, product_unit=0), "units",
                  "row 13: [ mult r2, r2 => r3 ; nop ]")
     yield from (listed(f"listed_{name}", *it) for name, it in LISTED.items())
@@ -259,8 +302,8 @@ def refusals():
 def at_the_limits():
     full = "a:\nb:\nblock 1 a\n" + "[ nop ; output 0 ]\n" * MOST_OPERATIONS
     many = f"line 10004: more than {MOST_OPERATIONS} operations in a block"
-    a = f"block 1 a differs cycles {MOST_OPERATIONS} ours 0 least 0\n  output 1: 0 for none"
-    yield listed("most_operations", full + "[ nop ; nop ]", a, "block 2 b same cycles 0 ours 0 least 0")
+    a = f"block 1 a void cycles {MOST_OPERATIONS} ours 0 least 0\n  the block shows nothing"
+    yield listed("most_operations", full + "[ nop ; nop ]", a, "block 2 b lawful cycles 0 ours 0 least 0")
     yield listed("most_operations_of_one", full + "block 2 b\n[ output 0 ; output 0 ]", a,
                  "block 2 b units cycles 1 ours 0 least 0\n  row 1: [ output 0 ; output 0 ]")
     yield refused("one_operation_too_many", full + "[ output 0 ; nop ]", many)
@@ -269,12 +312,12 @@ def at_the_limits():
     yield refused("too_many_operations_of_the_block", "a:\n" + "nop\n" * (MOST_OPERATIONS + 1) + "[ nop ; nop ]",
                   f"line {MOST_OPERATIONS + 2}: more than {MOST_OPERATIONS} operations in a block")
     rows = "[nop;nop]\n" * (MOST_BYTES // 10 - 1)
-    yield listed("most_rows", f"nop\n{rows}", "block 1 - same cycles 0 ours 0 least 0")
+    yield listed("most_rows", f"nop\n{rows}", "block 1 - lawful cycles 0 ours 0 least 0")
     heads = "A:\n" * MOST_BLOCKS + "".join(f"block {k} A\ncycles {k}\n" for k in range(1, MOST_BLOCKS + 1))
-    claims = [f"block {k} A same cycles 0 ours 0 least 0 claimed {k}" for k in range(1, MOST_BLOCKS + 1)]
+    claims = [f"block {k} A lawful cycles 0 ours 0 least 0 claimed {k}" for k in range(1, MOST_BLOCKS + 1)]
     yield listed("most_heads", heads, *claims)
     yield refused("one_head_too_many", heads + "block 65535 A", f"line 196606: {NONE}")
-    yield listed("longest_text", "nop" + "\n" * (MOST_BYTES - 3), "block 1 - same cycles 0 ours 0 least 0")
+    yield listed("longest_text", "nop" + "\n" * (MOST_BYTES - 3), "block 1 - lawful cycles 0 ours 0 least 0")
     yield refused("one_byte_too_many", "\n" * MOST_BYTES + "[", f"input longer than {MOST_BYTES} bytes")
 
 

@@ -11,7 +11,7 @@ from hostile.test_texts import KINDS, changed_texts
 from judged.labs import Given
 from judged.students import RIGHT, WRONG, ours
 from oracle.drawn import lab_block, made_block
-from oracle.judge import AT, ENTRY, NOT_SAME, entries_of, proposed, request, total, wrong_ending
+from oracle.judge import AT, ENTRY, NOT_SAME, entries_of, proposed, request, status_of, total, wrong_ending
 from oracle.machine import cycles, words_from
 from oracle.operations import text_of, words_for
 from oracle.scheduler import Schedule
@@ -70,21 +70,22 @@ def handed_in(seed, name, kind):
 def judging_cases():
     for seed, (name, latencies) in enumerate(EACH_LATENCIES.items()):
         text = handed_in(seed, name, ours)
-        yield listed(f"judging/ours_{name}", text, latencies, lambda entry: entry.text("same"))
+        yield listed(f"judging/ours_{name}", text, latencies)
     for kind in WRONG:
         yield from settled(kind)
 
 
-def listed(name, text, latencies, entry_text, words=()):
+def listed(name, text, latencies, words=()):
     """A case of a text for which all verdicts are known."""
     entries = entries_of(text, latencies, words_from(AT, words))
-    out = [entry_text(entry) for entry in entries]
-    status = 0 if all(" same " in it for it in out) else NOT_SAME
-    return Run(name, request(latencies, words), text, "".join([*out, total(entries)]).encode(), b"", status)
+    said = [entry.settled() for entry in entries]
+    out = [entry.text(verdict, *filter(None, [line])) for entry, (verdict, line) in zip(entries, said)]
+    return Run(name, request(latencies, words), text, "".join([*out, total(entries)]).encode(), b"",
+               status_of(verdict for verdict, _ in said))
 
 
 def settled(kind):
-    """A case of all blocks whose verdict the units or the words of memory decide, if there are some."""
+    """A case of all blocks whose verdict the units, the book or the words of memory decide, if there are some."""
     chance = random.Random(kind.__name__)
     blocks, givens = given_blocks(7, "usual", 40)
     rows = [kind(chance, given) for given in givens]
@@ -92,7 +93,7 @@ def settled(kind):
     for number, text in enumerate(files):
         entry, = entries_of(text, USUAL, words_from(AT, WORDS))
         if entry.settled():
-            yield listed(f"judging/{kind.__name__}_{number}", text, USUAL, lambda it: it.settled(), WORDS)
+            yield listed(f"judging/{kind.__name__}_{number}", text, USUAL, WORDS)
 
 
 def judging_checks():
@@ -121,7 +122,7 @@ def made_texts(count):
 
 
 def own_listings(texts):
-    """Our own schedules are the same as the blocks, with the cycles that are listed."""
+    """Our own schedules are by the book, with the cycles that are listed."""
     count = 0
     for count, (latencies, text) in enumerate(texts, 1):
         listing = ending(["schedule", *words_for(latencies)], text)[1]
@@ -129,7 +130,7 @@ def own_listings(texts):
         claims = [int(line.split()[1]) for line in listing.splitlines() if line.startswith(b"cycles")]
         entries = [it.groups() for it in ENTRY.finditer(got[1])]
         wrong = [it for it, claim in zip(entries, claims)
-                 if it[2] != b"same" or int(it[3]) != claim or int(it[4]) != claim or it[6] or it[7]]
+                 if it[2] != b"lawful" or int(it[3]) != claim or int(it[4]) != claim or it[6] or it[7]]
         last = b"total %d ours %d least %d\n" % (sum(claims), sum(claims), sum(int(it[5]) for it in entries))
         if wrong or len(entries) != len(claims) or got[0] or got[2] or not got[1].endswith(last):
             yield f"{text!r}: {wrong or told(got)}"

@@ -1,5 +1,6 @@
 """Whether rows are a schedule of a block by the book: each operation reads what it reads in the block, and no delay by memory
-or outputs is broken. Operations are paired by a plain search. And whether what is said of other rows is so."""
+or outputs is broken. Operations are paired by a plain search among those that are used alike. And whether what is said of other
+rows is so."""
 import re
 from collections import Counter
 
@@ -31,29 +32,57 @@ def sources_in_rows(issued, latencies):
                for register in op.used]
 
 
+def issued_in(rows):
+    return [(cycle, op) for cycle, row in enumerate(rows) for op in row if op]
+
+
+def shapes(ops, sources):
+    """What tells operations apart: labels, what is read and by whom each is read, over and over until no more are told apart."""
+    found, count = [hash(label(op)) for op in ops], 0
+    while len(set(found)) > count:
+        count = len(set(found))
+        users = [Counter() for _ in ops]
+        for k, read in enumerate(sources):
+            for place, i in enumerate(read):
+                if i is not None:
+                    users[i][found[k], place] += 1
+        found = [hash((found[k], tuple(None if i is None else found[i] for i in read), frozenset(users[k].items())))
+                 for k, read in enumerate(sources)]
+    return found
+
+
 def is_by_the_book(block, rows, latencies):
-    ops = [op for op in block if op.opcode != "nop"]
-    issued = [(cycle, op) for cycle, row in enumerate(rows) for op in row if op]
-    wanted, read = [*sources_in_block(ops)], [*sources_in_rows(issued, latencies)]
-    partner = {}
+    ops, issued = [op for op in block if op.opcode != "nop"], issued_in(rows)
+    if Counter(map(label, ops)) != Counter(label(op) for _, op in issued):
+        return False
+    return is_paired(ops, [*sources_in_block(ops)], issued, [*sources_in_rows(issued, latencies)], latencies)
+
+
+def is_paired(ops, wanted, issued, read, latencies):
+    here, there = shapes(ops, wanted), shapes([op for _, op in issued], read)
+    if Counter(here) != Counter(there):
+        return False
+    partner, taken = {}, set()
 
     def fits(j, k):
-        return (label(ops[j]) == label(issued[k][1]) and [partner.get(i) for i in wanted[j]] == read[k]
+        return (here[j] == there[k] and [partner.get(i) for i in wanted[j]] == read[k]
                 and all(issued[partner[i]][0] + d <= issued[k][0] for i in range(j)
                         for d in memory_delays(ops[i], ops[j], latencies)))
 
     def search(j):
         if j == len(ops):
             return True
-        for k in set(range(len(issued))) - set(partner.values()):
-            if fits(j, k):
+        for k in range(len(issued)):
+            if k not in taken and fits(j, k):
                 partner[j] = k
+                taken.add(k)
                 if search(j + 1):
                     return True
+                taken.remove(k)
                 del partner[j]
         return False
 
-    return len(ops) == len(issued) and search(0)
+    return search(0)
 
 
 def lacking(ops, others):

@@ -1,15 +1,17 @@
 """What `check` must say of schedules that others made.
 
 What is right is worked out anew: texts are read by reader.py, rows and blocks are run on machine.py, our cycles and
-the least ones come of scheduler.py. So a verdict may never be `same` where a run differs on some memory, `differs` has
-to name the place that differs, and schedules of the kinds in students.py that are right have to be found so.
+the least ones come of scheduler.py, and what is by the book of book.py. So `lawful` has to be said exactly of rows by the
+book, `void` of blocks that fault or show nothing, a verdict may never be `same` where a run differs on some memory,
+`differs` has to name the place that differs, and schedules of the kinds in students.py that are right have to be found so.
 """
 import re
 from functools import cache
 
 from harness.program import told
 from limits import WORDS
-from oracle.machine import bad_row, cycles, difference, memories, row_text, words_from
+from oracle import book
+from oracle.machine import Fault, Machine, bad_row, cycles, difference, memories, row_text, words_from
 from oracle.operations import words_for
 from oracle.reader import NoBlocks, Refused, read
 from oracle.scheduler import Schedule
@@ -18,8 +20,9 @@ AT = 1024
 # Each verdict that a run doesn't settle is tried on so many memories.
 MEMORIES = 24
 NOT_SAME = 5
-ENTRY = re.compile(rb"block (\d+) (\S+) (same|agrees|differs|units) cycles (\d+) ours (\d+) least (\d+)"
-                   rb"(?: claimed (\d+))?\n(?:  ([^\n]*)\n)?")
+PASSING = {"lawful", "same"}
+ENTRY = re.compile(rb"block (\d+) (\S+) (lawful|same|agrees|differs|void|units) cycles (\d+) ours (\d+) least (\d+)"
+                   rb"(?: claimed (\d+))?\n((?:  [^\n]*\n)*)")
 MADE_UP = re.compile(r"(.*) with --at (\d+)((?: \d+)*)")
 
 
@@ -41,6 +44,17 @@ def explained(lines, latencies):
     return ours.cycles(), ours.least()
 
 
+def why_void(ops, start):
+    """Why a block's outcome on a memory says nothing, or None."""
+    machine = Machine(start)
+    for op in ops:
+        try:
+            machine.run([op])
+        except Fault:
+            return f"the block faults: {op}"
+    return None if any(op.kind in ("store", "output") for op in ops) else "the block shows nothing"
+
+
 class Entry:
     """What is right of one entry of the listing."""
 
@@ -49,6 +63,8 @@ class Entry:
         self.cycles = cycles(block.rows, latencies)
         self.ours, self.least = explained("\n".join(map(str, block.ops)), tuple(latencies.items()))
         self.bad = bad_row(block.rows)
+        self.is_lawful = not self.bad and book.is_by_the_book(block.ops, block.rows, latencies)
+        self.void = why_void(block.ops, start)
         self.place = None if self.bad else difference(block.ops, block.rows, latencies, start)
 
     def numbers(self):
@@ -56,37 +72,46 @@ class Entry:
         claimed = "" if claim in (None, self.cycles) else f" claimed {claim}"
         return f"cycles {self.cycles} ours {self.ours} least {self.least}{claimed}"
 
-    def text(self, verdict, detail=""):
-        below = f"  {detail}\n" if detail else ""
-        return f"block {self.number} {self.block.name} {verdict} {self.numbers()}\n{below}"
+    def text(self, verdict, *below):
+        lines = [f"block {self.number} {self.block.name} {verdict} {self.numbers()}", *(f"  {it}" for it in below)]
+        return "".join(f"{line}\n" for line in lines)
 
     def settled(self):
-        """The entry, where the rules of the units or the memory asked for decide; else None."""
+        """Verdict and first line below, where the units, the book or the memory asked for decide; else None."""
         if self.bad:
-            return self.text("units", f"row {self.bad}: {row_text(self.block.rows[self.bad - 1])}")
-        return self.text("differs", self.place) if self.place else None
+            return "units", f"row {self.bad}: {row_text(self.block.rows[self.bad - 1])}"
+        if self.is_lawful:
+            return "lawful", None
+        return ("void", self.void) if self.void else ("differs", self.place) if self.place else None
 
     def differs_on(self, start):
         return difference(self.block.ops, self.block.rows, self.latencies, start)
 
     def wrong(self, got, is_right):
         """What is wrong with an entry, as a Match of ENTRY."""
-        verdict, detail = got[3].decode(), (got[8] or b"").decode()
-        if got[0].decode() != (self.settled() or self.text(verdict, detail)):
-            yield f"{got[0]!r} in place of {self.settled() or self.text('..')!r}"
-        elif self.settled():
-            return
-        elif verdict == "differs":
-            yield from self.wrong_memory(detail)
-        elif detail or verdict == "units":
-            yield f"{got[0]!r} has something below it"
-        elif is_right and verdict != "same":
-            yield f"{got[0]!r} is right"
+        verdict, below = got[3].decode(), [line[2:] for line in got[8].decode().splitlines()]
+        if got[0].decode() != self.text(verdict, *below):
+            yield f"{got[0]!r} in place of {self.text('..')!r}"
+        due, line = self.settled() or (None, None)
+        first = [below.pop(0)] if below and (line or not due and verdict == "differs") else []
+        if due and (verdict, first) != (due, [line] if line else []):
+            yield f"{got[0]!r} in place of {due} {line}"
+        elif not due:
+            yield from self.wrong_verdict(verdict, first, is_right)
+        if below:
+            yield f"{got[0]!r} has something more below it"
+
+    def wrong_verdict(self, verdict, first, is_right):
+        """What is wrong with a verdict that nothing settles."""
+        if verdict == "differs":
+            yield from self.wrong_memory(*first)
+        elif verdict not in ("same", "agrees") or is_right and verdict != "same":
+            yield f"block {self.number}: {verdict}"
         elif verdict == "same":
             places = filter(None, map(self.differs_on, memories(MEMORIES)))
-            yield from (f"{got[0]!r} differs: {place}" for place in [next(places, None)] if place)
+            yield from (f"block {self.number} isn't the same: {place}" for place in [next(places, None)] if place)
 
-    def wrong_memory(self, detail):
+    def wrong_memory(self, detail=""):
         """What is wrong with a difference on a memory that the judge made up."""
         made = MADE_UP.fullmatch(detail)
         at, words = (int(made[2]), [*map(int, made[3].split())]) if made else (0, [])
@@ -106,6 +131,11 @@ def total(entries):
                                                   for name in ("cycles", "ours", "least")))
 
 
+def status_of(verdicts):
+    """The exit status where these verdicts are listed."""
+    return 0 if set(verdicts) <= PASSING else NOT_SAME
+
+
 def wrong_ending(ending, given, latencies, words=(), is_right=False):
     """What is wrong with how a run of `check` ended."""
     status, out, err = ending
@@ -121,9 +151,9 @@ def wrong_ending(ending, given, latencies, words=(), is_right=False):
         if not got:
             yield f"block {entry.number}: {out[at:at + 100]!r}"
             return
-        at, verdicts = got.end(), verdicts | {got[3]}
+        at, verdicts = got.end(), verdicts | {got[3].decode()}
         yield from entry.wrong(got, is_right)
     if out[at:] != total(entries).encode() or err:
         yield f"{out[at:]!r} in place of {total(entries)!r}, {err!r}"
-    if status != (0 if verdicts <= {b"same"} else NOT_SAME):
+    if status != status_of(verdicts):
         yield f"status {status} of {verdicts}"

@@ -25,11 +25,14 @@ NO_WORKER = (3, b"", b"ilocfarm: a worker could not be started\n")
 UNTOUCHED = 20
 SAMPLED = 40
 
-SMALL = b"A: loadI 8 => r2\nmult r2, r2 => r2\nstore r2 => r2\nB: output 0\noutput 64\nC: output 2\n"
+SMALL = (b"A: loadI 8 => r2\nmult r2, r2 => r2\nstore r2 => r2\nB: output 0\noutput 64\nC: output 2\n"
+         b"D: loadI 8 => r2\noutput 8\nE: output 8\noutput 2\n")
 BAD = b"output 0\nadd r1 r2 => r3\n"
-# Rows for the small blocks: right ones, one with a wrong word, and two outputs in a row.
+# Rows for the small blocks: some with a wrong word, two outputs in a row, a schedule that isn't ours, and none for a block
+# that faults.
 ROWS = (b"block 1 A\n[ loadI 64 => r1 ; nop ]\n[ storeAI r1 => r1, 4 ; nop ]\nblock 2 B\n[ output 64 ; nop ]\n"
-        b"[ nop ; output 0 ]\nblock 3 C\n[ output 2 ; output 2 ]\n")
+        b"[ nop ; output 0 ]\nblock 3 C\n[ output 2 ; output 2 ]\n"
+        b"block 4 D\n[ output 8 ; nop ]\n[ loadI 8 => r3 ; nop ]\n")
 NO_ROW = b"a: output 0\nblock 1 a\n[ nop nop ]\n"
 
 
@@ -101,7 +104,7 @@ def runs(name, given, rows):
 
 
 def few_runs():
-    yield from runs("3 blocks", SMALL, ROWS)
+    yield from runs("5 blocks", SMALL, ROWS)
     yield Asked(["counts"], "a bad line", BAD)
     yield Asked(["lint"], "a bad line", BAD)
     yield Asked(["check"], "a bad row", NO_ROW)

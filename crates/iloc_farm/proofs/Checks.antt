@@ -19,11 +19,12 @@ use Rattle.iloc_sched.specs.declared.wheel.TheConstants.{LONGEST_DELAY}
 use Rattle.iloc_sched.specs.Greedy.{IsGreedy}
 use Rattle.iloc_sched.specs.Least.{least}
 use Rattle.iloc_sched.proofs.Bounds.LeastBound.{least_bound}
-use Rattle.iloc_judge.specs.Checked.{DoTheSame, IsCheck}
+use Rattle.iloc_judge.specs.Checked.{DoTheSame, IsCheck, MayPass, passes}
 use Rattle.iloc_judge.specs.declared.checked.Checked.{Checked}
-use Rattle.iloc_judge.proofs.Sameness.{same_rows_do_the_same}
+use Rattle.iloc_judge.proofs.Sameness.{passed_is_same, passed_rows_may_pass, same_rows_do_the_same}
 use Rattle.iloc_farm.specs.Commands.Check.{IsJudged, Judged, ListsChecked, judged_entries}
 use Rattle.iloc_farm.specs.Fault.{finding_of}
+use Rattle.iloc_farm.specs.Laws.{PassedChecksKeepOutcomes, PassedChecksMayPass}
 use Rattle.iloc_farm.specs.Listing.{block_head}
 use Rattle.iloc_farm.specs.Schedules.{AreGreedy}
 use Rattle.iloc_farm.specs.Steps.Limits.{most_cycles}
@@ -59,14 +60,14 @@ sum_more f xs x =
 all_more : {X : Type 0} (p : X → Bool) (xs : List X) (x : X) → list_all p (xs ++ x ∷ []) ≡ (list_all p xs && p x)
 all_more p xs x = list_all-append p xs (x ∷ []) ∙ ap (λ b. list_all p xs && b) (and-true (p x))
 
-totals_more : (js : List Judged) (j : Judged) → with_checked (totals_of js) j.checked ≡ totals_of (js ++ j ∷ [])
-totals_more js j =
+totals_more : (lawful : Bool) (js : List Judged) (j : Judged) → with_checked lawful (totals_of lawful js) j.checked ≡ totals_of lawful (js ++ j ∷ [])
+totals_more lawful js j =
     let blocks : length js + 1 ≡ length (js ++ j ∷ []) = omega (arith, length-append js (j ∷ [])) in
     let theirs = sym (sum_more (λ (x : Judged). x.checked.cycles) js j) in
     let ours = sym (sum_more (λ (x : Judged). x.checked.ours) js j) in
     let most = sym (sum_more (λ (x : Judged). x.checked.least) js j) in
-    let same = sym (all_more (λ (x : Judged). x.checked.is_same) js j) in
-    λ i. record { blocks = blocks i; cycles = theirs i; ours = ours i; least = most i; all_same = same i }
+    let pass = sym (all_more (λ (x : Judged). passes lawful x.checked) js j) in
+    λ i. record { blocks = blocks i; cycles = theirs i; ours = ours i; least = most i; all_pass = pass i }
 
 -- Entries
 
@@ -86,9 +87,9 @@ middle : {X : Type 0} (P : X → Type 0) (xs ys : List X) (x : X) → AllByRecur
 middle P [] ys x all = all.0
 middle P (z ∷ xs) ys x all = middle P xs ys x all.1
 
-module _ (lat : Latencies) (memory : List ℤ) (blocks : List Block) (proposals : List Proposal) where
+module _ (lawful : Bool) (lat : Latencies) (memory : List ℤ) (blocks : List Block) (proposals : List Proposal) where
   module _ (left rest : List Proposal) (p : Proposal) (text : List ℕ) (totals : Totals) (next : left ≡ p ∷ rest)
-      (so_far : IsCheckedTo lat memory blocks proposals left text totals) where
+      (so_far : IsCheckedTo lawful lat memory blocks proposals left text totals) where
     -- the next proposal is one of all
     whole : map (λ j. j.proposal) so_far.judged ++ p ∷ rest ≡ proposals
     whole = ap (λ ps. map (λ (j : Judged). j.proposal) so_far.judged ++ ps) (sym next) ∙ so_far.of_proposals
@@ -116,8 +117,8 @@ module _ (lat : Latencies) (memory : List ℤ) (blocks : List Block) (proposals 
     pub one_checked : (b : Block) (s : Table) (c : Checked) (more entry : List ℕ) (sums : Totals)
         → totals.blocks < length blocks → b ≡ get_or blocks totals.blocks b
         → IsGreedy lat b.ops s.ops s.rows → IsCheck lat memory b.ops s p c entry → IsSmall c
-        → more ≡ (text ++ block_head (totals.blocks + 1) b.name) ++ entry → sums ≡ with_checked totals c
-        → IsCheckedTo lat memory blocks proposals rest more sums
+        → more ≡ (text ++ block_head (totals.blocks + 1) b.name) ++ entry → sums ≡ with_checked lawful totals c
+        → IsCheckedTo lawful lat memory blocks proposals rest more sums
     one_checked b s c more entry sums within read greedy check small pushed added =
         let js : List Judged = so_far.judged in
         let j : Judged = record { block = b; ours = s; proposal = p; checked = c; text = entry } in
@@ -130,7 +131,7 @@ module _ (lat : Latencies) (memory : List ℤ) (blocks : List Block) (proposals 
         ∙ ap (λ x. take (length js) blocks ++ x ∷ []) (sym here)) in
         record {
           judged = js ++ j ∷ [];
-          sums = added ∙ (ap (λ t. with_checked t c) so_far.sums ∙ totals_more js j);
+          sums = added ∙ (ap (λ t. with_checked lawful t c) so_far.sums ∙ totals_more lawful js j);
           few = let few = so_far.few in
               let cycles = ap (λ (t : Totals). t.cycles) added in
               let ours = ap (λ (t : Totals). t.ours) added in
@@ -154,7 +155,7 @@ module _ (lat : Latencies) (memory : List ℤ) (blocks : List Block) (proposals 
 
   -- no block yet
   pub none_checked : (left : List Proposal) (text : List ℕ) (totals : Totals) → left ≡ proposals → text ≡ []
-      → totals ≡ totals_of [] → IsCheckedTo lat memory blocks proposals left text totals
+      → totals ≡ totals_of lawful [] → IsCheckedTo lawful lat memory blocks proposals left text totals
   none_checked left text totals all empty none = record {
     judged = [];
     sums = none;
@@ -172,9 +173,9 @@ module _ (lat : Latencies) (memory : List ℤ) (blocks : List Block) (proposals 
 
   -- all blocks, and the line with what was found of all
   pub all_checked : (left : List Proposal) (text more : List ℕ) (totals : Totals) → length left ≡ 0
-      → length proposals ≡ length blocks → IsCheckedTo lat memory blocks proposals left text totals
+      → length proposals ≡ length blocks → IsCheckedTo lawful lat memory blocks proposals left text totals
       → more ≡ text ++ totals_text totals
-      → ListsChecked lat memory blocks proposals (finding_of totals.all_same) more
+      → ListsChecked lawful lat memory blocks proposals (finding_of totals.all_pass) more
   all_checked (p ∷ left) text more totals none as_many so_far pushed = absurd (omega arith)
   all_checked [] text more totals none as_many so_far pushed =
       let js : List Judged = so_far.judged in
@@ -191,45 +192,57 @@ module _ (lat : Latencies) (memory : List ℤ) (blocks : List Block) (proposals 
         greedy = greedy;
         only = λ others are. greedy_all_same lat blocks (map (λ (j : Judged). j.ours) js) others greedy are;
         right = so_far.right;
-        found = ap (λ (t : Totals). finding_of t.all_same) so_far.sums;
+        found = ap (λ (t : Totals). finding_of t.all_pass) so_far.sums;
         listed = pushed ∙ ap₂ (λ xs t. xs ++ totals_text t) so_far.listed so_far.sums;
       }
 
 -- What passed
 
-all_are_same : (b : Bool) → Passed ≡ finding_of b → b ≡ true
-all_are_same true is = refl
-all_are_same false is = absurd (cc)
+all_pass : (b : Bool) → Passed ≡ finding_of b → b ≡ true
+all_pass true is = refl
+all_pass false is = absurd (cc)
 
-first_same : (a b : Bool) → (a && b) ≡ true → a ≡ true
-first_same true b is = refl
-first_same false b is = absurd (cc)
+first_passes : (a b : Bool) → (a && b) ≡ true → a ≡ true
+first_passes true b is = refl
+first_passes false b is = absurd (cc)
 
-rest_same : (a b : Bool) → (a && b) ≡ true → b ≡ true
-rest_same true b is = is
-rest_same false b is = absurd (cc)
+rest_passes : (a b : Bool) → (a && b) ≡ true → b ≡ true
+rest_passes true b is = is
+rest_passes false b is = absurd (cc)
 
-do_the_same : (lat : Latencies) (memory : List ℤ) (js : List Judged) → list_all (λ j. j.checked.is_same) js ≡ true
-    → All (IsJudged lat memory) js
-    → AllZip (λ (b : Block) (p : Proposal). DoTheSame lat b.ops p.ops p.rows) (map (λ j. j.block) js)
-    (map (λ j. j.proposal) js)
-do_the_same lat memory [] same right = tt
-do_the_same lat memory (j ∷ js) same right = (
-  same_rows_do_the_same lat memory j.block.ops j.ours j.proposal j.checked j.text
-      (All-head (IsJudged lat memory) j js right)
-      (first_same j.checked.is_same (list_all (λ (x : Judged). x.checked.is_same) js) same),
-  do_the_same lat memory js (rest_same j.checked.is_same (list_all (λ (x : Judged). x.checked.is_same) js) same)
+-- what holds of whatever passes
+abbrev HoldsOfPassed : Bool → Latencies → List ℤ → (Block → Proposal → Type 0) → Type 0
+HoldsOfPassed lawful lat memory P = (j : Judged) → IsJudged lat memory j → passes lawful j.checked ≡ true
+    → P j.block j.proposal
+
+of_each : (lawful : Bool) (lat : Latencies) (memory : List ℤ) (P : Block → Proposal → Type 0)
+    → HoldsOfPassed lawful lat memory P → (js : List Judged) → list_all (λ j. passes lawful j.checked) js ≡ true
+    → All (IsJudged lat memory) js → AllZip P (map (λ j. j.block) js) (map (λ j. j.proposal) js)
+of_each lawful lat memory P holds [] pass right = tt
+of_each lawful lat memory P holds (j ∷ js) pass right = (
+  holds j (All-head (IsJudged lat memory) j js right)
+      (first_passes (passes lawful j.checked) (list_all (λ (x : Judged). passes lawful x.checked) js) pass),
+  of_each lawful lat memory P holds js
+      (rest_passes (passes lawful j.checked) (list_all (λ (x : Judged). passes lawful x.checked) js) pass)
       (All-tail (IsJudged lat memory) j js right),
 )
 
-pub passed_keep_outcomes : (lat : Latencies) (memory : List ℤ) (blocks : List Block) (proposals : List Proposal)
-    (text : List ℕ) → ListsChecked lat memory blocks proposals Passed text
-    → AllZip (λ (b : Block) (p : Proposal). DoTheSame lat b.ops p.ops p.rows) blocks proposals
-passed_keep_outcomes lat memory blocks proposals text lists =
-    let P : List Block → Type 0 =
-    λ bs. AllZip (λ (b : Block) (p : Proposal). DoTheSame lat b.ops p.ops p.rows) bs proposals in
-    let Q : List Proposal → Type 0 =
-    λ ps. AllZip (λ (b : Block) (p : Proposal). DoTheSame lat b.ops p.ops p.rows) (map (λ (j : Judged). j.block) lists.judged)
-    ps in
-    subst P lists.of_blocks (subst Q lists.of_proposals (do_the_same lat memory lists.judged
-    (all_are_same (list_all (λ (j : Judged). j.checked.is_same) lists.judged) lists.found) lists.right))
+of_passed : (lawful : Bool) (lat : Latencies) (memory : List ℤ) (P : Block → Proposal → Type 0)
+    → HoldsOfPassed lawful lat memory P → (blocks : List Block) (proposals : List Proposal) (text : List ℕ)
+    → ListsChecked lawful lat memory blocks proposals Passed text → AllZip P blocks proposals
+of_passed lawful lat memory P holds blocks proposals text lists =
+    let Q : List Block → Type 0 = λ bs. AllZip P bs proposals in
+    let R : List Proposal → Type 0 = λ ps. AllZip P (map (λ (j : Judged). j.block) lists.judged) ps in
+    subst Q lists.of_blocks (subst R lists.of_proposals (of_each lawful lat memory P holds lists.judged
+    (all_pass (list_all (λ (j : Judged). passes lawful j.checked) lists.judged) lists.found) lists.right))
+
+pub passed_keep_outcomes : PassedChecksKeepOutcomes
+passed_keep_outcomes lawful lat memory = of_passed lawful lat memory
+    (λ b p. DoTheSame lat b.ops p.ops p.rows)
+    (λ j right pass. same_rows_do_the_same lat memory j.block.ops j.ours j.proposal j.checked j.text right
+    (passed_is_same lat memory j.block.ops j.ours j.proposal j.checked j.text right lawful pass))
+
+pub passed_may_pass : PassedChecksMayPass
+passed_may_pass lawful lat memory = of_passed lawful lat memory
+    (λ b p. MayPass lawful lat memory b.ops p.ops p.rows)
+    (λ j right pass. passed_rows_may_pass lawful lat memory j.block.ops j.ours j.proposal j.checked j.text right pass)

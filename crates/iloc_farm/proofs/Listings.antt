@@ -1,5 +1,5 @@
 -- What is listed of one input does not depend on the workers, and greedy schedules can be listed.
-use Rattle.std.proofs.Common.{◌≡◌, ℕ, Bool, List, ℤ, None, Option, Some, sym, ◌∙◌, subst}
+use Rattle.std.proofs.Common.{◌≡◌, ℕ, Bool, List, ℤ, None, Option, Some, sym, ap, ◌∙◌, subst}
 use Rattle.std.specs.declared.alloc.Global.{Global}
 use Rattle.std.specs.declared.string.String.{String}
 use Rattle.iloc_ops.specs.declared.file.Block.{Block}
@@ -31,31 +31,31 @@ checks_alike : (r q : Request) → AskAlike r q → (blocks : List Block) (propo
     (text : List ℕ) → Checks r blocks proposals finding text → Checks q blocks proposals finding text
 checks_alike r q alike blocks proposals finding text checks =
     let theirs : List Proposal = placed r.either_slot proposals in
-    let P : Latencies → Type 0 = λ lat. ListsChecked lat (initial_memory r) blocks theirs finding text in
-    let Q : List ℤ → Type 0 = λ memory. ListsChecked q.latencies memory blocks theirs finding text in
-    let R : Bool → Type 0 =
-    λ either_slot. ListsChecked q.latencies (initial_memory q) blocks (placed either_slot proposals) finding text in
-    subst R alike.either_slot (subst Q (one_memory r q alike) (subst P alike.latencies checks))
+    let P : Latencies → Type 0 = λ lat. ListsChecked r.lawful lat (initial_memory r) blocks theirs finding text in
+    let Q : List ℤ → Type 0 = λ memory. ListsChecked r.lawful q.latencies memory blocks theirs finding text in
+    let R : Bool → Type 0 = λ lawful. ListsChecked lawful q.latencies (initial_memory q) blocks theirs finding text in
+    let S : Bool → Type 0 = λ either_slot.
+    ListsChecked q.lawful q.latencies (initial_memory q) blocks (placed either_slot proposals) finding text in
+    subst S alike.either_slot
+        (subst R alike.lawful (subst Q (one_memory r q alike) (subst P alike.latencies checks)))
 
 submission_alike : (r q : Request) → AskAlike r q → (input : List ℕ) (finding : Finding) (text : List ℕ)
     → ListsSubmission r input finding text → ListsSubmission q input finding text
-submission_alike r q alike input finding text lists =
-    record {
-      blocks = lists.blocks;
-      proposals = lists.proposals;
-      denoted = lists.denoted;
-      checked = checks_alike r q alike lists.blocks lists.proposals finding text lists.checked;
-    }
+submission_alike r q alike input finding text lists = record {
+  blocks = lists.blocks;
+  proposals = lists.proposals;
+  denoted = lists.denoted;
+  checked = checks_alike r q alike lists.blocks lists.proposals finding text lists.checked;
+}
 
 apart_alike : (r q : Request) → AskAlike r q → (known old new : Option (List ℕ)) (finding : Finding) (text : List ℕ)
     → ListsApart known r old new finding text → ListsApart known q old new finding text
-apart_alike r q alike known old new finding text lists =
-    record {
-      blocks = lists.blocks;
-      proposals = lists.proposals;
-      read = lists.read;
-      checked = checks_alike r q alike lists.blocks lists.proposals finding text lists.checked;
-    }
+apart_alike r q alike known old new finding text lists = record {
+  blocks = lists.blocks;
+  proposals = lists.proposals;
+  read = lists.read;
+  checked = checks_alike r q alike lists.blocks lists.proposals finding text lists.checked;
+}
 
 -- so is one of an input
 lists_alike : (r q : Request) → AskAlike r q → r.task ≡ task.Check → (old new : Option (List ℕ)) (finding : Finding)

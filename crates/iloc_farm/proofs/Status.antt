@@ -12,6 +12,7 @@ use Rattle.iloc_rows.specs.declared.fault.RowsFault.{RowsFault}
 use Rattle.iloc_rows.specs.declared.fault.RowsFault.TheVariants as rows
 use Rattle.iloc_ops.specs.declared.file.Block.{Block}
 use Rattle.iloc_rows.specs.EitherSlot.{placed}
+use Rattle.iloc_meaning.specs.Memory.{words_from}
 use Rattle.iloc_rows.specs.declared.proposal.Proposal.{Proposal}
 use Rattle.iloc_judge.specs.Checked.{DoTheSame}
 use Rattle.iloc_args.specs.Asked.{Asked, asked_in}
@@ -26,6 +27,7 @@ use Rattle.iloc_farm.specs.declared.commands.Finding.{Finding}
 use Rattle.iloc_farm.specs.declared.commands.Finding.TheVariants.{Passed, Failed, Unread}
 use Rattle.iloc_farm.specs.declared.program.Fault.{Fault}
 use Rattle.iloc_farm.specs.declared.program.Fault.TheVariants.{Line, Run}
+use Rattle.iloc_judge.specs.Checked.{MayPass}
 use Rattle.iloc_farm.specs.Apart.{Held}
 use Rattle.iloc_farm.specs.Fault.{rows_status, task_status, text_status}
 use Rattle.iloc_farm.specs.Fault.{status_of_finding}
@@ -33,7 +35,7 @@ use Rattle.iloc_farm.specs.Commands.Run.{initial_memory}
 use Rattle.iloc_farm.specs.Laws.{ReadsRows, ReadsTheSame, Status0MeansTheSame}
 use Rattle.iloc_farm.specs.Program.{Args, AskFor, IsListed, IsStopped, MakeNone, status_of}
 use Rattle.iloc_farm.specs.Run.{Checks, ListsAs, ListsFor, ListsSubmission}
-use Rattle.iloc_farm.proofs.Checks.{passed_keep_outcomes}
+use Rattle.iloc_farm.proofs.Checks.{passed_keep_outcomes, passed_may_pass}
 
 -- No fault has status 0
 
@@ -133,10 +135,13 @@ listed_same held words read_old read_new finding text a listed passed asks check
     let judged : Judges held request read_old read_new finding text =
     judges held request read_old read_new finding text request.task request.task_file refl is refl listed.listed in
     let Q : Finding → Type 0 = λ f. Checks request judged.blocks judged.proposals f text in
-    let S : Bool → Type 0 = λ either_slot.
+    let T : Bool → Type 0 = λ either_slot.
     AllZip (λ (b : Block) (p : Proposal). DoTheSame request.latencies b.ops p.ops p.rows) judged.blocks
     (placed either_slot judged.proposals) in
     let R : Option (List ℕ) → Type 0 = λ file. ReadsRows held file read_old read_new judged.blocks judged.proposals in
+    let S : Asked → Type 0 = λ x. AllZip (λ (b : Block) (p : Proposal).
+    MayPass x.lawful request.latencies (words_from x.at x.words) b.ops p.ops p.rows) judged.blocks
+    (placed x.either_slot judged.proposals) in
     record {
       blocks = judged.blocks;
       proposals = judged.proposals;
@@ -145,8 +150,10 @@ listed_same held words read_old read_new finding text a listed passed asks check
       load = ap (λ (x : Asked). x.load) same;
       store = ap (λ (x : Asked). x.store) same;
       mult = ap (λ (x : Asked). x.mult) same;
-      same = subst S (ap (λ (x : Asked). x.either_slot) same)
-          (passed_keep_outcomes request.latencies (initial_memory request) judged.blocks
+      same = subst T (ap (λ (x : Asked). x.either_slot) same)
+          (passed_keep_outcomes request.lawful request.latencies (initial_memory request) judged.blocks
+          (placed request.either_slot judged.proposals) text (subst Q passed judged.checked));
+      told = subst S same (passed_may_pass request.lawful request.latencies (initial_memory request) judged.blocks
           (placed request.either_slot judged.proposals) text (subst Q passed judged.checked));
     }
 

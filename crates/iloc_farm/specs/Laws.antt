@@ -1,14 +1,15 @@
 -- What holds of listings as a whole.
-use Rattle.std.specs.Prelude.{◌≡◌, ℕ, ℤ, ◌<◌, ◌^◌, List, length, Option, Some, None, Result}
+use Rattle.std.specs.Prelude.{◌≡◌, ℕ, ℤ, ◌<◌, ◌^◌, Bool, List, length, Option, Some, None, Result}
 use Rattle.std.specs.List.{AllZip}
 use Rattle.std.specs.declared.io.Error.{Error}
 use Rattle.iloc_ops.specs.declared.file.Block.{Block}
+use Rattle.iloc_meaning.specs.Memory.{words_from}
 use Rattle.iloc_text.specs.Files.{AreWithinLimits, Denotes}
 use Rattle.iloc_text.specs.Streams.{ReadsText}
 use Rattle.iloc_timed.specs.declared.latencies.Latencies.{Latencies}
 use Rattle.iloc_timed.specs.Schedule.{Table}
 use Rattle.iloc_rows.specs.declared.proposal.Proposal.{Proposal}
-use Rattle.iloc_judge.specs.Checked.{DoTheSame}
+use Rattle.iloc_judge.specs.Checked.{DoTheSame, MayPass}
 use Rattle.iloc_rows.specs.EitherSlot.{placed}
 use Rattle.iloc_rows.specs.Submissions as submissions
 use Rattle.iloc_args.specs.Asked.{Asked}
@@ -34,6 +35,7 @@ pub record AskAlike (r q : Request) : Type 0 where
   pub task_file : r.task_file ≡ q.task_file
   pub csv : r.csv ≡ q.csv
   pub either_slot : r.either_slot ≡ q.either_slot
+  pub lawful : r.lawful ≡ q.lawful
 
 -- What such requests list of one file is one text. A check lists no file: which of two right verdicts it gives is not
 -- settled, so of one input it may list more than one text.
@@ -56,9 +58,15 @@ ChecksIgnoreWorkers = (r q : Request) → AskAlike r q → r.task ≡ task.Check
 -- where a check passed, the rows that are proposed for each block keep the rules of the units and have its outcome on
 -- every memory
 abbrev pub PassedChecksKeepOutcomes : Type 0
-PassedChecksKeepOutcomes = (lat : Latencies) (memory : List ℤ) (blocks : List Block) (proposals : List Proposal)
-    (text : List ℕ) → ListsChecked lat memory blocks proposals Passed text
+PassedChecksKeepOutcomes = (lawful : Bool) (lat : Latencies) (memory : List ℤ) (blocks : List Block)
+    (proposals : List Proposal) (text : List ℕ) → ListsChecked lawful lat memory blocks proposals Passed text
     → AllZip (λ (b : Block) (p : Proposal). DoTheSame lat b.ops p.ops p.rows) blocks proposals
+
+-- and they pass only if they may
+abbrev pub PassedChecksMayPass : Type 0
+PassedChecksMayPass = (lawful : Bool) (lat : Latencies) (memory : List ℤ) (blocks : List Block)
+    (proposals : List Proposal) (text : List ℕ) → ListsChecked lawful lat memory blocks proposals Passed text
+    → AllZip (λ (b : Block) (p : Proposal). MayPass lawful lat memory b.ops p.ops p.rows) blocks proposals
 
 -- one input was read, which denotes blocks and the rows that are proposed for them
 pub record ReadsSubmission (old new : Option (List ℕ)) (blocks : List Block) (proposals : List Proposal) : Type 0 where
@@ -72,7 +80,8 @@ ReadsRows held None old new blocks proposals = ReadsSubmission old new blocks pr
 ReadsRows held (Some name) old new blocks proposals = ReadsApart (held name) old new blocks proposals
 
 -- Blocks were read, and rows that are proposed for them. With the latencies that are asked for, and in either slot if that is
--- asked for, the rows for each block keep the rules of the units and have its outcome on every memory.
+-- asked for, the rows for each block keep the rules of the units and have its outcome on every memory. They are by the book;
+-- or, where that isn't asked for, the block finishes on the memory that is, and has a store or an output.
 pub record ReadsTheSame (held : Held) (asked : Asked) (old new : Option (List ℕ)) : Type 0 where
   pub blocks : List Block
   pub proposals : List Proposal
@@ -82,6 +91,9 @@ pub record ReadsTheSame (held : Held) (asked : Asked) (old new : Option (List �
   pub store : latencies.store ≡ asked.store
   pub mult : latencies.mult ≡ asked.mult
   pub same : AllZip (λ (b : Block) (p : Proposal). DoTheSame latencies b.ops p.ops p.rows) blocks
+      (placed asked.either_slot proposals)
+  pub told : AllZip (λ (b : Block) (p : Proposal).
+      MayPass asked.lawful latencies (words_from asked.at asked.words) b.ops p.ops p.rows) blocks
       (placed asked.either_slot proposals)
 
 -- so it is where the program ends with status 0 and its words ask for a check

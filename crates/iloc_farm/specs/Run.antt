@@ -61,7 +61,8 @@ pub record ListsFile (request : Request) (input text : List ℕ) : Type 0 where
 -- if it gives that.
 abbrev pub Checks : Request → List Block → List Proposal → Finding → List ℕ → Type 0
 Checks request blocks proposals finding text =
-    ListsChecked request.latencies (initial_memory request) blocks (placed request.either_slot proposals) finding text
+    ListsChecked request.lawful request.latencies (initial_memory request) blocks
+    (placed request.either_slot proposals) finding text
 
 -- the input denotes blocks and what is proposed for them, and the text is what is said of it, with this finding
 pub record ListsSubmission (request : Request) (input : List ℕ) (finding : Finding) (text : List ℕ) : Type 0 where

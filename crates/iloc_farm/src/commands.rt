@@ -38,20 +38,20 @@ use std::thread::Threads;
 /// What a run found out about the schedules that it judged.
 #[derive(Clone, Copy, Debug, Drop, PartialEq, Eq)]
 pub enum Finding {
-    /// Nothing was judged, or all that was has its block's outcome on every memory.
+    /// Nothing was judged, or all that was passed.
     Passed,
-    /// Of something that was judged this wasn't found.
+    /// Something that was judged didn't pass.
     Failed,
     /// The text that was searched for faults has some.
     Unread,
 }
 
 impl Finding {
-    /// What is found where all is the same, or not all.
-    pub(crate) fn of(all_same: bool) -> Finding
-        ensures { result ≡ finding_of all_same }
+    /// What is found where all passes, or not all.
+    pub(crate) fn of(all_pass: bool) -> Finding
+        ensures { result ≡ finding_of all_pass }
     {
-        if all_same {
+        if all_pass {
             Finding::Passed
         } else {
             Finding::Failed

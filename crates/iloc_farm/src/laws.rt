@@ -1,6 +1,6 @@
 //! Laws of listings, as contracts of functions that do nothing.
 ghost use Rattle.iloc_farm.specs.Laws.{ChecksIgnoreWorkers, GreedySchedulesCanBeListed, HandInsDontChangeTheTask};
-ghost use Rattle.iloc_farm.specs.Laws.{ListingsIgnoreWorkers, PassedChecksKeepOutcomes};
+ghost use Rattle.iloc_farm.specs.Laws.{ListingsIgnoreWorkers, PassedChecksKeepOutcomes, PassedChecksMayPass};
 ghost use Rattle.iloc_farm.specs.Laws.{SimulatingListsRuns, Status0MeansTheSame};
 
 /// The number of workers leaves no trace in a listing.
@@ -30,8 +30,14 @@ pub fn passed_checks_keep_outcomes()
     ensures { PassedChecksKeepOutcomes }
 {}
 
-/// So it is where the program ends with status 0 and its words ask for a check: with the latencies that they ask for, of
-/// the blocks and rows that were read.
+/// Where a check passed, the rows that are proposed for each block are by the book; or, where that isn't asked for, the
+/// block finishes on the memory handed in, and has a store or an output.
+pub fn passed_checks_may_pass()
+    ensures { PassedChecksMayPass }
+{}
+
+/// So it is where the program ends with status 0 and its words ask for a check: with the latencies and the memory that
+/// they ask for, of the blocks and rows that were read.
 pub fn status_0_means_the_same()
     ensures { Status0MeansTheSame }
 {}

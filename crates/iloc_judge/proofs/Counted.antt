@@ -18,14 +18,17 @@ use Rattle.iloc_timed.specs.declared.latencies.Latencies.{Latencies}
 use Rattle.iloc_timed.specs.declared.row.Row.{Row}
 use Rattle.iloc_timed.specs.Rows.{row_at, slots}
 use Rattle.iloc_timed.specs.Timed.{Issued, issue, issued_before, executed_in, timed_outcome}
+use Rattle.iloc_judge.specs.declared.comparison.Comparison.{Comparison}
+use Rattle.iloc_judge.specs.declared.comparison.Comparison.TheVariants as of
 use Rattle.iloc_judge.specs.declared.place.Place.{Place}
 use Rattle.iloc_judge.specs.declared.place.Place.TheVariants.{Output, Word, Fault, NoFault}
 use Rattle.iloc_judge.specs.declared.verdict.Verdict.{Verdict}
-use Rattle.iloc_judge.specs.declared.verdict.Verdict.TheVariants.{Units, Same, Agrees, Differs, DiffersOn}
+use Rattle.iloc_judge.specs.declared.verdict.Verdict.TheVariants.{Units, Lawful, Unlawful}
+use Rattle.iloc_judge.specs.Comparison.{IsComparison}
 use Rattle.iloc_judge.specs.Place.{IsPlace}
 use Rattle.iloc_judge.specs.Memory.{memory_of}
 use Rattle.iloc_judge.specs.Verdict.{IsVerdict}
-use Rattle.iloc_judge.specs.Steps.Counted.{IsCounted, CanBeListed}
+use Rattle.iloc_judge.specs.Steps.Counted.{IsCounted, CanBeCompared, CanBeListed}
 
 -- at most n words are emitted
 abbrev EmitsAtMost : ℕ → Outcome → Type 0
@@ -119,13 +122,21 @@ place_counted lat block ops rows memory place short few is =
     few_counted (2 * length rows) (length block) (timed_outcome lat ops rows memory) (outcome block memory) place
     (omega arith) (rows_emit lat ops rows memory) (block_emits block memory) is
 
+compared_listed : (lat : Latencies) (memory : List ℤ) (block ops : List Op) (rows : List Row) (found : Comparison)
+    → length block ≤ MAX_OPS → length rows ≤ MAX_ROWS → IsComparison lat block ops rows memory found
+    → CanBeCompared found
+compared_listed lat memory block ops rows (of.Void why) short few is = tt
+compared_listed lat memory block ops rows of.Same short few is = tt
+compared_listed lat memory block ops rows of.Agrees short few is = tt
+compared_listed lat memory block ops rows (of.Differs place) short few is =
+    place_counted lat block ops rows memory place short few is.1
+compared_listed lat memory block ops rows (of.DiffersOn probe place) short few is =
+    place_counted lat block ops rows (memory_of probe) place short few is.2
+
 pub verdict_listed : (lat : Latencies) (memory : List ℤ) (block ops : List Op) (rows : List Row) (verdict : Verdict)
     → length block ≤ MAX_OPS → length rows ≤ MAX_ROWS → IsVerdict lat block ops rows memory verdict
     → CanBeListed rows verdict
 verdict_listed lat memory block ops rows (Units c) short few is = is.within
-verdict_listed lat memory block ops rows Same short few is = tt
-verdict_listed lat memory block ops rows Agrees short few is = tt
-verdict_listed lat memory block ops rows (Differs place) short few is =
-    place_counted lat block ops rows memory place short few is.1
-verdict_listed lat memory block ops rows (DiffersOn probe place) short few is =
-    place_counted lat block ops rows (memory_of probe) place short few is.2
+verdict_listed lat memory block ops rows Lawful short few is = tt
+verdict_listed lat memory block ops rows (Unlawful reason found) short few is =
+    compared_listed lat memory block ops rows found short few is.2

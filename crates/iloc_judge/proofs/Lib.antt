@@ -2,5 +2,6 @@ pub mod Terms
 pub mod Runs
 pub mod Places
 pub mod SameLists
+pub mod OwnRows
 pub mod Sameness
 pub mod Counted

@@ -1,14 +1,10 @@
--- Two operations, or two rows, are compared as what they are.
-use Rattle.std.proofs.Common.{rules, ◌≡◌, ℕ, List, Option, None, refl, sym, subst, true, ap, ◌==◌}
+-- Two operations are compared as what they are.
+use Rattle.std.proofs.Common.{rules, ◌≡◌, refl, sym, subst, true}
 use Rattle.std.specs.Bool.{Decides}
-use Rattle.std.specs.Option.{option_eq}
-use Rattle.std.proofs.lemmas.Bool.{and_parts, true≢false}
+use Rattle.std.proofs.lemmas.Bool.{true≢false}
 use Rattle.iloc_ops.specs.declared.op.Op.{Op}
 use Rattle.iloc_ops.specs.declared.op.Op.TheVariants.{Load, LoadI, Store, Add, Sub, Mult, Lshift, Rshift, Output, AddI, SubI, MultI, LshiftI, RshiftI, LoadAI, StoreAI, Nop}
 use Rattle.iloc_ops.specs.contracts.op.OpPartialEq.TheImpl as of_ops
-use Rattle.iloc_timed.specs.declared.row.Row.{Row}
-use Rattle.iloc_timed.specs.Rows.{IsTable}
-use Rattle.iloc_timed.specs.contracts.row.RowPartialEq.TheImpl as of_rows
 
 op_equal : (a b : Op) → of_ops.eq-value.it a b ≡ true → a ≡ b
 op_equal Nop Nop same = refl
@@ -36,25 +32,3 @@ op_itself a = search rules
 
 pub op_same : (a b : Op) → Decides (of_ops.eq-value.it a b) (a ≡ b)
 op_same a b = (op_equal a b, λ same. subst (λ (o : Op). of_ops.eq-value.it a o ≡ true) same (op_itself a))
-
-slot_same : (x y : Option ℕ) → Decides (option_eq ◌==◌ x y) (x ≡ y)
-slot_same None None = search rules
-slot_same x y = search rules
-
-pub row_same : (a b : Row) → Decides (of_rows.eq-value.it a b) (a ≡ b)
-row_same a b = (
-  λ same.
-      let both = and_parts (option_eq ◌==◌ a.zero b.zero) (option_eq ◌==◌ a.one b.one) same in
-      let zero : a.zero ≡ b.zero = (slot_same a.zero b.zero).0 both.0 in
-      let one : a.one ≡ b.one = (slot_same a.one b.one).0 both.1 in
-      λ i. record { zero = zero i; one = one i },
-  λ same.
-      let zero = (slot_same a.zero b.zero).1 (ap (λ (r : Row). r.zero) same) in
-      let one = (slot_same a.one b.one).1 (ap (λ (r : Row). r.one) same) in
-      rw (zero, one) refl,
-)
-
--- equal lists keep the same rules
-pub same_table : {ops ops' : List Op} {rows rows' : List Row} → ops ≡ ops' → rows ≡ rows' → IsTable ops rows
-    → IsTable ops' rows'
-same_table ops rows table = rw (← ops, ← rows) table

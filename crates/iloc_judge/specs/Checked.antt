@@ -1,5 +1,5 @@
 -- What is found of the rows that are proposed for a block.
-use Rattle.std.specs.Prelude.{ℕ, ℤ, ◌≡◌, Bool, true, false, List, ◌++◌}
+use Rattle.std.specs.Prelude.{ℕ, ℤ, ◌≡◌, ◌⊎◌, Bool, true, false, List, ◌++◌}
 use Rattle.iloc_ops.specs.declared.op.Op.{Op}
 use Rattle.iloc_timed.specs.declared.latencies.Latencies.{Latencies}
 use Rattle.iloc_timed.specs.declared.row.Row.{Row}
@@ -8,32 +8,46 @@ use Rattle.iloc_timed.specs.Rows.{IsTable}
 use Rattle.iloc_timed.specs.Schedule.{Table}
 use Rattle.iloc_rows.specs.declared.proposal.Proposal.{Proposal}
 use Rattle.iloc_sched.specs.Least.{least}
+use Rattle.iloc_validation.specs.ByTheBook.{IsByTheBook, IssueTheSame}
+use Rattle.iloc_judge.specs.declared.comparison.Comparison.{Comparison}
+use Rattle.iloc_judge.specs.declared.comparison.Comparison.TheVariants.{Same}
 use Rattle.iloc_judge.specs.declared.verdict.Verdict.{Verdict}
-use Rattle.iloc_judge.specs.declared.verdict.Verdict.TheVariants.{Same}
+use Rattle.iloc_judge.specs.declared.verdict.Verdict.TheVariants.{Lawful, Unlawful}
+use Rattle.iloc_judge.specs.Comparison.{AgreesOn}
 use Rattle.iloc_judge.specs.Memory.{IsMemory}
-use Rattle.iloc_judge.specs.Verdict.{AgreesOn, IsVerdict}
+use Rattle.iloc_judge.specs.Verdict.{IsVerdict}
+use Rattle.iloc_judge.specs.Void.{CanBeJudged}
 use Rattle.iloc_judge.specs.declared.checked.Checked.{Checked}
 use Rattle.iloc_judge.specs.Listing.{verdict_line, detail}
 
--- whether the verdict is `Same`
+-- whether the rows are by the book
+abbrev pub is_lawful : Verdict → Bool
+is_lawful Lawful = true
+is_lawful verdict = false
+
+-- whether they have the block's outcome on every memory: they are by the book, or compared as the same
 abbrev pub is_same : Verdict → Bool
-is_same Same = true
+is_same Lawful = true
+is_same (Unlawful reason Same) = true
 is_same verdict = false
 
 -- what goes with a verdict: the cycles of what is proposed, those of our schedule, and the least
 abbrev pub found : Latencies → List Op → Table → Proposal → Verdict → Checked
 found lat block ours proposal verdict = record {
+  is_lawful = is_lawful verdict;
   is_same = is_same verdict;
   cycles = cycles lat proposal.ops proposal.rows;
   ours = cycles lat ours.ops ours.rows;
   least = least lat block;
 }
 
--- Of what is proposed for a block this is found, and this entry listed, by a verdict that is right.
+-- Of what is proposed for a block this is found, and this entry listed, by a verdict that is right. What our schedule
+-- issues is lawful.
 pub record IsCheck (lat : Latencies) (memory : List ℤ) (block : List Op) (ours : Table) (proposal : Proposal)
     (checked : Checked) (entry : List ℕ) : Type 0 where
   pub verdict : Verdict
   pub right : IsVerdict lat block proposal.ops proposal.rows memory verdict
+  pub own : IssueTheSame ours.ops ours.rows proposal.ops proposal.rows → verdict ≡ Lawful
   pub is_found : checked ≡ found lat block ours proposal verdict
   pub listed : entry ≡ verdict_line verdict checked proposal.claimed ++ detail proposal.ops proposal.rows verdict
 
@@ -42,3 +56,17 @@ pub record IsCheck (lat : Latencies) (memory : List ℤ) (block : List Op) (ours
 pub record DoTheSame (lat : Latencies) (block ops : List Op) (rows : List Row) : Type 0 where
   pub table : IsTable ops rows
   pub agree : (words : List ℤ) → IsMemory words → AgreesOn lat block ops rows words
+
+-- What passes
+
+-- whether what is found of rows passes, where nothing but rows by the book does or where it needn't be by the book
+abbrev pub passes : Bool → Checked → Bool
+passes true checked = checked.is_lawful
+passes false checked = checked.is_same
+
+-- What holds of rows that pass: they are by the book; or, where they needn't be, they have the block's outcome on every
+-- memory, and on the one handed in that says something.
+abbrev pub MayPass : Bool → Latencies → List ℤ → List Op → List Op → List Row → Type 0
+MayPass true lat memory block ops rows = IsByTheBook lat block ops rows
+MayPass false lat memory block ops rows =
+    IsByTheBook lat block ops rows ⊎ (DoTheSame lat block ops rows × CanBeJudged block memory)

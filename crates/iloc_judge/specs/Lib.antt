@@ -1,7 +1,9 @@
 pub mod Checked
+pub mod Comparison
 pub mod Laws
 pub mod Listing
 pub mod Memory
 pub mod Place
 pub mod Verdict
+pub mod Void
 pub mod Steps

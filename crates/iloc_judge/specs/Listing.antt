@@ -4,24 +4,34 @@ use Rattle.std.specs.List.{flat_map}
 use Rattle.std.specs.Fmt.{decimal, signed_decimal}
 use Rattle.iloc_ops.specs.declared.op.Op.{Op}
 use Rattle.iloc_ops.specs.Columns.{column}
+use Rattle.iloc_ops.specs.Spelling.{spelling}
 use Rattle.iloc_timed.specs.declared.row.Row.{Row}
 use Rattle.iloc_timed.specs.Rows.{row_at}
 use Rattle.iloc_timed.specs.Spelling.{row_line}
+use Rattle.iloc_judge.specs.declared.comparison.Comparison.{Comparison}
+use Rattle.iloc_judge.specs.declared.comparison.Comparison.TheVariants as of
 use Rattle.iloc_judge.specs.declared.place.Place.{Place}
 use Rattle.iloc_judge.specs.declared.place.Place.TheVariants.{Output, Word, Fault, NoFault}
 use Rattle.iloc_judge.specs.declared.refutation.probe.Probe.{Probe}
 use Rattle.iloc_judge.specs.declared.verdict.Verdict.{Verdict}
-use Rattle.iloc_judge.specs.declared.verdict.Verdict.TheVariants.{Units, Same, Agrees, Differs, DiffersOn}
+use Rattle.iloc_judge.specs.declared.verdict.Verdict.TheVariants.{Units, Lawful, Unlawful}
+use Rattle.iloc_judge.specs.declared.void.Void.{Void}
+use Rattle.iloc_judge.specs.declared.void.Void.TheVariants.{Faults, ShowsNothing}
 use Rattle.iloc_judge.specs.declared.checked.Checked.{Checked}
 
 -- The line of the verdict
 
+abbrev pub comparison_word : Comparison → List ℕ
+comparison_word (of.Void why) = codes "void"
+comparison_word of.Same = codes "same"
+comparison_word of.Agrees = codes "agrees"
+comparison_word (of.Differs place) = codes "differs"
+comparison_word (of.DiffersOn probe place) = codes "differs"
+
 abbrev pub verdict_word : Verdict → List ℕ
 verdict_word (Units c) = codes "units"
-verdict_word Same = codes "same"
-verdict_word Agrees = codes "agrees"
-verdict_word (Differs place) = codes "differs"
-verdict_word (DiffersOn probe place) = codes "differs"
+verdict_word Lawful = codes "lawful"
+verdict_word (Unlawful reason found) = comparison_word found
 
 -- ` claimed X`, where a number of cycles is claimed and isn't this one
 abbrev pub wrong_claim : ℕ → Option ℕ → List ℕ
@@ -34,7 +44,12 @@ verdict_line verdict checked claimed =
     codes " " ++ verdict_word verdict ++ column (codes "cycles") checked.cycles ++ column (codes "ours") checked.ours
     ++ column (codes "least") checked.least ++ wrong_claim checked.cycles claimed ++ codes "\n"
 
--- The line that tells where rows go wrong
+-- The line of how rows compare with their block
+
+-- the operation at which the block faults, or that it shows nothing
+abbrev pub void_told : Void → List ℕ
+void_told (Faults op) = codes "  the block faults: " ++ spelling op
+void_told ShowsNothing = codes "  the block shows nothing"
 
 abbrev pub word_or_none : Option ℤ → List ℕ
 word_or_none None = codes "none"
@@ -57,14 +72,21 @@ abbrev pub probe_told : Probe → List ℕ
 probe_told probe =
     codes " with --at " ++ decimal probe.at ++ flat_map (λ word. codes " " ++ decimal word) probe.words.items
 
+abbrev pub comparison_told : Comparison → List ℕ
+comparison_told (of.Void why) = void_told why ++ codes "\n"
+comparison_told of.Same = []
+comparison_told of.Agrees = []
+comparison_told (of.Differs place) = place_told place ++ codes "\n"
+comparison_told (of.DiffersOn probe place) = place_told place ++ probe_told probe ++ codes "\n"
+
+-- All of a verdict
+
 -- `row N: [ X ; Y ]`, counted from 1
 abbrev pub bad_row : List Op → List Row → ℕ → List ℕ
 bad_row ops rows c = codes "  row " ++ decimal (c + 1) ++ codes ": " ++ row_line ops (row_at rows c)
 
--- where these operations and rows go wrong
+-- what is said of these operations and rows below the line of the verdict
 abbrev pub detail : List Op → List Row → Verdict → List ℕ
 detail ops rows (Units c) = bad_row ops rows c
-detail ops rows Same = []
-detail ops rows Agrees = []
-detail ops rows (Differs place) = place_told place ++ codes "\n"
-detail ops rows (DiffersOn probe place) = place_told place ++ probe_told probe ++ codes "\n"
+detail ops rows Lawful = []
+detail ops rows (Unlawful reason found) = comparison_told found

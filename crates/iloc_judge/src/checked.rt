@@ -1,19 +1,19 @@
 //! What is found of the rows that are proposed for a block.
-ghost use Rattle.std.specs.Prelude.{ℕ, ℤ, ◌≡◌, ◌≤◌, ◌++◌, true, List, length, IfOk};
-ghost use Rattle.iloc_meaning.specs.Outcome.{outcome};
+ghost use Rattle.std.specs.Prelude.{ℕ, ◌≡◌, ◌≤◌, ◌++◌, List, length, IfOk};
 ghost use Rattle.iloc_timed.specs.Schedule.{AreInRange, AreOnce};
-ghost use Rattle.iloc_timed.specs.Timed.{timed_outcome};
-ghost use Rattle.iloc_judge.specs.Checked.{is_same, IsCheck, DoTheSame};
+ghost use Rattle.iloc_sched.specs.Lawful.{IsLawful};
+ghost use Rattle.iloc_sched.specs.Least as bound;
+ghost use Rattle.iloc_judge.specs.Checked.{is_lawful, is_same, passes, IsCheck};
 
 mod detail;
 mod verdict_line;
 
+use crate::comparison::Comparison;
 use crate::verdict::{Verdict, judge};
 use detail::push_detail;
 use iloc_meaning::Memory;
 use iloc_ops::{Block, MAX_OPS, NoMemory};
 use iloc_rows::Proposal;
-use iloc_sched::least;
 use iloc_timed::{Latencies, Schedule, cycles, cycles_of};
 use std::alloc::Global;
 use verdict_line::push_verdict_line;
@@ -21,6 +21,8 @@ use verdict_line::push_verdict_line;
 /// What is found of the rows that are proposed for a block.
 #[derive(Clone, Copy, Debug, PartialEq, Eq)]
 pub struct Checked {
+    /// Whether they are a schedule of the block by the book.
+    pub is_lawful: bool,
     /// Whether they are known to have the block's outcome on every memory of 16,384 words of 32 bits.
     pub is_same: bool,
     /// How many cycles they take.
@@ -31,23 +33,44 @@ pub struct Checked {
     pub least: u64,
 }
 
-/// Whether it is said that the rows are the same.
+impl Checked {
+    /// Whether the rows pass: where `lawful` is set only if they are by the book.
+    pub fn passes(&self, lawful: bool) -> bool
+        ensures { result ≡ passes lawful self.now }
+    {
+        if lawful { self.is_lawful } else { self.is_same }
+    }
+}
+
+/// Whether it is said that the rows are by the book.
+fn is_lawful(verdict: &Verdict) -> bool
+    ensures { result ≡ is_lawful verdict.now }
+{
+    matches!(verdict, Verdict::Lawful)
+}
+
+/// Whether it is said that they have the block's outcome on every memory.
 fn is_same(verdict: &Verdict) -> bool
     ensures { result ≡ is_same verdict.now }
 {
-    matches!(verdict, Verdict::Same)
+    matches!(
+        verdict,
+        Verdict::Lawful | Verdict::Unlawful(_, Comparison::Same)
+    )
 }
 
-/// Judges what is proposed for a block, and appends what is listed of it behind the block's head: the verdict with the
-/// cycles of the rows, ours and the least, and a line that tells where the rows go wrong, if they do.
+/// Judges what is proposed for a block, beside our schedule of it, and appends what is listed of it after the block's head:
+/// the verdict with the cycles of the rows, ours and the least, and the lines that tell where the rows go wrong, if they do.
 ///
-/// Our schedule, which has the block's outcome on every memory, is what they are compared with, and is the same as itself.
-/// After a refusal a part of it may stand behind the text.
+/// After a refusal a part of it may have been appended.
+///
+/// Promise: what is listed is a verdict that holds as it is stated, with the cycles, and what our schedule issues is lawful.
 pub fn push_check(
     alloc: Global,
     text: &mut Vec<u8>,
     block: &Block,
     ours: &Schedule,
+    least: u64,
     proposal: Proposal,
     latencies: &Latencies,
     memory: &Memory,
@@ -55,15 +78,11 @@ pub fn push_check(
     requires few { length block.now.ops ≤ MAX_OPS }
     requires in_range { AreInRange (length proposal.ops) proposal.rows }
     requires once { AreOnce (length proposal.ops) proposal.rows }
-    requires kept { (words : List ℤ) → timed_outcome latencies.now ours.now.ops ours.now.rows words
-        ≡ outcome block.now.ops words }
-    ensures listed { IfOk result (λ checked. (entry : List ℕ)
+    requires lawful { IsLawful latencies.now block.now.ops ours.now.ops ours.now.rows }
+    requires least { least ≡ bound.least latencies.now block.now.ops }
+    ensures { IfOk result (λ checked. (entry : List ℕ)
         × IsCheck latencies.now memory.now block.now.ops ours.now proposal checked entry
         × (text.new.items ≡ text.old.items ++ entry)) }
-    ensures same { IfOk result (λ checked. checked.is_same ≡ true
-        → DoTheSame latencies.now block.now.ops proposal.ops proposal.rows) }
-    ensures own { IfOk result (λ checked.
-        ours.now.ops ≡ proposal.ops → ours.now.rows ≡ proposal.rows → checked.is_same ≡ true) }
 {
     let ops = proposal.ops.as_slice();
     let rows = proposal.rows.as_slice();
@@ -71,10 +90,11 @@ pub fn push_check(
     let their_rows = Vec::from_slice(alloc, rows)?;
     let verdict = judge(alloc, block, ours, their_ops, their_rows, latencies, memory)?;
     let checked = Checked {
+        is_lawful: is_lawful(&verdict),
         is_same: is_same(&verdict),
         cycles: cycles_of(ops, rows, latencies),
         ours: cycles(ours, latencies),
-        least: least(alloc, block, latencies)?,
+        least,
     };
     push_verdict_line(text, &verdict, checked, proposal.claimed)?;
     push_detail(text, ops, rows, &verdict)?;

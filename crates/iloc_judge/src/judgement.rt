@@ -1,6 +1,5 @@
 //! Whether two schedules do the same on every memory.
-ghost use Rattle.std.specs.Prelude.{◌≡◌, ◌↔◌, true, List, ℤ, IfOk, IsTrue, Option, None};
-ghost use Rattle.iloc_timed.specs.Rows.{IsTable};
+ghost use Rattle.std.specs.Prelude.{◌≡◌, List, ℤ, IfOk, None};
 ghost use Rattle.iloc_timed.specs.Timed.{timed_outcome};
 ghost use Rattle.iloc_judge.specs.Memory.{IsMemory};
 ghost use Rattle.iloc_judge.specs.Steps.Agreement.{SeenSame};
@@ -9,8 +8,8 @@ use crate::agreement::agree;
 use crate::refutation::clues::Clues;
 use crate::symbols::Symbols;
 use crate::table::Table;
-use iloc_ops::{NoMemory, Op};
-use iloc_timed::{Latencies, Row, Schedule};
+use iloc_ops::NoMemory;
+use iloc_timed::{Latencies, Schedule};
 use std::alloc::Global;
 
 /// Nothing where two ends agree, whatever their terms mean. Else what they mention.
@@ -44,12 +43,4 @@ pub(crate) fn clues(
     let one = Symbols::of(alloc, &mut table, ours, latencies)?;
     let other = Symbols::of(alloc, &mut table, theirs, latencies)?;
     clues_of_ends(alloc, &table, &one, &other)
-}
-
-/// Whether a schedule has just these operations and these rows.
-pub(crate) fn has_lists(schedule: &Schedule, ops: &[Op], rows: &[Row]) -> bool
-    ensures lists { IsTrue result ↔ ((schedule.now.ops ≡ ops.now) × (schedule.now.rows ≡ rows.now)) }
-    ensures table { result ≡ true → IsTable ops.now rows.now }
-{
-    schedule.ops() == ops && schedule.rows() == rows
 }

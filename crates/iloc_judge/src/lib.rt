@@ -4,15 +4,20 @@
 
 mod agreement;
 mod checked;
+mod comparison;
 mod judgement;
 pub mod laws;
+mod own;
 mod place;
 mod refutation;
 mod symbols;
 mod table;
 mod verdict;
+mod void;
 
 pub use checked::{Checked, push_check};
+pub use comparison::Comparison;
 pub use place::Place;
 pub use refutation::probe::Probe;
 pub use verdict::{Verdict, judge};
+pub use void::Void;

@@ -1,5 +1,5 @@
 -- The listing of what is said of the schedules that others proposed for a file's blocks.
-use Rattle.std.specs.Prelude.{ℕ, ◌+◌, ◌≡◌, ℤ, List, [], ◌∷◌, ◌++◌, map, sum_by, codes}
+use Rattle.std.specs.Prelude.{ℕ, ◌+◌, ◌≡◌, ℤ, Bool, List, [], ◌∷◌, ◌++◌, map, sum_by, codes}
 use Rattle.std.specs.List.{All, list_all}
 use Rattle.std.specs.Fmt.{decimal}
 use Rattle.iloc_ops.specs.declared.file.Block.{Block}
@@ -7,7 +7,7 @@ use Rattle.iloc_timed.specs.declared.latencies.Latencies.{Latencies}
 use Rattle.iloc_timed.specs.Schedule.{Table}
 use Rattle.iloc_rows.specs.declared.proposal.Proposal.{Proposal}
 use Rattle.iloc_judge.specs.declared.checked.Checked.{Checked}
-use Rattle.iloc_judge.specs.Checked.{IsCheck}
+use Rattle.iloc_judge.specs.Checked.{IsCheck, passes}
 use Rattle.iloc_farm.specs.Fault.{finding_of}
 use Rattle.iloc_farm.specs.Listing.{block_head}
 use Rattle.iloc_farm.specs.Schedules.{AreGreedy, AreTheOnlyGreedy}
@@ -38,8 +38,8 @@ totals_line js =
     ++ codes " least " ++ decimal (sum_by (λ j. j.checked.least) js) ++ codes "\n"
 
 -- The text says of each proposal, beside the greedy schedule of its block, what is right, and ends with their cycles
--- together. They passed exactly where each is found to be the same.
-pub record ListsChecked (lat : Latencies) (memory : List ℤ) (blocks : List Block) (proposals : List Proposal)
+-- together. They passed exactly where each does.
+pub record ListsChecked (lawful : Bool) (lat : Latencies) (memory : List ℤ) (blocks : List Block) (proposals : List Proposal)
     (finding : Finding) (text : List ℕ) : Type 0 where
   pub judged : List Judged
   pub of_blocks : map (λ j. j.block) judged ≡ blocks
@@ -47,5 +47,5 @@ pub record ListsChecked (lat : Latencies) (memory : List ℤ) (blocks : List Blo
   pub greedy : AreGreedy lat blocks (map (λ j. j.ours) judged)
   pub only : AreTheOnlyGreedy lat blocks (map (λ j. j.ours) judged)
   pub right : All (IsJudged lat memory) judged
-  pub found : finding ≡ finding_of (list_all (λ j. j.checked.is_same) judged)
+  pub found : finding ≡ finding_of (list_all (λ j. passes lawful j.checked) judged)
   pub listed : text ≡ judged_entries 1 judged ++ totals_line judged

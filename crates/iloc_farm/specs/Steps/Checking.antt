@@ -1,10 +1,11 @@
 -- What was found of several proposals together, and the listing of checks as far as the blocks were gone through.
-use Rattle.std.specs.Prelude.{ℕ, ◌+◌, ◌*◌, ◌≡◌, ◌≤◌, ◌&&◌, ℤ, List, ◌++◌, map, take, length, sum_by, codes}
+use Rattle.std.specs.Prelude.{ℕ, ◌+◌, ◌*◌, ◌≡◌, ◌≤◌, ◌&&◌, ℤ, Bool, List, ◌++◌, map, take, length, sum_by, codes}
 use Rattle.std.specs.List.{All, list_all}
 use Rattle.std.specs.Fmt.{decimal}
 use Rattle.iloc_ops.specs.declared.file.Block.{Block}
 use Rattle.iloc_timed.specs.declared.latencies.Latencies.{Latencies}
 use Rattle.iloc_rows.specs.declared.proposal.Proposal.{Proposal}
+use Rattle.iloc_judge.specs.Checked.{passes}
 use Rattle.iloc_judge.specs.declared.checked.Checked.{Checked}
 use Rattle.iloc_farm.specs.declared.commands.totals.Totals.{Totals}
 use Rattle.iloc_farm.specs.Commands.Check.{IsJudged, Judged, judged_entries}
@@ -12,23 +13,23 @@ use Rattle.iloc_farm.specs.Schedules.{AreGreedy}
 use Rattle.iloc_farm.specs.Steps.Limits.{most_cycles, most_proposed_cycles}
 
 -- what was found of these together
-abbrev pub totals_of : List Judged → Totals
-totals_of js = record {
+abbrev pub totals_of : Bool → List Judged → Totals
+totals_of lawful js = record {
   blocks = length js;
   cycles = sum_by (λ j. j.checked.cycles) js;
   ours = sum_by (λ j. j.checked.ours) js;
   least = sum_by (λ j. j.checked.least) js;
-  all_same = list_all (λ j. j.checked.is_same) js;
+  all_pass = list_all (λ j. passes lawful j.checked) js;
 }
 
 -- with one more
-abbrev pub with_checked : Totals → Checked → Totals
-with_checked t c = record {
+abbrev pub with_checked : Bool → Totals → Checked → Totals
+with_checked lawful t c = record {
   blocks = t.blocks + 1;
   cycles = t.cycles + c.cycles;
   ours = t.ours + c.ours;
   least = t.least + c.least;
-  all_same = t.all_same && c.is_same;
+  all_pass = t.all_pass && passes lawful c;
 }
 
 -- the line of the totals
@@ -50,10 +51,10 @@ pub record AreFew (t : Totals) : Type 0 where
   pub least : t.least ≤ most_cycles * t.blocks
 
 -- the text has the entries of the first blocks, for which this was found, and these proposals are left
-pub record IsCheckedTo (lat : Latencies) (memory : List ℤ) (blocks : List Block) (proposals left : List Proposal)
+pub record IsCheckedTo (lawful : Bool) (lat : Latencies) (memory : List ℤ) (blocks : List Block) (proposals left : List Proposal)
     (text : List ℕ) (totals : Totals) : Type 0 where
   pub judged : List Judged
-  pub sums : totals ≡ totals_of judged
+  pub sums : totals ≡ totals_of lawful judged
   pub few : AreFew totals
   pub of_blocks : map (λ j. j.block) judged ≡ take (length judged) blocks
   pub of_proposals : map (λ j. j.proposal) judged ++ left ≡ proposals

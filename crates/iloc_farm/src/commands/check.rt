@@ -23,7 +23,7 @@ use iloc_judge::push_check;
 use iloc_meaning::Memory;
 use iloc_rows::laws::{placed_rows_are_within_limits, submissions_are_within_limits};
 use iloc_rows::{RowsFault, Submission, read_submission};
-use iloc_sched::Scheduler;
+use iloc_sched::{Heuristic, Scheduler};
 use iloc_text::{NoMemory, read_text_from};
 use iloc_timed::{Latencies, MAX_ROWS};
 use std::alloc::Global;
@@ -33,7 +33,7 @@ use std::io::Read;
 #[derive(Debug, Drop)]
 struct CheckedText {
     text: Vec<u8>,
-    /// Whether each was found to be the same as its block.
+    /// Whether each passes.
     finding: Finding,
 }
 
@@ -48,16 +48,17 @@ fn submission_of(alloc: Global, input: Vec<u8>) -> Result<Submission, RowsFault>
     read_submission(alloc, &input)
 }
 
-/// The listing of what is said of each proposal beside the greedy schedule of its block, on this memory and, where it
-/// is the same, on every other; and at the end the cycles of all. Our schedule is let go as soon as it is compared.
+/// The listing of what is said of each proposal beside the greedy schedule of its block, with this memory handed in; and at
+/// the end the cycles of all. Where `lawful` is set none passes but by the book.
 fn checked_text(
     alloc: Global,
     submission: Submission,
     latencies: &Latencies,
     memory: &Memory,
+    lawful: bool,
 ) -> Result<CheckedText, NoMemory>
     requires { AreWithinLimits submission.blocks submission.proposals }
-    ensures { IfOk result (λ found. ListsChecked latencies.now memory.now
+    ensures { IfOk result (λ found. ListsChecked lawful latencies.now memory.now
         submission.blocks submission.proposals found.finding found.text.items) }
 {
     let Submission { blocks, proposals } = submission;
@@ -66,16 +67,19 @@ fn checked_text(
     let mut totals = Totals::none();
     for proposal in proposals.into_vec() {
         let block = &blocks.as_slice()[totals.blocks];
-        let ours = scheduler.schedule(block, latencies)?;
+        let (ours, least) = scheduler.lend_with_least(block, latencies, Heuristic::Chain)?;
         prove!(proposal.rows.as_slice().len() <= MAX_ROWS);
         push_block_head(&mut text, totals.blocks + 1, block.name.as_ref())?;
-        let checked = push_check(alloc, &mut text, block, &ours, proposal, latencies, memory)?;
-        totals.add(&checked);
+        let checked = push_check(
+            alloc, &mut text, block, &ours, least, proposal, latencies, memory,
+        )?;
+        scheduler.take_back(ours);
+        totals.add(&checked, lawful);
     }
     totals.push_line(&mut text)?;
     Ok(CheckedText {
         text,
-        finding: Finding::of(totals.all_same),
+        finding: Finding::of(totals.all_pass),
     })
 }
 
@@ -91,7 +95,13 @@ fn listed_rows(alloc: Global, submission: Submission, request: &Request) -> Resu
         proposals: submission.proposals.placed(request.either_slot),
     };
     let memory = initial_memory(alloc, request)?;
-    let checked = checked_text(alloc, submission, &request.latencies, &memory)?;
+    let checked = checked_text(
+        alloc,
+        submission,
+        &request.latencies,
+        &memory,
+        request.lawful,
+    )?;
     Ok(Listed {
         text: Listing::of_text(alloc, checked.text)?,
         finding: checked.finding,

@@ -1,5 +1,5 @@
 //! What was found of several proposals together.
-ghost use Rattle.std.specs.Prelude.{◌≡◌, ◌<◌, ◌^◌, ◌+◌, ◌++◌, [], OnOk};
+ghost use Rattle.std.specs.Prelude.{◌≡◌, ◌<◌, ◌^◌, ◌+◌, ◌++◌, Bool, [], OnOk};
 ghost use Rattle.iloc_farm.specs.Steps.Checking.{totals_of, totals_text, with_checked};
 
 use iloc_judge::Checked;
@@ -16,37 +16,37 @@ pub(crate) struct Totals {
     pub ours: u64,
     /// The least cycles together.
     pub least: u64,
-    /// Whether each proposal is the same as its block.
-    pub all_same: bool,
+    /// Whether each proposal passes.
+    pub all_pass: bool,
 }
 
 impl Totals {
     /// Those of no block.
     pub(crate) fn none() -> Totals
-        ensures { result ≡ totals_of [] }
+        ensures { (lawful : Bool) → result ≡ totals_of lawful [] }
     {
         Totals {
             blocks: 0,
             cycles: 0,
             ours: 0,
             least: 0,
-            all_same: true,
+            all_pass: true,
         }
     }
 
-    /// Adds what was found of one proposal more.
-    pub(crate) fn add(&mut self, checked: &Checked)
+    /// Adds what was found of one proposal more, which where `lawful` is set passes only if it is by the book.
+    pub(crate) fn add(&mut self, checked: &Checked, lawful: bool)
         requires blocks { self.old.blocks + 1 < 2 ^ 63 }
         requires cycles { self.old.cycles + checked.now.cycles < 2 ^ 63 }
         requires ours { self.old.ours + checked.now.ours < 2 ^ 63 }
         requires least { self.old.least + checked.now.least < 2 ^ 63 }
-        ensures { self.new ≡ with_checked self.old checked.now }
+        ensures { self.new ≡ with_checked lawful self.old checked.now }
     {
         self.blocks += 1;
         self.cycles += checked.cycles;
         self.ours += checked.ours;
         self.least += checked.least;
-        self.all_same &= checked.is_same;
+        self.all_pass &= checked.passes(lawful);
     }
 
     /// Appends `total C ours O least L`.

@@ -1,10 +1,12 @@
 -- Which verdicts can be listed: outputs and rows are counted from 1.
 use Rattle.std.specs.Prelude.{◌+◌, ◌<◌, ◌^◌, List, length}
 use Rattle.iloc_timed.specs.declared.row.Row.{Row}
+use Rattle.iloc_judge.specs.declared.comparison.Comparison.{Comparison}
+use Rattle.iloc_judge.specs.declared.comparison.Comparison.TheVariants as of
 use Rattle.iloc_judge.specs.declared.place.Place.{Place}
 use Rattle.iloc_judge.specs.declared.place.Place.TheVariants.{Output, Word, Fault, NoFault}
 use Rattle.iloc_judge.specs.declared.verdict.Verdict.{Verdict}
-use Rattle.iloc_judge.specs.declared.verdict.Verdict.TheVariants.{Units, Same, Agrees, Differs, DiffersOn}
+use Rattle.iloc_judge.specs.declared.verdict.Verdict.TheVariants.{Units, Lawful, Unlawful}
 
 -- the number of an output fits 64 bits
 abbrev pub IsCounted : Place → Type 0
@@ -13,10 +15,15 @@ IsCounted (Word address got wanted) = Unit {0}
 IsCounted Fault = Unit {0}
 IsCounted NoFault = Unit {0}
 
+abbrev pub CanBeCompared : Comparison → Type 0
+CanBeCompared (of.Void why) = Unit {0}
+CanBeCompared of.Same = Unit {0}
+CanBeCompared of.Agrees = Unit {0}
+CanBeCompared (of.Differs place) = IsCounted place
+CanBeCompared (of.DiffersOn probe place) = IsCounted place
+
 -- a bad row is one of the rows, and the number of an output fits
 abbrev pub CanBeListed : List Row → Verdict → Type 0
 CanBeListed rows (Units c) = c < length rows
-CanBeListed rows Same = Unit {0}
-CanBeListed rows Agrees = Unit {0}
-CanBeListed rows (Differs place) = IsCounted place
-CanBeListed rows (DiffersOn probe place) = IsCounted place
+CanBeListed rows Lawful = Unit {0}
+CanBeListed rows (Unlawful reason found) = CanBeCompared found

@@ -1,14 +1,16 @@
-//! The line that tells where rows go wrong.
+//! The lines that tell where rows go wrong.
 ghost use Rattle.std.specs.Prelude.{◌≡◌, ◌+◌, ◌<◌, ◌^◌, ◌++◌, length, OnOk, codes};
 ghost use Rattle.std.specs.List.{flat_map};
 ghost use Rattle.std.specs.Fmt.{decimal};
 ghost use Rattle.iloc_judge.specs.Listing as listed;
-ghost use Rattle.iloc_judge.specs.Steps.Counted.{IsCounted, CanBeListed};
+ghost use Rattle.iloc_judge.specs.Steps.Counted.{IsCounted, CanBeCompared, CanBeListed};
 
+use crate::comparison::Comparison;
 use crate::place::Place;
 use crate::refutation::probe::Probe;
 use crate::verdict::Verdict;
-use iloc_ops::{NoMemory, Op, push_decimal, push_number};
+use crate::void::Void;
+use iloc_ops::{NoMemory, Op, push_decimal, push_number, push_op};
 use iloc_timed::{Row, push_row};
 
 /// Appends a word, `none` where there is none.
@@ -78,6 +80,36 @@ fn push_probe(text: &mut Vec<u8>, probe: &Probe) -> Result<(), NoMemory>
     push_words(text, &probe.words)
 }
 
+/// Appends why a block's outcome says nothing.
+fn push_void(text: &mut Vec<u8>, why: &Void) -> Result<(), NoMemory>
+    ensures { OnOk result (text.new.items ≡ text.old.items ++ listed.void_told why.now) }
+{
+    match *why {
+        Void::Faults(op) => {
+            text.extend_from_slice(b"  the block faults: ")?;
+            push_op(text, &op)
+        }
+        Void::ShowsNothing => Ok(text.extend_from_slice(b"  the block shows nothing")?),
+    }
+}
+
+/// Appends the line of how rows compare with their block.
+fn push_comparison(text: &mut Vec<u8>, comparison: &Comparison) -> Result<(), NoMemory>
+    requires { CanBeCompared comparison.now }
+    ensures { OnOk result (text.new.items ≡ text.old.items ++ listed.comparison_told comparison.now) }
+{
+    match comparison {
+        Comparison::Void(why) => push_void(text, why)?,
+        Comparison::Same | Comparison::Agrees => return Ok(()),
+        Comparison::Differs(place) => push_place(text, place)?,
+        Comparison::DiffersOn(probe, place) => {
+            push_place(text, place)?;
+            push_probe(text, probe)?;
+        }
+    }
+    Ok(text.extend_from_slice(b"\n")?)
+}
+
 /// Appends the line of a row that breaks the rules of the units.
 fn push_bad_row(text: &mut Vec<u8>, ops: &[Op], rows: &[Row], row: usize) -> Result<(), NoMemory>
     requires { row < length rows.now }
@@ -90,7 +122,7 @@ fn push_bad_row(text: &mut Vec<u8>, ops: &[Op], rows: &[Row], row: usize) -> Res
     Ok(text.extend_from_slice(b"\n")?)
 }
 
-/// Appends the line that tells where these operations and rows go wrong, by a verdict, if they do.
+/// Appends what is said of these operations and rows below the line of their verdict.
 pub(crate) fn push_detail(
     text: &mut Vec<u8>,
     ops: &[Op],
@@ -103,15 +135,7 @@ pub(crate) fn push_detail(
 {
     match verdict {
         Verdict::Units(row) => push_bad_row(text, ops, rows, *row),
-        Verdict::Same | Verdict::Agrees => Ok(()),
-        Verdict::Differs(place) => {
-            push_place(text, place)?;
-            Ok(text.extend_from_slice(b"\n")?)
-        }
-        Verdict::DiffersOn(probe, place) => {
-            push_place(text, place)?;
-            push_probe(text, probe)?;
-            Ok(text.extend_from_slice(b"\n")?)
-        }
+        Verdict::Lawful => Ok(()),
+        Verdict::Unlawful(_, comparison) => push_comparison(text, comparison),
     }
 }

@@ -3,8 +3,21 @@ ghost use Rattle.std.specs.Prelude.{◌≡◌, ◌++◌, OnOk};
 ghost use Rattle.iloc_judge.specs.Listing as listed;
 
 use crate::checked::Checked;
+use crate::comparison::Comparison;
 use crate::verdict::Verdict;
 use iloc_ops::{NoMemory, push_column};
+
+/// The word for how rows compare with their block.
+fn comparison_word(comparison: &Comparison) -> &'static str
+    ensures { result.now ≡ listed.comparison_word comparison.now }
+{
+    match comparison {
+        Comparison::Void(_) => "void",
+        Comparison::Same => "same",
+        Comparison::Agrees => "agrees",
+        Comparison::Differs(_) | Comparison::DiffersOn(_, _) => "differs",
+    }
+}
 
 /// The word for a verdict.
 fn verdict_word(verdict: &Verdict) -> &'static str
@@ -12,9 +25,8 @@ fn verdict_word(verdict: &Verdict) -> &'static str
 {
     match verdict {
         Verdict::Units(_) => "units",
-        Verdict::Same => "same",
-        Verdict::Agrees => "agrees",
-        Verdict::Differs(_) | Verdict::DiffersOn(_, _) => "differs",
+        Verdict::Lawful => "lawful",
+        Verdict::Unlawful(_, comparison) => comparison_word(comparison),
     }
 }
 
