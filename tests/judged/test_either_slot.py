@@ -23,7 +23,7 @@ def either_cases():
     for name, (block, rows, bad, cycles) in EXCHANGED.items():
         total = f"total {cycles} ours {cycles} least {cycles}\n"
         line = f"cycles {cycles} ours {cycles} least {cycles}\n"
-        yield case(f"exchanged/{name}", ["--either-slot"], block + rows, f"block 1 - same {line}{total}", 0)
+        yield case(f"exchanged/{name}", ["--either-slot"], block + rows, f"block 1 - lawful {line}{total}", 0)
         yield case(f"as_written/{name}", [], block + rows, f"block 1 - units {line}  {bad}\n{total}", NOT_SAME)
     # Each row can be issued as it is. In the first the result on unit 1 stays; exchanged, 1 would be stored.
     kept = TWICE + "[ loadI 1 => r1 ; loadI 2 => r1 ]\n[ loadI 4 => r2 ]\n[ store r1 => r2 ]\n"

@@ -258,6 +258,16 @@ def listed(name, text, *entries):
     return Run(f"judged/{name}", WORDS, text.encode("latin-1"), out.encode(), b"", status_of(it[3].decode() for it in found))
 
 
+def only_lawful():
+    """With `--lawful` the same is listed, and nothing passes but rows by the book."""
+    for block, theirs, verdict, *_ in [*SAME.values(), *VERDICTS.values()]:
+        given = (block + spread(theirs)).encode()
+        _, out, err = ending(WORDS, given)
+        got, due = ending([*WORDS, "--lawful"], given), (status_of([verdict], lawful=True), out, err)
+        if got != due:
+            yield f"{given!r}: {told(got)} in place of {told(due)}"
+
+
 def refused(name, text, fault):
     return Run(f"judged/{name}", WORDS, text.encode("latin-1"), b"", f"ilocfarm: {fault}\n".encode(), 1)
 
@@ -267,6 +277,7 @@ def judged_cases():
         yield judged(name, block + spread(theirs), *said)
     for name, (block, theirs) in UNLIKE.items():
         yield Check(f"judged/unlike_{name}", isnt_passed, block + spread(theirs))
+    yield Check("judged/only_lawful", only_lawful)
     # Five cycles apart each result is there; four apart one is used a cycle too early.
     yield judged("five_apart", LOADS_AND_STORES + spread(LOADS_AND_STORES, 5), "lawful")
     yield judged("four_apart", LOADS_AND_STORES + spread(LOADS_AND_STORES, 4), "differs",

@@ -131,9 +131,9 @@ def total(entries):
                                                   for name in ("cycles", "ours", "least")))
 
 
-def status_of(verdicts):
-    """The exit status where these verdicts are listed."""
-    return 0 if set(verdicts) <= PASSING else NOT_SAME
+def status_of(verdicts, lawful=False):
+    """The exit status where these verdicts are listed, with `--lawful` or without."""
+    return 0 if set(verdicts) <= ({"lawful"} if lawful else PASSING) else NOT_SAME
 
 
 def wrong_ending(ending, given, latencies, words=(), is_right=False):

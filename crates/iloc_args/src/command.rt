@@ -30,7 +30,7 @@ Exit status:
   2  a mistake in the command line
   3  no memory, or a worker could not be started
   4  reading or writing failed
-  5  check: not every block is the same
+  5  check: the rows for a block do not pass
 
 Manual:
   man ilocfarm; in the repository man/ilocfarm.1 and docs/LANGUAGE.md";
@@ -209,7 +209,7 @@ fn lawful_arg<'a>(alloc: Global) -> Arg<'a>
     flag_arg(
         alloc,
         "lawful",
-        "Pass nothing but rows that are a schedule of their block",
+        "Pass nothing but rows that are a schedule by the book",
     )
 }
 
@@ -340,7 +340,7 @@ fn explain_command<'a>(alloc: Global) -> Result<Command<'a>, AllocError>
     with_arg(command, priority_arg(alloc))
 }
 
-/// `check [--at N] [WORD]... [--load N] [--store N] [--mult N] [--task FILE] [--either-slot]`
+/// `check [--at N] [WORD]... [--load N] [--store N] [--mult N] [--task FILE] [--either-slot] [--lawful]`
 fn check_command<'a>(alloc: Global) -> Result<Command<'a>, AllocError>
     ensures { IfOk result (HasApp (app check_entry)) }
 {
@@ -348,7 +348,8 @@ fn check_command<'a>(alloc: Global) -> Result<Command<'a>, AllocError>
     let usage = "ilocfarm check [OPTIONS] [WORD]... < BLOCKS_AND_ROWS";
     let command = with_latencies(alloc, memory_command(alloc, "check", about, usage));
     let command = with_arg(command, task_arg(alloc));
-    with_arg(command, either_slot_arg(alloc))
+    let command = with_arg(command, either_slot_arg(alloc));
+    with_arg(command, lawful_arg(alloc))
 }
 
 /// `graph [--load N] [--store N] [--mult N]`

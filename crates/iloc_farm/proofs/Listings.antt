@@ -1,5 +1,5 @@
 -- What is listed of one input does not depend on the workers, and greedy schedules can be listed.
-use Rattle.std.proofs.Common.{◌≡◌, ℕ, Bool, List, ℤ, None, Option, Some, sym, ap, ◌∙◌, subst}
+use Rattle.std.proofs.Common.{◌≡◌, ℕ, Bool, List, ℤ, None, Option, Some, sym, ◌∙◌, subst}
 use Rattle.std.specs.declared.alloc.Global.{Global}
 use Rattle.std.specs.declared.string.String.{String}
 use Rattle.iloc_ops.specs.declared.file.Block.{Block}
@@ -37,7 +37,7 @@ checks_alike r q alike blocks proposals finding text checks =
     let S : Bool → Type 0 = λ either_slot.
     ListsChecked q.lawful q.latencies (initial_memory q) blocks (placed either_slot proposals) finding text in
     subst S alike.either_slot
-        (subst R alike.lawful (subst Q (one_memory r q alike) (subst P alike.latencies checks)))
+    (subst R alike.lawful (subst Q (one_memory r q alike) (subst P alike.latencies checks)))
 
 submission_alike : (r q : Request) → AskAlike r q → (input : List ℕ) (finding : Finding) (text : List ℕ)
     → ListsSubmission r input finding text → ListsSubmission q input finding text

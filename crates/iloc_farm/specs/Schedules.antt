@@ -1,5 +1,5 @@
 -- The schedules of a file's blocks.
-use Rattle.std.specs.Prelude.{◌≡◌, ℕ, ◌≤◌, ℤ, List, length, [], ◌∷◌, map, slice_get, IfSome}
+use Rattle.std.specs.Prelude.{◌≡◌, ℕ, ℤ, List, [], ◌∷◌, map, slice_get, IfSome}
 use Rattle.iloc_ops.specs.declared.op.Op.{Op}
 use Rattle.iloc_ops.specs.declared.file.Block.{Block}
 use Rattle.iloc_meaning.specs.declared.outcome.Outcome.{Outcome}

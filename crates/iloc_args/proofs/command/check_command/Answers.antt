@@ -7,4 +7,6 @@ returns c =
     c.with_latencies-command.ensures in
     let apart = if_one_argument _ _ c.with_latencies-command.result c.with_arg-command.result _ timed c.task_arg.ensures
     c.with_arg-command.ensures in
-    if_one_argument _ _ c.with_arg-command.result c.with_arg.result _ apart c.either_slot_arg.ensures c.with_arg.ensures
+    let either = if_one_argument _ _ c.with_arg-command.result c.with_arg-command-2.result _ apart
+    c.either_slot_arg.ensures c.with_arg-command-2.ensures in
+    if_one_argument _ _ c.with_arg-command-2.result c.with_arg.result _ either c.lawful_arg.ensures c.with_arg.ensures
