@@ -30,8 +30,10 @@ impl Explainer {
             schedule.graph.operations[number].spell(listing);
             listing.push(b'\n');
         }
+        let least = self.bound.least(schedule.graph, schedule.cycles);
         push(listing, b"cycles ", schedule.cycles);
-        push(listing, b" least ", self.bound.least(schedule.graph, schedule.cycles));
+        push(listing, b" least ", least);
+        listing.extend_from_slice(if schedule.cycles == least { b" optimal" } else { b"" });
         push_chain(schedule.graph, listing);
     }
 
