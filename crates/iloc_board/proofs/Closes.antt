@@ -11,11 +11,11 @@ use mathlib.Core.Option.{some, some-injective, some-ne-none}
 use lib.ListN.{get_elem?}
 use Rattle.iloc_board.specs.declared.step.Step.{Step}
 use Rattle.iloc_board.specs.declared.step.Reply.{Reply}
-use Rattle.iloc_board.specs.declared.state.State.TheVariants.{Holding}
+use Rattle.iloc_board.specs.declared.board.state.State.TheVariants.{Holding}
 use Rattle.iloc_board.specs.declared.step.Reply.TheVariants.{Block, NoneLeft, Took, Stale, Handed, NotNow}
 use Rattle.iloc_board.specs.declared.step.Entry.{Entry}
 use Rattle.iloc_board.specs.declared.journal.Journal.{Journal}
-use Rattle.iloc_board.specs.declared.seat_view.Role.TheVariants.{Root}
+use Rattle.iloc_board.specs.declared.board.seat_view.Role.TheVariants.{Root}
 use Rattle.iloc_board.specs.Core.{Core, opening, is_holding, worker_of, reply_to, after, played}
 use Rattle.iloc_board.specs.Sequential.{is_pair, is_out}
 use Rattle.iloc_board.specs.History.{taken_by, takes}

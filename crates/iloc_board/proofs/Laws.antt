@@ -8,8 +8,8 @@ use Rattle.std.proofs.lemmas.Map.Views.{any-filter_same}
 use Rattle.iloc_board.specs.declared.step.Step.{Step}
 use Rattle.iloc_board.specs.declared.step.Reply.{Reply}
 use Rattle.iloc_board.specs.declared.step.Reply.TheVariants.{Took, Handed}
-use Rattle.iloc_board.specs.declared.state.State.{State}
-use Rattle.iloc_board.specs.declared.state.State.TheVariants.{Free, Looked, Holding}
+use Rattle.iloc_board.specs.declared.board.state.State.{State}
+use Rattle.iloc_board.specs.declared.board.state.State.TheVariants.{Free, Looked, Holding}
 use Rattle.iloc_board.specs.Core.{Core, IsWithin, opening, is_holding, worker_of, reply_to, state_after, next_after, after, ends, played}
 use Rattle.iloc_board.specs.Sequential as sequential
 use Rattle.iloc_board.specs.Sequential.{Call, SequentialBoard, is_pair, is_out, has_out, without, opened, moved, board_after, Allowed, Legal}

@@ -8,8 +8,8 @@ use Rattle.iloc_board.specs.declared.step.Step.{Step}
 use Rattle.iloc_board.specs.declared.step.Reply.{Reply}
 use Rattle.iloc_board.specs.declared.step.Reply.TheVariants.{Block, NoneLeft, Took, Stale, Handed, NotNow}
 use Rattle.iloc_board.specs.declared.step.Entry.{Entry}
-use Rattle.iloc_board.specs.declared.state.State.{State}
-use Rattle.iloc_board.specs.declared.state.State.TheVariants.{Free, Looked}
+use Rattle.iloc_board.specs.declared.board.state.State.{State}
+use Rattle.iloc_board.specs.declared.board.state.State.TheVariants.{Free, Looked}
 use Rattle.iloc_board.specs.declared.journal.Journal.{Journal}
 use Rattle.iloc_board.specs.Core.{Core, opening, worker_of, reply_to, state_after, next_after, after, ends, entry, played}
 use Rattle.iloc_board.specs.History.{accepted}

@@ -5,8 +5,8 @@ use Rattle.atomic_table.specs.Seated.{TableId}
 use Rattle.iloc_board.specs.declared.step.Step.{Step}
 use Rattle.iloc_board.specs.declared.step.Reply.{Reply}
 use Rattle.iloc_board.specs.declared.step.Reply.TheVariants.{Block, NoneLeft, Took, Stale, Handed}
-use Rattle.iloc_board.specs.declared.state.State.{State}
-use Rattle.iloc_board.specs.declared.state.State.TheVariants.{Free, Looked, Holding}
+use Rattle.iloc_board.specs.declared.board.state.State.{State}
+use Rattle.iloc_board.specs.declared.board.state.State.TheVariants.{Free, Looked, Holding}
 use Rattle.iloc_board.specs.declared.step.Entry.{Entry}
 use Rattle.iloc_board.specs.declared.journal.Journal.{Journal}
 use Rattle.iloc_board.specs.declared.step.Step.TheVariants.{Look, Try, Hand}

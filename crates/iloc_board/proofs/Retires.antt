@@ -9,8 +9,8 @@ use Rattle.iloc_board.specs.declared.step.Step.{Step}
 use Rattle.iloc_board.specs.declared.step.Reply.{Reply}
 use Rattle.iloc_board.specs.declared.step.Reply.TheVariants.{Took, Handed, NotNow}
 use Rattle.iloc_board.specs.declared.step.Entry.{Entry}
-use Rattle.iloc_board.specs.declared.state.State.{State}
-use Rattle.iloc_board.specs.declared.state.State.TheVariants.{Free, Looked, Holding}
+use Rattle.iloc_board.specs.declared.board.state.State.{State}
+use Rattle.iloc_board.specs.declared.board.state.State.TheVariants.{Free, Looked, Holding}
 use Rattle.iloc_board.specs.Core.{Core, opening, is_holding, worker_of, reply_to, state_after, next_after, costs_at, after, ends, entry, played}
 use Rattle.iloc_board.specs.Sequential.{is_out}
 use Rattle.iloc_board.specs.History.{handed_by, accepted, taken_by, takes}

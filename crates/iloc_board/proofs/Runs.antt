@@ -4,7 +4,7 @@ use Rattle.std.proofs.lemmas.List.{map-append, length-replicate, take_more}
 use Rattle.iloc_board.specs.declared.step.Step.{Step}
 use Rattle.iloc_board.specs.declared.step.Reply.{Reply}
 use Rattle.iloc_board.specs.declared.step.Entry.{Entry}
-use Rattle.iloc_board.specs.declared.state.State.{State}
+use Rattle.iloc_board.specs.declared.board.state.State.{State}
 use Rattle.iloc_board.specs.Core.{Core, opening, reply_to, after, ends, entry, played}
 use Rattle.std.specs.BTreeMap.{BTreeMap}
 use Rattle.iloc_board.specs.Play.{replies, final}

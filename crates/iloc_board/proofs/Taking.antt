@@ -7,8 +7,8 @@ use Rattle.std.proofs.lemmas.List.Folds.{list_any-append}
 use Rattle.iloc_board.specs.declared.step.Step.{Step}
 use Rattle.iloc_board.specs.declared.step.Reply.{Reply}
 use Rattle.iloc_board.specs.declared.step.Reply.TheVariants.{Took}
-use Rattle.iloc_board.specs.declared.state.State.{State}
-use Rattle.iloc_board.specs.declared.state.State.TheVariants.{Looked, Holding}
+use Rattle.iloc_board.specs.declared.board.state.State.{State}
+use Rattle.iloc_board.specs.declared.board.state.State.TheVariants.{Looked, Holding}
 use Rattle.iloc_board.specs.Core.{Core, IsWithin, opening, worker_of, reply_to, state_after, next_after, after}
 use Rattle.iloc_board.specs.Sequential.{is_pair, is_out}
 use Rattle.iloc_board.specs.History.{taken_by}

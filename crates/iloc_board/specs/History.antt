@@ -6,8 +6,8 @@ use Rattle.iloc_board.specs.declared.step.Step.TheVariants.{Hand}
 use Rattle.iloc_board.specs.declared.step.Reply.{Reply}
 use Rattle.iloc_board.specs.declared.step.Reply.TheVariants.{Block, NoneLeft, Took, Stale, Handed, NotNow}
 use Rattle.iloc_board.specs.declared.step.Entry.{Entry}
-use Rattle.iloc_board.specs.declared.state.State.{State}
-use Rattle.iloc_board.specs.declared.state.State.TheVariants.{Free, Looked, Holding}
+use Rattle.iloc_board.specs.declared.board.state.State.{State}
+use Rattle.iloc_board.specs.declared.board.state.State.TheVariants.{Free, Looked, Holding}
 use Rattle.iloc_board.specs.Core.{Core, after, reply_to, worker_of}
 use Rattle.iloc_board.specs.Sequential as sequential
 use Rattle.iloc_board.specs.Sequential.{Call, SequentialBoard}

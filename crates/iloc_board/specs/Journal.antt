@@ -4,8 +4,8 @@ use Rattle.iloc_board.specs.declared.step.Step.{Step}
 use Rattle.iloc_board.specs.declared.step.Reply.{Reply}
 use Rattle.iloc_board.specs.declared.step.Reply.TheVariants.{Block, NoneLeft, Took, Stale, Handed, NotNow}
 use Rattle.iloc_board.specs.declared.step.Entry.{Entry}
-use Rattle.iloc_board.specs.declared.state.State.{State}
-use Rattle.iloc_board.specs.declared.state.State.TheVariants.{Free}
+use Rattle.iloc_board.specs.declared.board.state.State.{State}
+use Rattle.iloc_board.specs.declared.board.state.State.TheVariants.{Free}
 use Rattle.iloc_board.specs.declared.journal.Journal.{Journal}
 use Rattle.iloc_board.specs.Core.{worker_of, state_after, entry}
 use Rattle.iloc_board.specs.History.{accepted}

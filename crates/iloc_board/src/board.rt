@@ -1,19 +1,24 @@
 //! The board: a row of words that threads share.
 ghost use Rattle.std.specs.Prelude.{◌≡◌, ℕ, ◌+◌, ◌<◌, true, false, [], IfOk, IfErr, OnOk};
 ghost use Rattle.iloc_board.specs.declared.step.Step.TheVariants as step;
-ghost use Rattle.iloc_board.specs.declared.state.State.TheVariants as about;
+ghost use Rattle.iloc_board.specs.declared.board.state.State.TheVariants as about;
 ghost use Rattle.iloc_board.specs.Core.{is_holding, state_after};
 ghost use Rattle.iloc_board.specs.Journal.{seen, saw_none};
 ghost use Rattle.iloc_board.specs.Views.{job_of, is_looking, state, stepped, with_answer, with_pass, new_pass, with_gathered};
 ghost use Rattle.iloc_board.specs.Replies.{seen_reply, tried_reply, IsFreshSeen, IsFreshTried};
 
+pub mod pass;
+pub mod rule;
+pub mod seat_view;
+pub mod state;
+
 use crate::answers::Answers;
+use crate::board::pass::{Pass, Root};
+use crate::board::rule::{Gathering, Handing, Looking, Making, Order, Trying};
+use crate::board::seat_view::SeatView;
+use crate::board::state::State;
 use crate::fault::{NoMemory, NoMemoryWith};
 use crate::jobs::Jobs;
-use crate::pass::{Pass, Root};
-use crate::rule::{Gathering, Handing, Looking, Making, Order, Trying};
-use crate::seat_view::SeatView;
-use crate::state::State;
 use atomic_table::Table;
 use std::alloc::Global;
 use std::marker::Model;

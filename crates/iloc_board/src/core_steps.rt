@@ -9,8 +9,8 @@ ghost use Rattle.iloc_board.specs.History.{IsExact};
 ghost use Rattle.iloc_board.specs.Play.{replies, final, IsLegal, TakesEachOnce, EndsAlike};
 ghost use Rattle.iloc_board.specs.Steps.RunningCore.{Shows, state_in};
 
+use crate::board::state::State;
 use crate::fault::NoMemory;
-use crate::state::State;
 use crate::step::{Reply, Step};
 use std::alloc::Global;
 use std::collections::BTreeMap;

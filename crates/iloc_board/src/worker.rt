@@ -1,17 +1,17 @@
 //! A worker's run over a board.
 ghost use Rattle.std.specs.Prelude.{◌≡◌, ◌<◌, true, MatchOption, OnOk, OnErr};
-ghost use Rattle.iloc_board.specs.declared.state.State.TheVariants as about;
+ghost use Rattle.iloc_board.specs.declared.board.state.State.TheVariants as about;
 ghost use Rattle.iloc_board.specs.Core.{is_holding};
 ghost use Rattle.iloc_board.specs.Views.{state};
 ghost use Rattle.iloc_board.specs.Working.{Runs, HandsBack, IsDone};
 ghost use Rattle.iloc_board.specs.Steps.Course.{Goes, Ended, HandsNothing};
 
+use crate::board::pass::Pass;
 use crate::board::{Board, Seen, Tried};
 use crate::desk::{AtDesk, NoDesk};
 use crate::fault::NoMemory;
 use crate::gate::Gate;
 use crate::jobs::Jobs;
-use crate::pass::Pass;
 
 /// Takes jobs and hands back their answers, until none is left. The pass is free at first.
 ///

@@ -1,5 +1,5 @@
 ghost use Rattle.std.specs.Prelude.{◌≡◌, ◌+◌, ◌<◌, false};
-ghost use Rattle.iloc_board.specs.declared.state.State.TheVariants as about;
+ghost use Rattle.iloc_board.specs.declared.board.state.State.TheVariants as about;
 ghost use Rattle.iloc_board.specs.Core.{is_holding};
 ghost use Rattle.iloc_board.specs.Views.{state};
 

@@ -1,7 +1,7 @@
 //! What stands where a growth is refused, and that a second try ends well: to be run with each growth refused in turn.
 //! Each test ends with the refusal.
 ghost use Rattle.std.specs.Prelude.{◌≡◌, ◌≤◌};
-ghost use Rattle.iloc_board.specs.declared.state.State.TheVariants as about;
+ghost use Rattle.iloc_board.specs.declared.board.state.State.TheVariants as about;
 ghost use Rattle.iloc_board.specs.Views.{state};
 
 use crate::steps::{Act, act_all, assert_collected, gather, given_back, pass_that_did};

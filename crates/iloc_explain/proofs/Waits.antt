@@ -15,7 +15,7 @@ use Rattle.iloc_timed.specs.Latency.{latency}
 use Rattle.iloc_timed.specs.Rows.{empty_row, row_at, slots, holds, issue_cycle, IsTable}
 use Rattle.iloc_timed.proofs.Issues.{issued_there, holds_zero, holds_one}
 use Rattle.iloc_timed.proofs.Counts.{any_contains}
-use Rattle.iloc_sched.specs.declared.wheel.TheConstants.{LONGEST_DELAY}
+use Rattle.iloc_sched.specs.declared.cycle.calendar.TheConstants.{LONGEST_DELAY}
 use Rattle.iloc_sched.specs.Delays.{delays}
 use Rattle.iloc_sched.specs.Steps.Members.{In}
 use Rattle.iloc_sched.proofs.Basics.Members.{contains_from, empty_from, from_any, from_append, from_filter}

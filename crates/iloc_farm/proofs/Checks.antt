@@ -15,7 +15,7 @@ use Rattle.iloc_timed.specs.Schedule.{Table}
 use Rattle.iloc_timed.specs.declared.latencies.Latencies.{Latencies}
 use Rattle.iloc_timed.specs.Cycles.{cycles}
 use Rattle.iloc_rows.specs.declared.proposal.Proposal.{Proposal}
-use Rattle.iloc_sched.specs.declared.wheel.TheConstants.{LONGEST_DELAY}
+use Rattle.iloc_sched.specs.declared.cycle.calendar.TheConstants.{LONGEST_DELAY}
 use Rattle.iloc_sched.specs.Greedy.{IsGreedy}
 use Rattle.iloc_sched.specs.Least.{least}
 use Rattle.iloc_sched.proofs.Bounds.LeastBound.{least_bound}

@@ -7,8 +7,8 @@ use Rattle.iloc_timed.specs.declared.latencies.Latencies.{Latencies}
 use Rattle.iloc_timed.specs.Schedule.{Table}
 use Rattle.iloc_sched.specs.Heuristics.{priorities_by}
 use Rattle.iloc_sched.specs.Least.{least}
-use Rattle.iloc_sched.specs.declared.heuristic.Heuristic.{Heuristic}
-use Rattle.iloc_sched.specs.declared.heuristic.Heuristic.TheVariants.{Chain, Slack, Descendants, Successors, Latency, Order}
+use Rattle.iloc_sched.specs.declared.ranking.heuristic.Heuristic.{Heuristic}
+use Rattle.iloc_sched.specs.declared.ranking.heuristic.Heuristic.TheVariants.{Chain, Slack, Descendants, Successors, Latency, Order}
 use Rattle.iloc_sched.proofs.Bounds.LeastBound.{least_bound}
 use Rattle.iloc_farm.specs.Commands.Compare.{IsComparison, cycles_by, place}
 use Rattle.iloc_farm.specs.Listing.{cycles_of}

@@ -4,7 +4,7 @@ use Rattle.std.specs.Prelude.{codes}
 use Rattle.iloc_ops.specs.declared.file.Block.{Block}
 use Rattle.iloc_timed.specs.declared.latencies.Latencies.{Latencies}
 use Rattle.iloc_timed.specs.Schedule.{Table}
-use Rattle.iloc_sched.specs.declared.heuristic.Heuristic.{Heuristic}
+use Rattle.iloc_sched.specs.declared.ranking.heuristic.Heuristic.{Heuristic}
 use Rattle.iloc_explain.specs.Listing.{IsExplanation}
 use Rattle.iloc_explain.proofs.OneText.{one_explanation}
 use Rattle.iloc_graph.specs.Listing.{IsCluster}

@@ -17,10 +17,10 @@ use Rattle.iloc_timed.specs.Cycles.{cycles}
 use Rattle.iloc_timed.specs.Schedule.{Table}
 use Rattle.iloc_timed.specs.Rows.{issue_cycle}
 use Rattle.iloc_timed.proofs.WholeRuns.{short_latency}
-use Rattle.iloc_sched.specs.declared.wheel.TheConstants.{LONGEST_DELAY}
+use Rattle.iloc_sched.specs.declared.cycle.calendar.TheConstants.{LONGEST_DELAY}
 use Rattle.iloc_sched.specs.Renaming.{renamed, renamed_op, without_nops, numbering, is_nop}
-use Rattle.iloc_sched.specs.declared.heuristic.Heuristic.{Heuristic}
-use Rattle.iloc_sched.specs.declared.heuristic.Heuristic.TheVariants.{Chain}
+use Rattle.iloc_sched.specs.declared.ranking.heuristic.Heuristic.{Heuristic}
+use Rattle.iloc_sched.specs.declared.ranking.heuristic.Heuristic.TheVariants.{Chain}
 use Rattle.iloc_sched.specs.Greedy.{IsGreedy, IsGreedyBy}
 use Rattle.iloc_sched.specs.Heuristics.{priorities_by}
 use Rattle.iloc_sched.specs.Priority.{priorities}

@@ -1,7 +1,7 @@
 //! The workers of a board, each a thread.
 ghost use Rattle.std.specs.Prelude.{◌≡◌, ◌<◌, [], ◌∷◌, ◌++◌, length, IfErr, IfOk, OnOk, map};
 ghost use Rattle.std.specs.List.{All, range_with_len};
-ghost use Rattle.iloc_board.specs.declared.state.State.TheVariants as about;
+ghost use Rattle.iloc_board.specs.declared.board.state.State.TheVariants as about;
 ghost use Rattle.iloc_board.specs.Views.{state};
 ghost use Rattle.iloc_board.specs.Working.{IsDone};
 ghost use Rattle.iloc_board.specs.Collecting.{IsWhole, workers_of};

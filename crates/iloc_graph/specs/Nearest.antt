@@ -5,7 +5,7 @@ use Rattle.iloc_ops.specs.declared.op.Op.{Op}
 use Rattle.iloc_meaning.specs.Trace.{op_at}
 use Rattle.iloc_timed.specs.declared.latencies.Latencies.{Latencies}
 use Rattle.iloc_timed.specs.Kinds.{kind, is_store, is_output}
-use Rattle.iloc_sched.specs.declared.delay_pairs.Pair.{Pair}
+use Rattle.iloc_sched.specs.declared.edges.delay_pairs.Pair.{Pair}
 use Rattle.iloc_sched.specs.Delays.{uses_result, reads_stored, keeps_order, delays}
 
 -- whether k takes the place of i for what comes later: an output that of an output, a store that of any other

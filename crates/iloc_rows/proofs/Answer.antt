@@ -9,7 +9,7 @@ use Rattle.iloc_text.specs.Files as files
 use Rattle.iloc_text.specs.Files.{AreLines}
 use Rattle.iloc_text.specs.ScheduleLines.{Said, Says, SaysSomethingWidely}
 use Rattle.iloc_text.proofs.Answer.{lines_are_of, one_answer}
-use Rattle.iloc_text.proofs.ScheduleLines.{one_said}
+use Rattle.iloc_text.proofs.ScheduleLines.Says.{one_said}
 use Rattle.iloc_rows.specs.declared.fault.RowsFault.{RowsFault}
 use Rattle.iloc_rows.specs.declared.fault.RowsFault.TheVariants.{Read, NoBlocks, NoSuchBlock}
 use Rattle.iloc_rows.specs.declared.proposal.Proposal.{Proposal}

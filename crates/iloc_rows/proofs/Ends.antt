@@ -6,7 +6,7 @@ use Rattle.std.proofs.lemmas.List.Splits.{join_with_byte-slice_split}
 use Rattle.iloc_text.specs.ScheduleLines.{Said, SaysWidely, Says, SaysSomething, SaysSomethingWidely, IsScheduleLine}
 use Rattle.iloc_text.specs.ScheduleLines.Said.{nothing, row, head, cycles, total}
 use Rattle.iloc_text.specs.Lines.{lines_of, lines_left}
-use Rattle.iloc_text.proofs.ScheduleLines.{nothing_alone}
+use Rattle.iloc_text.proofs.ScheduleLines.Says.{nothing_alone}
 use Rattle.iloc_text.proofs.Splitting.{lines_few}
 use Rattle.iloc_rows.specs.Submissions.{StartWithSchedule}
 use Rattle.iloc_rows.specs.Steps.Ends.{is_nothing}

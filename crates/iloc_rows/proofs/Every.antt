@@ -12,7 +12,7 @@ use Rattle.iloc_text.specs.ScheduleLines.Said.{nothing, row, head, cycles, total
 use Rattle.iloc_text.specs.Lines.{lines_of}
 use Rattle.iloc_text.specs.Steps.ScheduleScan.{schedule_line_at, is_said_within}
 use Rattle.iloc_text.proofs.Every as files_every
-use Rattle.iloc_text.proofs.ScheduleLines.{said_bad, said_good, said_large}
+use Rattle.iloc_text.proofs.ScheduleLines.Says.{said_bad, said_good, said_large}
 use Rattle.iloc_text.proofs.Splitting.{lines_are}
 use Rattle.iloc_rows.specs.declared.fault.RowsFault.{RowsFault}
 use Rattle.iloc_rows.specs.declared.fault.RowsFault.TheVariants.{Read, NoBlocks, NoSuchBlock}

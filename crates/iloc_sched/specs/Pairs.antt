@@ -3,7 +3,7 @@ use Rattle.std.specs.Prelude.{ℕ, zero, suc, ◌≡◌, ◌<◌, ◌⊎◌, ◌
 use Rattle.iloc_ops.specs.declared.op.Op.{Op}
 use Rattle.iloc_meaning.specs.Trace.{op_at}
 use Rattle.iloc_timed.specs.declared.latencies.Latencies.{Latencies}
-use Rattle.iloc_sched.specs.declared.delay_pairs.Pair.{Pair}
+use Rattle.iloc_sched.specs.declared.edges.delay_pairs.Pair.{Pair}
 use Rattle.iloc_sched.specs.Delays.{delays}
 
 -- by the later operation, then by the earlier one, then by the delay

@@ -5,7 +5,7 @@ pub mod Members
 pub mod Near
 pub mod Graph
 pub mod Progress
-pub mod Wheel
+pub mod Calendar
 pub mod Views
 pub mod Order
 pub mod Changes

@@ -5,11 +5,18 @@ ghost use Rattle.iloc_sched.specs.Steps.Queued.{IsBest};
 ghost use Rattle.iloc_sched.specs.Steps.SoFar.{IsPlan, IsUnderWay, IsSoFar, IssuesAny, row_with, slot_count, waiting_count};
 ghost use Rattle.iloc_sched.specs.Steps.Views.{issued_list};
 
-use crate::class::Class;
+pub mod calendar;
+pub mod candidate;
+pub mod class;
+pub mod queue;
+pub mod queues;
+pub mod waiting;
+
+use crate::cycle::calendar::LONGEST_DELAY;
+use crate::cycle::class::Class;
+use crate::cycle::queues::{Choice, Queues};
+use crate::cycle::waiting::Waiting;
 use crate::plan::Plan;
-use crate::queues::{Choice, Queues};
-use crate::waiting::Waiting;
-use crate::wheel::LONGEST_DELAY;
 use iloc_ops::NoMemory;
 use iloc_timed::Row;
 

@@ -13,9 +13,13 @@ ghost use Rattle.iloc_timed.specs.Latency.{latency};
 ghost use Rattle.iloc_meaning.specs.Trace.{op_at};
 ghost use Rattle.iloc_sched.specs.Renaming.{IsRenamed};
 
+pub mod delay_pairs;
+pub mod lasts;
+pub mod later;
+
+use crate::edges::lasts::Lasts;
 use crate::kinds::Operations;
-use crate::lasts::Lasts;
-use crate::registers::{Registers, Uses};
+use crate::registers::{OperandRegisters, Uses};
 use iloc_ops::{MAX_OPS, NoMemory, Reg};
 use iloc_timed::{Kind, Latencies};
 use std::alloc::Global;
@@ -337,7 +341,7 @@ impl Edges {
         self.clear(operations.ops.len())?;
         lasts.clear(registers);
         for j in 0..operations.ops.len() {
-            let registers = Registers::of(&operations.ops[j]);
+            let registers = OperandRegisters::of(&operations.ops[j]);
             self.add_all(operations, latencies, lasts, registers.uses, j)?;
             lasts.note(operations, registers.defines, j)?;
         }

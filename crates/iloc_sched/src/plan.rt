@@ -5,13 +5,13 @@ ghost use Rattle.iloc_timed.specs.Latency.{latency};
 ghost use Rattle.iloc_sched.specs.Renaming.{renamed, IsRenamed};
 ghost use Rattle.iloc_sched.specs.Heuristics.{priorities_by};
 
-use crate::candidate::Candidate;
-use crate::class::Class;
+use crate::cycle::candidate::Candidate;
+use crate::cycle::class::Class;
 use crate::edges::Edges;
-use crate::heuristic::{Heuristic, rank_by};
+use crate::edges::lasts::Lasts;
 use crate::kinds::{Operations, latency_of};
-use crate::lasts::Lasts;
-use crate::registers::Registers;
+use crate::ranking::heuristic::{Heuristic, rank_by};
+use crate::registers::OperandRegisters;
 use crate::renaming::{Names, is_nop};
 use iloc_ops::{Block, MAX_OPS, NoMemory, Op};
 use iloc_timed::{Kind, Latencies};
@@ -69,7 +69,12 @@ impl Plan {
 
     /// Adds an operation, the next of renamed ones, with the edges into it.
     #[inline(always)]
-    fn push(&mut self, lasts: &mut Lasts, op: Op, registers: Registers) -> Result<(), NoMemory>
+    fn push(
+        &mut self,
+        lasts: &mut Lasts,
+        op: Op,
+        registers: OperandRegisters,
+    ) -> Result<(), NoMemory>
         requires filling { IsFilling self.old lasts.old }
         requires registers { AreRegistersOf op registers }
         requires renamed { IsRenamed (self.old.ops.items ++ op ∷ []) }

@@ -4,11 +4,17 @@ ghost use Rattle.iloc_sched.specs.Priority.{priorities};
 ghost use Rattle.iloc_sched.specs.Heuristics.{priorities_by};
 ghost use Rattle.iloc_sched.specs.Renaming.{IsRenamed};
 
+pub mod descendants;
+pub mod heuristic;
+pub mod priority;
+pub mod slack;
+pub mod successors;
+
 use crate::edges::Edges;
-use crate::heuristic::{Heuristic, rank_by};
+use crate::edges::lasts::Lasts;
 use crate::kinds::{Operations, fill_kinds};
-use crate::lasts::Lasts;
-use crate::priority::fill_latencies;
+use crate::ranking::heuristic::{Heuristic, rank_by};
+use crate::ranking::priority::fill_latencies;
 use iloc_ops::{MAX_OPS, NoMemory, Op};
 use iloc_timed::Latencies;
 use std::alloc::Global;

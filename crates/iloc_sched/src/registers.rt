@@ -15,7 +15,7 @@ pub enum Uses {
 
 /// The registers that an operation uses and the one that it defines.
 #[derive(Clone, Copy, Debug)]
-pub struct Registers {
+pub struct OperandRegisters {
     pub uses: Uses,
     pub defines: Option<Reg>,
 }
@@ -31,14 +31,14 @@ fn uses_of(op: &Op) -> Uses
     }
 }
 
-impl Registers {
+impl OperandRegisters {
     ghost use Rattle.iloc_sched.specs.Steps.Registers.{AreRegistersOf};
 
     /// The registers of an operation.
-    pub fn of(op: &Op) -> Registers
+    pub fn of(op: &Op) -> OperandRegisters
         ensures { AreRegistersOf op.now result }
     {
-        Registers {
+        OperandRegisters {
             uses: uses_of(op),
             defines: defines(op),
         }

@@ -5,7 +5,7 @@ ghost use Rattle.iloc_meaning.specs.Outcome.{outcome};
 ghost use Rattle.iloc_sched.specs.Renaming.{is_nop, renamed, IsRenamed};
 
 use crate::by_register::ByRegister;
-use crate::registers::{Registers, Uses};
+use crate::registers::{OperandRegisters, Uses};
 use iloc_ops::{Block, MAX_OPS, NoMemory, Op, Reg};
 use std::alloc::Global;
 
@@ -102,21 +102,25 @@ impl Names {
     }
 
     /// The same for `=> defined`. Answers the names.
-    fn rename_dest(&mut self, dest: &mut Reg) -> Result<Registers, NoMemory>
+    fn rename_dest(&mut self, dest: &mut Reg) -> Result<OperandRegisters, NoMemory>
         requires { self.old.given < 2 ^ 32 - 1 }
         ensures names { OnOk result (NamesDefinition dest.old dest.new
             self.old.given (current_of self.old) self.new.given (current_of self.new)) }
         ensures registers { IfOk result (λ names. names ≡ record { uses = Nothing; defines = Some dest.new }) }
     {
         self.rename_definition(dest)?;
-        Ok(Registers {
+        Ok(OperandRegisters {
             uses: Uses::Nothing,
             defines: Some(*dest),
         })
     }
 
     /// The same for `used => defined`.
-    fn rename_copied(&mut self, source: &mut Reg, dest: &mut Reg) -> Result<Registers, NoMemory>
+    fn rename_copied(
+        &mut self,
+        source: &mut Reg,
+        dest: &mut Reg,
+    ) -> Result<OperandRegisters, NoMemory>
         requires { self.old.given < 2 ^ 32 - 2 }
         ensures names { OnOk result (NamesAll (source.old ∷ []) (Some dest.old) (source.new ∷ []) dest.new
             self.old.given (current_of self.old) self.new.given (current_of self.new)) }
@@ -125,14 +129,18 @@ impl Names {
     {
         self.rename_use(source)?;
         self.rename_definition(dest)?;
-        Ok(Registers {
+        Ok(OperandRegisters {
             uses: Uses::One(*source),
             defines: Some(*dest),
         })
     }
 
     /// The same for `used => used`.
-    fn rename_stored(&mut self, value: &mut Reg, addr: &mut Reg) -> Result<Registers, NoMemory>
+    fn rename_stored(
+        &mut self,
+        value: &mut Reg,
+        addr: &mut Reg,
+    ) -> Result<OperandRegisters, NoMemory>
         requires { self.old.given < 2 ^ 32 - 2 }
         ensures names { OnOk result ((own : Reg) → NamesAll (value.old ∷ addr.old ∷ []) None (value.new ∷ addr.new ∷ []) own
             self.old.given (current_of self.old) self.new.given (current_of self.new)) }
@@ -141,7 +149,7 @@ impl Names {
     {
         self.rename_use(value)?;
         self.rename_use(addr)?;
-        Ok(Registers {
+        Ok(OperandRegisters {
             uses: Uses::Two(*value, *addr),
             defines: None,
         })
@@ -153,7 +161,7 @@ impl Names {
         left: &mut Reg,
         right: &mut Reg,
         dest: &mut Reg,
-    ) -> Result<Registers, NoMemory>
+    ) -> Result<OperandRegisters, NoMemory>
         requires { self.old.given < 2 ^ 32 - 3 }
         ensures names { OnOk result (NamesAll (left.old ∷ right.old ∷ []) (Some dest.old) (left.new ∷ right.new ∷ []) dest.new
             self.old.given (current_of self.old) self.new.given (current_of self.new)) }
@@ -164,7 +172,7 @@ impl Names {
         self.rename_use(left)?;
         self.rename_use(right)?;
         self.rename_definition(dest)?;
-        Ok(Registers {
+        Ok(OperandRegisters {
             uses: Uses::Two(*left, *right),
             defines: Some(*dest),
         })
@@ -173,7 +181,7 @@ impl Names {
     /// The operation with the names of its registers, those of the uses first, left to right; and these names, so that
     /// nobody has to look again which registers it has.
     #[inline(always)]
-    pub(crate) fn rename(&mut self, op: &Op) -> Result<(Op, Registers), NoMemory>
+    pub(crate) fn rename(&mut self, op: &Op) -> Result<(Op, OperandRegisters), NoMemory>
         requires { self.old.given < 2 ^ 32 - 3 }
         ensures next { IfOk result (λ renamed. (done : List Op) →
             Named done self.old.given (current_of self.old) →
@@ -182,7 +190,7 @@ impl Names {
         ensures count { OnOk result (self.new.given ≤ self.old.given + 3) }
         ensures registers { IfOk result (λ renamed. AreRegistersOf renamed.0 renamed.1) }
     {
-        const NONE: Registers = Registers {
+        const NONE: OperandRegisters = OperandRegisters {
             uses: Uses::Nothing,
             defines: None,
         };

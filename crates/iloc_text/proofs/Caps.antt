@@ -3,7 +3,7 @@ use Rattle.std.proofs.Common.{◌≡◌, ◌∙◌, ℕ, ◌≤◌, nat_lt, Bool
 use Rattle.std.specs.List.{AllByRecursion, list_all}
 use Rattle.std.proofs.lemmas.Bool.Decides.{nat_tests}
 use Rattle.iloc_ops.specs.Limits.{MAX_NUMBER}
-use Rattle.iloc_text.specs.declared.scan.TheConstants.{ABOVE_LIMIT}
+use Rattle.iloc_text.specs.declared.line.scan.TheConstants.{ABOVE_LIMIT}
 use Rattle.iloc_ops.specs.declared.op.Op.{Op}
 use Rattle.std.proofs.lemmas.List.Folds.{list_all-map}
 use Rattle.iloc_ops.specs.Forms.{Operand, operands, number_of, numbers, opcode, op_of}

@@ -2,7 +2,7 @@
 use Rattle.std.proofs.Common.{◌≡◌, ◌∙◌, ◌+◌, ◌≤◌, List, [], ◌∷◌, ◌++◌, length, sum_by, drop, sym, ap, ap₂, arith}
 use Rattle.std.proofs.lemmas.List.{take-append-le, drop-append-le, take_all, length-drop}
 use Rattle.std.proofs.lemmas.List.Sums.{sum_by-cons}
-use Rattle.iloc_text.specs.declared.copies.Unsettled.{Unsettled}
+use Rattle.iloc_text.specs.declared.reader.copies.Unsettled.{Unsettled}
 use Rattle.iloc_ops.specs.declared.op.Op.{Op}
 use Rattle.iloc_text.specs.Steps.Copied.{taken_apart}
 

@@ -2,7 +2,7 @@
 use Rattle.std.proofs.Common.{◌≡◌, ◌∙◌, ℕ, nat_lt, true, false, List, ◌++◌, refl, sym, ap, subst, Option, Some, None, IfSome, option_map}
 use Rattle.std.specs.List.{list_all}
 use Rattle.std.proofs.lemmas.Option.{same_Some}
-use Rattle.iloc_text.specs.declared.scan.TheConstants.{ABOVE_LIMIT}
+use Rattle.iloc_text.specs.declared.line.scan.TheConstants.{ABOVE_LIMIT}
 use Rattle.iloc_ops.specs.declared.op.Op.{Op}
 use Rattle.iloc_ops.specs.Forms.{operands, numbers}
 use Rattle.iloc_text.specs.Grammar.{is_blank, is_word_byte, ReadsWidely, Reads, HasReading, HasWideReading}

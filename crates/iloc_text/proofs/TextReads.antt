@@ -6,7 +6,7 @@ use Rattle.iloc_ops.specs.Limits.{MAX_INPUT}
 use Rattle.iloc_ops.specs.declared.file.Block.{Block}
 use Rattle.iloc_text.specs.declared.fault.ReadFault.{ReadFault}
 use Rattle.iloc_text.specs.declared.fault.ReadFault.TheVariants.{NoMemory}
-use Rattle.iloc_text.specs.declared.text_reader.TextReader.{TextReader}
+use Rattle.iloc_text.specs.declared.stream.text_reader.TextReader.{TextReader}
 use Rattle.iloc_text.specs.Files.{IsRefused}
 use Rattle.iloc_text.specs.Lines.{lines_of}
 use Rattle.iloc_text.specs.Steps.TextReads.{GoesOn, HasFault}

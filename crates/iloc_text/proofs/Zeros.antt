@@ -1,7 +1,7 @@
 -- An operation of three numbers, of which those that it has no place for stand for nothing.
 use Rattle.std.proofs.Common.{◌≡◌, ℕ, zero, suc, nat_lt, Bool, true, false, ◌&&◌, List, [], ◌∷◌, get_or, refl}
 use Rattle.std.specs.List.{list_all}
-use Rattle.iloc_text.specs.declared.scan.TheConstants.{ABOVE_LIMIT}
+use Rattle.iloc_text.specs.declared.line.scan.TheConstants.{ABOVE_LIMIT}
 use Rattle.iloc_ops.specs.declared.forms.Opcode.{Opcode}
 use Rattle.iloc_ops.specs.declared.forms.Opcode.TheVariants as O
 use Rattle.iloc_ops.specs.Forms.{op_of}

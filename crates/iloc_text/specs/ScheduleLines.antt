@@ -6,8 +6,8 @@ use Rattle.iloc_ops.specs.declared.op.Op.{Op}
 use Rattle.iloc_ops.specs.declared.op.Op.TheVariants.{Mult, MultI, Nop}
 use Rattle.iloc_text.specs.declared.line.ParseFault.{ParseFault}
 use Rattle.iloc_text.specs.declared.line.ParseFault.TheVariants.{Bad, NumberTooLarge}
-use Rattle.iloc_text.specs.declared.schedule_line.ScheduleLine.{ScheduleLine}
-use Rattle.iloc_text.specs.declared.schedule_line.ScheduleLine.TheVariants.{Empty, Row, Head, Cycles, Total}
+use Rattle.iloc_text.specs.declared.line.schedule_line.ScheduleLine.{ScheduleLine}
+use Rattle.iloc_text.specs.declared.line.schedule_line.ScheduleLine.TheVariants.{Empty, Row, Head, Cycles, Total}
 use Rattle.iloc_ops.specs.Forms.{numbers}
 use Rattle.iloc_text.specs.Grammar.{◌⋅◌, Text, Blanks, SomeBlanks, Number, OptionalOperation, OptionalComment, Name}
 

@@ -1,12 +1,21 @@
 //! What a line says.
 ghost use Rattle.std.specs.Prelude.{◌≡◌, option_map, nat_lt};
 ghost use Rattle.std.specs.List.{list_all};
-ghost use Rattle.iloc_text.specs.declared.scan.TheConstants.{ABOVE_LIMIT};
+ghost use Rattle.iloc_text.specs.declared.line.scan.TheConstants.{ABOVE_LIMIT};
 ghost use Rattle.iloc_text.specs.Steps.LineReads.{LineReads, label_of};
 ghost use Rattle.iloc_text.specs.Steps.Scan.{is_end, body_at, line_at, optional_label_at, is_within_limit, is_within};
 
-use crate::operation::optional_operation_at;
-use crate::scan::{ABOVE_LIMIT, after_blanks, word_at};
+pub mod fast_path;
+pub mod numbers;
+pub mod one_pass;
+pub mod opcode;
+pub mod operand;
+pub mod operation;
+pub mod scan;
+pub mod schedule_line;
+
+use crate::line::operation::optional_operation_at;
+use crate::line::scan::{ABOVE_LIMIT, after_blanks, word_at};
 use iloc_ops::{Op, Operands, form_of};
 
 /// What a line reads as.

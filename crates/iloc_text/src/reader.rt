@@ -8,14 +8,18 @@ ghost use Rattle.iloc_text.specs.Steps.Open.{HasTaken};
 ghost use Rattle.iloc_text.specs.Steps.Verdicts.{Answered, answer_from};
 ghost use Rattle.iloc_text.specs.Files.{AreWithinLimits, Denotes, IsRefused};
 
-use crate::copies::Copies;
+pub mod copies;
+pub mod open_block;
+pub mod taker;
+
 use crate::fault::ReadFault;
+use crate::line::one_pass::{fast_body, fast_line};
+use crate::line::scan::after_blanks;
 use crate::line::{Line, ParseFault, read_line};
 use crate::line_ends::split_line;
-use crate::one_pass::{fast_body, fast_line};
-use crate::open_block::OpenBlock;
-use crate::scan::after_blanks;
-use crate::taker::TakeBlocks;
+use crate::reader::copies::Copies;
+use crate::reader::open_block::OpenBlock;
+use crate::reader::taker::TakeBlocks;
 use iloc_ops::{IlocFile, MAX_INPUT};
 use std::alloc::Global;
 

@@ -4,11 +4,14 @@ ghost use Rattle.iloc_ops.specs.declared.file.Block.{Block};
 ghost use Rattle.iloc_text.specs.Files.{AreWithinLimits, Denotes};
 ghost use Rattle.iloc_text.specs.Streams.{EndsStream, ReadsText};
 
-use crate::copies::Copies;
+pub mod pieces;
+pub mod text_reader;
+
 use crate::fault::{InputFault, StreamFault};
-use crate::pieces::read_pieces;
-use crate::taker::TakeBlocks;
-use crate::text_reader::TextReader;
+use crate::reader::copies::Copies;
+use crate::reader::taker::TakeBlocks;
+use crate::stream::pieces::read_pieces;
+use crate::stream::text_reader::TextReader;
 use iloc_ops::IlocFile;
 use std::alloc::Global;
 use std::io::Read;

@@ -2,8 +2,8 @@
 ghost use Rattle.std.specs.Prelude.{◌≡◌, ◌≤◌, length, map, IfOk, IfSome, IsTrue};
 ghost use Rattle.iloc_text.specs.Parts.{AreParts, BeginsLabelled, FallsInto};
 
+use crate::line::one_pass::fast_line;
 use crate::line_ends::split_line;
-use crate::one_pass::fast_line;
 use iloc_ops::NoMemory;
 use std::alloc::Global;
 

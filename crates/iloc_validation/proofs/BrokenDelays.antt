@@ -14,7 +14,7 @@ use Rattle.iloc_validation.specs.declared.finding.Reason.{Reason}
 use Rattle.iloc_validation.specs.declared.finding.Reason.TheVariants.{Early}
 use Rattle.iloc_validation.specs.declared.reading.Reading.{Reading}
 use Rattle.iloc_validation.specs.declared.reasons.delays.Missing.{Missing}
-use Rattle.iloc_validation.specs.declared.sources.Sources.{Sources}
+use Rattle.iloc_validation.specs.declared.reading.sources.Sources.{Sources}
 use Rattle.iloc_validation.specs.ByTheBook.{ArePaired}
 use Rattle.iloc_validation.specs.Finding.{issue_of, IsReason}
 use Rattle.iloc_validation.specs.Steps.Broken.{AreUsesKept, IsMost}

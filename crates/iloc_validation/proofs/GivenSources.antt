@@ -7,7 +7,7 @@ use Rattle.iloc_ops.specs.declared.op.Op.{Op}
 use Rattle.iloc_ops.specs.Registers.{defined}
 use Rattle.iloc_meaning.specs.Trace.{op_at, is_register}
 use Rattle.iloc_meaning.proofs.Cases.{by_bool}
-use Rattle.iloc_validation.specs.declared.holders.Holders.{Holders}
+use Rattle.iloc_validation.specs.declared.reading.holders.Holders.{Holders}
 use Rattle.iloc_validation.specs.ByTheBook.{given}
 use Rattle.iloc_validation.specs.Steps.Holders.{holder, ChangesOnly}
 

@@ -13,7 +13,7 @@ use Rattle.iloc_sched.specs.Delays.{memory_delays}
 use Rattle.iloc_sched.proofs.Basics.Members.{in_from, contains_from}
 use Rattle.iloc_sched.proofs.Basics.Slots.{issued_within}
 use Rattle.iloc_validation.specs.declared.reading.Reading.{Reading}
-use Rattle.iloc_validation.specs.declared.sources.Sources.{Sources}
+use Rattle.iloc_validation.specs.declared.reading.sources.Sources.{Sources}
 use Rattle.iloc_validation.specs.ByTheBook.{read, given, IsScheduleUnder}
 use Rattle.iloc_validation.specs.Steps.Pairing.{LeadsBack}
 use Rattle.iloc_validation.specs.Steps.Readings.{reading_at}

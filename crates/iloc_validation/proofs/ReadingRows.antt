@@ -12,8 +12,8 @@ use Rattle.iloc_sched.specs.Steps.Members.{In}
 use Rattle.iloc_sched.proofs.Basics.Members.{from_append, in_left, in_right}
 use Rattle.iloc_sched.proofs.Basics.Slots.{stands_there, issued_within, cycle_is}
 use Rattle.iloc_validation.specs.declared.reading.Reading.{Reading}
-use Rattle.iloc_validation.specs.declared.run.Run.{Run}
-use Rattle.iloc_validation.specs.declared.sources.Sources.TheVariants.{Nothing}
+use Rattle.iloc_validation.specs.declared.reading.run.Run.{Run}
+use Rattle.iloc_validation.specs.declared.reading.sources.Sources.TheVariants.{Nothing}
 use Rattle.iloc_validation.specs.ByTheBook.{read}
 use Rattle.iloc_validation.specs.Steps.Holders.{holder}
 use Rattle.iloc_validation.specs.Steps.Readings.{reading_at, reading_of, with_noted, AreNoted}

@@ -4,7 +4,7 @@ use Rattle.iloc_ops.specs.declared.op.Reg.{Reg}
 use Rattle.iloc_ops.specs.declared.op.Op.{Op}
 use Rattle.iloc_ops.specs.declared.op.Op.TheVariants.{Nop}
 use Rattle.iloc_ops.specs.Registers.{used}
-use Rattle.iloc_validation.specs.declared.sources.Sources.TheVariants.{One, Two}
+use Rattle.iloc_validation.specs.declared.reading.sources.Sources.TheVariants.{One, Two}
 use Rattle.iloc_validation.specs.Steps.Sources.{sources_of, by_numbers}
 
 pub few_used : (op : Op) → length (used op) ≤ 2

@@ -24,9 +24,9 @@ use Rattle.iloc_timed.proofs.Landing.{register_more, landed-later, landed_is_arr
 use Rattle.iloc_timed.proofs.Turning.{cleared, pushed}
 use Rattle.iloc_sched.proofs.Basics.Slots.{numbers_before, cycle_is}
 use Rattle.iloc_sched.proofs.Basics.Members.{in_left, in_right}
-use Rattle.iloc_validation.specs.declared.holders.Holders.{Holders}
-use Rattle.iloc_validation.specs.declared.run.Arrival.{Arrival}
-use Rattle.iloc_validation.specs.declared.run.Run.{Run}
+use Rattle.iloc_validation.specs.declared.reading.holders.Holders.{Holders}
+use Rattle.iloc_validation.specs.declared.reading.run.Arrival.{Arrival}
+use Rattle.iloc_validation.specs.declared.reading.run.Run.{Run}
 use Rattle.iloc_validation.specs.ByTheBook.{due, read}
 use Rattle.iloc_validation.specs.Steps.Holders.{holder}
 use Rattle.iloc_validation.specs.Steps.Arrivals.{landed_at, mark, marked_by, marked, with_slot, sent_as}

@@ -20,8 +20,8 @@ use Rattle.iloc_validation.specs.declared.finding.Issue.{Issue}
 use Rattle.iloc_validation.specs.declared.finding.Reason.TheVariants.{Early, Reads}
 use Rattle.iloc_validation.specs.declared.reading.Reading.{Reading}
 use Rattle.iloc_validation.specs.declared.reasons.uses.WrongUse.{WrongUse}
-use Rattle.iloc_validation.specs.declared.sources.Sources.{Sources}
-use Rattle.iloc_validation.specs.declared.sources.Sources.TheVariants.{One, Two}
+use Rattle.iloc_validation.specs.declared.reading.sources.Sources.{Sources}
+use Rattle.iloc_validation.specs.declared.reading.sources.Sources.TheVariants.{One, Two}
 use Rattle.iloc_validation.specs.ByTheBook.{label, read, given, result_in, ArePaired}
 use Rattle.iloc_validation.specs.Finding.{issue_of, IsEarly, ReadsAnother, IsReason}
 use Rattle.iloc_validation.specs.Steps.Broken.{source_at, AreUsesKept, IsWrong}

@@ -2,16 +2,12 @@
 #![tactic(auto)]
 
 mod finding;
-mod given;
-mod holders;
 mod label;
 pub mod laws;
 mod pairing;
 mod reading;
 mod reasons;
-mod run;
 mod search;
-mod sources;
 mod validation;
 mod verification;
 mod waits;

@@ -8,8 +8,13 @@ ghost use Rattle.iloc_validation.specs.Steps.Sources.{sources_of};
 ghost use Rattle.iloc_validation.specs.Steps.Holders.{holder};
 ghost use Rattle.iloc_validation.specs.Steps.Readings.{reading_at, reading_of, with_noted};
 
-use crate::run::Run;
-use crate::sources::Sources;
+pub mod given;
+pub mod holders;
+pub mod run;
+pub mod sources;
+
+use crate::reading::run::Run;
+use crate::reading::sources::Sources;
 use iloc_ops::{NoMemory, Op};
 use iloc_timed::{Latencies, Schedule};
 use std::alloc::Global;

@@ -6,8 +6,8 @@ ghost use Rattle.iloc_validation.specs.Finding.{IsFinding};
 ghost use Rattle.iloc_validation.specs.Steps.Sides.{AreSides, IsScheduleUnderSome};
 
 use crate::finding::Finding;
-use crate::given::{givens, without_nops};
 use crate::pairing::Pairing;
+use crate::reading::given::{givens, without_nops};
 use crate::reading::readings;
 use crate::reasons::reason;
 use crate::search::found_pairing;

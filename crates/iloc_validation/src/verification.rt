@@ -8,7 +8,7 @@ use crate::finding::Issue;
 use crate::label::have_one_label;
 use crate::pairing::Pairing;
 use crate::reading::Reading;
-use crate::sources::{Sources, are_same};
+use crate::reading::sources::{Sources, are_same};
 use crate::waits::waits_of;
 use iloc_ops::{NoMemory, Op};
 use iloc_timed::{Latencies, Schedule};

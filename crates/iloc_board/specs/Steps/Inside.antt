@@ -1,7 +1,7 @@
 -- What a board, a pass and a root keep inside.
 use Rattle.std.specs.Prelude.{◌≡◌, ℕ, ◌+◌, ◌≤◌, []}
 use Rattle.atomic_table.specs.Seated.{TableId}
-use Rattle.iloc_board.specs.declared.state.State.{State}
+use Rattle.iloc_board.specs.declared.board.state.State.{State}
 use Rattle.iloc_board.specs.Limits.{MOST_JOBS}
 use Rattle.iloc_board.specs.Core.{IsWithin}
 use Rattle.iloc_board.specs.Journal.{state_of, handed, all_handed}

@@ -1,6 +1,6 @@
 -- What is summed over blocks that are compared.
 use Rattle.std.specs.Prelude.{ℕ}
-use Rattle.iloc_sched.specs.declared.heuristic.Heuristic.{Heuristic}
+use Rattle.iloc_sched.specs.declared.ranking.heuristic.Heuristic.{Heuristic}
 use Rattle.iloc_farm.specs.declared.commands.compare.Comparison.{Comparison}
 use Rattle.iloc_farm.specs.declared.commands.compare.Tally.{Tally}
 use Rattle.iloc_farm.specs.declared.commands.compare.Tally.TheVariants as tally

@@ -244,7 +244,7 @@ impl CompareLister {
 }
 
 impl FarmedLister for CompareLister {
-    ghost use Rattle.iloc_sched.specs.declared.heuristic.Heuristic.TheVariants.{Chain};
+    ghost use Rattle.iloc_sched.specs.declared.ranking.heuristic.Heuristic.TheVariants.{Chain};
     ghost use Rattle.iloc_farm.specs.Commands.Compare.{IsCompareListing, IsComparison, cycles_by};
     ghost use Rattle.iloc_farm.specs.Steps.Listed.{AreListed};
 

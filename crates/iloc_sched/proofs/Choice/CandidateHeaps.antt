@@ -9,7 +9,7 @@ use Rattle.std.specs.List.Sorted.{IsPermutation}
 use Rattle.std.specs.Ordering.{nat_cmp, is_lt}
 use Rattle.std.specs.Prelude.{slice_index, slice_index_or}
 use Rattle.std.specs.BinaryHeap.{IsUpperBound}
-use Rattle.iloc_sched.specs.declared.candidate.Candidate.{Candidate}
+use Rattle.iloc_sched.specs.declared.cycle.candidate.Candidate.{Candidate}
 use Rattle.iloc_sched.specs.Steps.Members.{In}
 use Rattle.iloc_sched.specs.Steps.Order.{rank, of_rank, by_rank, same_number, AreRanked, AreUpTo, IsFirst, IsGreatestRank}
 use Rattle.iloc_sched.specs.Steps.Changes.{IsFirstOf, HasNone, Adds, Removes}

@@ -9,12 +9,12 @@ use Rattle.iloc_timed.specs.declared.row.Row.{Row}
 use Rattle.iloc_timed.specs.Kinds.{kind, is_mult, is_memory}
 use Rattle.iloc_timed.specs.Rows.{is_some_kind, kind_in}
 use Rattle.iloc_sched.specs.Greedy.{ready, first_of_all, may_stand_beside, on_units, chosen_with, chosen}
-use Rattle.iloc_sched.specs.declared.candidate.Candidate.{Candidate}
-use Rattle.iloc_sched.specs.declared.class.Class.{Class}
+use Rattle.iloc_sched.specs.declared.cycle.candidate.Candidate.{Candidate}
+use Rattle.iloc_sched.specs.declared.cycle.class.Class.{Class}
 use Rattle.iloc_sched.specs.declared.plan.Plan.{Plan}
-use Rattle.iloc_sched.specs.declared.queues.Queues.{Queues}
-use Rattle.iloc_sched.specs.declared.queues.Choice.{Choice}
-use Rattle.iloc_sched.specs.declared.waiting.Waiting.{Waiting}
+use Rattle.iloc_sched.specs.declared.cycle.queues.Queues.{Queues}
+use Rattle.iloc_sched.specs.declared.cycle.queues.Choice.{Choice}
+use Rattle.iloc_sched.specs.declared.cycle.waiting.Waiting.{Waiting}
 use Rattle.iloc_sched.specs.Steps.Choosing.{IsChosenSoFar}
 use Rattle.iloc_sched.specs.Steps.Members.{In}
 use Rattle.iloc_sched.specs.Steps.Order.{IsFirst, candidate_at}

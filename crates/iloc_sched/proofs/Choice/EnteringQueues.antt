@@ -1,10 +1,10 @@
 -- The queues have just what can be issued, as more becomes ready; for `Waiting::release`, `issue_first`.
 use Rattle.std.proofs.Common.{◌≡◌, ◌≢◌, ℕ, ◌+◌, ◌%◌, ◌<◌, List, [], ◌∷◌, ◌++◌, Some, None, inl, inr, sym, ◌∙◌, ap, subst, arith}
 use Rattle.iloc_ops.specs.declared.op.Op.{Op}
-use Rattle.iloc_sched.specs.declared.candidate.Candidate.{Candidate}
-use Rattle.iloc_sched.specs.declared.class.Class.{Class}
-use Rattle.iloc_sched.specs.declared.queues.Queues.{Queues}
-use Rattle.iloc_sched.specs.declared.queues.Choice.{Choice}
+use Rattle.iloc_sched.specs.declared.cycle.candidate.Candidate.{Candidate}
+use Rattle.iloc_sched.specs.declared.cycle.class.Class.{Class}
+use Rattle.iloc_sched.specs.declared.cycle.queues.Queues.{Queues}
+use Rattle.iloc_sched.specs.declared.cycle.queues.Choice.{Choice}
 use Rattle.iloc_sched.specs.Steps.Members.{In}
 use Rattle.iloc_sched.specs.Steps.Order.{candidate_at}
 use Rattle.iloc_sched.specs.Steps.Changes.{HasNone}

@@ -1,12 +1,12 @@
 -- The best of the firsts of four queues is the first of all that may stand there; for `Queues::best_class`.
 use Rattle.std.proofs.Common.{ℕ, ◌<◌, ◌≤◌, true, false, arith, ◌≡◌, ◌≢◌, Option, Some, None, ◌⊎◌, inl, inr, refl, sym, ◌∙◌, subst}
 use Rattle.std.proofs.lemmas.Bool.Decides.{nat_tests}
-use Rattle.iloc_sched.specs.declared.candidate.Candidate.{Candidate}
-use Rattle.iloc_sched.specs.declared.class.Class.{Class}
-use Rattle.iloc_sched.specs.declared.class.Class.TheVariants as C
-use Rattle.iloc_sched.specs.declared.queues.Queues.{Queues}
-use Rattle.iloc_sched.specs.declared.queues.Choice.{Choice}
-use Rattle.iloc_sched.specs.declared.queues.Offer.{Offer}
+use Rattle.iloc_sched.specs.declared.cycle.candidate.Candidate.{Candidate}
+use Rattle.iloc_sched.specs.declared.cycle.class.Class.{Class}
+use Rattle.iloc_sched.specs.declared.cycle.class.Class.TheVariants as C
+use Rattle.iloc_sched.specs.declared.cycle.queues.Queues.{Queues}
+use Rattle.iloc_sched.specs.declared.cycle.queues.Choice.{Choice}
+use Rattle.iloc_sched.specs.declared.cycle.queues.Offer.{Offer}
 use Rattle.iloc_sched.specs.Steps.Classes.{is_excluded}
 use Rattle.iloc_sched.specs.Steps.Members.{In}
 use Rattle.iloc_sched.specs.Steps.Order.{rank, IsFirst, IsGreatestRank}

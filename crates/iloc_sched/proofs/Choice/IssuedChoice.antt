@@ -2,20 +2,20 @@
 use Rattle.std.proofs.Common.{◌≡◌, ◌≢◌, ℕ, ◌+◌, ◌%◌, ◌<◌, ◌≤◌, List, [], ◌∷◌, ◌++◌, length, set, get_or, Option, Some, None, inl, inr, refl, sym, ◌∙◌, ap, subst, arith, append_assoc}
 use Rattle.std.proofs.lemmas.List.{get_or-set_same, get_or-set_other, append-nil}
 use Rattle.std.specs.Global.{Vec}
-use Rattle.iloc_sched.specs.declared.candidate.Candidate.{Candidate}
-use Rattle.iloc_sched.specs.declared.class.Class.{Class}
+use Rattle.iloc_sched.specs.declared.cycle.candidate.Candidate.{Candidate}
+use Rattle.iloc_sched.specs.declared.cycle.class.Class.{Class}
 use Rattle.iloc_sched.specs.declared.plan.Plan.{Plan}
-use Rattle.iloc_sched.specs.declared.queues.Queues.{Queues}
-use Rattle.iloc_sched.specs.declared.queues.Choice.{Choice}
-use Rattle.iloc_sched.specs.declared.waiting.State.{State}
-use Rattle.iloc_sched.specs.declared.waiting.Waiting.{Waiting}
+use Rattle.iloc_sched.specs.declared.cycle.queues.Queues.{Queues}
+use Rattle.iloc_sched.specs.declared.cycle.queues.Choice.{Choice}
+use Rattle.iloc_sched.specs.declared.cycle.waiting.OperationState.{OperationState}
+use Rattle.iloc_sched.specs.declared.cycle.waiting.Waiting.{Waiting}
 use Rattle.iloc_sched.specs.Steps.Members.{In, AreApart}
 use Rattle.iloc_sched.specs.Steps.Order.{candidate_at}
 use Rattle.iloc_sched.specs.Steps.Changes.{HasNone}
 use Rattle.iloc_sched.specs.Steps.Queued.{candidates, Takes, AddsTo}
 use Rattle.iloc_sched.specs.Steps.Graph.{IsGraph}
 use Rattle.iloc_sched.specs.Steps.Progress.{Waits, CanIssue, KeepsPlaces}
-use Rattle.iloc_sched.specs.Steps.Wheel.{bucket_of}
+use Rattle.iloc_sched.specs.Steps.Calendar.{bucket_of}
 use Rattle.iloc_sched.specs.Steps.Views.{graph_of, issued_list, progress_with, progress_of, IsSized}
 use Rattle.iloc_sched.specs.Steps.SoFar.{class_at, IsPlan, IsQueued, Admits, IsReleasing, IsUnderWay, Issues}
 use Rattle.iloc_sched.proofs.Basics.Members.{in_right, split_apart}
@@ -79,11 +79,11 @@ module _ (p : Plan) (w w1 : Waiting) (q q1 : Queues) (c : ℕ) (plan : IsPlan p)
   pub due_there : (j : ℕ) → In ((progress_of w1).bucket (c % 32)) j → j < length p.edges.heads.items
   due_there j held = (under.waits.only (c % 32) j (omega arith) (still_due j held)).0
 
-  pub due_linked : (j : ℕ) → In ((progress_of w1).bucket (c % 32)) j → j < length w1.wheel.behind.items
+  pub due_linked : (j : ℕ) → In ((progress_of w1).bucket (c % 32)) j → j < length w1.calendar.behind.items
   due_linked j held =
       let there : j < length p.edges.heads.items = due_there j held in
-      let links : length p.edges.heads.items ≤ length w.wheel.behind.items = under.sized.links in
-      let same : length w1.wheel.behind.items ≡ length w.wheel.behind.items = so_far.links in
+      let links : length p.edges.heads.items ≤ length w.calendar.behind.items = under.sized.links in
+      let same : length w1.calendar.behind.items ≡ length w.calendar.behind.items = so_far.links in
       omega arith
 
   module _ (w2 : Waiting) (j : ℕ) (taken : (progress_of w1).bucket (c % 32) ≡ j ∷ (progress_of w2).bucket (c % 32))
@@ -106,7 +106,7 @@ module _ (p : Plan) (w w1 : Waiting) (q q1 : Queues) (c : ℕ) (plan : IsPlan p)
 
       pub releasing_more : (q2 : Queues) (k : Class) (d : Candidate)
           → ((b : ℕ) → b < 32 → b ≢ c % 32 → (progress_of w2).bucket b ≡ (progress_of w1).bucket b)
-          → w2.states ≡ w1.states → length w2.wheel.behind.items ≡ length w1.wheel.behind.items
+          → w2.states ≡ w1.states → length w2.calendar.behind.items ≡ length w1.calendar.behind.items
           → k ≡ class_at p.ops.items j → d ≡ candidate_at p.priorities.items j → AddsTo q1 q2 k d
           → IsReleasing p w w2 q q2 c
       releasing_more q2 k d others states links class candidate adds = record {
@@ -128,16 +128,16 @@ released p w w' q q' c plan under so_far empty =
     record {
       sized = record {
         starts = under.sized.starts;
-        states = ap (λ (states : Vec State). length states.items) so_far.states ∙ under.sized.states;
+        states = ap (λ (states : Vec OperationState). length states.items) so_far.states ∙ under.sized.states;
         links = omega (arith, so_far.links, under.sized.links);
       };
-      waits = subst (λ (states : Vec State).
-          Waits (graph_of p.edges) (progress_with states.items (bucket_of w'.wheel)) (c + 1) 0 None) (sym so_far.states)
-          (empties (graph_of p.edges) (progress_of w) c (bucket_of w'.wheel) plan.graph.is_graph under.waits empty
+      waits = subst (λ (states : Vec OperationState).
+          Waits (graph_of p.edges) (progress_with states.items (bucket_of w'.calendar)) (c + 1) 0 None) (sym so_far.states)
+          (empties (graph_of p.edges) (progress_of w) c (bucket_of w'.calendar) plan.graph.is_graph under.waits empty
           so_far.others);
-      queued = subst (λ (states : Vec State). IsQueued p.ops.items p.priorities.items (graph_of p.edges)
-          (progress_with states.items (bucket_of w'.wheel)) (c + 1) q') (sym so_far.states)
+      queued = subst (λ (states : Vec OperationState). IsQueued p.ops.items p.priorities.items (graph_of p.edges)
+          (progress_with states.items (bucket_of w'.calendar)) (c + 1) q') (sym so_far.states)
           (queued_with_due p.ops.items p.priorities.items (graph_of p.edges) (progress_of w) c q plan.graph.is_graph
-          under.waits under.queued q' (bucket_of w'.wheel)
+          under.waits under.queued q' (bucket_of w'.calendar)
           (subst (λ js. Admits p.ops.items p.priorities.items q q' js) (sym all) so_far.admits));
     }

@@ -11,9 +11,9 @@ use Rattle.iloc_timed.specs.Rows.{empty_row, row_at, slots, issue_cycle, holds}
 use Rattle.iloc_sched.specs.Renaming.{renamed}
 use Rattle.iloc_sched.specs.Greedy.{ready, chosen_with, IsGreedyBy}
 use Rattle.iloc_sched.specs.declared.plan.Plan.{Plan}
-use Rattle.iloc_sched.specs.declared.queues.Queues.{Queues}
-use Rattle.iloc_sched.specs.declared.queues.Choice.{Choice}
-use Rattle.iloc_sched.specs.declared.waiting.Waiting.{Waiting}
+use Rattle.iloc_sched.specs.declared.cycle.queues.Queues.{Queues}
+use Rattle.iloc_sched.specs.declared.cycle.queues.Choice.{Choice}
+use Rattle.iloc_sched.specs.declared.cycle.waiting.Waiting.{Waiting}
 use Rattle.iloc_sched.specs.Steps.Members.{In}
 use Rattle.iloc_sched.specs.Steps.Classes.{is_product_class}
 use Rattle.iloc_sched.specs.Steps.Queued.{IsBest}

@@ -8,7 +8,7 @@ use Rattle.iloc_ops.specs.declared.op.Op.{Op}
 use Rattle.iloc_ops.specs.declared.op.Op.TheVariants.{Nop}
 use Rattle.iloc_meaning.specs.Trace.{op_at}
 use Rattle.iloc_timed.specs.declared.latencies.Latencies.{Latencies}
-use Rattle.iloc_sched.specs.declared.delay_pairs.Pair.{Pair}
+use Rattle.iloc_sched.specs.declared.edges.delay_pairs.Pair.{Pair}
 use Rattle.iloc_sched.specs.Delays.{delays, IsDelayPair}
 use Rattle.iloc_sched.specs.Pairs.{ComesBefore, rising, with_delays, pairs_from, pairs_before, pairs}
 use Rattle.iloc_sched.specs.Steps.Members.{In}

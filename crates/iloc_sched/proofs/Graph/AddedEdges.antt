@@ -13,7 +13,7 @@ use Rattle.iloc_timed.specs.Latency.{latency}
 use Rattle.iloc_sched.specs.Renaming.{IsRenamed}
 use Rattle.iloc_sched.specs.Delays.{IsDelayPair}
 use Rattle.iloc_sched.specs.declared.edges.Edge.{Edge}
-use Rattle.iloc_sched.specs.declared.lasts.Lasts.{Lasts}
+use Rattle.iloc_sched.specs.declared.edges.lasts.Lasts.{Lasts}
 use Rattle.iloc_sched.specs.Steps.Members.{In}
 use Rattle.iloc_sched.specs.Steps.Graph.{Graph}
 use Rattle.iloc_sched.specs.Steps.Lasts.{IsLasts}

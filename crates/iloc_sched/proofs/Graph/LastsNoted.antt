@@ -11,7 +11,7 @@ use Rattle.iloc_timed.specs.declared.kind.Kind.TheVariants as K
 use Rattle.iloc_timed.specs.Kinds.{kind, is_load, is_store, is_output}
 use Rattle.iloc_sched.specs.declared.by_register.ByRegister.{ByRegister}
 use Rattle.iloc_sched.specs.Steps.ByRegister.{number_at}
-use Rattle.iloc_sched.specs.declared.lasts.Lasts.{Lasts}
+use Rattle.iloc_sched.specs.declared.edges.lasts.Lasts.{Lasts}
 use Rattle.iloc_sched.specs.Steps.Members.{In}
 use Rattle.iloc_sched.specs.Steps.Graph.{IsLast}
 use Rattle.iloc_sched.specs.Steps.Lasts.{NotesDefiner, NotesKind, IsLasts, loads_before}

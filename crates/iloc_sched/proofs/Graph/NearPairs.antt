@@ -13,7 +13,7 @@ use Rattle.iloc_timed.specs.Kinds.{kind, is_load, is_store, is_output}
 use Rattle.iloc_timed.specs.Latency.{latency}
 use Rattle.iloc_sched.specs.Renaming.{IsRenamed}
 use Rattle.iloc_sched.specs.Delays.{uses_result, when, memory_delays, delays, IsDelayPair}
-use Rattle.iloc_sched.specs.declared.lasts.Lasts.{Lasts}
+use Rattle.iloc_sched.specs.declared.edges.lasts.Lasts.{Lasts}
 use Rattle.iloc_sched.specs.Steps.Members.{In}
 use Rattle.iloc_sched.specs.Steps.Near.{NoneBetween, IsNear}
 use Rattle.iloc_sched.specs.Steps.Graph.{Graph}

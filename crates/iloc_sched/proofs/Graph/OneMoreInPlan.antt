@@ -15,7 +15,7 @@ use Rattle.iloc_timed.specs.declared.kind.Kind.{Kind}
 use Rattle.iloc_sched.specs.Renaming.{IsRenamed}
 use Rattle.iloc_sched.specs.declared.edges.Edge.{Edge}
 use Rattle.iloc_sched.specs.declared.edges.Edges.{Edges}
-use Rattle.iloc_sched.specs.declared.lasts.Lasts.{Lasts}
+use Rattle.iloc_sched.specs.declared.edges.lasts.Lasts.{Lasts}
 use Rattle.iloc_sched.specs.Steps.Near.{IsNear, takes_over}
 use Rattle.iloc_sched.specs.Steps.Graph.{Graph, IsLast}
 use Rattle.iloc_sched.specs.Steps.Lasts.{IsLasts, IsNext}

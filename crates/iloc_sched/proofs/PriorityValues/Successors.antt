@@ -14,7 +14,7 @@ use Rattle.iloc_timed.specs.Latency.{latency}
 use Rattle.iloc_meaning.proofs.Cases.{by_bool}
 use Rattle.iloc_sched.specs.Delays.{delays, uses_result, reads_stored, keeps_order, when, memory_delays, IsDelayPair}
 use Rattle.iloc_sched.specs.Heuristics.{waits_for, successors}
-use Rattle.iloc_sched.specs.declared.later.Later.{Later}
+use Rattle.iloc_sched.specs.declared.edges.later.Later.{Later}
 use Rattle.iloc_sched.specs.Steps.Graph.{Graph, IsGraphOf, IsLast}
 use Rattle.iloc_sched.specs.Steps.Members.{In}
 use Rattle.iloc_sched.specs.Steps.Near.{IsNear}

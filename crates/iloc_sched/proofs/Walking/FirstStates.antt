@@ -7,10 +7,10 @@ use Rattle.std.specs.List.{range_with_len}
 use Rattle.std.proofs.lemmas.List.Sums.{sum_by-cons}
 use Rattle.iloc_sched.specs.declared.edges.Edges.{Edges}
 use Rattle.iloc_sched.specs.declared.plan.Plan.{Plan}
-use Rattle.iloc_sched.specs.declared.queues.Queues.{Queues}
-use Rattle.iloc_sched.specs.declared.class.Class.{Class}
-use Rattle.iloc_sched.specs.declared.waiting.State.{State}
-use Rattle.iloc_sched.specs.declared.waiting.Waiting.{Waiting}
+use Rattle.iloc_sched.specs.declared.cycle.queues.Queues.{Queues}
+use Rattle.iloc_sched.specs.declared.cycle.class.Class.{Class}
+use Rattle.iloc_sched.specs.declared.cycle.waiting.OperationState.{OperationState}
+use Rattle.iloc_sched.specs.declared.cycle.waiting.Waiting.{Waiting}
 use Rattle.iloc_sched.specs.Steps.Members.{In, AreApart}
 use Rattle.iloc_sched.specs.Steps.Graph.{Graph, IsGraph}
 use Rattle.iloc_sched.specs.Steps.Progress.{Progress, Waits}
@@ -61,7 +61,7 @@ count_replicate (suc n) =
     sum_by-cons (λ (o : Option ℕ). cond (is_none o) 1 0) not_issued (replicate n not_issued) in
     omega arith
 
-pushed : {Y : Type 0} → (f : State → Y) (xs : List State) (s : State) → map f (xs ++ s ∷ []) ≡ map f xs ++ f s ∷ []
+pushed : {Y : Type 0} → (f : OperationState → Y) (xs : List OperationState) (s : OperationState) → map f (xs ++ s ∷ []) ≡ map f xs ++ f s ∷ []
 pushed f [] s = refl
 pushed f (x ∷ xs) s = ap (λ ys. f x ∷ ys) (pushed f xs s)
 
@@ -70,21 +70,21 @@ abbrev edges_into : Graph → ℕ → ℕ
 edges_into graph j = graph.start (j + 1) - graph.start j
 
 -- the states of one more operation
-module _ (e : Edges) (w v : Waiting) (n : ℕ) (state : State) (below : n < length e.starts.items)
+module _ (e : Edges) (w v : Waiting) (n : ℕ) (state : OperationState) (below : n < length e.starts.items)
     (so_far : IsOpening e w n) (states : v.states.items ≡ w.states.items ++ state ∷ []) (fresh : state.issued ≡ None)
     (unmet : state.wait.unmet ≡ (graph_of e).start (n + 1) - (graph_of e).start n) (soon : state.wait.earliest ≡ 0) where
   issued_more : issued_list v ≡ replicate (n + 1) not_issued
-  issued_more = ap issued_in states ∙ pushed (λ (s : State). s.issued) w.states.items state
+  issued_more = ap issued_in states ∙ pushed (λ (s : OperationState). s.issued) w.states.items state
       ∙ ap (λ o. issued_list w ++ o ∷ []) fresh ∙ ap (λ xs. xs ++ not_issued ∷ []) so_far.issued
       ∙ replicate_more n not_issued
 
   unmet_more : unmet_list v ≡ map (edges_into (graph_of e)) (range_with_len 0 (n + 1))
-  unmet_more = ap unmet_in states ∙ pushed (λ (s : State). s.wait.unmet) w.states.items state
+  unmet_more = ap unmet_in states ∙ pushed (λ (s : OperationState). s.wait.unmet) w.states.items state
       ∙ ap (λ x. unmet_list w ++ x ∷ []) unmet ∙ ap (λ xs. xs ++ edges_into (graph_of e) n ∷ []) so_far.unmet
       ∙ sym (map-range_with_len_more (edges_into (graph_of e)) 0 n n (omega arith))
 
   earliest_more : earliest_list v ≡ replicate (n + 1) 0
-  earliest_more = ap earliest_in states ∙ pushed (λ (s : State). s.wait.earliest) w.states.items state
+  earliest_more = ap earliest_in states ∙ pushed (λ (s : OperationState). s.wait.earliest) w.states.items state
       ∙ ap (λ x. earliest_list w ++ x ∷ []) soon ∙ ap (λ xs. xs ++ 0 ∷ []) so_far.earliest
       ∙ replicate_more n 0
 
@@ -92,7 +92,7 @@ module _ (e : Edges) (w v : Waiting) (n : ℕ) (state : State) (below : n < leng
   pub opening_more : (ready : Bool)
       → (progress_of v).bucket 0 ≡ (if ready then n ∷ (progress_of w).bucket 0 else (progress_of w).bucket 0)
       → ((b : ℕ) → b < 32 → b ≢ 0 → (progress_of v).bucket b ≡ (progress_of w).bucket b)
-      → length v.wheel.behind.items ≡ length w.wheel.behind.items
+      → length v.calendar.behind.items ≡ length w.calendar.behind.items
       → (ready ≡ true → (graph_of e).start n ≡ (graph_of e).start (n + 1))
       → (ready ≡ false → (graph_of e).start n ≢ (graph_of e).start (n + 1)) → IsOpening e v (n + 1)
   opening_more ready put others links free not = record {
@@ -165,7 +165,7 @@ module _ (e : Edges) (w : Waiting) (is : IsGraph (graph_of e)) (made : IsOpening
   pub all_sized : length e.starts.items ≡ length e.heads.items + 1 → IsSized e w
   all_sized starts = record {
     starts = starts;
-    states = sym (length-map w.states.items (λ (s : State). s.issued)) ∙ ap (length {A = Option ℕ}) made.issued
+    states = sym (length-map w.states.items (λ (s : OperationState). s.issued)) ∙ ap (length {A = Option ℕ}) made.issued
         ∙ length-replicate (length e.heads.items) not_issued;
     links = made.links;
   }

@@ -1,4 +1,4 @@
--- Buckets as linked lists: put, first and taken; for `Wheel::put`, `take`, `clear`.
+-- Buckets as linked lists: put, first and taken; for `Calendar::put`, `take`, `clear`.
 use Rattle.std.proofs.Common.{◌≡◌, ◌≢◌, ℕ, zero, suc, ◌+◌, ◌-◌, ◌<◌, ◌≤◌, List, [], ◌∷◌, length, get_or, set, inl, inr, refl, sym, ◌∙◌, ap, subst, arith, Bool, true, false, if◌then◌else◌, eqb, add-one}
 use Rattle.std.specs.Prelude.{replicate}
 use Rattle.std.specs.Int.{from_bool}
@@ -7,9 +7,9 @@ use Rattle.std.proofs.lemmas.List.{get_or-set_same, get_or-set_other}
 use Rattle.std.proofs.lemmas.Bool.{eqb-true}
 use Rattle.std.proofs.lemmas.Map.Keys.{IsDistinct-cons}
 use Rattle.std.proofs.lemmas.Map.Steps.{length-le_from_distinct_below}
-use Rattle.iloc_sched.specs.declared.wheel.Bucket.{Bucket}
+use Rattle.iloc_sched.specs.declared.cycle.calendar.Bucket.{Bucket}
 use Rattle.iloc_sched.specs.Steps.Members.{In, AreApart}
-use Rattle.iloc_sched.specs.Steps.Wheel.{chain, no_bucket, bucket_in}
+use Rattle.iloc_sched.specs.Steps.Calendar.{chain, no_bucket, bucket_in}
 use Rattle.iloc_sched.proofs.Basics.Members.{from_any}
 use Rattle.iloc_meaning.proofs.Cases.{by_bool}
 

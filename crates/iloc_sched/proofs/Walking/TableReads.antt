@@ -3,8 +3,8 @@ use Rattle.std.proofs.Common.{◌≡◌, ℕ, ◌<◌, length, get_or, sym, ◌�
 use Rattle.std.proofs.lemmas.List.{length-map, get_or_read, get_or-map}
 use Rattle.iloc_sched.specs.declared.edges.Edge.{Edge}
 use Rattle.iloc_sched.specs.declared.edges.Edges.{Edges}
-use Rattle.iloc_sched.specs.declared.waiting.State.{State}
-use Rattle.iloc_sched.specs.declared.waiting.Waiting.{Waiting}
+use Rattle.iloc_sched.specs.declared.cycle.waiting.OperationState.{OperationState}
+use Rattle.iloc_sched.specs.declared.cycle.waiting.Waiting.{Waiting}
 use Rattle.iloc_sched.specs.Steps.Graph.{IsGraph}
 use Rattle.iloc_sched.specs.Steps.Views.{no_edge, edge_at, graph_of, issued_list, unmet_list, earliest_list, progress_of, IsSized}
 
@@ -14,27 +14,27 @@ edge_read e x edge below is = get_or_read e.edges.items x edge below is no_edge
 
 module _ (e : Edges) (w : Waiting) (sized : IsSized e w) where
   pub issued_size : length (issued_list w) ≡ length e.heads.items
-  issued_size = length-map w.states.items (λ (s : State). s.issued) ∙ sized.states
+  issued_size = length-map w.states.items (λ (s : OperationState). s.issued) ∙ sized.states
 
   pub unmet_size : length (unmet_list w) ≡ length e.heads.items
-  unmet_size = length-map w.states.items (λ (s : State). s.wait.unmet) ∙ sized.states
+  unmet_size = length-map w.states.items (λ (s : OperationState). s.wait.unmet) ∙ sized.states
 
   pub earliest_size : length (earliest_list w) ≡ length e.heads.items
-  earliest_size = length-map w.states.items (λ (s : State). s.wait.earliest) ∙ sized.states
+  earliest_size = length-map w.states.items (λ (s : OperationState). s.wait.earliest) ∙ sized.states
 
 -- what is read of the state of operation j
-module _ (w : Waiting) (j : ℕ) (state : State) (below : j < length w.states.items)
+module _ (w : Waiting) (j : ℕ) (state : OperationState) (below : j < length w.states.items)
     (is : state ≡ get_or w.states.items j state) where
   pub unmet_read : state.wait.unmet ≡ (progress_of w).unmet j
-  unmet_read = ap (λ (s : State). s.wait.unmet) is
-      ∙ sym (get_or-map (λ (s : State). s.wait.unmet) w.states.items j state 0 below)
+  unmet_read = ap (λ (s : OperationState). s.wait.unmet) is
+      ∙ sym (get_or-map (λ (s : OperationState). s.wait.unmet) w.states.items j state 0 below)
 
   pub earliest_read : state.wait.earliest ≡ (progress_of w).earliest j
-  earliest_read = ap (λ (s : State). s.wait.earliest) is
-      ∙ sym (get_or-map (λ (s : State). s.wait.earliest) w.states.items j state 0 below)
+  earliest_read = ap (λ (s : OperationState). s.wait.earliest) is
+      ∙ sym (get_or-map (λ (s : OperationState). s.wait.earliest) w.states.items j state 0 below)
 
 -- what the target of an edge waits for
-pub target_read : (e : Edges) (w : Waiting) (x : ℕ) (edge : Edge) (state : State) → IsGraph (graph_of e) → IsSized e w
+pub target_read : (e : Edges) (w : Waiting) (x : ℕ) (edge : Edge) (state : OperationState) → IsGraph (graph_of e) → IsSized e w
     → x < length e.edges.items → edge ≡ edge_at e x → state ≡ get_or w.states.items edge.to state
     → state.wait.unmet ≡ (progress_of w).unmet ((graph_of e).to x)
 target_read e w x edge state is sized below edge_is read =

@@ -4,11 +4,11 @@ use Rattle.std.proofs.lemmas.Bool.Decides.{nat_tests}
 use Rattle.std.proofs.lemmas.List.{get_or-set_same, get_or-set_other}
 use Rattle.iloc_sched.specs.declared.edges.Edge.{Edge}
 use Rattle.iloc_sched.specs.declared.edges.Edges.{Edges}
-use Rattle.iloc_sched.specs.declared.waiting.State.{State}
-use Rattle.iloc_sched.specs.declared.waiting.Waiting.{Waiting}
-use Rattle.iloc_sched.specs.declared.wheel.Wheel.{Wheel}
+use Rattle.iloc_sched.specs.declared.cycle.waiting.OperationState.{OperationState}
+use Rattle.iloc_sched.specs.declared.cycle.waiting.Waiting.{Waiting}
+use Rattle.iloc_sched.specs.declared.cycle.calendar.Calendar.{Calendar}
 use Rattle.iloc_sched.specs.Steps.Members.{In}
-use Rattle.iloc_sched.specs.Steps.Wheel.{bucket_of}
+use Rattle.iloc_sched.specs.Steps.Calendar.{bucket_of}
 use Rattle.iloc_sched.specs.Steps.Graph.{Graph, IsLast, IsGraph}
 use Rattle.iloc_sched.specs.Steps.Progress.{Progress, Waits, CanIssue, IsFrom, KeepsPlaces}
 use Rattle.iloc_sched.specs.Steps.Views.{edge_at, graph_of, issued_list, unmet_list, earliest_list, progress_of, IsSized}
@@ -95,7 +95,7 @@ target_waits e w x cycle is there waits =
 module _ (e : Edges) (w : Waiting) (x cycle : ℕ) (is : IsGraph (graph_of e)) (sized : IsSized e w)
     (there : x < length e.edges.items) where
   -- when the target becomes ready at the earliest
-  pub earliest_after : (edge : Edge) (state : State) (t : ℕ) → edge ≡ edge_at e x
+  pub earliest_after : (edge : Edge) (state : OperationState) (t : ℕ) → edge ≡ edge_at e x
       → state ≡ get_or w.states.items edge.to state → t ≡ max state.wait.earliest (cycle + edge.delay)
       → t ≡ max ((progress_of w).earliest ((graph_of e).to x)) (cycle + (graph_of e).delay x)
   earliest_after edge state t edge_is read greatest =
@@ -141,37 +141,37 @@ pub from_previous : (graph : Graph) (i x : ℕ) (previous : Option ℕ) → x < 
 from_previous graph i x None there from_i is = tt
 from_previous graph i x (Some y) there from_i is = let below : y < x = is.0 in (omega arith, is.1 ∙ from_i)
 
-abbrev progress_by : List (Option ℕ) → List ℕ → List ℕ → Wheel → Progress
-progress_by issued unmet earliest wheel = record {
+abbrev progress_by : List (Option ℕ) → List ℕ → List ℕ → Calendar → Progress
+progress_by issued unmet earliest calendar = record {
   issued = λ j. get_or issued j None;
   unmet = λ j. get_or unmet j 0;
   earliest = λ j. get_or earliest j 0;
-  bucket = bucket_of wheel;
+  bucket = bucket_of calendar;
 }
 
 -- operation i is issued at this cycle
 pub started : (e : Edges) (w v : Waiting) (i cycle : ℕ) → IsGraph (graph_of e) → IsSized e w
     → Waits (graph_of e) (progress_of w) (cycle + 1) 0 None → CanIssue (graph_of e) (progress_of w) (cycle + 1) i
     → issued_list v ≡ set (issued_list w) i (Some cycle) → unmet_list v ≡ unmet_list w
-    → earliest_list v ≡ earliest_list w → v.wheel ≡ w.wheel
+    → earliest_list v ≡ earliest_list w → v.calendar ≡ w.calendar
     → Waits (graph_of e) (progress_of v) (cycle + 1) i ((graph_of e).head i)
     × IsFrom (graph_of e) i ((graph_of e).head i)
-started e w v i cycle is sized waits can issued unmet earliest wheel =
+started e w v i cycle is sized waits can issued unmet earliest calendar =
     let size : length (issued_list w) ≡ length e.heads.items = issued_size e w sized in
     let there : i < length e.heads.items = can.there in
-    let begun : Waits (graph_of e) (progress_by (issued_list v) (unmet_list w) (earliest_list w) w.wheel) (cycle + 1) i
+    let begun : Waits (graph_of e) (progress_by (issued_list v) (unmet_list w) (earliest_list w) w.calendar) (cycle + 1) i
     ((graph_of e).head i) =
     begins (graph_of e) (progress_of w) (cycle + 1) i cycle (λ j. get_or (issued_list v) j None) is waits can
     (omega arith)
     (ap (λ xs. get_or xs i None) issued ∙ get_or-set_same (issued_list w) i (Some cycle) None (omega arith))
     (λ k apart. ap (λ xs. get_or xs k None) issued ∙ get_or-set_other (issued_list w) i k (Some cycle) None apart) in (
-      subst (λ xs. Waits (graph_of e) (progress_by (issued_list v) xs (earliest_list v) v.wheel) (cycle + 1) i
+      subst (λ xs. Waits (graph_of e) (progress_by (issued_list v) xs (earliest_list v) v.calendar) (cycle + 1) i
           ((graph_of e).head i)) (sym unmet)
-          (subst (λ xs. Waits (graph_of e) (progress_by (issued_list v) (unmet_list w) xs v.wheel) (cycle + 1) i
+          (subst (λ xs. Waits (graph_of e) (progress_by (issued_list v) (unmet_list w) xs v.calendar) (cycle + 1) i
           ((graph_of e).head i)) (sym earliest)
-          (subst (λ (turned : Wheel). Waits (graph_of e)
+          (subst (λ (turned : Calendar). Waits (graph_of e)
           (progress_by (issued_list v) (unmet_list w) (earliest_list w) turned) (cycle + 1) i ((graph_of e).head i))
-          (sym wheel) begun)),
+          (sym calendar) begun)),
       from_last (graph_of e) i ((graph_of e).head i) (is.heads i there),
     )
 

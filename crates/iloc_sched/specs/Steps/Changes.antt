@@ -1,6 +1,6 @@
 -- What one queue has before and after.
 use Rattle.std.specs.Prelude.{ℕ, ◌≡◌, ◌≢◌, ◌⊎◌, List, Option, Some, None}
-use Rattle.iloc_sched.specs.declared.candidate.Candidate.{Candidate}
+use Rattle.iloc_sched.specs.declared.cycle.candidate.Candidate.{Candidate}
 use Rattle.iloc_sched.specs.Steps.Members.{In}
 use Rattle.iloc_sched.specs.Steps.Order.{IsFirst}
 

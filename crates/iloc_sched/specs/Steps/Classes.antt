@@ -2,8 +2,8 @@
 use Rattle.std.specs.Prelude.{Bool, true, false, Option, Some, None}
 use Rattle.iloc_timed.specs.declared.kind.Kind.{Kind}
 use Rattle.iloc_timed.specs.declared.kind.Kind.TheVariants as K
-use Rattle.iloc_sched.specs.declared.class.Class.{Class}
-use Rattle.iloc_sched.specs.declared.class.Class.TheVariants as C
+use Rattle.iloc_sched.specs.declared.cycle.class.Class.{Class}
+use Rattle.iloc_sched.specs.declared.cycle.class.Class.TheVariants as C
 
 -- the class of a kind of operations
 abbrev pub class_of : Kind → Class

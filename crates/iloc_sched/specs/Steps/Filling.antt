@@ -2,7 +2,7 @@
 use Rattle.std.specs.Prelude.{◌+◌, ◌*◌, ◌≡◌, ◌≤◌, length, map}
 use Rattle.iloc_timed.specs.Kinds.{kind}
 use Rattle.iloc_timed.specs.Latency.{latency}
-use Rattle.iloc_sched.specs.declared.lasts.Lasts.{Lasts}
+use Rattle.iloc_sched.specs.declared.edges.lasts.Lasts.{Lasts}
 use Rattle.iloc_sched.specs.declared.plan.Plan.{Plan}
 use Rattle.iloc_sched.specs.Steps.Lasts.{IsLasts}
 use Rattle.iloc_sched.specs.Steps.PartialGraph.{IsPartialGraph}

@@ -6,7 +6,7 @@ use Rattle.iloc_timed.specs.declared.latencies.Latencies.{Latencies}
 use Rattle.iloc_timed.specs.Latency.{latency}
 use Rattle.iloc_sched.specs.Delays.{IsDelayPair}
 use Rattle.iloc_sched.specs.Priority.{priority}
-use Rattle.iloc_sched.specs.declared.wheel.TheConstants.{LONGEST_DELAY}
+use Rattle.iloc_sched.specs.declared.cycle.calendar.TheConstants.{LONGEST_DELAY}
 use Rattle.iloc_sched.specs.Steps.Near.{IsNear}
 
 -- edges by number: those into operation j are the ones from `start j` up to `start (j + 1)`; of those out of

@@ -1,7 +1,7 @@
 -- Numbers that are put into places one after another: each into the first free place from it on.
 use Rattle.std.specs.Prelude.{ℕ, ◌+◌, ◌≡◌, ◌<◌, ◌≤◌, ◌⊎◌, ◌==◌, not, Bool, true, false, List, length, count_by, slice_index_or}
 use Rattle.std.specs.List.{range_with_len}
-use Rattle.iloc_sched.specs.declared.packing.Packing.{Packing}
+use Rattle.iloc_sched.specs.declared.lower_bound.packing.Packing.{Packing}
 use Rattle.iloc_sched.specs.Least.{count_from}
 
 -- how many of the n places from s on are taken

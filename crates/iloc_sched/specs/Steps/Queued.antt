@@ -1,12 +1,12 @@
 -- What stands in the queues of ready operations.
 use Rattle.std.specs.Prelude.{ℕ, ◌≡◌, ◌⊎◌, false, List, [], map, slice_index_or, Option, Some, None}
 use Rattle.std.specs.BinaryHeap.{heap_items}
-use Rattle.iloc_sched.specs.declared.candidate.Candidate.{Candidate}
-use Rattle.iloc_sched.specs.declared.class.Class.{Class}
-use Rattle.iloc_sched.specs.declared.class.Class.TheVariants as C
-use Rattle.iloc_sched.specs.declared.queue.Queue.{Queue}
-use Rattle.iloc_sched.specs.declared.queues.Queues.{Queues}
-use Rattle.iloc_sched.specs.declared.queues.Choice.{Choice}
+use Rattle.iloc_sched.specs.declared.cycle.candidate.Candidate.{Candidate}
+use Rattle.iloc_sched.specs.declared.cycle.class.Class.{Class}
+use Rattle.iloc_sched.specs.declared.cycle.class.Class.TheVariants as C
+use Rattle.iloc_sched.specs.declared.cycle.queue.Queue.{Queue}
+use Rattle.iloc_sched.specs.declared.cycle.queues.Queues.{Queues}
+use Rattle.iloc_sched.specs.declared.cycle.queues.Choice.{Choice}
 use Rattle.iloc_sched.specs.Steps.Members.{In}
 use Rattle.iloc_sched.specs.Steps.Order.{by_rank, IsFirst}
 use Rattle.iloc_sched.specs.Steps.Classes.{is_excluded}

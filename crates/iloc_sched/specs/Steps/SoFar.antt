@@ -4,12 +4,12 @@ use Rattle.iloc_meaning.specs.Trace.{op_at}
 use Rattle.iloc_ops.specs.declared.op.Op.{Op}
 use Rattle.iloc_timed.specs.declared.row.Row.{Row}
 use Rattle.iloc_timed.specs.Kinds.{kind}
-use Rattle.iloc_sched.specs.declared.candidate.Candidate.{Candidate}
-use Rattle.iloc_sched.specs.declared.class.Class.{Class}
+use Rattle.iloc_sched.specs.declared.cycle.candidate.Candidate.{Candidate}
+use Rattle.iloc_sched.specs.declared.cycle.class.Class.{Class}
 use Rattle.iloc_sched.specs.declared.plan.Plan.{Plan}
-use Rattle.iloc_sched.specs.declared.queues.Queues.{Queues}
-use Rattle.iloc_sched.specs.declared.queues.Choice.{Choice}
-use Rattle.iloc_sched.specs.declared.waiting.Waiting.{Waiting}
+use Rattle.iloc_sched.specs.declared.cycle.queues.Queues.{Queues}
+use Rattle.iloc_sched.specs.declared.cycle.queues.Choice.{Choice}
+use Rattle.iloc_sched.specs.declared.cycle.waiting.Waiting.{Waiting}
 use Rattle.iloc_sched.specs.Steps.Choosing.{IsChosenSoFar}
 use Rattle.iloc_sched.specs.Steps.Members.{In}
 use Rattle.iloc_sched.specs.Steps.Order.{candidate_at}
@@ -48,7 +48,7 @@ pub record IsReleasing (p : Plan) (w w' : Waiting) (q q' : Queues) (c : ℕ) : T
   pub admits : Admits p.ops.items p.priorities.items q q' done
   pub others : (b : ℕ) → b < 32 → b ≢ c % 32 → (progress_of w').bucket b ≡ (progress_of w).bucket b
   pub states : w'.states ≡ w.states
-  pub links : length w'.wheel.behind.items ≡ length w.wheel.behind.items
+  pub links : length w'.calendar.behind.items ≡ length w.calendar.behind.items
 
 -- what holds before cycle f, once what becomes ready before it is in the queues
 pub record IsUnderWay (p : Plan) (w : Waiting) (q : Queues) (f : ℕ) : Type 0 where

@@ -9,7 +9,7 @@ use Rattle.iloc_timed.specs.declared.latencies.Latencies.{Latencies}
 use Rattle.iloc_timed.specs.Kinds.{kind}
 use Rattle.iloc_sched.specs.Delays.{reads_stored, keeps_order}
 use Rattle.iloc_sched.specs.Heuristics.{waits_for, successors}
-use Rattle.iloc_sched.specs.declared.later.Later.{Later}
+use Rattle.iloc_sched.specs.declared.edges.later.Later.{Later}
 use Rattle.iloc_sched.specs.Steps.Graph.{Graph}
 
 -- whether an operation of the second kind waits for each earlier one of the first

@@ -2,11 +2,11 @@
 use Rattle.std.specs.Prelude.{ℕ, ◌+◌, ◌≡◌, ◌≤◌, List, length, map, slice_index, slice_index_or, Option, None}
 use Rattle.iloc_sched.specs.declared.edges.Edge.{Edge}
 use Rattle.iloc_sched.specs.declared.edges.Edges.{Edges}
-use Rattle.iloc_sched.specs.declared.waiting.State.{State}
-use Rattle.iloc_sched.specs.declared.waiting.Waiting.{Waiting}
+use Rattle.iloc_sched.specs.declared.cycle.waiting.OperationState.{OperationState}
+use Rattle.iloc_sched.specs.declared.cycle.waiting.Waiting.{Waiting}
 use Rattle.iloc_sched.specs.Steps.Graph.{Graph}
 use Rattle.iloc_sched.specs.Steps.Progress.{Progress}
-use Rattle.iloc_sched.specs.Steps.Wheel.{bucket_of}
+use Rattle.iloc_sched.specs.Steps.Calendar.{bucket_of}
 
 abbrev pub no_edge : Edge
 no_edge = record { from = 0; to = 0; delay = 0; previous = None }
@@ -26,17 +26,17 @@ graph_of e = record {
   previous = λ x. (edge_at e x).previous;
 }
 
-abbrev pub issued_in : List State → List (Option ℕ)
-issued_in states = map (λ (s : State). s.issued) states
+abbrev pub issued_in : List OperationState → List (Option ℕ)
+issued_in states = map (λ (s : OperationState). s.issued) states
 
-abbrev pub unmet_in : List State → List ℕ
-unmet_in states = map (λ (s : State). s.wait.unmet) states
+abbrev pub unmet_in : List OperationState → List ℕ
+unmet_in states = map (λ (s : OperationState). s.wait.unmet) states
 
-abbrev pub earliest_in : List State → List ℕ
-earliest_in states = map (λ (s : State). s.wait.earliest) states
+abbrev pub earliest_in : List OperationState → List ℕ
+earliest_in states = map (λ (s : OperationState). s.wait.earliest) states
 
 -- these states, and these operations in the buckets
-abbrev pub progress_with : List State → (ℕ → List ℕ) → Progress
+abbrev pub progress_with : List OperationState → (ℕ → List ℕ) → Progress
 progress_with states bucket = record {
   issued = λ j. slice_index_or (issued_in states) j None;
   unmet = λ j. slice_index (unmet_in states) j;
@@ -54,10 +54,10 @@ abbrev pub earliest_list : Waiting → List ℕ
 earliest_list w = earliest_in w.states.items
 
 abbrev pub progress_of : Waiting → Progress
-progress_of w = progress_with w.states.items (bucket_of w.wheel)
+progress_of w = progress_with w.states.items (bucket_of w.calendar)
 
 -- the tables are as long as the operations need them
 pub record IsSized (e : Edges) (w : Waiting) : Type 0 where
   pub starts : length e.starts.items ≡ length e.heads.items + 1
   pub states : length w.states.items ≡ length e.heads.items
-  pub links : length e.heads.items ≤ length w.wheel.behind.items
+  pub links : length e.heads.items ≤ length w.calendar.behind.items

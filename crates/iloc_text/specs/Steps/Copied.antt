@@ -1,7 +1,7 @@
 -- The blocks that are copied, the last of which don't have their operations yet.
 use Rattle.std.specs.Prelude.{List, [], ◌∷◌, ◌++◌, take, drop}
-use Rattle.iloc_text.specs.declared.copies.Copies.{Copies}
-use Rattle.iloc_text.specs.declared.copies.Unsettled.{Unsettled}
+use Rattle.iloc_text.specs.declared.reader.copies.Copies.{Copies}
+use Rattle.iloc_text.specs.declared.reader.copies.Unsettled.{Unsettled}
 use Rattle.iloc_ops.specs.declared.file.Block.{Block}
 use Rattle.iloc_ops.specs.declared.op.Op.{Op}
 

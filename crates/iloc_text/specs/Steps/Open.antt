@@ -1,7 +1,7 @@
 -- The block that is being read, after those that were handed over.
 use Rattle.std.specs.Prelude.{◌≡◌, ◌-◌, ◌<◌, List, [], ◌∷◌, ◌++◌, length}
 use Rattle.iloc_ops.specs.declared.file.Block.{Block}
-use Rattle.iloc_text.specs.declared.open_block.OpenBlock.{OpenBlock}
+use Rattle.iloc_text.specs.declared.reader.open_block.OpenBlock.{OpenBlock}
 
 -- the blocks so far are those done, followed by the open one, if one is open
 pub record AreSoFar (done : List Block) (open_block : OpenBlock) (blocks : List Block) : Type 0 where

@@ -3,7 +3,7 @@ use Rattle.std.specs.Prelude.{◌≡◌, ℕ, ◌+◌, ◌≤◌, ◌-◌, ◌^�
 use Rattle.iloc_ops.specs.Limits.{MAX_INPUT}
 use Rattle.iloc_ops.specs.declared.file.Block.{Block}
 use Rattle.iloc_text.specs.declared.fault.ReadFault.{ReadFault}
-use Rattle.iloc_text.specs.declared.text_reader.TextReader.{TextReader}
+use Rattle.iloc_text.specs.declared.stream.text_reader.TextReader.{TextReader}
 use Rattle.iloc_text.specs.Lines.{lines_of}
 use Rattle.iloc_text.specs.Steps.Open.{HasTaken}
 use Rattle.iloc_text.specs.Steps.Verdicts.{answer_from}

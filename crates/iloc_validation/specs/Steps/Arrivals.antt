@@ -11,7 +11,7 @@ use Rattle.iloc_timed.specs.declared.wheel.Pending.{Pending}
 use Rattle.iloc_timed.specs.declared.wheel.Pending.TheVariants.{Register}
 use Rattle.iloc_timed.specs.Latency.{latency}
 use Rattle.iloc_timed.specs.Timed.{Issued}
-use Rattle.iloc_validation.specs.declared.run.Arrival.{Arrival}
+use Rattle.iloc_validation.specs.declared.reading.run.Arrival.{Arrival}
 
 -- what register r holds, once a result has landed
 abbrev pub landed_at : Reg → Option ℕ → Arrival → Option ℕ

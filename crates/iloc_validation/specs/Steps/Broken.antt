@@ -9,8 +9,8 @@ use Rattle.iloc_sched.specs.Steps.Members.{In}
 use Rattle.iloc_validation.specs.declared.reading.Reading.{Reading}
 use Rattle.iloc_validation.specs.declared.reasons.uses.WrongUse.{WrongUse}
 use Rattle.iloc_validation.specs.declared.reasons.delays.Missing.{Missing}
-use Rattle.iloc_validation.specs.declared.sources.Sources.{Sources}
-use Rattle.iloc_validation.specs.declared.sources.Sources.TheVariants.{One, Two}
+use Rattle.iloc_validation.specs.declared.reading.sources.Sources.{Sources}
+use Rattle.iloc_validation.specs.declared.reading.sources.Sources.TheVariants.{One, Two}
 use Rattle.iloc_validation.specs.Steps.Readings.{reading_at}
 use Rattle.iloc_validation.specs.Steps.Sources.{sources_at}
 use Rattle.iloc_validation.specs.Steps.Waits.{memory_by}

@@ -3,7 +3,7 @@ use Rattle.std.specs.Prelude.{ℕ, ◌≡◌, ◌≢◌, Option, Some}
 use Rattle.std.specs.Ordering.{nat_cmp}
 use Rattle.std.specs.BTreeMap.{get}
 use Rattle.iloc_ops.specs.declared.op.Reg.{Reg}
-use Rattle.iloc_validation.specs.declared.holders.Holders.{Holders}
+use Rattle.iloc_validation.specs.declared.reading.holders.Holders.{Holders}
 
 -- the operation whose result register r holds
 abbrev pub holder : Holders → Reg → Option ℕ

@@ -7,7 +7,7 @@ use Rattle.iloc_timed.specs.declared.latencies.Latencies.{Latencies}
 use Rattle.iloc_timed.specs.declared.row.Row.{Row}
 use Rattle.iloc_timed.specs.Rows.{issue_cycle}
 use Rattle.iloc_validation.specs.declared.reading.Reading.{Reading}
-use Rattle.iloc_validation.specs.declared.sources.Sources.TheVariants.{Nothing}
+use Rattle.iloc_validation.specs.declared.reading.sources.Sources.TheVariants.{Nothing}
 use Rattle.iloc_validation.specs.ByTheBook.{read}
 use Rattle.iloc_validation.specs.Steps.Sources.{sources_of}
 

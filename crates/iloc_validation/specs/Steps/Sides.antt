@@ -9,7 +9,7 @@ use Rattle.iloc_timed.specs.Limits.{MAX_ROWS}
 use Rattle.iloc_timed.specs.Rows.{issue_cycle, IsTable}
 use Rattle.iloc_timed.specs.Schedule.{Table}
 use Rattle.iloc_validation.specs.declared.reading.Reading.{Reading}
-use Rattle.iloc_validation.specs.declared.sources.Sources.{Sources}
+use Rattle.iloc_validation.specs.declared.reading.sources.Sources.{Sources}
 use Rattle.iloc_validation.specs.ByTheBook.{given, label, IsScheduleUnder}
 use Rattle.iloc_validation.specs.Steps.Sources.{sources_of, sources_at, by_numbers}
 use Rattle.iloc_validation.specs.Steps.Readings.{reading_at, reading_of}

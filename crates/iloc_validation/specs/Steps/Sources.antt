@@ -1,8 +1,8 @@
 -- What operations read, as the code has it.
 use Rattle.std.specs.Prelude.{ℕ, List, [], ◌∷◌, slice_index_or, Option, option_map}
 use Rattle.iloc_ops.specs.declared.op.Reg.{Reg}
-use Rattle.iloc_validation.specs.declared.sources.Sources.{Sources}
-use Rattle.iloc_validation.specs.declared.sources.Sources.TheVariants.{Nothing, One, Two}
+use Rattle.iloc_validation.specs.declared.reading.sources.Sources.{Sources}
+use Rattle.iloc_validation.specs.declared.reading.sources.Sources.TheVariants.{Nothing, One, Two}
 
 -- what is read in registers, of which there are two at most
 abbrev pub sources_of : (Reg → Option ℕ) → List Reg → Sources

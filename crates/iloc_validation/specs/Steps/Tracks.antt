@@ -4,7 +4,7 @@ use Rattle.iloc_ops.specs.declared.op.Reg.{Reg}
 use Rattle.iloc_timed.specs.Timed.{Issued, register_in}
 use Rattle.iloc_timed.specs.Steps.Wheel.{AreUnderWay}
 use Rattle.iloc_timed.specs.Steps.Machine.{landed, AllLand}
-use Rattle.iloc_validation.specs.declared.run.Run.{Run}
+use Rattle.iloc_validation.specs.declared.reading.run.Run.{Run}
 use Rattle.iloc_validation.specs.Steps.Holders.{holder}
 use Rattle.iloc_validation.specs.Steps.Arrivals.{mark, sent_as}
 

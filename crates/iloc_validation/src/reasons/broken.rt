@@ -12,7 +12,7 @@ use super::delays::most_missing;
 use super::uses::{first_wrong_use, use_reason};
 use crate::finding::Reason;
 use crate::pairing::Pairing;
-use crate::sources::at;
+use crate::reading::sources::at;
 use crate::verification::Sides;
 use crate::waits::waits_of;
 use iloc_ops::NoMemory;

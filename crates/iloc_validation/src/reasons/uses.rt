@@ -9,7 +9,7 @@ ghost use Rattle.iloc_validation.specs.Steps.Sides.{AreSides, HaveCycles};
 
 use crate::finding::Reason;
 use crate::pairing::Pairing;
-use crate::sources::at;
+use crate::reading::sources::at;
 use crate::verification::Sides;
 use iloc_ops::{Reg, uses};
 use iloc_timed::{Latencies, latency};

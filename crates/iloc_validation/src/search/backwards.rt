@@ -7,7 +7,7 @@ use super::lines::Lines;
 use super::numbering::{Key, Numbering};
 use super::pairs::Pairs;
 use crate::pairing::Pairing;
-use crate::sources::{NONE, Sources};
+use crate::reading::sources::{NONE, Sources};
 use iloc_ops::NoMemory;
 use std::alloc::Global;
 

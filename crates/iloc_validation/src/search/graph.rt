@@ -2,7 +2,7 @@
 
 use super::numbering::{Key, Numbering};
 use crate::label::Label;
-use crate::sources::{NONE, Sources, at, put};
+use crate::reading::sources::{NONE, Sources, at, put};
 use iloc_ops::{NoMemory, Op};
 use iloc_timed::Kind;
 use std::alloc::Global;

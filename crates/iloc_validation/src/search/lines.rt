@@ -1,6 +1,6 @@
 //! Operations in lines, one for each key.
 
-use crate::sources::{NONE, at, put};
+use crate::reading::sources::{NONE, at, put};
 use iloc_ops::NoMemory;
 use std::alloc::Global;
 use std::collections::BTreeMap;

@@ -1,7 +1,7 @@
 //! Numbers for what operations have in common.
 
 use crate::label::Label;
-use crate::sources::Sources;
+use crate::reading::sources::Sources;
 use iloc_ops::NoMemory;
 use std::alloc::Global;
 use std::collections::BTreeMap;

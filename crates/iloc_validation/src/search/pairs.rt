@@ -3,7 +3,7 @@
 ghost use Rattle.std.specs.Prelude.{◌≡◌, length, IfOk};
 
 use crate::pairing::Pairing;
-use crate::sources::{NONE, Sources, at, put};
+use crate::reading::sources::{NONE, Sources, at, put};
 use iloc_ops::NoMemory;
 use std::alloc::Global;
 

@@ -3,7 +3,7 @@
 use super::backwards::Search;
 use super::graph::{By, Which};
 use super::lines::Lines;
-use crate::sources::NONE;
+use crate::reading::sources::NONE;
 use iloc_ops::NoMemory;
 use std::collections::BTreeMap;
 

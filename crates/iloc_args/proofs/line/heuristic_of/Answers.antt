@@ -1,5 +1,5 @@
 use Rattle.std.proofs.Common.{sym}
-use Rattle.iloc_sched.specs.declared.heuristic.Heuristic.TheVariants.{Chain, Slack, Descendants, Successors, Latency, Order}
+use Rattle.iloc_sched.specs.declared.ranking.heuristic.Heuristic.TheVariants.{Chain, Slack, Descendants, Successors, Latency, Order}
 use Rattle.iloc_args.specs.Priority.{IsNoPriority}
 use Rattle.iloc_args.proofs.line.heuristic_of.Goals as goal
 

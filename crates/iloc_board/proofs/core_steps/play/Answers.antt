@@ -1,5 +1,5 @@
 use Rattle.std.proofs.Common.{◌≡◌, ℕ, ap, sym, ◌∙◌, subst, length, take, ◌<◌, arith}
-use Rattle.iloc_board.specs.declared.state.State.{State}
+use Rattle.iloc_board.specs.declared.board.state.State.{State}
 use Rattle.iloc_board.specs.Core.{Core, IsWithin}
 use Rattle.iloc_board.specs.Play.{final}
 use Rattle.iloc_board.proofs.Runs.{length-costs_final, shows_more, told_more}

@@ -1,6 +1,6 @@
 use Rattle.std.proofs.Common.{◌≡◌, ◌-◌}
 use Rattle.std.specs.List.{All}
-use Rattle.iloc_board.specs.declared.state.State.TheVariants.{Free}
+use Rattle.iloc_board.specs.declared.board.state.State.TheVariants.{Free}
 use Rattle.iloc_board.specs.Views.{state}
 use Rattle.iloc_board_tests.proofs.threads.passes.Given as goal
 

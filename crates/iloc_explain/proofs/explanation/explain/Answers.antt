@@ -1,5 +1,5 @@
 use Rattle.std.proofs.Common.{◌≡◌, ◌<◌, ◌≤◌, length, ap, arith, refl}
-use Rattle.iloc_sched.specs.declared.wheel.TheConstants.{LONGEST_DELAY}
+use Rattle.iloc_sched.specs.declared.cycle.calendar.TheConstants.{LONGEST_DELAY}
 use Rattle.iloc_timed.proofs.Arrivals.{issued_within}
 use Rattle.iloc_timed.specs.Rows.{issue_cycle, row_at}
 use Rattle.iloc_explain.proofs.Explaining.{is_explained, none_explained, noted_cycle, one_explained, read_latest}

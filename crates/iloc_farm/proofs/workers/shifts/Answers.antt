@@ -1,5 +1,5 @@
 use Rattle.std.proofs.Common.{◌≡◌, suc, ap, ◌∙◌, refl, arith, length}
-use Rattle.iloc_board.specs.declared.state.State.TheVariants as about
+use Rattle.iloc_board.specs.declared.board.state.State.TheVariants as about
 use Rattle.iloc_board.specs.Views.{state}
 use Rattle.iloc_farm.specs.declared.workers.Shift.{Shift}
 use Rattle.iloc_farm.proofs.Routines as routines

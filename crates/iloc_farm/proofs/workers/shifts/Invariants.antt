@@ -1,6 +1,6 @@
 use Rattle.std.proofs.Common.{◌≡◌, ◌+◌, [], length, map}
 use Rattle.std.specs.List.{All, range_with_len}
-use Rattle.iloc_board.specs.declared.state.State.TheVariants as about
+use Rattle.iloc_board.specs.declared.board.state.State.TheVariants as about
 use Rattle.iloc_board.specs.Views.{state}
 use Rattle.iloc_farm.proofs.workers.shifts.Given as goal
 

@@ -1,6 +1,6 @@
 use Rattle.std.proofs.Common.{◌≡◌, ap, ◌∙◌, sym, OnOk, arith, ◌++◌, ◌<◌, map}
 use Rattle.std.specs.List.{range_with_len}
-use Rattle.iloc_board.specs.declared.state.State.TheVariants as about
+use Rattle.iloc_board.specs.declared.board.state.State.TheVariants as about
 use Rattle.iloc_board.specs.Views.{state}
 use Rattle.iloc_board.specs.Working.{IsDone}
 use Rattle.iloc_farm.specs.declared.workers.Shift.{Shift}

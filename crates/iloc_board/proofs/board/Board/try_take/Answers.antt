@@ -1,5 +1,5 @@
 use Rattle.std.proofs.Common.{ap, sym, ◌∙◌, arith, refl, ◌≡◌, ◌+◌, ℕ}
-use Rattle.iloc_board.specs.declared.state.State.TheVariants.{Looked}
+use Rattle.iloc_board.specs.declared.board.state.State.TheVariants.{Looked}
 use Rattle.iloc_board.specs.Journal.{seen}
 use Rattle.iloc_board.proofs.Keeps as keeps
 use Rattle.iloc_board.proofs.Passes as passes

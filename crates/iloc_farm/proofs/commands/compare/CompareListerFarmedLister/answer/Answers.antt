@@ -1,6 +1,6 @@
 use Rattle.std.proofs.Common.{◌≤◌, arith}
 use Rattle.iloc_sched.specs.Least.{least}
-use Rattle.iloc_sched.specs.declared.heuristic.Heuristic.TheVariants.{Chain}
+use Rattle.iloc_sched.specs.declared.ranking.heuristic.Heuristic.TheVariants.{Chain}
 use Rattle.iloc_farm.specs.Steps.Limits.{most_cycles}
 use Rattle.iloc_farm.proofs.Comparisons.{bound_small, compared}
 use Rattle.iloc_farm.proofs.Listers.{is_count}

@@ -1,0 +1,10 @@
+use Rattle.std.proofs.Common.{◌≡◌}
+use Rattle.iloc_sched.specs.Steps.Opening.{IsOpening}
+use Rattle.iloc_sched.specs.Steps.Views.{graph_of}
+use Rattle.iloc_sched.proofs.cycle.waiting.Waiting.open.Given as goal
+
+abbrev pub invariant-loop-j : goal.invariant-loop-j
+invariant-loop-j l = record {
+  opening : IsOpening l.edges l.self l.j;
+  place : l.place ≡ (graph_of l.edges).start l.j;
+}

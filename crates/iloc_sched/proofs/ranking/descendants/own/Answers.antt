@@ -1,0 +1,15 @@
+use Rattle.std.proofs.Common.{ℕ, ◌≡◌, ◌-◌, ◌*◌, ◌%◌, ◌^◌, ◌∙◌, ap, arith}
+use Rattle.std.specs.Int.{bit_at}
+use Rattle.std.proofs.lemmas.Nat.{one_shl}
+use Rattle.std.proofs.lemmas.Nat.Bits.{bit_at-pow_other}
+use Rattle.iloc_sched.proofs.Basics.Cases.{by_eq}
+use Rattle.iloc_sched.proofs.ranking.descendants.own.Goals as goal
+
+pub returns-then-to-base-lt64-clause-only : goal.returns-then-to-base-lt64-clause-only
+returns-then-to-base-lt64-clause-only c = λ b below one.
+    let k : ℕ = c.args.to - c.args.base in
+    let power : 1 * 2 ^ k % 2 ^ 64 ≡ 2 ^ k = one_shl k 64 c.if-to-base-lt64.true in
+    by_eq b k (λ same. omega arith)
+    (λ apart.
+    let none : bit_at (1 * 2 ^ k % 2 ^ 64) b ≡ 0 = ap (λ m. bit_at m b) power ∙ bit_at-pow_other k b apart in
+    absurd (omega arith))

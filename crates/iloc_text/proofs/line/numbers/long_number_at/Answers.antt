@@ -1,0 +1,10 @@
+use Rattle.std.proofs.Common.{arith}
+use Rattle.iloc_text.proofs.Digits.{number_in_front}
+use Rattle.iloc_text.proofs.line.numbers.long_number_at.Goals as goal
+
+pub returns-then-count-le-MOST_DIGITS-clause-is : goal.returns-then-count-le-MOST_DIGITS-clause-is
+returns-then-count-le-MOST_DIGITS-clause-is c some =
+    let few = c.if-count-le-MOST_DIGITS.true in
+    let front = c.min.ensures in
+    number_in_front c.min.result _ _ c.args.bytes.now some c.with_digits-value.ensures.inside (grind (arith, few, front))
+    c.with_digits-value.ensures.found

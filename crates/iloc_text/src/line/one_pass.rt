@@ -1,0 +1,104 @@
+//! Lines that read, found in one pass over their bytes. Where nothing is found, a line may still read.
+ghost use Rattle.std.specs.Prelude.{None, Some, Ok, IfSome};
+ghost use Rattle.iloc_text.specs.Grammar.{◌⋅◌, Blanks, OptionalComment};
+ghost use Rattle.iloc_text.specs.Steps.LineReads.{FirstIs, FirstBody, FirstLine};
+
+use crate::line::fast_path::fast_called_at;
+use crate::line::opcode::opcode_at;
+use crate::line::operation::numbers_at;
+use crate::line::scan::after_blanks;
+use crate::line::{Line, are_within_limit, optional_label_at};
+use crate::line_ends::split_line;
+use iloc_ops::{Op, op_of};
+
+/// What follows the first line end, if there is one, and nothing but a comment precedes it.
+#[inline(always)]
+fn behind_comment(bytes: &[u8]) -> Option<Option<&[u8]>>
+    ensures { IfSome result (FirstIs OptionalComment bytes.now) }
+{
+    match bytes {
+        [b'\n', after @ ..] => Some(Some(after)),
+        [] => Some(None),
+        [b'/', b'/', comment @ ..] => Some(split_line(comment).1),
+        _ => None,
+    }
+}
+
+/// What follows the first line end, if there is one, and nothing but blanks and a comment precede it.
+#[inline(always)]
+fn behind_line_end(bytes: &[u8]) -> Option<Option<&[u8]>>
+    ensures { IfSome result (FirstIs (Blanks ⋅ OptionalComment) bytes.now) }
+{
+    if let [b'\n', after @ ..] = bytes {
+        return Some(Some(after));
+    }
+    behind_comment(after_blanks(bytes))
+}
+
+/// The operation at the front, found on the fast path, and what follows the line end after it. This is what most lines
+/// are.
+#[inline(never)]
+fn fast_operation(bytes: &[u8]) -> Option<(Op, &[u8])>
+    ensures { IfSome result (λ found. FirstBody bytes.now (Some found.0) (Some found.1)) }
+{
+    let (opcode, behind) = opcode_at(bytes)?;
+    let (op, rest) = fast_called_at(opcode, behind)?;
+    let after = behind_line_end(rest)??;
+    Some((op, after))
+}
+
+/// What the line at the front says if that is an operation found on the fast path, or nothing but a comment, without a
+/// label and without blanks before it, and what follows its line end, if it has one.
+#[inline(always)]
+pub fn fast_body(bytes: &[u8]) -> Option<(Option<Op>, Option<&[u8]>)>
+    ensures { IfSome result (λ found. FirstBody bytes.now found.0 found.1) }
+{
+    if let Some((op, after)) = fast_operation(bytes) {
+        return Some((Some(op), Some(after)));
+    }
+    let after = behind_line_end(bytes)?;
+    Some((None, after))
+}
+
+/// As `fast_operation`, however it is spelled, and though the text may end with it.
+#[inline(never)]
+fn any_operation(bytes: &[u8]) -> Option<(Op, Option<&[u8]>)>
+    ensures { IfSome result (λ found. FirstBody bytes.now (Some found.0) found.1) }
+{
+    let (opcode, behind) = opcode_at(bytes)?;
+    let (numbers, rest) = numbers_at(opcode, behind)?;
+    let after = behind_line_end(rest)?;
+    if are_within_limit(&numbers) {
+        Some((op_of(opcode, &numbers), after))
+    } else {
+        None
+    }
+}
+
+/// What the line at the front says after a label, if it has one, and blanks. Without a label the fast path isn't tried:
+/// `fast_body` has tried it.
+#[inline(always)]
+fn body_behind<'a>(label: Option<&[u8]>, bytes: &'a [u8]) -> Option<(Option<Op>, Option<&'a [u8]>)>
+    ensures { IfSome result (λ found. FirstBody bytes.now found.0 found.1) }
+{
+    if let Some(after) = behind_line_end(bytes) {
+        return Some((None, after));
+    }
+    if label.is_some()
+        && let Some((op, after)) = fast_operation(bytes)
+    {
+        return Some((Some(op), Some(after)));
+    }
+    let (op, after) = any_operation(bytes)?;
+    Some((Some(op), after))
+}
+
+/// What the first line of the text reads as, and what follows its line end, if it has one.
+#[inline(always)]
+pub fn fast_line(text: &[u8]) -> Option<(Line<'_>, Option<&[u8]>)>
+    ensures { IfSome result (λ found. FirstLine text.now (Ok found)) }
+{
+    let (label, behind) = optional_label_at(after_blanks(text));
+    let (op, after) = body_behind(label, after_blanks(behind))?;
+    Some((Line { label, op }, after))
+}
