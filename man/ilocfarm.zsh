@@ -63,6 +63,7 @@ check) shift words; (( CURRENT-- ))
         '--task[Read the blocks from FILE, and only rows from standard input]:FILE:_files' \
         '--either-slot[Exchange the operations of a row that can be issued only so]' \
         '--lawful[Pass nothing but rows that are a schedule by the book]' \
+        '--csv[Print a table of comma-separated values, a row for each block]' \
         '--help[Print help]' ;;
 graph) shift words; (( CURRENT-- ))
     _arguments '--load[Cycles that load and loadAI take, 1 to 16 \[default\: 5\]]:N:' \

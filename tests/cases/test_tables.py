@@ -5,16 +5,22 @@ import random
 import subprocess
 import unittest
 
+from cases import test_stored
 from forms import USUAL
 from harness.program import SECONDS, ending, needs
 from harness.suite import Check, table
 from oracle.drawn import lab_block
+from oracle.judge import ENTRY, NOT_SAME
 from oracle.operations import text_of
+from oracle.reader import read
 from oracle.scheduler import ORDERS, Schedule
 
+CHECK_HEAD = ["block", "name", "verdict", "cycles", "ours", "least", "claimed"]
 UNNAMED = b"output 0\nempty:\nA: output 4\nA: load r1 => r2\n"
 # Labels that mean a missing value, or a truth, unless the reader is told otherwise.
 ODD_NAMES = b"NA: output 0\nnan: output 0\nT: output 0\n"
+# A block for each verdict, with claims that are right, wrong and missing.
+JUDGED = test_stored.read(f"{test_stored.CASES}/table_of_checks.in", None)
 # What has pandas and R read a table, print it again, and print a letter for each column: i of whole numbers.
 PYTHONS = ("python3", "/usr/bin/python3")       # one from elsewhere may lack what the system's has
 PANDAS = """import pandas, sys
@@ -58,6 +64,24 @@ def cycles():
         yield "another bound"
 
 
+def checked():
+    """The table of `check` has what its listing says of each block, and each claim, right or wrong; the status is the same."""
+    for words in ((), ("--lawful",)):
+        status, out, err = ending(["check", *words], JUDGED)
+        found = [it.groups() for it in ENTRY.finditer(out)]
+        if len({it[2] for it in found}) < 6 or status != NOT_SAME or err:
+            yield f"status {status}, {out}, {err}"
+        claims = [block.claim for block in read(JUDGED)]
+        due = [[it.decode() for it in entry[:6]] + ["" if claim is None else str(claim)]
+               for entry, claim in zip(found, claims, strict=True)]
+        text = "".join(",".join(row) + "\n" for row in [CHECK_HEAD, *due])
+        got = ending(["check", "--csv", *words], JUDGED)
+        if got != (status, text.encode(), b""):
+            yield f"{got} in place of {text!r}"
+        if [*csv.reader(io.StringIO(got[1].decode()), strict=True)] != [CHECK_HEAD, *due]:
+            yield f"{got[1]} is read as something else"
+
+
 def has_pandas(python):
     return subprocess.run([python, "-c", "import pandas"], capture_output=True, check=False).returncode == 0
 
@@ -79,17 +103,20 @@ def read_back(command):
     """Each row and column is read as it is written, the numbers as whole ones."""
     words, of_texts = command()
     for given in (UNNAMED, ODD_NAMES):
-        for asked, numbers in ((["counts", "--csv"], 1), (["compare", "--csv"], 1 + len(ORDERS))):
-            text = ending(asked, given)[1].decode()
-            read = subprocess.run(words, input=text, capture_output=True, text=True, timeout=SECONDS, check=False)
-            if read.stdout != f"{text}i{of_texts}{'i' * numbers}\n":
-                yield f"{asked}: {read.stdout}{read.stderr} in place of {text}"
+        rows = ending(["schedule"], given)[1]
+        for asked, more, kinds in (("counts", b"", "i"), ("compare", b"", "i" * (1 + len(ORDERS))),
+                                   ("check", rows, f"{of_texts}iiii")):
+            text = ending([asked, "--csv"], given + more)[1].decode()
+            done = subprocess.run(words, input=text, capture_output=True, text=True, timeout=SECONDS, check=False)
+            if done.stdout != f"{text}i{of_texts}{kinds}\n":
+                yield f"{asked}: {done.stdout}{done.stderr} in place of {text}"
 
 
 def table_checks():
     yield Check("tables/counts", columns, ["counts", "--csv"], ["block", "name", "cycles"])
     yield Check("tables/compare", columns, ["compare", "--csv"], ["block", "name", "least", *ORDERS])
     yield Check("tables/cycles", cycles)
+    yield Check("tables/check", checked)
     yield Check("tables/pandas", read_back, by_pandas)
     yield Check("tables/R", read_back, by_r)
 

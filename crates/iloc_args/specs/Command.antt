@@ -120,12 +120,12 @@ compare_entry = record {
 abbrev pub explain_entry : Entry
 explain_entry = record { name = codes "explain"; task = Explain; rules = latency_rules ++ priority_rule ∷ [] }
 
--- `check [--at N] [WORD].. [--load N] [--store N] [--mult N] [--task FILE] [--either-slot] [--lawful]`
+-- `check [--at N] [WORD].. [--load N] [--store N] [--mult N] [--task FILE] [--either-slot] [--lawful] [--csv]`
 abbrev pub check_entry : Entry
 check_entry = record {
   name = codes "check";
   task = Check;
-  rules = at_rule ∷ words_rule ∷ (latency_rules ++ task_rule ∷ either_slot_rule ∷ lawful_rule ∷ []);
+  rules = at_rule ∷ words_rule ∷ (latency_rules ++ task_rule ∷ either_slot_rule ∷ lawful_rule ∷ csv_rule ∷ []);
 }
 
 -- `graph [--load N] [--store N] [--mult N]`

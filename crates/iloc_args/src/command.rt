@@ -340,7 +340,7 @@ fn explain_command<'a>(alloc: Global) -> Result<Command<'a>, AllocError>
     with_arg(command, priority_arg(alloc))
 }
 
-/// `check [--at N] [WORD]... [--load N] [--store N] [--mult N] [--task FILE] [--either-slot] [--lawful]`
+/// `check [--at N] [WORD]... [--load N] [--store N] [--mult N] [--task FILE] [--either-slot] [--lawful] [--csv]`
 fn check_command<'a>(alloc: Global) -> Result<Command<'a>, AllocError>
     ensures { IfOk result (HasApp (app check_entry)) }
 {
@@ -349,7 +349,8 @@ fn check_command<'a>(alloc: Global) -> Result<Command<'a>, AllocError>
     let command = with_latencies(alloc, memory_command(alloc, "check", about, usage));
     let command = with_arg(command, task_arg(alloc));
     let command = with_arg(command, either_slot_arg(alloc));
-    with_arg(command, lawful_arg(alloc))
+    let command = with_arg(command, lawful_arg(alloc));
+    with_arg(command, csv_arg(alloc))
 }
 
 /// `graph [--load N] [--store N] [--mult N]`

@@ -22,10 +22,10 @@ use Rattle.iloc_sched.proofs.Bounds.LeastBound.{least_bound}
 use Rattle.iloc_judge.specs.Checked.{DoTheSame, IsCheck, MayPass, passes}
 use Rattle.iloc_judge.specs.declared.checked.Checked.{Checked}
 use Rattle.iloc_judge.proofs.Sameness.{passed_is_same, passed_rows_may_pass, same_rows_do_the_same}
-use Rattle.iloc_farm.specs.Commands.Check.{IsJudged, Judged, ListsChecked, judged_entries}
+use Rattle.iloc_farm.specs.Commands.Check.{IsJudged, Judged, ListsChecked, check_ending, check_header, judged_entries}
 use Rattle.iloc_farm.specs.Fault.{finding_of}
 use Rattle.iloc_farm.specs.Laws.{PassedChecksKeepOutcomes, PassedChecksMayPass}
-use Rattle.iloc_farm.specs.Listing.{block_head}
+use Rattle.iloc_farm.specs.Listing.{head_as, opening_as}
 use Rattle.iloc_farm.specs.Schedules.{AreGreedy}
 use Rattle.iloc_farm.specs.Steps.Limits.{most_cycles}
 use Rattle.iloc_farm.specs.Steps.Checking.{IsCheckedTo, IsSmall, totals_of, totals_text, with_checked}
@@ -36,10 +36,10 @@ use Rattle.iloc_farm.proofs.Schedules.{cycles_few, cycles_within, greedy_all_sam
 -- What is found of one proposal
 
 -- its numbers are small
-pub small_check : (lat : Latencies) (memory : List ℤ) (block : List Op) (s : Table) (p : Proposal) (c : Checked)
-    (entry : List ℕ) → IsCheck lat memory block s p c entry → IsGreedy lat block s.ops s.rows → length block ≤ MAX_OPS
+pub small_check : (csv : Bool) (lat : Latencies) (memory : List ℤ) (block : List Op) (s : Table) (p : Proposal) (c : Checked)
+    (entry : List ℕ) → IsCheck csv lat memory block s p c entry → IsGreedy lat block s.ops s.rows → length block ≤ MAX_OPS
     → length p.rows ≤ MAX_ROWS → IsSmall c
-small_check lat memory block s p c entry check greedy short few =
+small_check csv lat memory block s p c entry check greedy short few =
     let theirs : c.cycles ≡ cycles lat p.ops p.rows = ap (λ (x : Checked). x.cycles) check.is_found in
     let ours : c.ours ≡ cycles lat s.ops s.rows = ap (λ (x : Checked). x.ours) check.is_found in
     let most : c.least ≡ least lat block = ap (λ (x : Checked). x.least) check.is_found in
@@ -71,15 +71,20 @@ totals_more lawful js j =
 
 -- Entries
 
-entries_more : (k n : ℕ) (js : List Judged) (j : Judged) → k + length js ≡ n
-    → judged_entries k (js ++ j ∷ []) ≡ judged_entries k js ++ (block_head n j.block.name ++ j.text)
-entries_more k n [] j at =
-    append-nil (block_head k j.block.name ++ j.text)
-    ∙ ap (λ m. block_head m j.block.name ++ j.text) (let same : k ≡ n = omega arith in same)
-entries_more k n (i ∷ js) j at =
-    ap (λ rest. block_head k i.block.name ++ i.text ++ rest) (entries_more (k + 1) n js j (omega arith))
-    ∙ sym (append_assoc (block_head k i.block.name ++ i.text) (judged_entries (k + 1) js)
-    (block_head n j.block.name ++ j.text))
+entries_more : (csv : Bool) (k n : ℕ) (js : List Judged) (j : Judged) → k + length js ≡ n
+    → judged_entries csv k (js ++ j ∷ []) ≡ judged_entries csv k js ++ (head_as csv n j.block.name ++ j.text)
+entries_more csv k n [] j at =
+    append-nil (head_as csv k j.block.name ++ j.text)
+    ∙ ap (λ m. head_as csv m j.block.name ++ j.text) (let same : k ≡ n = omega arith in same)
+entries_more csv k n (i ∷ js) j at =
+    ap (λ rest. head_as csv k i.block.name ++ i.text ++ rest) (entries_more csv (k + 1) n js j (omega arith))
+    ∙ sym (append_assoc (head_as csv k i.block.name ++ i.text) (judged_entries csv (k + 1) js)
+    (head_as csv n j.block.name ++ j.text))
+
+-- the totals of a listing end it
+ending_same : (csv lawful : Bool) (js : List Judged) → totals_text csv (totals_of lawful js) ≡ check_ending csv js
+ending_same true lawful js = refl
+ending_same false lawful js = refl
 
 -- What is left
 
@@ -87,9 +92,9 @@ middle : {X : Type 0} (P : X → Type 0) (xs ys : List X) (x : X) → AllByRecur
 middle P [] ys x all = all.0
 middle P (z ∷ xs) ys x all = middle P xs ys x all.1
 
-module _ (lawful : Bool) (lat : Latencies) (memory : List ℤ) (blocks : List Block) (proposals : List Proposal) where
+module _ (lawful csv : Bool) (lat : Latencies) (memory : List ℤ) (blocks : List Block) (proposals : List Proposal) where
   module _ (left rest : List Proposal) (p : Proposal) (text : List ℕ) (totals : Totals) (next : left ≡ p ∷ rest)
-      (so_far : IsCheckedTo lawful lat memory blocks proposals left text totals) where
+      (so_far : IsCheckedTo lawful csv lat memory blocks proposals left text totals) where
     -- the next proposal is one of all
     whole : map (λ j. j.proposal) so_far.judged ++ p ∷ rest ≡ proposals
     whole = ap (λ ps. map (λ (j : Judged). j.proposal) so_far.judged ++ ps) (sym next) ∙ so_far.of_proposals
@@ -116,9 +121,9 @@ module _ (lawful : Bool) (lat : Latencies) (memory : List ℤ) (blocks : List Bl
     -- one block more
     pub one_checked : (b : Block) (s : Table) (c : Checked) (more entry : List ℕ) (sums : Totals)
         → totals.blocks < length blocks → b ≡ get_or blocks totals.blocks b
-        → IsGreedy lat b.ops s.ops s.rows → IsCheck lat memory b.ops s p c entry → IsSmall c
-        → more ≡ (text ++ block_head (totals.blocks + 1) b.name) ++ entry → sums ≡ with_checked lawful totals c
-        → IsCheckedTo lawful lat memory blocks proposals rest more sums
+        → IsGreedy lat b.ops s.ops s.rows → IsCheck csv lat memory b.ops s p c entry → IsSmall c
+        → more ≡ (text ++ head_as csv (totals.blocks + 1) b.name) ++ entry → sums ≡ with_checked lawful totals c
+        → IsCheckedTo lawful csv lat memory blocks proposals rest more sums
     one_checked b s c more entry sums within read greedy check small pushed added =
         let js : List Judged = so_far.judged in
         let j : Judged = record { block = b; ours = s; proposal = p; checked = c; text = entry } in
@@ -146,16 +151,19 @@ module _ (lawful : Bool) (lat : Latencies) (memory : List ℤ) (blocks : List Bl
               let P : List Block → List Table → Type 0 = λ bs ss. AreGreedy lat bs ss in
               rw (front, map-append (λ (x : Judged). x.ours) js (j ∷ []))
               (greedy_more lat (take (length js) blocks) (map (λ (x : Judged). x.ours) js) b s so_far.greedy greedy);
-          right = All-push (IsJudged lat memory) js j so_far.right check;
-          listed = pushed ∙ (append_assoc text (block_head (totals.blocks + 1) b.name) entry
-              ∙ (ap₂ (λ xs n. xs ++ (block_head n b.name ++ entry)) so_far.listed
+          right = All-push (IsJudged csv lat memory) js j so_far.right check;
+          listed = pushed ∙ (append_assoc text (head_as csv (totals.blocks + 1) b.name) entry
+              ∙ (ap₂ (λ xs n. xs ++ (head_as csv n b.name ++ entry)) so_far.listed
               (let same : totals.blocks + 1 ≡ 1 + length js = omega arith in same)
-              ∙ sym (entries_more 1 (1 + length js) js j refl)));
+              ∙ (append_assoc (opening_as csv check_header) (judged_entries csv 1 js)
+              (head_as csv (1 + length js) b.name ++ entry)
+              ∙ ap (λ xs. opening_as csv check_header ++ xs) (sym (entries_more csv 1 (1 + length js) js j refl)))));
         }
 
   -- no block yet
-  pub none_checked : (left : List Proposal) (text : List ℕ) (totals : Totals) → left ≡ proposals → text ≡ []
-      → totals ≡ totals_of lawful [] → IsCheckedTo lawful lat memory blocks proposals left text totals
+  pub none_checked : (left : List Proposal) (text : List ℕ) (totals : Totals) → left ≡ proposals
+      → text ≡ opening_as csv check_header
+      → totals ≡ totals_of lawful [] → IsCheckedTo lawful csv lat memory blocks proposals left text totals
   none_checked left text totals all empty none = record {
     judged = [];
     sums = none;
@@ -167,15 +175,15 @@ module _ (lawful : Bool) (lat : Latencies) (memory : List ℤ) (blocks : List Bl
     of_blocks = refl;
     of_proposals = all;
     greedy = tt;
-    right = All-nil (IsJudged lat memory);
-    listed = empty;
+    right = All-nil (IsJudged csv lat memory);
+    listed = empty ∙ sym (append-nil (opening_as csv check_header));
   }
 
   -- all blocks, and the line with what was found of all
   pub all_checked : (left : List Proposal) (text more : List ℕ) (totals : Totals) → length left ≡ 0
-      → length proposals ≡ length blocks → IsCheckedTo lawful lat memory blocks proposals left text totals
-      → more ≡ text ++ totals_text totals
-      → ListsChecked lawful lat memory blocks proposals (finding_of totals.all_pass) more
+      → length proposals ≡ length blocks → IsCheckedTo lawful csv lat memory blocks proposals left text totals
+      → more ≡ text ++ totals_text csv totals
+      → ListsChecked lawful csv lat memory blocks proposals (finding_of totals.all_pass) more
   all_checked (p ∷ left) text more totals none as_many so_far pushed = absurd (omega arith)
   all_checked [] text more totals none as_many so_far pushed =
       let js : List Judged = so_far.judged in
@@ -193,7 +201,8 @@ module _ (lawful : Bool) (lat : Latencies) (memory : List ℤ) (blocks : List Bl
         only = λ others are. greedy_all_same lat blocks (map (λ (j : Judged). j.ours) js) others greedy are;
         right = so_far.right;
         found = ap (λ (t : Totals). finding_of t.all_pass) so_far.sums;
-        listed = pushed ∙ ap₂ (λ xs t. xs ++ totals_text t) so_far.listed so_far.sums;
+        listed = pushed ∙ (ap₂ (λ xs t. xs ++ totals_text csv t) so_far.listed so_far.sums
+            ∙ ap (λ xs. opening_as csv check_header ++ judged_entries csv 1 js ++ xs) (ending_same csv lawful js));
       }
 
 -- What passed
@@ -211,38 +220,38 @@ rest_passes true b is = is
 rest_passes false b is = absurd (cc)
 
 -- what holds of whatever passes
-abbrev HoldsOfPassed : Bool → Latencies → List ℤ → (Block → Proposal → Type 0) → Type 0
-HoldsOfPassed lawful lat memory P = (j : Judged) → IsJudged lat memory j → passes lawful j.checked ≡ true
+abbrev HoldsOfPassed : Bool → Bool → Latencies → List ℤ → (Block → Proposal → Type 0) → Type 0
+HoldsOfPassed lawful csv lat memory P = (j : Judged) → IsJudged csv lat memory j → passes lawful j.checked ≡ true
     → P j.block j.proposal
 
-of_each : (lawful : Bool) (lat : Latencies) (memory : List ℤ) (P : Block → Proposal → Type 0)
-    → HoldsOfPassed lawful lat memory P → (js : List Judged) → list_all (λ j. passes lawful j.checked) js ≡ true
-    → All (IsJudged lat memory) js → AllZip P (map (λ j. j.block) js) (map (λ j. j.proposal) js)
-of_each lawful lat memory P holds [] pass right = tt
-of_each lawful lat memory P holds (j ∷ js) pass right = (
-  holds j (All-head (IsJudged lat memory) j js right)
+of_each : (lawful csv : Bool) (lat : Latencies) (memory : List ℤ) (P : Block → Proposal → Type 0)
+    → HoldsOfPassed lawful csv lat memory P → (js : List Judged) → list_all (λ j. passes lawful j.checked) js ≡ true
+    → All (IsJudged csv lat memory) js → AllZip P (map (λ j. j.block) js) (map (λ j. j.proposal) js)
+of_each lawful csv lat memory P holds [] pass right = tt
+of_each lawful csv lat memory P holds (j ∷ js) pass right = (
+  holds j (All-head (IsJudged csv lat memory) j js right)
       (first_passes (passes lawful j.checked) (list_all (λ (x : Judged). passes lawful x.checked) js) pass),
-  of_each lawful lat memory P holds js
+  of_each lawful csv lat memory P holds js
       (rest_passes (passes lawful j.checked) (list_all (λ (x : Judged). passes lawful x.checked) js) pass)
-      (All-tail (IsJudged lat memory) j js right),
+      (All-tail (IsJudged csv lat memory) j js right),
 )
 
-of_passed : (lawful : Bool) (lat : Latencies) (memory : List ℤ) (P : Block → Proposal → Type 0)
-    → HoldsOfPassed lawful lat memory P → (blocks : List Block) (proposals : List Proposal) (text : List ℕ)
-    → ListsChecked lawful lat memory blocks proposals Passed text → AllZip P blocks proposals
-of_passed lawful lat memory P holds blocks proposals text lists =
+of_passed : (lawful csv : Bool) (lat : Latencies) (memory : List ℤ) (P : Block → Proposal → Type 0)
+    → HoldsOfPassed lawful csv lat memory P → (blocks : List Block) (proposals : List Proposal) (text : List ℕ)
+    → ListsChecked lawful csv lat memory blocks proposals Passed text → AllZip P blocks proposals
+of_passed lawful csv lat memory P holds blocks proposals text lists =
     let Q : List Block → Type 0 = λ bs. AllZip P bs proposals in
     let R : List Proposal → Type 0 = λ ps. AllZip P (map (λ (j : Judged). j.block) lists.judged) ps in
-    subst Q lists.of_blocks (subst R lists.of_proposals (of_each lawful lat memory P holds lists.judged
+    subst Q lists.of_blocks (subst R lists.of_proposals (of_each lawful csv lat memory P holds lists.judged
     (all_pass (list_all (λ (j : Judged). passes lawful j.checked) lists.judged) lists.found) lists.right))
 
 pub passed_keep_outcomes : PassedChecksKeepOutcomes
-passed_keep_outcomes lawful lat memory = of_passed lawful lat memory
+passed_keep_outcomes lawful csv lat memory = of_passed lawful csv lat memory
     (λ b p. DoTheSame lat b.ops p.ops p.rows)
-    (λ j right pass. same_rows_do_the_same lat memory j.block.ops j.ours j.proposal j.checked j.text right
-    (passed_is_same lat memory j.block.ops j.ours j.proposal j.checked j.text right lawful pass))
+    (λ j right pass. same_rows_do_the_same csv lat memory j.block.ops j.ours j.proposal j.checked j.text right
+    (passed_is_same csv lat memory j.block.ops j.ours j.proposal j.checked j.text right lawful pass))
 
 pub passed_may_pass : PassedChecksMayPass
-passed_may_pass lawful lat memory = of_passed lawful lat memory
+passed_may_pass lawful csv lat memory = of_passed lawful csv lat memory
     (λ b p. MayPass lawful lat memory b.ops p.ops p.rows)
-    (λ j right pass. passed_rows_may_pass lawful lat memory j.block.ops j.ours j.proposal j.checked j.text right pass)
+    (λ j right pass. passed_rows_may_pass lawful csv lat memory j.block.ops j.ours j.proposal j.checked j.text right pass)

@@ -151,9 +151,9 @@ listed_same held words read_old read_new finding text a listed passed asks check
       store = ap (λ (x : Asked). x.store) same;
       mult = ap (λ (x : Asked). x.mult) same;
       same = subst T (ap (λ (x : Asked). x.either_slot) same)
-          (passed_keep_outcomes request.lawful request.latencies (initial_memory request) judged.blocks
+          (passed_keep_outcomes request.lawful request.csv request.latencies (initial_memory request) judged.blocks
           (placed request.either_slot judged.proposals) text (subst Q passed judged.checked));
-      told = subst S same (passed_may_pass request.lawful request.latencies (initial_memory request) judged.blocks
+      told = subst S same (passed_may_pass request.lawful request.csv request.latencies (initial_memory request) judged.blocks
           (placed request.either_slot judged.proposals) text (subst Q passed judged.checked));
     }
 

@@ -58,14 +58,14 @@ ChecksIgnoreWorkers = (r q : Request) → AskAlike r q → r.task ≡ task.Check
 -- where a check passed, the rows that are proposed for each block keep the rules of the units and have its outcome on
 -- every memory
 abbrev pub PassedChecksKeepOutcomes : Type 0
-PassedChecksKeepOutcomes = (lawful : Bool) (lat : Latencies) (memory : List ℤ) (blocks : List Block)
-    (proposals : List Proposal) (text : List ℕ) → ListsChecked lawful lat memory blocks proposals Passed text
+PassedChecksKeepOutcomes = (lawful csv : Bool) (lat : Latencies) (memory : List ℤ) (blocks : List Block)
+    (proposals : List Proposal) (text : List ℕ) → ListsChecked lawful csv lat memory blocks proposals Passed text
     → AllZip (λ (b : Block) (p : Proposal). DoTheSame lat b.ops p.ops p.rows) blocks proposals
 
 -- and they pass only if they may
 abbrev pub PassedChecksMayPass : Type 0
-PassedChecksMayPass = (lawful : Bool) (lat : Latencies) (memory : List ℤ) (blocks : List Block)
-    (proposals : List Proposal) (text : List ℕ) → ListsChecked lawful lat memory blocks proposals Passed text
+PassedChecksMayPass = (lawful csv : Bool) (lat : Latencies) (memory : List ℤ) (blocks : List Block)
+    (proposals : List Proposal) (text : List ℕ) → ListsChecked lawful csv lat memory blocks proposals Passed text
     → AllZip (λ (b : Block) (p : Proposal). MayPass lawful lat memory b.ops p.ops p.rows) blocks proposals
 
 -- one input was read, which denotes blocks and the rows that are proposed for them

@@ -61,7 +61,7 @@ pub record ListsFile (request : Request) (input text : List ℕ) : Type 0 where
 -- if it gives that.
 abbrev pub Checks : Request → List Block → List Proposal → Finding → List ℕ → Type 0
 Checks request blocks proposals finding text =
-    ListsChecked request.lawful request.latencies (initial_memory request) blocks
+    ListsChecked request.lawful request.csv request.latencies (initial_memory request) blocks
     (placed request.either_slot proposals) finding text
 
 -- the input denotes blocks and what is proposed for them, and the text is what is said of it, with this finding

@@ -57,8 +57,8 @@ lawful_is_same (Units c) lawful = absurd cc
 lawful_is_same Lawful lawful = λ i. true
 lawful_is_same (Unlawful reason found) lawful = absurd cc
 
-module _ (lat : Latencies) (memory : List ℤ) (block : List Op) (ours : Table) (proposal : Proposal) (checked : Checked)
-    (entry : List ℕ) (check : IsCheck lat memory block ours proposal checked entry) where
+module _ (csv : Bool) (lat : Latencies) (memory : List ℤ) (block : List Op) (ours : Table) (proposal : Proposal)
+    (checked : Checked) (entry : List ℕ) (check : IsCheck csv lat memory block ours proposal checked entry) where
   said_same : checked.is_same ≡ true → is_same check.verdict ≡ true
   said_same same = sym (ap (λ (c : Checked). c.is_same) check.is_found) ∙ same
 
@@ -78,10 +78,10 @@ module _ (lat : Latencies) (memory : List ℤ) (block : List Op) (ours : Table) 
       (said_same pass)
 
 pub same_rows_do_the_same : SameRowsDoTheSame
-same_rows_do_the_same lat memory block ours proposal checked entry check same =
+same_rows_do_the_same csv lat memory block ours proposal checked entry check same =
     same_is_right lat memory block proposal.ops proposal.rows check.verdict check.right
-    (said_same lat memory block ours proposal checked entry check same)
+    (said_same csv lat memory block ours proposal checked entry check same)
 
 pub passed_rows_may_pass : PassedRowsMayPass
-passed_rows_may_pass lawful lat memory block ours proposal checked entry check pass =
-    passed_may_pass lat memory block ours proposal checked entry check lawful pass
+passed_rows_may_pass lawful csv lat memory block ours proposal checked entry check pass =
+    passed_may_pass csv lat memory block ours proposal checked entry check lawful pass

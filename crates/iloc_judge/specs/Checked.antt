@@ -1,5 +1,5 @@
 -- What is found of the rows that are proposed for a block.
-use Rattle.std.specs.Prelude.{ℕ, ℤ, ◌≡◌, ◌⊎◌, Bool, true, false, List, ◌++◌}
+use Rattle.std.specs.Prelude.{ℕ, ℤ, ◌≡◌, ◌⊎◌, Bool, true, false, List}
 use Rattle.iloc_ops.specs.declared.op.Op.{Op}
 use Rattle.iloc_timed.specs.declared.latencies.Latencies.{Latencies}
 use Rattle.iloc_timed.specs.declared.row.Row.{Row}
@@ -9,7 +9,6 @@ use Rattle.iloc_timed.specs.Schedule.{Table}
 use Rattle.iloc_rows.specs.declared.proposal.Proposal.{Proposal}
 use Rattle.iloc_sched.specs.Least.{least}
 use Rattle.iloc_validation.specs.ByTheBook.{IsByTheBook, IssueTheSame}
-use Rattle.iloc_judge.specs.declared.comparison.Comparison.{Comparison}
 use Rattle.iloc_judge.specs.declared.comparison.Comparison.TheVariants.{Same}
 use Rattle.iloc_judge.specs.declared.verdict.Verdict.{Verdict}
 use Rattle.iloc_judge.specs.declared.verdict.Verdict.TheVariants.{Lawful, Unlawful}
@@ -18,7 +17,7 @@ use Rattle.iloc_judge.specs.Memory.{IsMemory}
 use Rattle.iloc_judge.specs.Verdict.{IsVerdict}
 use Rattle.iloc_judge.specs.Void.{CanBeJudged}
 use Rattle.iloc_judge.specs.declared.checked.Checked.{Checked}
-use Rattle.iloc_judge.specs.Listing.{verdict_line, detail}
+use Rattle.iloc_judge.specs.Listing.{entry_as}
 
 -- whether the rows are by the book
 abbrev pub is_lawful : Verdict → Bool
@@ -41,15 +40,15 @@ found lat block ours proposal verdict = record {
   least = least lat block;
 }
 
--- Of what is proposed for a block this is found, and this entry listed, by a verdict that is right. What our schedule
--- issues is lawful.
-pub record IsCheck (lat : Latencies) (memory : List ℤ) (block : List Op) (ours : Table) (proposal : Proposal)
+-- Of what is proposed for a block this is found, and this entry listed, in a table or not, by a verdict that is right. What
+-- our schedule issues is lawful.
+pub record IsCheck (csv : Bool) (lat : Latencies) (memory : List ℤ) (block : List Op) (ours : Table) (proposal : Proposal)
     (checked : Checked) (entry : List ℕ) : Type 0 where
   pub verdict : Verdict
   pub right : IsVerdict lat block proposal.ops proposal.rows memory verdict
   pub own : IssueTheSame ours.ops ours.rows proposal.ops proposal.rows → verdict ≡ Lawful
   pub is_found : checked ≡ found lat block ours proposal verdict
-  pub listed : entry ≡ verdict_line verdict checked proposal.claimed ++ detail proposal.ops proposal.rows verdict
+  pub listed : entry ≡ entry_as csv proposal verdict checked
 
 -- the operations in these rows keep the rules of the units, and on every memory of 16,384 words of 32 bits they have the
 -- block's outcome

@@ -1,5 +1,5 @@
 -- What is listed of a block's rows, behind the block's head.
-use Rattle.std.specs.Prelude.{ℕ, ℤ, ◌+◌, ◌==◌, if◌then◌else◌, List, [], ◌++◌, Option, Some, None, codes}
+use Rattle.std.specs.Prelude.{ℕ, ℤ, ◌+◌, ◌==◌, if◌then◌else◌, Bool, true, false, List, [], ◌++◌, Option, Some, None, codes}
 use Rattle.std.specs.List.{flat_map}
 use Rattle.std.specs.Fmt.{decimal, signed_decimal}
 use Rattle.iloc_ops.specs.declared.op.Op.{Op}
@@ -8,6 +8,7 @@ use Rattle.iloc_ops.specs.Spelling.{spelling}
 use Rattle.iloc_timed.specs.declared.row.Row.{Row}
 use Rattle.iloc_timed.specs.Rows.{row_at}
 use Rattle.iloc_timed.specs.Spelling.{row_line}
+use Rattle.iloc_rows.specs.declared.proposal.Proposal.{Proposal}
 use Rattle.iloc_judge.specs.declared.comparison.Comparison.{Comparison}
 use Rattle.iloc_judge.specs.declared.comparison.Comparison.TheVariants as of
 use Rattle.iloc_judge.specs.declared.place.Place.{Place}
@@ -43,6 +44,23 @@ abbrev pub verdict_line : Verdict → Checked → Option ℕ → List ℕ
 verdict_line verdict checked claimed =
     codes " " ++ verdict_word verdict ++ column (codes "cycles") checked.cycles ++ column (codes "ours") checked.ours
     ++ column (codes "least") checked.least ++ wrong_claim checked.cycles claimed ++ codes "\n"
+
+-- The row of a table
+
+-- `,N`
+abbrev pub value : ℕ → List ℕ
+value n = codes "," ++ decimal n
+
+-- the number of cycles that is claimed, right or wrong; nothing behind the comma where none is
+abbrev pub claim_value : Option ℕ → List ℕ
+claim_value None = codes ","
+claim_value (Some claim) = value claim
+
+-- `,VERDICT,C,O,L,X`, where X is the claim
+abbrev pub verdict_row : Verdict → Checked → Option ℕ → List ℕ
+verdict_row verdict checked claimed =
+    codes "," ++ verdict_word verdict ++ value checked.cycles ++ value checked.ours ++ value checked.least
+    ++ claim_value claimed ++ codes "\n"
 
 -- The line of how rows compare with their block
 
@@ -90,3 +108,10 @@ abbrev pub detail : List Op → List Row → Verdict → List ℕ
 detail ops rows (Units c) = bad_row ops rows c
 detail ops rows Lawful = []
 detail ops rows (Unlawful reason found) = comparison_told found
+
+-- What is listed of a proposal: a row of a table, where one is asked for, and else the line of the verdict with what is said
+-- below it.
+abbrev pub entry_as : Bool → Proposal → Verdict → Checked → List ℕ
+entry_as true proposal verdict checked = verdict_row verdict checked proposal.claimed
+entry_as false proposal verdict checked =
+    verdict_line verdict checked proposal.claimed ++ detail proposal.ops proposal.rows verdict

@@ -1,9 +1,11 @@
 //! What is found of the rows that are proposed for a block.
-ghost use Rattle.std.specs.Prelude.{ℕ, ◌≡◌, ◌≤◌, ◌++◌, List, length, IfOk};
+ghost use Rattle.std.specs.Prelude.{ℕ, ◌≡◌, ◌≤◌, ◌++◌, List, length, IfOk, OnOk};
 ghost use Rattle.iloc_timed.specs.Schedule.{AreInRange, AreOnce};
 ghost use Rattle.iloc_sched.specs.Lawful.{IsLawful};
 ghost use Rattle.iloc_sched.specs.Least as bound;
 ghost use Rattle.iloc_judge.specs.Checked.{is_lawful, is_same, passes, IsCheck};
+ghost use Rattle.iloc_judge.specs.Listing.{entry_as};
+ghost use Rattle.iloc_judge.specs.Steps.Counted.{CanBeListed};
 
 mod detail;
 mod verdict_line;
@@ -16,7 +18,7 @@ use iloc_ops::{Block, MAX_OPS, NoMemory};
 use iloc_rows::Proposal;
 use iloc_timed::{Latencies, Schedule, cycles, cycles_of};
 use std::alloc::Global;
-use verdict_line::push_verdict_line;
+use verdict_line::{push_verdict_line, push_verdict_row};
 
 /// What is found of the rows that are proposed for a block.
 #[derive(Clone, Copy, Debug, PartialEq, Eq)]
@@ -59,8 +61,30 @@ fn is_same(verdict: &Verdict) -> bool
     )
 }
 
+/// Appends what is listed of a proposal with this verdict: the row of a table or, where none is asked for, a line and what is
+/// said below it.
+fn push_entry(
+    text: &mut Vec<u8>,
+    csv: bool,
+    proposal: &Proposal,
+    verdict: &Verdict,
+    checked: Checked,
+) -> Result<(), NoMemory>
+    requires { CanBeListed proposal.now.rows verdict.now }
+    ensures { OnOk result (text.new.items
+        ≡ text.old.items ++ entry_as csv proposal.now verdict.now checked) }
+{
+    if csv {
+        return push_verdict_row(text, verdict, checked, proposal.claimed);
+    }
+    push_verdict_line(text, verdict, checked, proposal.claimed)?;
+    let rows = proposal.rows.as_slice();
+    push_detail(text, proposal.ops.as_slice(), rows, verdict)
+}
+
 /// Judges what is proposed for a block, beside our schedule of it, and appends what is listed of it after the block's head:
 /// the verdict with the cycles of the rows, ours and the least, and the lines that tell where the rows go wrong, if they do.
+/// In a table it is a row, with the cycles that are claimed and no lines below.
 ///
 /// After a refusal a part of it may have been appended.
 ///
@@ -68,6 +92,7 @@ fn is_same(verdict: &Verdict) -> bool
 pub fn push_check(
     alloc: Global,
     text: &mut Vec<u8>,
+    csv: bool,
     block: &Block,
     ours: &Schedule,
     least: u64,
@@ -81,7 +106,7 @@ pub fn push_check(
     requires lawful { IsLawful latencies.now block.now.ops ours.now.ops ours.now.rows }
     requires least { least ≡ bound.least latencies.now block.now.ops }
     ensures { IfOk result (λ checked. (entry : List ℕ)
-        × IsCheck latencies.now memory.now block.now.ops ours.now proposal checked entry
+        × IsCheck csv latencies.now memory.now block.now.ops ours.now proposal checked entry
         × (text.new.items ≡ text.old.items ++ entry)) }
 {
     let ops = proposal.ops.as_slice();
@@ -96,7 +121,6 @@ pub fn push_check(
         ours: cycles(ours, latencies),
         least,
     };
-    push_verdict_line(text, &verdict, checked, proposal.claimed)?;
-    push_detail(text, ops, rows, &verdict)?;
+    push_entry(text, csv, &proposal, &verdict, checked)?;
     Ok(checked)
 }

@@ -1,5 +1,5 @@
 -- The listing of what is said of the schedules that others proposed for a file's blocks.
-use Rattle.std.specs.Prelude.{ℕ, ◌+◌, ◌≡◌, ℤ, Bool, List, [], ◌∷◌, ◌++◌, map, sum_by, codes}
+use Rattle.std.specs.Prelude.{ℕ, ◌+◌, ◌≡◌, ℤ, Bool, true, false, List, [], ◌∷◌, ◌++◌, map, sum_by, codes}
 use Rattle.std.specs.List.{All, list_all}
 use Rattle.std.specs.Fmt.{decimal}
 use Rattle.iloc_ops.specs.declared.file.Block.{Block}
@@ -9,7 +9,7 @@ use Rattle.iloc_rows.specs.declared.proposal.Proposal.{Proposal}
 use Rattle.iloc_judge.specs.declared.checked.Checked.{Checked}
 use Rattle.iloc_judge.specs.Checked.{IsCheck, passes}
 use Rattle.iloc_farm.specs.Fault.{finding_of}
-use Rattle.iloc_farm.specs.Listing.{block_head}
+use Rattle.iloc_farm.specs.Listing.{head_as, opening_as}
 use Rattle.iloc_farm.specs.Schedules.{AreGreedy, AreTheOnlyGreedy}
 use Rattle.iloc_farm.specs.declared.commands.Finding.{Finding}
 
@@ -21,14 +21,18 @@ pub record Judged : Type 0 where
   pub checked : Checked
   pub text : List ℕ
 
--- what is said of the proposal is right
-abbrev pub IsJudged : Latencies → List ℤ → Judged → Type 0
-IsJudged lat memory j = IsCheck lat memory j.block.ops j.ours j.proposal j.checked j.text
+-- what is said of the proposal, in a table or not, is right
+abbrev pub IsJudged : Bool → Latencies → List ℤ → Judged → Type 0
+IsJudged csv lat memory j = IsCheck csv lat memory j.block.ops j.ours j.proposal j.checked j.text
 
 -- the head of each block and what is said of its proposal, numbered from k on
-abbrev pub judged_entries : ℕ → List Judged → List ℕ
-judged_entries k [] = []
-judged_entries k (j ∷ js) = block_head k j.block.name ++ j.text ++ judged_entries (k + 1) js
+abbrev pub judged_entries : Bool → ℕ → List Judged → List ℕ
+judged_entries csv k [] = []
+judged_entries csv k (j ∷ js) = head_as csv k j.block.name ++ j.text ++ judged_entries csv (k + 1) js
+
+-- what a table begins with
+abbrev pub check_header : List ℕ
+check_header = codes "block,name,verdict,cycles,ours,least,claimed\n"
 
 -- `total C ours O least L`: the cycles that are proposed, those of our schedules and the least, each together
 abbrev pub totals_line : List Judged → List ℕ
@@ -37,15 +41,20 @@ totals_line js =
     ++ codes " ours " ++ decimal (sum_by (λ j. j.checked.ours) js)
     ++ codes " least " ++ decimal (sum_by (λ j. j.checked.least) js) ++ codes "\n"
 
--- The text says of each proposal, beside the greedy schedule of its block, what is right, and ends with their cycles
--- together. They passed exactly where each does.
-pub record ListsChecked (lawful : Bool) (lat : Latencies) (memory : List ℤ) (blocks : List Block) (proposals : List Proposal)
+-- the totals, which a table has not
+abbrev pub check_ending : Bool → List Judged → List ℕ
+check_ending true js = []
+check_ending false js = totals_line js
+
+-- The text says of each proposal, beside the greedy schedule of its block, what is right: in a table below its header, or else
+-- with the totals at the end. They passed exactly where each does.
+pub record ListsChecked (lawful csv : Bool) (lat : Latencies) (memory : List ℤ) (blocks : List Block) (proposals : List Proposal)
     (finding : Finding) (text : List ℕ) : Type 0 where
   pub judged : List Judged
   pub of_blocks : map (λ j. j.block) judged ≡ blocks
   pub of_proposals : map (λ j. j.proposal) judged ≡ proposals
   pub greedy : AreGreedy lat blocks (map (λ j. j.ours) judged)
   pub only : AreTheOnlyGreedy lat blocks (map (λ j. j.ours) judged)
-  pub right : All (IsJudged lat memory) judged
+  pub right : All (IsJudged csv lat memory) judged
   pub found : finding ≡ finding_of (list_all (λ j. passes lawful j.checked) judged)
-  pub listed : text ≡ judged_entries 1 judged ++ totals_line judged
+  pub listed : text ≡ opening_as csv check_header ++ judged_entries csv 1 judged ++ check_ending csv judged

@@ -1,5 +1,5 @@
 -- What was found of several proposals together, and the listing of checks as far as the blocks were gone through.
-use Rattle.std.specs.Prelude.{ℕ, ◌+◌, ◌*◌, ◌≡◌, ◌≤◌, ◌&&◌, ℤ, Bool, List, ◌++◌, map, take, length, sum_by, codes}
+use Rattle.std.specs.Prelude.{ℕ, ◌+◌, ◌*◌, ◌≡◌, ◌≤◌, ◌&&◌, ℤ, Bool, true, false, List, [], ◌++◌, map, take, length, sum_by, codes}
 use Rattle.std.specs.List.{All, list_all}
 use Rattle.std.specs.Fmt.{decimal}
 use Rattle.iloc_ops.specs.declared.file.Block.{Block}
@@ -8,7 +8,8 @@ use Rattle.iloc_rows.specs.declared.proposal.Proposal.{Proposal}
 use Rattle.iloc_judge.specs.Checked.{passes}
 use Rattle.iloc_judge.specs.declared.checked.Checked.{Checked}
 use Rattle.iloc_farm.specs.declared.commands.totals.Totals.{Totals}
-use Rattle.iloc_farm.specs.Commands.Check.{IsJudged, Judged, judged_entries}
+use Rattle.iloc_farm.specs.Commands.Check.{IsJudged, Judged, check_header, judged_entries}
+use Rattle.iloc_farm.specs.Listing.{opening_as}
 use Rattle.iloc_farm.specs.Schedules.{AreGreedy}
 use Rattle.iloc_farm.specs.Steps.Limits.{most_cycles, most_proposed_cycles}
 
@@ -32,9 +33,10 @@ with_checked lawful t c = record {
   all_pass = t.all_pass && passes lawful c;
 }
 
--- the line of the totals
-abbrev pub totals_text : Totals → List ℕ
-totals_text t =
+-- the line of the totals, which a table has not
+abbrev pub totals_text : Bool → Totals → List ℕ
+totals_text true t = []
+totals_text false t =
     codes "total " ++ decimal t.cycles ++ codes " ours " ++ decimal t.ours ++ codes " least " ++ decimal t.least
     ++ codes "\n"
 
@@ -51,7 +53,7 @@ pub record AreFew (t : Totals) : Type 0 where
   pub least : t.least ≤ most_cycles * t.blocks
 
 -- the text has the entries of the first blocks, for which this was found, and these proposals are left
-pub record IsCheckedTo (lawful : Bool) (lat : Latencies) (memory : List ℤ) (blocks : List Block) (proposals left : List Proposal)
+pub record IsCheckedTo (lawful csv : Bool) (lat : Latencies) (memory : List ℤ) (blocks : List Block) (proposals left : List Proposal)
     (text : List ℕ) (totals : Totals) : Type 0 where
   pub judged : List Judged
   pub sums : totals ≡ totals_of lawful judged
@@ -59,5 +61,5 @@ pub record IsCheckedTo (lawful : Bool) (lat : Latencies) (memory : List ℤ) (bl
   pub of_blocks : map (λ j. j.block) judged ≡ take (length judged) blocks
   pub of_proposals : map (λ j. j.proposal) judged ++ left ≡ proposals
   pub greedy : AreGreedy lat (take (length judged) blocks) (map (λ j. j.ours) judged)
-  pub right : All (IsJudged lat memory) judged
-  pub listed : text ≡ judged_entries 1 judged
+  pub right : All (IsJudged csv lat memory) judged
+  pub listed : text ≡ opening_as csv check_header ++ judged_entries csv 1 judged

@@ -14,7 +14,7 @@ use crate::commands::totals::Totals;
 use crate::commands::{Finding, Listed};
 use crate::fault::RunFault;
 use crate::lister::initial_memory;
-use crate::listing::push_block_head;
+use crate::listing::table::{push_head, push_opening};
 use crate::listing::text::Listing;
 use crate::reading::task::submission_apart;
 use crate::texts::Texts;
@@ -25,9 +25,12 @@ use iloc_rows::laws::{placed_rows_are_within_limits, submissions_are_within_limi
 use iloc_rows::{RowsFault, Submission, read_submission};
 use iloc_sched::{Heuristic, Scheduler};
 use iloc_text::{NoMemory, read_text_from};
-use iloc_timed::{Latencies, MAX_ROWS};
+use iloc_timed::MAX_ROWS;
 use std::alloc::Global;
 use std::io::Read;
+
+/// What a table begins with.
+const HEADER: &[u8] = b"block,name,verdict,cycles,ours,least,claimed\n";
 
 /// What is said of the proposals for some blocks.
 #[derive(Debug, Drop)]
@@ -48,35 +51,37 @@ fn submission_of(alloc: Global, input: Vec<u8>) -> Result<Submission, RowsFault>
     read_submission(alloc, &input)
 }
 
-/// The listing of what is said of each proposal beside the greedy schedule of its block, with this memory handed in; and at
-/// the end the cycles of all. Where `lawful` is set none passes but by the book.
+/// The listing of what is said of each proposal beside the greedy schedule of its block, with this memory handed in: a table if
+/// the request is for one, or else with the cycles of all at the end.
 fn checked_text(
     alloc: Global,
     submission: Submission,
-    latencies: &Latencies,
+    request: &Request,
     memory: &Memory,
-    lawful: bool,
 ) -> Result<CheckedText, NoMemory>
     requires { AreWithinLimits submission.blocks submission.proposals }
-    ensures { IfOk result (λ found. ListsChecked lawful latencies.now memory.now
+    ensures { IfOk result (λ found. ListsChecked request.now.lawful request.now.csv request.now.latencies memory.now
         submission.blocks submission.proposals found.finding found.text.items) }
 {
     let Submission { blocks, proposals } = submission;
+    let csv = request.csv;
+    let latencies = &request.latencies;
     let mut scheduler = Scheduler::new(alloc);
     let mut text = Vec::new(alloc);
     let mut totals = Totals::none();
+    push_opening(&mut text, csv, HEADER)?;
     for proposal in proposals.into_vec() {
         let block = &blocks.as_slice()[totals.blocks];
         let (ours, least) = scheduler.lend_with_least(block, latencies, Heuristic::Chain)?;
         prove!(proposal.rows.as_slice().len() <= MAX_ROWS);
-        push_block_head(&mut text, totals.blocks + 1, block.name.as_ref())?;
+        push_head(&mut text, csv, totals.blocks + 1, block.name.as_ref())?;
         let checked = push_check(
-            alloc, &mut text, block, &ours, least, proposal, latencies, memory,
+            alloc, &mut text, csv, block, &ours, least, proposal, latencies, memory,
         )?;
         scheduler.take_back(ours);
-        totals.add(&checked, lawful);
+        totals.add(&checked, request.lawful);
     }
-    totals.push_line(&mut text)?;
+    totals.push_line(&mut text, csv)?;
     Ok(CheckedText {
         text,
         finding: Finding::of(totals.all_pass),
@@ -95,13 +100,7 @@ fn listed_rows(alloc: Global, submission: Submission, request: &Request) -> Resu
         proposals: submission.proposals.placed(request.either_slot),
     };
     let memory = initial_memory(alloc, request)?;
-    let checked = checked_text(
-        alloc,
-        submission,
-        &request.latencies,
-        &memory,
-        request.lawful,
-    )?;
+    let checked = checked_text(alloc, submission, request, &memory)?;
     Ok(Listed {
         text: Listing::of_text(alloc, checked.text)?,
         finding: checked.finding,

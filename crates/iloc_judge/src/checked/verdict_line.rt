@@ -1,11 +1,11 @@
-//! The line with a verdict and the numbers that go with it.
+//! The line with a verdict and the numbers that go with it, or the row of a table that has these.
 ghost use Rattle.std.specs.Prelude.{◌≡◌, ◌++◌, OnOk};
 ghost use Rattle.iloc_judge.specs.Listing as listed;
 
 use crate::checked::Checked;
 use crate::comparison::Comparison;
 use crate::verdict::Verdict;
-use iloc_ops::{NoMemory, push_column};
+use iloc_ops::{NoMemory, push_column, push_decimal};
 
 /// The word for how rows compare with their block.
 fn comparison_word(comparison: &Comparison) -> &'static str
@@ -56,5 +56,42 @@ pub(crate) fn push_verdict_line(
     push_column(text, "ours", checked.ours)?;
     push_column(text, "least", checked.least)?;
     push_wrong_claim(text, checked.cycles, claimed)?;
+    Ok(text.extend_from_slice(b"\n")?)
+}
+
+/// Appends `,N`.
+fn push_value(text: &mut Vec<u8>, number: u64) -> Result<(), NoMemory>
+    ensures { OnOk result (text.new.items ≡ text.old.items ++ listed.value number) }
+{
+    text.extend_from_slice(b",")?;
+    push_decimal(text, number)
+}
+
+/// Appends `,X` with the number of cycles that is claimed, or `,` where none is.
+fn push_claim(text: &mut Vec<u8>, claimed: Option<u32>) -> Result<(), NoMemory>
+    ensures { OnOk result (text.new.items ≡ text.old.items ++ listed.claim_value claimed) }
+{
+    match claimed {
+        Some(claim) => push_value(text, u64::from(claim)),
+        None => Ok(text.extend_from_slice(b",")?),
+    }
+}
+
+/// Appends the row of a table with a verdict, the numbers that go with it and the number of cycles that is claimed.
+pub(crate) fn push_verdict_row(
+    text: &mut Vec<u8>,
+    verdict: &Verdict,
+    checked: Checked,
+    claimed: Option<u32>,
+) -> Result<(), NoMemory>
+    ensures { OnOk result (text.new.items
+        ≡ text.old.items ++ listed.verdict_row verdict.now checked claimed) }
+{
+    text.extend_from_slice(b",")?;
+    text.extend_from_slice(verdict_word(verdict).as_bytes())?;
+    push_value(text, checked.cycles)?;
+    push_value(text, checked.ours)?;
+    push_value(text, checked.least)?;
+    push_claim(text, claimed)?;
     Ok(text.extend_from_slice(b"\n")?)
 }

@@ -9,4 +9,6 @@ returns c =
     c.with_arg-command.ensures in
     let either = if_one_argument _ _ c.with_arg-command.result c.with_arg-command-2.result _ apart
     c.either_slot_arg.ensures c.with_arg-command-2.ensures in
-    if_one_argument _ _ c.with_arg-command-2.result c.with_arg.result _ either c.lawful_arg.ensures c.with_arg.ensures
+    let lawful = if_one_argument _ _ c.with_arg-command-2.result c.with_arg-command-3.result _ either
+    c.lawful_arg.ensures c.with_arg-command-3.ensures in
+    if_one_argument _ _ c.with_arg-command-3.result c.with_arg.result _ lawful c.csv_arg.ensures c.with_arg.ensures

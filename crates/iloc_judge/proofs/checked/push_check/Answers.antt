@@ -1,7 +1,7 @@
-use Rattle.std.proofs.Common.{◌++◌, sym, ◌∙◌, append_assoc, refl}
+use Rattle.std.proofs.Common.{◌∙◌, refl}
 use Rattle.iloc_timed.proofs.Standing.{numbered_from}
 use Rattle.iloc_judge.specs.declared.checked.Checked.{Checked}
-use Rattle.iloc_judge.specs.Listing.{verdict_line, detail}
+use Rattle.iloc_judge.specs.Listing.{entry_as}
 use Rattle.iloc_judge.proofs.Counted.{verdict_listed}
 use Rattle.iloc_judge.proofs.checked.push_check.Goals as goal
 
@@ -22,13 +22,13 @@ cycles_of-requires-clause-numbered c =
     rw (c.as_slice-ops.ensures, c.as_slice-rows.ensures.rows)
     (numbered_from c.args.proposal.ops c.args.proposal.rows c.requires.in_range c.requires.once)
 
-pub push_detail-requires : goal.push_detail-requires
-push_detail-requires c =
+pub push_entry-requires : goal.push_entry-requires
+push_entry-requires c =
     let ops = c.in_ok-their_ops.ensures.items ∙ c.as_slice-ops.ensures in
     let rows = c.in_ok-their_rows.ensures.items ∙ c.as_slice-rows.ensures.rows in
-    rw c.as_slice-rows.ensures.rows (verdict_listed c.args.latencies.now c.args.memory.now c.args.block.now.ops
+    verdict_listed c.args.latencies.now c.args.memory.now c.args.block.now.ops
     c.args.proposal.ops c.args.proposal.rows c.in_ok-verdict.verdict c.requires.few c.as_slice-rows.ensures.few
-    (rw (ops, rows) at c.in_ok-verdict.ensures.right))
+    (rw (ops, rows) at c.in_ok-verdict.ensures.right)
 
 pub returns : goal.returns
 returns c =
@@ -41,8 +41,7 @@ returns c =
       ours = c.cycles.result;
       least = c.args.least;
     } in (
-      verdict_line c.in_ok-verdict.verdict checked c.args.proposal.claimed
-          ++ detail c.args.proposal.ops c.args.proposal.rows c.in_ok-verdict.verdict,
+      entry_as c.args.csv c.args.proposal c.in_ok-verdict.verdict checked,
       record {
         verdict = c.in_ok-verdict.verdict;
         right = rw (ops, rows) at c.in_ok-verdict.ensures.right;
@@ -59,7 +58,5 @@ returns c =
             ) refl;
         listed = refl;
       },
-      c.in_ok-push_detail.ensures
-          ∙ rw (c.as_slice-ops.ensures, c.as_slice-rows.ensures.rows, c.in_ok-push_verdict_line.ensures)
-          (append_assoc c.args.text.now.items _ _),
+      c.in_ok-push_entry.ensures,
     )

@@ -1,4 +1,4 @@
-use Rattle.std.proofs.Common.{◌≡◌, ◌<◌, ℕ, length}
+use Rattle.std.proofs.Common.{◌≡◌, ◌<◌, ℕ}
 use Rattle.iloc_timed.specs.Rows.{row_at}
 use Rattle.iloc_validation.specs.ByTheBook.{issued_in}
 use Rattle.iloc_judge.proofs.own.issue_the_same.Given as goal

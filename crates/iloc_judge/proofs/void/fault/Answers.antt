@@ -1,4 +1,4 @@
-use Rattle.std.proofs.Common.{arith, refl, ap, ◌∙◌, ◌≡◌, ◌<◌, ◌+◌, ℕ, zero, suc, List, [], ◌∷◌, length, take, subst}
+use Rattle.std.proofs.Common.{arith, refl, ◌≡◌, ◌<◌, ◌+◌, ℕ, zero, suc, List, [], ◌∷◌, length, take, subst}
 use Rattle.std.specs.Prelude.{slice_index_or}
 use Rattle.iloc_meaning.specs.Outcome.{outcome}
 use Rattle.iloc_meaning.specs.declared.outcome.Outcome.TheVariants.{Fault}
