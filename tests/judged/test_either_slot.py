@@ -27,7 +27,8 @@ def either_cases():
         yield case(f"as_written/{name}", [], block + rows, f"block 1 - units {line}  {bad}\n{total}", NOT_SAME)
     # Each row can be issued as it is. In the first the result on unit 1 stays; exchanged, 1 would be stored.
     kept = TWICE + "[ loadI 1 => r1 ; loadI 2 => r1 ]\n[ loadI 4 => r2 ]\n[ store r1 => r2 ]\n"
-    yield case("kept", ["--either-slot"], kept, "block 1 - same cycles 7 ours 6 least 6\ntotal 7 ours 6 least 6\n", 0)
+    yield case("kept", ["--either-slot"], kept, "block 1 - same cycles 7 ours 6 least 6\n  added 1: row 1: loadI 1 => r1\n"
+               "total 7 ours 6 least 6\n", 0)
     for rows in LEFT:
         last = rows.rsplit("\n", 1)[-1]
         yield units(rows, rows.count("\n") + 1, last)

@@ -126,7 +126,7 @@ LISTED = {
     "second_claim": ("output 4\n[ output 4 ; nop ]\ncycles 1\ncycles 0\n",
                      "block 1 - lawful cycles 1 ours 1 least 1 claimed 0"),
     "both_units": ("output 0\n[ output 0 ; loadI 4 => r1 ]\n",
-                   "block 1 - same cycles 1 ours 1 least 1"),
+                   "block 1 - same cycles 1 ours 1 least 1\n  added 1: row 1: loadI 4 => r1"),
     # Our own rows have both outputs on unit 0, and aren't the only ones that keep the delay between the two.
     "outputs_on_two_units": ("output 0\noutput 4\n[ output 0 ; nop ]\n[ nop ; output 4 ]\n",
                              "block 1 - lawful cycles 2 ours 2 least 2"),
@@ -135,27 +135,44 @@ LISTED = {
                    "block 1 - lawful cycles 2 ours 1 least 1 claimed 3"),
     # What isn't used is left out, so that they take fewer cycles than any lawful schedule.
     "unused_operations": ("loadI 4 => r1\nmult r1, r1 => r2\noutput 4\n[ output 4 ; nop ]\n",
-                          "block 1 - same cycles 1 ours 4 least 4"),
+                          "block 1 - same cycles 1 ours 4 least 4\n  left out 2: loadI 4 => r1"),
     "nop": ("nop\ncycles 0\n", "block 1 - lawful cycles 0 ours 0 least 0"),
     # The word that is stored is there already.
     "word_put_back": ("loadI 4 => r1\nload r1 => r2\nstore r2 => r1\noutput 4\n[ output 4 ; nop ]\ncycles 1\n",
-                      "block 1 - agrees cycles 1 ours 12 least 12"),
+                      "block 1 - agrees cycles 1 ours 12 least 12\n  left out 3: loadI 4 => r1"),
     "outputs_on_both_units": ("output 4\noutput 8\n[ output 8 ; nop ]\n[ nop ; output 4 ]\n",
-                              "block 1 - differs cycles 2 ours 2 least 2\n  output 1: 0 for 9"),
+                              "block 1 - differs cycles 2 ours 2 least 2\n  output 1: 0 for 9\n"
+                              "  early by 2: row 1: output 8 for row 2: output 4"),
     "output_missing": ("output 4\noutput 8\n[ output 4 ; nop ]\ncycles 2\n",
-                       "block 1 - differs cycles 1 ours 2 least 2 claimed 2\n  output 2: none for 0"),
+                       "block 1 - differs cycles 1 ours 2 least 2 claimed 2\n  output 2: none for 0\n"
+                       "  left out 1: output 8"),
     "output_behind_the_last": ("output 8\n[ output 8 ; nop ]\n[ output 4 ; nop ]\n",
-                               "block 1 - differs cycles 2 ours 1 least 1\n  output 2: 9 for none"),
+                               "block 1 - differs cycles 2 ours 1 least 1\n  output 2: 9 for none\n"
+                               "  added 1: row 2: output 4"),
     "store_missing": ("loadI 12 => r1\nsubI r1, 16 => r2\nstore r2 => r1\n",
-                      "block 1 - differs cycles 0 ours 7 least 7\n  word 12: 0 for -4"),
+                      "block 1 - differs cycles 0 ours 7 least 7\n  word 12: 0 for -4\n"
+                      "  left out 3: loadI 12 => r1"),
     "fault_beside_the_output": ("output 4\n[ output 4 ; loadI 5 => r1 ]\n[ load r1 => r1 ; nop ]\n",
-                                "block 1 - differs cycles 6 ours 1 least 1\n  fault"),
-    "fault_missing": ("output 5\n", "block 1 - void cycles 0 ours 1 least 1\n  the block faults: output 5"),
+                                "block 1 - differs cycles 6 ours 1 least 1\n  fault\n"
+                                "  added 2: row 1: loadI 5 => r1"),
+    "fault_missing": ("output 5\n", "block 1 - void cycles 0 ours 1 least 1\n  the block faults: output 5\n"
+                      "  left out 1: output 5"),
     # On the memory handed in both words are 0.
     "output_of_another_word": ("output 65532\n[ output 65528 ; nop ]\n",
-                               "block 1 - differs cycles 1 ours 1 least 1\n  output 1: 1 for 2 with --at 65528 1 2"),
+                               "block 1 - differs cycles 1 ours 1 least 1\n  output 1: 1 for 2 with --at 65528 1 2\n"
+                               "  left out 1: output 65532\n  added 1: row 1: output 65528"),
     # Two addresses in one register, of which the second is there before the first is read.
-    "address_overwritten": (TWO_ADDRESSES, "block 1 - differs cycles 10 ours 10 least 10\n  output 1: 0 for 7"),
+    "address_overwritten": (TWO_ADDRESSES, "block 1 - differs cycles 10 ours 10 least 10\n  output 1: 0 for 7\n"
+                            "  reads r1: row 3: store r2 => r1 from row 2: loadI 1028 => r1 for row 1: loadI 1024 => r1"),
+    "product_known": (PRODUCT + "[ loadI 42 => r1 ; loadI 1024 => r0 ]\n[ store r1 => r0 ]\n" + "[ ]\n" * 4 + "[ output 1024 ]\n",
+                      "block 1 - same cycles 7 ours 10 least 10\n  left out 3: loadI 6 => r1\n  added 1: row 1: loadI 42 => r1"),
+    "register_at_first": ("add r1, r1 => r2\nloadI 4 => r1\nstore r2 => r1\n"
+                          "[ loadI 4 => r1 ]\n[ add r1, r1 => r2 ]\n[ store r2 => r1 ]\n",
+                          "block 1 - differs cycles 7 ours 6 least 6\n  word 4: 8 for 0\n"
+                          "  reads r1: row 2: add r1, r1 => r2 from row 1: loadI 4 => r1 for no row"),
+    "register_of_nobody": ("loadI 4 => r1\nstore r1 => r1\n[ loadI 4 => r1 ]\n[ store r2 => r1 ]\n",
+                           "block 1 - differs cycles 6 ours 6 least 6\n  word 4: 0 for 4\n"
+                           "  reads r2: row 2: store r2 => r1 from no row for row 1: loadI 4 => r1"),
     "load_on_unit_1": ("loadI 4 => r1\nload r1 => r2\n[ loadI 4 => r1 ; nop ]\n[ nop ; load r1 => r2 ]\n",
                        "block 1 - units cycles 6 ours 6 least 6\n  row 2: [ nop ; load r1 => r2 ]"),
     "two_outputs_in_a_row": ("output 4\n[ output 4 ; output 8 ]\n[ mult r1, r1 => r2 ; nop ]\ncycles 1\n",
@@ -176,24 +193,28 @@ LISTED = {
     "no_head": ("output 0\n[output 0;nop]\ncycles 9\ntotal 3", "block 1 - lawful cycles 1 ours 1 least 1 claimed 9"),
     "no_head_of_a_name": ("main:\noutput 0\n[output 0;nop]\ncycles 9\ntotal 3",
                           "block 1 main lawful cycles 1 ours 1 least 1 claimed 9"),
-    "no_row": ("a: output 0\nb:", "block 1 a differs cycles 0 ours 1 least 1\n  output 1: none for 0", "block 2 b lawful cycles 0 ours 0 least 0"),
+    "no_row": ("a: output 0\nb:", "block 1 a differs cycles 0 ours 1 least 1\n  output 1: none for 0\n"
+               "  left out 1: output 0", "block 2 b lawful cycles 0 ours 0 least 0"),
     "no_row_and_a_total": ("a:\nb: nop\ntotal 0\n", "block 1 a lawful cycles 0 ours 0 least 0",
                            "block 2 b lawful cycles 0 ours 0 least 0"),
     "blanks_and_comments": ("output 0\r\n block 1 -//\n\tcycles\t05 // claimed\r\n// \x00\xff\n\n [\toutput 00 ;nop\r]//\r\n"
                             "[nop;\rnop\t]\r\ncycles 1\n[ nop ; add r1,r02 =>r3 ]\n\n",
-                            "block 1 - same cycles 3 ours 1 least 1 claimed 1"),
+                            "block 1 - same cycles 3 ours 1 least 1 claimed 1\n  added 1: row 3: add r1, r2 => r3"),
     "blanks_in_a_row_that_is_shown": ("nop\n [\tmult r1,r02 =>r3;nop\r]//\r\n",
                                       "block 1 - units cycles 3 ours 0 least 0\n  row 1: [ mult r1, r2 => r3 ; nop ]"),
     "row_of_another_block": ("A: output 4\nB: output 8\nblock 1 A\n[ output 4 ; nop ]\nblock 2 B\n[ output 4 ; nop ]\n",
                              "block 1 A lawful cycles 1 ours 1 least 1",
-                             "block 2 B differs cycles 1 ours 1 least 1\n  output 1: 9 for 0"),
+                             "block 2 B differs cycles 1 ours 1 least 1\n  output 1: 9 for 0\n"
+                             "  left out 1: output 8\n  added 1: row 1: output 4"),
     "blocks_passed_over": ("a:\nb:\nc:\nblock 2 b\n[ nop ; output 4 ]\n", "block 1 a lawful cycles 0 ours 0 least 0",
-                           "block 2 b void cycles 1 ours 0 least 0\n  the block shows nothing",
+                           "block 2 b void cycles 1 ours 0 least 0\n  the block shows nothing\n  added 1: row 1: output 4",
                            "block 3 c lawful cycles 0 ours 0 least 0"),
     "largest_numbers": ("a:\ncycles 2147483647\ntotal 2147483647\n[ output 2147483647 ; nop ]",
-                        "block 1 a void cycles 1 ours 0 least 0 claimed 2147483647\n  the block shows nothing"),
+                        "block 1 a void cycles 1 ours 0 least 0 claimed 2147483647\n  the block shows nothing\n"
+                        "  added 1: row 1: output 2147483647"),
     "fault_left_out": (BIG_ADDRESS + "[ loadI 100000 => r0 ; nop ]\n[ output 100000 ; nop ]\n",
-                       "block 1 - void cycles 2 ours 10 least 10\n  the block faults: store r3 => r0"),
+                       "block 1 - void cycles 2 ours 10 least 10\n  the block faults: store r3 => r0\n"
+                       "  left out 4: loadI 6 => r1"),
 }
 
 # Each is line 4, after a claim.
@@ -231,11 +252,20 @@ def spread(text, apart=6, product_unit=1):
 
 
 def judged(name, text, verdict, *below):
-    """A case of one block with its rows, the verdict, and what is listed below it."""
-    given = text.encode("latin-1")
+    """A case of one block with its rows, the verdict, and what is listed below it before why the rows aren't by the book."""
+    return Check(f"judged/{name}", wrongly_judged, text.encode("latin-1"), verdict, below)
+
+
+def wrongly_judged(given, verdict, below):
     entry, = entries_of(given, USUAL, words_from(4, [9]))
-    out = (entry.text(verdict, *below) + total([entry])).encode()
-    return Run(f"judged/{name}", WORDS, given, out, b"", status_of([verdict]))
+    end = ending(WORDS, given)
+    lines = [it[2:] for it in end[1].decode().split("\n")[1:-2]]
+    why = lines[len(below):]
+    due = status_of([verdict]), (entry.text(verdict, *below, *why) + total([entry])).encode(), b""
+    if end != due:
+        yield f"{told(end)} in place of {told(due)}"
+    elif not entry.says_why(why):
+        yield f"{why} isn't why the rows aren't by the book"
 
 
 def isnt_passed(text):
@@ -313,7 +343,8 @@ def refusals():
 def at_the_limits():
     full = "a:\nb:\nblock 1 a\n" + "[ nop ; output 0 ]\n" * MOST_OPERATIONS
     many = f"line 10004: more than {MOST_OPERATIONS} operations in a block"
-    a = f"block 1 a void cycles {MOST_OPERATIONS} ours 0 least 0\n  the block shows nothing"
+    a = (f"block 1 a void cycles {MOST_OPERATIONS} ours 0 least 0\n  the block shows nothing\n"
+         f"  added {MOST_OPERATIONS}: row 1: output 0")
     yield listed("most_operations", full + "[ nop ; nop ]", a, "block 2 b lawful cycles 0 ours 0 least 0")
     yield listed("most_operations_of_one", full + "block 2 b\n[ output 0 ; output 0 ]", a,
                  "block 2 b units cycles 1 ours 0 least 0\n  row 1: [ output 0 ; output 0 ]")

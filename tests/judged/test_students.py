@@ -5,13 +5,13 @@ from functools import cache
 from cases.test_drawn import ODD
 from cases.test_stored import stored_cases
 from forms import USUAL
-from harness.program import TESTED, Run, ending, told
+from harness.program import TESTED, ending, told
 from harness.suite import Check, table
 from hostile.test_texts import KINDS, changed_texts
 from judged.labs import Given
 from judged.students import RIGHT, WRONG, ours
 from oracle.drawn import lab_block, made_block
-from oracle.judge import AT, ENTRY, NOT_SAME, entries_of, proposed, request, status_of, total, wrong_ending
+from oracle.judge import AT, ENTRY, NOT_SAME, entries_of, proposed, request, wrong_ending
 from oracle.machine import cycles, words_from
 from oracle.operations import text_of, words_for
 from oracle.scheduler import Schedule
@@ -77,11 +77,11 @@ def judging_cases():
 
 def listed(name, text, latencies, words=()):
     """A case of a text for which all verdicts are known."""
-    entries = entries_of(text, latencies, words_from(AT, words))
-    said = [entry.settled() for entry in entries]
-    out = [entry.text(verdict, *filter(None, [line])) for entry, (verdict, line) in zip(entries, said)]
-    return Run(name, request(latencies, words), text, "".join([*out, total(entries)]).encode(), b"",
-               status_of(verdict for verdict, _ in said))
+    return Check(name, wrongly_listed, text, latencies, words)
+
+
+def wrongly_listed(text, latencies, words):
+    return wrong_ending(ending(request(latencies, words), text), text, latencies, words)
 
 
 def settled(kind):

@@ -3,7 +3,8 @@
 What is right is worked out anew: texts are read by reader.py, rows and blocks are run on machine.py, our cycles and
 the least ones come of scheduler.py, and what is by the book of book.py. So `lawful` has to be said exactly of rows by the
 book, `void` of blocks that fault or show nothing, a verdict may never be `same` where a run differs on some memory,
-`differs` has to name the place that differs, and schedules of the kinds in students.py that are right have to be found so.
+`differs` has to name the place that differs, what is said of rows that aren't by the book has to be so under some pairing,
+and schedules of the kinds in students.py that are right have to be found so.
 """
 import re
 from functools import cache
@@ -98,8 +99,15 @@ class Entry:
             yield f"{got[0]!r} in place of {due} {line}"
         elif not due:
             yield from self.wrong_verdict(verdict, first, is_right)
-        if below:
-            yield f"{got[0]!r} has something more below it"
+        if not self.says_why(below):
+            yield f"{got[0]!r} doesn't say why the rows aren't by the book"
+
+    def says_why(self, lines):
+        """Whether lines say why the rows aren't by the book, all that has to be said. Nothing is said of rows that are, or that
+        break the rules of the units."""
+        if self.bad or self.is_lawful:
+            return not lines
+        return book.Reasons(self.block.ops, self.block.rows, self.latencies).are(lines)
 
     def wrong_verdict(self, verdict, first, is_right):
         """What is wrong with a verdict that nothing settles."""

@@ -4,6 +4,7 @@ pub mod Laws
 pub mod Listing
 pub mod Memory
 pub mod Place
+pub mod Reasons
 pub mod Verdict
 pub mod Void
 pub mod Steps

@@ -19,6 +19,7 @@ use Rattle.iloc_judge.specs.declared.verdict.Verdict.TheVariants.{Units, Lawful,
 use Rattle.iloc_judge.specs.declared.void.Void.{Void}
 use Rattle.iloc_judge.specs.declared.void.Void.TheVariants.{Faults, ShowsNothing}
 use Rattle.iloc_judge.specs.declared.checked.Checked.{Checked}
+use Rattle.iloc_judge.specs.Reasons.{reason_told}
 
 -- The line of the verdict
 
@@ -103,11 +104,11 @@ comparison_told (of.DiffersOn probe place) = place_told place ++ probe_told prob
 abbrev pub bad_row : List Op → List Row → ℕ → List ℕ
 bad_row ops rows c = codes "  row " ++ decimal (c + 1) ++ codes ": " ++ row_line ops (row_at rows c)
 
--- what is said of these operations and rows below the line of the verdict
+-- what is said of these operations and rows below the line of the verdict: where it comes from, and why they aren't lawful
 abbrev pub detail : List Op → List Row → Verdict → List ℕ
 detail ops rows (Units c) = bad_row ops rows c
 detail ops rows Lawful = []
-detail ops rows (Unlawful reason found) = comparison_told found
+detail ops rows (Unlawful reason found) = comparison_told found ++ reason_told reason
 
 -- What is listed of a proposal: a row of a table, where one is asked for, and else the line of the verdict with what is said
 -- below it.

@@ -8,6 +8,7 @@ ghost use Rattle.iloc_judge.specs.Listing.{entry_as};
 ghost use Rattle.iloc_judge.specs.Steps.Counted.{CanBeListed};
 
 mod detail;
+mod reason;
 mod verdict_line;
 
 use crate::comparison::Comparison;
@@ -88,7 +89,8 @@ fn push_entry(
 ///
 /// After a refusal a part of it may have been appended.
 ///
-/// Promise: what is listed is a verdict that holds as it is stated, with the cycles, and what our schedule issues is lawful.
+/// Promise: what is listed is a verdict that holds as it is stated, with the cycles and with a reason, which holds too, for
+/// which the rows aren't by the book; and what our schedule issues is lawful.
 pub fn push_check(
     alloc: Global,
     text: &mut Vec<u8>,

@@ -1,6 +1,9 @@
 -- Which verdicts can be listed: outputs and rows are counted from 1.
-use Rattle.std.specs.Prelude.{◌+◌, ◌<◌, ◌^◌, List, length}
+use Rattle.std.specs.Prelude.{◌+◌, ◌<◌, ◌^◌, List, length, IfSome}
 use Rattle.iloc_timed.specs.declared.row.Row.{Row}
+use Rattle.iloc_validation.specs.declared.finding.Issue.{Issue}
+use Rattle.iloc_validation.specs.declared.finding.Reason.{Reason}
+use Rattle.iloc_validation.specs.declared.finding.Reason.TheVariants.{Counts, Early, Reads}
 use Rattle.iloc_judge.specs.declared.comparison.Comparison.{Comparison}
 use Rattle.iloc_judge.specs.declared.comparison.Comparison.TheVariants as of
 use Rattle.iloc_judge.specs.declared.place.Place.{Place}
@@ -22,8 +25,17 @@ CanBeCompared of.Agrees = Unit {0}
 CanBeCompared (of.Differs place) = IsCounted place
 CanBeCompared (of.DiffersOn probe place) = IsCounted place
 
--- a bad row is one of the rows, and the number of an output fits
+-- the number of its row fits 64 bits
+abbrev pub IsNumbered : Issue → Type 0
+IsNumbered issue = issue.cycle + 1 < 2 ^ 64
+
+abbrev pub CanBeTold : Reason → Type 0
+CanBeTold (Counts left_out added) = IfSome added (λ it. IsNumbered it.issue)
+CanBeTold (Early by issue needed) = IsNumbered issue × IsNumbered needed
+CanBeTold (Reads register issue from wanted) = IsNumbered issue × IfSome from IsNumbered × IfSome wanted IsNumbered
+
+-- a bad row is one of the rows, and the numbers of an output and of the rows that are named fit
 abbrev pub CanBeListed : List Row → Verdict → Type 0
 CanBeListed rows (Units c) = c < length rows
 CanBeListed rows Lawful = Unit {0}
-CanBeListed rows (Unlawful reason found) = CanBeCompared found
+CanBeListed rows (Unlawful reason found) = CanBeTold reason × CanBeCompared found

@@ -5,6 +5,7 @@ ghost use Rattle.std.specs.Fmt.{decimal};
 ghost use Rattle.iloc_judge.specs.Listing as listed;
 ghost use Rattle.iloc_judge.specs.Steps.Counted.{IsCounted, CanBeCompared, CanBeListed};
 
+use super::reason::push_reason;
 use crate::comparison::Comparison;
 use crate::place::Place;
 use crate::refutation::probe::Probe;
@@ -136,6 +137,9 @@ pub(crate) fn push_detail(
     match verdict {
         Verdict::Units(row) => push_bad_row(text, ops, rows, *row),
         Verdict::Lawful => Ok(()),
-        Verdict::Unlawful(_, comparison) => push_comparison(text, comparison),
+        Verdict::Unlawful(reason, comparison) => {
+            push_comparison(text, comparison)?;
+            push_reason(text, reason)
+        }
     }
 }
