@@ -14,7 +14,7 @@ COMMENT = re.compile(r"//.*")
 CYCLES = re.compile(r"cycles (\d+)(?: least (\d+).*)?")
 CHAINED = re.compile(r"chain (?:-|(\d+(?: \d+)*))")
 EXPLAINED = re.compile(r"(\d+) cycle (\d+) unit ([01]) ready (\d+) after (-|\d+(?:,\d+)*) priority (\d+) "
-                       r"(.+?) ; (.+)")
+                       r"earliest \d+ slack \d+ held (?:-|free|\d+) (.+?) ; (.+)")
 NUMBER = re.compile(r"\d+")
 NOTHING = re.compile(r"total \d+.*")
 

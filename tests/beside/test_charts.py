@@ -8,7 +8,7 @@ from oracle.drawn import lab_block
 from oracle.operations import text_of
 
 SVG = "{http://www.w3.org/2000/svg}"
-# The example of docs/LANGUAGE.md, whose table there gives cycles and reasons.
+# The stored case product_and_sum, whose listings there give cycles and reasons.
 BLOCK = b"""loadI 4 => r1
 loadI 8 => r2
 mult r1, r2 => r3
@@ -22,13 +22,13 @@ ISSUED = ["loadI 4 => r0: unit 0, issued at 0, arrives at 1", "loadI 8 => r1: un
           "add r2, r3 => r4: unit 0, issued at 6, arrives at 7", "store r4 => r1: unit 0, issued at 7, arrives at 12",
           "output 8: unit 0, issued at 12, arrives at 13"]
 EXPLAINED = b"""block 1 -
-0 cycle 0 unit 0 ready 0 after - priority 13 loadI 4 => r1 ; loadI 4 => r0
-1 cycle 0 unit 1 ready 0 after - priority 11 loadI 8 => r2 ; loadI 8 => r1
-2 cycle 1 unit 1 ready 1 after 0,1 priority 10 mult r1, r2 => r3 ; mult r0, r1 => r2
-3 cycle 1 unit 0 ready 1 after 0 priority 12 load r1 => r4 ; load r0 => r3
-4 cycle 6 unit 0 ready 6 after 3 priority 7 add r3, r4 => r5 ; add r2, r3 => r4
-5 cycle 7 unit 0 ready 7 after 4 priority 6 store r5 => r2 ; store r4 => r1
-6 cycle 12 unit 0 ready 12 after 5 priority 1 output 8 ; output 8
+0 cycle 0 unit 0 ready 0 after - priority 13 earliest 0 slack 0 held - loadI 4 => r1 ; loadI 4 => r0
+1 cycle 0 unit 1 ready 0 after - priority 11 earliest 0 slack 2 held - loadI 8 => r2 ; loadI 8 => r1
+2 cycle 1 unit 1 ready 1 after 0,1 priority 10 earliest 1 slack 2 held - mult r1, r2 => r3 ; mult r0, r1 => r2
+3 cycle 1 unit 0 ready 1 after 0 priority 12 earliest 1 slack 0 held - load r1 => r4 ; load r0 => r3
+4 cycle 6 unit 0 ready 6 after 3 priority 7 earliest 6 slack 0 held - add r3, r4 => r5 ; add r2, r3 => r4
+5 cycle 7 unit 0 ready 7 after 4 priority 6 earliest 7 slack 0 held - store r5 => r2 ; store r4 => r1
+6 cycle 12 unit 0 ready 12 after 5 priority 1 earliest 12 slack 0 held - output 8 ; output 8
 cycles 13 least 13 optimal
 chain 0 3 4 5 6
 total 13

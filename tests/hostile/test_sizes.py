@@ -221,8 +221,8 @@ def slow_listing(command, blocks):
 def slow_reason(number):
     """The line of one of `slow_loads`, which waits for the one before it."""
     cycle, before = SLOWEST * number, b"%d" % (number - 1) if number else b"-"
-    return (b"%d cycle %d unit 0 ready %d after %s priority %d load r0 => r0 ; load r%d => r%d\n"
-            % (number, cycle, cycle, before, SLOWEST * MOST_OPERATIONS - cycle, number, number + 1))
+    return (b"%d cycle %d unit 0 ready %d after %s priority %d earliest %d slack 0 held - load r0 => r0 ; load r%d => r%d\n"
+            % (number, cycle, cycle, before, SLOWEST * MOST_OPERATIONS - cycle, cycle, number, number + 1))
 
 
 def in_little_memory():

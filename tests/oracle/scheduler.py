@@ -101,6 +101,19 @@ class Schedule:
         ended = {i for i, d in self.before[j] if self.places[i][0] + d == ready}
         return ",".join(map(str, sorted(ended, key=lambda i: self.places[i]))) or "-"
 
+    def keeper(self, j, cycle):
+        """What keeps operation j out of the row of a cycle: the first that can't be beside it, or that on unit 0 of a full row."""
+        there = [i for _, i in sorted((unit, i) for i, (at, unit) in self.places.items() if at == cycle)]
+        barring = [i for i in there if not beside(self.ops[i], self.ops[j])]
+        return (barring + there[:1] if len(there) == 2 else barring + [None])[0]
+
+    def held(self, j, ready):
+        cycle = self.places[j][0]
+        if cycle == ready:
+            return "-"
+        keeper = self.keeper(j, cycle - 1)
+        return "free" if keeper is None else keeper
+
     def chain(self):
         if not self.ops:
             return "-"
@@ -119,12 +132,13 @@ class Schedule:
         return least_of(self.ops, self.pairs, self.latencies)
 
     def lines(self):
+        cycles, least, starts = self.cycles(), self.least(), starts_of(self.ops, self.pairs)
         for j, op in enumerate(self.ops):
             cycle, unit = self.places[j]
             ready = self.ready(j)
-            yield (f"{j} cycle {cycle} unit {unit} ready {ready} after {self.after(j, ready)}"
-                   f" priority {self.ranks[j]} {self.originals[j]} ; {op}")
-        cycles, least = self.cycles(), self.least()
+            slack = cycles - cycle - self.priorities[j]
+            yield (f"{j} cycle {cycle} unit {unit} ready {ready} after {self.after(j, ready)} priority {self.ranks[j]}"
+                   f" earliest {starts[j]} slack {slack} held {self.held(j, ready)} {self.originals[j]} ; {op}")
         yield f"cycles {cycles} least {least}{' optimal' if cycles == least else ''}"
         yield f"chain {self.chain()}"
 

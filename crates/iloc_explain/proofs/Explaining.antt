@@ -9,9 +9,11 @@ use Rattle.iloc_timed.specs.declared.row.Row.{Row}
 use Rattle.iloc_timed.specs.Latency.{latency}
 use Rattle.iloc_timed.specs.Rows.{row_at, issue_cycle}
 use Rattle.iloc_meaning.specs.Trace.{op_at}
+use Rattle.iloc_sched.specs.Starts.{start}
 use Rattle.iloc_explain.specs.declared.explanation.Explained.{Explained}
 use Rattle.iloc_explain.specs.declared.latest.Latest.{Latest}
-use Rattle.iloc_explain.specs.Explained.{IsExplained, AreExplained, unit_of}
+use Rattle.iloc_explain.specs.Explained.{IsExplained, AreExplained, slack_in, unit_of}
+use Rattle.iloc_explain.specs.Holding.{holder}
 use Rattle.iloc_explain.specs.Waiting.{waited_until}
 use Rattle.iloc_explain.specs.Steps.Latest.{AreLatest, Notes, ready_after}
 use Rattle.iloc_explain.specs.Steps.SoFar.{IsExplainedSoFar}
@@ -67,8 +69,9 @@ noted_cycle cycles rows count j c read size within each =
 pub is_explained : (prios : List ℕ) (lat : Latencies) (ops lent : List Op) (rows : List Row) (j : ℕ) (latest : Latest) (other : Op) (row : Row)
     (e : Explained) → AreLatest lat ops rows j latest → j < length ops → lent ≡ ops → e.cycle ≡ issue_cycle rows j
     → row ≡ row_at rows e.cycle → e.unit ≡ unit_of row j → e.ready ≡ ready_after latest (get_or lent j other)
-    → e.after.items ≡ waited_until lat ops rows j e.ready → e.priority ≡ slice_index prios j → IsExplained prios lat ops rows j e
-is_explained prios lat ops lent rows j latest other row e are within same at stands unit ready after prio =
+    → e.after.items ≡ waited_until lat ops rows j e.ready → e.priority ≡ slice_index prios j → e.earliest ≡ start lat ops j
+    → e.slack ≡ slack_in lat ops rows j → e.held ≡ holder ops rows j e.cycle e.ready → IsExplained prios lat ops rows j e
+is_explained prios lat ops lent rows j latest other row e are within same at stands unit ready after prio first_start slack held =
     let there : get_or ops j other ≡ op_at ops j = get_or_default ops j other Nop within in
     let first : e.ready ≡ ready_after latest (op_at ops j) = rw (same, there) at ready in
     record {
@@ -77,6 +80,9 @@ is_explained prios lat ops lent rows j latest other row e are within same at sta
       ready = rw first (is_ready lat ops rows j latest are within);
       after = after;
       priority = prio;
+      earliest = first_start;
+      slack = slack;
+      held = held ∙ ap (λ c. holder ops rows j c e.ready) at;
     }
 
 -- the latest ones, with an operation that was read

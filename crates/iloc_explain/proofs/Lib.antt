@@ -5,6 +5,7 @@ pub mod LatestOnes
 pub mod Links
 pub mod ReadyCycles
 pub mod Waits
+pub mod EarliestStarts
 pub mod Explaining
 pub mod Lines
 pub mod OneText

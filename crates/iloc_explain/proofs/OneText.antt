@@ -11,6 +11,7 @@ use Rattle.iloc_sched.specs.Least.{least}
 use Rattle.iloc_sched.specs.Renaming.{without_nops}
 use Rattle.iloc_explain.specs.declared.explanation.Explained.{Explained}
 use Rattle.iloc_explain.specs.Explained.{IsExplained}
+use Rattle.iloc_explain.specs.Holding.{holder}
 use Rattle.iloc_explain.specs.Laws.{SchedulesHaveOneExplanation}
 use Rattle.iloc_explain.specs.Listing.{explained_line, explained_lines, cycles_line, chain_line}
 use Rattle.iloc_explain.specs.Waiting.{IsReadyAt, waited_until}
@@ -42,7 +43,10 @@ line_same prios lat ops rows j e f op new is also =
     let cycle : e.cycle ≡ f.cycle = is.cycle ∙ sym also.cycle in
     let unit : e.unit ≡ f.unit = is.unit ∙ sym also.unit in
     let priority : e.priority ≡ f.priority = is.priority ∙ sym also.priority in
-    rw (cycle, unit, ready, after, priority) refl
+    let earliest : e.earliest ≡ f.earliest = is.earliest ∙ sym also.earliest in
+    let slack : e.slack ≡ f.slack = is.slack ∙ sym also.slack in
+    let held : e.held ≡ f.held = is.held ∙ (ap (holder ops rows j (issue_cycle rows j)) ready ∙ sym also.held) in
+    rw (cycle, unit, ready, after, priority, earliest, slack, held) refl
 
 lines_same : (prios : List ℕ) (lat : Latencies) (ops : List Op) (rows : List Row) (k : ℕ) (es fs : List Explained) (block renamed : List Op)
     → length es ≡ length fs → ((j : ℕ) (e : Explained) → slice_get es j ≡ Some e → IsExplained prios lat ops rows (k + j) e)

@@ -1,5 +1,6 @@
 pub mod Waiting
 pub mod Chain
+pub mod Holding
 pub mod Explained
 pub mod Laws
 pub mod Listing

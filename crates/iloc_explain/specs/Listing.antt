@@ -15,6 +15,8 @@ use Rattle.iloc_sched.specs.Least.{least}
 use Rattle.iloc_explain.specs.declared.explanation.Explained.{Explained}
 use Rattle.iloc_explain.specs.declared.explanation.Unit.{Unit as unit_type}
 use Rattle.iloc_explain.specs.declared.explanation.Unit.TheVariants as unit
+use Rattle.iloc_explain.specs.declared.holding.Holder.{Holder}
+use Rattle.iloc_explain.specs.declared.holding.Holder.TheVariants.{Delays, Operation, Nothing}
 use Rattle.iloc_explain.specs.Chain.{IsLongestChain}
 use Rattle.iloc_explain.specs.Explained.{AreExplained}
 
@@ -27,12 +29,24 @@ abbrev pub unit_number : unit_type → ℕ
 unit_number unit.Zero = 0
 unit_number unit.One = 1
 
--- `J cycle C unit U ready R after I,I priority P OPERATION ; RENAMED`
+-- `-` for delays, the number of an operation, `free` for nothing
+abbrev pub holder_text : Holder → List ℕ
+holder_text Delays = codes "-"
+holder_text (Operation i) = decimal i
+holder_text Nothing = codes "free"
+
+-- ` priority P earliest E slack S held H`
+abbrev pub measures : Explained → List ℕ
+measures e =
+    column (codes "priority") e.priority ++ column (codes "earliest") e.earliest ++ column (codes "slack") e.slack
+    ++ codes " held " ++ holder_text e.held
+
+-- `J cycle C unit U ready R after I,I priority P earliest E slack S held H OPERATION ; RENAMED`
 abbrev pub explained_line : ℕ → Explained → Op → Op → List ℕ
 explained_line j e op renamed =
     decimal j ++ column (codes "cycle") e.cycle ++ column (codes "unit") (unit_number e.unit)
     ++ column (codes "ready") e.ready ++ codes " after " ++ comma_separated e.after.items
-    ++ column (codes "priority") e.priority ++ codes " " ++ spelling op ++ codes " ; " ++ spelling renamed ++ codes "\n"
+    ++ measures e ++ codes " " ++ spelling op ++ codes " ; " ++ spelling renamed ++ codes "\n"
 
 -- the lines of operations from number j on: each as it stands in the block, and as it is renamed
 abbrev pub explained_lines : ℕ → List Explained → List Op → List Op → List ℕ
@@ -51,7 +65,7 @@ chain_line (i ∷ chain) = codes "chain" ++ flat_map (λ j. codes " " ++ decimal
 abbrev pub optimal_mark : ℕ → ℕ → List ℕ
 optimal_mark taken bound = if taken == bound then codes " optimal" else []
 
--- `cycles C least L`: cycles and their lower bound
+-- `cycles C least L`, and ` optimal` where it holds: cycles and their lower bound
 abbrev pub cycles_line : ℕ → ℕ → List ℕ
 cycles_line taken bound =
     codes "cycles " ++ decimal taken ++ codes " least " ++ decimal bound ++ optimal_mark taken bound ++ codes "\n"

@@ -1,12 +1,15 @@
 //! What is said of each operation of a schedule.
-ghost use Rattle.std.specs.Prelude.{◌≡◌, length, IfOk};
+ghost use Rattle.std.specs.Prelude.{◌≡◌, ◌-◌, length, IfOk};
+ghost use Rattle.iloc_sched.specs.Priority.{priorities as all_priorities};
+ghost use Rattle.iloc_sched.specs.Starts.{starts as all_starts};
 ghost use Rattle.iloc_explain.specs.Explained.{AreExplained, unit_of};
 
+use crate::holding::{Holder, holder_of};
 use crate::issued::issue_cycles;
 use crate::latest::Latest;
 use crate::waited::waited_until;
 use iloc_ops::NoMemory;
-use iloc_timed::{Latencies, Row, Schedule, latency};
+use iloc_timed::{Latencies, Row, Schedule, cycles, latency};
 use std::alloc::Global;
 
 /// One of the two units that issue operations.
@@ -31,6 +34,13 @@ pub struct Explained {
     pub after: Vec<usize>,
     /// Its priority, by which it was ranked.
     pub priority: u64,
+    /// The first cycle at which its delays alone would let it be issued.
+    pub earliest: u64,
+    /// How many cycles later it could be issued for the delays behind it: the cycles of the schedule less its own and less
+    /// the longest chain of delays from it.
+    pub slack: u64,
+    /// What kept it out of the row before.
+    pub held: Holder,
 }
 
 /// The unit on which a row issues operation i.
@@ -43,28 +53,41 @@ fn unit_of(row: Row, i: usize) -> Unit
     }
 }
 
-/// Explains each operation of a schedule of renamed operations, by the priorities that ranked them, in the order of their
-/// numbers.
+/// How many cycles later an operation could be issued, from which so long a chain of delays leads.
+fn slack_of(total: u64, cycle: usize, chain: u64) -> u64
+    ensures { result ≡ total - cycle - chain }
+{
+    total.saturating_sub(cycle as u64).saturating_sub(chain)
+}
+
+/// Explains each operation of a schedule of renamed operations, in the order of their numbers, by the priorities that ranked
+/// them, the longest chains of delays from them, and their starts, the earliest cycles that delays leave.
 ///
 /// Promise: Each operation is listed with its cycle of issue, its unit, its priority, the first cycle at which all that it
-/// waits for is over, and just the operations for which it waited until then.
+/// waits for is over, just the operations for which it waited until then, its start, its slack, and what kept it out of the
+/// row before.
 pub fn explain(
     alloc: Global,
     schedule: &Schedule,
     latencies: &Latencies,
     priorities: &[u64],
+    chains: &[u64],
+    starts: &[u64],
 ) -> Result<Vec<Explained>, NoMemory>
-    requires { length priorities.now ≡ length schedule.now.ops }
+    requires ranked { length priorities.now ≡ length schedule.now.ops }
+    requires chains { chains.now ≡ all_priorities latencies.now schedule.now.ops }
+    requires starts { starts.now ≡ all_starts latencies.now schedule.now.ops }
     ensures { IfOk result (λ explained.
         AreExplained priorities.now latencies.now schedule.now.ops schedule.now.rows explained.items) }
 {
     let ops = schedule.ops();
     let rows = schedule.rows();
-    let cycles = issue_cycles(alloc, schedule)?;
+    let issued = issue_cycles(alloc, schedule)?;
+    let total = cycles(schedule, latencies);
     let mut latest = Latest::new(alloc);
     let mut explained = Vec::new(alloc);
     for (j, op) in ops.iter().enumerate() {
-        let cycle = cycles[j];
+        let cycle = issued[j];
         let ready = latest.ready(op) as usize;
         let after = waited_until(alloc, schedule, latencies, j, ready)?;
         explained.push(Explained {
@@ -73,6 +96,9 @@ pub fn explain(
             ready,
             after,
             priority: priorities[j],
+            earliest: starts[j],
+            slack: slack_of(total, cycle, chains[j]),
+            held: holder_of(schedule, j, cycle, ready),
         })?;
         latest.note(op, cycle as u64, cycle as u64 + latency(op, latencies))?;
     }

@@ -3,12 +3,15 @@
 
 mod chain;
 mod explanation;
+mod holding;
 mod issued;
 mod latest;
 pub mod laws;
 mod listing;
+mod starts;
 mod waited;
 
 pub use chain::longest_chain;
 pub use explanation::{Explained, Unit, explain};
+pub use holding::Holder;
 pub use listing::push_explanation;

@@ -11,6 +11,8 @@ ghost use Rattle.iloc_explain.specs.Listing.{IsExplanation};
 
 use crate::chain::longest_chain;
 use crate::explanation::{Explained, Unit, explain};
+use crate::holding::Holder;
+use crate::starts::starts;
 use iloc_ops::{Block, MAX_OPS, NoMemory, Op, push_column, push_decimal, push_op};
 use iloc_sched::{Heuristic, priorities, priorities_by};
 use iloc_timed::{Latencies, Schedule, cycles};
@@ -51,6 +53,28 @@ fn unit_number(unit: Unit) -> u64
     }
 }
 
+/// Appends what kept an operation out of the row before its own.
+fn push_holder(text: &mut Vec<u8>, holder: Holder) -> Result<(), NoMemory>
+    ensures { OnOk result (text.new.items ≡ text.old.items ++ listed.holder_text holder) }
+{
+    match holder {
+        Holder::Delays => Ok(text.extend_from_slice(b"-")?),
+        Holder::Operation(i) => push_decimal(text, i as u64),
+        Holder::Nothing => Ok(text.extend_from_slice(b"free")?),
+    }
+}
+
+/// Appends the priority of an operation, its start, its slack, and what kept it out of the row before.
+fn push_measures(text: &mut Vec<u8>, explained: &Explained) -> Result<(), NoMemory>
+    ensures { OnOk result (text.new.items ≡ text.old.items ++ listed.measures explained.now) }
+{
+    push_column(text, "priority", explained.priority)?;
+    push_column(text, "earliest", explained.earliest)?;
+    push_column(text, "slack", explained.slack)?;
+    text.extend_from_slice(b" held ")?;
+    push_holder(text, explained.held)
+}
+
 /// Appends the line of operation j, as the block has it and as it is renamed.
 fn push_explained(
     text: &mut Vec<u8>,
@@ -68,7 +92,7 @@ fn push_explained(
     push_column(text, "ready", explained.ready as u64)?;
     text.extend_from_slice(b" after ")?;
     push_comma_separated(text, &explained.after)?;
-    push_column(text, "priority", explained.priority)?;
+    push_measures(text, explained)?;
     text.extend_from_slice(b" ")?;
     push_op(text, op)?;
     text.extend_from_slice(b" ; ")?;
@@ -169,7 +193,8 @@ pub fn push_explanation(
     let ops = schedule.ops();
     let chains = priorities(alloc, ops, latencies)?;
     let ranks = ranks(alloc, ops, latencies, heuristic, &chains)?;
-    let explained = explain(alloc, schedule, latencies, &ranks)?;
+    let starts = starts(alloc, ops, latencies, &chains)?;
+    let explained = explain(alloc, schedule, latencies, &ranks, &chains, &starts)?;
     push_lines(text, block.ops.as_slice(), &explained, ops)?;
     push_cycles(text, cycles(schedule, latencies), least)?;
     push_chain(text, &longest_chain(alloc, ops, latencies, &chains)?)

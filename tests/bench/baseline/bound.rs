@@ -8,8 +8,8 @@ use crate::scheduler::NONE;
 /// Bounds one block at a time, and keeps its tables from block to block.
 #[derive(Default)]
 pub struct Bound {
-    /// By number: the earliest cycle that delays leave.
-    starts: Vec<u32>,
+    /// By number: the earliest cycle that delays leave, of the block that was bounded last.
+    pub starts: Vec<u32>,
     /// By number: how many cycles are left at least from its issue.
     tails: Vec<u32>,
     /// The operations of a share, by falling starts.

@@ -4,6 +4,7 @@ use crate::bound::Bound;
 use crate::digits;
 use crate::graph::Graph;
 use crate::operation::Operation;
+use crate::ready::Class;
 use crate::scheduler::{Schedule, NONE};
 
 /// Explains one block at a time, and keeps its tables from block to block.
@@ -20,17 +21,17 @@ impl Explainer {
     /// Lists the reasons of a schedule of these operations.
     pub fn list(&mut self, operations: &[Operation], schedule: &Schedule<'_>, listing: &mut Vec<u8>) {
         self.place(schedule);
+        let least = self.bound.least(schedule.graph, schedule.cycles);
         let mut edges = 0;
         let originals = operations.iter().filter(|operation| !matches!(operation, Operation::Nop));
         for (number, original) in originals.enumerate() {
             edges = self.find_waited(schedule.graph, number, edges);
-            self.push_operation(schedule.graph, number, listing);
+            self.push_operation(schedule, number, listing);
             original.spell(listing);
             listing.extend_from_slice(b" ; ");
             schedule.graph.operations[number].spell(listing);
             listing.push(b'\n');
         }
-        let least = self.bound.least(schedule.graph, schedule.cycles);
         push(listing, b"cycles ", schedule.cycles);
         push(listing, b" least ", least);
         listing.extend_from_slice(if schedule.cycles == least { b" optimal" } else { b"" });
@@ -63,10 +64,11 @@ impl Explainer {
         edges
     }
 
-    fn push_operation(&self, graph: &Graph, number: usize, listing: &mut Vec<u8>) {
-        let node = &graph.nodes[number];
+    fn push_operation(&self, schedule: &Schedule<'_>, number: usize, listing: &mut Vec<u8>) {
+        let node = &schedule.graph.nodes[number];
+        let cycle = self.places[number] / 2;
         push(listing, b"", number as u32);
-        push(listing, b" cycle ", self.places[number] / 2);
+        push(listing, b" cycle ", cycle);
         push(listing, b" unit ", self.places[number] % 2);
         push(listing, b" ready ", node.earliest);
         let mut before: &[u8] = b" after ";
@@ -76,8 +78,24 @@ impl Explainer {
         }
         listing.extend_from_slice(if self.waited.is_empty() { b" after -" } else { b"" });
         push(listing, b" priority ", node.priority);
+        push(listing, b" earliest ", self.bound.starts[number]);
+        push(listing, b" slack ", schedule.cycles - cycle - node.priority);
+        if cycle == node.earliest {
+            listing.extend_from_slice(b" held -");
+        } else {
+            push(listing, b" held ", keeper(schedule, cycle - 1, number));
+        }
         listing.push(b' ');
     }
+}
+
+/// The operation of a row that keeps another out of it: the first that can't stand beside it, or else, since a greedy schedule
+/// leaves no room, that on unit 0.
+fn keeper(schedule: &Schedule<'_>, cycle: u32, number: usize) -> u32 {
+    let class = |number: u32| Class::of(schedule.graph.nodes[number as usize].kind);
+    let own = class(number as u32);
+    let row = schedule.rows[cycle as usize];
+    row.numbers().find(|other| own != Class::Rest && class(*other) == own).unwrap_or(row.0[0])
 }
 
 /// Lists a longest chain of delays: the first operation of the greatest priority, and each time the first one that

@@ -1,5 +1,8 @@
 use Rattle.std.proofs.Common.{◌≡◌, ◌<◌, ◌≤◌, length, ap, arith, refl}
+use Rattle.std.specs.Prelude.{slice_index}
 use Rattle.iloc_sched.specs.declared.cycle.calendar.TheConstants.{LONGEST_DELAY}
+use Rattle.iloc_sched.proofs.PriorityValues.Longest.{length-priorities}
+use Rattle.iloc_sched.proofs.PriorityValues.Starts.{length-starts}
 use Rattle.iloc_timed.proofs.Arrivals.{issued_within}
 use Rattle.iloc_timed.specs.Rows.{issue_cycle, row_at}
 use Rattle.iloc_explain.proofs.Explaining.{is_explained, none_explained, noted_cycle, one_explained, read_latest}
@@ -15,7 +18,7 @@ pub offset_bounds-rows-cycle : goal.offset_bounds-rows-cycle
 offset_bounds-rows-cycle c =
     let known : c.loop-j.j < length c.args.schedule.now.ops = rw c.ops-ops.ensures.ops at c.loop-j-test.true in
     let at : c.index-cycle.result.now ≡ issue_cycle c.args.schedule.now.rows c.loop-j.j =
-    noted_cycle _ _ _ _ _ c.index-cycle.ensures c.in_ok-cycles.ensures.size known c.in_ok-cycles.ensures.each in
+    noted_cycle _ _ _ _ _ c.index-cycle.ensures c.in_ok-issued.ensures.size known c.in_ok-issued.ensures.each in
     let within : issue_cycle c.args.schedule.now.rows c.loop-j.j < length c.args.schedule.now.rows =
     issued_within c.args.schedule.now.ops c.args.schedule.now.rows c.loop-j.j known c.ops-ops.ensures.table in
     omega (arith, c.rows-rows.ensures.few)
@@ -24,19 +27,38 @@ pub bounds-rows-cycle : goal.bounds-rows-cycle
 bounds-rows-cycle c =
     let known : c.loop-j.j < length c.args.schedule.now.ops = rw c.ops-ops.ensures.ops at c.loop-j-test.true in
     let at : c.index-cycle.result.now ≡ issue_cycle c.args.schedule.now.rows c.loop-j.j =
-    noted_cycle _ _ _ _ _ c.index-cycle.ensures c.in_ok-cycles.ensures.size known c.in_ok-cycles.ensures.each in
+    noted_cycle _ _ _ _ _ c.index-cycle.ensures c.in_ok-issued.ensures.size known c.in_ok-issued.ensures.each in
     rw (c.rows-rows.ensures.rows, at)
     (issued_within c.args.schedule.now.ops c.args.schedule.now.rows c.loop-j.j known c.ops-ops.ensures.table)
 
 pub bounds-priorities-j : goal.bounds-priorities-j
 bounds-priorities-j c =
-    omega (arith, c.requires, ap length c.ops-ops.ensures.ops)
+    omega (arith, c.requires.ranked, ap length c.ops-ops.ensures.ops)
+
+pub bounds-starts-j : goal.bounds-starts-j
+bounds-starts-j c =
+    let known : c.loop-j.j < length c.args.schedule.now.ops = rw c.ops-ops.ensures.ops at c.loop-j-test.true in
+    omega (arith, ap length c.requires.starts, length-starts c.args.latencies.now c.args.schedule.now.ops)
+
+pub bounds-chains-j : goal.bounds-chains-j
+bounds-chains-j c =
+    let known : c.loop-j.j < length c.args.schedule.now.ops = rw c.ops-ops.ensures.ops at c.loop-j-test.true in
+    omega (arith, ap length c.requires.chains, length-priorities c.args.latencies.now c.args.schedule.now.ops)
+
+pub holder_of-requires : goal.holder_of-requires
+holder_of-requires c =
+    let known : c.loop-j.j < length c.args.schedule.now.ops = rw c.ops-ops.ensures.ops at c.loop-j-test.true in
+    let at : c.index-cycle.result.now ≡ issue_cycle c.args.schedule.now.rows c.loop-j.j =
+    noted_cycle _ _ _ _ _ c.index-cycle.ensures c.in_ok-issued.ensures.size known c.in_ok-issued.ensures.each in
+    let within : issue_cycle c.args.schedule.now.rows c.loop-j.j < length c.args.schedule.now.rows =
+    issued_within c.args.schedule.now.ops c.args.schedule.now.rows c.loop-j.j known c.ops-ops.ensures.table in
+    record { known = known; within = omega arith }
 
 pub overflow_add-cycle : goal.overflow_add-cycle
 overflow_add-cycle c =
     let known : c.loop-j.j < length c.args.schedule.now.ops = rw c.ops-ops.ensures.ops at c.loop-j-test.true in
     let at : c.index-cycle.result.now ≡ issue_cycle c.args.schedule.now.rows c.loop-j.j =
-    noted_cycle _ _ _ _ _ c.index-cycle.ensures c.in_ok-cycles.ensures.size known c.in_ok-cycles.ensures.each in
+    noted_cycle _ _ _ _ _ c.index-cycle.ensures c.in_ok-issued.ensures.size known c.in_ok-issued.ensures.each in
     let within : issue_cycle c.args.schedule.now.rows c.loop-j.j < length c.args.schedule.now.rows =
     issued_within c.args.schedule.now.ops c.args.schedule.now.rows c.loop-j.j known c.ops-ops.ensures.table in
     let short : c.latency.result ≤ LONGEST_DELAY = c.latency.ensures.within.1 in
@@ -46,7 +68,7 @@ pub note-requires : goal.note-requires
 note-requires c =
     let known : c.loop-j.j < length c.args.schedule.now.ops = rw c.ops-ops.ensures.ops at c.loop-j-test.true in
     let at : c.index-cycle.result.now ≡ issue_cycle c.args.schedule.now.rows c.loop-j.j =
-    noted_cycle _ _ _ _ _ c.index-cycle.ensures c.in_ok-cycles.ensures.size known c.in_ok-cycles.ensures.each in
+    noted_cycle _ _ _ _ _ c.index-cycle.ensures c.in_ok-issued.ensures.size known c.in_ok-issued.ensures.each in
     let within : issue_cycle c.args.schedule.now.rows c.loop-j.j < length c.args.schedule.now.rows =
     issued_within c.args.schedule.now.ops c.args.schedule.now.rows c.loop-j.j known c.ops-ops.ensures.table in
     omega (arith, c.rows-rows.ensures.few)
@@ -55,7 +77,7 @@ pub loop-j-preserved : goal.loop-j-preserved
 loop-j-preserved c =
     let known : c.loop-j.j < length c.args.schedule.now.ops = rw c.ops-ops.ensures.ops at c.loop-j-test.true in
     let at : c.index-cycle.result.now ≡ issue_cycle c.args.schedule.now.rows c.loop-j.j =
-    noted_cycle _ _ _ _ _ c.index-cycle.ensures c.in_ok-cycles.ensures.size known c.in_ok-cycles.ensures.each in
+    noted_cycle _ _ _ _ _ c.index-cycle.ensures c.in_ok-issued.ensures.size known c.in_ok-issued.ensures.each in
     one_explained _ _ _ _ _ _ _ _ _ _ c.loop-j.invariant
     (read_latest c.args.latencies.now c.args.schedule.now.ops c.ops-ops.result.now c.args.schedule.now.rows c.loop-j.j _ _ _
     c.loop-j.latest _ c.loop-j.invariant.latest_ones known c.ops-ops.ensures.ops at c.latency.ensures.latency
@@ -63,5 +85,6 @@ loop-j-preserved c =
     (is_explained c.args.priorities.now c.args.latencies.now c.args.schedule.now.ops c.ops-ops.result.now c.args.schedule.now.rows c.loop-j.j
     c.loop-j.latest _ _ _ c.loop-j.invariant.latest_ones known c.ops-ops.ensures.ops at
     (ap (λ rows. row_at rows c.index-cycle.result.now) c.rows-rows.ensures.rows) c.unit_of.ensures c.ready-ready.ensures
-    c.in_ok-after.ensures refl)
+    c.in_ok-after.ensures refl (ap (λ starts. slice_index starts c.loop-j.j) c.requires.starts)
+    (rw (c.cycles-total.ensures, at, c.requires.chains) at c.slack_of.ensures) c.holder_of.ensures)
     c.in_ok-push.ensures.items

@@ -1,8 +1,8 @@
-use Rattle.std.proofs.Common.{◌≡◌, ◌∙◌, ◌++◌, ◌≤◌, length, ap, arith, refl}
+use Rattle.std.proofs.Common.{◌∙◌, ◌++◌, ◌≤◌, length, ap, arith, refl}
 use Rattle.std.proofs.lemmas.Result.{on_ok_weaker}
 use Rattle.iloc_timed.specs.Cycles.{cycles}
 use Rattle.iloc_sched.specs.Least.{least}
-use Rattle.iloc_sched.specs.Renaming.{renamed, without_nops, IsRenamed}
+use Rattle.iloc_sched.specs.Renaming.{without_nops}
 use Rattle.iloc_sched.proofs.PriorityValues.Named.{length-priorities_by}
 use Rattle.iloc_sched.proofs.Renamed.MentionedSources.{length-renamed_by}
 use Rattle.iloc_sched.proofs.Renamed.RenamedBlocks.{renamed_is_renamed}
@@ -30,10 +30,28 @@ ranks-requires-clause-few c =
     (let fewer : length (without_nops c.args.block.now.ops) ≤ length c.args.block.now.ops = nops_left_out c.args.block.now.ops in
     omega (arith, c.requires.few))
 
-pub explain-requires : goal.explain-requires
-explain-requires c =
+pub starts-requires-clause-renamed : goal.starts-requires-clause-renamed
+starts-requires-clause-renamed c =
+    rw (c.ops-ops.ensures.ops, c.requires.names) (renamed_is_renamed c.args.block.now.ops)
+
+pub starts-requires-clause-few : goal.starts-requires-clause-few
+starts-requires-clause-few c =
+    rw (c.ops-ops.ensures.ops, c.requires.names, length-renamed_by)
+    (let fewer : length (without_nops c.args.block.now.ops) ≤ length c.args.block.now.ops = nops_left_out c.args.block.now.ops in
+    omega (arith, c.requires.few))
+
+pub explain-requires-clause-ranked : goal.explain-requires-clause-ranked
+explain-requires-clause-ranked c =
     rw c.ops-ops.ensures.ops at
-    (ap length (c.deref-2.ensures.value ∙ c.in_ok-ranks.ensures) ∙ length-priorities_by c.args.heuristic c.args.latencies.now c.ops-ops.result.now)
+    (ap length (c.deref-3.ensures.value ∙ c.in_ok-ranks.ensures) ∙ length-priorities_by c.args.heuristic c.args.latencies.now c.ops-ops.result.now)
+
+pub explain-requires-clause-chains : goal.explain-requires-clause-chains
+explain-requires-clause-chains c =
+    rw c.ops-ops.ensures.ops at (c.deref-4.ensures.value ∙ c.in_ok-chains.ensures)
+
+pub explain-requires-clause-starts : goal.explain-requires-clause-starts
+explain-requires-clause-starts c =
+    rw c.ops-ops.ensures.ops at (c.deref-5.ensures.value ∙ c.in_ok-starts.ensures)
 
 pub push_lines-requires-clause-same : goal.push_lines-requires-clause-same
 push_lines-requires-clause-same c =
@@ -50,14 +68,14 @@ returns c =
       lines ++ cycles_line taken bound ++ chain_line chain,
       record {
         explained = explained;
-        are_explained = rw (c.deref-2.ensures.value, c.in_ok-ranks.ensures, c.ops-ops.ensures.ops) at c.in_ok-explained.ensures;
+        are_explained = rw (c.deref-3.ensures.value, c.in_ok-ranks.ensures, c.ops-ops.ensures.ops) at c.in_ok-explained.ensures;
         chain = chain;
         is_longest = rw c.ops-ops.ensures.ops at c.in_ok-longest_chain.ensures.chosen;
         listed = refl;
       },
       parts_pushed c.args.text.now.items lines (cycles_line taken bound) (chain_line chain) c.push_lines.new.text.items
           c.push_cycles.new.text.items c.push_chain.new.text.items
-          (rw (c.deref-3.ensures.value, c.as_slice.ensures, c.ops-ops.ensures.ops) at c.in_ok-push_lines.ensures)
+          (rw (c.deref-6.ensures.value, c.as_slice.ensures, c.ops-ops.ensures.ops) at c.in_ok-push_lines.ensures)
           (rw (c.cycles.ensures, c.requires.least) at c.in_ok-push_cycles.ensures)
-          (pushed ∙ ap (λ found. c.push_cycles.new.text.items ++ chain_line found) c.deref-5.ensures.value),
+          (pushed ∙ ap (λ found. c.push_cycles.new.text.items ++ chain_line found) c.deref-8.ensures.value),
     )) c.push_chain.ensures
