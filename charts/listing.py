@@ -16,7 +16,7 @@ CHAINED = re.compile(r"chain (?:-|(\d+(?: \d+)*))")
 EXPLAINED = re.compile(r"(\d+) cycle (\d+) unit ([01]) ready (\d+) after (-|\d+(?:,\d+)*) priority (\d+) "
                        r"earliest \d+ slack \d+ held (?:-|free|\d+) (.+?) ; (.+)")
 NUMBER = re.compile(r"\d+")
-NOTHING = re.compile(r"total \d+.*")
+NOTHING = re.compile(r"path .+|total \d+.*")
 
 
 @dataclass

@@ -31,6 +31,7 @@ EXPLAINED = b"""block 1 -
 6 cycle 12 unit 0 ready 12 after 5 priority 1 earliest 12 slack 0 held - output 8 ; output 8
 cycles 13 least 13 optimal
 chain 0 3 4 5 6
+path 0 +1 3 +5 4 +1 5 +5 6 +1
 total 13
 """
 CHECKED = b"""block 1 sum lawful cycles 14 ours 14 least 13

@@ -211,7 +211,7 @@ def slow_listing(command, blocks):
              "schedule": b"\n" + rows + b"cycles %d\n" % cycles,
              "explain": b"\n" + b"".join(map(slow_reason, range(MOST_OPERATIONS)))
              + b"cycles %d least %d optimal\nchain " % (cycles, cycles) + b" ".join(b"%d" % k for k in range(MOST_OPERATIONS))
-             + b"\n"}[command]
+             + b"\npath " + b" ".join(b"%d +%d" % (k, SLOWEST) for k in range(MOST_OPERATIONS)) + b"\n"}[command]
     for number in range(1, blocks + 1):
         yield b"block %d A" % number + entry
     if command != "simulate":

@@ -125,6 +125,29 @@ class Schedule:
                 return " ".join(map(str, found))
             found.append(min(goes_on))
 
+    def path(self):
+        """What binds from cycle 0 to the end, found from the first operation that arrives last, backwards."""
+        arrivals = [self.places[j][0] + op.latency(self.latencies) for j, op in enumerate(self.ops)]
+        if not arrivals:
+            return "-"
+        j = arrivals.index(max(arrivals))
+        cycle = self.places[j][0]
+        parts = [f"{j} +{arrivals[j] - cycle}"]
+        while cycle:
+            ready, own = self.ready(j), cycle
+            if cycle == ready:
+                j = int(self.after(j, ready).split(",")[0])
+                cycle = self.places[j][0]
+                parts.append(f"{j} +{own - cycle}")
+            elif (keeper := self.keeper(j, cycle - 1)) is not None:
+                j, cycle = keeper, cycle - 1
+                parts.append(f"{j} =1")
+            else:
+                while cycle > ready and self.keeper(j, cycle - 1) is None:
+                    cycle -= 1
+                parts.append(f"~{own - cycle}")
+        return " ".join(reversed(parts))
+
     def cycles(self):
         return cycles(self.rows, self.latencies)
 
@@ -141,6 +164,7 @@ class Schedule:
                    f" earliest {starts[j]} slack {slack} held {self.held(j, ready)} {self.originals[j]} ; {op}")
         yield f"cycles {cycles} least {least}{' optimal' if cycles == least else ''}"
         yield f"chain {self.chain()}"
+        yield f"path {self.path()}"
 
 
 def needed(width, tails):

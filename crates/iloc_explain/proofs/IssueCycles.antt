@@ -10,7 +10,7 @@ use Rattle.iloc_timed.proofs.Issues.{issued_there, stands_there, holds_zero, hol
 use Rattle.iloc_explain.specs.Steps.Issued.{AreIssued, with_slot}
 
 -- what stands in a row stands in one of its slots
-in_slots : (one zero : Option ℕ) (i : ℕ) → list_any (λ j. i == j) (option_to_list one ++ option_to_list zero) ≡ true
+pub in_slots : (one zero : Option ℕ) (i : ℕ) → list_any (λ j. i == j) (option_to_list one ++ option_to_list zero) ≡ true
     → (zero ≡ Some i) ⊎ (one ≡ Some i)
 in_slots None None i any = absurd cc
 in_slots None (Some z) i any = elim (or_cases (i == z) false any) [

@@ -5,7 +5,14 @@ pub mod LatestOnes
 pub mod Links
 pub mod ReadyCycles
 pub mod Waits
+pub mod OneReadyCycle
+pub mod Stretches
+pub mod Bindings
+pub mod PathWalks
+pub mod OnePath
 pub mod EarliestStarts
 pub mod Explaining
 pub mod Lines
 pub mod OneText
+pub mod PathSums
+pub mod GreedyRoom

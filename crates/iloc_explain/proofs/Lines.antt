@@ -49,7 +49,8 @@ line_more text new all j explained left rest renamed e op other known there is t
     ∙ (ap (λ xs. text ++ xs) (sym whole) ∙ so_far))
 
 -- the parts of an explanation, pushed one after another
-pub parts_pushed : (text lines cycles chain first second all : List ℕ) → first ≡ text ++ lines → second ≡ first ++ cycles
-    → all ≡ second ++ chain → all ≡ text ++ (lines ++ cycles ++ chain)
-parts_pushed text lines cycles chain first second all by_lines by_cycles by_chain =
-    by_chain ∙ rw (by_cycles, by_lines) (simp append_assoc)
+pub parts_pushed : (text lines cycles chain path first second third all : List ℕ) → first ≡ text ++ lines
+    → second ≡ first ++ cycles → third ≡ second ++ chain → all ≡ third ++ path
+    → all ≡ text ++ (lines ++ cycles ++ chain ++ path)
+parts_pushed text lines cycles chain path first second third all by_lines by_cycles by_chain by_path =
+    by_path ∙ rw (by_chain, by_cycles, by_lines) (simp append_assoc)

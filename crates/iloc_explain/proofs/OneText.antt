@@ -1,5 +1,5 @@
 -- There is one text that explains a schedule.
-use Rattle.std.proofs.Common.{◌≡◌, ◌≤◌, ℕ, suc, ◌+◌, List, [], ◌∷◌, ◌++◌, length, Some, arith, refl, sym, ap, ap₂, ◌∙◌, subst, inl, inr}
+use Rattle.std.proofs.Common.{◌≡◌, ℕ, suc, ◌+◌, List, [], ◌∷◌, ◌++◌, length, Some, arith, refl, sym, ap, ap₂, ◌∙◌, subst}
 use Rattle.std.specs.Prelude.{slice_get}
 use Rattle.iloc_ops.specs.declared.op.Op.{Op}
 use Rattle.iloc_timed.specs.declared.latencies.Latencies.{Latencies}
@@ -13,26 +13,11 @@ use Rattle.iloc_explain.specs.declared.explanation.Explained.{Explained}
 use Rattle.iloc_explain.specs.Explained.{IsExplained}
 use Rattle.iloc_explain.specs.Holding.{holder}
 use Rattle.iloc_explain.specs.Laws.{SchedulesHaveOneExplanation}
-use Rattle.iloc_explain.specs.Listing.{explained_line, explained_lines, cycles_line, chain_line}
-use Rattle.iloc_explain.specs.Waiting.{IsReadyAt, waited_until}
+use Rattle.iloc_explain.specs.Listing.{explained_line, explained_lines, cycles_line, chain_line, path_line}
+use Rattle.iloc_explain.specs.Waiting.{waited_until}
 use Rattle.iloc_explain.proofs.Links.{longest_same}
-
-ready_below : (lat : Latencies) (ops : List Op) (rows : List Row) (j c d : ℕ) → IsReadyAt lat ops rows j c
-    → IsReadyAt lat ops rows j d → c ≤ d
-ready_below lat ops rows j c d is also = elim is.earliest [
-  | inl start ↦ omega arith
-  | inr (i, waits) ↦
-      let over : issue_cycle rows i + waits.delay ≤ d = also.over i waits.delay waits.pair in
-      let ends : issue_cycle rows i + waits.delay ≡ c = waits.ends in
-      omega arith
-]
-
-ready_same : (lat : Latencies) (ops : List Op) (rows : List Row) (j c d : ℕ) → IsReadyAt lat ops rows j c
-    → IsReadyAt lat ops rows j d → c ≡ d
-ready_same lat ops rows j c d is also =
-    let low : c ≤ d = ready_below lat ops rows j c d is also in
-    let high : d ≤ c = ready_below lat ops rows j d c also is in
-    omega arith
+use Rattle.iloc_explain.proofs.OnePath.{path_same}
+use Rattle.iloc_explain.proofs.OneReadyCycle.{ready_same}
 
 line_same : (prios : List ℕ) (lat : Latencies) (ops : List Op) (rows : List Row) (j : ℕ) (e f : Explained) (op new : Op)
     → IsExplained prios lat ops rows j e → IsExplained prios lat ops rows j f → explained_line j e op new ≡ explained_line j f op new
@@ -79,4 +64,7 @@ one_explanation heuristic lat block ops rows text text' is also =
     (λ j e at. let here : j ≡ 0 + j = omega arith in
     let R : ℕ → Type 0 = λ n. IsExplained (priorities_by heuristic lat ops) lat ops rows n e in subst R here (also.are_explained.each j e at)) in
     let chain : is.chain ≡ also.chain = longest_same lat ops is.chain also.chain is.is_longest also.is_longest in
-    is.listed ∙ (ap₂ (λ ls ch. ls ++ cycles_line (cycles lat ops rows) (least lat block) ++ chain_line ch) lines chain ∙ sym also.listed)
+    let path : is.path ≡ also.path = path_same lat ops rows is.path also.path is.is_path also.is_path in
+    is.listed ∙ (ap₂ (λ ls ch. ls ++ cycles_line (cycles lat ops rows) (least lat block) ++ chain_line ch ++ path_line is.path) lines chain
+    ∙ (ap (λ pa. explained_lines 0 also.explained (without_nops block) ops ++ cycles_line (cycles lat ops rows) (least lat block)
+    ++ chain_line also.chain ++ path_line pa) path ∙ sym also.listed))

@@ -26,7 +26,7 @@ use Rattle.iloc_timed.proofs.WholeRuns.{short_latency}
 use Rattle.iloc_timed.specs.Kinds.{kind}
 
 -- the operations of a row, unit 0 first
-abbrev in_order : Row → List ℕ
+abbrev pub in_order : Row → List ℕ
 in_order row = option_to_list row.zero ++ option_to_list row.one
 
 from_slot : (slot : Option ℕ) (i : ℕ) → In (option_to_list slot) i → slot ≡ Some i

@@ -1,13 +1,38 @@
 -- What holds of explanations as a whole.
-use Rattle.std.specs.Prelude.{ℕ, ◌≡◌, List}
+use Rattle.std.specs.Prelude.{ℕ, ◌≡◌, ◌≢◌, ◌<◌, List, length, Contains}
+use Rattle.std.specs.List.{sum_by}
 use Rattle.iloc_ops.specs.declared.op.Op.{Op}
 use Rattle.iloc_timed.specs.declared.latencies.Latencies.{Latencies}
 use Rattle.iloc_timed.specs.declared.row.Row.{Row}
+use Rattle.iloc_timed.specs.Cycles.{cycles}
+use Rattle.iloc_timed.specs.Rows.{issue_cycle}
 use Rattle.iloc_sched.specs.declared.ranking.heuristic.Heuristic.{Heuristic}
+use Rattle.iloc_sched.specs.Greedy.{IsGreedyBy}
+use Rattle.iloc_sched.specs.Lawful.{IsLawful}
+use Rattle.iloc_explain.specs.declared.holding.Holder.TheVariants.{Nothing}
+use Rattle.iloc_explain.specs.declared.path.Stretch.{Stretch}
+use Rattle.iloc_explain.specs.declared.path.Stretch.TheVariants.{Free}
+use Rattle.iloc_explain.specs.Holding.{holder}
 use Rattle.iloc_explain.specs.Listing.{IsExplanation}
+use Rattle.iloc_explain.specs.Path.{IsPath, span}
+use Rattle.iloc_explain.specs.Waiting.{IsReadyAt}
 
 -- there is one text that explains a schedule of a block
 abbrev pub SchedulesHaveOneExplanation : Type 0
 SchedulesHaveOneExplanation = (heuristic : Heuristic) (lat : Latencies) (block ops : List Op) (rows : List Row)
     (text text' : List ℕ) → IsExplanation heuristic lat block ops rows text → IsExplanation heuristic lat block ops rows text'
     → text ≡ text'
+
+-- the stretches of the path of a lawful schedule take its cycles together
+abbrev pub PathsSumToTheCycles : Type 0
+PathsSumToTheCycles = (lat : Latencies) (block ops : List Op) (rows : List Row) (path : List Stretch)
+    → IsLawful lat block ops rows → IsPath lat ops rows path → sum_by span path ≡ cycles lat ops rows
+
+-- By whatever priorities a schedule is greedy, no row of it has room for an operation that is ready: something keeps each out of
+-- the row before, and no stretch of its path is free.
+pub record GreedySchedulesLeaveNoRoom : Type 0 where
+  pub held : (prios : List ℕ) (lat : Latencies) (block ops : List Op) (rows : List Row)
+      → IsGreedyBy prios lat block ops rows → (j r : ℕ) → j < length ops → IsReadyAt lat ops rows j r
+      → holder ops rows j (issue_cycle rows j) r ≢ Nothing
+  pub path : (prios : List ℕ) (lat : Latencies) (block ops : List Op) (rows : List Row) (path : List Stretch)
+      → IsGreedyBy prios lat block ops rows → IsPath lat ops rows path → (n : ℕ) → Contains path (Free n) → ⊥

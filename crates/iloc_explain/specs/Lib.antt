@@ -3,5 +3,6 @@ pub mod Chain
 pub mod Holding
 pub mod Explained
 pub mod Laws
+pub mod Path
 pub mod Listing
 pub mod Steps

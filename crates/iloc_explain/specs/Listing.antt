@@ -17,8 +17,11 @@ use Rattle.iloc_explain.specs.declared.explanation.Unit.{Unit as unit_type}
 use Rattle.iloc_explain.specs.declared.explanation.Unit.TheVariants as unit
 use Rattle.iloc_explain.specs.declared.holding.Holder.{Holder}
 use Rattle.iloc_explain.specs.declared.holding.Holder.TheVariants.{Delays, Operation, Nothing}
+use Rattle.iloc_explain.specs.declared.path.Stretch.{Stretch}
+use Rattle.iloc_explain.specs.declared.path.Stretch.TheVariants.{Delay, Held, Free}
 use Rattle.iloc_explain.specs.Chain.{IsLongestChain}
 use Rattle.iloc_explain.specs.Explained.{AreExplained}
+use Rattle.iloc_explain.specs.Path.{IsPath}
 
 -- numbers with commas between them, `-` where there are none
 abbrev pub comma_separated : List ℕ → List ℕ
@@ -61,6 +64,17 @@ abbrev pub chain_line : List ℕ → List ℕ
 chain_line [] = codes "chain -\n"
 chain_line (i ∷ chain) = codes "chain" ++ flat_map (λ j. codes " " ++ decimal j) (i ∷ chain) ++ codes "\n"
 
+-- ` I +D`, ` H =1` or ` ~N`
+abbrev pub stretch_text : Stretch → List ℕ
+stretch_text (Delay i d) = codes " " ++ decimal i ++ codes " +" ++ decimal d
+stretch_text (Held h) = codes " " ++ decimal h ++ codes " =1"
+stretch_text (Free n) = codes " ~" ++ decimal n
+
+-- `path I +D H =1 ..`, the stretches of a path, `-` where there are none
+abbrev pub path_line : List Stretch → List ℕ
+path_line [] = codes "path -\n"
+path_line (first ∷ path) = codes "path" ++ flat_map stretch_text (first ∷ path) ++ codes "\n"
+
 -- ` optimal` where the cycles are the lower bound, so that no lawful schedule takes fewer
 abbrev pub optimal_mark : ℕ → ℕ → List ℕ
 optimal_mark taken bound = if taken == bound then codes " optimal" else []
@@ -71,13 +85,16 @@ cycles_line taken bound =
     codes "cycles " ++ decimal taken ++ codes " least " ++ decimal bound ++ optimal_mark taken bound ++ codes "\n"
 
 -- The text explains these operations in these rows, a schedule of the block that is ranked by a heuristic: a line for
--- each operation, the cycles with their lower bound, and a longest chain of delays.
+-- each operation, the cycles with their lower bound, a longest chain of delays, and what binds in this schedule.
 pub record IsExplanation (heuristic : Heuristic) (lat : Latencies) (block ops : List Op) (rows : List Row) (text : List ℕ) : Type 0 where
   pub explained : List Explained
   pub are_explained : AreExplained (priorities_by heuristic lat ops) lat ops rows explained
   pub chain : List ℕ
   pub is_longest : IsLongestChain lat ops chain
+  pub path : List Stretch
+  pub is_path : IsPath lat ops rows path
   pub listed : text ≡
       explained_lines 0 explained (without_nops block) ops
       ++ cycles_line (cycles lat ops rows) (least lat block)
       ++ chain_line chain
+      ++ path_line path

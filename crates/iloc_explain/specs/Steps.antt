@@ -5,3 +5,4 @@ pub mod Waits
 pub mod Links
 pub mod SoFar
 pub mod Greatest
+pub mod Walk

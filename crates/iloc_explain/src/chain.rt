@@ -10,7 +10,7 @@ use iloc_timed::Latencies;
 use std::alloc::Global;
 
 /// The first place of the greatest number.
-fn place_of_greatest(numbers: &[u64]) -> Option<usize>
+pub(crate) fn place_of_greatest(numbers: &[u64]) -> Option<usize>
     ensures { MatchOption result (numbers.now ≡ []) (IsPlaceOfGreatest numbers.now) }
 {
     if numbers.is_empty() {

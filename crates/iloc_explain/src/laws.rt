@@ -1,7 +1,18 @@
 //! Laws of explanations, as contracts of functions that do nothing.
-ghost use Rattle.iloc_explain.specs.Laws.{SchedulesHaveOneExplanation};
+ghost use Rattle.iloc_explain.specs.Laws.{GreedySchedulesLeaveNoRoom, PathsSumToTheCycles, SchedulesHaveOneExplanation};
 
 /// Promise: Two texts that explain one schedule of a block are equal.
 pub fn one_explanation()
     ensures { SchedulesHaveOneExplanation }
+{}
+
+/// Promise: The stretches of the path of a lawful schedule take together just the cycles of the schedule.
+pub fn paths_sum_to_the_cycles()
+    ensures { PathsSumToTheCycles }
+{}
+
+/// Promise: In a greedy schedule, by any priorities, no row has room for an operation that is ready: whatever isn't issued as
+/// soon as it is ready is held by an operation of the row before, and no stretch of the path is free.
+pub fn greedy_schedules_leave_no_room()
+    ensures { GreedySchedulesLeaveNoRoom }
 {}

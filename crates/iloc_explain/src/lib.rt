@@ -8,6 +8,8 @@ mod issued;
 mod latest;
 pub mod laws;
 mod listing;
+mod path;
+mod path_line;
 mod starts;
 mod waited;
 
@@ -15,3 +17,4 @@ pub use chain::longest_chain;
 pub use explanation::{Explained, Unit, explain};
 pub use holding::Holder;
 pub use listing::push_explanation;
+pub use path::{Stretch, path_of};

@@ -12,6 +12,8 @@ ghost use Rattle.iloc_explain.specs.Listing.{IsExplanation};
 use crate::chain::longest_chain;
 use crate::explanation::{Explained, Unit, explain};
 use crate::holding::Holder;
+use crate::path::path_of;
+use crate::path_line::push_path;
 use crate::starts::starts;
 use iloc_ops::{Block, MAX_OPS, NoMemory, Op, push_column, push_decimal, push_op};
 use iloc_sched::{Heuristic, priorities, priorities_by};
@@ -171,7 +173,8 @@ fn ranks(
 }
 
 /// Appends what explains a schedule of a block, whose operations are the block's renamed ones, ranked by a heuristic: a
-/// line for each operation, the cycles with their lower bound (`least`), and a longest chain of delays.
+/// line for each operation, the cycles with their lower bound (`least`), a longest chain of delays, and what binds in this
+/// schedule.
 ///
 /// Promise: What is appended is a text that explains the schedule.
 pub fn push_explanation(
@@ -197,5 +200,6 @@ pub fn push_explanation(
     let explained = explain(alloc, schedule, latencies, &ranks, &chains, &starts)?;
     push_lines(text, block.ops.as_slice(), &explained, ops)?;
     push_cycles(text, cycles(schedule, latencies), least)?;
-    push_chain(text, &longest_chain(alloc, ops, latencies, &chains)?)
+    push_chain(text, &longest_chain(alloc, ops, latencies, &chains)?)?;
+    push_path(text, &path_of(alloc, schedule, latencies, &explained)?)
 }

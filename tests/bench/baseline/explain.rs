@@ -7,6 +7,13 @@ use crate::operation::Operation;
 use crate::ready::Class;
 use crate::scheduler::{Schedule, NONE};
 
+/// A part of the path: an operation, and for how many cycles the next one waits for it or is kept out by it.
+struct Part {
+    number: u32,
+    sign: &'static [u8],
+    cycles: u32,
+}
+
 /// Explains one block at a time, and keeps its tables from block to block.
 #[derive(Default)]
 pub struct Explainer {
@@ -14,6 +21,10 @@ pub struct Explainer {
     places: Vec<u32>,
     /// The operations for which one waited.
     waited: Vec<u32>,
+    /// By number: the first of those, or NONE.
+    firsts: Vec<u32>,
+    /// The path, the last part first.
+    path: Vec<Part>,
     bound: Bound,
 }
 
@@ -22,10 +33,12 @@ impl Explainer {
     pub fn list(&mut self, operations: &[Operation], schedule: &Schedule<'_>, listing: &mut Vec<u8>) {
         self.place(schedule);
         let least = self.bound.least(schedule.graph, schedule.cycles);
+        self.firsts.clear();
         let mut edges = 0;
         let originals = operations.iter().filter(|operation| !matches!(operation, Operation::Nop));
         for (number, original) in originals.enumerate() {
             edges = self.find_waited(schedule.graph, number, edges);
+            self.firsts.push(self.waited.first().copied().unwrap_or(NONE));
             self.push_operation(schedule, number, listing);
             original.spell(listing);
             listing.extend_from_slice(b" ; ");
@@ -36,6 +49,40 @@ impl Explainer {
         push(listing, b" least ", least);
         listing.extend_from_slice(if schedule.cycles == least { b" optimal" } else { b"" });
         push_chain(schedule.graph, listing);
+        self.push_path(schedule, listing);
+    }
+
+    fn push_path(&mut self, schedule: &Schedule<'_>, listing: &mut Vec<u8>) {
+        self.find_path(schedule);
+        listing.extend_from_slice(b"path");
+        listing.extend_from_slice(if self.path.is_empty() { b" -" } else { b"" });
+        for part in self.path.iter().rev() {
+            push(listing, b" ", part.number);
+            push(listing, part.sign, part.cycles);
+        }
+        listing.push(b'\n');
+    }
+
+    /// From the first operation whose result arrives last back to cycle 0.
+    fn find_path(&mut self, schedule: &Schedule<'_>) {
+        self.path.clear();
+        let nodes = &schedule.graph.nodes;
+        let issue = |number: usize| self.places[number] / 2;
+        let Some(last) = (0..nodes.len()).find(|number| issue(*number) + nodes[*number].latency == schedule.cycles) else {
+            return;
+        };
+        let (mut number, mut cycle) = (last, issue(last));
+        self.path.push(Part { number: last as u32, sign: b" +", cycles: nodes[last].latency });
+        while cycle > 0 {
+            let (from, sign): (u32, &[u8]) = if cycle == nodes[number].earliest {
+                (self.firsts[number], b" +")
+            } else {
+                (keeper(schedule, cycle - 1, number), b" =")
+            };
+            number = from as usize;
+            self.path.push(Part { number: from, sign, cycles: cycle - issue(number) });
+            cycle = issue(number);
+        }
     }
 
     fn place(&mut self, schedule: &Schedule<'_>) {

@@ -6,7 +6,7 @@ use Rattle.iloc_sched.specs.Renaming.{without_nops}
 use Rattle.iloc_sched.proofs.PriorityValues.Named.{length-priorities_by}
 use Rattle.iloc_sched.proofs.Renamed.MentionedSources.{length-renamed_by}
 use Rattle.iloc_sched.proofs.Renamed.RenamedBlocks.{renamed_is_renamed}
-use Rattle.iloc_explain.specs.Listing.{explained_lines, cycles_line, chain_line}
+use Rattle.iloc_explain.specs.Listing.{explained_lines, cycles_line, chain_line, path_line}
 use Rattle.iloc_explain.proofs.Lines.{nops_left_out, parts_pushed}
 use Rattle.iloc_explain.proofs.listing.push_explanation.Goals as goal
 
@@ -61,21 +61,25 @@ pub returns : goal.returns
 returns c =
     let explained = c.in_ok-explained.explained.items in
     let chain = c.in_ok-longest_chain.field-0.items in
+    let path = c.in_ok-path_of.field-0.items in
     let taken = cycles c.args.latencies.now c.args.schedule.now.ops c.args.schedule.now.rows in
     let bound = least c.args.latencies.now c.args.block.now.ops in
     let lines = explained_lines 0 explained (without_nops c.args.block.now.ops) c.args.schedule.now.ops in
-    on_ok_weaker c.push_chain.result (λ pushed. (
-      lines ++ cycles_line taken bound ++ chain_line chain,
+    on_ok_weaker c.push_path.result (λ pushed. (
+      lines ++ cycles_line taken bound ++ chain_line chain ++ path_line path,
       record {
         explained = explained;
         are_explained = rw (c.deref-3.ensures.value, c.in_ok-ranks.ensures, c.ops-ops.ensures.ops) at c.in_ok-explained.ensures;
         chain = chain;
         is_longest = rw c.ops-ops.ensures.ops at c.in_ok-longest_chain.ensures.chosen;
+        path = path;
+        is_path = c.in_ok-path_of.ensures;
         listed = refl;
       },
-      parts_pushed c.args.text.now.items lines (cycles_line taken bound) (chain_line chain) c.push_lines.new.text.items
-          c.push_cycles.new.text.items c.push_chain.new.text.items
+      parts_pushed c.args.text.now.items lines (cycles_line taken bound) (chain_line chain) (path_line path)
+          c.push_lines.new.text.items c.push_cycles.new.text.items c.push_chain.new.text.items c.push_path.new.text.items
           (rw (c.deref-6.ensures.value, c.as_slice.ensures, c.ops-ops.ensures.ops) at c.in_ok-push_lines.ensures)
           (rw (c.cycles.ensures, c.requires.least) at c.in_ok-push_cycles.ensures)
-          (pushed ∙ ap (λ found. c.push_cycles.new.text.items ++ chain_line found) c.deref-8.ensures.value),
-    )) c.push_chain.ensures
+          (c.in_ok-push_chain.ensures ∙ ap (λ found. c.push_cycles.new.text.items ++ chain_line found) c.deref-8.ensures.value)
+          (pushed ∙ ap (λ found. c.push_chain.new.text.items ++ path_line found) c.deref-10.ensures.value),
+    )) c.push_path.ensures

@@ -1,0 +1,155 @@
+-- In a greedy schedule no row has room for an operation that is ready and issued later.
+use Rattle.std.proofs.Common.{◌≡◌, ◌≢◌, ◌<◌, ◌≤◌, ℕ, ◌+◌, ◌-◌, ◌==◌, ◌&&◌, ◌||◌, not, nat_le, true, false, List, [], ◌∷◌, ◌++◌, length, filter, Option, Some, None, arith, refl, sym, ap, ◌∙◌, subst, inl, inr}
+use Rattle.std.specs.Prelude.{Contains, reverse}
+use Rattle.std.proofs.lemmas.Bool.{eqb-true, leb-false}
+use Rattle.std.proofs.lemmas.List.{reverse-append}
+use Rattle.std.proofs.lemmas.Option.{none-some}
+use Rattle.iloc_meaning.proofs.Cases.{by_bool}
+use Rattle.iloc_ops.specs.declared.op.Op.{Op}
+use Rattle.iloc_meaning.specs.Trace.{op_at}
+use Rattle.iloc_timed.specs.declared.latencies.Latencies.{Latencies}
+use Rattle.iloc_timed.specs.declared.row.Row.{Row}
+use Rattle.iloc_timed.specs.Kinds.{kind, is_memory, is_mult}
+use Rattle.iloc_timed.specs.Latency.{latency}
+use Rattle.iloc_timed.specs.Rows.{row_at, holds, issue_cycle, kind_in, is_some_kind}
+use Rattle.iloc_timed.proofs.Arrivals.{issued_within}
+use Rattle.iloc_timed.proofs.Issues.{issued_there, holds_zero, holds_one}
+use Rattle.iloc_sched.specs.Greedy.{IsGreedyBy, can_go_beside, chosen_with, first_of_all, may_stand_beside, on_units, ready}
+use Rattle.iloc_sched.specs.Steps.Members.{In}
+use Rattle.iloc_sched.proofs.Basics.Members.{from_append, in_filter, in_from}
+use Rattle.iloc_sched.proofs.Choice.FirstOfAll.{first_some}
+use Rattle.iloc_sched.proofs.Choice.Ready.{ready_from}
+use Rattle.iloc_explain.specs.declared.holding.Holder.TheVariants.{Delays, Nothing}
+use Rattle.iloc_explain.specs.declared.path.Stretch.{Stretch}
+use Rattle.iloc_explain.specs.declared.path.Stretch.TheVariants.{Delay, Free}
+use Rattle.iloc_explain.specs.Holding.{clash, held_by, holder, keeper, keeper_of}
+use Rattle.iloc_explain.specs.Laws.{GreedySchedulesLeaveNoRoom}
+use Rattle.iloc_explain.specs.Path.{Binds, HadRoom, IsPath, LeadBack, origin, span}
+use Rattle.iloc_explain.specs.Waiting.{IsReadyAt}
+use Rattle.iloc_explain.proofs.Stretches.{binds_from}
+
+-- a full row keeps each operation out
+full_keeps : (ops : List Op) (j a b : ℕ) → keeper_of ops j (Some a) (Some b) ≢ None
+full_keeps ops j a b = by_bool (clash ops b j && not (clash ops a j))
+    (λ t none. none-some b (sym (rw t at none)))
+    (λ f none. none-some a (sym (rw f at none)))
+
+-- an operation that can't stand beside the only one of a row is kept out by it
+one_keeps : (ops : List Op) (j a : ℕ) → clash ops a j ≡ true → (keeper_of ops j (Some a) None ≢ None)
+    × (keeper_of ops j None (Some a) ≢ None)
+one_keeps ops j a clashes = (
+  λ none. none-some a (sym (rw clashes at none)),
+  λ none. none-some a (sym (rw clashes at none)),
+)
+
+-- so does a row of an operation and of one that goes beside it, or of one beside which it can't go
+units_keep : (ops : List Op) (j a : ℕ) (b : Option ℕ) → (b ≡ None → clash ops a j ≡ true)
+    → keeper ops (on_units ops a b) j ≢ None
+units_keep ops j a (Some b) clashes =
+    by_bool (is_mult (kind (op_at ops a)) || is_some_kind is_memory (kind_in ops (Some b)))
+    (λ t. rw t (full_keeps ops j b a))
+    (λ f. rw f (full_keeps ops j a b))
+units_keep ops j a None clashes =
+    let both = one_keeps ops j a (clashes refl) in
+    by_bool (is_mult (kind (op_at ops a)) || false)
+    (λ t. rw t both.1)
+    (λ f. rw f both.0)
+
+module _ (prios : List ℕ) (lat : Latencies) (block ops : List Op) (rows : List Row) (greedy : IsGreedyBy prios lat block ops rows) where
+  -- the first of what is ready is issued in the row
+  first_held : (ops : List Op) (row : Row) (a : ℕ) (b : Option ℕ) → row ≡ on_units ops a b → holds row a ≡ true
+  first_held ops row a b is =
+      by_bool (is_mult (kind (op_at ops a)) || is_some_kind is_memory (kind_in ops b))
+      (λ t. let there : row ≡ record { zero = b; one = Some a } = is ∙ rw t refl in holds_one row a (ap (λ (r : Row). r.one) there))
+      (λ f. let there : row ≡ record { zero = Some a; one = b } = is ∙ rw f refl in holds_zero row a (ap (λ (r : Row). r.zero) there))
+
+  pub no_room : (j r b : ℕ) → j < length ops → IsReadyAt lat ops rows j r → r ≤ b → b < issue_cycle rows j
+      → keeper ops (row_at rows b) j ≢ None
+  no_room j r b known is_ready after before =
+      let last : issue_cycle rows j < length rows = issued_within ops rows j known greedy.lawful.table in
+      let within : b < length rows = omega arith in
+      let candidates : List ℕ = ready lat ops rows b in
+      let waits : In candidates j = ready_from lat ops rows b j record {
+        within = known;
+        waiting = omega arith;
+        over = λ h d pair. let over : issue_cycle rows h + d ≤ r = is_ready.over h d pair in omega arith;
+      } in
+      let first = first_some prios candidates j waits in
+      let a : ℕ = first.0 in
+      let beside : Option ℕ = first_of_all prios (filter (can_go_beside ops a) candidates) in
+      let row : row_at rows b ≡ on_units ops a beside =
+      greedy.each b within ∙ ap (chosen_with ops prios candidates) first.1 in
+      let held : holds (row_at rows b) a ≡ true = first_held ops (row_at rows b) a beside row in
+      subst (λ there. keeper ops there j ≢ None) (sym row) (units_keep ops j a beside (λ none.
+      clashing a candidates waits none (λ same.
+      let at : issue_cycle rows j ≡ b =
+      issued_there rows b j (greedy.lawful.table.once j known) within (subst (λ n. holds (row_at rows b) n ≡ true) same held) in
+      absurd (omega arith))))
+    where
+      clashing : (a : ℕ) (candidates : List ℕ) → In candidates j
+          → first_of_all prios (filter (can_go_beside ops a) candidates) ≡ None → (a ≡ j → ⊥) → clash ops a j ≡ true
+      clashing a candidates waits none apart =
+          by_bool (may_stand_beside (kind (op_at ops a)) (kind (op_at ops j)))
+          (λ t. by_bool (a == j)
+          (λ same. absurd (apart (eqb-true a j same)))
+          (λ other.
+          let test : can_go_beside ops a j ≡ true = rw (other, t) refl in
+          let found = first_some prios (filter (can_go_beside ops a) candidates) j
+          (in_filter (can_go_beside ops a) candidates j waits test) in
+          absurd (none-some found.0 (sym none ∙ found.1))))
+          (λ f. rw f refl)
+
+  -- so nothing but its delays or an operation keeps one out of the row before
+  pub held_by_some : (j r : ℕ) → j < length ops → IsReadyAt lat ops rows j r → holder ops rows j (issue_cycle rows j) r ≢ Nothing
+  held_by_some j r known is_ready nothing = by_bool (nat_le (issue_cycle rows j) r)
+      (λ t. let delays : Delays ≡ Nothing = rw t at nothing in absurd cc)
+      (λ f.
+      let later : r < issue_cycle rows j = leb-false (issue_cycle rows j) r f in
+      no_room j r (issue_cycle rows j - 1) known is_ready (omega arith) (omega arith)
+      (none_held (keeper ops (row_at rows (issue_cycle rows j - 1)) j) (rw f at nothing)))
+    where
+      none_held : (o : Option ℕ) → held_by o ≡ Nothing → o ≡ None
+      none_held None is = refl
+      none_held (Some i) is = absurd cc
+
+  -- and no stretch that leads back is free
+  none_free : (j c n : ℕ) (back : List Stretch) → j < length ops → c ≤ issue_cycle rows j → LeadBack lat ops rows j c back
+      → In back (Free n) → ⊥
+  none_free j c n [] known within leads there = there
+  none_free j c n (s ∷ back) known within (binds, leads) (inl here) =
+      let free : Binds lat ops rows j c (Free n) = subst (Binds lat ops rows j c) here binds in
+      let had : HadRoom ops rows j free.0 c n = free.2 in
+      let some : 0 < n = had.some in
+      let far : free.0 + n ≤ c = had.ready in
+      no_room j free.0 (c - 1) known free.1 (omega arith) (omega arith) (had.room (c - 1) (omega arith) (omega arith))
+  none_free j c n (s ∷ back) known within (binds, leads) (inr later) =
+      let place = binds_from lat ops rows j c s greedy.lawful.table known within binds in
+      none_free (origin s j) (c - span s) n back place.0 place.1 leads later
+
+in_turned : (xs : List Stretch) (s : Stretch) → In (reverse xs) s → In xs s
+in_turned [] s there = there
+in_turned (x ∷ xs) s there =
+    let turned : reverse (x ∷ xs) ≡ reverse xs ++ x ∷ [] = reverse-append (x ∷ []) xs in
+    elim (from_append (reverse xs) (x ∷ []) s (subst (λ ys. In ys s) turned there)) [
+      | inl before ↦ inr (in_turned xs s before)
+      | inr (inl last) ↦ inl last
+      | inr (inr none) ↦ absurd none
+    ]
+
+path_has_none : (prios : List ℕ) (lat : Latencies) (block ops : List Op) (rows : List Row) (path : List Stretch) (n : ℕ)
+    → IsGreedyBy prios lat block ops rows → IsPath lat ops rows path → Contains path (Free n) → ⊥
+path_has_none prios lat block [] rows path n greedy is there =
+    let none : In [] (Free n) = subst (λ xs. In xs (Free n)) is (in_from path (Free n) there) in none
+path_has_none prios lat block (op ∷ ops) rows path n greedy (j, back, last, leads, turned) there =
+    let inside : In (reverse (Delay j (latency lat (op_at (op ∷ ops) j)) ∷ back)) (Free n) =
+    subst (λ xs. In xs (Free n)) turned (in_from path (Free n) there) in
+    elim (in_turned (Delay j (latency lat (op_at (op ∷ ops) j)) ∷ back) (Free n) inside) [
+      | inl same ↦ absurd cc
+      | inr before ↦ none_free prios lat block (op ∷ ops) rows greedy j (issue_cycle rows j) n back last.known (omega arith) leads before
+    ]
+
+pub greedy_leaves_none : GreedySchedulesLeaveNoRoom
+greedy_leaves_none = record {
+  held = λ prios lat block ops rows greedy. held_by_some prios lat block ops rows greedy;
+  path = λ prios lat block ops rows path greedy is n. path_has_none prios lat block ops rows path n greedy is;
+}

@@ -1,0 +1,24 @@
+-- There is one cycle at which an operation is ready.
+use Rattle.std.proofs.Common.{◌≡◌, ◌≤◌, ℕ, ◌+◌, List, arith, inl, inr}
+use Rattle.iloc_ops.specs.declared.op.Op.{Op}
+use Rattle.iloc_timed.specs.declared.latencies.Latencies.{Latencies}
+use Rattle.iloc_timed.specs.declared.row.Row.{Row}
+use Rattle.iloc_timed.specs.Rows.{issue_cycle}
+use Rattle.iloc_explain.specs.Waiting.{IsReadyAt}
+
+ready_below : (lat : Latencies) (ops : List Op) (rows : List Row) (j c d : ℕ) → IsReadyAt lat ops rows j c
+    → IsReadyAt lat ops rows j d → c ≤ d
+ready_below lat ops rows j c d is also = elim is.earliest [
+  | inl start ↦ omega arith
+  | inr (i, waits) ↦
+      let over : issue_cycle rows i + waits.delay ≤ d = also.over i waits.delay waits.pair in
+      let ends : issue_cycle rows i + waits.delay ≡ c = waits.ends in
+      omega arith
+]
+
+pub ready_same : (lat : Latencies) (ops : List Op) (rows : List Row) (j c d : ℕ) → IsReadyAt lat ops rows j c
+    → IsReadyAt lat ops rows j d → c ≡ d
+ready_same lat ops rows j c d is also =
+    let low : c ≤ d = ready_below lat ops rows j c d is also in
+    let high : d ≤ c = ready_below lat ops rows j d c also is in
+    omega arith

@@ -1,0 +1,10 @@
+use Rattle.std.specs.Prelude.{◌≡◌, ◌+◌, map}
+use Rattle.std.specs.List.{range_with_len}
+use Rattle.iloc_meaning.specs.Trace.{op_at}
+use Rattle.iloc_timed.specs.Latency.{latency}
+use Rattle.iloc_timed.specs.Rows.{issue_cycle}
+use Rattle.iloc_explain.proofs.path.arrivals.Given as goal
+
+abbrev pub invariant-loop-i : goal.invariant-loop-i
+invariant-loop-i l =
+    l.found.items ≡ map (λ i. issue_cycle l.schedule.rows i + latency l.latencies (op_at l.schedule.ops i)) (range_with_len 0 l.i)

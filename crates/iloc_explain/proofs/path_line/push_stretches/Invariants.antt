@@ -1,0 +1,8 @@
+use Rattle.std.proofs.Common.{◌≡◌, ◌++◌, take}
+use Rattle.std.specs.List.{flat_map}
+use Rattle.iloc_explain.specs.Listing.{stretch_text}
+use Rattle.iloc_explain.proofs.path_line.push_stretches.Given as goal
+
+abbrev pub invariant-loop-stretch : goal.invariant-loop-stretch
+invariant-loop-stretch l =
+    l.text.items ≡ l.initial.text.items ++ flat_map stretch_text (take l.stretch-index l.path)
