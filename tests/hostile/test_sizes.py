@@ -107,12 +107,23 @@ def judged_inputs():
            b"block 1 A same cycles 5000 ours 1 least 1\n")
     yield ("rows of a block that shows nothing", lambda: rows(free * 5000),
            b"block 1 A void cycles 5000 ours 0 least 0\n  the block shows nothing\n")
+    yield ("a memory of which no word can be left out", lambda: own(multiples())
+           .replace(b"output 1024 ]", b"output 1280 ]"), b"block 1 A differs cycles ")
     yield ("10,001 operations in rows", lambda: rows(free * 5000, load),
            refused_line(f"line 5002: more than {MOST_OPERATIONS} operations in a block"))
     yield "65,535 heads of one block", lambda: rows(b"block 1 A\n" * MOST_BLOCKS), refused_line("line 3: no such block")
     yield "brackets", lambda: rows(b"[]\n", b"[" * (MOST_BYTES - 6)), refused_line("line 3: not understood")
     yield "a row without an end", lambda: b"A:\n[" + b" " * (MOST_BYTES - 4), refused_line("line 2: not understood")
     yield "a long number", lambda: b"A:\ncycles " + b"9" * (MOST_BYTES - 10), refused_line("line 2: number above 2147483647")
+
+
+def multiples():
+    """A block that emits a word if it and the words after it, 64 in all, are its multiples by 1, 2, 3 and so on, and else
+    faults."""
+    sums = b"".join(b"loadAI r0, %d => r2\nmultI r1, %d => r3\nsub r2, r3 => r4\nmult r4, r4 => r5\nadd r6, r5 => r6\n"
+                    % (4 * k, k + 1) for k in range(1, 64))
+    return (b"A:\nloadI 1024 => r0\nload r0 => r1\n" + sums * 31
+            + b"multI r6, 65536 => r7\nload r7 => r8\noutput 1024\n")
 
 
 def chained_loads():

@@ -125,6 +125,8 @@ class Entry:
         at, words = (int(made[2]), [*map(int, made[3].split())]) if made else (0, [])
         if not made or at % 4 or at // 4 + len(words) > WORDS or self.differs_on(words_from(at, words)) != made[1]:
             yield f"{detail!r} isn't so"
+        elif words and not (words[0] and words[-1]):
+            yield f"{detail!r} has a 0 at an end"
 
 
 def entries_of(given, latencies, start):

@@ -5,4 +5,5 @@ pub mod Tracking
 pub mod Agreement
 pub mod Order
 pub mod Place
+pub mod Refuting
 pub mod Counted

@@ -52,7 +52,7 @@ pub(crate) fn compared(
     let Some(clues) = clues(alloc, ours, theirs, latencies)? else {
         return Ok(Comparison::Same);
     };
-    if let Some(place) = difference_on(alloc, block, theirs, latencies, memory)? {
+    if let Some(place) = difference_on(alloc, block, theirs, latencies, memory.copy()?)? {
         return Ok(Comparison::Differs(place));
     }
     match refute(alloc, block, theirs, latencies, &clues)? {

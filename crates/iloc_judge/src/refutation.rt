@@ -1,13 +1,13 @@
 //! Memories on which a schedule's outcome isn't a block's.
-ghost use Rattle.std.specs.Prelude.{◌≡◌, MatchOption, IfOk, IfSome};
-ghost use Rattle.iloc_meaning.specs.Outcome.{outcome};
-ghost use Rattle.iloc_timed.specs.Timed.{timed_outcome};
+ghost use Rattle.std.specs.Prelude.{MatchOption, IfOk, IfSome};
+ghost use Rattle.iloc_judge.specs.Comparison.{AgreesOn};
 ghost use Rattle.iloc_judge.specs.Memory.{memory_of};
-ghost use Rattle.iloc_judge.specs.Place.{IsPlace};
+ghost use Rattle.iloc_judge.specs.Steps.Refuting.{DiffersAt};
 
 pub(crate) mod clues;
 mod pattern;
 pub(crate) mod probe;
+mod shortening;
 
 use crate::place::{Place, difference};
 use clues::Clues;
@@ -16,6 +16,7 @@ use iloc_ops::{Block, NoMemory};
 use iloc_timed::{Latencies, Schedule, run_schedule};
 use pattern::Pattern;
 use probe::Probe;
+use shortening::shortened;
 use std::alloc::Global;
 
 /// A made-up memory on which a schedule's outcome differs from a block's, and where.
@@ -31,19 +32,36 @@ pub(crate) fn difference_on(
     block: &Block,
     schedule: &Schedule,
     latencies: &Latencies,
-    memory: &Memory,
+    memory: Memory,
 ) -> Result<Option<Place>, NoMemory>
     ensures { IfOk result (λ found. MatchOption found
-        (timed_outcome latencies.now schedule.now.ops schedule.now.rows memory.now ≡ outcome block.now.ops memory.now)
-        (IsPlace (timed_outcome latencies.now schedule.now.ops schedule.now.rows memory.now)
-        (outcome block.now.ops memory.now))) }
+        (AgreesOn latencies.now block.now.ops schedule.now.ops schedule.now.rows memory)
+        (DiffersAt latencies.now block.now.ops schedule.now.ops schedule.now.rows memory)) }
 {
     let wanted = run_block(alloc, block, memory.copy()?)?;
-    let got = run_schedule(alloc, schedule, latencies, memory.copy()?)?;
+    let got = run_schedule(alloc, schedule, latencies, memory)?;
     Ok(difference(&got, &wanted))
 }
 
-/// Tries a few memories that are made up of what two runs mention.
+/// The difference between a schedule's outcome and a block's on a made-up memory.
+fn refutation_on(
+    alloc: Global,
+    block: &Block,
+    schedule: &Schedule,
+    latencies: &Latencies,
+    probe: Probe,
+) -> Result<Option<Refutation>, NoMemory>
+    ensures { IfOk result (λ found. IfSome found (λ it. DiffersAt latencies.now block.now.ops
+        schedule.now.ops schedule.now.rows (memory_of it.probe) it.place)) }
+{
+    let memory = Memory::with_words(alloc, probe.at, &probe.words)?;
+    match difference_on(alloc, block, schedule, latencies, memory)? {
+        Some(place) => Ok(Some(Refutation { probe, place })),
+        None => Ok(None),
+    }
+}
+
+/// Tries a few memories that are made up of what two runs mention, and shortens the first that shows a difference.
 pub(crate) fn refute(
     alloc: Global,
     block: &Block,
@@ -51,15 +69,13 @@ pub(crate) fn refute(
     latencies: &Latencies,
     clues: &Clues,
 ) -> Result<Option<Refutation>, NoMemory>
-    ensures { IfOk result (λ found. IfSome found (λ it.
-        IsPlace (timed_outcome latencies.now schedule.now.ops schedule.now.rows (memory_of it.probe))
-        (outcome block.now.ops (memory_of it.probe)) it.place)) }
+    ensures { IfOk result (λ found. IfSome found (λ it. DiffersAt latencies.now block.now.ops
+        schedule.now.ops schedule.now.rows (memory_of it.probe) it.place)) }
 {
     for pattern in Pattern::ALL {
         let probe = Probe::of(alloc, pattern, clues)?;
-        let memory = Memory::with_words(alloc, probe.at, &probe.words)?;
-        if let Some(place) = difference_on(alloc, block, schedule, latencies, &memory)? {
-            return Ok(Some(Refutation { probe, place }));
+        if let Some(found) = refutation_on(alloc, block, schedule, latencies, probe)? {
+            return Ok(Some(shortened(alloc, block, schedule, latencies, found)?));
         }
     }
     Ok(None)

@@ -1,5 +1,5 @@
 //! Memories that the judge makes up.
-ghost use Rattle.std.specs.Prelude.{◌≡◌, ◌+◌, ◌*◌, ◌%◌, ◌≤◌, length};
+ghost use Rattle.std.specs.Prelude.{◌≡◌, ◌+◌, ◌*◌, ◌%◌, ◌≤◌, ◌<◌, length};
 
 use crate::refutation::clues::Clues;
 use crate::refutation::pattern::Pattern;
@@ -19,8 +19,11 @@ pub struct Probe {
     ghost fits: { at + 4 * length words.items ≤ 65536 },
 }
 
+/// How many bits the place of a word of a made-up memory has.
+pub(crate) const PLACE_BITS: u32 = 6;
+
 /// How many words a made-up memory has at most.
-const MOST_WORDS: u32 = 64;
+pub(crate) const MOST_WORDS: u32 = 64;
 
 /// Where a made-up memory starts if no address is known.
 const USUAL_START: u32 = 1_024;
@@ -36,5 +39,34 @@ impl Probe {
             words.push(pattern.word(clues, at, place))?;
         }
         Ok(Probe { at, words })
+    }
+    /// The same memory with 0 at the places of one part. A part has the places that differ in so many of their last bits
+    /// alone, and its number is their other bits.
+    pub(crate) fn without(&self, alloc: Global, part: usize, bits: u32) -> Result<Probe, NoMemory>
+        requires { bits < PLACE_BITS }
+    {
+        let mut words = Vec::with_capacity(alloc, self.words.len())?;
+        for place in 0..self.words.len() {
+            let is_in_it = place >> bits == part;
+            words.push(if is_in_it { 0 } else { self.words[place] })?;
+        }
+        Ok(Probe { at: self.at, words })
+    }
+
+    /// The same memory, from its first word that isn't 0 to its last.
+    pub(crate) fn trimmed(&self, alloc: Global) -> Result<Probe, NoMemory> {
+        let mut first = 0;
+        let mut end = 0;
+        for place in 0..self.words.len() {
+            if self.words[place] != 0 {
+                first = if end == 0 { place } else { first };
+                end = place + 1;
+            }
+        }
+        let words = Vec::from_slice(alloc, &self.words[first..end])?;
+        Ok(Probe {
+            at: self.at + 4 * first as u32,
+            words,
+        })
     }
 }

@@ -1,0 +1,7 @@
+use Rattle.iloc_judge.specs.Memory.{memory_of}
+use Rattle.iloc_judge.specs.Steps.Refuting.{DiffersAt}
+use Rattle.iloc_judge.proofs.refutation.shortening.without_parts.Given as goal
+
+abbrev pub invariant-loop-part : goal.invariant-loop-part
+invariant-loop-part l =
+    DiffersAt l.latencies l.block.ops l.schedule.ops l.schedule.rows (memory_of l.kept.probe) l.kept.place

@@ -1,0 +1,13 @@
+-- A memory on which rows don't do what their block does.
+use Rattle.std.specs.Prelude.{List, ℤ}
+use Rattle.iloc_ops.specs.declared.op.Op.{Op}
+use Rattle.iloc_meaning.specs.Outcome.{outcome}
+use Rattle.iloc_timed.specs.declared.latencies.Latencies.{Latencies}
+use Rattle.iloc_timed.specs.declared.row.Row.{Row}
+use Rattle.iloc_timed.specs.Timed.{timed_outcome}
+use Rattle.iloc_judge.specs.declared.place.Place.{Place}
+use Rattle.iloc_judge.specs.Place.{IsPlace}
+
+-- on this memory the rows' outcome differs from the block's, there
+abbrev pub DiffersAt : Latencies → List Op → List Op → List Row → List ℤ → Place → Type 0
+DiffersAt lat block ops rows memory place = IsPlace (timed_outcome lat ops rows memory) (outcome block memory) place
