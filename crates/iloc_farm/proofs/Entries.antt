@@ -2,12 +2,11 @@
 use Rattle.std.proofs.Common.{◌≡◌, ℕ, suc, ◌+◌, List, [], ◌∷◌, ◌++◌, length, map, Option, Some, refl, sym, ap, ap₂, ◌∙◌, subst, arith, append_assoc, append-nil}
 use Rattle.std.specs.Prelude.{slice_get, MatchOption}
 use Rattle.std.specs.List.{flat_map}
-use Rattle.std.proofs.lemmas.Grind.{flat_map-append}
 use Rattle.std.proofs.lemmas.List.Concat.{flat_map-cons}
 use Rattle.iloc_ops.specs.declared.file.Block.{Block}
 use Rattle.iloc_args.specs.declared.request.Request.{Request}
 use Rattle.iloc_farm.specs.Entries.{AreEntries, IsListingAfter, IsListingOf}
-use Rattle.iloc_farm.specs.Listing.{entries, total_of_all}
+use Rattle.iloc_farm.specs.Listing.{entries}
 use Rattle.iloc_farm.specs.Steps.Listed.{AreListed, Grows, OfBlock, ToList}
 
 module _ {F : Type 0} (lists : ℕ → Block → List ℕ → F → Type 0) where
@@ -181,26 +180,3 @@ module _ {X : Type 0} (lists : ℕ → Block → List ℕ → X → Type 0) (Fin
     listed = lines_of 1 blocks found are.many are.each;
     whole = whole;
   }
-
--- texts and cycles were taken from entries, of which none is left, and an ending follows the texts
-module _ {E : Type 0} (text_of : E → List ℕ) (found_of : E → ℕ) where
-  joined_map : (xs : List E) → flat_map (λ t. t) (map text_of xs) ≡ flat_map text_of xs
-  joined_map [] = refl
-  joined_map (x ∷ xs) = ap (λ t. text_of x ++ t) (joined_map xs)
-
-  none_left : {V : Type 0} (f : E → V) (xs : List E) (ys zs : List V) → length xs ≡ 0 → ys ++ map f xs ≡ zs → ys ≡ zs
-  none_left f [] ys zs none all = sym (append-nil ys) ∙ all
-  none_left f (x ∷ xs) ys zs none all = absurd (omega arith)
-
-  pub parts_whole : (made rest : List E) (texts more : List (List ℕ)) (found seen : List ℕ) (start last all : List ℕ)
-      → length rest ≡ 0 → texts ++ map text_of rest ≡ map text_of made
-      → found ++ map found_of rest ≡ map found_of made → seen ≡ found → start ≡ []
-      → last ≡ start ++ total_of_all seen → more ≡ texts ++ last ∷ [] → all ≡ flat_map (λ t. t) more
-      → all ≡ flat_map text_of made ++ total_of_all (map found_of made)
-  parts_whole made rest texts more found seen start last all none are have same empty ended added whole =
-      let ts : texts ≡ map text_of made = none_left text_of rest texts (map text_of made) none are in
-      let fs : seen ≡ map found_of made = same ∙ none_left found_of rest found (map found_of made) none have in
-      let ending : last ≡ total_of_all (map found_of made) =
-      ended ∙ (ap (λ t. t ++ total_of_all seen) empty ∙ ap total_of_all fs) in
-      whole ∙ (ap (flat_map (λ t. t)) added ∙ (flat_map-append (λ t. t) texts (last ∷ [])
-      ∙ ap₂ (λ t e. t ++ e) (ap (flat_map (λ t. t)) ts ∙ joined_map made) (append-nil last ∙ ending)))

@@ -7,6 +7,7 @@ use Rattle.iloc_farm.specs.Device.{WritesFront}
 use Rattle.iloc_farm.specs.Program.{Says}
 use Rattle.iloc_farm.specs.declared.listing.writing.WriteFailed.{WriteFailed}
 use Rattle.std.proofs.lemmas.List.{drop_more, take_all}
+use Rattle.std.proofs.lemmas.List.Concat.{flat_map-cons}
 
 -- the bytes taken join the front, and the others are left
 pub moves_on : (text front rest : List ℕ) (count n : ℕ) → text ≡ front ++ rest → n ≡ length rest - count
@@ -45,11 +46,16 @@ front_before old new part after whole failed all = record {
   written = failed.written;
 }
 
--- what is left of texts before one of them and after it
-pub next_text : (texts : List (List ℕ)) (i : ℕ) (text : List ℕ) → i < length texts → text ≡ get_or texts i text
-    → flat_map (λ t. t) (drop i texts) ≡ text ++ flat_map (λ t. t) (drop (i + 1) texts)
-next_text texts i text lt here =
-    ap (flat_map (λ t. t)) (drop_more texts i text lt) ∙ ap (λ t. t ++ flat_map (λ t. t) (drop (i + 1) texts)) (sym here)
+-- what is left of entries before one of them and after it
+pub next_entry : {E : Type 0} (text_of : E → List ℕ) (entries : List E) (i : ℕ) (entry : E) (ending : List ℕ)
+    → i < length entries → entry ≡ get_or entries i entry
+    → flat_map text_of (drop i entries) ++ ending ≡ text_of entry ++ (flat_map text_of (drop (i + 1) entries) ++ ending)
+next_entry text_of entries i entry ending lt here =
+    let rest = flat_map text_of (drop (i + 1) entries) in
+    ap (λ es. flat_map text_of es ++ ending) (drop_more entries i entry lt)
+    ∙ (ap (λ t. t ++ ending) (flat_map-cons text_of (get_or entries i entry) (drop (i + 1) entries)
+    ∙ ap (λ e. text_of e ++ rest) (sym here))
+    ∙ append_assoc (text_of entry) rest ending)
 
 pub on_err : {T E : Type 0} {P : Type 0} (result : Result T E) → P → OnErr result P
 on_err (Ok x) p = tt

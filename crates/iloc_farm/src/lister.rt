@@ -129,5 +129,5 @@ pub(crate) fn listed_as_read<L: Lister, R: Read>(
         ..
     } = read;
     L::push_ending(&mut text, &found)?;
-    Ok(Listing::of_text(alloc, text)?)
+    Ok(Listing::of_text(alloc, text))
 }

@@ -102,7 +102,7 @@ fn listed_rows(alloc: Global, submission: Submission, request: &Request) -> Resu
     let memory = initial_memory(alloc, request)?;
     let checked = checked_text(alloc, submission, request, &memory)?;
     Ok(Listed {
-        text: Listing::of_text(alloc, checked.text)?,
+        text: Listing::of_text(alloc, checked.text),
         finding: checked.finding,
     })
 }

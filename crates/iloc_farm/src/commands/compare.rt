@@ -303,6 +303,6 @@ impl FarmedLister for CompareLister {
             push_comparison(&mut text, request.csv, index + 1, name, &found[index])?;
         }
         push_totals(&mut text, request.csv, &found)?;
-        Listing::of_text(alloc, text)
+        Ok(Listing::of_text(alloc, text))
     }
 }

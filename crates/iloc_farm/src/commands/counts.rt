@@ -101,6 +101,6 @@ impl FarmedLister for CountLister {
             push_count(&mut text, request.csv, index + 1, name, count)?;
         }
         push_ending(&mut text, request.csv, &cycles)?;
-        Listing::of_text(alloc, text)
+        Ok(Listing::of_text(alloc, text))
     }
 }

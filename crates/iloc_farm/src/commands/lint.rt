@@ -27,7 +27,7 @@ pub(crate) fn linted<R: Read>(
     let input = read_text_from(alloc, reader)?;
     let report = report_of(alloc, &input)?;
     Ok(Listed {
-        text: Listing::of_text(alloc, report.text)?,
+        text: Listing::of_text(alloc, report.text),
         finding: Finding::of_text(report.reads),
     })
 }

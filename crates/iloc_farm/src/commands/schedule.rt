@@ -1,20 +1,27 @@
 //! `schedule`: blocks' schedules, a line a row.
-ghost use Rattle.std.specs.Prelude.{◌≤◌, length, IfOk};
+ghost use Rattle.std.specs.Prelude.{◌≡◌, ◌≤◌, ◌<◌, ◌^◌, length, sum_by, IfOk};
 ghost use Rattle.iloc_ops.specs.Limits.{MAX_BLOCKS};
 
 use crate::farmed::FarmedLister;
-use crate::listing::text::{Listing, Text};
-use crate::listing::{count_of, push_schedule, push_total_of};
+use crate::listing::text::{Entry, Listing, Text};
+use crate::listing::{count_of, push_schedule, push_total};
+use bytes::BytesMut;
 use iloc_args::Request;
 use iloc_sched::Scheduler;
 use iloc_text::{Block, Blocks, NoMemory};
 use std::alloc::Global;
 
-/// What is listed of one block, and the cycles of its schedule.
-#[derive(Drop)]
-pub struct Entry {
-    pub text: Text,
-    pub cycles: u32,
+/// The cycles of these entries' schedules together.
+fn cycles_of_all(entries: &[Entry]) -> u64
+    requires { length entries.now ≤ MAX_BLOCKS }
+    ensures sum { result ≡ sum_by (λ entry. entry.cycles) entries.now }
+    ensures small { result < 2 ^ 63 }
+{
+    let mut total = 0;
+    for entry in entries {
+        total += u64::from(entry.cycles);
+    }
+    total
 }
 
 /// Schedules each block, and lists its schedule.
@@ -23,6 +30,8 @@ pub(crate) struct ScheduleLister {
     scheduler: Scheduler,
     /// The entry of a block, until it is kept.
     text: Vec<u8>,
+    /// What the next entries are cut from.
+    piece: BytesMut,
 }
 
 impl FarmedLister for ScheduleLister {
@@ -43,6 +52,7 @@ impl FarmedLister for ScheduleLister {
         ScheduleLister {
             scheduler: Scheduler::new(alloc),
             text: Vec::new(alloc),
+            piece: BytesMut::new(alloc),
         }
     }
 
@@ -68,7 +78,7 @@ impl FarmedLister for ScheduleLister {
         )?;
         self.scheduler.take_back(schedule);
         let folds = cycles as usize / 4 > block.ops.len();
-        let text = Text::of(alloc, &self.text, folds)?;
+        let text = Text::of(alloc, &mut self.piece, &self.text, folds)?;
         Ok(Entry { text, cycles })
     }
 
@@ -88,15 +98,8 @@ impl FarmedLister for ScheduleLister {
         ensures { IfOk result (IsListingOf (IsScheduleEntry _request.now) total_of_all blocks) }
     {
         drop(blocks);
-        let mut texts = Vec::with_capacity(alloc, entries.len() + 1)?;
-        let mut cycles = Vec::with_capacity(alloc, entries.len())?;
-        for entry in entries {
-            texts.push(entry.text)?;
-            cycles.push(entry.cycles)?;
-        }
         let mut ending = Vec::new(alloc);
-        push_total_of(&mut ending, &cycles)?;
-        texts.push(Text::whole(alloc, ending))?;
-        Listing::of_texts(alloc, texts)
+        push_total(&mut ending, cycles_of_all(&entries))?;
+        Listing::of_entries(alloc, entries, ending)
     }
 }

@@ -27,7 +27,7 @@ returns-clause-ok g c =
       denoted = read.3;
       listed = whole_listing (g.L.Lister.lists c.args.request.now) g.L.Lister.ending read.2 c.new-2.result.items text _
           c.new-3.result.items c.in_ok-read.read.found.items c.new-2.ensures.items c.new-3.ensures.items read.4.1
-          (c.in_ok-of_text.ensures ∙ (c.in_ok-push_ending.ensures
+          (c.of_text.ensures ∙ (c.in_ok-push_ending.ensures
           ∙ ap (λ fs. text ++ g.L.Lister.ending fs) c.deref.ensures.value));
     }
 

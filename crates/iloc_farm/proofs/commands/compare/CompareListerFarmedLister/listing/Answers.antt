@@ -1,6 +1,5 @@
 use Rattle.std.proofs.Common.{◌+◌, ◌∙◌, ◌++◌, ap, ap₂, arith, drop, append-nil, sym}
 use Rattle.std.proofs.lemmas.List.{drop_all}
-use Rattle.std.proofs.lemmas.Result.{IfOk-weaker}
 use Rattle.iloc_farm.specs.Commands.Compare.{compare_ending, compare_header, compare_line}
 use Rattle.iloc_farm.specs.Listing.{entries, opening_as}
 use Rattle.iloc_farm.proofs.Listers.{compared_listing}
@@ -17,8 +16,6 @@ returns c =
     ∙ (c.loop-index.invariant
     ∙ ap (λ bs. opening_as csv compare_header ++ entries (compare_line csv) 1 bs c.args.found.items)
     c.as_slice-block-items.ensures)) in
-    IfOk-weaker c.of_text.result _ _
-    (λ text is. compared_listing c.args.request.now c.args.blocks c.args.found.items text c.requires.right
-    (is ∙ (c.in_ok-push_totals.ensures
-    ∙ ap₂ (λ t each. t ++ compare_ending csv each) lines c.deref.ensures.value)))
-    c.of_text.ensures
+    compared_listing c.args.request.now c.args.blocks c.args.found.items c.of_text.result c.requires.right
+    (c.of_text.ensures ∙ (c.in_ok-push_totals.ensures
+    ∙ ap₂ (λ t each. t ++ compare_ending csv each) lines c.deref.ensures.value))

@@ -1,6 +1,5 @@
 use Rattle.std.proofs.Common.{◌+◌, ◌∙◌, ◌++◌, ap, ap₂, arith, drop, append-nil, sym}
 use Rattle.std.proofs.lemmas.List.{drop_all}
-use Rattle.std.proofs.lemmas.Result.{IfOk-weaker}
 use Rattle.iloc_farm.specs.Commands.Counts.{count_ending, count_header, count_line}
 use Rattle.iloc_farm.specs.Listing.{entries, opening_as}
 use Rattle.iloc_farm.proofs.Listers.{counted_listing}
@@ -17,8 +16,6 @@ returns c =
     ∙ (c.loop-index.invariant
     ∙ ap (λ bs. opening_as csv count_header ++ entries (count_line csv) 1 bs c.args.cycles.items)
     c.as_slice-block-items.ensures)) in
-    IfOk-weaker c.of_text.result _ _
-    (λ text is. counted_listing c.args.request.now c.args.blocks c.args.cycles.items text c.requires.right
-    (is ∙ (c.in_ok-push_ending.ensures
-    ∙ ap₂ (λ t each. t ++ count_ending csv each) lines c.deref.ensures.value)))
-    c.of_text.ensures
+    counted_listing c.args.request.now c.args.blocks c.args.cycles.items c.of_text.result c.requires.right
+    (c.of_text.ensures ∙ (c.in_ok-push_ending.ensures
+    ∙ ap₂ (λ t each. t ++ count_ending csv each) lines c.deref.ensures.value))

@@ -47,4 +47,4 @@ returns c =
     let whole : c.args.text.now ≡ unfolded c.loop-rest.runs.items c.loop-rest.bytes.items =
     c.loop-rest.invariant.so_far ∙ (ap (λ t. unfolded c.loop-rest.runs.items c.loop-rest.bytes.items ++ t) none
     ∙ append-nil (unfolded c.loop-rest.runs.items c.loop-rest.bytes.items)) in
-    rw (c.shrink_to_fit-2.ensures.items, c.shrink_to_fit.ensures.items) (sym whole)
+    rw (c.shrink_to_fit-2.ensures.items, c.in_ok-from_vec.ensures.ok, c.shrink_to_fit.ensures.items) (sym whole)

@@ -15,11 +15,11 @@ zero_rows = record { bytes = 0; rows = 0 }
 pub loop-run-init : goal.loop-run-init
 loop-run-init g c = record {
   so_far = none_joined _ _ _ _ _ refl
-      (ap₂ unfolded c.deref-run-items.ensures.value c.as_slice-rest.ensures.value ∙ c.self.view_is);
+      (ap₂ unfolded c.deref-run-items.ensures.value c.as_slice-rest.ensures ∙ c.self.view_is);
   fits = omega (
     arith,
     ap bytes_before c.deref-run-items.ensures.value,
-    ap length c.as_slice-rest.ensures.value,
+    ap length c.as_slice-rest.ensures,
     c.self.invariant,
   );
 }
