@@ -18,7 +18,7 @@ const EMPTY_ROW: &[u8] = b"[ nop ; nop ]\n";
 
 /// Entries are cut from pieces of this size. With an allocation for each, the heap of a worker's thread grew page by page: by
 /// 4,200 calls of `mprotect` on 65,535 blocks of some ten operations, and now by 270. With that, and with the entries moved
-/// to lists of their texts and cycles before they were written, `schedule` took 7 to 11 % more processor time with one
+/// to lists of their texts and cycles before they were written, `schedule` took 4 to 11 % more processor time with one
 /// worker there, and 9 to 12 % more wall time with four.
 const PIECE: usize = 65536;
 
