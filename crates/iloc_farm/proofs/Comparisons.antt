@@ -10,12 +10,12 @@ use Rattle.iloc_sched.specs.Least.{least}
 use Rattle.iloc_sched.specs.declared.ranking.heuristic.Heuristic.{Heuristic}
 use Rattle.iloc_sched.specs.declared.ranking.heuristic.Heuristic.TheVariants.{Chain, Slack, Descendants, Successors, Latency, Order}
 use Rattle.iloc_sched.proofs.Bounds.LeastBound.{least_bound}
-use Rattle.iloc_farm.specs.Commands.Compare.{IsComparison, cycles_by, place}
+use Rattle.iloc_farm.specs.Commands.Compare.{IsComparedCycles, cycles_by, place}
 use Rattle.iloc_farm.specs.Listing.{cycles_of}
 use Rattle.iloc_farm.specs.Steps.Limits.{most_cycles}
 use Rattle.iloc_farm.specs.Steps.Listed.{IsCount}
 use Rattle.iloc_farm.proofs.Schedules.{cycles_few_by}
-use Rattle.iloc_farm.specs.declared.commands.compare.Comparison.{Comparison}
+use Rattle.iloc_farm.specs.declared.commands.compare.ComparedCycles.{ComparedCycles}
 
 -- the bound is small, since some schedule takes as many cycles
 pub bound_small : (heuristic : Heuristic) (lat : Latencies) (b : Block) (n : ℕ) → IsCount heuristic lat b n
@@ -38,7 +38,7 @@ pub compared : (lat : Latencies) (b : Block) (bound chain slack descendants succ
     → bound ≡ least lat b.ops → IsCount Chain lat b chain → IsCount Slack lat b slack
     → IsCount Descendants lat b descendants → IsCount Successors lat b successors
     → IsCount Latency lat b latency → IsCount Order lat b order
-    → IsComparison lat b (record {
+    → IsComparedCycles lat b (record {
       least = bound;
       cycles = chain ∷ slack ∷ descendants ∷ successors ∷ latency ∷ order ∷ [];
     })
@@ -65,7 +65,7 @@ six (a ∷ b ∷ c ∷ d ∷ e ∷ f ∷ []) (a' ∷ b' ∷ c' ∷ d' ∷ e' ∷
 six _ _ long long' p q r s t u = absurd (omega arith)
 
 -- there is one comparison of a block
-pub one_comparison : (lat : Latencies) (b : Block) (c c' : Comparison) → IsComparison lat b c → IsComparison lat b c'
+pub one_comparison : (lat : Latencies) (b : Block) (c c' : ComparedCycles) → IsComparedCycles lat b c → IsComparedCycles lat b c'
     → c ≡ c'
 one_comparison lat b c c' is is' =
     let same : (heuristic : Heuristic) → cycles_by heuristic c ≡ cycles_by heuristic c' =

@@ -17,7 +17,7 @@ use Rattle.iloc_args.specs.declared.request.Request.{Request}
 use Rattle.iloc_args.specs.declared.request.Task.{Task}
 use Rattle.iloc_args.specs.declared.request.Task.TheVariants as task
 use Rattle.iloc_farm.specs.Apart.{Held}
-use Rattle.iloc_farm.specs.Commands.Compare.{IsCompareEntry, IsCompareListing, IsComparison, compare_ending, compare_header, compare_line}
+use Rattle.iloc_farm.specs.Commands.Compare.{IsCompareEntry, IsCompareListing, IsComparedCycles, compare_ending, compare_header, compare_line}
 use Rattle.iloc_farm.specs.Commands.Counts.{IsCountEntry, IsCountListing, count_ending, count_header, count_line}
 use Rattle.iloc_farm.specs.Commands.Explain.{IsExplainEntry}
 use Rattle.iloc_farm.specs.Commands.Graph.{IsGraphEntry, drawing_end, opening_at}
@@ -31,7 +31,7 @@ use Rattle.iloc_farm.specs.Schedules.{IsGreedyAs, IsTheGreedy}
 use Rattle.iloc_farm.specs.Steps.Listed.{Adds, AreListed, IsCount, ListsRead}
 use Rattle.iloc_farm.specs.declared.commands.Finding.TheVariants.{Passed}
 use Rattle.iloc_farm.specs.declared.commands.Listed.{Listed}
-use Rattle.iloc_farm.specs.declared.commands.compare.Comparison.{Comparison}
+use Rattle.iloc_farm.specs.declared.commands.compare.ComparedCycles.{ComparedCycles}
 use Rattle.iloc_farm.proofs.Comparisons.{one_comparison}
 use Rattle.iloc_farm.proofs.Entries.{lined_listing, listing_also, one_listing, one_listing_after}
 use Rattle.iloc_farm.proofs.Schedules.{one_schedule}
@@ -136,13 +136,13 @@ counted_listing request blocks found text are whole =
     }) (opening_as request.csv count_header) (count_ending request.csv) blocks found text are whole
 
 -- and of what was compared
-pub compared_listing : (request : Request) (blocks : List Block) (found : List Comparison) (text : List ℕ)
-    → AreListed (λ k b c. IsComparison request.latencies b c) blocks found
+pub compared_listing : (request : Request) (blocks : List Block) (found : List ComparedCycles) (text : List ℕ)
+    → AreListed (λ k b c. IsComparedCycles request.latencies b c) blocks found
     → text ≡ (opening_as request.csv compare_header ++ entries (compare_line request.csv) 1 blocks found)
     ++ compare_ending request.csv found
     → IsCompareListing request blocks text
 compared_listing request blocks found text are whole =
-    lined_listing (IsCompareEntry request) (IsComparison request.latencies) (compare_line request.csv)
+    lined_listing (IsCompareEntry request) (IsComparedCycles request.latencies) (compare_line request.csv)
     (λ k b c compares. record { compares = compares; listed = refl }) (opening_as request.csv compare_header)
     (compare_ending request.csv) blocks found text are whole
 
@@ -192,10 +192,10 @@ module _ (r q : Request) (alike : AskAlike r q) (k : ℕ) (b : Block) where
         cycles,
       )
 
-  compare_same : (e e' : List ℕ) (c c' : Comparison) → IsCompareEntry r k b e c → IsCompareEntry q k b e' c'
+  compare_same : (e e' : List ℕ) (c c' : ComparedCycles) → IsCompareEntry r k b e c → IsCompareEntry q k b e' c'
       → (e ≡ e') × (c ≡ c')
   compare_same e e' c c' is is' =
-      let P : Latencies → Type 0 = λ lat. IsComparison lat b c in
+      let P : Latencies → Type 0 = λ lat. IsComparedCycles lat b c in
       let same : c ≡ c' = one_comparison q.latencies b c c' (subst P alike.latencies is.compares) is'.compares in
       (is.listed ∙ (ap₂ (λ csv x. compare_line csv k b.name x) alike.csv same ∙ sym is'.listed), same)
 

@@ -15,10 +15,10 @@ use Rattle.iloc_sched.proofs.Basics.Cases.{by_eq}
 use Rattle.iloc_sched.proofs.Basics.LastOnes.{last_none, last_here, last_before}
 use Rattle.iloc_sched.proofs.Basics.Members.{in_left, in_right, from_append}
 use Rattle.iloc_sched.proofs.Basics.Registers.{is_register_same, is_register_from}
-use Rattle.iloc_graph.specs.declared.lasts.Lasts.{Lasts}
-use Rattle.iloc_graph.specs.Steps.Lasts.{AreLasts, IsRecentLoad, Notes, definer_of, loads_with}
+use Rattle.iloc_graph.specs.declared.preceding.Preceding.{Preceding}
+use Rattle.iloc_graph.specs.Steps.Preceding.{AreLasts, IsRecentLoad, Notes, definer_of, loads_with}
 
-pub none_noted : (ops : List Op) (lasts : Lasts) → ((r : Reg) → definer_of lasts r ≡ None) → lasts.store ≡ None
+pub none_noted : (ops : List Op) (lasts : Preceding) → ((r : Reg) → definer_of lasts r ≡ None) → lasts.store ≡ None
     → lasts.output ≡ None → lasts.loads.items ≡ [] → AreLasts ops 0 lasts
 none_noted ops lasts definers store output loads = record {
   definers = λ r. subst (λ o. IsLast (λ i. defined (op_at ops i) ≡ Some r) 0 o) (sym (definers r)) (last_none _);
@@ -97,7 +97,7 @@ module _ (ops : List Op) (n : ℕ) where
       subst (λ xs. In xs i) (sym more) (in_left old (n ∷ []) i was))
       (λ l. let same : new ≡ old = rw (not, l) at is in subst (λ xs. In xs i) (sym same) was))
 
-pub one_noted : (ops : List Op) (n : ℕ) (op : Op) (old new : Lasts) → op ≡ op_at ops n → AreLasts ops n old
+pub one_noted : (ops : List Op) (n : ℕ) (op : Op) (old new : Preceding) → op ≡ op_at ops n → AreLasts ops n old
     → Notes op n old new → AreLasts ops (n + 1) new
 one_noted ops n op old new is are notes =
     let noted : Notes (op_at ops n) n old new = subst (λ o. Notes o n old new) is notes in record {

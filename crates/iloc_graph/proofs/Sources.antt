@@ -19,9 +19,9 @@ use Rattle.iloc_sched.proofs.Basics.LastOnes.{last_is, last_holds}
 use Rattle.iloc_sched.proofs.Basics.Members.{any_at, contains_from, from_any, from_append, from_filter, from_range, in_at, in_filter, in_from, in_left, in_range_from, in_right}
 use Rattle.iloc_sched.proofs.Basics.Registers.{is_register_same, is_register_from}
 use Rattle.iloc_sched.proofs.Basics.Rising.{rises_filter, rises_range}
-use Rattle.iloc_graph.specs.declared.lasts.Lasts.{Lasts}
+use Rattle.iloc_graph.specs.declared.preceding.Preceding.{Preceding}
 use Rattle.iloc_graph.specs.Nearest.{takes_over, is_taken_over, is_ordered, is_nearest, sources}
-use Rattle.iloc_graph.specs.Steps.Lasts.{AreLasts, IsInOrder, definer_of, ordered_before, waited_for}
+use Rattle.iloc_graph.specs.Steps.Preceding.{AreLasts, IsInOrder, definer_of, ordered_before, waited_for}
 use Rattle.iloc_graph.proofs.Lists.{any_none, from_flat_map, from_option, in_flat_map, in_option, rises_from, rises_same}
 
 not_true : (b : Bool) → (b ≡ true → ⊥) → b ≡ false
@@ -47,7 +47,7 @@ replaces a b = if is_output a then is_output b else is_store b
 abbrev orders : Kind → Kind → Bool
 orders a b = reads_stored a b || keeps_order a b
 
-module _ (ops : List Op) (n : ℕ) (lasts : Lasts) (are : AreLasts ops n lasts) where
+module _ (ops : List Op) (n : ℕ) (lasts : Preceding) (are : AreLasts ops n lasts) where
   abbrev between : ℕ → List ℕ
   between i = range_with_len (i + 1) (n - (i + 1))
 

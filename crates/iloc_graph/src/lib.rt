@@ -2,9 +2,9 @@
 #![tactic(auto)]
 
 mod cluster;
-mod lasts;
 pub mod laws;
 mod nearest;
+mod preceding;
 
 pub use cluster::{push_closing, push_cluster, push_opening};
 pub use nearest::nearest_pairs;

@@ -4,7 +4,7 @@ ghost use Rattle.iloc_sched.specs.Renaming.{IsRenamed};
 ghost use Rattle.iloc_graph.specs.Nearest as near;
 ghost use Rattle.iloc_graph.specs.Nearest.{pair_of};
 
-use crate::lasts::Lasts;
+use crate::preceding::Preceding;
 use iloc_ops::{NoMemory, Op};
 use iloc_sched::{Pair, delays};
 use iloc_timed::Latencies;
@@ -58,7 +58,7 @@ pub fn nearest_pairs(
     requires { IsRenamed ops.now }
     ensures { IfOk result (λ pairs. pairs.items ≡ near.nearest_pairs latencies.now ops.now) }
 {
-    let mut lasts = Lasts::new(alloc);
+    let mut lasts = Preceding::new(alloc);
     let mut pairs = Vec::new(alloc);
     for (second, op) in ops.iter().enumerate() {
         let sources = lasts.sources(alloc, op)?;

@@ -19,19 +19,19 @@ use Rattle.iloc_timed.specs.declared.row.Row.{Row}
 use Rattle.iloc_timed.specs.Rows.{holds, issue_cycle, row_at, slots}
 use Rattle.iloc_timed.specs.Timed.{Issued, issue, issued_before, executed_in, timed_outcome}
 use Rattle.iloc_validation.specs.ByTheBook.{given, read}
-use Rattle.iloc_validation.specs.Finding.{IsReason, issue_of}
-use Rattle.iloc_validation.specs.declared.finding.Issue.{Issue}
-use Rattle.iloc_validation.specs.declared.finding.Reason.{Reason}
-use Rattle.iloc_validation.specs.declared.finding.Reason.TheVariants.{Counts, Early, Reads}
+use Rattle.iloc_validation.specs.Lawfulness.{IsReason, issue_of}
+use Rattle.iloc_validation.specs.declared.lawfulness.Issue.{Issue}
+use Rattle.iloc_validation.specs.declared.lawfulness.Reason.{Reason}
+use Rattle.iloc_validation.specs.declared.lawfulness.Reason.TheVariants.{Counts, Early, Reads}
 use Rattle.iloc_sched.specs.Renaming.{without_nops}
 use Rattle.iloc_judge.specs.declared.comparison.Comparison.{Comparison}
 use Rattle.iloc_judge.specs.declared.comparison.Comparison.TheVariants as of
-use Rattle.iloc_judge.specs.declared.place.Place.{Place}
-use Rattle.iloc_judge.specs.declared.place.Place.TheVariants.{Output, Word, Fault, NoFault}
+use Rattle.iloc_judge.specs.declared.difference.Difference.{Difference}
+use Rattle.iloc_judge.specs.declared.difference.Difference.TheVariants.{Output, Word, Fault, NoFault}
 use Rattle.iloc_judge.specs.declared.verdict.Verdict.{Verdict}
 use Rattle.iloc_judge.specs.declared.verdict.Verdict.TheVariants.{Units, Lawful, Unlawful}
 use Rattle.iloc_judge.specs.Comparison.{IsComparison}
-use Rattle.iloc_judge.specs.Place.{IsPlace}
+use Rattle.iloc_judge.specs.Difference.{IsDifference}
 use Rattle.iloc_judge.specs.Memory.{memory_of}
 use Rattle.iloc_judge.specs.Verdict.{IsVerdict}
 use Rattle.iloc_judge.specs.Steps.Counted.{IsCounted, CanBeCompared, CanBeTold, CanBeListed, IsNumbered}
@@ -108,11 +108,11 @@ apart_within xs ys i x y first second apart = elim (cases_lt i (length xs + leng
       absurd (apart (cc))
 ]
 
-few_counted : (n m : ℕ) (got wanted : Outcome) (place : Place) → n + m + 1 < 2 ^ 64 → EmitsAtMost n got
-    → EmitsAtMost m wanted → IsPlace got wanted place → IsCounted place
-few_counted n m O.Fault O.Fault place small few fewer is = absurd is
-few_counted n m O.Fault (O.Finished wanteds memory) place small few fewer is = rw is tt
-few_counted n m (O.Finished outputs memory) O.Fault place small few fewer is = rw is tt
+few_counted : (n m : ℕ) (got wanted : Outcome) (difference : Difference) → n + m + 1 < 2 ^ 64 → EmitsAtMost n got
+    → EmitsAtMost m wanted → IsDifference got wanted difference → IsCounted difference
+few_counted n m O.Fault O.Fault difference small few fewer is = absurd is
+few_counted n m O.Fault (O.Finished wanteds memory) difference small few fewer is = rw is tt
+few_counted n m (O.Finished outputs memory) O.Fault difference small few fewer is = rw is tt
 few_counted n m (O.Finished outputs memory) (O.Finished wanteds end) (Output index got wanted) small few fewer is =
     let within : index < length outputs + length wanteds =
     apart_within outputs wanteds index got wanted is.first is.second is.apart in
@@ -121,11 +121,11 @@ few_counted n m (O.Finished outputs memory) (O.Finished wanteds end) (Word addre
 few_counted n m (O.Finished outputs memory) (O.Finished wanteds end) Fault small few fewer is = tt
 few_counted n m (O.Finished outputs memory) (O.Finished wanteds end) NoFault small few fewer is = tt
 
-place_counted : (lat : Latencies) (block ops : List Op) (rows : List Row) (memory : List ℤ) (place : Place)
+difference_counted : (lat : Latencies) (block ops : List Op) (rows : List Row) (memory : List ℤ) (difference : Difference)
     → length block ≤ MAX_OPS → length rows ≤ MAX_ROWS
-    → IsPlace (timed_outcome lat ops rows memory) (outcome block memory) place → IsCounted place
-place_counted lat block ops rows memory place short few is =
-    few_counted (2 * length rows) (length block) (timed_outcome lat ops rows memory) (outcome block memory) place
+    → IsDifference (timed_outcome lat ops rows memory) (outcome block memory) difference → IsCounted difference
+difference_counted lat block ops rows memory difference short few is =
+    few_counted (2 * length rows) (length block) (timed_outcome lat ops rows memory) (outcome block memory) difference
     (omega arith) (rows_emit lat ops rows memory) (block_emits block memory) is
 
 compared_listed : (lat : Latencies) (memory : List ℤ) (block ops : List Op) (rows : List Row) (found : Comparison)
@@ -134,10 +134,10 @@ compared_listed : (lat : Latencies) (memory : List ℤ) (block ops : List Op) (r
 compared_listed lat memory block ops rows (of.Void why) short few is = tt
 compared_listed lat memory block ops rows of.Same short few is = tt
 compared_listed lat memory block ops rows of.Agrees short few is = tt
-compared_listed lat memory block ops rows (of.Differs place) short few is =
-    place_counted lat block ops rows memory place short few is.1
-compared_listed lat memory block ops rows (of.DiffersOn probe place) short few is =
-    place_counted lat block ops rows (memory_of probe) place short few is.2
+compared_listed lat memory block ops rows (of.Differs difference) short few is =
+    difference_counted lat block ops rows memory difference short few is.1
+compared_listed lat memory block ops rows (of.DiffersOn probe difference) short few is =
+    difference_counted lat block ops rows (memory_of probe) difference short few is.2
 
 -- an operation is issued in one of the rows, or counted behind the last
 issue_within : (rows : List Row) (k : ℕ) → issue_cycle rows k ≤ length rows

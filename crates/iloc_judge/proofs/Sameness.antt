@@ -31,8 +31,8 @@ same_is_right lat memory block ops rows (Unlawful reason (of.Void why)) right sa
 same_is_right lat memory block ops rows (Unlawful reason of.Same) right same =
     record { table = right.0; agree = right.2.1 }
 same_is_right lat memory block ops rows (Unlawful reason of.Agrees) right same = absurd cc
-same_is_right lat memory block ops rows (Unlawful reason (of.Differs place)) right same = absurd cc
-same_is_right lat memory block ops rows (Unlawful reason (of.DiffersOn probe place)) right same = absurd cc
+same_is_right lat memory block ops rows (Unlawful reason (of.Differs difference)) right same = absurd cc
+same_is_right lat memory block ops rows (Unlawful reason (of.DiffersOn probe difference)) right same = absurd cc
 
 lawful_is_right : (lat : Latencies) (memory : List ℤ) (block ops : List Op) (rows : List Row) (verdict : Verdict)
     → IsVerdict lat block ops rows memory verdict → is_lawful verdict ≡ true → IsByTheBook lat block ops rows
@@ -49,8 +49,8 @@ may_pass lat memory block ops rows (Unlawful reason (of.Void why)) right same = 
 may_pass lat memory block ops rows (Unlawful reason of.Same) right same =
     inr (record { table = right.0; agree = right.2.1 }, right.2.0)
 may_pass lat memory block ops rows (Unlawful reason of.Agrees) right same = absurd cc
-may_pass lat memory block ops rows (Unlawful reason (of.Differs place)) right same = absurd cc
-may_pass lat memory block ops rows (Unlawful reason (of.DiffersOn probe place)) right same = absurd cc
+may_pass lat memory block ops rows (Unlawful reason (of.Differs difference)) right same = absurd cc
+may_pass lat memory block ops rows (Unlawful reason (of.DiffersOn probe difference)) right same = absurd cc
 
 lawful_is_same : (verdict : Verdict) → is_lawful verdict ≡ true → is_same verdict ≡ true
 lawful_is_same (Units c) lawful = absurd cc

@@ -8,7 +8,7 @@ use Rattle.iloc_timed.specs.Timed.{timed_outcome}
 use Rattle.iloc_judge.specs.declared.comparison.Comparison.{Comparison}
 use Rattle.iloc_judge.specs.declared.comparison.Comparison.TheVariants as of
 use Rattle.iloc_judge.specs.Memory.{IsMemory, memory_of}
-use Rattle.iloc_judge.specs.Place.{IsPlace}
+use Rattle.iloc_judge.specs.Difference.{IsDifference}
 use Rattle.iloc_judge.specs.Void.{CanBeJudged, IsVoid}
 
 -- on a memory the rows have the block's outcome
@@ -23,8 +23,8 @@ IsComparison lat block ops rows memory (of.Void why) = IsVoid block memory why
 IsComparison lat block ops rows memory of.Same =
     CanBeJudged block memory × ((words : List ℤ) → IsMemory words → AgreesOn lat block ops rows words)
 IsComparison lat block ops rows memory of.Agrees = CanBeJudged block memory × AgreesOn lat block ops rows memory
-IsComparison lat block ops rows memory (of.Differs place) =
-    CanBeJudged block memory × IsPlace (timed_outcome lat ops rows memory) (outcome block memory) place
-IsComparison lat block ops rows memory (of.DiffersOn probe place) =
+IsComparison lat block ops rows memory (of.Differs difference) =
+    CanBeJudged block memory × IsDifference (timed_outcome lat ops rows memory) (outcome block memory) difference
+IsComparison lat block ops rows memory (of.DiffersOn probe difference) =
     CanBeJudged block memory × AgreesOn lat block ops rows memory
-    × IsPlace (timed_outcome lat ops rows (memory_of probe)) (outcome block (memory_of probe)) place
+    × IsDifference (timed_outcome lat ops rows (memory_of probe)) (outcome block (memory_of probe)) difference

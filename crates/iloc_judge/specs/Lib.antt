@@ -3,7 +3,7 @@ pub mod Comparison
 pub mod Laws
 pub mod Listing
 pub mod Memory
-pub mod Place
+pub mod Difference
 pub mod Reasons
 pub mod Verdict
 pub mod Void

@@ -11,8 +11,8 @@ use Rattle.iloc_timed.specs.Spelling.{row_line}
 use Rattle.iloc_rows.specs.declared.proposal.Proposal.{Proposal}
 use Rattle.iloc_judge.specs.declared.comparison.Comparison.{Comparison}
 use Rattle.iloc_judge.specs.declared.comparison.Comparison.TheVariants as of
-use Rattle.iloc_judge.specs.declared.place.Place.{Place}
-use Rattle.iloc_judge.specs.declared.place.Place.TheVariants.{Output, Word, Fault, NoFault}
+use Rattle.iloc_judge.specs.declared.difference.Difference.{Difference}
+use Rattle.iloc_judge.specs.declared.difference.Difference.TheVariants.{Output, Word, Fault, NoFault}
 use Rattle.iloc_judge.specs.declared.refutation.probe.Probe.{Probe}
 use Rattle.iloc_judge.specs.declared.verdict.Verdict.{Verdict}
 use Rattle.iloc_judge.specs.declared.verdict.Verdict.TheVariants.{Units, Lawful, Unlawful}
@@ -27,8 +27,8 @@ abbrev pub comparison_word : Comparison → List ℕ
 comparison_word (of.Void why) = codes "void"
 comparison_word of.Same = codes "same"
 comparison_word of.Agrees = codes "agrees"
-comparison_word (of.Differs place) = codes "differs"
-comparison_word (of.DiffersOn probe place) = codes "differs"
+comparison_word (of.Differs difference) = codes "differs"
+comparison_word (of.DiffersOn probe difference) = codes "differs"
 
 abbrev pub verdict_word : Verdict → List ℕ
 verdict_word (Units c) = codes "units"
@@ -79,12 +79,12 @@ abbrev pub got_for_wanted : Option ℤ → Option ℤ → List ℕ
 got_for_wanted got wanted = word_or_none got ++ codes " for " ++ word_or_none wanted
 
 -- an output, counted from 1, or the word at an address, with what came and what was wanted; or who faults
-abbrev pub place_told : Place → List ℕ
-place_told (Output index got wanted) = codes "  output " ++ decimal (index + 1) ++ codes ": " ++ got_for_wanted got wanted
-place_told (Word address got wanted) =
+abbrev pub difference_told : Difference → List ℕ
+difference_told (Output index got wanted) = codes "  output " ++ decimal (index + 1) ++ codes ": " ++ got_for_wanted got wanted
+difference_told (Word address got wanted) =
     codes "  word " ++ decimal address ++ codes ": " ++ got_for_wanted (Some got) (Some wanted)
-place_told Fault = codes "  fault"
-place_told NoFault = codes "  no fault"
+difference_told Fault = codes "  fault"
+difference_told NoFault = codes "  no fault"
 
 -- ` with --at A W W ..`: the arguments with which the command `run` starts with that memory
 abbrev pub probe_told : Probe → List ℕ
@@ -95,8 +95,8 @@ abbrev pub comparison_told : Comparison → List ℕ
 comparison_told (of.Void why) = void_told why ++ codes "\n"
 comparison_told of.Same = []
 comparison_told of.Agrees = []
-comparison_told (of.Differs place) = place_told place ++ codes "\n"
-comparison_told (of.DiffersOn probe place) = place_told place ++ probe_told probe ++ codes "\n"
+comparison_told (of.Differs difference) = difference_told difference ++ codes "\n"
+comparison_told (of.DiffersOn probe difference) = difference_told difference ++ probe_told probe ++ codes "\n"
 
 -- All of a verdict
 

@@ -3,11 +3,11 @@ use Rattle.std.specs.Prelude.{ℕ, ◌+◌, List, [], ◌++◌, Option, Some, No
 use Rattle.std.specs.Fmt.{decimal}
 use Rattle.iloc_ops.specs.Spelling.{spelling}
 use Rattle.iloc_ops.specs.declared.op.Reg.{Reg}
-use Rattle.iloc_validation.specs.declared.finding.Added.{Added}
-use Rattle.iloc_validation.specs.declared.finding.Issue.{Issue}
-use Rattle.iloc_validation.specs.declared.finding.LeftOut.{LeftOut}
-use Rattle.iloc_validation.specs.declared.finding.Reason.{Reason}
-use Rattle.iloc_validation.specs.declared.finding.Reason.TheVariants.{Counts, Early, Reads}
+use Rattle.iloc_validation.specs.declared.lawfulness.Added.{Added}
+use Rattle.iloc_validation.specs.declared.lawfulness.Issue.{Issue}
+use Rattle.iloc_validation.specs.declared.lawfulness.LeftOut.{LeftOut}
+use Rattle.iloc_validation.specs.declared.lawfulness.Reason.{Reason}
+use Rattle.iloc_validation.specs.declared.lawfulness.Reason.TheVariants.{Counts, Early, Reads}
 
 -- a label with its number
 abbrev pub numbered : List ℕ → ℕ → List ℕ

@@ -4,6 +4,6 @@ pub mod Symbols
 pub mod Tracking
 pub mod Agreement
 pub mod Order
-pub mod Place
+pub mod Difference
 pub mod Refuting
 pub mod Counted

@@ -5,9 +5,9 @@ use Rattle.iloc_timed.specs.declared.latencies.Latencies.{Latencies}
 use Rattle.iloc_timed.specs.declared.row.Row.{Row}
 use Rattle.iloc_timed.specs.Rows.{IsTable}
 use Rattle.iloc_timed.specs.Schedule.{IsFirstBadRow}
-use Rattle.iloc_validation.specs.declared.finding.Finding.TheVariants as finding
+use Rattle.iloc_validation.specs.declared.lawfulness.Lawfulness.TheVariants as finding
 use Rattle.iloc_validation.specs.ByTheBook.{IsByTheBook}
-use Rattle.iloc_validation.specs.Finding.{IsFinding}
+use Rattle.iloc_validation.specs.Lawfulness.{IsLawfulness}
 use Rattle.iloc_judge.specs.declared.verdict.Verdict.{Verdict}
 use Rattle.iloc_judge.specs.declared.verdict.Verdict.TheVariants.{Units, Lawful, Unlawful}
 use Rattle.iloc_judge.specs.Comparison.{IsComparison}
@@ -18,5 +18,5 @@ abbrev pub IsVerdict : Latencies → List Op → List Op → List Row → List �
 IsVerdict lat block ops rows memory (Units c) = IsFirstBadRow ops rows c
 IsVerdict lat block ops rows memory Lawful = IsByTheBook lat block ops rows
 IsVerdict lat block ops rows memory (Unlawful reason found) =
-    IsTable ops rows × IsFinding lat block ops rows (finding.Unlawful reason)
+    IsTable ops rows × IsLawfulness lat block ops rows (finding.Unlawful reason)
     × IsComparison lat block ops rows memory found

@@ -4,8 +4,8 @@ ghost use Rattle.iloc_meaning.specs.Outcome.{outcome};
 ghost use Rattle.iloc_timed.specs.Timed.{timed_outcome};
 ghost use Rattle.iloc_judge.specs.Comparison.{IsComparison};
 
+use crate::difference::Difference;
 use crate::judgement::clues;
-use crate::place::Place;
 use crate::refutation::probe::Probe;
 use crate::refutation::{Refutation, difference_on, refute};
 use crate::void::{Void, why_void};
@@ -24,10 +24,10 @@ pub enum Comparison {
     /// On the memory handed in they have it.
     Agrees,
     /// On the memory handed in their outcome differs from the block's, there.
-    Differs(Place),
+    Differs(Difference),
     /// On the memory handed in they have it, but on this one, which is made up, their outcome differs from
     /// the block's, there.
-    DiffersOn(Probe, Place),
+    DiffersOn(Probe, Difference),
 }
 
 /// Compares what rows do with what their block does. Our schedule of the block, which has its outcome on every memory, is
@@ -52,11 +52,11 @@ pub(crate) fn compared(
     let Some(clues) = clues(alloc, ours, theirs, latencies)? else {
         return Ok(Comparison::Same);
     };
-    if let Some(place) = difference_on(alloc, block, theirs, latencies, memory.copy()?)? {
-        return Ok(Comparison::Differs(place));
+    if let Some(difference) = difference_on(alloc, block, theirs, latencies, memory.copy()?)? {
+        return Ok(Comparison::Differs(difference));
     }
     match refute(alloc, block, theirs, latencies, &clues)? {
-        Some(Refutation { probe, place }) => Ok(Comparison::DiffersOn(probe, place)),
+        Some(Refutation { probe, difference }) => Ok(Comparison::DiffersOn(probe, difference)),
         None => Ok(Comparison::Agrees),
     }
 }

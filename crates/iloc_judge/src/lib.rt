@@ -5,10 +5,10 @@
 mod agreement;
 mod checked;
 mod comparison;
+mod difference;
 mod judgement;
 pub mod laws;
 mod own;
-mod place;
 mod refutation;
 mod symbols;
 mod table;
@@ -17,7 +17,7 @@ mod void;
 
 pub use checked::{Checked, push_check};
 pub use comparison::Comparison;
-pub use place::Place;
+pub use difference::Difference;
 pub use refutation::probe::Probe;
 pub use verdict::{Verdict, judge};
 pub use void::Void;

@@ -9,7 +9,7 @@ mod pattern;
 pub(crate) mod probe;
 mod shortening;
 
-use crate::place::{Place, difference};
+use crate::difference::{Difference, first_difference};
 use clues::Clues;
 use iloc_meaning::{Memory, run_block};
 use iloc_ops::{Block, NoMemory};
@@ -23,7 +23,7 @@ use std::alloc::Global;
 #[derive(Debug, Drop)]
 pub(crate) struct Refutation {
     pub(crate) probe: Probe,
-    pub(crate) place: Place,
+    pub(crate) difference: Difference,
 }
 
 /// Where a schedule's outcome on a memory differs from a block's.
@@ -33,14 +33,14 @@ pub(crate) fn difference_on(
     schedule: &Schedule,
     latencies: &Latencies,
     memory: Memory,
-) -> Result<Option<Place>, NoMemory>
+) -> Result<Option<Difference>, NoMemory>
     ensures { IfOk result (λ found. MatchOption found
         (AgreesOn latencies.now block.now.ops schedule.now.ops schedule.now.rows memory)
         (DiffersAt latencies.now block.now.ops schedule.now.ops schedule.now.rows memory)) }
 {
     let wanted = run_block(alloc, block, memory.copy()?)?;
     let got = run_schedule(alloc, schedule, latencies, memory)?;
-    Ok(difference(&got, &wanted))
+    Ok(first_difference(&got, &wanted))
 }
 
 /// The difference between a schedule's outcome and a block's on a made-up memory.
@@ -52,11 +52,11 @@ fn refutation_on(
     probe: Probe,
 ) -> Result<Option<Refutation>, NoMemory>
     ensures { IfOk result (λ found. IfSome found (λ it. DiffersAt latencies.now block.now.ops
-        schedule.now.ops schedule.now.rows (memory_of it.probe) it.place)) }
+        schedule.now.ops schedule.now.rows (memory_of it.probe) it.difference)) }
 {
     let memory = Memory::with_words(alloc, probe.at, &probe.words)?;
     match difference_on(alloc, block, schedule, latencies, memory)? {
-        Some(place) => Ok(Some(Refutation { probe, place })),
+        Some(difference) => Ok(Some(Refutation { probe, difference })),
         None => Ok(None),
     }
 }
@@ -70,7 +70,7 @@ pub(crate) fn refute(
     clues: &Clues,
 ) -> Result<Option<Refutation>, NoMemory>
     ensures { IfOk result (λ found. IfSome found (λ it. DiffersAt latencies.now block.now.ops
-        schedule.now.ops schedule.now.rows (memory_of it.probe) it.place)) }
+        schedule.now.ops schedule.now.rows (memory_of it.probe) it.difference)) }
 {
     for pattern in Pattern::ALL {
         let probe = Probe::of(alloc, pattern, clues)?;

@@ -14,14 +14,14 @@ use crate::table::Table;
 use action::Action;
 use iloc_ops::{NoMemory, Op, Reg, defines};
 use iloc_timed::{LONGEST, Latencies, MAX_ROWS, Row, Schedule, Wheel, latency};
-use registers::Registers;
+use registers::TermRegisters;
 use sent::Sent;
 use std::alloc::Global;
 
 /// Writes what was sent where it goes. Answers the memory then.
 fn land_one(
     table: &mut Table,
-    registers: &mut Registers,
+    registers: &mut TermRegisters,
     memory: u32,
     sent: Sent,
 ) -> Result<u32, NoMemory>
@@ -40,7 +40,7 @@ fn land_one(
 /// Writes what is due where it goes, in order. Answers the memory then.
 fn land_all(
     table: &mut Table,
-    registers: &mut Registers,
+    registers: &mut TermRegisters,
     memory: u32,
     due: &[Sent],
 ) -> Result<u32, NoMemory>
@@ -57,7 +57,7 @@ fn land_all(
 /// A schedule in mid-run, in terms: what was due is written, and the rest is under way.
 #[derive(Drop)]
 pub(crate) struct Symbols {
-    pub(crate) registers: Registers,
+    pub(crate) registers: TermRegisters,
     /// The number of its memory.
     pub(crate) memory: u32,
     /// The words that were emitted, in order.
@@ -77,7 +77,7 @@ impl Symbols {
         ensures { IfOk result (λ it. Adds table.old table.new (λ memory d. Tracks memory d 0 [] it)) }
     {
         Ok(Symbols {
-            registers: Registers::new(alloc, table)?,
+            registers: TermRegisters::new(alloc, table)?,
             memory: table.start()?,
             outputs: Vec::new(alloc),
             addresses: Vec::new(alloc),

@@ -10,7 +10,7 @@ use crate::own::issue_the_same;
 use iloc_meaning::Memory;
 use iloc_ops::{Block, NoMemory, Op};
 use iloc_timed::{BuildFault, Latencies, MAX_ROWS, Row, Schedule};
-use iloc_validation::{Finding, Reason, validate};
+use iloc_validation::{Lawfulness, Reason, validate};
 use std::alloc::Global;
 
 /// What is said of somebody's rows for a block.
@@ -54,8 +54,8 @@ pub fn judge(
         Err(BuildFault::NoMemory) => return Err(NoMemory),
     };
     match validate(alloc, block, &theirs, latencies)? {
-        Finding::Lawful => Ok(Verdict::Lawful),
-        Finding::Unlawful(reason) => {
+        Lawfulness::Lawful => Ok(Verdict::Lawful),
+        Lawfulness::Unlawful(reason) => {
             let found = compared(alloc, block, ours, &theirs, latencies, memory)?;
             Ok(Verdict::Unlawful(reason, found))
         }

@@ -6,12 +6,12 @@ use Rattle.iloc_meaning.specs.Memory.{WORDS, word_at, with_words}
 use Rattle.iloc_ops.specs.declared.op.Reg.{Reg}
 use Rattle.iloc_ops.specs.declared.op.Op.{Op}
 use Rattle.iloc_ops.specs.declared.op.Op.TheVariants.{Nop}
-use Rattle.iloc_meaning.specs.declared.state.State.{State}
+use Rattle.iloc_meaning.specs.declared.machine_state.MachineState.{MachineState}
 use Rattle.iloc_meaning.specs.declared.outcome.Outcome.TheVariants.{Fault}
 use Rattle.iloc_meaning.specs.Trace.{then_executed, before}
 use Rattle.iloc_meaning.specs.Outcome.{has_fault, outcome}
 use Rattle.iloc_meaning.specs.Registers.{value_of}
-use Rattle.iloc_meaning.specs.Steps.State.{Follows}
+use Rattle.iloc_meaning.specs.Steps.MachineState.{Follows}
 
 pub with_words_same : (memory : List ℤ) → memory ≡ with_words memory (word_at memory)
 with_words_same memory =
@@ -19,7 +19,7 @@ with_words_same memory =
     (λ k below. let same : 4 * k / 4 ≡ k = omega arith in ap (λ j. get_or memory j (pos 0)) (sym same))
 
 -- a block begins with all registers 0, the memory handed in and no output
-pub begins : (state : State) (memory : List ℤ) → length memory ≡ WORDS
+pub begins : (state : MachineState) (memory : List ℤ) → length memory ≡ WORDS
     → ((r : Reg) → value_of state.registers r ≡ pos 0) → state.memory ≡ record { first = memory; words = memory }
     → state.outputs.items ≡ [] → Follows memory [] state
 begins state memory size registers words outputs = record {
@@ -39,7 +39,7 @@ next memory ops items i other same within =
     rw add-one (ap (λ op. then_executed memory op (before memory ops i)) here)
 
 -- a run that takes the next operation goes on
-pub goes_on : (memory : List ℤ) (ops items : List Op) (i : ℕ) (other : Op) (state : State) → items ≡ ops
+pub goes_on : (memory : List ℤ) (ops items : List Op) (i : ℕ) (other : Op) (state : MachineState) → items ≡ ops
     → i < length items → Follows memory (then_executed memory (get_or items i other) (before memory ops i)) state
     → Follows memory (before memory ops (i + 1)) state
 goes_on memory ops items i other state same within follows = rw (next memory ops items i other same within) follows

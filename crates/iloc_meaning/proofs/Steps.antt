@@ -4,7 +4,7 @@ use Rattle.std.proofs.lemmas.Bool.Decides.{nat_tests}
 use Rattle.iloc_ops.specs.declared.op.Reg.{Reg}
 use Rattle.iloc_ops.specs.declared.op.Op.{Op}
 use Rattle.iloc_ops.specs.Registers.{defined}
-use Rattle.iloc_meaning.specs.declared.state.State.{State}
+use Rattle.iloc_meaning.specs.declared.machine_state.MachineState.{MachineState}
 use Rattle.iloc_meaning.specs.declared.effect.Effect.TheVariants.{Faults, Gives, Writes, Emits, Nothing}
 use Rattle.iloc_meaning.specs.Memory.{word_at}
 use Rattle.iloc_meaning.specs.Effect.{effect}
@@ -12,13 +12,13 @@ use Rattle.iloc_meaning.specs.Trace.{Executed, register_after, word_after, then_
 use Rattle.iloc_meaning.specs.Outcome.{has_fault, emitted}
 use Rattle.iloc_meaning.specs.Scratch.{ScratchView}
 use Rattle.iloc_meaning.specs.Registers.{Values, value_of, ChangesOnly}
-use Rattle.iloc_meaning.specs.Steps.State.{Follows}
+use Rattle.iloc_meaning.specs.Steps.MachineState.{Follows}
 use Rattle.iloc_meaning.proofs.Cases.{by_bool}
 use Rattle.iloc_meaning.proofs.MemoryWords.{word_at-with_words, set-with_words}
 use Rattle.iloc_meaning.proofs.Effects.{effect_same, has_no_result, defined-no_result, writes_well, writes_well-effect}
 
 -- the trace's registers and words give an operation the effect that the state's give it
-pub effect_after : (memory : List ℤ) (trace : List Executed) (state : State) (op : Op)
+pub effect_after : (memory : List ℤ) (trace : List Executed) (state : MachineState) (op : Op)
     → Follows memory trace state → effect op (register_after trace) (word_after memory trace)
     ≡ effect op (value_of state.registers) (word_at state.memory.words)
 effect_after memory trace state op follows =
@@ -27,13 +27,13 @@ effect_after memory trace state op follows =
     ∙ word_at-with_words memory (word_after memory trace) a follows.size good))
 
 -- an operation that faults
-pub after_fault : (memory : List ℤ) (trace : List Executed) (state : State) (op : Op) → Follows memory trace state
+pub after_fault : (memory : List ℤ) (trace : List Executed) (state : MachineState) (op : Op) → Follows memory trace state
     → Faults ≡ effect op (value_of state.registers) (word_at state.memory.words)
     → has_fault (then_executed memory op trace) ≡ true
 after_fault memory trace state op follows is = rw (effect_after memory trace state op follows, ← is) refl
 
 -- an operation that gives a result
-pub after_result : (memory : List ℤ) (trace : List Executed) (state : State) (op : Op) (result : ℤ) (r : Reg)
+pub after_result : (memory : List ℤ) (trace : List Executed) (state : MachineState) (op : Op) (result : ℤ) (r : Reg)
     (new : Values) → Follows memory trace state
     → Gives result ≡ effect op (value_of state.registers) (word_at state.memory.words) → Some r ≡ defined op
     → ChangesOnly state.registers new r result
@@ -53,7 +53,7 @@ after_result memory trace state op result r new follows is register changes =
     }
 
 -- an operation that writes
-pub after_write : (memory : List ℤ) (trace : List Executed) (state : State) (op : Op) (a : ℕ) (w : ℤ)
+pub after_write : (memory : List ℤ) (trace : List Executed) (state : MachineState) (op : Op) (a : ℕ) (w : ℤ)
     (new : ScratchView) → Follows memory trace state
     → Writes a w ≡ effect op (value_of state.registers) (word_at state.memory.words)
     → new.first ≡ state.memory.first → new.words ≡ set state.memory.words (a / 4) w
@@ -76,7 +76,7 @@ after_write memory trace state op a w new follows is kept written =
     }
 
 -- an operation that emits
-pub after_output : (memory : List ℤ) (trace : List Executed) (state : State) (op : Op) (w : ℤ) (new : Vec ℤ Global)
+pub after_output : (memory : List ℤ) (trace : List Executed) (state : MachineState) (op : Op) (w : ℤ) (new : Vec ℤ Global)
     → Follows memory trace state → Emits w ≡ effect op (value_of state.registers) (word_at state.memory.words)
     → new.items ≡ state.outputs.items ++ w ∷ []
     → Follows memory (then_executed memory op trace) (record state { outputs = new })
@@ -91,7 +91,7 @@ after_output memory trace state op w new follows is pushed =
     }
 
 -- an operation that does nothing
-pub after_nothing : (memory : List ℤ) (trace : List Executed) (state : State) (op : Op)
+pub after_nothing : (memory : List ℤ) (trace : List Executed) (state : MachineState) (op : Op)
     → Follows memory trace state → Nothing ≡ effect op (value_of state.registers) (word_at state.memory.words)
     → Follows memory (then_executed memory op trace) state
 after_nothing memory trace state op follows is =

@@ -8,5 +8,5 @@ pub mod Results
 pub mod Laws
 pub mod Trace
 pub mod Outcome
-pub mod State
+pub mod MachineState
 pub mod Steps

@@ -3,9 +3,9 @@ ghost use Rattle.std.specs.Prelude.{◌≡◌, [], IfOk, OnOk};
 ghost use Rattle.std.specs.Option.{option_copied};
 ghost use Rattle.iloc_meaning.specs.Outcome.{outcome, shown};
 
+use crate::machine_state::MachineState;
 use crate::memory::Memory;
 use crate::outcome::Outcome;
-use crate::state::State;
 use iloc_ops::{Block, NoMemory};
 use std::alloc::Global;
 use std::marker::Model;
@@ -14,12 +14,12 @@ use std::marker::Model;
 /// It holds that memory and no copy: what a block wrote is undone before the next one runs.
 #[derive(Drop)]
 pub struct Interpreter {
-    state: State,
+    state: MachineState,
 }
 
 impl Model for Interpreter {
     ghost use Rattle.iloc_meaning.specs.Outcome.{Runs};
-    ghost use Rattle.iloc_meaning.specs.State.{leaves};
+    ghost use Rattle.iloc_meaning.specs.MachineState.{leaves};
 
     ghost Value = { Runs };
 
@@ -33,7 +33,7 @@ impl Interpreter {
         ensures { IfOk result (λ it. it ≡ record { memory = memory; last = Outcome.Finished [] memory }) }
     {
         Ok(Interpreter {
-            state: State::new(alloc, memory)?,
+            state: MachineState::new(alloc, memory)?,
         })
     }
 

@@ -12,7 +12,7 @@ use crate::row::Row;
 use crate::schedule::{MAX_ROWS, Schedule};
 use crate::timing::latency;
 use crate::wheel::{LONGEST, Pending, Wheel};
-use iloc_meaning::{Effect, Memory, Registers, Scratch, State};
+use iloc_meaning::{Effect, MachineState, Memory, Registers, Scratch};
 use iloc_ops::{NoMemory, Op, defines};
 use std::alloc::Global;
 
@@ -60,7 +60,7 @@ fn land_all(
 /// A schedule in mid-run: results that were due are written, and the others are under way.
 #[derive(Drop)]
 pub(crate) struct Machine {
-    pub(crate) state: State,
+    pub(crate) state: MachineState,
     wheel: Wheel<Pending>,
 }
 
@@ -69,7 +69,7 @@ impl Machine {
     ghost use Rattle.iloc_timed.specs.Timed.{Issued, issue_all, timed_outcome};
     ghost use Rattle.iloc_timed.specs.Rows.{slots};
     ghost use Rattle.iloc_timed.specs.Steps.Machine.{then_issued, Follows, After};
-    ghost use Rattle.iloc_meaning.specs.State.{leaves};
+    ghost use Rattle.iloc_meaning.specs.MachineState.{leaves};
 
     /// All registers 0, this memory, nothing under way.
     pub(crate) fn new(alloc: Global, memory: Memory) -> Result<Machine, NoMemory>
@@ -78,7 +78,7 @@ impl Machine {
         ensures finished { IfOk result (λ machine. machine.state.finished ≡ true) }
     {
         Ok(Machine {
-            state: State::new(alloc, memory)?,
+            state: MachineState::new(alloc, memory)?,
             wheel: Wheel::new(alloc)?,
         })
     }

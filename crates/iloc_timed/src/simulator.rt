@@ -21,7 +21,7 @@ pub struct Simulator {
 
 impl Model for Simulator {
     ghost use Rattle.iloc_meaning.specs.Outcome.{Runs};
-    ghost use Rattle.iloc_meaning.specs.State.{leaves};
+    ghost use Rattle.iloc_meaning.specs.MachineState.{leaves};
 
     ghost Value = { Runs };
 

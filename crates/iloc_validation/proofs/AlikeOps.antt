@@ -9,9 +9,9 @@ use Rattle.iloc_ops.specs.declared.op.Op.TheVariants.{Load, LoadI, Store, Add, S
 use Rattle.iloc_ops.specs.contracts.op.OpPartialEq.TheImpl as of_ops
 use Rattle.iloc_validation.specs.contracts.label.LabelOrd.TheImpl as of_labels
 use Rattle.iloc_validation.specs.declared.label.Label.{Label}
-use Rattle.iloc_validation.specs.declared.reasons.waiting.Waiting.{Waiting}
+use Rattle.iloc_validation.specs.declared.reasons.unpaired.Unpaired.{Unpaired}
 use Rattle.iloc_validation.specs.ByTheBook.{label}
-use Rattle.iloc_validation.specs.Finding.{are_alike, count_like}
+use Rattle.iloc_validation.specs.Lawfulness.{are_alike, count_like}
 use Rattle.iloc_validation.specs.Steps.Counterparts.{first_like, SetsLike}
 use Rattle.iloc_validation.specs.Steps.Labels.{form, constant, labelled}
 use Rattle.iloc_validation.proofs.LabelNumbers.{label_test}
@@ -65,7 +65,7 @@ pub key_from : (op : Op) (key : Label) → key.form ≡ form op → key.constant
 key_from op key forms constants = λ i. record { form = forms i; constant = constants i }
 
 -- a change at the key of an operation is one for those like it
-pub sets_like : (old new : Waiting) (op : Op) (key : Label) (first : Option ℕ) → key ≡ labelled op
+pub sets_like : (old new : Unpaired) (op : Op) (key : Label) (first : Option ℕ) → key ≡ labelled op
     → ((k : Label) → get (of_labels.ghosts).cmp new.first k
     ≡ cond (eq_by_cmp (of_labels.ghosts).cmp key k) first (get (of_labels.ghosts).cmp old.first k))
     → SetsLike old new op first

@@ -9,14 +9,14 @@ use Rattle.iloc_timed.specs.Kinds.{kind}
 use Rattle.iloc_timed.specs.Schedule.{Table}
 use Rattle.iloc_sched.specs.Delays.{memory_delays}
 use Rattle.iloc_sched.proofs.Basics.Members.{contains_from}
-use Rattle.iloc_validation.specs.declared.finding.Issue.{Issue}
-use Rattle.iloc_validation.specs.declared.finding.Reason.{Reason}
-use Rattle.iloc_validation.specs.declared.finding.Reason.TheVariants.{Early}
+use Rattle.iloc_validation.specs.declared.lawfulness.Issue.{Issue}
+use Rattle.iloc_validation.specs.declared.lawfulness.Reason.{Reason}
+use Rattle.iloc_validation.specs.declared.lawfulness.Reason.TheVariants.{Early}
 use Rattle.iloc_validation.specs.declared.reading.Reading.{Reading}
 use Rattle.iloc_validation.specs.declared.reasons.delays.Missing.{Missing}
 use Rattle.iloc_validation.specs.declared.reading.sources.Sources.{Sources}
 use Rattle.iloc_validation.specs.ByTheBook.{ArePaired}
-use Rattle.iloc_validation.specs.Finding.{issue_of, IsReason}
+use Rattle.iloc_validation.specs.Lawfulness.{issue_of, IsReason}
 use Rattle.iloc_validation.specs.Steps.Broken.{AreUsesKept, IsMost}
 use Rattle.iloc_validation.specs.Steps.Pairing.{LeadsBack}
 use Rattle.iloc_validation.specs.Steps.Readings.{reading_at}

@@ -7,13 +7,13 @@ use Rattle.iloc_ops.specs.declared.op.Op.TheVariants.{Nop}
 use Rattle.iloc_meaning.specs.Trace.{op_at}
 use Rattle.iloc_timed.specs.declared.latencies.Latencies.{Latencies}
 use Rattle.iloc_timed.specs.declared.row.Row.{Row}
-use Rattle.iloc_validation.specs.declared.finding.Issue.{Issue}
-use Rattle.iloc_validation.specs.declared.finding.LeftOut.{LeftOut}
-use Rattle.iloc_validation.specs.declared.finding.Added.{Added}
-use Rattle.iloc_validation.specs.declared.finding.Reason.{Reason}
-use Rattle.iloc_validation.specs.declared.finding.Reason.TheVariants.{Counts}
+use Rattle.iloc_validation.specs.declared.lawfulness.Issue.{Issue}
+use Rattle.iloc_validation.specs.declared.lawfulness.LeftOut.{LeftOut}
+use Rattle.iloc_validation.specs.declared.lawfulness.Added.{Added}
+use Rattle.iloc_validation.specs.declared.lawfulness.Reason.{Reason}
+use Rattle.iloc_validation.specs.declared.lawfulness.Reason.TheVariants.{Counts}
 use Rattle.iloc_validation.specs.declared.reasons.counts.Lacking.{Lacking}
-use Rattle.iloc_validation.specs.Finding.{lacking, issue_of, IsShort, AreLeftOut, AreAdded, IsReason}
+use Rattle.iloc_validation.specs.Lawfulness.{lacking, issue_of, IsShort, AreLeftOut, AreAdded, IsReason}
 use Rattle.iloc_validation.specs.Steps.Counterparts.{AreCounterparts, IsLackingIn, AreLacking}
 use Rattle.iloc_validation.proofs.NthLike.{lacking_is, short_is}
 

@@ -10,9 +10,9 @@ use Rattle.iloc_ops.specs.declared.op.Op.{Op}
 use Rattle.iloc_meaning.specs.Trace.{op_at}
 use Rattle.iloc_meaning.proofs.Cases.{by_bool}
 use Rattle.iloc_validation.specs.declared.reasons.counterparts.Chains.{Chains}
-use Rattle.iloc_validation.specs.declared.reasons.waiting.Waiting.{Waiting}
+use Rattle.iloc_validation.specs.declared.reasons.unpaired.Unpaired.{Unpaired}
 use Rattle.iloc_validation.specs.ByTheBook.{ArePaired}
-use Rattle.iloc_validation.specs.Finding.{are_alike, count_like, lacks_counterpart, lacking, IsShort}
+use Rattle.iloc_validation.specs.Lawfulness.{are_alike, count_like, lacks_counterpart, lacking, IsShort}
 use Rattle.iloc_validation.specs.Steps.Counterparts.{first_like, SetsLike, noted_at, IsNth, AreChained, IsCounterpart, AreCounterparts}
 use Rattle.iloc_validation.proofs.AlikeOps.{alike_test, alike_itself, alike_same, alike_back, count_same}
 use Rattle.iloc_validation.proofs.CountsLike.{counts_same, counted, one_more, no_more, one_counted, one_place}
@@ -88,7 +88,7 @@ grown others op n m (Some k) few more nth =
     let here : count_like op (take k others) ≡ n = nth.2 in
     absurd (omega arith)
 
-module _ (ops others : List Op) (i : ℕ) (within : i < length ops) (old : Waiting)
+module _ (ops others : List Op) (i : ℕ) (within : i < length ops) (old : Unpaired)
     (waits : (op : Op) → IsNth others op (count_like op (take i ops)) (first_like old op)) where
   abbrev it : Op
   it = op_at ops i
@@ -106,7 +106,7 @@ module _ (ops others : List Op) (i : ℕ) (within : i < length ops) (old : Waiti
       (omega (arith, few, here, there)) (omega (arith, more)) (waits op))
       (λ t. moved others op _ _ (first_like old op) (sym (no_more op ops i within t)) (waits op))
 
-  pub one_taken : (new : Waiting) (k : ℕ) (next : Option ℕ) → first_like old it ≡ Some k
+  pub one_taken : (new : Unpaired) (k : ℕ) (next : Option ℕ) → first_like old it ≡ Some k
       → IsNth others (op_at others k) (count_like (op_at others k) (take k others) + 1) next → SetsLike old new it next
       → (op : Op) → IsNth others op (count_like op (take (i + 1) ops)) (first_like new op)
   one_taken new k next is after sets op =
@@ -136,7 +136,7 @@ pub taken : (ops others : List Op) (i : ℕ) → i < length ops → (old new : C
     → IfSome o (λ k. SetsLike old.waiting new.waiting (op_at ops i) (noted_at old.next.items k))
     → (op : Op) → IsNth others op (count_like op (take (i + 1) ops)) (first_like new.waiting op)
 taken ops others i within old new waits nexts None is none some op =
-    subst (λ (w : Waiting). IsNth others op (count_like op (take (i + 1) ops)) (first_like w op)) (sym none)
+    subst (λ (w : Unpaired). IsNth others op (count_like op (take (i + 1) ops)) (first_like w op)) (sym none)
     (none_left ops others i within old.waiting waits (sym is) op)
 taken ops others i within old new waits nexts (Some k) is none some op =
     let first : IsNth others (op_at ops i) (count_like (op_at ops i) (take i ops)) (Some k) =

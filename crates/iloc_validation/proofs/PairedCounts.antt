@@ -9,10 +9,10 @@ use Rattle.iloc_ops.specs.contracts.op.OpPartialEq.TheImpl as of_ops
 use Rattle.iloc_meaning.specs.Trace.{op_at}
 use Rattle.iloc_meaning.proofs.Cases.{by_bool}
 use Rattle.iloc_timed.specs.declared.row.Row.{Row}
-use Rattle.iloc_validation.specs.declared.finding.LeftOut.{LeftOut}
-use Rattle.iloc_validation.specs.declared.finding.Added.{Added}
+use Rattle.iloc_validation.specs.declared.lawfulness.LeftOut.{LeftOut}
+use Rattle.iloc_validation.specs.declared.lawfulness.Added.{Added}
 use Rattle.iloc_validation.specs.ByTheBook.{label, ArePaired}
-use Rattle.iloc_validation.specs.Finding.{are_alike, count_like, lacking, CountsDiffer}
+use Rattle.iloc_validation.specs.Lawfulness.{are_alike, count_like, lacking, CountsDiffer}
 use Rattle.iloc_validation.proofs.CountsLike.{counts_same}
 
 abbrev itself : Bool → Bool

@@ -16,14 +16,14 @@ use Rattle.iloc_sched.specs.Renaming.{Source, source}
 use Rattle.iloc_sched.specs.Renaming.Source.{Start, Result}
 use Rattle.iloc_sched.proofs.Basics.Slots.{issued_early}
 use Rattle.iloc_sched.proofs.Renamed.MentionedSources.{source_earlier}
-use Rattle.iloc_validation.specs.declared.finding.Issue.{Issue}
-use Rattle.iloc_validation.specs.declared.finding.Reason.TheVariants.{Early, Reads}
+use Rattle.iloc_validation.specs.declared.lawfulness.Issue.{Issue}
+use Rattle.iloc_validation.specs.declared.lawfulness.Reason.TheVariants.{Early, Reads}
 use Rattle.iloc_validation.specs.declared.reading.Reading.{Reading}
 use Rattle.iloc_validation.specs.declared.reasons.uses.WrongUse.{WrongUse}
 use Rattle.iloc_validation.specs.declared.reading.sources.Sources.{Sources}
 use Rattle.iloc_validation.specs.declared.reading.sources.Sources.TheVariants.{One, Two}
 use Rattle.iloc_validation.specs.ByTheBook.{label, read, given, result_in, ArePaired}
-use Rattle.iloc_validation.specs.Finding.{issue_of, IsEarly, ReadsAnother, IsReason}
+use Rattle.iloc_validation.specs.Lawfulness.{issue_of, IsEarly, ReadsAnother, IsReason}
 use Rattle.iloc_validation.specs.Steps.Broken.{source_at, AreUsesKept, IsWrong}
 use Rattle.iloc_validation.specs.Steps.Readings.{reading_at}
 use Rattle.iloc_validation.specs.Steps.Sides.{AreSides}

@@ -9,12 +9,12 @@ use Rattle.iloc_timed.specs.Rows.{AreNumbered}
 use Rattle.iloc_timed.specs.Timed.{timed_outcome}
 use Rattle.iloc_sched.specs.Lawful.{IsLawful}
 use Rattle.iloc_sched.specs.Least.{least}
-use Rattle.iloc_validation.specs.declared.finding.LeftOut.{LeftOut}
-use Rattle.iloc_validation.specs.declared.finding.Added.{Added}
-use Rattle.iloc_validation.specs.declared.finding.Reason.TheVariants.{Counts}
-use Rattle.iloc_validation.specs.declared.finding.Finding.TheVariants.{Unlawful}
+use Rattle.iloc_validation.specs.declared.lawfulness.LeftOut.{LeftOut}
+use Rattle.iloc_validation.specs.declared.lawfulness.Added.{Added}
+use Rattle.iloc_validation.specs.declared.lawfulness.Reason.TheVariants.{Counts}
+use Rattle.iloc_validation.specs.declared.lawfulness.Lawfulness.TheVariants.{Unlawful}
 use Rattle.iloc_validation.specs.ByTheBook.{IsByTheBook, IssueTheSame}
-use Rattle.iloc_validation.specs.Finding.{IsFinding}
+use Rattle.iloc_validation.specs.Lawfulness.{IsLawfulness}
 
 -- on every memory they have the block's outcome
 abbrev pub ByTheBookKeepsTheOutcome : Type 0
@@ -41,4 +41,4 @@ OwnRowsAreByTheBook = (lat : Latencies) (block ops ops' : List Op) (rows rows' :
 abbrev pub CountsThatDifferExcludeByTheBook : Type 0
 CountsThatDifferExcludeByTheBook = (lat : Latencies) (block ops : List Op) (rows : List Row)
     → (left_out : Option LeftOut) (added : Option Added)
-    → IsFinding lat block ops rows (Unlawful (Counts left_out added)) → IsByTheBook lat block ops rows → ⊥
+    → IsLawfulness lat block ops rows (Unlawful (Counts left_out added)) → IsByTheBook lat block ops rows → ⊥

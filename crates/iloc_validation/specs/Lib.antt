@@ -1,4 +1,4 @@
 pub mod ByTheBook
-pub mod Finding
+pub mod Lawfulness
 pub mod Laws
 pub mod Steps

@@ -1,7 +1,7 @@
 //! Operations without their registers.
 ghost use Rattle.std.specs.Prelude.{◌≡◌, ◌↔◌, IsTrue};
 ghost use Rattle.iloc_validation.specs.ByTheBook.{label};
-ghost use Rattle.iloc_validation.specs.Finding.{count_like};
+ghost use Rattle.iloc_validation.specs.Lawfulness.{count_like};
 
 use iloc_ops::Op;
 

@@ -1,8 +1,8 @@
 //! Schedules by the book: whether rows that somebody made are a schedule of a block, whatever registers they name.
 #![tactic(auto)]
 
-mod finding;
 mod label;
+mod lawfulness;
 pub mod laws;
 mod pairing;
 mod reading;
@@ -12,5 +12,5 @@ mod validation;
 mod verification;
 mod waits;
 
-pub use finding::{Added, Finding, Issue, LeftOut, Reason};
+pub use lawfulness::{Added, Issue, Lawfulness, LeftOut, Reason};
 pub use validation::validate;

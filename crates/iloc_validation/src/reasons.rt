@@ -1,19 +1,19 @@
 //! Why rows aren't a schedule of a block by the book.
 ghost use Rattle.std.specs.Prelude.{◌≡◌, length, IfOk, IfNone, IfSome};
-ghost use Rattle.iloc_validation.specs.Finding.{IsReason};
+ghost use Rattle.iloc_validation.specs.Lawfulness.{IsReason};
 ghost use Rattle.iloc_validation.specs.Steps.Sides.{AreSides, IsScheduleUnderSome};
 
 mod broken;
 mod counterparts;
 mod counts;
 mod delays;
+mod unpaired;
 mod uses;
-mod waiting;
 
 use self::broken::first_broken;
 use self::counterparts::Counterparts;
 use self::counts::counts_reason;
-use crate::finding::Reason;
+use crate::lawfulness::Reason;
 use crate::pairing::Pairing;
 use crate::verification::Sides;
 use iloc_ops::NoMemory;

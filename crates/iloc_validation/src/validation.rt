@@ -2,10 +2,10 @@
 ghost use Rattle.std.specs.Prelude.{◌≡◌, true, length, IfOk};
 ghost use Rattle.iloc_sched.specs.Lawful.{IsLawful};
 ghost use Rattle.iloc_validation.specs.ByTheBook.{IsScheduleUnder};
-ghost use Rattle.iloc_validation.specs.Finding.{IsFinding};
+ghost use Rattle.iloc_validation.specs.Lawfulness.{IsLawfulness};
 ghost use Rattle.iloc_validation.specs.Steps.Sides.{AreSides, IsScheduleUnderSome};
 
-use crate::finding::Finding;
+use crate::lawfulness::Lawfulness;
 use crate::pairing::Pairing;
 use crate::reading::given::{givens, without_nops};
 use crate::reading::readings;
@@ -48,11 +48,11 @@ pub fn validate(
     block: &Block,
     schedule: &Schedule,
     latencies: &Latencies,
-) -> Result<Finding, NoMemory>
+) -> Result<Lawfulness, NoMemory>
     ensures right { IfOk result
-        (IsFinding latencies.now block.now.ops schedule.now.ops schedule.now.rows) }
-    ensures own { IfOk result (λ finding. IsLawful latencies.now block.now.ops schedule.now.ops schedule.now.rows
-        → finding ≡ Finding.Lawful) }
+        (IsLawfulness latencies.now block.now.ops schedule.now.ops schedule.now.rows) }
+    ensures own { IfOk result (λ found. IsLawful latencies.now block.now.ops schedule.now.ops schedule.now.rows
+        → found ≡ Lawfulness.Lawful) }
 {
     let ops = without_nops(alloc, block)?;
     let givens = givens(alloc, &ops)?;
@@ -64,14 +64,14 @@ pub fn validate(
         readings: &readings,
     };
     if is_in_order(alloc, &sides, latencies)? {
-        return Ok(Finding::Lawful);
+        return Ok(Lawfulness::Lawful);
     }
     let found = found_pairing(alloc, &sides)?;
     if is_schedule_under(alloc, &sides, &found, latencies)? {
-        return Ok(Finding::Lawful);
+        return Ok(Lawfulness::Lawful);
     }
     match reason(alloc, &sides, found, latencies)? {
-        Some(reason) => Ok(Finding::Unlawful(reason)),
-        None => Ok(Finding::Lawful),
+        Some(reason) => Ok(Lawfulness::Unlawful(reason)),
+        None => Ok(Lawfulness::Lawful),
     }
 }

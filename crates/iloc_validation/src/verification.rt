@@ -4,8 +4,8 @@ ghost use Rattle.iloc_validation.specs.ByTheBook.{ArePaired, IsScheduleUnder};
 ghost use Rattle.iloc_validation.specs.Steps.Pairing.{LeadsBack};
 ghost use Rattle.iloc_validation.specs.Steps.Sides.{AreSides, IsKept};
 
-use crate::finding::Issue;
 use crate::label::have_one_label;
+use crate::lawfulness::Issue;
 use crate::pairing::Pairing;
 use crate::reading::Reading;
 use crate::reading::sources::{Sources, are_same};
@@ -27,7 +27,7 @@ pub(crate) struct Sides<'a> {
 
 impl Sides<'_> {
     ghost use Rattle.std.specs.Prelude.{◌≡◌, ◌<◌, length, IfSome, option_map};
-    ghost use Rattle.iloc_validation.specs.Finding.{issue_of};
+    ghost use Rattle.iloc_validation.specs.Lawfulness.{issue_of};
     ghost use Rattle.iloc_validation.specs.Steps.Sides.{HaveCycles};
 
     /// Operation k of the rows, with its cycle.

@@ -9,7 +9,7 @@ use Rattle.iloc_sched.specs.declared.ranking.heuristic.Heuristic.{Heuristic}
 use Rattle.iloc_sched.specs.declared.ranking.heuristic.Heuristic.TheVariants.{Chain, Slack, Descendants, Successors, Latency, Order}
 use Rattle.iloc_args.specs.Priority.{priority_word}
 use Rattle.iloc_args.specs.declared.request.Request.{Request}
-use Rattle.iloc_farm.specs.declared.commands.compare.Comparison.{Comparison}
+use Rattle.iloc_farm.specs.declared.commands.compare.ComparedCycles.{ComparedCycles}
 use Rattle.iloc_farm.specs.Entries.{IsListingAfter}
 use Rattle.iloc_farm.specs.Listing.{field, head_as, opening_as}
 use Rattle.iloc_farm.specs.Steps.Listed.{IsCount}
@@ -28,25 +28,25 @@ place Latency = 4
 place Order = 5
 
 -- how many cycles the schedule by this heuristic takes
-abbrev pub cycles_by : Heuristic → Comparison → ℕ
+abbrev pub cycles_by : Heuristic → ComparedCycles → ℕ
 cycles_by heuristic c = slice_index c.cycles (place heuristic)
 
 -- the bound on the block's cycles, and those of its schedules
-pub record IsComparison (lat : Latencies) (b : Block) (c : Comparison) : Type 0 where
+pub record IsComparedCycles (lat : Latencies) (b : Block) (c : ComparedCycles) : Type 0 where
   pub bound : c.least ≡ least lat b.ops
   pub all : length c.cycles ≡ length heuristics
   pub each : (heuristic : Heuristic) → IsCount heuristic lat b (cycles_by heuristic c)
 
 -- whether the schedule by no heuristic takes fewer
-abbrev pub is_fewest : Heuristic → Comparison → Bool
+abbrev pub is_fewest : Heuristic → ComparedCycles → Bool
 is_fewest heuristic c = list_all (nat_le (cycles_by heuristic c)) c.cycles
 
 -- 1 for a block of which that holds
-abbrev pub fewest_by : Heuristic → Comparison → ℕ
+abbrev pub fewest_by : Heuristic → ComparedCycles → ℕ
 fewest_by heuristic c = if is_fewest heuristic c then 1 else 0
 
 -- 1 for a block whose schedule by this heuristic takes as many as the bound: then no lawful schedule takes fewer
-abbrev pub optimal_by : Heuristic → Comparison → ℕ
+abbrev pub optimal_by : Heuristic → ComparedCycles → ℕ
 optimal_by heuristic c = if cycles_by heuristic c == c.least then 1 else 0
 
 -- a number by its heuristic
@@ -58,14 +58,14 @@ abbrev pub columns : Bool → (Heuristic → ℕ) → List Heuristic → List �
 columns csv number each = flat_map (λ heuristic. column csv heuristic (number heuristic)) each
 
 -- `block K NAME least L chain C ..`, or `K,NAME,L,C,..` in a table
-abbrev pub compare_line : Bool → ℕ → Option (List ℕ) → Comparison → List ℕ
+abbrev pub compare_line : Bool → ℕ → Option (List ℕ) → ComparedCycles → List ℕ
 compare_line csv k name c =
     head_as csv k name ++ field csv (codes "least") c.least ++ columns csv (λ heuristic. cycles_by heuristic c) heuristics
     ++ codes "\n"
 
 -- the entry of block k: its comparison, which is found
-pub record IsCompareEntry (request : Request) (k : ℕ) (b : Block) (entry : List ℕ) (found : Comparison) : Type 0 where
-  pub compares : IsComparison request.latencies b found
+pub record IsCompareEntry (request : Request) (k : ℕ) (b : Block) (entry : List ℕ) (found : ComparedCycles) : Type 0 where
+  pub compares : IsComparedCycles request.latencies b found
   pub listed : entry ≡ compare_line request.csv k b.name found
 
 -- what a table begins with
@@ -73,26 +73,26 @@ abbrev pub compare_header : List ℕ
 compare_header = codes "block,name,least,chain,slack,descendants,successors,latency,order\n"
 
 -- the sums for each heuristic
-abbrev pub sums_of : (Heuristic → Comparison → ℕ) → List Comparison → List ℕ
+abbrev pub sums_of : (Heuristic → ComparedCycles → ℕ) → List ComparedCycles → List ℕ
 sums_of counted found = columns false (λ heuristic. sum_by (counted heuristic) found) heuristics
 
 -- `total least L chain C ..`
-abbrev pub sums_line : List Comparison → List ℕ
+abbrev pub sums_line : List ComparedCycles → List ℕ
 sums_line found =
     codes "total least " ++ decimal (sum_by (λ c. c.least) found) ++ sums_of cycles_by found ++ codes "\n"
 
 -- `LABEL chain N .. of B`, with the number of blocks
-abbrev pub tally_line : List ℕ → (Heuristic → Comparison → ℕ) → List Comparison → List ℕ
+abbrev pub tally_line : List ℕ → (Heuristic → ComparedCycles → ℕ) → List ComparedCycles → List ℕ
 tally_line label counted found =
     label ++ sums_of counted found ++ codes " of " ++ decimal (length found) ++ codes "\n"
 
 -- the sums, and how many blocks have the fewest cycles or the bound
-abbrev pub compare_totals : List Comparison → List ℕ
+abbrev pub compare_totals : List ComparedCycles → List ℕ
 compare_totals found =
     sums_line found ++ tally_line (codes "fewest") fewest_by found ++ tally_line (codes "optimal") optimal_by found
 
 -- these, which a table has not
-abbrev pub compare_ending : Bool → List Comparison → List ℕ
+abbrev pub compare_ending : Bool → List ComparedCycles → List ℕ
 compare_ending true found = []
 compare_ending false found = compare_totals found
 

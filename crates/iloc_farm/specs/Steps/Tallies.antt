@@ -1,13 +1,13 @@
 -- What is summed over blocks that are compared.
 use Rattle.std.specs.Prelude.{ℕ}
 use Rattle.iloc_sched.specs.declared.ranking.heuristic.Heuristic.{Heuristic}
-use Rattle.iloc_farm.specs.declared.commands.compare.Comparison.{Comparison}
+use Rattle.iloc_farm.specs.declared.commands.compare.ComparedCycles.{ComparedCycles}
 use Rattle.iloc_farm.specs.declared.commands.compare.Tally.{Tally}
 use Rattle.iloc_farm.specs.declared.commands.compare.Tally.TheVariants as tally
 use Rattle.iloc_farm.specs.Commands.Compare.{cycles_by, fewest_by, optimal_by}
 
 -- what one block adds
-abbrev pub counted : Tally → Heuristic → Comparison → ℕ
+abbrev pub counted : Tally → Heuristic → ComparedCycles → ℕ
 counted tally.Cycles heuristic c = cycles_by heuristic c
 counted tally.Fewest heuristic c = fewest_by heuristic c
 counted tally.Optimal heuristic c = optimal_by heuristic c

@@ -31,7 +31,7 @@ const HEADER: &[u8] = b"block,name,least,chain,slack,descendants,successors,late
 
 /// The bound on a block's cycles, and the cycles of its schedules by each heuristic.
 #[derive(Clone, Copy, Debug, Drop)]
-pub struct Comparison {
+pub struct ComparedCycles {
     /// How many cycles a lawful schedule takes at least.
     pub least: u32,
     /// How many each schedule takes, in the order in which the heuristics are listed.
@@ -53,14 +53,14 @@ fn place(heuristic: Heuristic) -> usize
 }
 
 /// How many cycles the schedule by this heuristic takes.
-fn cycles_by(heuristic: Heuristic, comparison: &Comparison) -> u32
+fn cycles_by(heuristic: Heuristic, comparison: &ComparedCycles) -> u32
     ensures { result ≡ compare.cycles_by heuristic comparison.now }
 {
     comparison.cycles[place(heuristic)]
 }
 
 /// Whether the schedule by no heuristic takes fewer.
-fn is_fewest(heuristic: Heuristic, comparison: &Comparison) -> bool
+fn is_fewest(heuristic: Heuristic, comparison: &ComparedCycles) -> bool
     ensures { result ≡ compare.is_fewest heuristic comparison.now }
 {
     let cycles = cycles_by(heuristic, comparison);
@@ -80,7 +80,7 @@ enum Tally {
 
 impl Tally {
     /// What one block adds.
-    fn of(self, heuristic: Heuristic, comparison: &Comparison) -> u32
+    fn of(self, heuristic: Heuristic, comparison: &ComparedCycles) -> u32
         ensures { result ≡ counted self heuristic comparison.now }
     {
         match self {
@@ -91,7 +91,7 @@ impl Tally {
     }
 
     /// What all add.
-    fn sum(self, heuristic: Heuristic, found: &[Comparison]) -> u64
+    fn sum(self, heuristic: Heuristic, found: &[ComparedCycles]) -> u64
         requires { length found.now ≤ MAX_BLOCKS }
         ensures { result ≡ sum_by (counted self heuristic) found.now }
     {
@@ -104,7 +104,7 @@ impl Tally {
 }
 
 /// The bounds of all blocks together.
-fn sum_of_bounds(found: &[Comparison]) -> u64
+fn sum_of_bounds(found: &[ComparedCycles]) -> u64
     requires { length found.now ≤ MAX_BLOCKS }
     ensures { result ≡ sum_by (λ c. c.least) found.now }
 {
@@ -132,7 +132,7 @@ fn push_cycles(
     text: &mut Vec<u8>,
     csv: bool,
     heuristics: &[Heuristic],
-    comparison: &Comparison,
+    comparison: &ComparedCycles,
 ) -> Result<(), NoMemory>
     ensures { OnOk result (text.new.items ≡ text.old.items
         ++ compare.columns csv (λ heuristic. compare.cycles_by heuristic comparison.now) heuristics.now) }
@@ -149,7 +149,7 @@ fn push_sums(
     text: &mut Vec<u8>,
     heuristics: &[Heuristic],
     tally: Tally,
-    found: &[Comparison],
+    found: &[ComparedCycles],
 ) -> Result<(), NoMemory>
     requires { length found.now ≤ MAX_BLOCKS }
     ensures { OnOk result (text.new.items ≡ text.old.items
@@ -168,7 +168,7 @@ fn push_comparison(
     csv: bool,
     number: usize,
     name: Option<&Name>,
-    comparison: &Comparison,
+    comparison: &ComparedCycles,
 ) -> Result<(), NoMemory>
     requires { number < 2 ^ 63 }
     ensures { OnOk result (text.new.items ≡ text.old.items
@@ -182,7 +182,7 @@ fn push_comparison(
 }
 
 /// Appends the line of the bounds and the cycles of all blocks together.
-fn push_sums_line(text: &mut Vec<u8>, found: &[Comparison]) -> Result<(), NoMemory>
+fn push_sums_line(text: &mut Vec<u8>, found: &[ComparedCycles]) -> Result<(), NoMemory>
     requires { length found.now ≤ MAX_BLOCKS }
     ensures { OnOk result (text.new.items ≡ text.old.items ++ compare.sums_line found.now) }
 {
@@ -197,7 +197,7 @@ fn push_tally_line(
     text: &mut Vec<u8>,
     label: &[u8],
     tally: Tally,
-    found: &[Comparison],
+    found: &[ComparedCycles],
 ) -> Result<(), NoMemory>
     requires { length found.now ≤ MAX_BLOCKS }
     ensures { OnOk result
@@ -209,7 +209,7 @@ fn push_tally_line(
 }
 
 /// Appends what all blocks add up to, but in a table.
-fn push_totals(text: &mut Vec<u8>, csv: bool, found: &[Comparison]) -> Result<(), NoMemory>
+fn push_totals(text: &mut Vec<u8>, csv: bool, found: &[ComparedCycles]) -> Result<(), NoMemory>
     requires { length found.now ≤ MAX_BLOCKS }
     ensures { OnOk result (text.new.items ≡ text.old.items ++ compare.compare_ending csv found.now) }
 {
@@ -245,12 +245,12 @@ impl CompareLister {
 
 impl FarmedLister for CompareLister {
     ghost use Rattle.iloc_sched.specs.declared.ranking.heuristic.Heuristic.TheVariants.{Chain};
-    ghost use Rattle.iloc_farm.specs.Commands.Compare.{IsCompareListing, IsComparison, cycles_by};
+    ghost use Rattle.iloc_farm.specs.Commands.Compare.{IsCompareListing, IsComparedCycles, cycles_by};
     ghost use Rattle.iloc_farm.specs.Steps.Listed.{AreListed};
 
-    type Answer = Comparison;
+    type Answer = ComparedCycles;
 
-    ghost answers = { λ request _ block found. IsComparison request.latencies block found };
+    ghost answers = { λ request _ block found. IsComparedCycles request.latencies block found };
 
     ghost cycles_in = { λ found. cycles_by Chain found };
 
@@ -266,7 +266,7 @@ impl FarmedLister for CompareLister {
         request: &Request,
         _number: usize,
         block: &Block,
-    ) -> Result<Comparison, NoMemory> {
+    ) -> Result<ComparedCycles, NoMemory> {
         let latencies = &request.latencies;
         let (schedule, least) = self.0.lend_with_least(block, latencies, Heuristic::Chain)?;
         let chain = count_of(&schedule, latencies);
@@ -276,13 +276,13 @@ impl FarmedLister for CompareLister {
         let successors = self.count(block, latencies, Heuristic::Successors)?;
         let latency = self.count(block, latencies, Heuristic::Latency)?;
         let order = self.count(block, latencies, Heuristic::Order)?;
-        Ok(Comparison {
+        Ok(ComparedCycles {
             least: least as u32,
             cycles: [chain, slack, descendants, successors, latency, order],
         })
     }
 
-    fn cycles(found: &Comparison) -> u32 {
+    fn cycles(found: &ComparedCycles) -> u32 {
         cycles_by(Heuristic::Chain, found)
     }
 
@@ -290,10 +290,10 @@ impl FarmedLister for CompareLister {
         alloc: Global,
         request: &Request,
         blocks: Blocks,
-        found: Vec<Comparison>,
+        found: Vec<ComparedCycles>,
     ) -> Result<Listing, NoMemory>
         requires few { length blocks ≤ MAX_BLOCKS }
-        requires right { AreListed (λ _ block each. IsComparison request.now.latencies block each) blocks found.items }
+        requires right { AreListed (λ _ block each. IsComparedCycles request.now.latencies block each) blocks found.items }
         ensures { IfOk result (IsCompareListing request.now blocks) }
     {
         let mut text = Vec::new(alloc);

@@ -3,7 +3,7 @@ ghost use Rattle.std.specs.Prelude.{◌≡◌, ◌≤◌, ◌<◌, ◌^◌, leng
 ghost use Rattle.iloc_ops.specs.Limits.{MAX_BLOCKS};
 
 use crate::farmed::FarmedLister;
-use crate::listing::text::{Entry, Listing, Text};
+use crate::listing::text::{FoldedText, Listing, ScheduleEntry};
 use crate::listing::{count_of, push_schedule, push_total};
 use bytes::BytesMut;
 use iloc_args::Request;
@@ -12,7 +12,7 @@ use iloc_text::{Block, Blocks, NoMemory};
 use std::alloc::Global;
 
 /// The cycles of these entries' schedules together.
-fn cycles_of_all(entries: &[Entry]) -> u64
+fn cycles_of_all(entries: &[ScheduleEntry]) -> u64
     requires { length entries.now ≤ MAX_BLOCKS }
     ensures sum { result ≡ sum_by (λ entry. entry.cycles) entries.now }
     ensures small { result < 2 ^ 63 }
@@ -40,7 +40,7 @@ impl FarmedLister for ScheduleLister {
     ghost use Rattle.iloc_farm.specs.Listing.{total_of_all};
     ghost use Rattle.iloc_farm.specs.Steps.Listed.{AreListed};
 
-    type Answer = Entry;
+    type Answer = ScheduleEntry;
 
     ghost answers = { λ request k block entry. IsScheduleEntry request k block entry.text entry.cycles };
 
@@ -63,7 +63,7 @@ impl FarmedLister for ScheduleLister {
         request: &Request,
         number: usize,
         block: &Block,
-    ) -> Result<Entry, NoMemory> {
+    ) -> Result<ScheduleEntry, NoMemory> {
         self.text.clear();
         let schedule = self
             .scheduler
@@ -78,11 +78,11 @@ impl FarmedLister for ScheduleLister {
         )?;
         self.scheduler.take_back(schedule);
         let folds = cycles as usize / 4 > block.ops.len();
-        let text = Text::of(alloc, &mut self.piece, &self.text, folds)?;
-        Ok(Entry { text, cycles })
+        let text = FoldedText::of(alloc, &mut self.piece, &self.text, folds)?;
+        Ok(ScheduleEntry { text, cycles })
     }
 
-    fn cycles(entry: &Entry) -> u32 {
+    fn cycles(entry: &ScheduleEntry) -> u32 {
         entry.cycles
     }
 
@@ -90,7 +90,7 @@ impl FarmedLister for ScheduleLister {
         alloc: Global,
         _request: &Request,
         blocks: Blocks,
-        entries: Vec<Entry>,
+        entries: Vec<ScheduleEntry>,
     ) -> Result<Listing, NoMemory>
         requires few { length blocks ≤ MAX_BLOCKS }
         requires right { AreListed (λ k block entry. IsScheduleEntry _request.now k block entry.text entry.cycles)

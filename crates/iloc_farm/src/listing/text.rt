@@ -35,13 +35,13 @@ struct EmptyRows {
 
 /// A text. Of rows without an operation it may keep the number alone.
 #[derive(Drop)]
-pub struct Text {
+pub struct FoldedText {
     /// All bytes but those of the rows of which the number is kept.
     bytes: Bytes,
     runs: Vec<EmptyRows>,
 }
 
-impl Model for Text {
+impl Model for FoldedText {
     ghost use Rattle.std.specs.Prelude.{ℕ, ◌≤◌, List, length};
     ghost use Rattle.iloc_farm.specs.Steps.Text.{bytes_before, unfolded};
 
@@ -104,9 +104,9 @@ fn cut(piece: &mut BytesMut, text: &[u8]) -> Result<Bytes, NoMemory>
     Ok(piece.freeze_to(text.len())?)
 }
 
-impl Text {
+impl FoldedText {
     /// This text, of whose empty rows the number is kept.
-    fn folded(alloc: Global, text: &[u8]) -> Result<Text, NoMemory>
+    fn folded(alloc: Global, text: &[u8]) -> Result<FoldedText, NoMemory>
         ensures { IfOk result (λ folded. folded ≡ text.now) }
     {
         let mut bytes = Vec::new(alloc);
@@ -128,7 +128,7 @@ impl Text {
         }
         bytes.shrink_to_fit();
         runs.shrink_to_fit();
-        Ok(Text {
+        Ok(FoldedText {
             bytes: Bytes::from_vec(bytes)?,
             runs,
         })
@@ -140,13 +140,13 @@ impl Text {
         piece: &mut BytesMut,
         text: &[u8],
         folds: bool,
-    ) -> Result<Text, NoMemory>
+    ) -> Result<FoldedText, NoMemory>
         ensures { IfOk result (λ kept. kept ≡ text.now) }
     {
         if folds {
-            return Text::folded(alloc, text);
+            return FoldedText::folded(alloc, text);
         }
-        Ok(Text {
+        Ok(FoldedText {
             bytes: cut(piece, text)?,
             runs: Vec::new(alloc),
         })
@@ -172,15 +172,15 @@ impl Text {
 
 /// What is listed of one block, and the cycles of its schedule.
 #[derive(Drop)]
-pub struct Entry {
-    pub text: Text,
+pub struct ScheduleEntry {
+    pub text: FoldedText,
     pub cycles: u32,
 }
 
 /// The entries of blocks, and an ending.
 #[derive(Drop)]
 pub struct Listing {
-    entries: Vec<Entry>,
+    entries: Vec<ScheduleEntry>,
     ending: Vec<u8>,
     /// By which short texts are joined.
     buffer: Vec<u8>,
@@ -211,7 +211,7 @@ impl Listing {
     /// no memory.
     pub(crate) fn of_entries(
         alloc: Global,
-        entries: Vec<Entry>,
+        entries: Vec<ScheduleEntry>,
         ending: Vec<u8>,
     ) -> Result<Listing, NoMemory>
         ensures { IfOk result (λ listing.

@@ -18,7 +18,7 @@ use std::thread::Threads;
 
 /// A part of a text, to be read apart.
 #[derive(Drop)]
-pub struct Part<'t> {
+pub struct TextPart<'t> {
     pub alloc: Global,
     pub text: &'t [u8],
 }
@@ -30,7 +30,7 @@ pub struct PartRead<'t> {
     pub file: Result<IlocFile, ReadFault>,
 }
 
-impl<'t> Routine for Part<'t> {
+impl<'t> Routine for TextPart<'t> {
     ghost use Rattle.std.specs.Prelude.{◌≡◌};
     ghost use Rattle.iloc_farm.specs.Steps.Reading.{HoldsItsFile};
 
@@ -49,12 +49,12 @@ impl<'t> Routine for Part<'t> {
 }
 
 /// The parts into which the text falls, as routines.
-fn routines_of(alloc: Global, text: &[u8], most: usize) -> Result<Vec<Part<'_>>, NoMemory>
+fn routines_of(alloc: Global, text: &[u8], most: usize) -> Result<Vec<TextPart<'_>>, NoMemory>
     ensures { IfOk result (λ parts. AreParts text.now (map (λ part. part.text.now) parts.items)) }
 {
     let mut routines = Vec::with_capacity(alloc, most)?;
     for text in parts_of(alloc, text, most)? {
-        routines.push(Part { alloc, text })?;
+        routines.push(TextPart { alloc, text })?;
     }
     Ok(routines)
 }

@@ -21,7 +21,7 @@ use Rattle.iloc_timed.specs.Steps.Wheel.{due_at, AreUnderWay}
 use Rattle.iloc_timed.specs.Steps.Machine.{landed, AllLand, then_issued}
 use Rattle.iloc_timed.proofs.Turning.{cleared, pushed, not_pushed}
 use Rattle.iloc_timed.proofs.Landing.{register_more, word_more, landed-later}
-use Rattle.iloc_judge.specs.declared.symbols.registers.Registers.{Registers}
+use Rattle.iloc_judge.specs.declared.symbols.registers.TermRegisters.{TermRegisters}
 use Rattle.iloc_judge.specs.declared.symbols.sent.Sent.{Sent}
 use Rattle.iloc_judge.specs.declared.symbols.sent.Sent.TheVariants as S
 use Rattle.iloc_judge.specs.declared.symbols.action.Action.{Action}
@@ -46,7 +46,7 @@ all_land_later c d [] later all = tt
 all_land_later c d (e ∷ earlier) later all = (omega (arith, all.0), all.1, all_land_later c d earlier later all.2)
 
 -- what is due at cycle c has landed
-pub keeps_landing : (memory : List ℤ) (d : Meaning) (c : ℕ) (log : List Issued) (it : Symbols) (registers : Registers)
+pub keeps_landing : (memory : List ℤ) (d : Meaning) (c : ℕ) (log : List Issued) (it : Symbols) (registers : TermRegisters)
     (after : ℕ) (due : List Sent) (wheel : List (List Sent)) → due ≡ list_at it.wheel c
     → HasLanded d it.registers it.memory due registers after → wheel ≡ set it.wheel (c % 16) []
     → Keeps memory d c log it

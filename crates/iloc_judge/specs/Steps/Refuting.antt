@@ -5,9 +5,9 @@ use Rattle.iloc_meaning.specs.Outcome.{outcome}
 use Rattle.iloc_timed.specs.declared.latencies.Latencies.{Latencies}
 use Rattle.iloc_timed.specs.declared.row.Row.{Row}
 use Rattle.iloc_timed.specs.Timed.{timed_outcome}
-use Rattle.iloc_judge.specs.declared.place.Place.{Place}
-use Rattle.iloc_judge.specs.Place.{IsPlace}
+use Rattle.iloc_judge.specs.declared.difference.Difference.{Difference}
+use Rattle.iloc_judge.specs.Difference.{IsDifference}
 
 -- on this memory the rows' outcome differs from the block's, there
-abbrev pub DiffersAt : Latencies → List Op → List Op → List Row → List ℤ → Place → Type 0
-DiffersAt lat block ops rows memory place = IsPlace (timed_outcome lat ops rows memory) (outcome block memory) place
+abbrev pub DiffersAt : Latencies → List Op → List Op → List Row → List ℤ → Difference → Type 0
+DiffersAt lat block ops rows memory difference = IsDifference (timed_outcome lat ops rows memory) (outcome block memory) difference

@@ -11,7 +11,7 @@ use Rattle.iloc_meaning.specs.Effect.{at_address}
 use Rattle.iloc_timed.specs.declared.wheel.Pending.{Pending}
 use Rattle.iloc_timed.specs.declared.wheel.Pending.TheVariants as P
 use Rattle.iloc_timed.specs.Steps.Pending.{landed_in_register, landed_in_word}
-use Rattle.iloc_judge.specs.declared.symbols.registers.Registers.{Registers}
+use Rattle.iloc_judge.specs.declared.symbols.registers.TermRegisters.{TermRegisters}
 use Rattle.iloc_judge.specs.declared.symbols.sent.Sent.{Sent}
 use Rattle.iloc_judge.specs.declared.symbols.sent.Sent.TheVariants.{Register, Word}
 use Rattle.iloc_judge.specs.declared.symbols.action.Action.{Action}
@@ -19,7 +19,7 @@ use Rattle.iloc_judge.specs.declared.symbols.action.Action.TheVariants.{Gives, L
 use Rattle.iloc_judge.specs.Steps.Terms.{Meaning}
 
 -- the number of the term in register r
-abbrev pub number_in : Registers → Reg → ℕ
+abbrev pub number_in : TermRegisters → Reg → ℕ
 number_in registers r = unwrap_or (get nat_cmp registers.numbers r.0) registers.zero
 
 -- the number that an address is; of a negative one, a number that is no good address
@@ -45,12 +45,12 @@ abbrev pub some_bad : Meaning → List ℕ → Bool
 some_bad d addresses = list_any (λ k. not (is_good (d.word k))) addresses
 
 -- the register has the term, and each other keeps its own
-pub record ChangesOnly (old new : Registers) (r : Reg) (number : ℕ) : Type 0 where
+pub record ChangesOnly (old new : TermRegisters) (r : Reg) (number : ℕ) : Type 0 where
   pub changed : number_in new r ≡ number
   pub others : (s : Reg) → s.0 ≢ r.0 → number_in new s ≡ number_in old s
 
 -- what was sent has landed in registers and in a memory
-pub record HasLanded (d : Meaning) (old : Registers) (memory : ℕ) (due : List Sent) (new : Registers) (after : ℕ)
+pub record HasLanded (d : Meaning) (old : TermRegisters) (memory : ℕ) (due : List Sent) (new : TermRegisters) (after : ℕ)
     : Type 0 where
   pub registers : (r : Reg)
       → d.word (number_in new r) ≡ fold (landed_in_register r) (d.word (number_in old r)) (map (meant d) due)

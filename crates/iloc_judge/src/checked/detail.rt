@@ -7,7 +7,7 @@ ghost use Rattle.iloc_judge.specs.Steps.Counted.{IsCounted, CanBeCompared, CanBe
 
 use super::reason::push_reason;
 use crate::comparison::Comparison;
-use crate::place::Place;
+use crate::difference::Difference;
 use crate::refutation::probe::Probe;
 use crate::verdict::Verdict;
 use crate::void::Void;
@@ -34,18 +34,18 @@ fn push_both(text: &mut Vec<u8>, got: Option<i32>, wanted: Option<i32>) -> Resul
 }
 
 /// Appends where two outcomes differ.
-fn push_place(text: &mut Vec<u8>, place: &Place) -> Result<(), NoMemory>
-    requires { IsCounted place.now }
-    ensures { OnOk result (text.new.items ≡ text.old.items ++ listed.place_told place.now) }
+fn push_difference(text: &mut Vec<u8>, difference: &Difference) -> Result<(), NoMemory>
+    requires { IsCounted difference.now }
+    ensures { OnOk result (text.new.items ≡ text.old.items ++ listed.difference_told difference.now) }
 {
-    match *place {
-        Place::Output { index, got, wanted } => {
+    match *difference {
+        Difference::Output { index, got, wanted } => {
             text.extend_from_slice(b"  output ")?;
             push_decimal(text, index as u64 + 1)?;
             text.extend_from_slice(b": ")?;
             push_both(text, got, wanted)
         }
-        Place::Word {
+        Difference::Word {
             address,
             got,
             wanted,
@@ -55,8 +55,8 @@ fn push_place(text: &mut Vec<u8>, place: &Place) -> Result<(), NoMemory>
             text.extend_from_slice(b": ")?;
             push_both(text, Some(got), Some(wanted))
         }
-        Place::Fault => Ok(text.extend_from_slice(b"  fault")?),
-        Place::NoFault => Ok(text.extend_from_slice(b"  no fault")?),
+        Difference::Fault => Ok(text.extend_from_slice(b"  fault")?),
+        Difference::NoFault => Ok(text.extend_from_slice(b"  no fault")?),
     }
 }
 
@@ -102,9 +102,9 @@ fn push_comparison(text: &mut Vec<u8>, comparison: &Comparison) -> Result<(), No
     match comparison {
         Comparison::Void(why) => push_void(text, why)?,
         Comparison::Same | Comparison::Agrees => return Ok(()),
-        Comparison::Differs(place) => push_place(text, place)?,
-        Comparison::DiffersOn(probe, place) => {
-            push_place(text, place)?;
+        Comparison::Differs(difference) => push_difference(text, difference)?,
+        Comparison::DiffersOn(probe, difference) => {
+            push_difference(text, difference)?;
             push_probe(text, probe)?;
         }
     }

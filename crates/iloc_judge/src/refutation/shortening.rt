@@ -33,9 +33,9 @@ fn without_parts(
 ) -> Result<Refutation, NoMemory>
     requires few { bits < PLACE_BITS }
     requires differs { DiffersAt latencies.now block.now.ops schedule.now.ops schedule.now.rows
-        (memory_of found.probe) found.place }
+        (memory_of found.probe) found.difference }
     ensures { IfOk result (λ it. DiffersAt latencies.now block.now.ops schedule.now.ops schedule.now.rows
-        (memory_of it.probe) it.place) }
+        (memory_of it.probe) it.difference) }
 {
     let mut kept = found;
     for part in 0..MOST_WORDS as usize >> bits {
@@ -63,9 +63,9 @@ pub(crate) fn shortened(
     found: Refutation,
 ) -> Result<Refutation, NoMemory>
     requires { DiffersAt latencies.now block.now.ops schedule.now.ops schedule.now.rows
-        (memory_of found.probe) found.place }
+        (memory_of found.probe) found.difference }
     ensures { IfOk result (λ it. DiffersAt latencies.now block.now.ops schedule.now.ops schedule.now.rows
-        (memory_of it.probe) it.place) }
+        (memory_of it.probe) it.difference) }
 {
     let mut kept = found;
     let mut reruns = most_reruns(block, schedule);

@@ -6,7 +6,7 @@ ghost use Rattle.iloc_meaning.specs.Effect.{effect, at_address};
 ghost use Rattle.iloc_judge.specs.Steps.Terms.{Adds, Meaning};
 ghost use Rattle.iloc_judge.specs.Steps.Symbols.{number_in, effect_of};
 
-use crate::symbols::registers::Registers;
+use crate::symbols::registers::TermRegisters;
 use crate::table::Table;
 use iloc_meaning::arithmetic::constant;
 use iloc_ops::{NoMemory, Op, Reg};
@@ -31,7 +31,7 @@ impl Action {
     /// What an operation does with these registers and this memory.
     pub(crate) fn of(
         op: &Op,
-        registers: &Registers,
+        registers: &TermRegisters,
         memory: u32,
         table: &mut Table,
     ) -> Result<Action, NoMemory>

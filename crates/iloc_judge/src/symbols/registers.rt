@@ -8,24 +8,24 @@ use std::collections::BTreeMap;
 
 /// The numbers of the terms in the registers of a run.
 #[derive(Drop)]
-pub(crate) struct Registers {
+pub(crate) struct TermRegisters {
     numbers: BTreeMap<u32, u32>,
     // In each register that was given no value.
     zero: u32,
 }
 
-impl Registers {
+impl TermRegisters {
     ghost use Rattle.std.specs.Prelude.{◌≢◌, pos};
     ghost use Rattle.iloc_ops.specs.declared.op.Reg.{Reg as Register};
     ghost use Rattle.iloc_judge.specs.Steps.Terms.{Adds};
     ghost use Rattle.iloc_judge.specs.Steps.Symbols.{number_in, ChangesOnly};
 
     /// All registers 0.
-    pub(crate) fn new(alloc: Global, table: &mut Table) -> Result<Registers, NoMemory>
+    pub(crate) fn new(alloc: Global, table: &mut Table) -> Result<TermRegisters, NoMemory>
         ensures { IfOk result (λ registers. Adds table.old table.new (λ _ d. (r : Register)
             → d.word (number_in registers r) ≡ pos 0)) }
     {
-        Ok(Registers {
+        Ok(TermRegisters {
             numbers: BTreeMap::new(alloc),
             zero: table.known(0)?,
         })

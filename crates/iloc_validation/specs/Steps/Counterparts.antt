@@ -3,19 +3,19 @@ use Rattle.std.specs.Prelude.{ℕ, ◌+◌, ◌≡◌, ◌<◌, ◌≤◌, if◌
 use Rattle.std.specs.BTreeMap.{get}
 use Rattle.iloc_ops.specs.declared.op.Op.{Op}
 use Rattle.iloc_meaning.specs.Trace.{op_at}
-use Rattle.iloc_validation.specs.declared.reasons.waiting.Waiting.{Waiting}
+use Rattle.iloc_validation.specs.declared.reasons.unpaired.Unpaired.{Unpaired}
 use Rattle.iloc_validation.specs.declared.reasons.counterparts.Chains.{Chains}
 use Rattle.iloc_validation.specs.declared.reasons.counts.Lacking.{Lacking}
 use Rattle.iloc_validation.specs.contracts.label.LabelOrd.TheImpl as of_labels
-use Rattle.iloc_validation.specs.Finding.{are_alike, count_like, lacking, IsShort}
+use Rattle.iloc_validation.specs.Lawfulness.{are_alike, count_like, lacking, IsShort}
 use Rattle.iloc_validation.specs.Steps.Labels.{labelled}
 
 -- the first operation that waits, of those like this one
-abbrev pub first_like : Waiting → Op → Option ℕ
+abbrev pub first_like : Unpaired → Op → Option ℕ
 first_like waiting op = get (of_labels.ghosts).cmp waiting.first (labelled op)
 
 -- of those like this operation another one waits first
-abbrev pub SetsLike : Waiting → Waiting → Op → Option ℕ → Type 0
+abbrev pub SetsLike : Unpaired → Unpaired → Op → Option ℕ → Type 0
 SetsLike old new op first = (other : Op) → first_like new other ≡ (if are_alike op other then first else first_like old other)
 
 -- what is noted at a place

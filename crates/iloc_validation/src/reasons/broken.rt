@@ -3,14 +3,14 @@ ghost use Rattle.std.specs.Prelude.{ℕ, ◌≡◌, ◌<◌, ◌≤◌, length, 
 ghost use Rattle.iloc_meaning.specs.Trace.{op_at};
 ghost use Rattle.iloc_timed.specs.Kinds.{kind};
 ghost use Rattle.iloc_validation.specs.ByTheBook.{ArePaired};
-ghost use Rattle.iloc_validation.specs.Finding.{IsReason};
+ghost use Rattle.iloc_validation.specs.Lawfulness.{IsReason};
 ghost use Rattle.iloc_validation.specs.Steps.Readings.{reading_at};
 ghost use Rattle.iloc_validation.specs.Steps.Sides.{AreSides, HaveCycles, IsKept, IsScheduleUnderSome};
 ghost use Rattle.iloc_validation.specs.Steps.Waits.{earliest};
 
 use super::delays::most_missing;
 use super::uses::{first_wrong_use, use_reason};
-use crate::finding::Reason;
+use crate::lawfulness::Reason;
 use crate::pairing::Pairing;
 use crate::reading::sources::at;
 use crate::verification::Sides;

@@ -1,10 +1,10 @@
 //! The counterparts of operations on the other side: the first of a label with the first of that label, and so on.
 ghost use Rattle.std.specs.Prelude.{◌≡◌, ◌+◌, ◌<◌, ℕ, length, slice_index, unwrap_or, IfOk, OnOk, IfSome, IfNone};
 ghost use Rattle.iloc_validation.specs.ByTheBook.{ArePaired};
-ghost use Rattle.iloc_validation.specs.Finding.{lacking};
+ghost use Rattle.iloc_validation.specs.Lawfulness.{lacking};
 ghost use Rattle.iloc_validation.specs.Steps.Counterparts.{first_like, SetsLike, noted_at, AreChained, AreCounterparts};
 
-use super::waiting::Waiting;
+use super::unpaired::Unpaired;
 use crate::pairing::Pairing;
 use crate::verification::{Sides, pairs_by_label};
 use iloc_ops::{NoMemory, Op};
@@ -13,7 +13,7 @@ use std::alloc::Global;
 /// The operations of one side in chains, one for each label.
 #[derive(Drop)]
 pub(crate) struct Chains {
-    waiting: Waiting,
+    waiting: Unpaired,
     // By operation the next one like it.
     next: Vec<Option<usize>>,
 }
@@ -63,7 +63,7 @@ impl Chains {
 fn chained(alloc: Global, ops: &[Op]) -> Result<Chains, NoMemory>
     ensures { IfOk result (AreChained ops.now 0) }
 {
-    let waiting = Waiting::none(alloc);
+    let waiting = Unpaired::none(alloc);
     let next = vec![in alloc; None; ops.len()]?;
     let mut chains = Chains { waiting, next };
     for place in 0..ops.len() {

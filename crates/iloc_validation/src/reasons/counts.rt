@@ -2,13 +2,13 @@
 ghost use Rattle.std.specs.Prelude.{◌≡◌, ◌<◌, None, length, IfSome, IfNone};
 ghost use Rattle.iloc_meaning.specs.Trace.{op_at};
 ghost use Rattle.iloc_timed.specs.declared.latencies.Latencies.{Latencies as Table};
-ghost use Rattle.iloc_validation.specs.Finding.{lacking, IsShort, AreLeftOut, AreAdded, IsReason};
+ghost use Rattle.iloc_validation.specs.Lawfulness.{lacking, IsShort, AreLeftOut, AreAdded, IsReason};
 ghost use Rattle.iloc_validation.specs.Steps.Counterparts.{AreCounterparts, AreLacking, IsLackingIn};
 ghost use Rattle.iloc_validation.specs.Steps.Sides.{HaveCycles};
 
 use super::counterparts::Counterparts;
-use crate::finding::{Added, LeftOut, Reason};
 use crate::label::count_like;
+use crate::lawfulness::{Added, LeftOut, Reason};
 use crate::pairing::Pairing;
 use crate::verification::Sides;
 use iloc_ops::Op;

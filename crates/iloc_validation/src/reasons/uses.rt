@@ -3,11 +3,11 @@ ghost use Rattle.std.specs.Prelude.{◌≡◌, ◌<◌, length, slice_index, IfS
 ghost use Rattle.iloc_ops.specs.Registers.{used};
 ghost use Rattle.iloc_meaning.specs.Trace.{op_at};
 ghost use Rattle.iloc_validation.specs.ByTheBook.{ArePaired};
-ghost use Rattle.iloc_validation.specs.Finding.{IsReason};
+ghost use Rattle.iloc_validation.specs.Lawfulness.{IsReason};
 ghost use Rattle.iloc_validation.specs.Steps.Broken.{AreUsesKept, IsWrong};
 ghost use Rattle.iloc_validation.specs.Steps.Sides.{AreSides, HaveCycles};
 
-use crate::finding::Reason;
+use crate::lawfulness::Reason;
 use crate::pairing::Pairing;
 use crate::reading::sources::at;
 use crate::verification::Sides;

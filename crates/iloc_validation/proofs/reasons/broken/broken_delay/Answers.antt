@@ -1,6 +1,6 @@
 use Rattle.std.proofs.Common.{◌≡◌, ◌<◌, length, slice_index, ap, sym, ◌∙◌, subst, arith}
-use Rattle.iloc_validation.specs.declared.finding.Issue.{Issue}
-use Rattle.iloc_validation.specs.Finding.{issue_of}
+use Rattle.iloc_validation.specs.declared.lawfulness.Issue.{Issue}
+use Rattle.iloc_validation.specs.Lawfulness.{issue_of}
 use Rattle.iloc_validation.specs.Steps.Readings.{reading_at}
 use Rattle.iloc_validation.proofs.BrokenDelays.{needed_within, delay_reason}
 use Rattle.iloc_validation.proofs.Kept.{issued_early}

@@ -7,8 +7,8 @@ use Rattle.iloc_meaning.specs.Trace.{op_at}
 use Rattle.iloc_timed.specs.Latency.{latency}
 use Rattle.iloc_timed.specs.Rows.{issue_cycle}
 use Rattle.iloc_sched.proofs.Basics.Slots.{issued_within}
-use Rattle.iloc_validation.specs.declared.finding.Issue.{Issue}
-use Rattle.iloc_validation.specs.Finding.{issue_of}
+use Rattle.iloc_validation.specs.declared.lawfulness.Issue.{Issue}
+use Rattle.iloc_validation.specs.Lawfulness.{issue_of}
 use Rattle.iloc_validation.proofs.WrongUses.{early_reason, reads_reason, mapped_within}
 use Rattle.iloc_validation.proofs.reasons.uses.use_reason.Goals as goal
 
