@@ -20,8 +20,8 @@ use Rattle.iloc_explain.specs.Waiting.{IsReadyAt}
 -- there is one text that explains a schedule of a block
 abbrev pub SchedulesHaveOneExplanation : Type 0
 SchedulesHaveOneExplanation = (heuristic : Heuristic) (lat : Latencies) (block ops : List Op) (rows : List Row)
-    (text text' : List ℕ) → IsExplanation heuristic lat block ops rows text → IsExplanation heuristic lat block ops rows text'
-    → text ≡ text'
+    (issued : List Op) (text text' : List ℕ) → IsExplanation heuristic lat block ops rows issued text
+    → IsExplanation heuristic lat block ops rows issued text' → text ≡ text'
 
 -- the stretches of the path of a lawful schedule take its cycles together
 abbrev pub PathsSumToTheCycles : Type 0

@@ -44,20 +44,20 @@ measures e =
     column (codes "priority") e.priority ++ column (codes "earliest") e.earliest ++ column (codes "slack") e.slack
     ++ codes " held " ++ holder_text e.held
 
--- `J cycle C unit U ready R after I,I priority P earliest E slack S held H OPERATION ; RENAMED`
+-- `J cycle C unit U ready R after I,I priority P earliest E slack S held H OPERATION ; ISSUED`
 abbrev pub explained_line : ℕ → Explained → Op → Op → List ℕ
-explained_line j e op renamed =
+explained_line j e op issued =
     decimal j ++ column (codes "cycle") e.cycle ++ column (codes "unit") (unit_number e.unit)
     ++ column (codes "ready") e.ready ++ codes " after " ++ comma_separated e.after.items
-    ++ measures e ++ codes " " ++ spelling op ++ codes " ; " ++ spelling renamed ++ codes "\n"
+    ++ measures e ++ codes " " ++ spelling op ++ codes " ; " ++ spelling issued ++ codes "\n"
 
--- the lines of operations from number j on: each as it stands in the block, and as it is renamed
+-- the lines of operations from number j on: each as it stands in the block, and as it is issued
 abbrev pub explained_lines : ℕ → List Explained → List Op → List Op → List ℕ
-explained_lines j [] ops renamed = []
-explained_lines j (e ∷ more) [] renamed = []
+explained_lines j [] ops issued = []
+explained_lines j (e ∷ more) [] issued = []
 explained_lines j (e ∷ more) (op ∷ ops) [] = []
-explained_lines j (e ∷ more) (op ∷ ops) (new ∷ renamed) =
-    explained_line j e op new ++ explained_lines (j + 1) more ops renamed
+explained_lines j (e ∷ more) (op ∷ ops) (own ∷ issued) =
+    explained_line j e op own ++ explained_lines (j + 1) more ops issued
 
 -- `chain I J ..`, the operations of a chain, `-` where there are none
 abbrev pub chain_line : List ℕ → List ℕ
@@ -85,8 +85,10 @@ cycles_line taken bound =
     codes "cycles " ++ decimal taken ++ codes " least " ++ decimal bound ++ optimal_mark taken bound ++ codes "\n"
 
 -- The text explains these operations in these rows, a schedule of the block that is ranked by a heuristic: a line for
--- each operation, the cycles with their lower bound, a longest chain of delays, and what binds in this schedule.
-pub record IsExplanation (heuristic : Heuristic) (lat : Latencies) (block ops : List Op) (rows : List Row) (text : List ℕ) : Type 0 where
+-- each operation, the cycles with their lower bound, a longest chain of delays, and what binds in this schedule. The lines
+-- show each operation as it is issued, which for a schedule of ours is as it stands there.
+pub record IsExplanation (heuristic : Heuristic) (lat : Latencies) (block ops : List Op) (rows : List Row) (issued : List Op)
+    (text : List ℕ) : Type 0 where
   pub explained : List Explained
   pub are_explained : AreExplained (priorities_by heuristic lat ops) lat ops rows explained
   pub chain : List ℕ
@@ -94,7 +96,7 @@ pub record IsExplanation (heuristic : Heuristic) (lat : Latencies) (block ops : 
   pub path : List Stretch
   pub is_path : IsPath lat ops rows path
   pub listed : text ≡
-      explained_lines 0 explained (without_nops block) ops
+      explained_lines 0 explained (without_nops block) issued
       ++ cycles_line (cycles lat ops rows) (least lat block)
       ++ chain_line chain
       ++ path_line path

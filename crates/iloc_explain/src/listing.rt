@@ -77,16 +77,16 @@ fn push_measures(text: &mut Vec<u8>, explained: &Explained) -> Result<(), NoMemo
     push_holder(text, explained.held)
 }
 
-/// Appends the line of operation j, as the block has it and as it is renamed.
+/// Appends the line of operation j, as the block has it and as it is issued.
 fn push_explained(
     text: &mut Vec<u8>,
     j: usize,
     explained: &Explained,
     op: &Op,
-    renamed: &Op,
+    issued: &Op,
 ) -> Result<(), NoMemory>
     ensures { OnOk result (text.new.items
-        ≡ text.old.items ++ listed.explained_line j explained.now op.now renamed.now) }
+        ≡ text.old.items ++ listed.explained_line j explained.now op.now issued.now) }
 {
     push_decimal(text, j as u64)?;
     push_column(text, "cycle", explained.cycle as u64)?;
@@ -98,7 +98,7 @@ fn push_explained(
     text.extend_from_slice(b" ")?;
     push_op(text, op)?;
     text.extend_from_slice(b" ; ")?;
-    push_op(text, renamed)?;
+    push_op(text, issued)?;
     Ok(text.extend_from_slice(b"\n")?)
 }
 
@@ -114,24 +114,24 @@ fn push_chain(text: &mut Vec<u8>, chain: &[usize]) -> Result<(), NoMemory>
     Ok(text.extend_from_slice(b"\n")?)
 }
 
-/// Appends the lines of all operations of a block that are no `nop`, as the block has them and as they are renamed.
+/// Appends the lines of all operations of a block that are no `nop`, as the block has them and as they are issued.
 fn push_lines(
     text: &mut Vec<u8>,
     block: &[Op],
     explained: &[Explained],
-    renamed: &[Op],
+    issued: &[Op],
 ) -> Result<(), NoMemory>
-    requires all { length explained.now ≡ length renamed.now }
-    requires same { length (without_nops block.now) ≡ length renamed.now }
+    requires all { length explained.now ≡ length issued.now }
+    requires same { length (without_nops block.now) ≡ length issued.now }
     ensures { OnOk result (text.new.items ≡ text.old.items
-        ++ listed.explained_lines 0 explained.now (without_nops block.now) renamed.now) }
+        ++ listed.explained_lines 0 explained.now (without_nops block.now) issued.now) }
 {
     let mut j = 0;
     for op in block {
         match op {
             Op::Nop => {}
             _ => {
-                push_explained(text, j, &explained[j], op, &renamed[j])?;
+                push_explained(text, j, &explained[j], op, &issued[j])?;
                 j += 1;
             }
         }
@@ -174,7 +174,7 @@ fn ranks(
 
 /// Appends what explains a schedule of a block, whose operations are the block's renamed ones, ranked by a heuristic: a
 /// line for each operation, the cycles with their lower bound (`least`), a longest chain of delays, and what binds in this
-/// schedule.
+/// schedule. The lines show each operation as it is `issued`.
 ///
 /// Promise: What is appended is a text that explains the schedule.
 pub fn push_explanation(
@@ -182,15 +182,17 @@ pub fn push_explanation(
     text: &mut Vec<u8>,
     block: &Block,
     schedule: &Schedule,
+    issued: &[Op],
     latencies: &Latencies,
     heuristic: Heuristic,
     least: u64,
 ) -> Result<(), NoMemory>
     requires few { length block.now.ops ≤ MAX_OPS }
     requires names { schedule.now.ops ≡ renamed block.now.ops }
+    requires issued { length issued.now ≡ length schedule.now.ops }
     requires least { least ≡ least_of_block latencies.now block.now.ops }
     ensures { OnOk result ((entry : List ℕ)
-        × IsExplanation heuristic latencies.now block.now.ops schedule.now.ops schedule.now.rows entry
+        × IsExplanation heuristic latencies.now block.now.ops schedule.now.ops schedule.now.rows issued.now entry
         × (text.new.items ≡ text.old.items ++ entry)) }
 {
     let ops = schedule.ops();
@@ -198,7 +200,7 @@ pub fn push_explanation(
     let ranks = ranks(alloc, ops, latencies, heuristic, &chains)?;
     let starts = starts(alloc, ops, latencies, &chains)?;
     let explained = explain(alloc, schedule, latencies, &ranks, &chains, &starts)?;
-    push_lines(text, block.ops.as_slice(), &explained, ops)?;
+    push_lines(text, block.ops.as_slice(), &explained, issued)?;
     push_cycles(text, cycles(schedule, latencies), least)?;
     push_chain(text, &longest_chain(alloc, ops, latencies, &chains)?)?;
     push_path(text, &path_of(alloc, schedule, latencies, &explained)?)

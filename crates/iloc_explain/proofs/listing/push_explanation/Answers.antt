@@ -1,4 +1,4 @@
-use Rattle.std.proofs.Common.{◌∙◌, ◌++◌, ◌≤◌, length, ap, arith, refl}
+use Rattle.std.proofs.Common.{◌∙◌, ◌++◌, ◌≤◌, length, ap, arith, refl, sym}
 use Rattle.std.proofs.lemmas.Result.{on_ok_weaker}
 use Rattle.iloc_timed.specs.Cycles.{cycles}
 use Rattle.iloc_sched.specs.Least.{least}
@@ -53,9 +53,13 @@ pub explain-requires-clause-starts : goal.explain-requires-clause-starts
 explain-requires-clause-starts c =
     rw c.ops-ops.ensures.ops at (c.deref-5.ensures.value ∙ c.in_ok-starts.ensures)
 
+pub push_lines-requires-clause-all : goal.push_lines-requires-clause-all
+push_lines-requires-clause-all c =
+    ap length c.deref-6.ensures.value ∙ (c.in_ok-explained.ensures.all ∙ sym c.requires.issued)
+
 pub push_lines-requires-clause-same : goal.push_lines-requires-clause-same
 push_lines-requires-clause-same c =
-    rw (c.as_slice.ensures, c.ops-ops.ensures.ops, c.requires.names, length-renamed_by) refl
+    rw (c.as_slice.ensures, c.requires.issued, c.requires.names, length-renamed_by) refl
 
 pub returns : goal.returns
 returns c =
@@ -64,7 +68,7 @@ returns c =
     let path = c.in_ok-path_of.field-0.items in
     let taken = cycles c.args.latencies.now c.args.schedule.now.ops c.args.schedule.now.rows in
     let bound = least c.args.latencies.now c.args.block.now.ops in
-    let lines = explained_lines 0 explained (without_nops c.args.block.now.ops) c.args.schedule.now.ops in
+    let lines = explained_lines 0 explained (without_nops c.args.block.now.ops) c.args.issued.now in
     on_ok_weaker c.push_path.result (λ pushed. (
       lines ++ cycles_line taken bound ++ chain_line chain ++ path_line path,
       record {
@@ -78,7 +82,7 @@ returns c =
       },
       parts_pushed c.args.text.now.items lines (cycles_line taken bound) (chain_line chain) (path_line path)
           c.push_lines.new.text.items c.push_cycles.new.text.items c.push_chain.new.text.items c.push_path.new.text.items
-          (rw (c.deref-6.ensures.value, c.as_slice.ensures, c.ops-ops.ensures.ops) at c.in_ok-push_lines.ensures)
+          (rw (c.deref-6.ensures.value, c.as_slice.ensures) at c.in_ok-push_lines.ensures)
           (rw (c.cycles.ensures, c.requires.least) at c.in_ok-push_cycles.ensures)
           (c.in_ok-push_chain.ensures ∙ ap (λ found. c.push_cycles.new.text.items ++ chain_line found) c.deref-8.ensures.value)
           (pushed ∙ ap (λ found. c.push_chain.new.text.items ++ path_line found) c.deref-10.ensures.value),

@@ -11,13 +11,13 @@ loop-op-preserved c = elim c.match-op.branch [
       rw (w.text-is, w.j-is, passed) c.loop-op.invariant
   | in_default+in_ok-push_explained-in_default w ↦
       let taken = op_taken c.args.block.now c.loop-op.op-index _ c.loop-op-test.true w.in_default.not-Nop in
-      let left : c.loop-op.j + length (without_nops (drop c.loop-op.op-index c.args.block.now)) ≡ length c.args.renamed.now =
+      let left : c.loop-op.j + length (without_nops (drop c.loop-op.op-index c.args.block.now)) ≡ length c.args.issued.now =
       c.loop-op.invariant.1 in
       let size = ap length taken in
-      let known : c.loop-op.j < length c.args.renamed.now = omega arith in
+      let known : c.loop-op.j < length c.args.issued.now = omega arith in
       let there : c.loop-op.j < length c.args.explained.now = omega (arith, c.requires.all) in (
         rw (w.text-is, w.j-is)
-            (line_more c.loop-op.text.items _ _ c.loop-op.j c.args.explained.now _ _ c.args.renamed.now
+            (line_more c.loop-op.text.items _ _ c.loop-op.j c.args.explained.now _ _ c.args.issued.now
             w.index-explained-j.result _ _ there known w.index-explained-j.is taken c.loop-op.invariant.0
             w.in_ok-push_explained-in_default.ensures),
         rw w.j-is (omega arith),
