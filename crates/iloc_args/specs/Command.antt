@@ -116,9 +116,13 @@ compare_entry = record {
   rules = workers_rule ∷ latency_rules ++ csv_rule ∷ [];
 }
 
--- `explain [--load N] [--store N] [--mult N] [--priority NAME]`
+-- `explain [--load N] [--store N] [--mult N] [--priority NAME] [--task FILE] [--either-slot]`
 abbrev pub explain_entry : Entry
-explain_entry = record { name = codes "explain"; task = Explain; rules = latency_rules ++ priority_rule ∷ [] }
+explain_entry = record {
+  name = codes "explain";
+  task = Explain;
+  rules = latency_rules ++ priority_rule ∷ task_rule ∷ either_slot_rule ∷ [];
+}
 
 -- `check [--at N] [WORD].. [--load N] [--store N] [--mult N] [--task FILE] [--either-slot] [--lawful] [--csv]`
 abbrev pub check_entry : Entry

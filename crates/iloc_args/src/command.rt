@@ -30,7 +30,7 @@ Exit status:
   2  a mistake in the command line
   3  no memory, or a worker could not be started
   4  reading or writing failed
-  5  check: the rows for a block do not pass
+  5  check, explain --task: the rows for a block do not pass
 
 Manual:
   man ilocfarm; in the repository man/ilocfarm.1 and docs/LANGUAGE.md";
@@ -330,14 +330,16 @@ fn compare_command<'a>(alloc: Global) -> Result<Command<'a>, AllocError>
     with_arg(command, csv_arg(alloc))
 }
 
-/// `explain [--load N] [--store N] [--mult N] [--priority NAME]`
+/// `explain [--load N] [--store N] [--mult N] [--priority NAME] [--task FILE] [--either-slot]`
 fn explain_command<'a>(alloc: Global) -> Result<Command<'a>, AllocError>
     ensures { IfOk result (HasApp (app explain_entry)) }
 {
     let about = "Schedule each block, and print why the schedule takes its cycles";
     let usage = "ilocfarm explain [OPTIONS] < BLOCKS";
     let command = with_latencies(alloc, Ok(bare_command(alloc, "explain", about, usage)));
-    with_arg(command, priority_arg(alloc))
+    let command = with_arg(command, priority_arg(alloc));
+    let command = with_arg(command, task_arg(alloc));
+    with_arg(command, either_slot_arg(alloc))
 }
 
 /// `check [--at N] [WORD]... [--load N] [--store N] [--mult N] [--task FILE] [--either-slot] [--lawful] [--csv]`
