@@ -15,12 +15,12 @@ use Rattle.iloc_validation.specs.declared.lawfulness.Reason.TheVariants.{Early}
 use Rattle.iloc_validation.specs.declared.reading.Reading.{Reading}
 use Rattle.iloc_validation.specs.declared.reasons.delays.Missing.{Missing}
 use Rattle.iloc_validation.specs.declared.reading.sources.Sources.{Sources}
-use Rattle.iloc_validation.specs.ByTheBook.{ArePaired}
+use Rattle.iloc_validation.specs.ByTheBook.{ArePaired, IsScheduleUnder}
 use Rattle.iloc_validation.specs.Lawfulness.{issue_of, IsReason}
 use Rattle.iloc_validation.specs.Steps.Broken.{AreUsesKept, IsMost}
 use Rattle.iloc_validation.specs.Steps.Pairing.{LeadsBack}
 use Rattle.iloc_validation.specs.Steps.Readings.{reading_at}
-use Rattle.iloc_validation.specs.Steps.Sides.{AreSides, HaveCycles, IsKept, IsScheduleUnderSome}
+use Rattle.iloc_validation.specs.Steps.Sides.{AreSides, HaveCycles, IsKept}
 use Rattle.iloc_validation.specs.Steps.Waits.{earliest}
 use Rattle.iloc_validation.proofs.Kept.{is_under}
 use Rattle.iloc_validation.proofs.MostMissing.{some_missing}
@@ -58,12 +58,9 @@ module _ (lat : Latencies) (block : List Op) (givens : List Sources) (schedule :
   module _ (waits : List ℕ) (each_wait : (i : ℕ) → i < length block
       → slice_index waits i ≡ earliest lat block cycle_there i (kind (op_at block i))) where
     pub all_kept : ((k : ℕ) → k < length ops → IsKept block givens ops readings waits there k)
-        → IsScheduleUnderSome lat block ops schedule.rows
-    all_kept kept = (
-      slice_index there,
-      slice_index back,
-      is_under lat block givens schedule readings sides there back origins partners waits each_wait leads.0 leads.1 kept,
-    )
+        → IsScheduleUnder lat block ops schedule.rows (slice_index there) (slice_index back)
+    all_kept kept =
+        is_under lat block givens schedule readings sides there back origins partners waits each_wait leads.0 leads.1 kept
 
     module _ (k : ℕ) (within : k < length ops) where
       -- its partner is itself

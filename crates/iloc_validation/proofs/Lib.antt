@@ -5,6 +5,7 @@ pub mod ReadValues
 pub mod GivenReads
 pub mod Renumbered
 pub mod Outcomes
+pub mod OwnTables
 pub mod Lawful
 pub mod LabelNumbers
 pub mod SourceLists

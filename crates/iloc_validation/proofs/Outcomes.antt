@@ -36,12 +36,13 @@ use Rattle.iloc_sched.proofs.Renamed.MentionedSources.{renamed_op_at, length-ren
 use Rattle.iloc_sched.proofs.Renamed.OneMoreOperation.{map_same}
 use Rattle.iloc_sched.proofs.Renamed.RenamedBlocks.{renamed_is_renamed}
 use Rattle.iloc_validation.specs.ByTheBook.{due, read, given, result_in, IsScheduleUnder, IsByTheBook}
+use Rattle.iloc_validation.specs.OwnRows.{renumber}
 use Rattle.iloc_validation.proofs.Labels.{kind-with_registers, same_kind, same_effect}
 use Rattle.iloc_validation.proofs.Alike.{AlikeAll, alike_map, words_alike, arrived_alike, outcome_alike}
 use Rattle.iloc_validation.proofs.Issues.{issued_at, log_is, numbers_from_issued}
 use Rattle.iloc_validation.proofs.ReadValues.{value_of, register_is_read, read_in}
 use Rattle.iloc_validation.proofs.GivenReads.{new, name_at, used_new, named_source, read_is_given}
-use Rattle.iloc_validation.proofs.Renumbered.{renumber, length-renumber, row_at-map, slots_at-map, numbers_before-map, AreApartBelow, AreBelow, times_same, cycle_same, units_same}
+use Rattle.iloc_validation.proofs.Renumbered.{length-renumber, row_at-map, slots_at-map, numbers_before-map, AreApartBelow, AreBelow, times_same, cycle_same, units_same}
 
 pub map_map : {X Y Z : Type 0} → (g : Y → Z) (f : X → Y) (xs : List X) → map g (map f xs) ≡ map (λ x. g (f x)) xs
 map_map g f [] = refl

@@ -12,9 +12,7 @@ use Rattle.iloc_timed.specs.Rows.{row_at, slots, holds, issue_cycle, times_issue
 use Rattle.iloc_sched.specs.Steps.Members.{In}
 use Rattle.iloc_sched.proofs.Basics.Members.{in_left, in_right}
 use Rattle.iloc_sched.proofs.Basics.Slots.{numbers_before, count_by-cons, times_issued-cons}
-
-abbrev pub renumber : (ℕ → ℕ) → Row → Row
-renumber f row = record { zero = option_map f row.zero; one = option_map f row.one }
+use Rattle.iloc_validation.specs.OwnRows.{renumber}
 
 slots_of : (f : ℕ → ℕ) (one zero : Option ℕ)
     → option_to_list (option_map f one) ++ option_to_list (option_map f zero)

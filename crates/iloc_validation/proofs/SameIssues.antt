@@ -20,9 +20,10 @@ use Rattle.iloc_sched.proofs.Basics.Slots.{count_in, count_in_twice, count_in_wi
 use Rattle.iloc_sched.proofs.Renamed.OneMoreOperation.{map_same}
 use Rattle.iloc_validation.specs.ByTheBook.{in_order, issued_before, due, last_of, defining, arrived, read, label, issued_in, IssueTheSame, IsScheduleUnder}
 use Rattle.iloc_validation.specs.Laws.{OwnRowsAreByTheBook}
+use Rattle.iloc_validation.specs.OwnRows.{renumber}
 use Rattle.iloc_validation.proofs.Issues.{numbers_from_issued}
 use Rattle.iloc_validation.proofs.Lawful.{lawful_by_the_book}
-use Rattle.iloc_validation.proofs.Renumbered.{renumber, length-renumber, row_at-map, cycle_same, units_same}
+use Rattle.iloc_validation.proofs.Renumbered.{length-renumber, row_at-map, cycle_same, units_same}
 
 -- Two tables that issue the same
 

@@ -7,10 +7,12 @@ pub mod laws;
 mod pairing;
 mod reading;
 mod reasons;
+mod renumbering;
 mod search;
 mod validation;
 mod verification;
 mod waits;
 
 pub use lawfulness::{Added, Issue, Lawfulness, LeftOut, Reason};
+pub use renumbering::{OwnRows, own_rows};
 pub use validation::validate;

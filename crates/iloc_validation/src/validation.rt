@@ -1,36 +1,92 @@
 //! Whether rows that somebody made are a schedule of a block by the book.
-ghost use Rattle.std.specs.Prelude.{◌≡◌, true, length, IfOk};
+ghost use Rattle.std.specs.Prelude.{◌≡◌, length, IfErr, IfNone, IfOk, IfSome, MatchResult};
 ghost use Rattle.iloc_sched.specs.Lawful.{IsLawful};
+ghost use Rattle.iloc_sched.specs.Renaming.{without_nops as ops_of};
 ghost use Rattle.iloc_validation.specs.ByTheBook.{IsScheduleUnder};
-ghost use Rattle.iloc_validation.specs.Lawfulness.{IsLawfulness};
-ghost use Rattle.iloc_validation.specs.Steps.Sides.{AreSides, IsScheduleUnderSome};
+ghost use Rattle.iloc_validation.specs.Lawfulness.{IsLawfulness, IsReason};
+ghost use Rattle.iloc_validation.specs.Steps.Sides.{AreSides, IsScheduleBy};
 
-use crate::lawfulness::Lawfulness;
+use crate::lawfulness::{Lawfulness, Reason};
 use crate::pairing::Pairing;
 use crate::reading::given::{givens, without_nops};
 use crate::reading::readings;
-use crate::reasons::reason;
+use crate::reasons::repaired;
 use crate::search::found_pairing;
 use crate::verification::{Sides, is_schedule_under};
 use iloc_ops::{Block, NoMemory};
 use iloc_timed::{Latencies, Schedule};
 use std::alloc::Global;
 
-/// Whether rows are a schedule of a block by the book where each operation is paired with the one of its number.
-fn is_in_order(alloc: Global, sides: &Sides, latencies: &Latencies) -> Result<bool, NoMemory>
+/// The pairing of each operation with the one of its number, where rows are a schedule of a block by the book under it.
+fn in_order(
+    alloc: Global,
+    sides: &Sides,
+    latencies: &Latencies,
+) -> Result<Option<Pairing>, NoMemory>
     requires { AreSides latencies.now sides.now.block.now sides.now.givens.now sides.now.schedule.now
         sides.now.readings.now }
-    ensures right { IfOk result (λ is. is ≡ true → IsScheduleUnderSome latencies.now sides.now.block.now
-        sides.now.schedule.now.ops sides.now.schedule.now.rows) }
-    ensures own { IfOk result (λ is. IsScheduleUnder latencies.now sides.now.block.now
+    ensures right { IfOk result (λ found. IfSome found (IsScheduleBy latencies.now sides.now.block.now
+        sides.now.schedule.now.ops sides.now.schedule.now.rows)) }
+    ensures own { IfOk result (λ found. IsScheduleUnder latencies.now sides.now.block.now
         sides.now.schedule.now.ops sides.now.schedule.now.rows (λ k. k) (λ i. i)
-        → length sides.now.schedule.now.ops ≡ length sides.now.block.now → is ≡ true) }
+        → length sides.now.schedule.now.ops ≡ length sides.now.block.now → IfNone found ⊥) }
 {
     if sides.block.len() != sides.readings.len() {
-        return Ok(false);
+        return Ok(None);
     }
     let pairing = Pairing::in_order(alloc, sides.block.len())?;
-    is_schedule_under(alloc, sides, &pairing, latencies)
+    if is_schedule_under(alloc, sides, &pairing, latencies)? {
+        Ok(Some(pairing))
+    } else {
+        Ok(None)
+    }
+}
+
+/// A pairing that the search finds, under which rows are a schedule of a block by the book, or why it finds none.
+fn searched(
+    alloc: Global,
+    sides: &Sides,
+    latencies: &Latencies,
+) -> Result<Result<Pairing, Reason>, NoMemory>
+    requires { AreSides latencies.now sides.now.block.now sides.now.givens.now sides.now.schedule.now
+        sides.now.readings.now }
+    ensures { IfOk result (λ paired. MatchResult paired
+        (IsScheduleBy latencies.now sides.now.block.now sides.now.schedule.now.ops sides.now.schedule.now.rows)
+        (IsReason latencies.now sides.now.block.now sides.now.schedule.now.ops sides.now.schedule.now.rows)) }
+{
+    let found = found_pairing(alloc, sides)?;
+    if is_schedule_under(alloc, sides, &found, latencies)? {
+        return Ok(Ok(found));
+    }
+    repaired(alloc, sides, found, latencies)
+}
+
+/// A pairing under which rows are a schedule of a block by the book, or why none is known.
+pub(crate) fn paired(
+    alloc: Global,
+    block: &Block,
+    schedule: &Schedule,
+    latencies: &Latencies,
+) -> Result<Result<Pairing, Reason>, NoMemory>
+    ensures right { IfOk result (λ paired. MatchResult paired
+        (IsScheduleBy latencies.now (ops_of block.now.ops) schedule.now.ops schedule.now.rows)
+        (IsReason latencies.now (ops_of block.now.ops) schedule.now.ops schedule.now.rows)) }
+    ensures own { IfOk result (λ paired. IsLawful latencies.now block.now.ops schedule.now.ops schedule.now.rows
+        → IfErr paired (λ reason. ⊥)) }
+{
+    let ops = without_nops(alloc, block)?;
+    let givens = givens(alloc, &ops)?;
+    let readings = readings(alloc, schedule, latencies)?;
+    let sides = Sides {
+        block: &ops,
+        givens: &givens,
+        schedule,
+        readings: &readings,
+    };
+    match in_order(alloc, &sides, latencies)? {
+        Some(pairing) => Ok(Ok(pairing)),
+        None => searched(alloc, &sides, latencies),
+    }
 }
 
 /// Decides whether rows that somebody made are a schedule of a block by the book: whether their operations can be paired
@@ -54,24 +110,8 @@ pub fn validate(
     ensures own { IfOk result (λ found. IsLawful latencies.now block.now.ops schedule.now.ops schedule.now.rows
         → found ≡ Lawfulness.Lawful) }
 {
-    let ops = without_nops(alloc, block)?;
-    let givens = givens(alloc, &ops)?;
-    let readings = readings(alloc, schedule, latencies)?;
-    let sides = Sides {
-        block: &ops,
-        givens: &givens,
-        schedule,
-        readings: &readings,
-    };
-    if is_in_order(alloc, &sides, latencies)? {
-        return Ok(Lawfulness::Lawful);
-    }
-    let found = found_pairing(alloc, &sides)?;
-    if is_schedule_under(alloc, &sides, &found, latencies)? {
-        return Ok(Lawfulness::Lawful);
-    }
-    match reason(alloc, &sides, found, latencies)? {
-        Some(reason) => Ok(Lawfulness::Unlawful(reason)),
-        None => Ok(Lawfulness::Lawful),
+    match paired(alloc, block, schedule, latencies)? {
+        Ok(_) => Ok(Lawfulness::Lawful),
+        Err(reason) => Ok(Lawfulness::Unlawful(reason)),
     }
 }

@@ -8,6 +8,7 @@ use Rattle.iloc_timed.specs.declared.row.Row.{Row}
 use Rattle.iloc_timed.specs.Limits.{MAX_ROWS}
 use Rattle.iloc_timed.specs.Rows.{issue_cycle, IsTable}
 use Rattle.iloc_timed.specs.Schedule.{Table}
+use Rattle.iloc_validation.specs.declared.pairing.Pairing.{Pairing}
 use Rattle.iloc_validation.specs.declared.reading.Reading.{Reading}
 use Rattle.iloc_validation.specs.declared.reading.sources.Sources.{Sources}
 use Rattle.iloc_validation.specs.ByTheBook.{given, label, IsScheduleUnder}
@@ -38,7 +39,7 @@ pub record IsKept (block : List Op) (givens : List Sources) (ops : List Op) (rea
       ≡ sources_at givens (slice_index origin k)
   pub in_time : slice_index waits (slice_index origin k) ≤ (reading_at readings k).cycle
 
--- under some pairing the rows are a schedule of the block
-abbrev pub IsScheduleUnderSome : Latencies → List Op → List Op → List Row → Type 0
-IsScheduleUnderSome lat block ops rows =
-    (origin : ℕ → ℕ) × (partner : ℕ → ℕ) × IsScheduleUnder lat block ops rows origin partner
+-- under this pairing, of so many partners, the rows are a schedule of the block
+pub record IsScheduleBy (lat : Latencies) (block ops : List Op) (rows : List Row) (pairing : Pairing) : Type 0 where
+  pub size : length pairing.partner.items ≡ length block
+  pub under : IsScheduleUnder lat block ops rows (slice_index pairing.origin.items) (slice_index pairing.partner.items)

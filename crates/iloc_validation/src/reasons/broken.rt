@@ -2,10 +2,10 @@
 ghost use Rattle.std.specs.Prelude.{ℕ, ◌≡◌, ◌<◌, ◌≤◌, length, slice_index, IfOk, IfSome, IfNone};
 ghost use Rattle.iloc_meaning.specs.Trace.{op_at};
 ghost use Rattle.iloc_timed.specs.Kinds.{kind};
-ghost use Rattle.iloc_validation.specs.ByTheBook.{ArePaired};
+ghost use Rattle.iloc_validation.specs.ByTheBook.{ArePaired, IsScheduleUnder};
 ghost use Rattle.iloc_validation.specs.Lawfulness.{IsReason};
 ghost use Rattle.iloc_validation.specs.Steps.Readings.{reading_at};
-ghost use Rattle.iloc_validation.specs.Steps.Sides.{AreSides, HaveCycles, IsKept, IsScheduleUnderSome};
+ghost use Rattle.iloc_validation.specs.Steps.Sides.{AreSides, HaveCycles, IsKept};
 ghost use Rattle.iloc_validation.specs.Steps.Waits.{earliest};
 
 use super::delays::most_missing;
@@ -104,8 +104,9 @@ pub(crate) fn first_broken(
         (slice_index pairing.now.partner.items) }
     ensures some { IfOk result (λ reason. IfSome reason
         (IsReason latencies.now sides.now.block.now sides.now.schedule.now.ops sides.now.schedule.now.rows)) }
-    ensures none { IfOk result (λ reason. IfNone reason (IsScheduleUnderSome latencies.now sides.now.block.now
-        sides.now.schedule.now.ops sides.now.schedule.now.rows)) }
+    ensures none { IfOk result (λ reason. IfNone reason (IsScheduleUnder latencies.now sides.now.block.now
+        sides.now.schedule.now.ops sides.now.schedule.now.rows
+        (slice_index pairing.now.origin.items) (slice_index pairing.now.partner.items))) }
 {
     let waits = waits_of(
         alloc,

@@ -1,5 +1,5 @@
 use Rattle.iloc_validation.proofs.BrokenDelays.{have_cycles}
-use Rattle.iloc_validation.proofs.reasons.reason.Goals as goal
+use Rattle.iloc_validation.proofs.reasons.repaired.Goals as goal
 
 pub counts_reason-requires-clause-cycles : goal.counts_reason-requires-clause-cycles
 counts_reason-requires-clause-cycles c =
@@ -12,4 +12,4 @@ first_broken-requires-clause-cycles c =
     have_cycles c.args.latencies.now sides.block.now sides.givens.now sides.schedule.now sides.readings.now c.requires.sides
 
 pub returns-in-Some : goal.returns-in-Some
-returns-in-Some c = record { some = c.in-Some.ensures.some c.args.latencies.now; none = tt }
+returns-in-Some c = c.in-Some.ensures.some c.args.latencies.now

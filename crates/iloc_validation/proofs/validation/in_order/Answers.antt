@@ -1,13 +1,13 @@
-use Rattle.std.proofs.Common.{slice_index, arith}
-use Rattle.std.proofs.lemmas.Result.{IfOk-weaker}
+use Rattle.std.proofs.Common.{◌≡◌, true, slice_index, sym, ◌∙◌, arith}
+use Rattle.std.proofs.lemmas.Bool.{true≢false}
 use Rattle.iloc_validation.proofs.InOrder.{under_same}
-use Rattle.iloc_validation.proofs.validation.is_in_order.Goals as goal
+use Rattle.iloc_validation.proofs.validation.in_order.Goals as goal
 
-pub returns-clause-own : goal.returns-clause-own
-returns-clause-own c =
+pub returns-else-branch-clause-own : goal.returns-else-branch-clause-own
+returns-else-branch-clause-own c = λ under count.
     let pairing = c.in_ok-pairing.pairing in
-    IfOk-weaker c.is_schedule_under.result _ _ (λ is iff under count. iff.1
+    let yes : c.in_ok-is_schedule_under.field-0 ≡ true = c.in_ok-is_schedule_under.ensures.1
     (under_same c.args.latencies.now c.args.sides.now.block.now c.args.sides.now.schedule.now.ops
     c.args.sides.now.schedule.now.rows (λ k. k) (λ i. i) (slice_index pairing.origin.items) (slice_index pairing.partner.items)
-    (λ k here. c.in_ok-pairing.ensures.origin k (omega (arith, count))) c.in_ok-pairing.ensures.partner under))
-    c.is_schedule_under.ensures
+    (λ k here. c.in_ok-pairing.ensures.origin k (omega (arith, count))) c.in_ok-pairing.ensures.partner under) in
+    absurd (true≢false (sym yes ∙ c.if-branch.false))

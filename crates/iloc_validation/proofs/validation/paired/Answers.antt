@@ -1,10 +1,10 @@
-use Rattle.std.proofs.Common.{◌≡◌, true, refl, sym, ◌∙◌}
-use Rattle.std.proofs.lemmas.Bool.{true≢false}
+use Rattle.std.proofs.Common.{refl}
+use Rattle.std.proofs.lemmas.Result.{IfOk-weaker}
 use Rattle.iloc_validation.proofs.InOrder.{lawful_count, lawful_in_order}
-use Rattle.iloc_validation.proofs.validation.validate.Goals as goal
+use Rattle.iloc_validation.proofs.validation.paired.Goals as goal
 
-pub is_in_order-requires : goal.is_in_order-requires
-is_in_order-requires c = record {
+pub in_order-requires : goal.in_order-requires
+in_order-requires c = record {
   table = c.in_ok-readings.ensures.table;
   few = c.in_ok-readings.ensures.few;
   given_count = rw (c.deref-2.ensures.value, c.deref-3.ensures.value, ← c.deref.ensures.value) c.in_ok-givens.ensures.size;
@@ -13,14 +13,13 @@ is_in_order-requires c = record {
   each_reading = rw c.deref-4.ensures.value c.in_ok-readings.ensures.each;
 }
 
-pub returns-in-Some-clause-own : goal.returns-in-Some-clause-own
-returns-in-Some-clause-own c = λ lawful.
+pub returns-clause-own : goal.returns-clause-own
+returns-clause-own c = IfOk-weaker c.searched.result _ _ (λ paired is lawful.
     let lat = c.args.latencies.now in
     let block = c.args.block.now.ops in
     let schedule = c.args.schedule.now in
     let under = lawful_in_order lat block schedule.ops schedule.rows (λ k. k) (λ i. i) (λ k here. refl) (λ i here. refl) lawful in
     let count = lawful_count lat block schedule.ops schedule.rows lawful in
-    let yes : c.in_ok-is_in_order.field-0 ≡ true =
-    c.in_ok-is_in_order.ensures.own
-    (rw (c.deref-2.ensures.value, c.in_ok-ops.ensures) under) (rw (c.deref-2.ensures.value, c.in_ok-ops.ensures) count) in
-    absurd (true≢false (sym yes ∙ c.if-branch.false))
+    absurd (rw c.in-None.is at (c.in_ok-pairing.ensures.own
+    (rw (c.deref-2.ensures.value, c.in_ok-ops.ensures) under) (rw (c.deref-2.ensures.value, c.in_ok-ops.ensures) count))))
+    c.searched.ensures

@@ -1,0 +1,6 @@
+use Rattle.std.proofs.Common.{◌≡◌, map, take}
+use Rattle.iloc_meaning.specs.Trace.{op_at}
+use Rattle.iloc_validation.proofs.renumbering.ops_with.Given as goal
+
+abbrev pub invariant-loop-number : goal.invariant-loop-number
+invariant-loop-number l = l.found.items ≡ map (op_at l.ops) (take l.number-index l.numbers)

@@ -1,0 +1,6 @@
+use Rattle.std.proofs.Common.{◌≡◌, map, slice_index, take}
+use Rattle.iloc_validation.specs.OwnRows.{renumber}
+use Rattle.iloc_validation.proofs.renumbering.renumbered_rows.Given as goal
+
+abbrev pub invariant-loop-row : goal.invariant-loop-row
+invariant-loop-row l = l.own.items ≡ map (renumber (slice_index l.numbers)) (take l.row-index l.rows)

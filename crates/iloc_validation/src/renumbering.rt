@@ -1,0 +1,87 @@
+//! Rows by the book in a block's own numbers.
+ghost use Rattle.std.specs.Prelude.{◌≡◌, map, option_map, slice_index, IfOk, MatchResult};
+ghost use Rattle.iloc_meaning.specs.Trace.{op_at};
+ghost use Rattle.iloc_sched.specs.Renaming.{renamed, without_nops};
+ghost use Rattle.iloc_validation.specs.Lawfulness.{IsReason};
+ghost use Rattle.iloc_validation.specs.OwnRows.{renumber, AreOwnRows};
+
+use crate::lawfulness::Reason;
+use crate::reading::sources::at;
+use crate::validation::paired;
+use iloc_ops::{Block, NoMemory, Op};
+use iloc_timed::{Latencies, Row, Schedule};
+use std::alloc::Global;
+
+/// Rows by the book in a block's own numbers.
+#[derive(Debug, Drop)]
+pub struct OwnRows {
+    /// The block's operations, renamed, in the slots of those that are issued for them.
+    pub schedule: Schedule,
+    /// By operation what is issued for it.
+    pub issued: Vec<Op>,
+}
+
+/// A slot in which each number is another.
+fn renumbered_slot(numbers: &[usize], slot: Option<usize>) -> Option<usize>
+    ensures { result ≡ option_map (slice_index numbers.now) slot }
+{
+    match slot {
+        Some(k) => Some(at(numbers, k)),
+        None => None,
+    }
+}
+
+/// Rows in which each number is another.
+fn renumbered_rows(alloc: Global, numbers: &[usize], rows: &[Row]) -> Result<Vec<Row>, NoMemory>
+    ensures { IfOk result (λ own. own.items ≡ map (renumber (slice_index numbers.now)) rows.now) }
+{
+    let mut own = Vec::with_capacity(alloc, rows.len())?;
+    for row in rows {
+        own.push(Row {
+            zero: renumbered_slot(numbers, row.zero),
+            one: renumbered_slot(numbers, row.one),
+        })?;
+    }
+    Ok(own)
+}
+
+/// The operations with these numbers.
+fn ops_with(alloc: Global, ops: &[Op], numbers: &[usize]) -> Result<Vec<Op>, NoMemory>
+    ensures { IfOk result (λ found. found.items ≡ map (op_at ops.now) numbers.now) }
+{
+    let mut found = Vec::with_capacity(alloc, numbers.len())?;
+    for number in numbers {
+        found.push(ops.get(*number).copied().unwrap_or(Op::Nop))?;
+    }
+    Ok(found)
+}
+
+/// Rows that somebody made for a block, in the block's own numbers, or why they aren't known to be a schedule of it by the book
+/// (`validate`). `names` are the block's operations as a schedule of ours renames them.
+///
+/// Promise: at `Ok` the rows are by the book; the block's operations stand, renamed, in the slots of those that are issued for
+/// them. Else the reason is true.
+pub fn own_rows(
+    alloc: Global,
+    block: &Block,
+    schedule: &Schedule,
+    names: &[Op],
+    latencies: &Latencies,
+) -> Result<Result<OwnRows, Reason>, NoMemory>
+    requires { names.now ≡ renamed block.now.ops }
+    ensures { IfOk result (λ found. MatchResult found
+        (λ own. AreOwnRows latencies.now block.now.ops schedule.now.ops schedule.now.rows own.schedule own.issued.items)
+        (IsReason latencies.now (without_nops block.now.ops) schedule.now.ops schedule.now.rows)) }
+{
+    let pairing = match paired(alloc, block, schedule, latencies)? {
+        Ok(pairing) => pairing,
+        Err(reason) => return Ok(Err(reason)),
+    };
+    let issued = ops_with(alloc, schedule.ops(), &pairing.partner)?;
+    let rows = renumbered_rows(alloc, &pairing.origin, schedule.rows())?;
+    let ops = Vec::from_slice(alloc, names)?;
+    Ok(Ok(OwnRows {
+        schedule: Schedule::of_table(ops, rows),
+        issued,
+    }))
+}
