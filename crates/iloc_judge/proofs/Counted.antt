@@ -159,7 +159,7 @@ if_numbered ops rows partner (Some k) issue few is =
     rw is (issue_numbered ops rows (partner k) (issue_of ops rows (partner k)) few refl)
 
 -- so can be told what is said of rows
-reason_listed : (lat : Latencies) (block ops : List Op) (rows : List Row) (reason : Reason) → length rows ≤ MAX_ROWS
+pub reason_listed : (lat : Latencies) (block ops : List Op) (rows : List Row) (reason : Reason) → length rows ≤ MAX_ROWS
     → IsReason lat block ops rows reason → CanBeTold reason
 reason_listed lat block ops rows (Counts left_out None) few is = tt
 reason_listed lat block ops rows (Counts left_out (Some it)) few is =

@@ -5,6 +5,7 @@ pub mod Listing
 pub mod Memory
 pub mod Difference
 pub mod Reasons
+pub mod RowsExplained
 pub mod Verdict
 pub mod Void
 pub mod Steps

@@ -7,8 +7,8 @@ ghost use Rattle.iloc_judge.specs.Checked.{is_lawful, is_same, passes, IsCheck};
 ghost use Rattle.iloc_judge.specs.Listing.{entry_as};
 ghost use Rattle.iloc_judge.specs.Steps.Counted.{CanBeListed};
 
-mod detail;
-mod reason;
+pub mod detail;
+pub mod reason;
 mod verdict_line;
 
 use crate::comparison::Comparison;

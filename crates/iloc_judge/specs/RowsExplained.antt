@@ -1,0 +1,54 @@
+-- What explains the rows that are proposed for a block.
+use Rattle.std.specs.Prelude.{ℕ, ◌≡◌, ◌⊎◌, Bool, true, false, List, ◌++◌, codes}
+use Rattle.iloc_ops.specs.declared.op.Op.{Op}
+use Rattle.iloc_timed.specs.declared.latencies.Latencies.{Latencies}
+use Rattle.iloc_timed.specs.declared.row.Row.{Row}
+use Rattle.iloc_timed.specs.Cycles.{cycles}
+use Rattle.iloc_timed.specs.Rows.{IsTable}
+use Rattle.iloc_timed.specs.Schedule.{Table, IsFirstBadRow}
+use Rattle.iloc_rows.specs.declared.proposal.Proposal.{Proposal}
+use Rattle.iloc_sched.specs.declared.ranking.heuristic.Heuristic.{Heuristic}
+use Rattle.iloc_sched.specs.Renaming.{without_nops}
+use Rattle.iloc_validation.specs.declared.lawfulness.Reason.{Reason}
+use Rattle.iloc_validation.specs.Lawfulness.{IsReason}
+use Rattle.iloc_validation.specs.OwnRows.{AreOwnRows}
+use Rattle.iloc_explain.specs.Listing.{IsExplanation}
+use Rattle.iloc_judge.specs.declared.explained.ExplainedRows.{ExplainedRows}
+use Rattle.iloc_judge.specs.Listing.{bad_row}
+use Rattle.iloc_judge.specs.Reasons.{reason_told}
+
+-- Rows by the book are explained by the block's own operations in their slots, beside which the lines show what is issued.
+pub record AreExplainedBy (heuristic : Heuristic) (lat : Latencies) (block ops : List Op) (rows : List Row) (text : List ℕ)
+    : Type 0 where
+  pub own : Table
+  pub issued : List Op
+  pub are_own : AreOwnRows lat block ops rows own issued
+  pub explains : IsExplanation heuristic lat block own.ops own.rows issued text
+
+-- `  not lawful`, and below it why
+abbrev pub not_lawful : List ℕ → List ℕ
+not_lawful why = codes "  not lawful\n" ++ why
+
+-- this is said of rows that break the rules of the units: the first row that does
+pub record BreakUnits (ops : List Op) (rows : List Row) (text : List ℕ) : Type 0 where
+  pub row : ℕ
+  pub first : IsFirstBadRow ops rows row
+  pub listed : text ≡ not_lawful (bad_row ops rows row)
+
+-- this is said of others that aren't known to be by the book: a reason that holds
+pub record HaveReason (lat : Latencies) (block ops : List Op) (rows : List Row) (text : List ℕ) : Type 0 where
+  pub reason : Reason
+  pub table : IsTable ops rows
+  pub holds : IsReason lat (without_nops block) ops rows reason
+  pub listed : text ≡ not_lawful (reason_told reason)
+
+-- what is said of rows: by the book, or not known to be
+abbrev pub IsSaidOf : Bool → Heuristic → Latencies → List Op → List Op → List Row → List ℕ → Type 0
+IsSaidOf true heuristic lat block ops rows text = AreExplainedBy heuristic lat block ops rows text
+IsSaidOf false heuristic lat block ops rows text = BreakUnits ops rows text ⊎ HaveReason lat block ops rows text
+
+-- Of what is proposed for a block this is found, and this text said.
+pub record IsRowsExplanation (heuristic : Heuristic) (lat : Latencies) (block : List Op) (proposal : Proposal)
+    (found : ExplainedRows) (text : List ℕ) : Type 0 where
+  pub said : IsSaidOf found.is_lawful heuristic lat block proposal.ops proposal.rows text
+  pub counted : found.cycles ≡ cycles lat proposal.ops proposal.rows

@@ -1,0 +1,122 @@
+//! Why the rows that are proposed for a block take their cycles.
+ghost use Rattle.std.specs.Prelude.{ℕ, ◌≡◌, ◌≤◌, ◌<◌, ◌++◌, List, length, IfOk, OnOk};
+ghost use Rattle.iloc_timed.specs.Rows.{IsTable};
+ghost use Rattle.iloc_timed.specs.Schedule.{AreInRange, AreOnce};
+ghost use Rattle.iloc_sched.specs.Least as bound;
+ghost use Rattle.iloc_sched.specs.Renaming.{renamed};
+ghost use Rattle.iloc_judge.specs.Listing.{bad_row};
+ghost use Rattle.iloc_judge.specs.Reasons.{reason_told};
+ghost use Rattle.iloc_judge.specs.RowsExplained.{not_lawful, IsRowsExplanation, IsSaidOf};
+ghost use Rattle.iloc_judge.specs.Steps.Counted.{CanBeTold};
+
+use crate::checked::detail::push_bad_row;
+use crate::checked::reason::push_reason;
+use iloc_explain::push_explanation;
+use iloc_ops::{Block, MAX_OPS, NoMemory, Op};
+use iloc_rows::Proposal;
+use iloc_sched::Heuristic;
+use iloc_timed::{BuildFault, Latencies, MAX_ROWS, Row, Schedule, cycles_of};
+use iloc_validation::{Reason, own_rows};
+use std::alloc::Global;
+
+/// What is found of the rows that are proposed for a block.
+#[derive(Clone, Copy, Debug, PartialEq, Eq)]
+pub struct ExplainedRows {
+    /// Whether they are known to be a schedule of the block by the book.
+    pub is_lawful: bool,
+    /// How many cycles they take.
+    pub cycles: u64,
+}
+
+/// Appends that rows aren't lawful, and the first of them that breaks the rules of the units.
+fn push_units(text: &mut Vec<u8>, ops: &[Op], rows: &[Row], row: usize) -> Result<(), NoMemory>
+    requires { row < length rows.now }
+    ensures { OnOk result (text.new.items ≡ text.old.items ++ not_lawful (bad_row ops.now rows.now row)) }
+{
+    text.extend_from_slice(b"  not lawful\n")?;
+    push_bad_row(text, ops, rows, row)
+}
+
+/// Appends that rows aren't lawful, and why.
+fn push_why(text: &mut Vec<u8>, reason: &Reason) -> Result<(), NoMemory>
+    requires { CanBeTold reason.now }
+    ensures { OnOk result (text.new.items ≡ text.old.items ++ not_lawful (reason_told reason.now)) }
+{
+    text.extend_from_slice(b"  not lawful\n")?;
+    push_reason(text, reason)
+}
+
+/// Appends what is said of a schedule that somebody made for a block, whose operations are renamed so in ours, and answers whether
+/// it is by the book.
+fn push_said(
+    alloc: Global,
+    text: &mut Vec<u8>,
+    block: &Block,
+    names: &[Op],
+    least: u64,
+    theirs: &Schedule,
+    latencies: &Latencies,
+    heuristic: Heuristic,
+) -> Result<bool, NoMemory>
+    requires few { length block.now.ops ≤ MAX_OPS }
+    requires names { names.now ≡ renamed block.now.ops }
+    requires least { least ≡ bound.least latencies.now block.now.ops }
+    requires table { IsTable theirs.now.ops theirs.now.rows }
+    requires few_rows { length theirs.now.rows ≤ MAX_ROWS }
+    ensures { IfOk result (λ is_lawful. (entry : List ℕ)
+        × IsSaidOf is_lawful heuristic latencies.now block.now.ops theirs.now.ops theirs.now.rows entry
+        × (text.new.items ≡ text.old.items ++ entry)) }
+{
+    match own_rows(alloc, block, theirs, names, latencies)? {
+        Ok(own) => {
+            let (schedule, issued) = (&own.schedule, &own.issued);
+            push_explanation(alloc, text, block, schedule, issued, latencies, heuristic, least)?;
+            Ok(true)
+        }
+        Err(reason) => {
+            push_why(text, &reason)?;
+            Ok(false)
+        }
+    }
+}
+
+/// Appends what explains the rows that are proposed for a block, behind the block's head. Rows by the book are explained as the
+/// schedule of the block that they are, with each operation as the block has it and as it is issued; of others it is said that
+/// they aren't lawful, and why. `names` are the block's operations as a schedule of ours renames them.
+///
+/// Promise: what is appended explains the rows, which then are by the book, or says why they aren't known to be.
+pub fn push_rows_explanation(
+    alloc: Global,
+    text: &mut Vec<u8>,
+    block: &Block,
+    names: &[Op],
+    least: u64,
+    proposal: &Proposal,
+    latencies: &Latencies,
+    heuristic: Heuristic,
+) -> Result<ExplainedRows, NoMemory>
+    requires few { length block.now.ops ≤ MAX_OPS }
+    requires names { names.now ≡ renamed block.now.ops }
+    requires least { least ≡ bound.least latencies.now block.now.ops }
+    requires in_range { AreInRange (length proposal.now.ops) proposal.now.rows }
+    requires once { AreOnce (length proposal.now.ops) proposal.now.rows }
+    ensures { IfOk result (λ found. (entry : List ℕ)
+        × IsRowsExplanation heuristic latencies.now block.now.ops proposal.now found entry
+        × (text.new.items ≡ text.old.items ++ entry)) }
+{
+    let ops = proposal.ops.as_slice();
+    let rows = proposal.rows.as_slice();
+    let cycles = cycles_of(ops, rows, latencies);
+    let their_ops = Vec::from_slice(alloc, ops)?;
+    let their_rows = Vec::from_slice(alloc, rows)?;
+    let is_lawful = match Schedule::new(alloc, their_ops, their_rows) {
+        Ok(theirs) => push_said(alloc, text, block, names, least, &theirs, latencies, heuristic)?,
+        Err(BuildFault::BadRow(row)) => {
+            push_units(text, ops, rows, row)?;
+            false
+        }
+        Err(BuildFault::NotOnce(_)) => unreachable!(),
+        Err(BuildFault::NoMemory) => return Err(NoMemory),
+    };
+    Ok(ExplainedRows { is_lawful, cycles })
+}
