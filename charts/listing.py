@@ -17,11 +17,13 @@ EXPLAINED = re.compile(r"(\d+) cycle (\d+) unit ([01]) ready (\d+) after (-|\d+(
                        r"earliest \d+ slack \d+ held (?:-|free|\d+) (.+?) ; (.+)")
 NUMBER = re.compile(r"\d+")
 NOTHING = re.compile(r"path .+|total \d+.*")
+UNLAWFUL = re.compile(r"not lawful")
+REASON = re.compile(r"(?:row|left out|added|early by|reads) .+")
 
 
 @dataclass
 class Operation:
-    spelling: str       # as renamed
+    spelling: str       # as it is issued
     cycle: int
     unit: int
     number: int = -1    # in the block; what follows is an `explain`'s alone
@@ -41,8 +43,9 @@ class Operation:
         return self.cycle + latencies.get(self.kind(), 1)
 
     def registers(self, wanted):
-        """Those that the operation uses, `u`, or defines, `d`."""
-        return [it for it, role in zip(NUMBER.findall(self.spelling), ROLES.get(self.opcode(), ())) if role == wanted]
+        """Those that the operation uses, `u`, or defines, `d`, as it is in the block, where the listing says that."""
+        return [it for it, role in zip(NUMBER.findall(self.source or self.spelling), ROLES.get(self.opcode(), ()))
+                if role == wanted]
 
     def defined(self):
         return next(iter(self.registers("d")), None)
@@ -73,6 +76,7 @@ class Listed:
     cycles: int = 0
     least: str = ""
     chain: list = field(default_factory=list)
+    reasons: list = field(default_factory=list)     # why the rows aren't lawful
 
     def take(self, line):
         """Reads a line below the block's header, and says whether it is one."""
@@ -90,6 +94,8 @@ class Listed:
             self.cycles, self.least = int(found[1]), found[2] or ""
         elif found := CHAINED.fullmatch(line):
             self.chain = [int(it) for it in (found[1] or "").split()]
+        elif UNLAWFUL.fullmatch(line) or self.reasons and REASON.fullmatch(line):
+            self.reasons.append(line)
         else:
             return False
         return True
@@ -98,9 +104,15 @@ class Listed:
         return max((it.arrival(latencies) for it in self.operations), default=0)
 
     def check(self, latencies):
-        """Refuses latencies that the listing can't have: it has other cycles then, or reads a register too early."""
-        arrivals = {it.defined(): it.arrival(latencies) for it in self.operations}
-        too_early = any(arrivals.get(name, 0) > it.cycle for it in self.operations for name in it.used())
+        """Refuses latencies that the listing can't have: it has other cycles then, or reads a register too early. In the
+        order of the block a register holds what was defined last; in a listing without it each is defined once."""
+        explained = any(it.source for it in self.operations)
+        arrivals = {} if explained else {it.defined(): it.arrival(latencies) for it in self.operations}
+        too_early = False
+        for it in sorted(self.operations, key=lambda it: it.number):
+            too_early = too_early or any(arrivals.get(name, 0) > it.cycle for name in it.used())
+            if explained:
+                arrivals[it.defined()] = it.arrival(latencies)
         if too_early or self.end(latencies) != self.cycles:
             raise Unread("these are not the latencies of the listing: give them by --load, --store and --mult")
 

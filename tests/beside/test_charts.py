@@ -4,6 +4,7 @@ import re
 from xml.etree import ElementTree
 
 from harness.place import Place
+from harness.program import TOP
 from oracle.drawn import lab_block
 from oracle.operations import text_of
 
@@ -85,6 +86,20 @@ class Charts(Place):
                   if any(it.get("stroke") == CHAIN_OUTLINE for it in group)]
         self.expect("the chain", marked, list("03456"))
         self.expect("title", root.find(f"{SVG}title").text, "block 1: 13 cycles, at least 13")
+
+    def test_timeline_of_rows_explained(self):
+        """Each operation as it is issued; a register that is used again blames no latency."""
+        task, handed_in = (f"{TOP}/tests/cases/stored/rows_explained.{it}" for it in ("task", "in"))
+        with open(handed_in, "rb") as file:
+            given = file.read()
+        rows = self.call("ilocfarm", "explain", "--task", task, given=given)[1]
+        root = self.picture("charts/timeline", given=rows)
+        self.expect("tooltip", tooltips(root)[3].splitlines()[0], "add r1, r2 => r1")
+        self.expect("title", root.find(f"{SVG}title").text, "block 1: 14 cycles, at least 13")
+        early = self.call("ilocfarm", "explain", "--task", task, given=given.replace(b"[ ]\n", b""))
+        self.expect("rows that come early", self.call("charts/timeline", given=early[1]),
+                    (1, b"", b"charts/timeline: the rows of block 1 are not lawful: early by 4: row 4: add r1, r2 => r1 "
+                             b"for row 3: loadAI r9, 4 => r2\n"))
 
     def test_timeline_of_many(self):
         """Three hundred operations, each drawn once; the second block of two, for other latencies."""

@@ -96,7 +96,8 @@ def runs(name, given, rows):
     yield Asked(["graph"], name, given)
     yield Asked(["lint"], name, given)
     yield Asked(["check", "--at", "0", "5", "6"], name, given + rows)
-    yield Asked(["check", "--task", stored(f"{name}.iloc", given)], f"rows for {name}", rows)
+    for command in ("check", "explain"):
+        yield Asked([command, "--task", stored(f"{name}.iloc", given)], f"rows for {name}", rows)
     yield Asked(["counts", "--csv", "--workers", "1"], name, given, 1)
     for command in ("schedule", "counts", "compare"):
         for workers in (1, 8):
