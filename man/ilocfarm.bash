@@ -10,7 +10,7 @@ _ilocfarm() {
     *,schedule) words="--workers --load --store --mult --priority --help" ;;
     *,counts) words="--workers --load --store --mult --priority --csv --help" ;;
     *,compare) words="--workers --load --store --mult --csv --help" ;;
-    *,explain) words="--load --store --mult --priority --help" ;;
+    *,explain) words="--load --store --mult --priority --task --either-slot --help" ;;
     *,check) words="--at --load --store --mult --task --either-slot --lawful --csv --help" ;;
     *,graph) words="--load --store --mult --help" ;;
     *,lint) words="--help" ;;

@@ -42,6 +42,8 @@ complete -c ilocfarm -n '__fish_seen_subcommand_from explain' -l load -x -d 'Cyc
 complete -c ilocfarm -n '__fish_seen_subcommand_from explain' -l store -x -d 'Cycles that store and storeAI take, 1 to 16 [default: 5]'
 complete -c ilocfarm -n '__fish_seen_subcommand_from explain' -l mult -x -d 'Cycles that mult and multI take, 1 to 16 [default: 3]'
 complete -c ilocfarm -n '__fish_seen_subcommand_from explain' -l priority -x -d 'What goes first: chain, slack, descendants, successors, latency or order [default: chain]'
+complete -c ilocfarm -n '__fish_seen_subcommand_from explain' -l task -r -d 'Read the blocks from FILE, and only rows from standard input'
+complete -c ilocfarm -n '__fish_seen_subcommand_from explain' -l either-slot -d 'Exchange the operations of a row that can be issued only so'
 complete -c ilocfarm -n '__fish_seen_subcommand_from explain' -l help -d 'Print help'
 complete -c ilocfarm -n '__fish_seen_subcommand_from check' -l at -x -d 'Address of the first WORD, a multiple of 4 up to 65532 [default: 1024]'
 complete -c ilocfarm -n '__fish_seen_subcommand_from check' -l load -x -d 'Cycles that load and loadAI take, 1 to 16 [default: 5]'

@@ -54,6 +54,8 @@ explain) shift words; (( CURRENT-- ))
         '--store[Cycles that store and storeAI take, 1 to 16 \[default\: 5\]]:N:' \
         '--mult[Cycles that mult and multI take, 1 to 16 \[default\: 3\]]:N:' \
         '--priority[What goes first\: chain, slack, descendants, successors, latency or order \[default\: chain\]]:N:' \
+        '--task[Read the blocks from FILE, and only rows from standard input]:FILE:_files' \
+        '--either-slot[Exchange the operations of a row that can be issued only so]' \
         '--help[Print help]' ;;
 check) shift words; (( CURRENT-- ))
     _arguments '--at[Address of the first WORD, a multiple of 4 up to 65532 \[default\: 1024\]]:N:' \
