@@ -70,7 +70,9 @@ fn push_said(
     match own_rows(alloc, block, theirs, names, latencies)? {
         Ok(own) => {
             let (schedule, issued) = (&own.schedule, &own.issued);
-            push_explanation(alloc, text, block, schedule, issued, latencies, heuristic, least)?;
+            push_explanation(
+                alloc, text, block, schedule, issued, latencies, heuristic, least,
+            )?;
             Ok(true)
         }
         Err(reason) => {
@@ -110,7 +112,9 @@ pub fn push_rows_explanation(
     let their_ops = Vec::from_slice(alloc, ops)?;
     let their_rows = Vec::from_slice(alloc, rows)?;
     let is_lawful = match Schedule::new(alloc, their_ops, their_rows) {
-        Ok(theirs) => push_said(alloc, text, block, names, least, &theirs, latencies, heuristic)?,
+        Ok(theirs) => push_said(
+            alloc, text, block, names, least, &theirs, latencies, heuristic,
+        )?,
         Err(BuildFault::BadRow(row)) => {
             push_units(text, ops, rows, row)?;
             false

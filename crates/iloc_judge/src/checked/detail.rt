@@ -112,7 +112,12 @@ fn push_comparison(text: &mut Vec<u8>, comparison: &Comparison) -> Result<(), No
 }
 
 /// Appends the line of a row that breaks the rules of the units.
-pub(crate) fn push_bad_row(text: &mut Vec<u8>, ops: &[Op], rows: &[Row], row: usize) -> Result<(), NoMemory>
+pub(crate) fn push_bad_row(
+    text: &mut Vec<u8>,
+    ops: &[Op],
+    rows: &[Row],
+    row: usize,
+) -> Result<(), NoMemory>
     requires { row < length rows.now }
     ensures { OnOk result (text.new.items ≡ text.old.items ++ listed.bad_row ops.now rows.now row) }
 {
