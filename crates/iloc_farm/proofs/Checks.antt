@@ -50,14 +50,14 @@ small_check csv lat memory block s p c entry check greedy short few =
 
 -- Sums
 
-sum_more : {X : Type 0} (f : X → ℕ) (xs : List X) (x : X) → sum_by f (xs ++ x ∷ []) ≡ sum_by f xs + f x
+pub sum_more : {X : Type 0} (f : X → ℕ) (xs : List X) (x : X) → sum_by f (xs ++ x ∷ []) ≡ sum_by f xs + f x
 sum_more f xs x =
     let both : sum_by f (xs ++ x ∷ []) ≡ sum_by f xs + sum_by f (x ∷ []) = sum_by-append f xs (x ∷ []) in
     let one : sum_by f (x ∷ []) ≡ f x + sum_by f [] = sum_by-cons f x [] in
     let none : sum_by f [] ≡ 0 = refl in
     omega arith
 
-all_more : {X : Type 0} (p : X → Bool) (xs : List X) (x : X) → list_all p (xs ++ x ∷ []) ≡ (list_all p xs && p x)
+pub all_more : {X : Type 0} (p : X → Bool) (xs : List X) (x : X) → list_all p (xs ++ x ∷ []) ≡ (list_all p xs && p x)
 all_more p xs x = list_all-append p xs (x ∷ []) ∙ ap (λ b. list_all p xs && b) (and-true (p x))
 
 totals_more : (lawful : Bool) (js : List Judged) (j : Judged) → with_checked lawful (totals_of lawful js) j.checked ≡ totals_of lawful (js ++ j ∷ [])
@@ -88,7 +88,7 @@ ending_same false lawful js = refl
 
 -- What is left
 
-middle : {X : Type 0} (P : X → Type 0) (xs ys : List X) (x : X) → AllByRecursion P (xs ++ x ∷ ys) → P x
+pub middle : {X : Type 0} (P : X → Type 0) (xs ys : List X) (x : X) → AllByRecursion P (xs ++ x ∷ ys) → P x
 middle P [] ys x all = all.0
 middle P (z ∷ xs) ys x all = middle P xs ys x all.1
 

@@ -6,6 +6,7 @@ pub mod Joining
 pub mod Parted
 pub mod Routines
 pub mod Checks
+pub mod RowsTold
 pub mod Status
 pub mod Tasks
 pub mod Gathered

@@ -1,6 +1,8 @@
 -- What the commands list of a block, and that requests that ask alike list one text.
-use Rattle.std.proofs.Common.{◌≡◌, ℕ, ℤ, List, [], ◌++◌, Option, Result, Ok, Err, OnOk, IfOk, refl, sym, ap, ap₂, ◌∙◌, subst, append_assoc}
+use Rattle.std.proofs.Common.{◌≡◌, ℕ, ℤ, List, [], ◌++◌, Option, Some, None, Result, Ok, Err, OnOk, IfOk, refl, sym, ap, ap₂, ◌∙◌, subst, append_assoc}
 use Rattle.std.specs.Prelude.{codes}
+use Rattle.std.specs.declared.alloc.Global.{Global}
+use Rattle.std.specs.declared.string.String.{String}
 use Rattle.iloc_ops.specs.declared.file.Block.{Block}
 use Rattle.iloc_timed.specs.declared.latencies.Latencies.{Latencies}
 use Rattle.iloc_timed.specs.Schedule.{Table}
@@ -94,7 +96,7 @@ module _ (request : Request) (k : ℕ) (b : Block) (text more : List ℕ) (name 
         counted = counted;
       }
 
-      pub explain_listed : (explanation : List ℕ) → IsExplanation request.priority request.latencies b.ops s.ops s.rows explanation
+      pub explain_listed : (explanation : List ℕ) → IsExplanation request.priority request.latencies b.ops s.ops s.rows s.ops explanation
           → more ≡ ((text ++ block_head k name) ++ codes "\n") ++ explanation
           → Adds (IsExplainEntry request k b) text more cycles
       explain_listed explanation explains added = record {
@@ -203,11 +205,11 @@ module _ (r q : Request) (alike : AskAlike r q) (k : ℕ) (b : Block) where
       → (e ≡ e') × (c ≡ c')
   explain_same e e' c c' is is' =
       let same = same_schedule is.schedule is'.schedule is.greedy is'.greedy in
-      let P : Latencies → Type 0 = λ lat. IsExplanation r.priority lat b.ops is.schedule.ops is.schedule.rows is.text in
-      let Q : Heuristic → Type 0 = λ heuristic. IsExplanation heuristic q.latencies b.ops is.schedule.ops is.schedule.rows is.text in
-      let R : Table → Type 0 = λ s. IsExplanation q.priority q.latencies b.ops s.ops s.rows is.text in
+      let P : Latencies → Type 0 = λ lat. IsExplanation r.priority lat b.ops is.schedule.ops is.schedule.rows is.schedule.ops is.text in
+      let Q : Heuristic → Type 0 = λ heuristic. IsExplanation heuristic q.latencies b.ops is.schedule.ops is.schedule.rows is.schedule.ops is.text in
+      let R : Table → Type 0 = λ s. IsExplanation q.priority q.latencies b.ops s.ops s.rows s.ops is.text in
       let text : is.text ≡ is'.text =
-      one_explanation q.priority q.latencies b.ops is'.schedule.ops is'.schedule.rows is.text is'.text
+      one_explanation q.priority q.latencies b.ops is'.schedule.ops is'.schedule.rows is'.schedule.ops is.text is'.text
       (subst R same (subst Q alike.priority (subst P alike.latencies is.explains))) is'.explains in (
         is.listed ∙ (ap (λ t. block_head k b.name ++ codes "\n" ++ t) text ∙ sym is'.listed),
         cycles_same is.schedule is'.schedule c c' same is.counted is'.counted,
@@ -267,3 +269,9 @@ file_listed held t request old new text listed is files lists read made =
     let input : Lists request old new Passed text =
     record { input = read.input; read = read.read; listed = subst Q (sym is) (files read.input (file, refl)) } in
     subst S (sym made) (subst R (sym is) (lists input))
+
+-- so it is of an explanation for which no file is named
+pub explains_file : (held : Held) (file : Option (String Global)) (request : Request) (old new : Option (List ℕ)) (text : List ℕ)
+    → file ≡ None → Lists request old new Passed text → ListsAs task.Explain file held request old new Passed text
+explains_file held None request old new text none lists = lists
+explains_file held (Some name) request old new text none lists = absurd cc

@@ -1,5 +1,5 @@
 -- What is listed of one input does not depend on the workers, and greedy schedules can be listed.
-use Rattle.std.proofs.Common.{◌≡◌, ℕ, Bool, List, ℤ, None, Option, Some, sym, ◌∙◌, subst}
+use Rattle.std.proofs.Common.{◌≡◌, ℕ, Bool, List, ℤ, None, Option, Some, IsTrue, refl, sym, ◌∙◌, subst}
 use Rattle.std.specs.declared.alloc.Global.{Global}
 use Rattle.std.specs.declared.string.String.{String}
 use Rattle.iloc_ops.specs.declared.file.Block.{Block}
@@ -7,14 +7,16 @@ use Rattle.iloc_text.proofs.Answer.{one_answer}
 use Rattle.iloc_timed.specs.declared.latencies.Latencies.{Latencies}
 use Rattle.iloc_rows.specs.declared.proposal.Proposal.{Proposal}
 use Rattle.iloc_rows.specs.EitherSlot.{placed}
+use Rattle.iloc_sched.specs.declared.ranking.heuristic.Heuristic.{Heuristic}
 use Rattle.iloc_args.specs.declared.request.Request.{Request}
 use Rattle.iloc_args.specs.declared.request.Task.{Task}
 use Rattle.iloc_args.specs.declared.request.Task.TheVariants as task
 use Rattle.iloc_farm.specs.Commands.Check.{ListsChecked}
+use Rattle.iloc_farm.specs.Commands.ExplainRows.{ExplainsRows}
 use Rattle.iloc_farm.specs.Commands.Run.{initial_memory}
 use Rattle.iloc_farm.specs.Laws.{AskAlike, ChecksIgnoreWorkers, GreedySchedulesCanBeListed, ListingsIgnoreWorkers}
 use Rattle.iloc_farm.specs.Apart.{Held}
-use Rattle.iloc_farm.specs.Run.{Checks, IsListing, IsListingFor, Lists, ListsApart, ListsAs, ListsFor, ListsSubmission}
+use Rattle.iloc_farm.specs.Run.{Checks, Explains, IsListing, IsListingFor, Lists, ListsApart, ListsAs, ListsFor, ListsSubmission, takes_rows}
 use Rattle.iloc_farm.specs.declared.commands.Finding.{Finding}
 use Rattle.iloc_farm.proofs.Listers.{of_one_task, one_memory}
 use Rattle.iloc_farm.proofs.Schedules.{greedy_long, total_small}
@@ -53,13 +55,28 @@ submission_alike r q alike input finding text lists = record {
   checked = checks_alike r q alike lists.blocks lists.proposals finding text lists.checked;
 }
 
-apart_alike : (r q : Request) → AskAlike r q → (known old new : Option (List ℕ)) (finding : Finding) (text : List ℕ)
-    → ListsApart known r old new finding text → ListsApart known q old new finding text
-apart_alike r q alike known old new finding text lists = record {
+-- so is an explanation of rows
+explains_alike : (r q : Request) → AskAlike r q → (blocks : List Block) (proposals : List Proposal) (finding : Finding)
+    (text : List ℕ) → Explains r blocks proposals finding text → Explains q blocks proposals finding text
+explains_alike r q alike blocks proposals finding text explains =
+    let theirs : List Proposal = placed r.either_slot proposals in
+    let P : Latencies → Type 0 = λ lat. ExplainsRows r.priority lat blocks theirs finding text in
+    let Q : Heuristic → Type 0 = λ heuristic. ExplainsRows heuristic q.latencies blocks theirs finding text in
+    let T : Bool → Type 0 = λ either_slot.
+    ExplainsRows q.priority q.latencies blocks (placed either_slot proposals) finding text in
+    subst T alike.either_slot (subst Q alike.priority (subst P alike.latencies explains))
+
+-- what is said of rows that were read apart is said as well by other words that follow from these
+apart_alike : (says also : List Block → List Proposal → Finding → List ℕ → Type 0)
+    → ((blocks : List Block) (proposals : List Proposal) (finding : Finding) (text : List ℕ)
+    → says blocks proposals finding text → also blocks proposals finding text)
+    → (known old new : Option (List ℕ)) (finding : Finding) (text : List ℕ)
+    → ListsApart says known old new finding text → ListsApart also known old new finding text
+apart_alike says also follows known old new finding text lists = record {
   blocks = lists.blocks;
   proposals = lists.proposals;
   read = lists.read;
-  checked = checks_alike r q alike lists.blocks lists.proposals finding text lists.checked;
+  said = follows lists.blocks lists.proposals finding text lists.said;
 }
 
 -- so is one of an input
@@ -74,20 +91,24 @@ lists_alike r q alike is old new finding text lists =
       listed = subst Q (sym is ∙ alike.task) (submission_alike r q alike lists.input finding text (subst P is lists.listed));
     }
 
-as_alike : (held : Held) (r q : Request) → AskAlike r q → r.task ≡ task.Check → (file : Option (String Global))
-    (old new : Option (List ℕ)) (finding : Finding) (text : List ℕ) → ListsAs task.Check file held r old new finding text
-    → ListsAs task.Check file held q old new finding text
-as_alike held r q alike is None old new finding text lists = lists_alike r q alike is old new finding text lists
-as_alike held r q alike is (Some name) old new finding text lists =
-    apart_alike r q alike _ old new finding text lists
+as_alike : (held : Held) (r q : Request) → AskAlike r q → (t : Task) (file : Option (String Global)) → r.task ≡ t
+    → IsTrue (takes_rows t file) → (old new : Option (List ℕ)) (finding : Finding) (text : List ℕ)
+    → ListsAs t file held r old new finding text → ListsAs t file held q old new finding text
+as_alike held r q alike task.Check None is takes old new finding text lists =
+    lists_alike r q alike is old new finding text lists
+as_alike held r q alike task.Check (Some name) is takes old new finding text lists =
+    apart_alike (Checks r) (Checks q) (checks_alike r q alike) _ old new finding text lists
+as_alike held r q alike task.Explain None is takes old new finding text lists = absurd cc
+as_alike held r q alike task.Explain (Some name) is takes old new finding text lists =
+    apart_alike (Explains r) (Explains q) (explains_alike r q alike) _ old new finding text lists
+as_alike held r q alike _ file is takes old new finding text lists = absurd cc
 
 pub checks_ignore_workers : ChecksIgnoreWorkers
-checks_ignore_workers r q alike is held old new finding text lists =
-    let P : Task → Type 0 = λ t. ListsAs t r.task_file held r old new finding text in
+checks_ignore_workers r q alike takes held old new finding text lists =
     let Q : Task → Type 0 = λ t. ListsAs t q.task_file held q old new finding text in
-    let R : Option (String Global) → Type 0 = λ file. ListsAs task.Check file held q old new finding text in
-    subst Q (sym is ∙ alike.task) (subst R alike.task_file
-    (as_alike held r q alike is r.task_file old new finding text (subst P is lists)))
+    let R : Option (String Global) → Type 0 = λ file. ListsAs r.task file held q old new finding text in
+    subst Q alike.task (subst R alike.task_file
+    (as_alike held r q alike r.task r.task_file refl takes old new finding text lists))
 
 pub can_be_listed : GreedySchedulesCanBeListed
 can_be_listed lat blocks schedules limits greedy =

@@ -121,7 +121,7 @@ judges held request old new finding text task.Check (Some name) is check named l
       blocks = lists.blocks;
       proposals = lists.proposals;
       read = subst Q named lists.read;
-      checked = lists.checked;
+      checked = lists.said;
     }
 judges held request old new finding text _ file is check named lists = cc
 

@@ -5,6 +5,7 @@ pub mod Schedule
 pub mod Counts
 pub mod Compare
 pub mod Explain
+pub mod ExplainRows
 pub mod Graph
 pub mod Check
 pub mod Lint

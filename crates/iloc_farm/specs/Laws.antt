@@ -1,5 +1,5 @@
 -- What holds of listings as a whole.
-use Rattle.std.specs.Prelude.{◌≡◌, ℕ, ℤ, ◌<◌, ◌^◌, Bool, List, length, Option, Some, None, Result}
+use Rattle.std.specs.Prelude.{◌≡◌, ℕ, ℤ, ◌<◌, ◌^◌, Bool, List, length, Option, Some, None, Result, IsTrue}
 use Rattle.std.specs.List.{AllZip}
 use Rattle.std.specs.declared.io.Error.{Error}
 use Rattle.iloc_ops.specs.declared.file.Block.{Block}
@@ -22,7 +22,7 @@ use Rattle.iloc_farm.specs.Apart.{Held, ReadsApart}
 use Rattle.iloc_farm.specs.Commands.Check.{ListsChecked}
 use Rattle.iloc_farm.specs.Listing.{total_cycles}
 use Rattle.iloc_farm.specs.Program.{Args, AskFor, Ends}
-use Rattle.iloc_farm.specs.Run.{IsListing, IsListingFor, ListsFrom}
+use Rattle.iloc_farm.specs.Run.{IsListing, IsListingFor, ListsFrom, takes_rows}
 use Rattle.iloc_farm.specs.Schedules.{AreGreedy}
 
 -- the requests ask for the same, but maybe of other workers
@@ -37,8 +37,8 @@ pub record AskAlike (r q : Request) : Type 0 where
   pub either_slot : r.either_slot ≡ q.either_slot
   pub lawful : r.lawful ≡ q.lawful
 
--- What such requests list of one file is one text. A check lists no file: which of two right verdicts it gives is not
--- settled, so of one input it may list more than one text.
+-- What such requests list of one file is one text. Where rows are read no file is listed: which of two right verdicts is given,
+-- and by which pairing rows are explained, is not settled, so of one input more than one text may be listed.
 abbrev pub ListingsIgnoreWorkers : Type 0
 ListingsIgnoreWorkers = (r q : Request) → AskAlike r q → (input : List ℕ) (blocks blocks' : List Block)
     → Denotes input blocks → Denotes input blocks'
@@ -49,9 +49,9 @@ abbrev pub SimulatingListsRuns : Type 0
 SimulatingListsRuns = (request : Request) (blocks : List Block) (text : List ℕ)
     → IsListingFor task.Simulate request blocks text → IsListingFor task.Run request blocks text
 
--- what one of such requests may list of what is read as a check, so may the other
+-- what one of such requests may list where rows are read, so may the other
 abbrev pub ChecksIgnoreWorkers : Type 0
-ChecksIgnoreWorkers = (r q : Request) → AskAlike r q → r.task ≡ task.Check
+ChecksIgnoreWorkers = (r q : Request) → AskAlike r q → IsTrue (takes_rows r.task r.task_file)
     → (held : Held) (old new : Option (List ℕ)) (finding : Finding) (text : List ℕ) → ListsFrom held r old new finding text
     → ListsFrom held q old new finding text
 

@@ -1,5 +1,5 @@
 -- What a run writes for what it reads.
-use Rattle.std.specs.Prelude.{◌≡◌, ◌≢◌, ℕ, List, Option, Some, None}
+use Rattle.std.specs.Prelude.{◌≡◌, ◌≢◌, ℕ, Bool, true, false, is_some, List, Option, Some, None, IsTrue, IsFalse}
 use Rattle.std.specs.Io.KnownBytes.{Keeps}
 use Rattle.std.specs.String.{string_bytes}
 use Rattle.std.specs.declared.alloc.Global.{Global}
@@ -25,6 +25,7 @@ use Rattle.iloc_farm.specs.Commands.Check.{ListsChecked}
 use Rattle.iloc_farm.specs.Commands.Compare.{IsCompareListing}
 use Rattle.iloc_farm.specs.Commands.Counts.{IsCountListing}
 use Rattle.iloc_farm.specs.Commands.Explain.{IsExplainEntry}
+use Rattle.iloc_farm.specs.Commands.ExplainRows.{ExplainsRows}
 use Rattle.iloc_farm.specs.Commands.Lint.{ListsLinted}
 use Rattle.iloc_farm.specs.Commands.Graph.{IsGraphEntry, drawing_end}
 use Rattle.iloc_farm.specs.Commands.Run.{IsRunEntry, initial_memory, no_ending}
@@ -64,6 +65,11 @@ Checks request blocks proposals finding text =
     ListsChecked request.lawful request.csv request.latencies (initial_memory request) blocks
     (placed request.either_slot proposals) finding text
 
+-- the text explains, with this finding, what is proposed for blocks, with leave for either slot if the request gives that
+abbrev pub Explains : Request → List Block → List Proposal → Finding → List ℕ → Type 0
+Explains request blocks proposals finding text =
+    ExplainsRows request.priority request.latencies blocks (placed request.either_slot proposals) finding text
+
 -- the input denotes blocks and what is proposed for them, and the text is what is said of it, with this finding
 pub record ListsSubmission (request : Request) (input : List ℕ) (finding : Finding) (text : List ℕ) : Type 0 where
   pub blocks : List Block
@@ -89,20 +95,23 @@ pub record Lists (request : Request) (old new : Option (List ℕ)) (finding : Fi
 
 -- a task was read from a text of which this is known, and rows apart from it, and the text is what is said of them, with
 -- this finding
-pub record ListsApart (known : Option (List ℕ)) (request : Request) (old new : Option (List ℕ)) (finding : Finding)
-    (text : List ℕ) : Type 0 where
+pub record ListsApart (says : List Block → List Proposal → Finding → List ℕ → Type 0) (known old new : Option (List ℕ))
+    (finding : Finding) (text : List ℕ) : Type 0 where
   pub blocks : List Block
   pub proposals : List Proposal
   pub read : ReadsApart known old new blocks proposals
-  pub checked : Checks request blocks proposals finding text
+  pub said : says blocks proposals finding text
 
--- The request lists this text of what was read, with this finding: as a check for which a file is named of that file and,
--- apart from it, of rows, else of one input.
+-- The request lists this text of what was read, with this finding: as a check or an explanation for which a file is named of
+-- that file and, apart from it, of rows, else of one input.
 abbrev pub ListsAs : Task → Option (String Global) → Held → Request → Option (List ℕ) → Option (List ℕ) → Finding → List ℕ
     → Type 0
 ListsAs task.Check (Some name) held request old new finding text =
-    ListsApart (held (string_bytes name)) request old new finding text
+    ListsApart (Checks request) (held (string_bytes name)) old new finding text
 ListsAs task.Check None held request old new finding text = Lists request old new finding text
+ListsAs task.Explain (Some name) held request old new finding text =
+    ListsApart (Explains request) (held (string_bytes name)) old new finding text
+ListsAs task.Explain None held request old new finding text = Lists request old new finding text
 ListsAs _ file held request old new finding text = Lists request old new finding text
 
 abbrev pub ListsFrom : Held → Request → Option (List ℕ) → Option (List ℕ) → Finding → List ℕ → Type 0
@@ -115,7 +124,13 @@ pub record Refuses {F : Type 0} (is_refused : List ℕ → F → Type 0) (old ne
   pub read : ReadsText old new input
   pub refused : is_refused input fault
 
--- the bytes that were read are refused in a check: as blocks with rows, or as rows for the blocks of the file that is named
+-- whether rows are read: by a check, and by an explanation for which a file is named
+abbrev pub takes_rows : Task → Option (String Global) → Bool
+takes_rows task.Check file = true
+takes_rows task.Explain file = is_some file
+takes_rows _ file = false
+
+-- the bytes that were read are refused where rows are: as blocks with rows, or as rows for the blocks of the file that is named
 abbrev pub RefusesRows : Held → Option (String Global) → Option (List ℕ) → Option (List ℕ) → RowsFault → Type 0
 RefusesRows held None old new fault = Refuses submissions.IsRefused old new fault
 RefusesRows held (Some name) old new fault = AreRefusedApart (held (string_bytes name)) old new fault
@@ -139,18 +154,18 @@ IsFarmed task.Counts = Unit {0}
 IsFarmed task.Compare = Unit {0}
 IsFarmed _ = ⊥
 
--- What holds where a run of the request ends with this fault: a check reads blocks with rows, or a task and rows, the others
--- read a file. Of a bad task no row is read. A worker that can't be started is a fault only where the file was read.
+-- What holds where a run of the request ends with this fault: where rows are read, blocks with rows are, or a task and rows; the
+-- others read a file. Of a bad task no row is read. A worker that can't be started is a fault only where the file was read.
 abbrev pub EndsRun : Held → Request → Option (List ℕ) → Option (List ℕ) → Option (List ℕ) → Option (List ℕ) → RunFault
     → Type 0
 EndsRun held request read_old read_new written_old written_new ReadFailed = Keeps written_old written_new
 EndsRun held request read_old read_new written_old written_new (Text fault) =
-    (request.task ≢ task.Check) × (request.task ≢ task.Lint) × Refuses files.IsRefused read_old read_new fault × Keeps written_old written_new
+    IsFalse (takes_rows request.task request.task_file) × (request.task ≢ task.Lint) × Refuses files.IsRefused read_old read_new fault × Keeps written_old written_new
 EndsRun held request read_old read_new written_old written_new (Rows fault) =
-    (request.task ≡ task.Check) × RefusesRows held request.task_file read_old read_new fault
+    IsTrue (takes_rows request.task request.task_file) × RefusesRows held request.task_file read_old read_new fault
     × Keeps written_old written_new
 EndsRun held request read_old read_new written_old written_new (of_task fault) =
-    (request.task ≡ task.Check) × RefusesTask held request.task_file fault × Keeps read_old read_new
+    IsTrue (takes_rows request.task request.task_file) × RefusesTask held request.task_file fault × Keeps read_old read_new
     × Keeps written_old written_new
 EndsRun held request read_old read_new written_old written_new (Farm farm.NoThread) =
     IsFarmed request.task × ReadsFile read_old read_new × Keeps written_old written_new

@@ -8,3 +8,4 @@ pub mod OfInput
 pub mod OfTask
 pub mod Limits
 pub mod Checking
+pub mod Telling

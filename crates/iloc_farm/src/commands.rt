@@ -8,6 +8,7 @@ mod check;
 mod compare;
 mod counts;
 mod explain;
+mod explain_rows;
 mod graph;
 mod lint;
 mod run;
@@ -23,7 +24,7 @@ use crate::texts::Texts;
 use check::checked;
 use compare::CompareLister;
 use counts::CountLister;
-use explain::ExplainLister;
+use explain::explained;
 use graph::GraphLister;
 use iloc_args::{Request, Task};
 use lint::linted;
@@ -134,10 +135,7 @@ pub(crate) fn list<H: Threads + Wait + Sync, T: Texts, R: Read>(
             let text = listed_by_workers::<CompareLister, H, R>(rt, alloc, reader, request)?;
             Ok(Listed::of_file(text))
         }
-        Task::Explain => {
-            let text = listed_as_read::<ExplainLister, R>(alloc, reader, request)?;
-            Ok(Listed::of_file(text))
-        }
+        Task::Explain => explained(alloc, texts, reader, request),
         Task::Graph => {
             let text = listed_as_read::<GraphLister, R>(alloc, reader, request)?;
             Ok(Listed::of_file(text))

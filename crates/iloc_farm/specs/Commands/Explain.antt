@@ -12,6 +12,6 @@ pub record IsExplainEntry (request : Request) (k : ℕ) (b : Block) (entry : Lis
   pub schedule : Table
   pub greedy : IsTheGreedy request.priority request.latencies b schedule
   pub text : List ℕ
-  pub explains : IsExplanation request.priority request.latencies b.ops schedule.ops schedule.rows text
+  pub explains : IsExplanation request.priority request.latencies b.ops schedule.ops schedule.rows schedule.ops text
   pub listed : entry ≡ block_head k b.name ++ codes "\n" ++ text
   pub counted : cycles ≡ cycles_of request.latencies schedule

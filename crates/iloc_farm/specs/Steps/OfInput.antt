@@ -1,12 +1,12 @@
 -- What comes of an input that was read.
-use Rattle.std.specs.Prelude.{◌≡◌, ◌≢◌, ℕ, List, Option}
+use Rattle.std.specs.Prelude.{◌≢◌, ℕ, List, Option, IsTrue, IsFalse}
 use Rattle.std.specs.Io.KnownBytes.{Keeps}
 use Rattle.iloc_text.specs.Files as files
 use Rattle.iloc_rows.specs.Submissions as submissions
 use Rattle.iloc_args.specs.declared.request.Request.{Request}
 use Rattle.iloc_args.specs.declared.request.Task.TheVariants as task
 use Rattle.iloc_farm.specs.Apart.{Held}
-use Rattle.iloc_farm.specs.Run.{IsFarmed, ReadsFile, Refuses, RefusesRows, RefusesTask}
+use Rattle.iloc_farm.specs.Run.{IsFarmed, ReadsFile, Refuses, RefusesRows, RefusesTask, takes_rows}
 use Rattle.iloc_farm.specs.declared.fault.FarmFault.TheVariants as farm
 use Rattle.iloc_farm.specs.declared.fault.RunFault.{RunFault}
 use Rattle.iloc_farm.specs.declared.fault.RunFault.TheVariants.{ReadFailed, Text, Rows, Task as of_task, Farm, WriteFailed}
@@ -61,11 +61,11 @@ EndsHolding _ = ⊥
 abbrev pub EndsReading : Held → Request → Option (List ℕ) → Option (List ℕ) → RunFault → Type 0
 EndsReading held request old new ReadFailed = Unit {0}
 EndsReading held request old new (Text fault) =
-    (request.task ≢ task.Check) × (request.task ≢ task.Lint) × Refuses files.IsRefused old new fault
+    IsFalse (takes_rows request.task request.task_file) × (request.task ≢ task.Lint) × Refuses files.IsRefused old new fault
 EndsReading held request old new (Rows fault) =
-    (request.task ≡ task.Check) × RefusesRows held request.task_file old new fault
+    IsTrue (takes_rows request.task request.task_file) × RefusesRows held request.task_file old new fault
 EndsReading held request old new (of_task fault) =
-    (request.task ≡ task.Check) × RefusesTask held request.task_file fault × Keeps old new
+    IsTrue (takes_rows request.task request.task_file) × RefusesTask held request.task_file fault × Keeps old new
 EndsReading held request old new (Farm farm.NoThread) = IsFarmed request.task × ReadsFile old new
 EndsReading held request old new (Farm farm.NoMemory) = Unit {0}
 EndsReading held request old new WriteFailed = ⊥

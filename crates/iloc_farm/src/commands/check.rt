@@ -130,7 +130,7 @@ fn checked_apart<T: Texts, R: Read>(
     reader: &mut R,
     request: &Request,
 ) -> Result<Listed, RunFault>
-    ensures ok { IfOk result (λ listed. ListsApart (T.held texts.now name.now) request.now
+    ensures ok { IfOk result (λ listed. ListsApart (Checks request.now) (T.held texts.now name.now)
         (R.remaining reader.old) (R.remaining reader.new) listed.finding listed.text) }
     ensures err { IfErr result
         (EndsApart (T.held texts.now name.now) (R.remaining reader.old) (R.remaining reader.new)) }

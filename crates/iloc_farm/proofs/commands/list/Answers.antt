@@ -27,11 +27,6 @@ returns-in_ok-text-in-Compare-clause-ok g c =
     file_listed _ task.Compare _ _ _ _ c.of_file-in-Compare.result c.in-Compare.is (λ input file. file) (λ lists. lists) c.in_ok-text-in-Compare.ensures.ok
     c.of_file-in-Compare.ensures
 
-pub returns-in_ok-text-in-Explain-clause-ok : goal.returns-in_ok-text-in-Explain-clause-ok
-returns-in_ok-text-in-Explain-clause-ok g c =
-    file_listed _ task.Explain _ _ _ _ c.of_file-in-Explain.result c.in-Explain.is (λ input file. file) (λ lists. lists) c.in_ok-text-in-Explain.ensures.ok
-    c.of_file-in-Explain.ensures
-
 pub returns-in_ok-text-in-Graph-clause-ok : goal.returns-in_ok-text-in-Graph-clause-ok
 returns-in_ok-text-in-Graph-clause-ok g c =
     file_listed _ task.Graph _ _ _ _ c.of_file-in-Graph.result c.in-Graph.is (λ input file. file) (λ lists. lists) c.in_ok-text-in-Graph.ensures.ok
