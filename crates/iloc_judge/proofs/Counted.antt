@@ -1,5 +1,5 @@
 -- Places can be counted: no more is emitted than is issued, and that in a row.
-use Rattle.std.proofs.Common.{◌≡◌, ◌<◌, ◌≤◌, ℕ, zero, suc, ◌+◌, ◌*◌, ◌^◌, List, [], ◌∷◌, length, length-append, Option, Some, None, option_to_list, arith, refl, ap, inl, inr}
+use Rattle.std.proofs.Common.{◌≡◌, ◌<◌, ◌≤◌, Bool, ℕ, zero, suc, ◌+◌, ◌*◌, ◌^◌, List, [], ◌∷◌, length, length-append, Option, Some, None, option_to_list, arith, refl, ap, inl, inr}
 use Rattle.std.specs.Prelude.{ℤ, slice_get, map, option_map, IfSome}
 use Rattle.std.proofs.lemmas.Bool.{cases_lt}
 use Rattle.std.proofs.lemmas.List.{length-map}
@@ -38,7 +38,7 @@ use Rattle.iloc_judge.specs.Steps.Counted.{IsCounted, CanBeCompared, CanBeTold, 
 
 -- at most n words are emitted
 abbrev EmitsAtMost : ℕ → Outcome → Type 0
-EmitsAtMost n (O.Finished outputs memory) = length outputs ≤ n
+EmitsAtMost n (O.Finished gots memory) = length gots ≤ n
 EmitsAtMost n O.Fault = Unit {0}
 
 one_emitted : (effect : Effect) → length (emitted_by effect) ≤ 1
@@ -108,36 +108,37 @@ apart_within xs ys i x y first second apart = elim (cases_lt i (length xs + leng
       absurd (apart (cc))
 ]
 
-few_counted : (n m : ℕ) (got wanted : Outcome) (difference : Difference) → n + m + 1 < 2 ^ 64 → EmitsAtMost n got
-    → EmitsAtMost m wanted → IsDifference got wanted difference → IsCounted difference
-few_counted n m O.Fault O.Fault difference small few fewer is = absurd is
-few_counted n m O.Fault (O.Finished wanteds memory) difference small few fewer is = rw is tt
-few_counted n m (O.Finished outputs memory) O.Fault difference small few fewer is = rw is tt
-few_counted n m (O.Finished outputs memory) (O.Finished wanteds end) (Output index got wanted) small few fewer is =
-    let within : index < length outputs + length wanteds =
-    apart_within outputs wanteds index got wanted is.first is.second is.apart in
+few_counted : (outputs : Bool) (n m : ℕ) (got wanted : Outcome) (difference : Difference) → n + m + 1 < 2 ^ 64 → EmitsAtMost n got
+    → EmitsAtMost m wanted → IsDifference outputs got wanted difference → IsCounted difference
+few_counted outputs n m O.Fault O.Fault difference small few fewer is = absurd is
+few_counted outputs n m O.Fault (O.Finished wanteds memory) difference small few fewer is = rw is tt
+few_counted outputs n m (O.Finished gots memory) O.Fault difference small few fewer is = rw is tt
+few_counted outputs n m (O.Finished gots memory) (O.Finished wanteds end) (Output index got wanted) small few fewer is =
+    let within : index < length gots + length wanteds =
+    apart_within gots wanteds index got wanted is.first is.second is.apart in
     omega arith
-few_counted n m (O.Finished outputs memory) (O.Finished wanteds end) (Word address got wanted) small few fewer is = tt
-few_counted n m (O.Finished outputs memory) (O.Finished wanteds end) Fault small few fewer is = tt
-few_counted n m (O.Finished outputs memory) (O.Finished wanteds end) NoFault small few fewer is = tt
+few_counted outputs n m (O.Finished gots memory) (O.Finished wanteds end) (Word address got wanted) small few fewer is = tt
+few_counted outputs n m (O.Finished gots memory) (O.Finished wanteds end) Fault small few fewer is = tt
+few_counted outputs n m (O.Finished gots memory) (O.Finished wanteds end) NoFault small few fewer is = tt
 
-difference_counted : (lat : Latencies) (block ops : List Op) (rows : List Row) (memory : List ℤ) (difference : Difference)
+difference_counted : (outputs : Bool) (lat : Latencies) (block ops : List Op) (rows : List Row) (memory : List ℤ) (difference : Difference)
     → length block ≤ MAX_OPS → length rows ≤ MAX_ROWS
-    → IsDifference (timed_outcome lat ops rows memory) (outcome block memory) difference → IsCounted difference
-difference_counted lat block ops rows memory difference short few is =
-    few_counted (2 * length rows) (length block) (timed_outcome lat ops rows memory) (outcome block memory) difference
+    → IsDifference outputs (timed_outcome lat ops rows memory) (outcome block memory) difference → IsCounted difference
+difference_counted outputs lat block ops rows memory difference short few is =
+    few_counted outputs (2 * length rows) (length block) (timed_outcome lat ops rows memory) (outcome block memory) difference
     (omega arith) (rows_emit lat ops rows memory) (block_emits block memory) is
 
-compared_listed : (lat : Latencies) (memory : List ℤ) (block ops : List Op) (rows : List Row) (found : Comparison)
-    → length block ≤ MAX_OPS → length rows ≤ MAX_ROWS → IsComparison lat block ops rows memory found
+compared_listed : (outputs : Bool) (lat : Latencies) (memory : List ℤ) (block ops : List Op) (rows : List Row) (found : Comparison)
+    → length block ≤ MAX_OPS → length rows ≤ MAX_ROWS → IsComparison outputs lat block ops rows memory found
     → CanBeCompared found
-compared_listed lat memory block ops rows (of.Void why) short few is = tt
-compared_listed lat memory block ops rows of.Same short few is = tt
-compared_listed lat memory block ops rows of.Agrees short few is = tt
-compared_listed lat memory block ops rows (of.Differs difference) short few is =
-    difference_counted lat block ops rows memory difference short few is.1
-compared_listed lat memory block ops rows (of.DiffersOn probe difference) short few is =
-    difference_counted lat block ops rows (memory_of probe) difference short few is.2
+compared_listed outputs lat memory block ops rows (of.Void why) short few is = tt
+compared_listed outputs lat memory block ops rows of.Same short few is = tt
+compared_listed outputs lat memory block ops rows of.Prints short few is = tt
+compared_listed outputs lat memory block ops rows of.Agrees short few is = tt
+compared_listed outputs lat memory block ops rows (of.Differs difference) short few is =
+    difference_counted outputs lat block ops rows memory difference short few is.1
+compared_listed outputs lat memory block ops rows (of.DiffersOn probe difference) short few is =
+    difference_counted outputs lat block ops rows (memory_of probe) difference short few is.2
 
 -- an operation is issued in one of the rows, or counted behind the last
 issue_within : (rows : List Row) (k : ℕ) → issue_cycle rows k ≤ length rows
@@ -174,12 +175,12 @@ reason_listed lat block ops rows (Reads register issue from wanted) few is = (
   if_numbered ops rows is.1 (given block (is.0 is.3.k) is.3.register_there) wanted few is.3.is_given,
 )
 
-pub verdict_listed : (lat : Latencies) (memory : List ℤ) (block ops : List Op) (rows : List Row) (verdict : Verdict)
-    → length block ≤ MAX_OPS → length rows ≤ MAX_ROWS → IsVerdict lat block ops rows memory verdict
+pub verdict_listed : (outputs : Bool) (lat : Latencies) (memory : List ℤ) (block ops : List Op) (rows : List Row) (verdict : Verdict)
+    → length block ≤ MAX_OPS → length rows ≤ MAX_ROWS → IsVerdict outputs lat block ops rows memory verdict
     → CanBeListed rows verdict
-verdict_listed lat memory block ops rows (Units c) short few is = is.within
-verdict_listed lat memory block ops rows Lawful short few is = tt
-verdict_listed lat memory block ops rows (Unlawful reason found) short few is = (
+verdict_listed outputs lat memory block ops rows (Units c) short few is = is.within
+verdict_listed outputs lat memory block ops rows Lawful short few is = tt
+verdict_listed outputs lat memory block ops rows (Unlawful reason found) short few is = (
   reason_listed lat (without_nops block) ops rows reason few is.1,
-  compared_listed lat memory block ops rows found short few is.2,
+  compared_listed outputs lat memory block ops rows found short few is.2,
 )

@@ -3,5 +3,6 @@ pub mod Runs
 pub mod Places
 pub mod SameLists
 pub mod OwnRows
+pub mod Agreed
 pub mod Sameness
 pub mod Counted

@@ -9,11 +9,10 @@ use Rattle.iloc_timed.specs.Schedule.{Table}
 use Rattle.iloc_rows.specs.declared.proposal.Proposal.{Proposal}
 use Rattle.iloc_sched.specs.Least.{least}
 use Rattle.iloc_validation.specs.ByTheBook.{IsByTheBook, IssueTheSame}
-use Rattle.iloc_judge.specs.declared.comparison.Comparison.TheVariants.{Same}
+use Rattle.iloc_judge.specs.declared.comparison.Comparison.TheVariants.{Same, Prints}
 use Rattle.iloc_judge.specs.declared.verdict.Verdict.{Verdict}
 use Rattle.iloc_judge.specs.declared.verdict.Verdict.TheVariants.{Lawful, Unlawful}
-use Rattle.iloc_judge.specs.Comparison.{AgreesOn}
-use Rattle.iloc_judge.specs.Memory.{IsMemory}
+use Rattle.iloc_judge.specs.Comparison.{AgreesOnAll}
 use Rattle.iloc_judge.specs.Verdict.{IsVerdict}
 use Rattle.iloc_judge.specs.Void.{CanBeJudged}
 use Rattle.iloc_judge.specs.declared.checked.Checked.{Checked}
@@ -24,10 +23,12 @@ abbrev pub is_lawful : Verdict → Bool
 is_lawful Lawful = true
 is_lawful verdict = false
 
--- whether they have the block's outcome on every memory: they are by the book, or compared as the same
+-- whether on every memory they have the block's outcome or, where outputs alone are compared, show what the block shows:
+-- they are by the book, or compared as the same, or print
 abbrev pub is_same : Verdict → Bool
 is_same Lawful = true
 is_same (Unlawful reason Same) = true
+is_same (Unlawful reason Prints) = true
 is_same verdict = false
 
 -- what goes with a verdict: the cycles of what is proposed, those of our schedule, and the least
@@ -40,21 +41,21 @@ found lat block ours proposal verdict = record {
   least = least lat block;
 }
 
--- Of what is proposed for a block this is found, and this entry listed, in a table or not, by a verdict that is right. What
--- our schedule issues is lawful.
-pub record IsCheck (csv : Bool) (lat : Latencies) (memory : List ℤ) (block : List Op) (ours : Table) (proposal : Proposal)
+-- Of what is proposed for a block this is found, and this entry listed, in a table or not, by a verdict that is right, of
+-- outcomes or of outputs alone. What our schedule issues is lawful.
+pub record IsCheck (csv outputs : Bool) (lat : Latencies) (memory : List ℤ) (block : List Op) (ours : Table) (proposal : Proposal)
     (checked : Checked) (entry : List ℕ) : Type 0 where
   pub verdict : Verdict
-  pub right : IsVerdict lat block proposal.ops proposal.rows memory verdict
+  pub right : IsVerdict outputs lat block proposal.ops proposal.rows memory verdict
   pub own : IssueTheSame ours.ops ours.rows proposal.ops proposal.rows → verdict ≡ Lawful
   pub is_found : checked ≡ found lat block ours proposal verdict
   pub listed : entry ≡ entry_as csv proposal verdict checked
 
 -- the operations in these rows keep the rules of the units, and on every memory of 16,384 words of 32 bits they have the
--- block's outcome
-pub record DoTheSame (lat : Latencies) (block ops : List Op) (rows : List Row) : Type 0 where
+-- block's outcome or, where outputs alone are compared, show what the block shows
+pub record DoTheSame (outputs : Bool) (lat : Latencies) (block ops : List Op) (rows : List Row) : Type 0 where
   pub table : IsTable ops rows
-  pub agree : (words : List ℤ) → IsMemory words → AgreesOn lat block ops rows words
+  pub agree : AgreesOnAll outputs lat block ops rows
 
 -- What passes
 
@@ -63,9 +64,9 @@ abbrev pub passes : Bool → Checked → Bool
 passes true checked = checked.is_lawful
 passes false checked = checked.is_same
 
--- What holds of rows that pass: they are by the book; or, where they needn't be, they have the block's outcome on every
+-- What holds of rows that pass: they are by the book; or, where they needn't be, they do the same as the block on every
 -- memory, and on the one handed in that says something.
-abbrev pub MayPass : Bool → Latencies → List ℤ → List Op → List Op → List Row → Type 0
-MayPass true lat memory block ops rows = IsByTheBook lat block ops rows
-MayPass false lat memory block ops rows =
-    IsByTheBook lat block ops rows ⊎ (DoTheSame lat block ops rows × CanBeJudged block memory)
+abbrev pub MayPass : (lawful outputs : Bool) → Latencies → List ℤ → List Op → List Op → List Row → Type 0
+MayPass true outputs lat memory block ops rows = IsByTheBook lat block ops rows
+MayPass false outputs lat memory block ops rows =
+    IsByTheBook lat block ops rows ⊎ (DoTheSame outputs lat block ops rows × CanBeJudged outputs block memory)

@@ -26,6 +26,7 @@ use Rattle.iloc_judge.specs.Reasons.{reason_told}
 abbrev pub comparison_word : Comparison → List ℕ
 comparison_word (of.Void why) = codes "void"
 comparison_word of.Same = codes "same"
+comparison_word of.Prints = codes "prints"
 comparison_word of.Agrees = codes "agrees"
 comparison_word (of.Differs difference) = codes "differs"
 comparison_word (of.DiffersOn probe difference) = codes "differs"
@@ -94,6 +95,7 @@ probe_told probe =
 abbrev pub comparison_told : Comparison → List ℕ
 comparison_told (of.Void why) = void_told why ++ codes "\n"
 comparison_told of.Same = []
+comparison_told of.Prints = []
 comparison_told of.Agrees = []
 comparison_told (of.Differs difference) = difference_told difference ++ codes "\n"
 comparison_told (of.DiffersOn probe difference) = difference_told difference ++ probe_told probe ++ codes "\n"

@@ -1,5 +1,5 @@
 -- What is said of somebody's rows for a block.
-use Rattle.std.specs.Prelude.{List, ℤ}
+use Rattle.std.specs.Prelude.{Bool, List, ℤ}
 use Rattle.iloc_ops.specs.declared.op.Op.{Op}
 use Rattle.iloc_timed.specs.declared.latencies.Latencies.{Latencies}
 use Rattle.iloc_timed.specs.declared.row.Row.{Row}
@@ -13,10 +13,11 @@ use Rattle.iloc_judge.specs.declared.verdict.Verdict.TheVariants.{Units, Lawful,
 use Rattle.iloc_judge.specs.Comparison.{IsComparison}
 
 -- The verdict is right, of operations and rows for a block, with this memory handed in: the row is the first that breaks the
--- rules of the units; the rows are by the book; or this is why they aren't known to be, and how they compare.
-abbrev pub IsVerdict : Latencies → List Op → List Op → List Row → List ℤ → Verdict → Type 0
-IsVerdict lat block ops rows memory (Units c) = IsFirstBadRow ops rows c
-IsVerdict lat block ops rows memory Lawful = IsByTheBook lat block ops rows
-IsVerdict lat block ops rows memory (Unlawful reason found) =
+-- rules of the units; the rows are by the book; or this is why they aren't known to be, and how they compare, by outcomes or
+-- by outputs alone.
+abbrev pub IsVerdict : Bool → Latencies → List Op → List Op → List Row → List ℤ → Verdict → Type 0
+IsVerdict outputs lat block ops rows memory (Units c) = IsFirstBadRow ops rows c
+IsVerdict outputs lat block ops rows memory Lawful = IsByTheBook lat block ops rows
+IsVerdict outputs lat block ops rows memory (Unlawful reason found) =
     IsTable ops rows × IsLawfulness lat block ops rows (finding.Unlawful reason)
-    × IsComparison lat block ops rows memory found
+    × IsComparison outputs lat block ops rows memory found

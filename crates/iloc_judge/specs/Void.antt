@@ -9,9 +9,10 @@ use Rattle.iloc_timed.specs.Kinds.{kind, is_output, is_store}
 use Rattle.iloc_judge.specs.declared.void.Void.{Void}
 use Rattle.iloc_judge.specs.declared.void.Void.TheVariants.{Faults, ShowsNothing}
 
--- whether the block has a store or an output
-abbrev pub shows_something : List Op → Bool
-shows_something block = list_any (λ op. is_store (kind op) || is_output (kind op)) block
+-- whether the block has a store or an output, or an output where outputs alone are compared
+abbrev pub shows_something : Bool → List Op → Bool
+shows_something true block = list_any (λ op. is_output (kind op)) block
+shows_something false block = list_any (λ op. is_store (kind op) || is_output (kind op)) block
 
 -- The block faults on this memory, at this operation: the block up to it finishes, and with it faults.
 pub record FaultsAt (block : List Op) (memory : List ℤ) (op : Op) : Type 0 where
@@ -22,11 +23,12 @@ pub record FaultsAt (block : List Op) (memory : List ℤ) (op : Op) : Type 0 whe
   pub is : op ≡ op_at block earlier
 
 -- why the block's outcome on this memory says nothing
-abbrev pub IsVoid : List Op → List ℤ → Void → Type 0
-IsVoid block memory (Faults op) = FaultsAt block memory op
-IsVoid block memory ShowsNothing = (outcome block memory ≢ Fault) × (shows_something block ≡ false)
+abbrev pub IsVoid : Bool → List Op → List ℤ → Void → Type 0
+IsVoid outputs block memory (Faults op) = FaultsAt block memory op
+IsVoid outputs block memory ShowsNothing = (outcome block memory ≢ Fault) × (shows_something outputs block ≡ false)
 
--- the block's outcome on this memory says something: the block finishes, and has a store or an output
-pub record CanBeJudged (block : List Op) (memory : List ℤ) : Type 0 where
+-- What the block does on this memory says something: the block finishes, and has a store or an output, or an output where
+-- outputs alone are compared.
+pub record CanBeJudged (outputs : Bool) (block : List Op) (memory : List ℤ) : Type 0 where
   pub finishes : outcome block memory ≢ Fault
-  pub shows : shows_something block ≡ true
+  pub shows : shows_something outputs block ≡ true

@@ -66,20 +66,21 @@ fn is_bad_there(
     Ok(true)
 }
 
-/// Whether two runs end with the same outputs and memory, and do something at the same addresses but for known
-/// good ones. Of a block that is known to fault, too, the rows have to do all else alike.
+/// Whether two runs end with the same outputs and, where not outputs alone are compared, memory, and do something at the same
+/// addresses but for known good ones. Of a block that is known to fault, too, the rows have to do all else alike.
 pub(crate) fn agree(
     alloc: Global,
+    outputs_alone: bool,
     table: &Table,
     one: &Symbols,
     other: &Symbols,
 ) -> Result<bool, NoMemory>
     ensures { IfOk result (λ yes. yes ≡ true → (memory : List ℤ) (d : Meaning) →
-        IsMeaning memory table.now d → AreSame d one.now other.now) }
+        IsMeaning memory table.now d → AreSame outputs_alone d one.now other.now) }
 {
     Ok(
         one.outputs == other.outputs
-            && one.memory == other.memory
+            && (outputs_alone || one.memory == other.memory)
             && is_bad_there(alloc, table, &one.addresses, &other.addresses)?
             && is_bad_there(alloc, table, &other.addresses, &one.addresses)?,
     )

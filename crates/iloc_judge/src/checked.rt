@@ -26,7 +26,8 @@ use verdict_line::{push_verdict_line, push_verdict_row};
 pub struct Checked {
     /// Whether they are a schedule of the block by the book.
     pub is_lawful: bool,
-    /// Whether they are known to have the block's outcome on every memory of 16,384 words of 32 bits.
+    /// Whether they are known to have the block's outcome on every memory of 16,384 words of 32 bits or, where outputs alone
+    /// are compared, to fault where the block does and else to emit its words.
     pub is_same: bool,
     /// How many cycles they take.
     pub cycles: u64,
@@ -52,13 +53,13 @@ fn is_lawful(verdict: &Verdict) -> bool
     matches!(verdict, Verdict::Lawful)
 }
 
-/// Whether it is said that they have the block's outcome on every memory.
+/// Whether it is said that they do the same as the block on every memory.
 fn is_same(verdict: &Verdict) -> bool
     ensures { result ≡ is_same verdict.now }
 {
     matches!(
         verdict,
-        Verdict::Lawful | Verdict::Unlawful(_, Comparison::Same)
+        Verdict::Lawful | Verdict::Unlawful(_, Comparison::Same | Comparison::Prints)
     )
 }
 
@@ -85,7 +86,8 @@ fn push_entry(
 
 /// Judges what is proposed for a block, beside our schedule of it, and appends what is listed of it after the block's head:
 /// the verdict with the cycles of the rows, ours and the least, and the lines that tell where the rows go wrong, if they do.
-/// In a table it is a row, with the cycles that are claimed and no lines below.
+/// In a table it is a row, with the cycles that are claimed and no lines below. Rows are compared with the block by outcomes,
+/// or by outputs and faults alone.
 ///
 /// After a refusal a part of it may have been appended.
 ///
@@ -95,6 +97,7 @@ pub fn push_check(
     alloc: Global,
     text: &mut Vec<u8>,
     csv: bool,
+    outputs_alone: bool,
     block: &Block,
     ours: &Schedule,
     least: u64,
@@ -108,14 +111,23 @@ pub fn push_check(
     requires lawful { IsLawful latencies.now block.now.ops ours.now.ops ours.now.rows }
     requires least { least ≡ bound.least latencies.now block.now.ops }
     ensures { IfOk result (λ checked. (entry : List ℕ)
-        × IsCheck csv latencies.now memory.now block.now.ops ours.now proposal checked entry
+        × IsCheck csv outputs_alone latencies.now memory.now block.now.ops ours.now proposal checked entry
         × (text.new.items ≡ text.old.items ++ entry)) }
 {
     let ops = proposal.ops.as_slice();
     let rows = proposal.rows.as_slice();
     let their_ops = Vec::from_slice(alloc, ops)?;
     let their_rows = Vec::from_slice(alloc, rows)?;
-    let verdict = judge(alloc, block, ours, their_ops, their_rows, latencies, memory)?;
+    let verdict = judge(
+        alloc,
+        outputs_alone,
+        block,
+        ours,
+        their_ops,
+        their_rows,
+        latencies,
+        memory,
+    )?;
     let checked = Checked {
         is_lawful: is_lawful(&verdict),
         is_same: is_same(&verdict),

@@ -5,7 +5,7 @@ ghost use Rattle.iloc_timed.specs.Timed.{timed_outcome};
 ghost use Rattle.iloc_judge.specs.Comparison.{IsComparison};
 
 use crate::difference::Difference;
-use crate::judgement::clues;
+use crate::judgement::TwoRuns;
 use crate::refutation::probe::Probe;
 use crate::refutation::{Refutation, difference_on, refute};
 use crate::void::{Void, why_void};
@@ -21,20 +21,24 @@ pub enum Comparison {
     Void(Void),
     /// On every memory of 16,384 words of 32 bits the rows have the block's outcome.
     Same,
-    /// On the memory handed in they have it.
+    /// On every such memory they fault where the block does, and else emit its words. This is said where outputs alone are
+    /// compared.
+    Prints,
+    /// On the memory handed in they have the block's outcome or, where outputs alone are compared, show what the block shows.
     Agrees,
-    /// On the memory handed in their outcome differs from the block's, there.
+    /// On the memory handed in they don't, and differ from it there.
     Differs(Difference),
-    /// On the memory handed in they have it, but on this one, which is made up, their outcome differs from
-    /// the block's, there.
+    /// On the memory handed in they do, but on this one, which is made up, they don't, and differ from the block there.
     DiffersOn(Probe, Difference),
 }
 
-/// Compares what rows do with what their block does. Our schedule of the block, which has its outcome on every memory, is
+/// Compares what rows do with what their block does: by outcomes, or by outputs and faults alone. Our schedule of the block, which has its outcome on every memory, is
 /// what they are compared with. Where that doesn't show them the same, they are run on the memory handed in, and then on a
-/// few that are made up. That no difference was found doesn't mean that there is none: only `Comparison::Same` does.
+/// few that are made up. That no difference was found doesn't mean that there is none: only `Comparison::Same` and
+/// `Comparison::Prints` do.
 pub(crate) fn compared(
     alloc: Global,
+    outputs_alone: bool,
     block: &Block,
     ours: &Schedule,
     theirs: &Schedule,
@@ -44,18 +48,31 @@ pub(crate) fn compared(
     requires { (words : List ℤ) → timed_outcome latencies.now ours.now.ops ours.now.rows words
         ≡ outcome block.now.ops words }
     ensures { IfOk result
-        (IsComparison latencies.now block.now.ops theirs.now.ops theirs.now.rows memory.now) }
+        (IsComparison outputs_alone latencies.now block.now.ops theirs.now.ops theirs.now.rows memory.now) }
 {
-    if let Some(why) = why_void(alloc, block, memory)? {
+    if let Some(why) = why_void(alloc, outputs_alone, block, memory)? {
         return Ok(Comparison::Void(why));
     }
-    let Some(clues) = clues(alloc, ours, theirs, latencies)? else {
+    let runs = TwoRuns::of(alloc, ours, theirs, latencies)?;
+    if runs.agree(alloc, false)? {
         return Ok(Comparison::Same);
-    };
-    if let Some(difference) = difference_on(alloc, block, theirs, latencies, memory.copy()?)? {
+    }
+    if outputs_alone && runs.agree(alloc, true)? {
+        return Ok(Comparison::Prints);
+    }
+    let handed_in = memory.copy()?;
+    if let Some(difference) = difference_on(
+        alloc,
+        outputs_alone,
+        block,
+        theirs,
+        latencies,
+        handed_in,
+    )? {
         return Ok(Comparison::Differs(difference));
     }
-    match refute(alloc, block, theirs, latencies, &clues)? {
+    let clues = runs.clues(alloc)?;
+    match refute(alloc, outputs_alone, block, theirs, latencies, &clues)? {
         Some(Refutation { probe, difference }) => Ok(Comparison::DiffersOn(probe, difference)),
         None => Ok(Comparison::Agrees),
     }

@@ -1,6 +1,6 @@
 //! Where two outcomes differ.
 ghost use Rattle.std.specs.Prelude.{ℕ, ◌≡◌, MatchOption};
-ghost use Rattle.iloc_judge.specs.Difference.{IsDifference};
+ghost use Rattle.iloc_judge.specs.Difference.{AreAlike, IsDifference};
 ghost use Rattle.iloc_judge.specs.Steps.Difference.{IsOutput, IsWord};
 
 use iloc_meaning::{Memory, Outcome};
@@ -66,9 +66,14 @@ fn lowest_word(got: &Memory, wanted: &Memory) -> Option<Difference>
     None
 }
 
-/// Where an outcome differs from the one that was wanted.
-pub(crate) fn first_difference(got: &Outcome, wanted: &Outcome) -> Option<Difference>
-    ensures { MatchOption result (got.now ≡ wanted.now) (IsDifference got.now wanted.now) }
+/// Where an outcome differs from the one that was wanted: in more than a word of memory, where outputs alone are compared.
+pub(crate) fn first_difference(
+    outputs_alone: bool,
+    got: &Outcome,
+    wanted: &Outcome,
+) -> Option<Difference>
+    ensures { MatchOption result (AreAlike outputs_alone got.now wanted.now)
+        (IsDifference outputs_alone got.now wanted.now) }
 {
     match (got, wanted) {
         (Outcome::Fault, Outcome::Fault) => None,
@@ -82,6 +87,7 @@ pub(crate) fn first_difference(got: &Outcome, wanted: &Outcome) -> Option<Differ
             },
         ) => match first_output(outputs.as_slice(), wanted_outputs.as_slice()) {
             Some(difference) => Some(difference),
+            None if outputs_alone => None,
             None => lowest_word(memory, wanted_memory),
         },
     }

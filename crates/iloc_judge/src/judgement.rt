@@ -1,8 +1,9 @@
 //! Whether two schedules do the same on every memory.
-ghost use Rattle.std.specs.Prelude.{◌≡◌, List, ℤ, IfOk, None};
-ghost use Rattle.iloc_timed.specs.Timed.{timed_outcome};
-ghost use Rattle.iloc_judge.specs.Memory.{IsMemory};
+ghost use Rattle.std.specs.Prelude.{◌≡◌, true, length, List, ℤ, IfOk};
+ghost use Rattle.iloc_timed.specs.Timed.{issued_before};
 ghost use Rattle.iloc_judge.specs.Steps.Agreement.{SeenSame};
+ghost use Rattle.iloc_judge.specs.Steps.Terms.{Meaning, IsMeaning};
+ghost use Rattle.iloc_judge.specs.Steps.Tracking.{Ends};
 
 use crate::agreement::agree;
 use crate::refutation::clues::Clues;
@@ -12,35 +13,50 @@ use iloc_ops::NoMemory;
 use iloc_timed::{Latencies, Schedule};
 use std::alloc::Global;
 
-/// Nothing where two ends agree, whatever their terms mean. Else what they mention.
-fn clues_of_ends(
-    alloc: Global,
-    table: &Table,
-    one: &Symbols,
-    other: &Symbols,
-) -> Result<Option<Clues>, NoMemory>
-    ensures { IfOk result (λ clues. clues ≡ None → SeenSame table.now one.now other.now) }
-{
-    if table.is_ordered() && agree(alloc, table, one, other)? {
-        return Ok(None);
-    }
-    Ok(Some(Clues::of(alloc, table, &one.addresses, &other.addresses)?))
+/// The ends of two runs in terms, with the table of these.
+#[derive(Drop)]
+pub(crate) struct TwoRuns {
+    table: Table,
+    one: Symbols,
+    other: Symbols,
 }
 
-/// Nothing where two schedules are seen to do the same: their timed outcomes are equal on every memory of
-/// 16,384 words of 32 bits. Else what their runs mention.
-pub(crate) fn clues(
-    alloc: Global,
-    ours: &Schedule,
-    theirs: &Schedule,
-    latencies: &Latencies,
-) -> Result<Option<Clues>, NoMemory>
-    ensures { IfOk result (λ clues. clues ≡ None → (memory : List ℤ) → IsMemory memory
-        → timed_outcome latencies.now ours.now.ops ours.now.rows memory
-        ≡ timed_outcome latencies.now theirs.now.ops theirs.now.rows memory) }
-{
-    let mut table = Table::new(alloc);
-    let one = Symbols::of(alloc, &mut table, ours, latencies)?;
-    let other = Symbols::of(alloc, &mut table, theirs, latencies)?;
-    clues_of_ends(alloc, &table, &one, &other)
+impl TwoRuns {
+    /// The runs of two schedules.
+    pub(crate) fn of(
+        alloc: Global,
+        ours: &Schedule,
+        theirs: &Schedule,
+        latencies: &Latencies,
+    ) -> Result<TwoRuns, NoMemory>
+        ensures { IfOk result (λ runs. (memory : List ℤ) (d : Meaning) → IsMeaning memory runs.table d
+            → Ends memory d (issued_before latencies.now memory ours.now.ops ours.now.rows (length ours.now.rows)) runs.one
+            × Ends memory d (issued_before latencies.now memory theirs.now.ops theirs.now.rows (length theirs.now.rows))
+            runs.other) }
+    {
+        let mut table = Table::new(alloc);
+        let one = Symbols::of(alloc, &mut table, ours, latencies)?;
+        let other = Symbols::of(alloc, &mut table, theirs, latencies)?;
+        Ok(TwoRuns { table, one, other })
+    }
+
+    /// Whether the two ends are seen to agree, whatever their terms mean: in all, or in outputs and faults alone.
+    pub(crate) fn agree(&self, alloc: Global, outputs_alone: bool) -> Result<bool, NoMemory>
+        ensures { IfOk result (λ yes. yes ≡ true → SeenSame outputs_alone self.now.table self.now.one self.now.other) }
+    {
+        Ok(
+            self.table.is_ordered()
+                && agree(alloc, outputs_alone, &self.table, &self.one, &self.other)?,
+        )
+    }
+
+    /// What the two runs mention.
+    pub(crate) fn clues(&self, alloc: Global) -> Result<Clues, NoMemory> {
+        Clues::of(
+            alloc,
+            &self.table,
+            &self.one.addresses,
+            &self.other.addresses,
+        )
+    }
 }

@@ -26,36 +26,38 @@ pub(crate) struct Refutation {
     pub(crate) difference: Difference,
 }
 
-/// Where a schedule's outcome on a memory differs from a block's.
+/// Where a schedule's outcome on a memory differs from a block's: in more than memory, where outputs alone are compared.
 pub(crate) fn difference_on(
     alloc: Global,
+    outputs_alone: bool,
     block: &Block,
     schedule: &Schedule,
     latencies: &Latencies,
     memory: Memory,
 ) -> Result<Option<Difference>, NoMemory>
     ensures { IfOk result (λ found. MatchOption found
-        (AgreesOn latencies.now block.now.ops schedule.now.ops schedule.now.rows memory)
-        (DiffersAt latencies.now block.now.ops schedule.now.ops schedule.now.rows memory)) }
+        (AgreesOn outputs_alone latencies.now block.now.ops schedule.now.ops schedule.now.rows memory)
+        (DiffersAt outputs_alone latencies.now block.now.ops schedule.now.ops schedule.now.rows memory)) }
 {
     let wanted = run_block(alloc, block, memory.copy()?)?;
     let got = run_schedule(alloc, schedule, latencies, memory)?;
-    Ok(first_difference(&got, &wanted))
+    Ok(first_difference(outputs_alone, &got, &wanted))
 }
 
 /// The difference between a schedule's outcome and a block's on a made-up memory.
 fn refutation_on(
     alloc: Global,
+    outputs_alone: bool,
     block: &Block,
     schedule: &Schedule,
     latencies: &Latencies,
     probe: Probe,
 ) -> Result<Option<Refutation>, NoMemory>
-    ensures { IfOk result (λ found. IfSome found (λ it. DiffersAt latencies.now block.now.ops
+    ensures { IfOk result (λ found. IfSome found (λ it. DiffersAt outputs_alone latencies.now block.now.ops
         schedule.now.ops schedule.now.rows (memory_of it.probe) it.difference)) }
 {
     let memory = Memory::with_words(alloc, probe.at, &probe.words)?;
-    match difference_on(alloc, block, schedule, latencies, memory)? {
+    match difference_on(alloc, outputs_alone, block, schedule, latencies, memory)? {
         Some(difference) => Ok(Some(Refutation { probe, difference })),
         None => Ok(None),
     }
@@ -64,18 +66,26 @@ fn refutation_on(
 /// Tries a few memories that are made up of what two runs mention, and shortens the first that shows a difference.
 pub(crate) fn refute(
     alloc: Global,
+    outputs_alone: bool,
     block: &Block,
     schedule: &Schedule,
     latencies: &Latencies,
     clues: &Clues,
 ) -> Result<Option<Refutation>, NoMemory>
-    ensures { IfOk result (λ found. IfSome found (λ it. DiffersAt latencies.now block.now.ops
+    ensures { IfOk result (λ found. IfSome found (λ it. DiffersAt outputs_alone latencies.now block.now.ops
         schedule.now.ops schedule.now.rows (memory_of it.probe) it.difference)) }
 {
     for pattern in Pattern::ALL {
         let probe = Probe::of(alloc, pattern, clues)?;
-        if let Some(found) = refutation_on(alloc, block, schedule, latencies, probe)? {
-            return Ok(Some(shortened(alloc, block, schedule, latencies, found)?));
+        if let Some(found) = refutation_on(
+            alloc,
+            outputs_alone,
+            block,
+            schedule,
+            latencies,
+            probe,
+        )? {
+            return Ok(Some(shortened(alloc, outputs_alone, block, schedule, latencies, found)?));
         }
     }
     Ok(None)

@@ -24,11 +24,13 @@ pub enum Verdict {
     Unlawful(Reason, Comparison),
 }
 
-/// Judges somebody's operations and rows for a block, each operation in a slot of its own, beside our schedule of the block.
+/// Judges somebody's operations and rows for a block, each operation in a slot of its own, beside our schedule of the block:
+/// by their outcomes, or by their outputs and faults alone.
 ///
 /// Promise: the verdict holds as it is stated, and rows that issue what our schedule issues are lawful.
 pub fn judge(
     alloc: Global,
+    outputs_alone: bool,
     block: &Block,
     ours: &Schedule,
     ops: Vec<Op>,
@@ -40,7 +42,7 @@ pub fn judge(
     requires in_range { AreInRange (length ops.items) rows.items }
     requires once { AreOnce (length ops.items) rows.items }
     requires lawful { IsLawful latencies.now block.now.ops ours.now.ops ours.now.rows }
-    ensures right { IfOk result (IsVerdict latencies.now block.now.ops ops.items rows.items memory.now) }
+    ensures right { IfOk result (IsVerdict outputs_alone latencies.now block.now.ops ops.items rows.items memory.now) }
     ensures own { IfOk result (λ verdict.
         IssueTheSame ours.now.ops ours.now.rows ops.items rows.items → verdict ≡ Verdict.Lawful) }
 {
@@ -56,7 +58,15 @@ pub fn judge(
     match validate(alloc, block, &theirs, latencies)? {
         Lawfulness::Lawful => Ok(Verdict::Lawful),
         Lawfulness::Unlawful(reason) => {
-            let found = compared(alloc, block, ours, &theirs, latencies, memory)?;
+            let found = compared(
+                alloc,
+                outputs_alone,
+                block,
+                ours,
+                &theirs,
+                latencies,
+                memory,
+            )?;
             Ok(Verdict::Unlawful(reason, found))
         }
     }

@@ -1,5 +1,5 @@
 //! Blocks whose outcome says nothing of rows.
-ghost use Rattle.std.specs.Prelude.{◌≡◌, ◌≢◌, ◌≤◌, ◌↔◌, true, length, take, IfOk, IsTrue, MatchOption};
+ghost use Rattle.std.specs.Prelude.{◌≡◌, ◌≢◌, ◌≤◌, ◌↔◌, true, false, length, take, IfOk, IsTrue, MatchOption};
 ghost use Rattle.iloc_meaning.specs.Outcome.{outcome, Runs};
 ghost use Rattle.iloc_meaning.specs.declared.outcome.Outcome.TheVariants.{Fault};
 ghost use Rattle.iloc_judge.specs.Void.{CanBeJudged, FaultsAt, IsVoid, shows_something};
@@ -14,7 +14,7 @@ use std::alloc::Global;
 pub enum Void {
     /// On the memory handed in it faults, at this operation.
     Faults(Op),
-    /// It has neither a store nor an output.
+    /// It has neither a store nor an output or, where outputs alone are compared, no output.
     ShowsNothing,
 }
 
@@ -60,9 +60,20 @@ fn fault(alloc: Global, block: &Block, memory: &Memory) -> Result<Option<Op>, No
     Ok(Some(block.ops.as_slice()[finishing]))
 }
 
+/// Whether a block has an output.
+fn has_output(block: &Block) -> bool
+    ensures { result ≡ shows_something true block.now.ops }
+{
+    block
+        .ops
+        .as_slice()
+        .iter()
+        .any(|op| matches!(Kind::of(op), Kind::Output))
+}
+
 /// Whether a block has a store or an output.
-fn shows_something(block: &Block) -> bool
-    ensures { result ≡ shows_something block.now.ops }
+fn has_store_or_output(block: &Block) -> bool
+    ensures { result ≡ shows_something false block.now.ops }
 {
     block
         .ops
@@ -71,19 +82,31 @@ fn shows_something(block: &Block) -> bool
         .any(|op| matches!(Kind::of(op), Kind::Store | Kind::Output))
 }
 
-/// Why a block's outcome on a memory says nothing of rows, if it doesn't.
+/// Whether a block has a store or an output, or an output where outputs alone are compared.
+fn shows_something(outputs_alone: bool, block: &Block) -> bool
+    ensures { result ≡ shows_something outputs_alone block.now.ops }
+{
+    if outputs_alone {
+        has_output(block)
+    } else {
+        has_store_or_output(block)
+    }
+}
+
+/// Why a block's outcome on a memory, or what it emits there, says nothing of rows, if it doesn't.
 pub(crate) fn why_void(
     alloc: Global,
+    outputs_alone: bool,
     block: &Block,
     memory: &Memory,
 ) -> Result<Option<Void>, NoMemory>
     ensures { IfOk result (λ why. MatchOption why
-        (CanBeJudged block.now.ops memory.now) (IsVoid block.now.ops memory.now)) }
+        (CanBeJudged outputs_alone block.now.ops memory.now) (IsVoid outputs_alone block.now.ops memory.now)) }
 {
     if let Some(op) = fault(alloc, block, memory)? {
         return Ok(Some(Void::Faults(op)));
     }
-    if !shows_something(block) {
+    if !shows_something(outputs_alone, block) {
         return Ok(Some(Void::ShowsNothing));
     }
     Ok(None)

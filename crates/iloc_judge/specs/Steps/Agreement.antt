@@ -25,14 +25,14 @@ abbrev pub BadThere : List Node → List ℕ → List ℕ → Type 0
 BadThere nodes these those =
     (memory : List ℤ) (d : Meaning) → IsMeaning memory nodes d → some_bad d these ≡ true → some_bad d those ≡ true
 
--- the same outputs and memory, and where one has a bad address the other has
-pub record AreSame (d : Meaning) (one other : Symbols) : Type 0 where
+-- the same outputs and, where not outputs alone are compared, memory; and where one has a bad address the other has
+pub record AreSame (alone : Bool) (d : Meaning) (one other : Symbols) : Type 0 where
   pub outputs : one.outputs.items ≡ other.outputs.items
-  pub memory : one.memory ≡ other.memory
+  pub memory : alone ≡ false → one.memory ≡ other.memory
   pub there : some_bad d one.addresses.items ≡ true → some_bad d other.addresses.items ≡ true
   pub back : some_bad d other.addresses.items ≡ true → some_bad d one.addresses.items ≡ true
 
 -- the terms are in order, and the ends agree, whatever they mean
-pub record SeenSame (nodes : List Node) (one other : Symbols) : Type 0 where
+pub record SeenSame (alone : Bool) (nodes : List Node) (one other : Symbols) : Type 0 where
   pub ordered : IsOrdered nodes
-  pub agreed : (memory : List ℤ) (d : Meaning) → IsMeaning memory nodes d → AreSame d one other
+  pub agreed : (memory : List ℤ) (d : Meaning) → IsMeaning memory nodes d → AreSame alone d one other

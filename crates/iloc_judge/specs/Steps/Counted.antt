@@ -21,6 +21,7 @@ IsCounted NoFault = Unit {0}
 abbrev pub CanBeCompared : Comparison → Type 0
 CanBeCompared (of.Void why) = Unit {0}
 CanBeCompared of.Same = Unit {0}
+CanBeCompared of.Prints = Unit {0}
 CanBeCompared of.Agrees = Unit {0}
 CanBeCompared (of.Differs difference) = IsCounted difference
 CanBeCompared (of.DiffersOn probe difference) = IsCounted difference

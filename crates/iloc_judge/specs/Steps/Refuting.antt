@@ -1,5 +1,5 @@
 -- A memory on which rows don't do what their block does.
-use Rattle.std.specs.Prelude.{List, ℤ}
+use Rattle.std.specs.Prelude.{Bool, List, ℤ}
 use Rattle.iloc_ops.specs.declared.op.Op.{Op}
 use Rattle.iloc_meaning.specs.Outcome.{outcome}
 use Rattle.iloc_timed.specs.declared.latencies.Latencies.{Latencies}
@@ -9,5 +9,6 @@ use Rattle.iloc_judge.specs.declared.difference.Difference.{Difference}
 use Rattle.iloc_judge.specs.Difference.{IsDifference}
 
 -- on this memory the rows' outcome differs from the block's, there
-abbrev pub DiffersAt : Latencies → List Op → List Op → List Row → List ℤ → Difference → Type 0
-DiffersAt lat block ops rows memory difference = IsDifference (timed_outcome lat ops rows memory) (outcome block memory) difference
+abbrev pub DiffersAt : Bool → Latencies → List Op → List Op → List Row → List ℤ → Difference → Type 0
+DiffersAt outputs lat block ops rows memory difference =
+    IsDifference outputs (timed_outcome lat ops rows memory) (outcome block memory) difference

@@ -101,7 +101,7 @@ fn push_comparison(text: &mut Vec<u8>, comparison: &Comparison) -> Result<(), No
 {
     match comparison {
         Comparison::Void(why) => push_void(text, why)?,
-        Comparison::Same | Comparison::Agrees => return Ok(()),
+        Comparison::Same | Comparison::Prints | Comparison::Agrees => return Ok(()),
         Comparison::Differs(difference) => push_difference(text, difference)?,
         Comparison::DiffersOn(probe, difference) => {
             push_difference(text, difference)?;

@@ -14,6 +14,7 @@ fn comparison_word(comparison: &Comparison) -> &'static str
     match comparison {
         Comparison::Void(_) => "void",
         Comparison::Same => "same",
+        Comparison::Prints => "prints",
         Comparison::Agrees => "agrees",
         Comparison::Differs(_) | Comparison::DiffersOn(_, _) => "differs",
     }

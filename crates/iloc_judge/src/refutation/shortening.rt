@@ -24,6 +24,7 @@ fn most_reruns(block: &Block, schedule: &Schedule) -> usize {
 /// many of their last bits alone.
 fn without_parts(
     alloc: Global,
+    outputs_alone: bool,
     block: &Block,
     schedule: &Schedule,
     latencies: &Latencies,
@@ -32,9 +33,9 @@ fn without_parts(
     reruns: &mut usize,
 ) -> Result<Refutation, NoMemory>
     requires few { bits < PLACE_BITS }
-    requires differs { DiffersAt latencies.now block.now.ops schedule.now.ops schedule.now.rows
+    requires differs { DiffersAt outputs_alone latencies.now block.now.ops schedule.now.ops schedule.now.rows
         (memory_of found.probe) found.difference }
-    ensures { IfOk result (λ it. DiffersAt latencies.now block.now.ops schedule.now.ops schedule.now.rows
+    ensures { IfOk result (λ it. DiffersAt outputs_alone latencies.now block.now.ops schedule.now.ops schedule.now.rows
         (memory_of it.probe) it.difference) }
 {
     let mut kept = found;
@@ -44,7 +45,14 @@ fn without_parts(
             continue;
         }
         *reruns -= 1;
-        if let Some(shorter) = refutation_on(alloc, block, schedule, latencies, probe)? {
+        if let Some(shorter) = refutation_on(
+            alloc,
+            outputs_alone,
+            block,
+            schedule,
+            latencies,
+            probe,
+        )? {
             kept = shorter;
         }
     }
@@ -57,23 +65,33 @@ fn without_parts(
 /// For each word that matters block and rows are run again some 12 times.
 pub(crate) fn shortened(
     alloc: Global,
+    outputs_alone: bool,
     block: &Block,
     schedule: &Schedule,
     latencies: &Latencies,
     found: Refutation,
 ) -> Result<Refutation, NoMemory>
-    requires { DiffersAt latencies.now block.now.ops schedule.now.ops schedule.now.rows
+    requires { DiffersAt outputs_alone latencies.now block.now.ops schedule.now.ops schedule.now.rows
         (memory_of found.probe) found.difference }
-    ensures { IfOk result (λ it. DiffersAt latencies.now block.now.ops schedule.now.ops schedule.now.rows
+    ensures { IfOk result (λ it. DiffersAt outputs_alone latencies.now block.now.ops schedule.now.ops schedule.now.rows
         (memory_of it.probe) it.difference) }
 {
     let mut kept = found;
     let mut reruns = most_reruns(block, schedule);
     for bits in (0..PLACE_BITS).rev() {
-        kept = without_parts(alloc, block, schedule, latencies, kept, bits, &mut reruns)?;
+        kept = without_parts(
+            alloc,
+            outputs_alone,
+            block,
+            schedule,
+            latencies,
+            kept,
+            bits,
+            &mut reruns,
+        )?;
     }
     let probe = kept.probe.trimmed(alloc)?;
-    match refutation_on(alloc, block, schedule, latencies, probe)? {
+    match refutation_on(alloc, outputs_alone, block, schedule, latencies, probe)? {
         Some(trimmed) => Ok(trimmed),
         None => Ok(kept),
     }

@@ -26,7 +26,7 @@ pub push_entry-requires : goal.push_entry-requires
 push_entry-requires c =
     let ops = c.in_ok-their_ops.ensures.items ∙ c.as_slice-ops.ensures in
     let rows = c.in_ok-their_rows.ensures.items ∙ c.as_slice-rows.ensures.rows in
-    verdict_listed c.args.latencies.now c.args.memory.now c.args.block.now.ops
+    verdict_listed c.args.outputs_alone c.args.latencies.now c.args.memory.now c.args.block.now.ops
     c.args.proposal.ops c.args.proposal.rows c.in_ok-verdict.verdict c.requires.few c.as_slice-rows.ensures.few
     (rw (ops, rows) at c.in_ok-verdict.ensures.right)
 
