@@ -11,7 +11,7 @@ _ilocfarm() {
     *,counts) words="--workers --load --store --mult --priority --csv --help" ;;
     *,compare) words="--workers --load --store --mult --csv --help" ;;
     *,explain) words="--load --store --mult --priority --task --either-slot --help" ;;
-    *,check) words="--at --load --store --mult --task --either-slot --lawful --csv --help" ;;
+    *,check) words="--at --load --store --mult --task --either-slot --lawful --outputs --csv --help" ;;
     *,graph) words="--load --store --mult --help" ;;
     *,lint) words="--help" ;;
     2,help) words="run simulate schedule counts compare explain check graph lint" ;;

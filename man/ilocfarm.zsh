@@ -65,6 +65,7 @@ check) shift words; (( CURRENT-- ))
         '--task[Read the blocks from FILE, and only rows from standard input]:FILE:_files' \
         '--either-slot[Exchange the operations of a row that can be issued only so]' \
         '--lawful[Pass nothing but rows that are a schedule by the book]' \
+        '--outputs[Compare emitted words and faults alone, and not memory]' \
         '--csv[Print a table of comma-separated values, a row for each block]' \
         '--help[Print help]' ;;
 graph) shift words; (( CURRENT-- ))

@@ -17,7 +17,7 @@ COMPLETIONS = (
     (["run", "--"], "--at --help"),
     (["counts", "--load", ""], ""),
     (["counts", "--load", "1", "--m"], "--mult"),
-    (["check", "--"], "--at --load --store --mult --task --either-slot --lawful --csv --help"),
+    (["check", "--"], "--at --load --store --mult --task --either-slot --lawful --outputs --csv --help"),
     (["help", "c"], "counts compare check"),
     (["run", "--at", "4", "1"], ""),
     (["run", "<", ""], ""),

@@ -32,6 +32,7 @@ pub record IsFit (rules : List Rule) : Type 0 where
   pub mult : TakesIn 1 LONGEST_LATENCY (codes "mult") rules
   pub csv : Takes vp.Bool (codes "csv") rules
   pub lawful : Takes vp.Bool (codes "lawful") rules
+  pub outputs : Takes vp.Bool (codes "outputs") rules
   pub either_slot : Takes vp.Bool (codes "either-slot") rules
 
 -- ---- the test
@@ -68,10 +69,13 @@ takes_latencies rules =
     takes_in 1 LONGEST_LATENCY (codes "load") rules
     && (takes_in 1 LONGEST_LATENCY (codes "store") rules && takes_in 1 LONGEST_LATENCY (codes "mult") rules)
 
+abbrev takes_last_flags : List Rule → Bool
+takes_last_flags rules = takes is_flag_parser (codes "outputs") rules && takes is_flag_parser (codes "either-slot") rules
+
 abbrev takes_flags : List Rule → Bool
 takes_flags rules =
     takes is_flag_parser (codes "csv") rules
-    && (takes is_flag_parser (codes "lawful") rules && takes is_flag_parser (codes "either-slot") rules)
+    && (takes is_flag_parser (codes "lawful") rules && takes_last_flags rules)
 
 abbrev takes_all : List Rule → Bool
 takes_all rules =
@@ -149,9 +153,10 @@ fits rules e =
     let store = and_parts (takes_in 1 LONGEST_LATENCY (codes "store") rules)
     (takes_in 1 LONGEST_LATENCY (codes "mult") rules) load.1 in
     let csv = and_parts (takes is_flag_parser (codes "csv") rules)
-    (takes is_flag_parser (codes "lawful") rules && takes is_flag_parser (codes "either-slot") rules) both.1 in
-    let flags = and_parts (takes is_flag_parser (codes "lawful") rules)
-    (takes is_flag_parser (codes "either-slot") rules) csv.1 in
+    (takes is_flag_parser (codes "lawful") rules && takes_last_flags rules) both.1 in
+    let lawful = and_parts (takes is_flag_parser (codes "lawful") rules) (takes_last_flags rules) csv.1 in
+    let flags = and_parts (takes is_flag_parser (codes "outputs") rules)
+    (takes is_flag_parser (codes "either-slot") rules) lawful.1 in
     let number : (low high : ℕ) (id : Text) → takes_in low high id rules ≡ true → TakesIn low high id rules =
     λ low high id. has_parser (is_number_parser low high) (vp.Signed (pos low) (pos high)) (number_parser low high) id
     rules in
@@ -166,6 +171,7 @@ fits rules e =
       store = number 1 LONGEST_LATENCY (codes "store") store.0;
       mult = number 1 LONGEST_LATENCY (codes "mult") store.1;
       csv = flag (codes "csv") csv.0;
-      lawful = flag (codes "lawful") flags.0;
+      lawful = flag (codes "lawful") lawful.0;
+      outputs = flag (codes "outputs") flags.0;
       either_slot = flag (codes "either-slot") flags.1;
     }

@@ -116,6 +116,7 @@ leaf_holds s words fit e =
       mult = number 1 LONGEST_LATENCY (codes "mult") fit.mult;
       csv = flag (codes "csv") fit.csv;
       lawful = flag (codes "lawful") fit.lawful;
+      outputs = flag (codes "outputs") fit.outputs;
       either_slot = flag (codes "either-slot") fit.either_slot;
     }
 

@@ -70,6 +70,10 @@ task_rule = text_rule (codes "task")
 abbrev pub lawful_rule : Rule
 lawful_rule = flag_rule (codes "lawful")
 
+-- `--outputs`
+abbrev pub outputs_rule : Rule
+outputs_rule = flag_rule (codes "outputs")
+
 -- `--either-slot`
 abbrev pub either_slot_rule : Rule
 either_slot_rule = flag_rule (codes "either-slot")
@@ -124,12 +128,13 @@ explain_entry = record {
   rules = latency_rules ++ priority_rule ∷ task_rule ∷ either_slot_rule ∷ [];
 }
 
--- `check [--at N] [WORD].. [--load N] [--store N] [--mult N] [--task FILE] [--either-slot] [--lawful] [--csv]`
+-- `check [--at N] [WORD].. [--load N] [--store N] [--mult N] [--task FILE] [--either-slot] [--lawful] [--outputs] [--csv]`
 abbrev pub check_entry : Entry
 check_entry = record {
   name = codes "check";
   task = Check;
-  rules = at_rule ∷ words_rule ∷ (latency_rules ++ task_rule ∷ either_slot_rule ∷ lawful_rule ∷ csv_rule ∷ []);
+  rules = at_rule ∷ words_rule
+      ∷ (latency_rules ++ task_rule ∷ either_slot_rule ∷ lawful_rule ∷ outputs_rule ∷ csv_rule ∷ []);
 }
 
 -- `graph [--load N] [--store N] [--mult N]`

@@ -4,7 +4,7 @@ ghost use Rattle.clap.specs.Simple.{new_shape};
 ghost use Rattle.clap.specs.Words.{AddsSubcommand};
 ghost use Rattle.iloc_args.specs.Command.{at_rule, check_entry, compare_entry, counts_entry, csv_rule, either_slot_rule, explain_entry};
 ghost use Rattle.iloc_args.specs.Command.{farm_app, flag_rule, latency_rule, latency_rules, lawful_rule};
-ghost use Rattle.iloc_args.specs.Command.{priority_rule, run_entry, schedule_entry, simulate_entry};
+ghost use Rattle.iloc_args.specs.Command.{outputs_rule, priority_rule, run_entry, schedule_entry, simulate_entry};
 ghost use Rattle.iloc_args.specs.Command.{graph_entry, lint_entry};
 ghost use Rattle.iloc_args.specs.Command.{task_rule, text_rule, top_shape, words_rule, workers_rule};
 ghost use Rattle.iloc_args.specs.Steps.Building.{AddsArgument, AddsRules, HasApp, HasRule, alone, app};
@@ -213,6 +213,17 @@ fn lawful_arg<'a>(alloc: Global) -> Arg<'a>
     )
 }
 
+/// `--outputs`
+fn outputs_arg<'a>(alloc: Global) -> Arg<'a>
+    ensures { HasRule outputs_rule result }
+{
+    flag_arg(
+        alloc,
+        "outputs",
+        "Compare emitted words and faults alone, and not memory",
+    )
+}
+
 /// `--either-slot`
 fn either_slot_arg<'a>(alloc: Global) -> Arg<'a>
     ensures { HasRule either_slot_rule result }
@@ -342,7 +353,7 @@ fn explain_command<'a>(alloc: Global) -> Result<Command<'a>, AllocError>
     with_arg(command, either_slot_arg(alloc))
 }
 
-/// `check [--at N] [WORD]... [--load N] [--store N] [--mult N] [--task FILE] [--either-slot] [--lawful] [--csv]`
+/// `check [--at N] [WORD]... [--load N] [--store N] [--mult N] [--task FILE] [--either-slot] [--lawful] [--outputs] [--csv]`
 fn check_command<'a>(alloc: Global) -> Result<Command<'a>, AllocError>
     ensures { IfOk result (HasApp (app check_entry)) }
 {
@@ -352,6 +363,7 @@ fn check_command<'a>(alloc: Global) -> Result<Command<'a>, AllocError>
     let command = with_arg(command, task_arg(alloc));
     let command = with_arg(command, either_slot_arg(alloc));
     let command = with_arg(command, lawful_arg(alloc));
+    let command = with_arg(command, outputs_arg(alloc));
     with_arg(command, csv_arg(alloc))
 }
 

@@ -39,4 +39,5 @@ pub record HoldValues (rows : List Row) : Type 0 where
   pub mult : HoldsIn 1 LONGEST_LATENCY (codes "mult") rows
   pub csv : HoldsFlag (codes "csv") rows
   pub lawful : HoldsFlag (codes "lawful") rows
+  pub outputs : HoldsFlag (codes "outputs") rows
   pub either_slot : HoldsFlag (codes "either-slot") rows

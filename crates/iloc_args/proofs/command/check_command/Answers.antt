@@ -11,4 +11,6 @@ returns c =
     c.either_slot_arg.ensures c.with_arg-command-2.ensures in
     let lawful = if_one_argument _ _ c.with_arg-command-2.result c.with_arg-command-3.result _ either
     c.lawful_arg.ensures c.with_arg-command-3.ensures in
-    if_one_argument _ _ c.with_arg-command-3.result c.with_arg.result _ lawful c.csv_arg.ensures c.with_arg.ensures
+    let outputs = if_one_argument _ _ c.with_arg-command-3.result c.with_arg-command-4.result _ lawful
+    c.outputs_arg.ensures c.with_arg-command-4.ensures in
+    if_one_argument _ _ c.with_arg-command-4.result c.with_arg.result _ outputs c.csv_arg.ensures c.with_arg.ensures
