@@ -36,10 +36,10 @@ use Rattle.iloc_farm.proofs.Schedules.{cycles_few, cycles_within, greedy_all_sam
 -- What is found of one proposal
 
 -- its numbers are small
-pub small_check : (csv : Bool) (lat : Latencies) (memory : List ℤ) (block : List Op) (s : Table) (p : Proposal) (c : Checked)
-    (entry : List ℕ) → IsCheck csv lat memory block s p c entry → IsGreedy lat block s.ops s.rows → length block ≤ MAX_OPS
+pub small_check : (csv outputs : Bool) (lat : Latencies) (memory : List ℤ) (block : List Op) (s : Table) (p : Proposal) (c : Checked)
+    (entry : List ℕ) → IsCheck csv outputs lat memory block s p c entry → IsGreedy lat block s.ops s.rows → length block ≤ MAX_OPS
     → length p.rows ≤ MAX_ROWS → IsSmall c
-small_check csv lat memory block s p c entry check greedy short few =
+small_check csv outputs lat memory block s p c entry check greedy short few =
     let theirs : c.cycles ≡ cycles lat p.ops p.rows = ap (λ (x : Checked). x.cycles) check.is_found in
     let ours : c.ours ≡ cycles lat s.ops s.rows = ap (λ (x : Checked). x.ours) check.is_found in
     let most : c.least ≡ least lat block = ap (λ (x : Checked). x.least) check.is_found in
@@ -92,9 +92,9 @@ pub middle : {X : Type 0} (P : X → Type 0) (xs ys : List X) (x : X) → AllByR
 middle P [] ys x all = all.0
 middle P (z ∷ xs) ys x all = middle P xs ys x all.1
 
-module _ (lawful csv : Bool) (lat : Latencies) (memory : List ℤ) (blocks : List Block) (proposals : List Proposal) where
+module _ (lawful csv outputs : Bool) (lat : Latencies) (memory : List ℤ) (blocks : List Block) (proposals : List Proposal) where
   module _ (left rest : List Proposal) (p : Proposal) (text : List ℕ) (totals : Totals) (next : left ≡ p ∷ rest)
-      (so_far : IsCheckedTo lawful csv lat memory blocks proposals left text totals) where
+      (so_far : IsCheckedTo lawful csv outputs lat memory blocks proposals left text totals) where
     -- the next proposal is one of all
     whole : map (λ j. j.proposal) so_far.judged ++ p ∷ rest ≡ proposals
     whole = ap (λ ps. map (λ (j : Judged). j.proposal) so_far.judged ++ ps) (sym next) ∙ so_far.of_proposals
@@ -121,9 +121,9 @@ module _ (lawful csv : Bool) (lat : Latencies) (memory : List ℤ) (blocks : Lis
     -- one block more
     pub one_checked : (b : Block) (s : Table) (c : Checked) (more entry : List ℕ) (sums : Totals)
         → totals.blocks < length blocks → b ≡ get_or blocks totals.blocks b
-        → IsGreedy lat b.ops s.ops s.rows → IsCheck csv lat memory b.ops s p c entry → IsSmall c
+        → IsGreedy lat b.ops s.ops s.rows → IsCheck csv outputs lat memory b.ops s p c entry → IsSmall c
         → more ≡ (text ++ head_as csv (totals.blocks + 1) b.name) ++ entry → sums ≡ with_checked lawful totals c
-        → IsCheckedTo lawful csv lat memory blocks proposals rest more sums
+        → IsCheckedTo lawful csv outputs lat memory blocks proposals rest more sums
     one_checked b s c more entry sums within read greedy check small pushed added =
         let js : List Judged = so_far.judged in
         let j : Judged = record { block = b; ours = s; proposal = p; checked = c; text = entry } in
@@ -151,7 +151,7 @@ module _ (lawful csv : Bool) (lat : Latencies) (memory : List ℤ) (blocks : Lis
               let P : List Block → List Table → Type 0 = λ bs ss. AreGreedy lat bs ss in
               rw (front, map-append (λ (x : Judged). x.ours) js (j ∷ []))
               (greedy_more lat (take (length js) blocks) (map (λ (x : Judged). x.ours) js) b s so_far.greedy greedy);
-          right = All-push (IsJudged csv lat memory) js j so_far.right check;
+          right = All-push (IsJudged csv outputs lat memory) js j so_far.right check;
           listed = pushed ∙ (append_assoc text (head_as csv (totals.blocks + 1) b.name) entry
               ∙ (ap₂ (λ xs n. xs ++ (head_as csv n b.name ++ entry)) so_far.listed
               (let same : totals.blocks + 1 ≡ 1 + length js = omega arith in same)
@@ -163,7 +163,7 @@ module _ (lawful csv : Bool) (lat : Latencies) (memory : List ℤ) (blocks : Lis
   -- no block yet
   pub none_checked : (left : List Proposal) (text : List ℕ) (totals : Totals) → left ≡ proposals
       → text ≡ opening_as csv check_header
-      → totals ≡ totals_of lawful [] → IsCheckedTo lawful csv lat memory blocks proposals left text totals
+      → totals ≡ totals_of lawful [] → IsCheckedTo lawful csv outputs lat memory blocks proposals left text totals
   none_checked left text totals all empty none = record {
     judged = [];
     sums = none;
@@ -175,15 +175,15 @@ module _ (lawful csv : Bool) (lat : Latencies) (memory : List ℤ) (blocks : Lis
     of_blocks = refl;
     of_proposals = all;
     greedy = tt;
-    right = All-nil (IsJudged csv lat memory);
+    right = All-nil (IsJudged csv outputs lat memory);
     listed = empty ∙ sym (append-nil (opening_as csv check_header));
   }
 
   -- all blocks, and the line with what was found of all
   pub all_checked : (left : List Proposal) (text more : List ℕ) (totals : Totals) → length left ≡ 0
-      → length proposals ≡ length blocks → IsCheckedTo lawful csv lat memory blocks proposals left text totals
+      → length proposals ≡ length blocks → IsCheckedTo lawful csv outputs lat memory blocks proposals left text totals
       → more ≡ text ++ totals_text csv totals
-      → ListsChecked lawful csv lat memory blocks proposals (finding_of totals.all_pass) more
+      → ListsChecked lawful csv outputs lat memory blocks proposals (finding_of totals.all_pass) more
   all_checked (p ∷ left) text more totals none as_many so_far pushed = absurd (omega arith)
   all_checked [] text more totals none as_many so_far pushed =
       let js : List Judged = so_far.judged in
@@ -220,38 +220,38 @@ rest_passes true b is = is
 rest_passes false b is = absurd (cc)
 
 -- what holds of whatever passes
-abbrev HoldsOfPassed : Bool → Bool → Latencies → List ℤ → (Block → Proposal → Type 0) → Type 0
-HoldsOfPassed lawful csv lat memory P = (j : Judged) → IsJudged csv lat memory j → passes lawful j.checked ≡ true
+abbrev HoldsOfPassed : (lawful csv outputs : Bool) → Latencies → List ℤ → (Block → Proposal → Type 0) → Type 0
+HoldsOfPassed lawful csv outputs lat memory P = (j : Judged) → IsJudged csv outputs lat memory j → passes lawful j.checked ≡ true
     → P j.block j.proposal
 
-of_each : (lawful csv : Bool) (lat : Latencies) (memory : List ℤ) (P : Block → Proposal → Type 0)
-    → HoldsOfPassed lawful csv lat memory P → (js : List Judged) → list_all (λ j. passes lawful j.checked) js ≡ true
-    → All (IsJudged csv lat memory) js → AllZip P (map (λ j. j.block) js) (map (λ j. j.proposal) js)
-of_each lawful csv lat memory P holds [] pass right = tt
-of_each lawful csv lat memory P holds (j ∷ js) pass right = (
-  holds j (All-head (IsJudged csv lat memory) j js right)
+of_each : (lawful csv outputs : Bool) (lat : Latencies) (memory : List ℤ) (P : Block → Proposal → Type 0)
+    → HoldsOfPassed lawful csv outputs lat memory P → (js : List Judged) → list_all (λ j. passes lawful j.checked) js ≡ true
+    → All (IsJudged csv outputs lat memory) js → AllZip P (map (λ j. j.block) js) (map (λ j. j.proposal) js)
+of_each lawful csv outputs lat memory P holds [] pass right = tt
+of_each lawful csv outputs lat memory P holds (j ∷ js) pass right = (
+  holds j (All-head (IsJudged csv outputs lat memory) j js right)
       (first_passes (passes lawful j.checked) (list_all (λ (x : Judged). passes lawful x.checked) js) pass),
-  of_each lawful csv lat memory P holds js
+  of_each lawful csv outputs lat memory P holds js
       (rest_passes (passes lawful j.checked) (list_all (λ (x : Judged). passes lawful x.checked) js) pass)
-      (All-tail (IsJudged csv lat memory) j js right),
+      (All-tail (IsJudged csv outputs lat memory) j js right),
 )
 
-of_passed : (lawful csv : Bool) (lat : Latencies) (memory : List ℤ) (P : Block → Proposal → Type 0)
-    → HoldsOfPassed lawful csv lat memory P → (blocks : List Block) (proposals : List Proposal) (text : List ℕ)
-    → ListsChecked lawful csv lat memory blocks proposals Passed text → AllZip P blocks proposals
-of_passed lawful csv lat memory P holds blocks proposals text lists =
+of_passed : (lawful csv outputs : Bool) (lat : Latencies) (memory : List ℤ) (P : Block → Proposal → Type 0)
+    → HoldsOfPassed lawful csv outputs lat memory P → (blocks : List Block) (proposals : List Proposal) (text : List ℕ)
+    → ListsChecked lawful csv outputs lat memory blocks proposals Passed text → AllZip P blocks proposals
+of_passed lawful csv outputs lat memory P holds blocks proposals text lists =
     let Q : List Block → Type 0 = λ bs. AllZip P bs proposals in
     let R : List Proposal → Type 0 = λ ps. AllZip P (map (λ (j : Judged). j.block) lists.judged) ps in
-    subst Q lists.of_blocks (subst R lists.of_proposals (of_each lawful csv lat memory P holds lists.judged
+    subst Q lists.of_blocks (subst R lists.of_proposals (of_each lawful csv outputs lat memory P holds lists.judged
     (all_pass (list_all (λ (j : Judged). passes lawful j.checked) lists.judged) lists.found) lists.right))
 
 pub passed_keep_outcomes : PassedChecksKeepOutcomes
-passed_keep_outcomes lawful csv lat memory = of_passed lawful csv lat memory
-    (λ b p. DoTheSame lat b.ops p.ops p.rows)
-    (λ j right pass. same_rows_do_the_same csv lat memory j.block.ops j.ours j.proposal j.checked j.text right
-    (passed_is_same csv lat memory j.block.ops j.ours j.proposal j.checked j.text right lawful pass))
+passed_keep_outcomes lawful csv outputs lat memory = of_passed lawful csv outputs lat memory
+    (λ b p. DoTheSame outputs lat b.ops p.ops p.rows)
+    (λ j right pass. same_rows_do_the_same csv outputs lat memory j.block.ops j.ours j.proposal j.checked j.text right
+    (passed_is_same csv outputs lat memory j.block.ops j.ours j.proposal j.checked j.text right lawful pass))
 
 pub passed_may_pass : PassedChecksMayPass
-passed_may_pass lawful csv lat memory = of_passed lawful csv lat memory
-    (λ b p. MayPass lawful lat memory b.ops p.ops p.rows)
-    (λ j right pass. passed_rows_may_pass lawful csv lat memory j.block.ops j.ours j.proposal j.checked j.text right pass)
+passed_may_pass lawful csv outputs lat memory = of_passed lawful csv outputs lat memory
+    (λ b p. MayPass lawful outputs lat memory b.ops p.ops p.rows)
+    (λ j right pass. passed_rows_may_pass lawful csv outputs lat memory j.block.ops j.ours j.proposal j.checked j.text right pass)

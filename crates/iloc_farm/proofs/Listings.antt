@@ -34,17 +34,19 @@ checks_alike : (r q : Request) → AskAlike r q → (blocks : List Block) (propo
 checks_alike r q alike blocks proposals finding text checks =
     let theirs : List Proposal = placed r.either_slot proposals in
     let P : Latencies → Type 0 = λ lat.
-    ListsChecked r.lawful r.csv lat (initial_memory r) blocks theirs finding text in
+    ListsChecked r.lawful r.csv r.outputs lat (initial_memory r) blocks theirs finding text in
     let Q : List ℤ → Type 0 = λ memory.
-    ListsChecked r.lawful r.csv q.latencies memory blocks theirs finding text in
+    ListsChecked r.lawful r.csv r.outputs q.latencies memory blocks theirs finding text in
     let R : Bool → Type 0 = λ lawful.
-    ListsChecked lawful r.csv q.latencies (initial_memory q) blocks theirs finding text in
+    ListsChecked lawful r.csv r.outputs q.latencies (initial_memory q) blocks theirs finding text in
     let S : Bool → Type 0 = λ csv.
-    ListsChecked q.lawful csv q.latencies (initial_memory q) blocks theirs finding text in
+    ListsChecked q.lawful csv r.outputs q.latencies (initial_memory q) blocks theirs finding text in
+    let U : Bool → Type 0 = λ outputs.
+    ListsChecked q.lawful q.csv outputs q.latencies (initial_memory q) blocks theirs finding text in
     let T : Bool → Type 0 = λ either_slot.
-    ListsChecked q.lawful q.csv q.latencies (initial_memory q) blocks (placed either_slot proposals) finding text in
-    subst T alike.either_slot (subst S alike.csv
-    (subst R alike.lawful (subst Q (one_memory r q alike) (subst P alike.latencies checks))))
+    ListsChecked q.lawful q.csv q.outputs q.latencies (initial_memory q) blocks (placed either_slot proposals) finding text in
+    subst T alike.either_slot (subst U alike.outputs (subst S alike.csv
+    (subst R alike.lawful (subst Q (one_memory r q alike) (subst P alike.latencies checks)))))
 
 submission_alike : (r q : Request) → AskAlike r q → (input : List ℕ) (finding : Finding) (text : List ℕ)
     → ListsSubmission r input finding text → ListsSubmission q input finding text

@@ -135,12 +135,12 @@ listed_same held words read_old read_new finding text a listed passed asks check
     let judged : Judges held request read_old read_new finding text =
     judges held request read_old read_new finding text request.task request.task_file refl is refl listed.listed in
     let Q : Finding → Type 0 = λ f. Checks request judged.blocks judged.proposals f text in
-    let T : Bool → Type 0 = λ either_slot.
-    AllZip (λ (b : Block) (p : Proposal). DoTheSame request.latencies b.ops p.ops p.rows) judged.blocks
-    (placed either_slot judged.proposals) in
+    let T : Asked → Type 0 = λ x.
+    AllZip (λ (b : Block) (p : Proposal). DoTheSame x.outputs request.latencies b.ops p.ops p.rows) judged.blocks
+    (placed x.either_slot judged.proposals) in
     let R : Option (List ℕ) → Type 0 = λ file. ReadsRows held file read_old read_new judged.blocks judged.proposals in
     let S : Asked → Type 0 = λ x. AllZip (λ (b : Block) (p : Proposal).
-    MayPass x.lawful request.latencies (words_from x.at x.words) b.ops p.ops p.rows) judged.blocks
+    MayPass x.lawful x.outputs request.latencies (words_from x.at x.words) b.ops p.ops p.rows) judged.blocks
     (placed x.either_slot judged.proposals) in
     record {
       blocks = judged.blocks;
@@ -150,11 +150,11 @@ listed_same held words read_old read_new finding text a listed passed asks check
       load = ap (λ (x : Asked). x.load) same;
       store = ap (λ (x : Asked). x.store) same;
       mult = ap (λ (x : Asked). x.mult) same;
-      same = subst T (ap (λ (x : Asked). x.either_slot) same)
-          (passed_keep_outcomes request.lawful request.csv request.latencies (initial_memory request) judged.blocks
-          (placed request.either_slot judged.proposals) text (subst Q passed judged.checked));
-      told = subst S same (passed_may_pass request.lawful request.csv request.latencies (initial_memory request) judged.blocks
-          (placed request.either_slot judged.proposals) text (subst Q passed judged.checked));
+      same = subst T same
+          (passed_keep_outcomes request.lawful request.csv request.outputs request.latencies (initial_memory request)
+          judged.blocks (placed request.either_slot judged.proposals) text (subst Q passed judged.checked));
+      told = subst S same (passed_may_pass request.lawful request.csv request.outputs request.latencies
+          (initial_memory request) judged.blocks (placed request.either_slot judged.proposals) text (subst Q passed judged.checked));
     }
 
 pub status_0_means_the_same : Status0MeansTheSame

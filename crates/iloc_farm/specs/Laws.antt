@@ -36,6 +36,7 @@ pub record AskAlike (r q : Request) : Type 0 where
   pub csv : r.csv ≡ q.csv
   pub either_slot : r.either_slot ≡ q.either_slot
   pub lawful : r.lawful ≡ q.lawful
+  pub outputs : r.outputs ≡ q.outputs
 
 -- What such requests list of one file is one text. Where rows are read no file is listed: which of two right verdicts is given,
 -- and by which pairing rows are explained, is not settled, so of one input more than one text may be listed.
@@ -56,17 +57,17 @@ ChecksIgnoreWorkers = (r q : Request) → AskAlike r q → IsTrue (takes_rows r.
     → ListsFrom held q old new finding text
 
 -- where a check passed, the rows that are proposed for each block keep the rules of the units and have its outcome on
--- every memory
+-- every memory or, where outputs alone are compared, show what it shows
 abbrev pub PassedChecksKeepOutcomes : Type 0
-PassedChecksKeepOutcomes = (lawful csv : Bool) (lat : Latencies) (memory : List ℤ) (blocks : List Block)
-    (proposals : List Proposal) (text : List ℕ) → ListsChecked lawful csv lat memory blocks proposals Passed text
-    → AllZip (λ (b : Block) (p : Proposal). DoTheSame lat b.ops p.ops p.rows) blocks proposals
+PassedChecksKeepOutcomes = (lawful csv outputs : Bool) (lat : Latencies) (memory : List ℤ) (blocks : List Block)
+    (proposals : List Proposal) (text : List ℕ) → ListsChecked lawful csv outputs lat memory blocks proposals Passed text
+    → AllZip (λ (b : Block) (p : Proposal). DoTheSame outputs lat b.ops p.ops p.rows) blocks proposals
 
 -- and they pass only if they may
 abbrev pub PassedChecksMayPass : Type 0
-PassedChecksMayPass = (lawful csv : Bool) (lat : Latencies) (memory : List ℤ) (blocks : List Block)
-    (proposals : List Proposal) (text : List ℕ) → ListsChecked lawful csv lat memory blocks proposals Passed text
-    → AllZip (λ (b : Block) (p : Proposal). MayPass lawful lat memory b.ops p.ops p.rows) blocks proposals
+PassedChecksMayPass = (lawful csv outputs : Bool) (lat : Latencies) (memory : List ℤ) (blocks : List Block)
+    (proposals : List Proposal) (text : List ℕ) → ListsChecked lawful csv outputs lat memory blocks proposals Passed text
+    → AllZip (λ (b : Block) (p : Proposal). MayPass lawful outputs lat memory b.ops p.ops p.rows) blocks proposals
 
 -- one input was read, which denotes blocks and the rows that are proposed for them
 pub record ReadsSubmission (old new : Option (List ℕ)) (blocks : List Block) (proposals : List Proposal) : Type 0 where
@@ -80,8 +81,9 @@ ReadsRows held None old new blocks proposals = ReadsSubmission old new blocks pr
 ReadsRows held (Some name) old new blocks proposals = ReadsApart (held name) old new blocks proposals
 
 -- Blocks were read, and rows that are proposed for them. With the latencies that are asked for, and in either slot if that is
--- asked for, the rows for each block keep the rules of the units and have its outcome on every memory. They are by the book;
--- or, where that isn't asked for, the block finishes on the memory that is, and has a store or an output.
+-- asked for, the rows for each block keep the rules of the units and have its outcome on every memory or, where it is asked to
+-- compare outputs alone, show what it shows. They are by the book; or, where that isn't asked for, the block finishes on the
+-- memory that is, and has a store or an output, or an output where outputs alone are compared.
 pub record ReadsTheSame (held : Held) (asked : Asked) (old new : Option (List ℕ)) : Type 0 where
   pub blocks : List Block
   pub proposals : List Proposal
@@ -90,10 +92,10 @@ pub record ReadsTheSame (held : Held) (asked : Asked) (old new : Option (List �
   pub load : latencies.load ≡ asked.load
   pub store : latencies.store ≡ asked.store
   pub mult : latencies.mult ≡ asked.mult
-  pub same : AllZip (λ (b : Block) (p : Proposal). DoTheSame latencies b.ops p.ops p.rows) blocks
+  pub same : AllZip (λ (b : Block) (p : Proposal). DoTheSame asked.outputs latencies b.ops p.ops p.rows) blocks
       (placed asked.either_slot proposals)
   pub told : AllZip (λ (b : Block) (p : Proposal).
-      MayPass asked.lawful latencies (words_from asked.at asked.words) b.ops p.ops p.rows) blocks
+      MayPass asked.lawful asked.outputs latencies (words_from asked.at asked.words) b.ops p.ops p.rows) blocks
       (placed asked.either_slot proposals)
 
 -- so it is where the program ends with status 0 and its words ask for a check

@@ -62,7 +62,7 @@ pub record ListsFile (request : Request) (input text : List ℕ) : Type 0 where
 -- if it gives that.
 abbrev pub Checks : Request → List Block → List Proposal → Finding → List ℕ → Type 0
 Checks request blocks proposals finding text =
-    ListsChecked request.lawful request.csv request.latencies (initial_memory request) blocks
+    ListsChecked request.lawful request.csv request.outputs request.latencies (initial_memory request) blocks
     (placed request.either_slot proposals) finding text
 
 -- the text explains, with this finding, what is proposed for blocks, with leave for either slot if the request gives that

@@ -25,13 +25,13 @@ pub fn checks_ignore_workers()
 {}
 
 /// Where a check passed, the rows that are proposed for each block keep the rules of the units and have its outcome on
-/// every memory of 16,384 words of 32 bits.
+/// every memory of 16,384 words of 32 bits or, where outputs alone are compared, show what it shows.
 pub fn passed_checks_keep_outcomes()
     ensures { PassedChecksKeepOutcomes }
 {}
 
 /// Where a check passed, the rows that are proposed for each block are by the book; or, where that isn't asked for, the
-/// block finishes on the memory handed in, and has a store or an output.
+/// block finishes on the memory handed in, and has a store or an output, or an output where outputs alone are compared.
 pub fn passed_checks_may_pass()
     ensures { PassedChecksMayPass }
 {}

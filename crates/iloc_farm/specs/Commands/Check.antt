@@ -21,9 +21,9 @@ pub record Judged : Type 0 where
   pub checked : Checked
   pub text : List ℕ
 
--- what is said of the proposal, in a table or not, is right
-abbrev pub IsJudged : Bool → Latencies → List ℤ → Judged → Type 0
-IsJudged csv lat memory j = IsCheck csv lat memory j.block.ops j.ours j.proposal j.checked j.text
+-- what is said of the proposal, in a table or not, of outcomes or of outputs alone, is right
+abbrev pub IsJudged : (csv outputs : Bool) → Latencies → List ℤ → Judged → Type 0
+IsJudged csv outputs lat memory j = IsCheck csv outputs lat memory j.block.ops j.ours j.proposal j.checked j.text
 
 -- the head of each block and what is said of its proposal, numbered from k on
 abbrev pub judged_entries : Bool → ℕ → List Judged → List ℕ
@@ -46,15 +46,15 @@ abbrev pub check_ending : Bool → List Judged → List ℕ
 check_ending true js = []
 check_ending false js = totals_line js
 
--- The text says of each proposal, beside the greedy schedule of its block, what is right: in a table below its header, or else
--- with the totals at the end. They passed exactly where each does.
-pub record ListsChecked (lawful csv : Bool) (lat : Latencies) (memory : List ℤ) (blocks : List Block) (proposals : List Proposal)
-    (finding : Finding) (text : List ℕ) : Type 0 where
+-- The text says of each proposal, beside the greedy schedule of its block, what is right, of outcomes or of outputs alone: in a
+-- table below its header, or else with the totals at the end. They passed exactly where each does.
+pub record ListsChecked (lawful csv outputs : Bool) (lat : Latencies) (memory : List ℤ) (blocks : List Block)
+    (proposals : List Proposal) (finding : Finding) (text : List ℕ) : Type 0 where
   pub judged : List Judged
   pub of_blocks : map (λ j. j.block) judged ≡ blocks
   pub of_proposals : map (λ j. j.proposal) judged ≡ proposals
   pub greedy : AreGreedy lat blocks (map (λ j. j.ours) judged)
   pub only : AreTheOnlyGreedy lat blocks (map (λ j. j.ours) judged)
-  pub right : All (IsJudged csv lat memory) judged
+  pub right : All (IsJudged csv outputs lat memory) judged
   pub found : finding ≡ finding_of (list_all (λ j. passes lawful j.checked) judged)
   pub listed : text ≡ opening_as csv check_header ++ judged_entries csv 1 judged ++ check_ending csv judged

@@ -53,13 +53,13 @@ pub record AreFew (t : Totals) : Type 0 where
   pub least : t.least ≤ most_cycles * t.blocks
 
 -- the text has the entries of the first blocks, for which this was found, and these proposals are left
-pub record IsCheckedTo (lawful csv : Bool) (lat : Latencies) (memory : List ℤ) (blocks : List Block) (proposals left : List Proposal)
-    (text : List ℕ) (totals : Totals) : Type 0 where
+pub record IsCheckedTo (lawful csv outputs : Bool) (lat : Latencies) (memory : List ℤ) (blocks : List Block)
+    (proposals left : List Proposal) (text : List ℕ) (totals : Totals) : Type 0 where
   pub judged : List Judged
   pub sums : totals ≡ totals_of lawful judged
   pub few : AreFew totals
   pub of_blocks : map (λ j. j.block) judged ≡ take (length judged) blocks
   pub of_proposals : map (λ j. j.proposal) judged ++ left ≡ proposals
   pub greedy : AreGreedy lat (take (length judged) blocks) (map (λ j. j.ours) judged)
-  pub right : All (IsJudged csv lat memory) judged
+  pub right : All (IsJudged csv outputs lat memory) judged
   pub listed : text ≡ opening_as csv check_header ++ judged_entries csv 1 judged

@@ -60,11 +60,12 @@ fn checked_text(
     memory: &Memory,
 ) -> Result<CheckedText, NoMemory>
     requires { AreWithinLimits submission.blocks submission.proposals }
-    ensures { IfOk result (λ found. ListsChecked request.now.lawful request.now.csv request.now.latencies memory.now
-        submission.blocks submission.proposals found.finding found.text.items) }
+    ensures { IfOk result (λ found. ListsChecked request.now.lawful request.now.csv request.now.outputs
+        request.now.latencies memory.now submission.blocks submission.proposals found.finding found.text.items) }
 {
     let Submission { blocks, proposals } = submission;
     let csv = request.csv;
+    let outputs = request.outputs;
     let latencies = &request.latencies;
     let mut scheduler = Scheduler::new(alloc);
     let mut text = Vec::new(alloc);
@@ -76,7 +77,7 @@ fn checked_text(
         prove!(proposal.rows.as_slice().len() <= MAX_ROWS);
         push_head(&mut text, csv, totals.blocks + 1, block.name.as_ref())?;
         let checked = push_check(
-            alloc, &mut text, csv, block, &ours, least, proposal, latencies, memory,
+            alloc, &mut text, csv, outputs, block, &ours, least, proposal, latencies, memory,
         )?;
         scheduler.take_back(ours);
         totals.add(&checked, request.lawful);

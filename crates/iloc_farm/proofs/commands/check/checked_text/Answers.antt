@@ -11,7 +11,7 @@ use Rattle.iloc_farm.proofs.commands.check.checked_text.Goals as goal
 
 pub loop-proposal-init : goal.loop-proposal-init
 loop-proposal-init c =
-    none_checked c.args.request.now.lawful c.args.request.now.csv c.args.request.now.latencies c.args.memory.now c.args.submission.blocks c.args.submission.proposals _ _ _
+    none_checked c.args.request.now.lawful c.args.request.now.csv c.args.request.now.outputs c.args.request.now.latencies c.args.memory.now c.args.submission.blocks c.args.submission.proposals _ _ _
     (c.into_iter-proposal-iterator.ensures.into_iter_gives.0 ∙ c.into_vec-proposal-items.ensures)
     (c.in_ok-push_opening.ensures
     ∙ ap (λ xs. xs ++ opening_as c.args.request.now.csv check_header) c.new-text.ensures.items)
@@ -22,7 +22,7 @@ lend_with_least-requires c =
     let block = c.index-as_slice-totals.result in
     let read : block ≡ get_or c.args.submission.blocks c.loop-proposal.totals.blocks block =
     rw c.as_slice.ensures at c.index-as_slice-totals.is in
-    short_next c.args.request.now.lawful c.args.request.now.csv c.args.request.now.latencies c.args.memory.now c.args.submission.blocks c.args.submission.proposals
+    short_next c.args.request.now.lawful c.args.request.now.csv c.args.request.now.outputs c.args.request.now.latencies c.args.memory.now c.args.submission.blocks c.args.submission.proposals
     c.loop-proposal.proposal-iterator.rest.items c.next.new.self.rest.items c.in-Some.proposal c.loop-proposal.text.items
     c.loop-proposal.totals c.in-Some.ensures.steps.0 c.loop-proposal.invariant c.requires.as_many c.requires.short_blocks
     block read
@@ -32,21 +32,21 @@ push_check-requires-clause-few c =
     let block = c.index-as_slice-totals.result in
     let read : block ≡ get_or c.args.submission.blocks c.loop-proposal.totals.blocks block =
     rw c.as_slice.ensures at c.index-as_slice-totals.is in
-    short_next c.args.request.now.lawful c.args.request.now.csv c.args.request.now.latencies c.args.memory.now c.args.submission.blocks c.args.submission.proposals
+    short_next c.args.request.now.lawful c.args.request.now.csv c.args.request.now.outputs c.args.request.now.latencies c.args.memory.now c.args.submission.blocks c.args.submission.proposals
     c.loop-proposal.proposal-iterator.rest.items c.next.new.self.rest.items c.in-Some.proposal c.loop-proposal.text.items
     c.loop-proposal.totals c.in-Some.ensures.steps.0 c.loop-proposal.invariant c.requires.as_many c.requires.short_blocks
     block read
 
 pub push_check-requires-clause-in_range : goal.push_check-requires-clause-in_range
 push_check-requires-clause-in_range c =
-    holds_of_next c.args.request.now.lawful c.args.request.now.csv c.args.request.now.latencies c.args.memory.now c.args.submission.blocks c.args.submission.proposals
+    holds_of_next c.args.request.now.lawful c.args.request.now.csv c.args.request.now.outputs c.args.request.now.latencies c.args.memory.now c.args.submission.blocks c.args.submission.proposals
     c.loop-proposal.proposal-iterator.rest.items c.next.new.self.rest.items c.in-Some.proposal c.loop-proposal.text.items
     c.loop-proposal.totals c.in-Some.ensures.steps.0 c.loop-proposal.invariant
     (λ (p : Proposal). AreInRange (length p.ops) p.rows) c.requires.in_range
 
 pub push_check-requires-clause-once : goal.push_check-requires-clause-once
 push_check-requires-clause-once c =
-    holds_of_next c.args.request.now.lawful c.args.request.now.csv c.args.request.now.latencies c.args.memory.now c.args.submission.blocks c.args.submission.proposals
+    holds_of_next c.args.request.now.lawful c.args.request.now.csv c.args.request.now.outputs c.args.request.now.latencies c.args.memory.now c.args.submission.blocks c.args.submission.proposals
     c.loop-proposal.proposal-iterator.rest.items c.next.new.self.rest.items c.in-Some.proposal c.loop-proposal.text.items
     c.loop-proposal.totals c.in-Some.ensures.steps.0 c.loop-proposal.invariant
     (λ (p : Proposal). AreOnce (length p.ops) p.rows) c.requires.once
@@ -60,20 +60,20 @@ push_check-requires-clause-least c = c.in_ok-ours.ensures.least
 pub add-requires : goal.add-requires
 add-requires c =
     let within : c.loop-proposal.totals.blocks < length c.args.submission.blocks =
-    block_of_next c.args.request.now.lawful c.args.request.now.csv c.args.request.now.latencies c.args.memory.now c.args.submission.blocks c.args.submission.proposals
+    block_of_next c.args.request.now.lawful c.args.request.now.csv c.args.request.now.outputs c.args.request.now.latencies c.args.memory.now c.args.submission.blocks c.args.submission.proposals
     c.loop-proposal.proposal-iterator.rest.items c.next.new.self.rest.items c.in-Some.proposal c.loop-proposal.text.items
     c.loop-proposal.totals c.in-Some.ensures.steps.0 c.loop-proposal.invariant c.requires.as_many in
     let block = c.index-as_slice-totals.result in
     let read : block ≡ get_or c.args.submission.blocks c.loop-proposal.totals.blocks block =
     rw c.as_slice.ensures at c.index-as_slice-totals.is in
     let short : length block.ops ≤ MAX_OPS =
-    short_next c.args.request.now.lawful c.args.request.now.csv c.args.request.now.latencies c.args.memory.now c.args.submission.blocks c.args.submission.proposals
+    short_next c.args.request.now.lawful c.args.request.now.csv c.args.request.now.outputs c.args.request.now.latencies c.args.memory.now c.args.submission.blocks c.args.submission.proposals
     c.loop-proposal.proposal-iterator.rest.items c.next.new.self.rest.items c.in-Some.proposal c.loop-proposal.text.items
     c.loop-proposal.totals c.in-Some.ensures.steps.0 c.loop-proposal.invariant c.requires.as_many c.requires.short_blocks
     block read in
     let listed = c.in_ok-checked.ensures in
     let small : IsSmall c.in_ok-checked.checked =
-    small_check c.args.request.now.csv c.args.request.now.latencies c.args.memory.now block.ops c.in_ok-ours.ours c.in-Some.proposal
+    small_check c.args.request.now.csv c.args.request.now.outputs c.args.request.now.latencies c.args.memory.now block.ops c.in_ok-ours.ours c.in-Some.proposal
     c.in_ok-checked.checked listed.0 listed.1 c.in_ok-ours.ensures.schedule.greedy
     short
     c.as_slice-in-loop-proposal.ensures.few in
@@ -84,24 +84,24 @@ add-requires c =
 pub loop-proposal-preserved : goal.loop-proposal-preserved
 loop-proposal-preserved c =
     let within : c.loop-proposal.totals.blocks < length c.args.submission.blocks =
-    block_of_next c.args.request.now.lawful c.args.request.now.csv c.args.request.now.latencies c.args.memory.now c.args.submission.blocks c.args.submission.proposals
+    block_of_next c.args.request.now.lawful c.args.request.now.csv c.args.request.now.outputs c.args.request.now.latencies c.args.memory.now c.args.submission.blocks c.args.submission.proposals
     c.loop-proposal.proposal-iterator.rest.items c.next.new.self.rest.items c.in-Some.proposal c.loop-proposal.text.items
     c.loop-proposal.totals c.in-Some.ensures.steps.0 c.loop-proposal.invariant c.requires.as_many in
     let block = c.index-as_slice-totals.result in
     let read : block ≡ get_or c.args.submission.blocks c.loop-proposal.totals.blocks block =
     rw c.as_slice.ensures at c.index-as_slice-totals.is in
     let short : length block.ops ≤ MAX_OPS =
-    short_next c.args.request.now.lawful c.args.request.now.csv c.args.request.now.latencies c.args.memory.now c.args.submission.blocks c.args.submission.proposals
+    short_next c.args.request.now.lawful c.args.request.now.csv c.args.request.now.outputs c.args.request.now.latencies c.args.memory.now c.args.submission.blocks c.args.submission.proposals
     c.loop-proposal.proposal-iterator.rest.items c.next.new.self.rest.items c.in-Some.proposal c.loop-proposal.text.items
     c.loop-proposal.totals c.in-Some.ensures.steps.0 c.loop-proposal.invariant c.requires.as_many c.requires.short_blocks
     block read in
     let listed = c.in_ok-checked.ensures in
     let small : IsSmall c.in_ok-checked.checked =
-    small_check c.args.request.now.csv c.args.request.now.latencies c.args.memory.now block.ops c.in_ok-ours.ours c.in-Some.proposal
+    small_check c.args.request.now.csv c.args.request.now.outputs c.args.request.now.latencies c.args.memory.now block.ops c.in_ok-ours.ours c.in-Some.proposal
     c.in_ok-checked.checked listed.0 listed.1 c.in_ok-ours.ensures.schedule.greedy
     short
     c.as_slice-in-loop-proposal.ensures.few in
-    one_checked c.args.request.now.lawful c.args.request.now.csv c.args.request.now.latencies c.args.memory.now c.args.submission.blocks c.args.submission.proposals
+    one_checked c.args.request.now.lawful c.args.request.now.csv c.args.request.now.outputs c.args.request.now.latencies c.args.memory.now c.args.submission.blocks c.args.submission.proposals
     c.loop-proposal.proposal-iterator.rest.items c.next.new.self.rest.items c.in-Some.proposal c.loop-proposal.text.items
     c.loop-proposal.totals c.in-Some.ensures.steps.0 c.loop-proposal.invariant block c.in_ok-ours.ours
     c.in_ok-checked.checked c.push_check.new.text.items listed.0 c.add.new.self within read c.in_ok-ours.ensures.schedule.greedy
@@ -116,8 +116,8 @@ pub returns : goal.returns
 returns c =
     let rest = c.loop-proposal.proposal-iterator.rest in
     let none : length rest.items ≡ 0 = sym rest.ok.0 ∙ c.in-None.ensures.steps.0 in
-    let P : Finding → Type 0 = λ finding. ListsChecked c.args.request.now.lawful c.args.request.now.csv c.args.request.now.latencies c.args.memory.now c.args.submission.blocks
+    let P : Finding → Type 0 = λ finding. ListsChecked c.args.request.now.lawful c.args.request.now.csv c.args.request.now.outputs c.args.request.now.latencies c.args.memory.now c.args.submission.blocks
     c.args.submission.proposals finding c.push_line.new.text.items in
-    subst P (sym c.of.ensures) (all_checked c.args.request.now.lawful c.args.request.now.csv c.args.request.now.latencies c.args.memory.now c.args.submission.blocks
+    subst P (sym c.of.ensures) (all_checked c.args.request.now.lawful c.args.request.now.csv c.args.request.now.outputs c.args.request.now.latencies c.args.memory.now c.args.submission.blocks
     c.args.submission.proposals rest.items c.loop-proposal.text.items c.push_line.new.text.items c.loop-proposal.totals
     none c.requires.as_many c.loop-proposal.invariant c.in_ok-push_line.ensures)
