@@ -66,7 +66,7 @@ def cycles():
 
 def checked():
     """The table of `check` has what its listing says of each block, and each claim, right or wrong; the status is the same."""
-    for words in ((), ("--lawful",)):
+    for words in ((), ("--lawful",), ("--outputs",)):
         status, out, err = ending(["check", *words], JUDGED)
         found = [it.groups() for it in ENTRY.finditer(out)]
         if len({it[2] for it in found}) < 6 or status != NOT_SAME or err:

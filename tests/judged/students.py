@@ -265,6 +265,16 @@ def store_too_many(chance, given):
     return [*given.rows, [Op("storeAI", [chance.randrange(8), chance.randrange(90, 99), 1028]), None]]
 
 
+def scratch_store(chance, given):
+    """A result is kept in a word that is used nowhere else, while unit 0 is free."""
+    rows, taken = copied(given.rows), {n for op in given.ops for n in (*op.used, *op.defined)}
+    free = [cycle for cycle, row in enumerate(rows) if row[0] is None]
+    if not free:
+        return None
+    rows[chance.choice(free)][0] = Op("storeAI", [chance.choice(sorted(taken)), max(taken) + 1, 4 * WORDS - 4])
+    return rows
+
+
 def nothing_at_all(_, given):
     return []
 
@@ -295,4 +305,4 @@ def two_of_a_kind(kind):
 WRONG = (*map(latency_too_small, ("load", "store", "mult")), *map(early, ("output", "load", "store")),
          exchanged("outputs_exchanged", ("output",)), exchanged("accesses_exchanged", MEMORY), *(changing(*it) for it in CHANGES.items()),
          missing("operation_missing", lambda op: True), missing("store_missing", lambda op: op.kind in ("store", "output")),
-         row_too_few, output_too_many, store_too_many, nothing_at_all, wrong_unit, *map(two_of_a_kind, ("mult", "output")))
+         row_too_few, output_too_many, store_too_many, scratch_store, nothing_at_all, wrong_unit, *map(two_of_a_kind, ("mult", "output")))

@@ -116,6 +116,27 @@ VERDICTS = {
                       "add r1, r1 => r3\nloadI 4 => r1\nstore r3 => r1\n", "differs", "word 4: 0 for 8"),
 }
 
+# A block, somebody's operations, the verdict with `--outputs`, and what is listed below it.
+SHOWN = {
+    "scratch_store": (SQUARE, SQUARE.replace("output", "loadI 2000 => r9\nstore r2 => r9\noutput"), "prints"),
+    "spilled": (SQUARE, "loadI 4 => r1\nload r1 => r2\nloadI 2000 => r9\nstore r2 => r9\nload r9 => r3\n"
+                        "mult r3, r3 => r3\nstore r3 => r1\noutput 4\n", "prints"),
+    "word_that_nobody_prints": (SQUARE + "storeAI r3 => r1, 8\n", SQUARE, "prints"),
+    "last_store_missing": ("output 4\nloadI 4 => r1\nstoreAI r1 => r1, 4\n", "output 4\n", "prints"),
+    "store_after_the_output": (SQUARE, SQUARE + "loadI 0 => r4\nstore r3 => r4\n", "prints"),
+    # The same in all, memory too.
+    "known_product": (PRODUCT, "loadI 1024 => r0\nloadI 42 => r1\nstore r1 => r0\noutput 1024\n", "same"),
+    # Another word is in memory at the output, or an address is bad where the block's is good.
+    "store_missing": (SQUARE, SQUARE.replace("store r3 => r1\n", ""), "differs", "output 1: 9 for 81"),
+    "scratch_store_that_faults": (SQUARE, SQUARE + "storeAI r1 => r1, 1\n", "differs", "fault"),
+    "output_of_another_word": ("output 65532\n", "output 65528\n", "differs", "output 1: 0 for 2 with --at 65532 2"),
+    # A store that nobody reads can fault, where its address isn't known.
+    "fault_left_out": (LOADED + "store r1 => r2\noutput 8\n", "output 8\n", "differs", "no fault with --at 8 1"),
+    "word_put_back": ("loadI 4 => r1\nload r1 => r2\nstore r2 => r1\noutput 4\n", "output 4\n", "agrees"),
+    "store_alone": (LOADED + "store r1 => r1\n", "nop\n", "void", "the block shows nothing"),
+    "fault_last": ("output 8\noutput 1\n", "output 8\n", "void", "the block faults: output 1"),
+}
+
 # Texts, and what is listed of each block.
 LISTED = {
     "row_on_unit_0": ("output 4\n[ output 4 ; nop ]\n", "block 1 - lawful cycles 1 ours 1 least 1"),
@@ -248,14 +269,14 @@ def spread(text, apart=6, product_unit=1):
     return "".join(f"{row_text(it)}\n" for it in rows)
 
 
-def judged(name, text, verdict, *below):
+def judged(name, text, verdict, *below, outputs=False):
     """A case of one block with its rows, the verdict, and what is listed below it before why the rows aren't by the book."""
-    return Check(f"judged/{name}", wrongly_judged, text.encode("latin-1"), verdict, below)
+    return Check(f"judged/{name}", wrongly_judged, text.encode("latin-1"), verdict, below, outputs)
 
 
-def wrongly_judged(given, verdict, below):
-    entry, = entries_of(given, USUAL, words_from(4, [9]))
-    end = ending(WORDS, given)
+def wrongly_judged(given, verdict, below, outputs):
+    entry, = entries_of(given, USUAL, words_from(4, [9]), outputs)
+    end = ending([*WORDS, *["--outputs"] * outputs], given)
     lines = [it[2:] for it in end[1].decode().split("\n")[1:-2]]
     why = lines[len(below):]
     due = status_of([verdict]), (entry.text(verdict, *below, *why) + total([entry])).encode(), b""
@@ -295,6 +316,22 @@ def only_lawful():
             yield f"{given!r}: {told(got)} in place of {told(due)}"
 
 
+def outputs_alone():
+    """With `--outputs` each verdict is right of emitted words and faults, and with `--lawful` too the same is listed."""
+    for block, theirs, verdict, *_ in [*SAME.values(), *VERDICTS.values(), *SHOWN.values()]:
+        given = (block + spread(theirs)).encode()
+        entry, = entries_of(given, USUAL, words_from(4, [9]), outputs=True)
+        status, out, err = ending([*WORDS, "--outputs"], given)
+        got = ENTRY.match(out)
+        if not got or err or status != status_of([got[3].decode()]) or out[got.end():] != total([entry]).encode():
+            yield f"{given!r}: {told((status, out, err))}"
+            continue
+        yield from entry.wrong(got, is_right=verdict == "same" and not entry.void)
+        both, due = ending([*WORDS, "--outputs", "--lawful"], given), (status_of([got[3].decode()], lawful=True), out, err)
+        if both != due:
+            yield f"{given!r}: {told(both)} in place of {told(due)}"
+
+
 def refused(name, text, fault):
     return Run(f"judged/{name}", WORDS, text.encode("latin-1"), b"", f"ilocfarm: {fault}\n".encode(), 1)
 
@@ -305,6 +342,9 @@ def judged_cases():
     for name, (block, theirs) in UNLIKE.items():
         yield Check(f"judged/unlike_{name}", isnt_passed, block + spread(theirs))
     yield Check("judged/only_lawful", only_lawful)
+    for name, (block, theirs, *said) in SHOWN.items():
+        yield judged(f"outputs_{name}", block + spread(theirs), *said, outputs=True)
+    yield Check("judged/outputs_alone", outputs_alone)
     # Five cycles apart each result is there; four apart one is used a cycle too early.
     yield judged("five_apart", LOADS_AND_STORES + spread(LOADS_AND_STORES, 5), "lawful")
     yield judged("four_apart", LOADS_AND_STORES + spread(LOADS_AND_STORES, 4), "differs",

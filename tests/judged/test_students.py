@@ -142,9 +142,9 @@ def of_kind(kind):
     for seed in range(SEEDS if TESTED.is_short else ALL_SEEDS):
         name, latencies = [*EACH_LATENCIES.items()][seed % len(EACH_LATENCIES)]
         text = handed_in(seed, name, kind)
-        for words in ((), WORDS):
-            got = ending(request(latencies, words), text)
-            yield from wrong_ending(got, text, latencies, words, is_right=kind in RIGHT)
+        for words, outputs in (((), False), (WORDS, False), ((), True), (WORDS, True)):
+            got = ending(request(latencies, words, outputs), text)
+            yield from wrong_ending(got, text, latencies, words, kind in RIGHT, outputs)
 
 
 def judged_texts(texts):

@@ -2,8 +2,8 @@
 
 What is right is worked out anew: texts are read by reader.py, rows and blocks are run on machine.py, our cycles and
 the least ones come of scheduler.py, and what is by the book of book.py. So `lawful` has to be said exactly of rows by the
-book, `void` of blocks that fault or show nothing, a verdict may never be `same` where a run differs on some memory,
-`differs` has to name the place that differs, what is said of rows that aren't by the book has to be so under some pairing,
+book, `void` of blocks that fault or show nothing, a verdict may never be `same` or, with `--outputs`, `prints` where a run
+differs on some memory, `differs` has to name the place that differs, what is said of rows that aren't by the book has to be so under some pairing,
 and schedules of the kinds in students.py that are right have to be found so.
 """
 import re
@@ -21,15 +21,15 @@ AT = 1024
 # Each verdict that a run doesn't settle is tried on so many memories.
 MEMORIES = 24
 NOT_SAME = 5
-PASSING = {"lawful", "same"}
-ENTRY = re.compile(rb"block (\d+) (\S+) (lawful|same|agrees|differs|void|units) cycles (\d+) ours (\d+) least (\d+)"
+PASSING = {"lawful", "same", "prints"}
+ENTRY = re.compile(rb"block (\d+) (\S+) (lawful|same|prints|agrees|differs|void|units) cycles (\d+) ours (\d+) least (\d+)"
                    rb"(?: claimed (\d+))?\n((?:  [^\n]*\n)*)")
 MADE_UP = re.compile(r"(.*) with --at (\d+)((?: \d+)*)")
 
 
-def request(latencies, words=()):
+def request(latencies, words=(), outputs=False):
     """The words of a command line."""
-    return ["check", *words_for(latencies), *map(str, words)]
+    return ["check", *words_for(latencies), *["--outputs"] * outputs, *map(str, words)]
 
 
 def proposed(number, name, rows, claim=None):
@@ -45,28 +45,29 @@ def explained(lines, latencies):
     return ours.cycles(), ours.least()
 
 
-def why_void(ops, start):
-    """Why a block's outcome on a memory says nothing, or None."""
+def why_void(ops, start, outputs=False):
+    """Why a block's outcome on a memory, or what it emits there, says nothing, or None."""
     machine = Machine(start)
     for op in ops:
         try:
             machine.run([op])
         except Fault:
             return f"the block faults: {op}"
-    return None if any(op.kind in ("store", "output") for op in ops) else "the block shows nothing"
+    shown = ("output",) if outputs else ("store", "output")
+    return None if any(op.kind in shown for op in ops) else "the block shows nothing"
 
 
 class Entry:
-    """What is right of one entry of the listing."""
+    """What is right of one entry of the listing, with `--outputs` or without."""
 
-    def __init__(self, number, block, latencies, start):
-        self.number, self.block, self.latencies = number, block, latencies
+    def __init__(self, number, block, latencies, start, outputs=False):
+        self.number, self.block, self.latencies, self.outputs = number, block, latencies, outputs
         self.cycles = cycles(block.rows, latencies)
         self.ours, self.least = explained("\n".join(map(str, block.ops)), tuple(latencies.items()))
         self.bad = bad_row(block.rows)
         self.is_lawful = not self.bad and book.is_by_the_book(block.ops, block.rows, latencies)
-        self.void = why_void(block.ops, start)
-        self.place = None if self.bad else difference(block.ops, block.rows, latencies, start)
+        self.void = why_void(block.ops, start, outputs)
+        self.place = None if self.bad else self.differs_on(start, outputs)
 
     def numbers(self):
         claim = self.block.claim
@@ -85,8 +86,8 @@ class Entry:
             return "lawful", None
         return ("void", self.void) if self.void else ("differs", self.place) if self.place else None
 
-    def differs_on(self, start):
-        return difference(self.block.ops, self.block.rows, self.latencies, start)
+    def differs_on(self, start, outputs):
+        return difference(self.block.ops, self.block.rows, self.latencies, start, outputs)
 
     def wrong(self, got, is_right):
         """What is wrong with an entry, as a Match of ENTRY."""
@@ -113,27 +114,27 @@ class Entry:
         """What is wrong with a verdict that nothing settles."""
         if verdict == "differs":
             yield from self.wrong_memory(*first)
-        elif verdict not in ("same", "agrees") or is_right and verdict != "same":
+        elif verdict not in ["same", *["prints"] * self.outputs, "agrees"] or is_right and verdict != "same":
             yield f"block {self.number}: {verdict}"
-        elif verdict == "same":
-            places = filter(None, map(self.differs_on, memories(MEMORIES)))
-            yield from (f"block {self.number} isn't the same: {place}" for place in [next(places, None)] if place)
+        elif verdict != "agrees":
+            places = (self.differs_on(start, verdict == "prints") for start in memories(MEMORIES))
+            yield from (f"block {self.number} isn't {verdict}: {place}" for place in [next(filter(None, places), None)] if place)
 
     def wrong_memory(self, detail=""):
         """What is wrong with a difference on a memory that the judge made up."""
         made = MADE_UP.fullmatch(detail)
         at, words = (int(made[2]), [*map(int, made[3].split())]) if made else (0, [])
-        if not made or at % 4 or at // 4 + len(words) > WORDS or self.differs_on(words_from(at, words)) != made[1]:
+        if not made or at % 4 or at // 4 + len(words) > WORDS or self.differs_on(words_from(at, words), self.outputs) != made[1]:
             yield f"{detail!r} isn't so"
         elif words and not (words[0] and words[-1]):
             yield f"{detail!r} has a 0 at an end"
 
 
-def entries_of(given, latencies, start):
+def entries_of(given, latencies, start, outputs=False):
     blocks = read(given)
     if not blocks:
         raise NoBlocks("no blocks")
-    return [Entry(k, block, latencies, start) for k, block in enumerate(blocks, 1)]
+    return [Entry(k, block, latencies, start, outputs) for k, block in enumerate(blocks, 1)]
 
 
 def total(entries):
@@ -146,11 +147,11 @@ def status_of(verdicts, lawful=False):
     return 0 if set(verdicts) <= ({"lawful"} if lawful else PASSING) else NOT_SAME
 
 
-def wrong_ending(ending, given, latencies, words=(), is_right=False):
+def wrong_ending(ending, given, latencies, words=(), is_right=False, outputs=False):
     """What is wrong with how a run of `check` ended."""
     status, out, err = ending
     try:
-        entries = entries_of(given, latencies, words_from(AT, words))
+        entries = entries_of(given, latencies, words_from(AT, words), outputs)
     except Refused as why:
         if ending != (1, b"", f"ilocfarm: {why}\n".encode()):
             yield f"{told(ending)} in place of {why}"
