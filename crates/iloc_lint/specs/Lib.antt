@@ -4,3 +4,4 @@ pub mod Laws
 pub mod Listing
 pub mod Place
 pub mod Steps
+pub mod Row

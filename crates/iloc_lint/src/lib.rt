@@ -11,9 +11,11 @@ pub mod laws;
 mod listing;
 mod place;
 mod refused;
+mod row;
 mod shown;
 mod wording;
 
 pub use faults::{Linted, lint};
 pub use listing::{Report, report_of};
 pub use refused::Refused;
+pub use row::row_wording;

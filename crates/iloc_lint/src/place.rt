@@ -47,7 +47,7 @@ pub const OPCODES: [Opcode; 17] = [
 ];
 
 /// The parts after an opcode.
-fn parts_of(opcode: Opcode) -> &'static [Part]
+pub fn parts_of(opcode: Opcode) -> &'static [Part]
     ensures { result.now ≡ parts opcode }
 {
     match form_of(&op_of(opcode, &[])).1 {
@@ -178,7 +178,7 @@ fn sign_at(sign: &[u8], bytes: &[u8]) -> (usize, bool)
 }
 
 /// How many bytes at the front belong to the part, and whether they are all of it.
-fn part_at(part: Part, bytes: &[u8]) -> (usize, bool)
+pub fn part_at(part: Part, bytes: &[u8]) -> (usize, bool)
     ensures part { PartAt part bytes.now result.0 result.1 }
     ensures within { result.0 ≤ length bytes.now }
 {

@@ -23,7 +23,7 @@ pub const ABOVE_LIMIT: &[u8] = b"a number above 2147483647";
 const MOST_QUOTED: usize = 24;
 
 /// The opcode that is written so.
-fn opcode_of(word: &[u8]) -> Option<Opcode> {
+pub fn opcode_of(word: &[u8]) -> Option<Opcode> {
     OPCODES.iter().copied().find(|opcode| opcode.text() == word)
 }
 
