@@ -112,7 +112,8 @@ def judged_inputs():
     yield ("10,001 operations in rows", lambda: rows(free * 5000, load),
            refused_line(f"line 5002: more than {MOST_OPERATIONS} operations in a block"))
     yield "65,535 heads of one block", lambda: rows(b"block 1 A\n" * MOST_BLOCKS), refused_line("line 3: no such block")
-    yield "brackets", lambda: rows(b"[]\n", b"[" * (MOST_BYTES - 6)), refused_line("line 3: not understood")
+    yield "brackets", lambda: rows(b"[]\n", b"[" * (MOST_BYTES - 6)), (
+        b"block 1 A unread cycles 0 ours 0 least 0\n  row 2: expected an operation, found [\n")
     yield "a row without an end", lambda: b"A:\n[" + b" " * (MOST_BYTES - 4), refused_line("line 2: not understood")
     yield "a long number", lambda: b"A:\ncycles " + b"9" * (MOST_BYTES - 10), refused_line("line 2: number above 2147483647")
 

@@ -132,7 +132,13 @@ SHOWN = {
     "output_of_another_word": ("output 65532\n", "output 65528\n", "differs", "output 1: 0 for 2 with --at 65532 2"),
     # A store that nobody reads can fault, where its address isn't known.
     "fault_left_out": (LOADED + "store r1 => r2\noutput 8\n", "output 8\n", "differs", "no fault with --at 8 1"),
-    "word_put_back": ("loadI 4 => r1\nload r1 => r2\nstore r2 => r1\noutput 4\n", "output 4\n", "agrees"),
+    # A word is kept where a word of memory may say that another goes.
+    "spilled_under_a_pointer": (LOADED + "loadI 5 => r3\nstore r3 => r2\nstore r1 => r1\noutput 8\n",
+                                LOADED + "loadI 5 => r3\nloadI 2000 => r9\nstore r1 => r9\nstore r3 => r2\nload r9 => r4\n"
+                                "store r4 => r1\noutput 8\n", "differs", "output 1: 5 for 8 with --at 8 2000"),
+    # The word that is stored is there already, which isn't seen of the memory at the end.
+    "word_put_back": ("loadI 4 => r1\nload r1 => r2\nstore r2 => r1\noutput 4\n", "output 4\n", "prints"),
+    "sums_in_another_order": tuple(it + "output 4\n" for it in VERDICTS["sums_in_another_order"][:2]) + ("agrees",),
     "store_alone": (LOADED + "store r1 => r1\n", "nop\n", "void", "the block shows nothing"),
     "fault_last": ("output 8\noutput 1\n", "output 8\n", "void", "the block faults: output 1"),
 }
@@ -237,20 +243,65 @@ LISTED = {
 
 # Each is line 4, after a claim.
 NOT_UNDERSTOOD = """\
-[|[ nop ; nop|[ nop ; nop ; nop ]|[ nop nop ]|[ ; ; ]|[ nop|[ ;|[ A: nop ; nop ]|[ nop // ; nop ]|[ [ nop ] ]|[ A: ]|[ 5 ]
-[ nop ] ]|[ nop ] nop|[] []|[ nop , nop ]|[ r1 ]|[ load r1 ]|[//]|]|nop ]|; nop ]|[ mult r1, r2 => r3 add r1, r2 => r3 ]
-[ nop ; nop ] nop|[ nop ; nop ] [ nop ; nop ]|[ output 99999999999 ; add r1 r2 => r3 ]|A: [ nop ; nop ]|block|block 1
+]|nop ]|; nop ]|A: [ nop ; nop ]|block|block 1|( nop ; nop )|/ [ nop ; nop ]|\x00[ nop ; nop ]
 block1 a|block 1a|block a 1|block 1 --|block 1 9|block 1 a b|block -1 a|cycles|cycles5|cycles -5|cycles 5 5|total
-total: 5|Cycles 5|block 1 a cycles 5|[ jump r1 ; nop ]|[ nop ; add r1 => r2 ]|[ jump r1 ]|block a|block 1 1a|cycles nine
+total: 5|Cycles 5|block 1 a cycles 5|block a|block 1 1a|cycles nine
 output 0|nop|b:""".replace("\n", "|").split("|")
-# Each is line 2.
-TOO_LARGE = ["[ output 2147483648 ; nop ]", "[ output 2147483648 ]", "[ ; multI r1, 2147483648 => r1 ]", "[ nop ; loadI 1 => r2147483648 ]", "block 2147483648 b",
-             "block 99999999999999999999 a", "cycles 2147483648", "total 4294967296 // wide"]
+# Rows that can't be read, with what is wanted where each stops, and what is found there.
+UNREAD = {
+    "[": ("an operation", "end of line"),
+    "[ nop ; nop": ("]", "end of line"),
+    "[ nop ; nop ; nop ]": ("]", ";"),
+    "[ nop nop ]": ("; or ]", "nop"),
+    "[ ; ; ]": ("]", ";"),
+    "[ nop": ("; or ]", "end of line"),
+    "[ ;": ("an operation", "end of line"),
+    "[ A: nop ; nop ]": ("an operation", "A"),
+    "[ nop // ; nop ]": ("; or ]", "//"),
+    " \t[ [ nop ] ]": ("an operation", "["),
+    "[ 5 ]": ("an operation", "5"),
+    "[ nop ] ]": ("end of line", "]"),
+    "[ nop ] nop": ("end of line", "nop"),
+    "[] [] // two": ("end of line", "["),
+    "[ nop , nop ]": ("; or ]", ","),
+    "[ r1 ]": ("an operation", "r1"),
+    "[ load r1 ]": ("=>", "]"),
+    "[ load => r1 ]": ("a register", "=>"),
+    "[ load rA => r1 ]": ("a register", "rA"),
+    "[ loadI r1 => r2 ]": ("a number", "r1"),
+    "[ output ]": ("a number", "]"),
+    "[ output -4 ]": ("a number", "-"),
+    "[ loadI 4 -> r1 ]": ("=>", "-"),
+    "[ add r1 r2 => r3 ; nop ]": ("a comma", "r2"),
+    "[ loadAI r1, r12 => r3 ; nop ]": ("a number", "r12"),
+    "[ load 12 => r1 ]": ("a register", "12"),
+    "[//]": ("an operation", "//"),
+    "[\x00]": ("an operation", "?"),
+    "[ mult r1, r2 => r3 add r1, r2 => r3 ]": ("; or ]", "add"),
+    "[ add r1, r2 => r3 r3 ; nop ]": ("; or ]", "r3"),
+    "[ nop ; nop ] [ nop ; nop ]": ("end of line", "["),
+    "[ output 99999999999 ; add r1 r2 => r3 ]": ("a number up to 2147483647", "99999999999"),
+    "[ jump r1 ; nop ]": ("an operation", "jump"),
+    "[ nop ; addi r1, 2 => r2 ]": ("an operation", "addi"),
+    "[ nop ; add r1 => r2 ]": ("a comma", "=>"),
+    "[ a_word_of_21_letters_ ]": ("an operation", "a_word_of_21_letters"),
+}
+TOO_LARGE = ["block 2147483648 b", "block 99999999999999999999 a", "cycles 2147483648", "total 4294967296 // wide"]
+TOO_LARGE_ROWS = {"[ output 2147483648 ; nop ]": "2147483648", "[ output 2147483648 ]": "2147483648",
+                  "[ ; multI r1, 2147483648 => r1 ]": "2147483648", "[ nop ; loadI 1 => r2147483648 ]": "r2147483648"}
+# Each text is of two blocks, and the second is judged beside the first, of which a row can't be read.
+UNREAD_FIRST = "a: output 4\nb: output 4\nblock 1 a\n"
+THEN_LAWFUL = "block 2 b\n[ output 4 ]\n"
+UNREAD_ROWS = {
+    "alone": ("[ output 4", 1, 0), "first": ("[ output 4\n[ output 4 ]", 1, 2), "last": ("[ output 4 ]\n\n// 9\n[ output 4", 2, 1),
+    "two": ("[ nop ]\n[ output 4 ]\ntotal 3\n[ output 4\n[ output", 3, 2),
+    "breaks_the_units": ("[ output 4\n[ output 4 ; output 4 ]", 1, 2), "too_large": ("[ output 4 ]\n[ output 2147483648 ]", 2, 1),
+}
 # The last line of each is the third.
 NO_BLOCK = ["a:\nb:\n[ nop ; nop ]", "a:\nb:\ncycles 0", "a:\n[ nop ; nop ]\nblock 1 a", "a:\ncycles 0\nblock 1 a", "a:\nb:\nblock 0 a",
             "a:\nb:\nblock 3 c", "a:\nb:\nblock 1 b", "a:\nb:\nblock 1 -", "nop\nb:\nblock 1 a",
             "a:\nblock 1 a\nblock 1 a", "a:\nb:\nblock 2147483647 a", "a:\nb:\nblock 1 A", "a:\nb:\nblock 1 ab",
-            "a:\nb:\nblock 65535 a"]
+            "a:\nb:\nblock 65535 a", "a:\nb:\n[ output 2147483648 ]", "a:\n[ output 2147483648 ]\nblock 1 a"]
 BAD, LARGE, NONE = "not understood", "number above 2147483647", "no such block"
 NOTHING_TO_JUDGE = ["", "\n", "// none", "total 0\n", "// none\n\ntotal 7 // seven", "[ nop ; nop ]", "block 1 a\ncycles 0",
                     "\ncycles 0\n", "block 99999999999 a", "[ output 2147483648 ; nop ]", "[ nop ; nop ]\n[ nop ]"]
@@ -355,6 +406,7 @@ def judged_cases():
     yield Run("judged/our_rows_for_two_outputs", ["schedule"], b"output 0\noutput 4\n",
                b"block 1 -\n[ output 0 ; nop ]\n[ output 4 ; nop ]\ncycles 2\ntotal 2\n", b"", 0)
     yield from refusals()
+    yield from unread_rows()
     yield from at_the_limits()
 
 
@@ -367,6 +419,8 @@ def refusals():
         yield Run(f"judged/bad_start_{words[1]}", ["check", *words], b"a:", b"", b"ilocfarm: --at is not a multiple of 4\n", 2)
     for words in (["--workers", "2"], ["--load", "0"], ["--store", "17"], ["4294967296"]):
         yield Run(f"judged/refused_words_{'_'.join(words)}", ["check", *words], b"a:", b"", None, 2)
+    for line in UNREAD:
+        yield refused(f"unread_at_once: {line!r}", f"a: output 0\n{line}", f"line 2: {BAD}")
     for line in TOO_LARGE:
         yield refused(f"too_large: {line}", f"a:\n{line}", f"line 2: {LARGE}")
     for text in NO_BLOCK:
@@ -375,6 +429,31 @@ def refusals():
         yield refused(f"no_blocks: {text!r}", text, "no blocks")
     for text, line, fault in EARLIEST:
         yield refused(f"earliest: {text!r}", text, f"line {line}: {fault}")
+
+
+def unread(name, text, out, *words):
+    return Run(f"judged/unread/{name}", [*WORDS, *words], text.encode("latin-1"), out.encode(), b"", NOT_SAME)
+
+
+def unread_rows():
+    """A row that can't be read costs its block, and no other."""
+    for line, (wanted, found) in UNREAD.items():
+        yield unread(repr(line), f"a:\noutput 0\ncycles 1\n{line}",
+                     f"block 1 a unread cycles 0 ours 1 least 1 claimed 1\n  row 1: expected {wanted}, found {found}\n"
+                     "total 0 ours 1 least 1\n")
+    for line, found in TOO_LARGE_ROWS.items():
+        yield unread(repr(line), f"a:\n{line}", "block 1 a unread cycles 0 ours 0 least 0\n"
+                     f"  row 1: expected a number up to 2147483647, found {found}\ntotal 0 ours 0 least 0\n")
+    for name, (rows, row, cycles) in UNREAD_ROWS.items():
+        found = "2147483648" if "2147483648" in rows else "end of line"
+        wanted = "a number up to 2147483647" if "2147483648" in rows else "; or ]"
+        text = f"{UNREAD_FIRST}{rows}\n{THEN_LAWFUL}"
+        out = (f"block 1 a unread cycles {cycles} ours 1 least 1\n  row {row}: expected {wanted}, found {found}\n"
+               f"block 2 b lawful cycles 1 ours 1 least 1\ntotal {cycles + 1} ours 2 least 2\n")
+        for words in ([], ["--lawful"], ["--either-slot"]):
+            yield unread("_".join([name, *words]), text, out, *words)
+        yield unread(f"{name}_in_a_table", text, "block,name,verdict,cycles,ours,least,claimed\n"
+                     f"1,a,unread,{cycles},1,1,\n2,b,lawful,1,1,1,\n", "--csv")
 
 
 def at_the_limits():

@@ -1,9 +1,10 @@
 """What `check` must say of schedules that others made.
 
 What is right is worked out anew: texts are read by reader.py, rows and blocks are run on machine.py, our cycles and
-the least ones come of scheduler.py, and what is by the book of book.py. So `lawful` has to be said exactly of rows by the
-book, `void` of blocks that fault or show nothing, a verdict may never be `same` or, with `--outputs`, `prints` where a run
-differs on some memory, `differs` has to name the place that differs, what is said of rows that aren't by the book has to be so under some pairing,
+the least ones come of scheduler.py, and what is by the book of book.py. So `unread` has to be said exactly of blocks with a row
+that can't be read, with the number of the first one, `lawful` has to be said exactly of rows by the book, `void` of blocks that
+fault or show nothing, a verdict may never be `same` or, with `--outputs`, `prints` where a run differs on some memory,
+`differs` has to name the place that differs, what is said of rows that aren't by the book has to be so under some pairing,
 and schedules of the kinds in students.py that are right have to be found so.
 """
 import re
@@ -22,7 +23,7 @@ AT = 1024
 MEMORIES = 24
 NOT_SAME = 5
 PASSING = {"lawful", "same", "prints"}
-ENTRY = re.compile(rb"block (\d+) (\S+) (lawful|same|prints|agrees|differs|void|units) cycles (\d+) ours (\d+) least (\d+)"
+ENTRY = re.compile(rb"block (\d+) (\S+) (lawful|same|prints|agrees|differs|void|units|unread) cycles (\d+) ours (\d+) least (\d+)"
                    rb"(?: claimed (\d+))?\n((?:  [^\n]*\n)*)")
 MADE_UP = re.compile(r"(.*) with --at (\d+)((?: \d+)*)")
 
@@ -94,6 +95,9 @@ class Entry:
         verdict, below = got[3].decode(), [line[2:] for line in got[8].decode().splitlines()]
         if got[0].decode() != self.text(verdict, *below):
             yield f"{got[0]!r} in place of {self.text('..')!r}"
+        if self.block.unread or verdict == "unread":
+            yield from self.wrong_row(got, verdict, below)
+            return
         due, line = self.settled() or (None, None)
         first = [below.pop(0)] if below and (line or not due and verdict == "differs") else []
         if due and (verdict, first) != (due, [line] if line else []):
@@ -102,6 +106,12 @@ class Entry:
             yield from self.wrong_verdict(verdict, first, is_right)
         if not self.says_why(below):
             yield f"{got[0]!r} doesn't say why the rows aren't by the book"
+
+    def wrong_row(self, got, verdict, below):
+        """What is wrong with an entry of rows of which one can't be read, or that says that one can't."""
+        told = len(below) == 1 and re.fullmatch(r"row (\d+): expected [^,]+, found .+", below[0])
+        if verdict != "unread" or not told or int(told[1]) != self.block.unread:
+            yield f"{got[0]!r}, where row {self.block.unread} can't be read"
 
     def says_why(self, lines):
         """Whether lines say why the rows aren't by the book, all that has to be said. Nothing is said of rows that are, or that

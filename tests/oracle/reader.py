@@ -39,6 +39,7 @@ class Block:
     rows: list = field(default_factory=list)
     issued: int = 0     # operations in the rows
     claim: int = None
+    unread: int = None  # the first row that can't be read, from 1
 
 
 def operation_of(text):
@@ -68,6 +69,10 @@ def numbers_of(kind, said):
     if kind == "row":
         return [n for op in said for n in op.numbers]
     return [said[0] if kind == "head" else said]
+
+
+def is_too_large(kind, said):
+    return max(numbers_of(kind, said), default=0) > MAX_NUMBER
 
 
 def plain_line(text):
@@ -103,8 +108,10 @@ class Reader:
         found = schedule_line(text)
         if found and not self.blocks:
             raise NoBlocks("no blocks")
-        if found:
-            self.is_behind = True
+        self.is_behind = self.is_behind or found is not None
+        if self.is_behind and text[:1] == b"[" and (not found or is_too_large(*found)):
+            self.issue_unread()
+        elif found:
             self.schedule_line(*found)
         elif self.is_behind and text:
             raise Refused("not understood")
@@ -121,7 +128,7 @@ class Reader:
             few(len(self.blocks[-1].ops))
 
     def schedule_line(self, kind, said):
-        if max(numbers_of(kind, said), default=0) > MAX_NUMBER:
+        if is_too_large(kind, said):
             raise Refused(f"number above {MAX_NUMBER}")
         if kind == "head":
             self.start(*said)
@@ -140,6 +147,12 @@ class Reader:
             raise Refused("no such block")
         self.head = self.head or 1
         return self.blocks[self.head - 1]
+
+    def issue_unread(self):
+        """A row that can't be read stands as an empty one."""
+        block = self.current()
+        block.rows.append([None, None])
+        block.unread = block.unread or len(block.rows)
 
     def issue(self, row):
         block = self.current()

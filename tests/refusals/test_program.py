@@ -33,7 +33,8 @@ BAD = b"output 0\nadd r1 r2 => r3\n"
 ROWS = (b"block 1 A\n[ loadI 64 => r1 ; nop ]\n[ storeAI r1 => r1, 4 ; nop ]\nblock 2 B\n[ output 64 ; nop ]\n"
         b"[ nop ; output 0 ]\nblock 3 C\n[ output 2 ; output 2 ]\n"
         b"block 4 D\n[ output 8 ; nop ]\n[ loadI 8 => r3 ; nop ]\n")
-NO_ROW = b"a: output 0\nblock 1 a\n[ nop nop ]\n"
+NO_ROW = b"a: output 0\nblock 1 a\nnop nop\n"
+UNREAD = b"a: output 0\nblock 1 a\n[ nop nop ]\n"
 
 
 @dataclass
@@ -109,6 +110,7 @@ def few_runs():
     yield Asked(["counts"], "a bad line", BAD)
     yield Asked(["lint"], "a bad line", BAD)
     yield Asked(["check"], "a bad row", NO_ROW)
+    yield Asked(["check"], "an unread row", UNREAD)
     yield Asked(["check", "--task", stored("bad.iloc", BAD)], "a bad task", ROWS)
     yield Asked(["run", "--help"], "nothing", b"")
     yield Asked(["run", "--at", "2"], "nothing", b"")

@@ -1,5 +1,5 @@
 -- The listing of checks, block by block.
-use Rattle.std.proofs.Common.{◌≡◌, ◌<◌, ◌≤◌, ℕ, ◌+◌, Bool, true, false, ◌&&◌, List, [], ◌∷◌, ◌++◌, length, map, take, get_or, sum_by, arith, refl, sym, ap, ap₂, ◌∙◌, subst, append_assoc, append-nil}
+use Rattle.std.proofs.Common.{◌≡◌, ◌<◌, ◌≤◌, ℕ, ◌+◌, Bool, true, false, ◌&&◌, List, [], ◌∷◌, ◌++◌, length, map, take, get_or, sum_by, arith, refl, sym, ap, ap₂, ◌∙◌, subst, append_assoc, append-nil, Option, Some, None}
 use Rattle.std.specs.Prelude.{ℤ}
 use Rattle.std.specs.List.{All, AllByRecursion, AllZip, list_all}
 use Rattle.std.proofs.Math.Bool.{and-true}
@@ -15,14 +15,16 @@ use Rattle.iloc_timed.specs.Schedule.{Table}
 use Rattle.iloc_timed.specs.declared.latencies.Latencies.{Latencies}
 use Rattle.iloc_timed.specs.Cycles.{cycles}
 use Rattle.iloc_rows.specs.declared.proposal.Proposal.{Proposal}
+use Rattle.iloc_rows.specs.declared.proposal.unread.Unread.{Unread}
 use Rattle.iloc_sched.specs.declared.cycle.calendar.TheConstants.{LONGEST_DELAY}
 use Rattle.iloc_sched.specs.Greedy.{IsGreedy}
 use Rattle.iloc_sched.specs.Least.{least}
 use Rattle.iloc_sched.proofs.Bounds.LeastBound.{least_bound}
-use Rattle.iloc_judge.specs.Checked.{DoTheSame, IsCheck, MayPass, passes}
+use Rattle.iloc_judge.specs.Checked.{DoTheSame, MayPass, passes}
+use Rattle.iloc_judge.specs.Unread.{IsUnread}
 use Rattle.iloc_judge.specs.declared.checked.Checked.{Checked}
 use Rattle.iloc_judge.proofs.Sameness.{passed_is_same, passed_rows_may_pass, same_rows_do_the_same}
-use Rattle.iloc_farm.specs.Commands.Check.{IsJudged, Judged, ListsChecked, check_ending, check_header, judged_entries}
+use Rattle.iloc_farm.specs.Commands.Check.{IsJudged, IsSaid, Judged, ListsChecked, check_ending, check_header, judged_entries}
 use Rattle.iloc_farm.specs.Fault.{finding_of}
 use Rattle.iloc_farm.specs.Laws.{PassedChecksKeepOutcomes, PassedChecksMayPass}
 use Rattle.iloc_farm.specs.Listing.{head_as, opening_as}
@@ -36,17 +38,24 @@ use Rattle.iloc_farm.proofs.Schedules.{cycles_few, cycles_within, greedy_all_sam
 -- What is found of one proposal
 
 -- its numbers are small
-pub small_check : (csv outputs : Bool) (lat : Latencies) (memory : List ℤ) (block : List Op) (s : Table) (p : Proposal) (c : Checked)
-    (entry : List ℕ) → IsCheck csv outputs lat memory block s p c entry → IsGreedy lat block s.ops s.rows → length block ≤ MAX_OPS
-    → length p.rows ≤ MAX_ROWS → IsSmall c
-small_check csv outputs lat memory block s p c entry check greedy short few =
-    let theirs : c.cycles ≡ cycles lat p.ops p.rows = ap (λ (x : Checked). x.cycles) check.is_found in
-    let ours : c.ours ≡ cycles lat s.ops s.rows = ap (λ (x : Checked). x.ours) check.is_found in
-    let most : c.least ≡ least lat block = ap (λ (x : Checked). x.least) check.is_found in
+small_found : (lat : Latencies) (block : List Op) (s : Table) (p : Proposal) (c : Checked)
+    → c.cycles ≡ cycles lat p.ops p.rows → c.ours ≡ cycles lat s.ops s.rows → c.least ≡ least lat block
+    → IsGreedy lat block s.ops s.rows → length block ≤ MAX_OPS → length p.rows ≤ MAX_ROWS → IsSmall c
+small_found lat block s p c theirs ours most greedy short few =
     let within : cycles lat p.ops p.rows ≤ length p.rows + LONGEST_DELAY = cycles_within lat p.ops p.rows in
     let short_ours : cycles lat s.ops s.rows ≤ most_cycles = cycles_few lat block s greedy short in
     let bound : least lat block ≤ cycles lat s.ops s.rows = least_bound lat block s.ops s.rows greedy.lawful in
     record { cycles = omega arith; ours = omega arith; least = omega arith }
+
+pub small_check : (u : Option Unread) (csv outputs : Bool) (lat : Latencies) (memory : List ℤ) (block : List Op)
+    (s : Table) (p : Proposal) (c : Checked) (entry : List ℕ) → IsSaid u csv outputs lat memory block s p c entry
+    → IsGreedy lat block s.ops s.rows → length block ≤ MAX_OPS → length p.rows ≤ MAX_ROWS → IsSmall c
+small_check None csv outputs lat memory block s p c entry check greedy short few =
+    small_found lat block s p c (ap (λ (x : Checked). x.cycles) check.is_found)
+    (ap (λ (x : Checked). x.ours) check.is_found) (ap (λ (x : Checked). x.least) check.is_found) greedy short few
+small_check (Some unread) csv outputs lat memory block s p c entry check greedy short few =
+    small_found lat block s p c (ap (λ (x : Checked). x.cycles) check.is_found)
+    (ap (λ (x : Checked). x.ours) check.is_found) (ap (λ (x : Checked). x.least) check.is_found) greedy short few
 
 -- Sums
 
@@ -121,7 +130,7 @@ module _ (lawful csv outputs : Bool) (lat : Latencies) (memory : List ℤ) (bloc
     -- one block more
     pub one_checked : (b : Block) (s : Table) (c : Checked) (more entry : List ℕ) (sums : Totals)
         → totals.blocks < length blocks → b ≡ get_or blocks totals.blocks b
-        → IsGreedy lat b.ops s.ops s.rows → IsCheck csv outputs lat memory b.ops s p c entry → IsSmall c
+        → IsGreedy lat b.ops s.ops s.rows → IsSaid p.unread csv outputs lat memory b.ops s p c entry → IsSmall c
         → more ≡ (text ++ head_as csv (totals.blocks + 1) b.name) ++ entry → sums ≡ with_checked lawful totals c
         → IsCheckedTo lawful csv outputs lat memory blocks proposals rest more sums
     one_checked b s c more entry sums within read greedy check small pushed added =
@@ -245,13 +254,39 @@ of_passed lawful csv outputs lat memory P holds blocks proposals text lists =
     subst Q lists.of_blocks (subst R lists.of_proposals (of_each lawful csv outputs lat memory P holds lists.judged
     (all_pass (list_all (λ (j : Judged). passes lawful j.checked) lists.judged) lists.found) lists.right))
 
+-- rows of which one can't be read never pass
+unread_fails : (lawful csv : Bool) (lat : Latencies) (block : List Op) (s : Table) (p : Proposal) (c : Checked)
+    (entry : List ℕ) → IsUnread csv lat block s p c entry → passes lawful c ≡ true → ⊥
+unread_fails true csv lat block s p c entry said pass =
+    let not : c.is_lawful ≡ false = ap (λ (x : Checked). x.is_lawful) said.is_found in cc
+unread_fails false csv lat block s p c entry said pass =
+    let not : c.is_same ≡ false = ap (λ (x : Checked). x.is_same) said.is_found in cc
+
+said_keeps : (u : Option Unread) (lawful csv outputs : Bool) (lat : Latencies) (memory : List ℤ) (block : List Op) (s : Table)
+    (p : Proposal) (c : Checked) (entry : List ℕ) → IsSaid u csv outputs lat memory block s p c entry → passes lawful c ≡ true
+    → DoTheSame outputs lat block p.ops p.rows
+said_keeps None lawful csv outputs lat memory block s p c entry said pass =
+    same_rows_do_the_same csv outputs lat memory block s p c entry said
+    (passed_is_same csv outputs lat memory block s p c entry said lawful pass)
+said_keeps (Some unread) lawful csv outputs lat memory block s p c entry said pass =
+    absurd (unread_fails lawful csv lat block s p c entry said pass)
+
+said_may : (u : Option Unread) (lawful csv outputs : Bool) (lat : Latencies) (memory : List ℤ) (block : List Op) (s : Table)
+    (p : Proposal) (c : Checked) (entry : List ℕ) → IsSaid u csv outputs lat memory block s p c entry → passes lawful c ≡ true
+    → MayPass lawful outputs lat memory block p.ops p.rows
+said_may None lawful csv outputs lat memory block s p c entry said pass =
+    passed_rows_may_pass lawful csv outputs lat memory block s p c entry said pass
+said_may (Some unread) lawful csv outputs lat memory block s p c entry said pass =
+    absurd (unread_fails lawful csv lat block s p c entry said pass)
+
 pub passed_keep_outcomes : PassedChecksKeepOutcomes
 passed_keep_outcomes lawful csv outputs lat memory = of_passed lawful csv outputs lat memory
     (λ b p. DoTheSame outputs lat b.ops p.ops p.rows)
-    (λ j right pass. same_rows_do_the_same csv outputs lat memory j.block.ops j.ours j.proposal j.checked j.text right
-    (passed_is_same csv outputs lat memory j.block.ops j.ours j.proposal j.checked j.text right lawful pass))
+    (λ j right pass.
+    said_keeps j.proposal.unread lawful csv outputs lat memory j.block.ops j.ours j.proposal j.checked j.text right pass)
 
 pub passed_may_pass : PassedChecksMayPass
 passed_may_pass lawful csv outputs lat memory = of_passed lawful csv outputs lat memory
     (λ b p. MayPass lawful outputs lat memory b.ops p.ops p.rows)
-    (λ j right pass. passed_rows_may_pass lawful csv outputs lat memory j.block.ops j.ours j.proposal j.checked j.text right pass)
+    (λ j right pass.
+    said_may j.proposal.unread lawful csv outputs lat memory j.block.ops j.ours j.proposal j.checked j.text right pass)

@@ -1,4 +1,5 @@
 pub mod Checked
+pub mod Unread
 pub mod Comparison
 pub mod Laws
 pub mod Listing

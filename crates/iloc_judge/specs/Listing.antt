@@ -41,11 +41,15 @@ abbrev pub wrong_claim : ℕ → Option ℕ → List ℕ
 wrong_claim cycles None = []
 wrong_claim cycles (Some claim) = if claim == cycles then [] else column (codes "claimed") claim
 
--- ` VERDICT cycles C ours O least L`, and where a claim is wrong ` claimed X`
-abbrev pub verdict_line : Verdict → Checked → Option ℕ → List ℕ
-verdict_line verdict checked claimed =
-    codes " " ++ verdict_word verdict ++ column (codes "cycles") checked.cycles ++ column (codes "ours") checked.ours
+-- ` WORD cycles C ours O least L`, and where a claim is wrong ` claimed X`
+abbrev pub line_of : List ℕ → Checked → Option ℕ → List ℕ
+line_of word checked claimed =
+    codes " " ++ word ++ column (codes "cycles") checked.cycles ++ column (codes "ours") checked.ours
     ++ column (codes "least") checked.least ++ wrong_claim checked.cycles claimed ++ codes "\n"
+
+-- the same with the word for a verdict
+abbrev pub verdict_line : Verdict → Checked → Option ℕ → List ℕ
+verdict_line verdict checked claimed = line_of (verdict_word verdict) checked claimed
 
 -- The row of a table
 
@@ -58,11 +62,15 @@ abbrev pub claim_value : Option ℕ → List ℕ
 claim_value None = codes ","
 claim_value (Some claim) = value claim
 
--- `,VERDICT,C,O,L,X`, where X is the claim
-abbrev pub verdict_row : Verdict → Checked → Option ℕ → List ℕ
-verdict_row verdict checked claimed =
-    codes "," ++ verdict_word verdict ++ value checked.cycles ++ value checked.ours ++ value checked.least
+-- `,WORD,C,O,L,X`, where X is the claim
+abbrev pub row_of : List ℕ → Checked → Option ℕ → List ℕ
+row_of word checked claimed =
+    codes "," ++ word ++ value checked.cycles ++ value checked.ours ++ value checked.least
     ++ claim_value claimed ++ codes "\n"
+
+-- the same with the word for a verdict
+abbrev pub verdict_row : Verdict → Checked → Option ℕ → List ℕ
+verdict_row verdict checked claimed = row_of (verdict_word verdict) checked claimed
 
 -- The line of how rows compare with their block
 

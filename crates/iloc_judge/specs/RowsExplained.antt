@@ -1,5 +1,5 @@
 -- What explains the rows that are proposed for a block.
-use Rattle.std.specs.Prelude.{ℕ, ◌≡◌, ◌⊎◌, Bool, true, false, List, ◌++◌, codes}
+use Rattle.std.specs.Prelude.{ℕ, ◌≡◌, ◌⊎◌, Bool, true, false, Option, Some, None, List, ◌++◌, codes}
 use Rattle.iloc_ops.specs.declared.op.Op.{Op}
 use Rattle.iloc_timed.specs.declared.latencies.Latencies.{Latencies}
 use Rattle.iloc_timed.specs.declared.row.Row.{Row}
@@ -7,6 +7,7 @@ use Rattle.iloc_timed.specs.Cycles.{cycles}
 use Rattle.iloc_timed.specs.Rows.{IsTable}
 use Rattle.iloc_timed.specs.Schedule.{Table, IsFirstBadRow}
 use Rattle.iloc_rows.specs.declared.proposal.Proposal.{Proposal}
+use Rattle.iloc_rows.specs.declared.proposal.unread.Unread.{Unread}
 use Rattle.iloc_sched.specs.declared.ranking.heuristic.Heuristic.{Heuristic}
 use Rattle.iloc_sched.specs.Renaming.{without_nops}
 use Rattle.iloc_validation.specs.declared.lawfulness.Reason.{Reason}
@@ -16,6 +17,7 @@ use Rattle.iloc_explain.specs.Listing.{IsExplanation}
 use Rattle.iloc_judge.specs.declared.explained.ExplainedRows.{ExplainedRows}
 use Rattle.iloc_judge.specs.Listing.{bad_row}
 use Rattle.iloc_judge.specs.Reasons.{reason_told}
+use Rattle.iloc_judge.specs.Unread.{unread_told}
 
 -- Rows by the book are explained by the block's own operations in their slots, beside which the lines show what is issued.
 pub record AreExplainedBy (heuristic : Heuristic) (lat : Latencies) (block ops : List Op) (rows : List Row) (text : List ℕ)
@@ -47,8 +49,19 @@ abbrev pub IsSaidOf : Bool → Heuristic → Latencies → List Op → List Op �
 IsSaidOf true heuristic lat block ops rows text = AreExplainedBy heuristic lat block ops rows text
 IsSaidOf false heuristic lat block ops rows text = BreakUnits ops rows text ⊎ HaveReason lat block ops rows text
 
+-- this is said of a row that can't be read: its number, and some words
+pub record HaveUnread (row : ℕ) (text : List ℕ) : Type 0 where
+  pub words : List ℕ
+  pub listed : text ≡ not_lawful (unread_told row words)
+
+-- what is said of rows, the first of which that can't be read is this one, if there is one
+abbrev pub IsSaidOfAll : Option Unread → Bool → Heuristic → Latencies → List Op → List Op → List Row → List ℕ → Type 0
+IsSaidOfAll None is_lawful heuristic lat block ops rows text = IsSaidOf is_lawful heuristic lat block ops rows text
+IsSaidOfAll (Some unread) true heuristic lat block ops rows text = ⊥
+IsSaidOfAll (Some unread) false heuristic lat block ops rows text = HaveUnread unread.row text
+
 -- Of what is proposed for a block this is found, and this text said.
 pub record IsRowsExplanation (heuristic : Heuristic) (lat : Latencies) (block : List Op) (proposal : Proposal)
     (found : ExplainedRows) (text : List ℕ) : Type 0 where
-  pub said : IsSaidOf found.is_lawful heuristic lat block proposal.ops proposal.rows text
+  pub said : IsSaidOfAll proposal.unread found.is_lawful heuristic lat block proposal.ops proposal.rows text
   pub counted : found.cycles ≡ cycles lat proposal.ops proposal.rows

@@ -9,7 +9,7 @@ ghost use Rattle.iloc_judge.specs.Steps.Counted.{CanBeListed};
 
 pub mod detail;
 pub mod reason;
-mod verdict_line;
+pub(crate) mod verdict_line;
 
 use crate::comparison::Comparison;
 use crate::verdict::{Verdict, judge};

@@ -6,14 +6,15 @@ ghost use Rattle.iloc_sched.specs.Least as bound;
 ghost use Rattle.iloc_sched.specs.Renaming.{renamed};
 ghost use Rattle.iloc_judge.specs.Listing.{bad_row};
 ghost use Rattle.iloc_judge.specs.Reasons.{reason_told};
-ghost use Rattle.iloc_judge.specs.RowsExplained.{not_lawful, IsRowsExplanation, IsSaidOf};
+ghost use Rattle.iloc_judge.specs.RowsExplained.{not_lawful, IsRowsExplanation, IsSaidOf, HaveUnread};
 ghost use Rattle.iloc_judge.specs.Steps.Counted.{CanBeTold};
 
 use crate::checked::detail::push_bad_row;
 use crate::checked::reason::push_reason;
+use crate::unread::push_unread_row;
 use iloc_explain::push_explanation;
 use iloc_ops::{Block, MAX_OPS, NoMemory, Op};
-use iloc_rows::Proposal;
+use iloc_rows::{Proposal, Unread};
 use iloc_sched::Heuristic;
 use iloc_timed::{BuildFault, Latencies, MAX_ROWS, Row, Schedule, cycles_of};
 use iloc_validation::{Reason, own_rows};
@@ -44,6 +45,19 @@ fn push_why(text: &mut Vec<u8>, reason: &Reason) -> Result<(), NoMemory>
 {
     text.extend_from_slice(b"  not lawful\n")?;
     push_reason(text, reason)
+}
+
+/// Appends that rows aren't lawful, and the first of them that can't be read.
+fn push_unread_rows(
+    alloc: Global,
+    text: &mut Vec<u8>,
+    unread: &Unread,
+) -> Result<(), NoMemory>
+    ensures { OnOk result ((entry : List ℕ) × HaveUnread unread.now.row entry
+        × (text.new.items ≡ text.old.items ++ entry)) }
+{
+    text.extend_from_slice(b"  not lawful\n")?;
+    push_unread_row(alloc, text, unread)
 }
 
 /// Appends what is said of a schedule that somebody made for a block, whose operations are renamed so in ours, and answers whether
@@ -82,6 +96,44 @@ fn push_said(
     }
 }
 
+/// Appends what is said of rows that are proposed for a block, whose operations are renamed so in ours, and answers whether they
+/// are by the book.
+fn push_read_rows(
+    alloc: Global,
+    text: &mut Vec<u8>,
+    block: &Block,
+    names: &[Op],
+    least: u64,
+    ops: &[Op],
+    rows: &[Row],
+    latencies: &Latencies,
+    heuristic: Heuristic,
+) -> Result<bool, NoMemory>
+    requires few { length block.now.ops ≤ MAX_OPS }
+    requires names { names.now ≡ renamed block.now.ops }
+    requires least { least ≡ bound.least latencies.now block.now.ops }
+    requires in_range { AreInRange (length ops.now) rows.now }
+    requires once { AreOnce (length ops.now) rows.now }
+    requires few_rows { length rows.now ≤ MAX_ROWS }
+    ensures { IfOk result (λ is_lawful. (entry : List ℕ)
+        × IsSaidOf is_lawful heuristic latencies.now block.now.ops ops.now rows.now entry
+        × (text.new.items ≡ text.old.items ++ entry)) }
+{
+    let their_ops = Vec::from_slice(alloc, ops)?;
+    let their_rows = Vec::from_slice(alloc, rows)?;
+    match Schedule::new(alloc, their_ops, their_rows) {
+        Ok(theirs) => push_said(
+            alloc, text, block, names, least, &theirs, latencies, heuristic,
+        ),
+        Err(BuildFault::BadRow(row)) => {
+            push_units(text, ops, rows, row)?;
+            Ok(false)
+        }
+        Err(BuildFault::NotOnce(_)) => unreachable!(),
+        Err(BuildFault::NoMemory) => Err(NoMemory),
+    }
+}
+
 /// Appends what explains the rows that are proposed for a block, behind the block's head. Rows by the book are explained as the
 /// schedule of the block that they are, with each operation as the block has it and as it is issued; of others it is said that
 /// they aren't lawful, and why. `names` are the block's operations as a schedule of ours renames them.
@@ -109,18 +161,14 @@ pub fn push_rows_explanation(
     let ops = proposal.ops.as_slice();
     let rows = proposal.rows.as_slice();
     let cycles = cycles_of(ops, rows, latencies);
-    let their_ops = Vec::from_slice(alloc, ops)?;
-    let their_rows = Vec::from_slice(alloc, rows)?;
-    let is_lawful = match Schedule::new(alloc, their_ops, their_rows) {
-        Ok(theirs) => push_said(
-            alloc, text, block, names, least, &theirs, latencies, heuristic,
-        )?,
-        Err(BuildFault::BadRow(row)) => {
-            push_units(text, ops, rows, row)?;
+    let is_lawful = match &proposal.unread {
+        Some(unread) => {
+            push_unread_rows(alloc, text, unread)?;
             false
         }
-        Err(BuildFault::NotOnce(_)) => unreachable!(),
-        Err(BuildFault::NoMemory) => return Err(NoMemory),
+        None => push_read_rows(
+            alloc, text, block, names, least, ops, rows, latencies, heuristic,
+        )?,
     };
     Ok(ExplainedRows { is_lawful, cycles })
 }

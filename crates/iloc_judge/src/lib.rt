@@ -13,6 +13,7 @@ mod own;
 mod refutation;
 mod symbols;
 mod table;
+mod unread;
 mod verdict;
 mod void;
 
@@ -21,5 +22,6 @@ pub use comparison::Comparison;
 pub use difference::Difference;
 pub use explained::{ExplainedRows, push_rows_explanation};
 pub use refutation::probe::Probe;
+pub use unread::push_unread;
 pub use verdict::{Verdict, judge};
 pub use void::Void;

@@ -1,13 +1,17 @@
 -- Every text has an answer: its blocks end somewhere, and line by line each schedule line is read or faulty.
 use Rattle.std.proofs.Common.{◌≡◌, ◌∙◌, ℕ, ◌+◌, ◌<◌, ◌≤◌, nat_lt, Bool, true, false, List, [], ◌∷◌, ◌++◌, length, refl, sym, ap, subst, Option, Some, None, ◌⊎◌, inl, inr, append_assoc, append-nil, arith}
-use Rattle.std.specs.List.{join_with_byte}
+use Rattle.std.specs.Prelude.{not}
+use Rattle.std.specs.List.{find, join_with_byte}
+use Rattle.std.proofs.lemmas.Bool.{cases_eq}
+use Rattle.std.proofs.lemmas.Option.{same_Some}
 use Rattle.std.proofs.lemmas.Bool.Decides.{nat_tests}
 use Rattle.iloc_ops.specs.Limits.{MAX_INPUT, MAX_OPS}
 use Rattle.iloc_ops.specs.declared.file.Block.{Block}
 use Rattle.iloc_text.specs.declared.fault.ReadFault.TheVariants.{InputTooLong, BadLine, NumberTooLarge, TooManyOperations}
+use Rattle.iloc_text.specs.Grammar.{is_blank}
 use Rattle.iloc_text.specs.Files as files
 use Rattle.iloc_text.specs.Files.{AreLines}
-use Rattle.iloc_text.specs.ScheduleLines.{Said, Says, IsScheduleLine}
+use Rattle.iloc_text.specs.ScheduleLines.{Said, Says, SaysSomething, IsScheduleLine}
 use Rattle.iloc_text.specs.ScheduleLines.Said.{nothing, row, head, cycles, total}
 use Rattle.iloc_text.specs.Lines.{lines_of}
 use Rattle.iloc_text.specs.Steps.ScheduleScan.{schedule_line_at, is_said_within}
@@ -17,11 +21,13 @@ use Rattle.iloc_text.proofs.Splitting.{lines_are}
 use Rattle.iloc_rows.specs.declared.fault.RowsFault.{RowsFault}
 use Rattle.iloc_rows.specs.declared.fault.RowsFault.TheVariants.{Read, NoBlocks, NoSuchBlock}
 use Rattle.iloc_rows.specs.declared.proposal.Proposal.{Proposal}
+use Rattle.iloc_rows.specs.Told.{Told, OpensRow, Tells}
+use Rattle.iloc_rows.specs.Told.Told.{read, unread}
 use Rattle.iloc_rows.specs.Proposing.{proposals_of, is_of_block, op_count, Fits, AllFit}
-use Rattle.iloc_rows.specs.Submissions.{SayAll, BlocksEnd, Propose, Denotes, IsFaulty, HaveFirstFault, IsRefused}
+use Rattle.iloc_rows.specs.Submissions.{TellAll, BlocksEnd, Propose, Denotes, IsFaulty, HaveFirstFault, IsRefused}
 use Rattle.iloc_rows.specs.Laws.{TextsHaveAnAnswer}
 use Rattle.iloc_rows.proofs.Ends.{nothing_is_none, bad_is_none, large_is_one}
-use Rattle.iloc_rows.proofs.Reading.{SayAll-snoc, AllFit-snoc, blocks_refuse, rows_refuse}
+use Rattle.iloc_rows.proofs.Reading.{TellAll-snoc, AllFit-snoc, blocks_refuse, rows_refuse}
 
 -- Where the blocks end
 
@@ -65,16 +71,16 @@ cut (line ∷ lines) = elim (one_or_none line) as (λ _. AreCut (line ∷ lines)
   }
 ]
 
--- One schedule line
+-- One line below the blocks
 
--- the line says something that fits after what these lines say
-record IsRead (blocks : List Block) (said : List Said) (line : List ℕ) : Type 0 where
-  saying : Said
-  says : Says line saying
-  fits : Fits blocks said saying
+-- the line tells something that fits after what these lines tell
+record IsRead (blocks : List Block) (told : List Told) (line : List ℕ) : Type 0 where
+  telling : Told
+  tells : Tells line telling
+  fits : Fits blocks told telling
 
-abbrev Judged : List Block → List Said → List ℕ → ℕ → Type 0
-Judged blocks said line n = ((fault : RowsFault) × IsFaulty blocks said line n fault) ⊎ IsRead blocks said line
+abbrev Judged : List Block → List Told → List ℕ → ℕ → Type 0
+Judged blocks told line n = ((fault : RowsFault) × IsFaulty blocks told line n fault) ⊎ IsRead blocks told line
 
 above : (a b : ℕ) → nat_lt a b ≡ true → a < b
 above a b h = grind (arith, nat_tests)
@@ -82,27 +88,45 @@ above a b h = grind (arith, nat_tests)
 not_above : (a b : ℕ) → nat_lt a b ≡ false → b ≤ a
 not_above a b h = grind (arith, nat_tests)
 
-by_fit : (blocks : List Block) (said : List Said) (line : List ℕ) (n : ℕ) (s : Said) → Says line s
-    → (there many : Bool) → is_of_block blocks said s ≡ there → nat_lt MAX_OPS (op_count said s) ≡ many
-    → Judged blocks said line n
-by_fit blocks said line n s says false many t m =
-    inl (NoSuchBlock n, (refl, record { said = s; says = says; of_none = t }))
-by_fit blocks said line n s says true true t m =
-    inl (Read (TooManyOperations n), (refl, record { said = s; says = says; of_block = t; many = above _ _ m }))
-by_fit blocks said line n s says true false t m =
-    inr (record { saying = s; says = says; fits = record { of_block = t; few = not_above _ _ m } })
+by_fit : (blocks : List Block) (told : List Told) (line : List ℕ) (n : ℕ) (t : Told) → Tells line t
+    → (there many : Bool) → is_of_block blocks told t ≡ there → nat_lt MAX_OPS (op_count told t) ≡ many
+    → Judged blocks told line n
+by_fit blocks told line n t tells false many h m =
+    inl (NoSuchBlock n, (refl, record { told = t; tells = tells; of_none = h }))
+by_fit blocks told line n t tells true true h m =
+    inl (Read (TooManyOperations n), (refl, record { told = t; tells = tells; of_block = h; many = above _ _ m }))
+by_fit blocks told line n t tells true false h m =
+    inr (record { telling = t; tells = tells; fits = record { of_block = h; few = not_above _ _ m } })
 
-judged : (blocks : List Block) (said : List Said) (line : List ℕ) (n : ℕ) → Judged blocks said line n
-judged blocks said line n = by (schedule_line_at line) refl
+-- whether a line opens a row
+opens_or_not : (line : List ℕ) → OpensRow line ⊎ (OpensRow line → ⊥)
+opens_or_not line = by (find (λ byte. not (is_blank byte)) line)
   where
-    within : (s : Said) → schedule_line_at line ≡ Some s → (b : Bool) → is_said_within s ≡ b → Judged blocks said line n
-    within s e true w = by_fit blocks said line n s (said_good line s e w) _ _ refl refl
-    within s e false w =
-        let large = said_large line s e w in inl (Read (NumberTooLarge n), (refl, large.0, large.1))
+    by : (o : Option ℕ) → (o ≡ Some 91) ⊎ (o ≡ Some 91 → ⊥)
+    by None = inr (λ e. cc)
+    by (Some byte) = elim (cases_eq byte 91) [
+      | inl same ↦ inl (ap (λ b. Some b) same)
+      | inr other ↦ inr (λ e. other (same_Some byte 91 e))
+    ]
 
-    by : (found : Option Said) → schedule_line_at line ≡ found → Judged blocks said line n
-    by None e = inl (Read (BadLine n), (refl, said_bad line e))
-    by (Some s) e = within s e (is_said_within s) refl
+judged : (blocks : List Block) (told : List Told) (line : List ℕ) (n : ℕ) → Judged blocks told line n
+judged blocks told line n = by (schedule_line_at line) refl (opens_or_not line)
+  where
+    no_row : (SaysSomething line → ⊥) → OpensRow line → Judged blocks told line n
+    no_row none opens = by_fit blocks told line n (unread line) (refl, opens, none) _ _ refl refl
+
+    within : (s : Said) → schedule_line_at line ≡ Some s → (b : Bool) → is_said_within s ≡ b
+        → OpensRow line ⊎ (OpensRow line → ⊥) → Judged blocks told line n
+    within s e true w o = by_fit blocks told line n (read s) (said_good line s e w) _ _ refl refl
+    within s e false w (inl opens) = no_row (said_large line s e w).1 opens
+    within s e false w (inr none) =
+        let large = said_large line s e w in inl (Read (NumberTooLarge n), (refl, none, large.0, large.1))
+
+    by : (found : Option Said) → schedule_line_at line ≡ found → OpensRow line ⊎ (OpensRow line → ⊥)
+        → Judged blocks told line n
+    by None e (inl opens) = no_row (λ s. said_bad line e (s.0, s.1.0)) opens
+    by None e (inr none) = inl (Read (BadLine n), (refl, none, said_bad line e))
+    by (Some s) e o = within s e (is_said_within s) refl o
 
 -- All of them
 
@@ -110,20 +134,20 @@ abbrev Proposed : List Block → ℕ → List (List ℕ) → Type 0
 Proposed blocks n lines = ((proposals : List Proposal) × Propose blocks lines proposals)
     ⊎ ((fault : RowsFault) × HaveFirstFault blocks n lines fault)
 
--- where the lines before say this, and it fits
-from_here : (blocks : List Block) (n : ℕ) (all before lines : List (List ℕ)) (said : List Said)
-    → all ≡ before ++ lines → SayAll before said → AllFit blocks [] said → Proposed blocks n all
-from_here blocks n all before [] said whole say fit = inl (
-  proposals_of (length blocks) said,
+-- where the lines before tell this, and it fits
+from_here : (blocks : List Block) (n : ℕ) (all before lines : List (List ℕ)) (told : List Told)
+    → all ≡ before ++ lines → TellAll before told → AllFit blocks [] told → Proposed blocks n all
+from_here blocks n all before [] told whole tell fit = inl (
+  proposals_of (length blocks) told,
   record {
-    said = said;
-    say = subst (λ ls. SayAll ls said) (sym (whole ∙ append-nil before)) say;
+    told = told;
+    tell = subst (λ ls. TellAll ls told) (sym (whole ∙ append-nil before)) tell;
     fit = fit;
     are = refl;
   },
 )
-from_here blocks n all before (line ∷ lines) said whole say fit =
-    elim (judged blocks said line (n + length before + 1)) as (λ _. Proposed blocks n all) [
+from_here blocks n all before (line ∷ lines) told whole tell fit =
+    elim (judged blocks told line (n + length before + 1)) as (λ _. Proposed blocks n all) [
       | inl bad ↦ inr (
         bad.0,
         record {
@@ -131,16 +155,16 @@ from_here blocks n all before (line ∷ lines) said whole say fit =
           line = line;
           after = lines;
           whole = whole;
-          said = said;
-          say = say;
+          told = told;
+          tell = tell;
           fit = fit;
           faulty = bad.1;
         },
       )
-      | inr good ↦ from_here blocks n all (before ++ line ∷ []) lines (said ++ good.saying ∷ [])
+      | inr good ↦ from_here blocks n all (before ++ line ∷ []) lines (told ++ good.telling ∷ [])
           (whole ∙ sym (append_assoc before (line ∷ []) lines))
-          (SayAll-snoc before said line good.saying say good.says)
-          (AllFit-snoc blocks [] said good.saying fit good.fits)
+          (TellAll-snoc before told line good.telling tell good.tells)
+          (AllFit-snoc blocks [] told good.telling fit good.fits)
     ]
 
 -- Texts

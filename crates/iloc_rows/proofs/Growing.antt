@@ -6,24 +6,25 @@ use Rattle.std.proofs.lemmas.Bool.Decides.{nat_tests}
 use Rattle.iloc_ops.specs.declared.op.Op.{Op}
 use Rattle.iloc_ops.specs.declared.file.Block.{Block}
 use Rattle.iloc_text.specs.declared.fault.ReadFault.TheVariants.{InputTooLong, BadLine, NumberTooLarge, TooManyBlocks, TooManyOperations, NoMemory}
-use Rattle.iloc_text.specs.ScheduleLines.{Said}
 use Rattle.iloc_text.specs.ScheduleLines.Said.{nothing, row, head, cycles, total}
 use Rattle.iloc_timed.specs.Limits.{MAX_ROWS}
 use Rattle.iloc_rows.specs.declared.fault.RowsFault.{RowsFault}
 use Rattle.iloc_rows.specs.declared.fault.RowsFault.TheVariants.{Read, NoBlocks, NoSuchBlock}
 use Rattle.iloc_rows.specs.declared.proposal.Proposal.{Proposal}
 use Rattle.iloc_rows.specs.declared.proposing.Proposing.{Proposing}
-use Rattle.iloc_rows.specs.Proposing.{last_block, block_of, head_number, proposes, row_in, cycles_in, rows_of, proposal_of, proposals_of, is_named, op_count}
-use Rattle.iloc_rows.specs.Steps.Growth.{none_proposed, with_row, with_cycles, place, at_place, HasProposed, Adds, RowAdds, CyclesAdd, Turns}
+use Rattle.iloc_rows.specs.Told.{Told}
+use Rattle.iloc_rows.specs.Told.Told.{read, unread}
+use Rattle.iloc_rows.specs.Proposing.{last_block, block_of, head_number, proposes, row_in, unread_in, cycles_in, rows_of, proposal_of, proposals_of, is_named, is_of_block, op_count}
+use Rattle.iloc_rows.specs.Steps.Growth.{none_proposed, with_row, with_unread, with_cycles, place, at_place, HasProposed, Adds, RowAdds, Becomes, Turns}
 use Rattle.iloc_rows.proofs.Picking.{last_block-none, last_block-more, last_block-head}
-use Rattle.iloc_rows.proofs.Numbering.{ops_in-snoc, proposal-same, proposal-row, proposal-row_else, proposal-cycles, proposal-cycles_else, proposal-short, map-same, map-set}
+use Rattle.iloc_rows.proofs.Numbering.{ops_in-snoc, proposal-same, proposal-else, proposal-row, proposal-unread, proposal-cycles, proposal-short, map-same, map-set}
 
 -- Places
 
-pub length-proposals : (count : ℕ) (ss : List Said) → length (proposals_of count ss) ≡ count
+pub length-proposals : (count : ℕ) (ss : List Told) → length (proposals_of count ss) ≡ count
 length-proposals count ss = length-map-range_with_len (proposal_of ss) 1 count
 
-at-proposals : (count : ℕ) (ss : List Said) (i : ℕ) → i < count
+at-proposals : (count : ℕ) (ss : List Told) (i : ℕ) → i < count
     → at_place (proposals_of count ss) i ≡ proposal_of ss (1 + i)
 at-proposals count ss i lt = get_or-map-range_with_len (proposal_of ss) 1 count i (1 + i) none_proposed lt refl
 
@@ -56,12 +57,12 @@ place_none last count = by (nat_lt 0 last) (count == 1)
     by false false h = refl
 
 -- a line is of the place in the state
-record IsAt (blocks : List Block) (ss : List Said) (i : ℕ) : Type 0 where
+record IsAt (blocks : List Block) (ss : List Told) (i : ℕ) : Type 0 where
   block : block_of ss ≡ 1 + i
   within : i < length blocks
   there : (nat_lt 0 (last_block ss) || (length blocks == 1)) ≡ true
 
-is_at : {blocks : List Block} {ss : List Said} {old : Proposing} (i : ℕ) → HasProposed blocks ss old
+is_at : {blocks : List Block} {ss : List Told} {old : Proposing} (i : ℕ) → HasProposed blocks ss old
     → place old.last (length old.proposals.items) ≡ Some i → IsAt blocks ss i
 is_at {blocks} {ss} {old} i h e =
     let count : length old.proposals.items ≡ length blocks =
@@ -73,7 +74,7 @@ is_at {blocks} {ss} {old} i h e =
       within = found.2 (let last = h.last in let within = old.within in omega arith);
     }
 
-nowhere : {blocks : List Block} {ss : List Said} {old : Proposing} → HasProposed blocks ss old
+nowhere : {blocks : List Block} {ss : List Told} {old : Proposing} → HasProposed blocks ss old
     → place old.last (length old.proposals.items) ≡ None
     → (nat_lt 0 (last_block ss) || (length blocks == 1)) ≡ false
 nowhere {blocks} {ss} {old} h e =
@@ -81,7 +82,7 @@ nowhere {blocks} {ss} {old} h e =
     ap length h.proposals ∙ length-proposals (length blocks) ss in
     place_none (last_block ss) (length blocks) (sym (ap₂ place h.last count) ∙ e)
 
-pub still_of : (ss : List Said) (s : Said) → head_number s ≡ None → proposes s ≡ true
+pub still_of : (ss : List Told) (s : Told) → head_number s ≡ None → proposes s ≡ true
     → block_of (ss ++ s ∷ []) ≡ block_of ss
 still_of ss s h p = ap (max 1) (last_block-more ss s h p) ∙ again (last_block ss)
   where
@@ -90,36 +91,36 @@ still_of ss s h p = ap (max 1) (last_block-more ss s h p) ∙ again (last_block 
 
 -- Rows
 
-rows_grow : (blocks : List Block) (ss : List Said) (one two : Op) (i : ℕ) → IsAt blocks ss i
-    → proposals_of (length blocks) (ss ++ row one two ∷ [])
+rows_grow : (blocks : List Block) (ss : List Told) (one two : Op) (i : ℕ) → IsAt blocks ss i
+    → proposals_of (length blocks) (ss ++ read (row one two) ∷ [])
     ≡ set (proposals_of (length blocks) ss) i (with_row (at_place (proposals_of (length blocks) ss) i) one two)
 rows_grow blocks ss one two i a =
-    let here : block_of (ss ++ row one two ∷ []) ≡ 1 + i = still_of ss (row one two) refl refl ∙ a.block in
-    map-set (proposal_of ss) (proposal_of (ss ++ row one two ∷ [])) 1 (length blocks) i
+    let here : block_of (ss ++ read (row one two) ∷ []) ≡ 1 + i = still_of ss (read (row one two)) refl refl ∙ a.block in
+    map-set (proposal_of ss) (proposal_of (ss ++ read (row one two) ∷ [])) 1 (length blocks) i
     (with_row (at_place (proposals_of (length blocks) ss) i) one two) a.within
     (proposal-row ss one two (1 + i) here
     ∙ ap (λ p. with_row p one two) (sym (at-proposals (length blocks) ss i a.within)))
-    (λ k ne. proposal-row_else ss one two k (λ e. ne (sym e ∙ here)))
+    (λ k ne. proposal-else ss (read (row one two)) k (λ e. ne (sym e ∙ here)))
 
-row_count : (blocks : List Block) (ss : List Said) (one two : Op) (i : ℕ) → IsAt blocks ss i
-    → length (with_row (at_place (proposals_of (length blocks) ss) i) one two).ops ≡ op_count ss (row one two)
+row_count : (blocks : List Block) (ss : List Told) (one two : Op) (i : ℕ) → IsAt blocks ss i
+    → length (with_row (at_place (proposals_of (length blocks) ss) i) one two).ops ≡ op_count ss (read (row one two))
 row_count blocks ss one two i a =
     ap (λ p. length (with_row p one two).ops) (at-proposals (length blocks) ss i a.within)
     ∙ ap (λ k. length (with_row (proposal_of ss k) one two).ops) (sym a.block)
     ∙ ap length (sym (ops_in-snoc (rows_of (block_of ss) ss) (one, two)))
 
-pub row_adds : {blocks : List Block} {ss : List Said} {old : Proposing} (one two : Op) (n : ℕ) (new : Proposing)
+pub row_adds : {blocks : List Block} {ss : List Told} {old : Proposing} (one two : Op) (n : ℕ) (new : Proposing)
     (result : Result (Unit {0}) RowsFault)
-    → HasProposed blocks ss old → RowAdds old one two n new result → Adds blocks ss (row one two) n new result
+    → HasProposed blocks ss old → RowAdds old one two n new result → Adds blocks ss (read (row one two)) n new result
 row_adds {blocks} {ss} {old} one two n new (Ok done) h r =
     let a = is_at r.0 h r.1 in
-    let grown : new.proposals.items ≡ proposals_of (length blocks) (ss ++ row one two ∷ []) =
+    let grown : new.proposals.items ≡ proposals_of (length blocks) (ss ++ read (row one two) ∷ []) =
     r.2 ∙ ap (λ ps. set ps r.0 (with_row (at_place ps r.0) one two)) h.proposals
     ∙ sym (rows_grow blocks ss one two r.0 a) in
     let count = ap (λ ps. length (with_row (at_place ps r.0) one two).ops) h.proposals
     ∙ row_count blocks ss one two r.0 a in (
       record { of_block = a.there; few = let few = r.4 in omega arith },
-      record { proposals = grown; last = r.3 ∙ ap (max 1) h.last ∙ sym (last_block-more ss (row one two) refl refl) },
+      record { proposals = grown; last = r.3 ∙ ap (max 1) h.last ∙ sym (last_block-more ss (read (row one two)) refl refl) },
     )
 row_adds one two n new (Err (Read InputTooLong)) h r = r
 row_adds one two n new (Err (Read (BadLine k))) h r = r
@@ -135,54 +136,93 @@ row_adds one two n new (Err (Read NoMemory)) h r = tt
 row_adds one two n new (Err NoBlocks) h r = r
 row_adds one two n new (Err (NoSuchBlock k)) h r = (r.0, nowhere h r.1)
 
--- Claims
+-- Claims, and rows that can't be read
 
-cycles_grow : (blocks : List Block) (ss : List Said) (c i : ℕ) → IsAt blocks ss i
-    → proposals_of (length blocks) (ss ++ cycles c ∷ [])
-    ≡ set (proposals_of (length blocks) ss) i (with_cycles (at_place (proposals_of (length blocks) ss) i) c)
-cycles_grow blocks ss c i a =
-    let here : block_of (ss ++ cycles c ∷ []) ≡ 1 + i = still_of ss (cycles c) refl refl ∙ a.block in
-    map-set (proposal_of ss) (proposal_of (ss ++ cycles c ∷ [])) 1 (length blocks) i
-    (with_cycles (at_place (proposals_of (length blocks) ss) i) c) a.within
-    (proposal-cycles ss c (1 + i) here
-    ∙ ap (λ p. with_cycles p c) (sym (at-proposals (length blocks) ss i a.within)))
-    (λ k ne. proposal-cycles_else ss c k (λ e. ne (sym e ∙ here)))
+-- a line of its block alone, without operations, by which what is proposed becomes another
+record IsChange (s : Told) (change : Proposal → Proposal) : Type 0 where
+  turns : head_number s ≡ None
+  proposes : proposes s ≡ true
+  here : (ss : List Told) (k : ℕ) → block_of (ss ++ s ∷ []) ≡ k → proposal_of (ss ++ s ∷ []) k ≡ change (proposal_of ss k)
+  count : (ss : List Told) → op_count ss s ≡ 0
+  fits : (blocks : List Block) (ss : List Told)
+      → is_of_block blocks ss s ≡ (nat_lt 0 (last_block ss) || (length blocks == 1))
 
-pub cycles_add : {blocks : List Block} {ss : List Said} {old : Proposing} (c n : ℕ) (new : Proposing)
-    (result : Result (Unit {0}) RowsFault)
-    → HasProposed blocks ss old → CyclesAdd old c n new result → Adds blocks ss (cycles c) n new result
-cycles_add {blocks} {ss} {old} c n new (Ok done) h r =
+change_grows : (blocks : List Block) (ss : List Told) (s : Told) (change : Proposal → Proposal) (i : ℕ)
+    → IsChange s change → IsAt blocks ss i
+    → proposals_of (length blocks) (ss ++ s ∷ [])
+    ≡ set (proposals_of (length blocks) ss) i (change (at_place (proposals_of (length blocks) ss) i))
+change_grows blocks ss s change i c a =
+    let here : block_of (ss ++ s ∷ []) ≡ 1 + i = still_of ss s c.turns c.proposes ∙ a.block in
+    map-set (proposal_of ss) (proposal_of (ss ++ s ∷ [])) 1 (length blocks) i
+    (change (at_place (proposals_of (length blocks) ss) i)) a.within
+    (c.here ss (1 + i) here ∙ ap change (sym (at-proposals (length blocks) ss i a.within)))
+    (λ k ne. proposal-else ss s k (λ e. ne (sym e ∙ here)))
+
+change_adds : {blocks : List Block} {ss : List Told} {old : Proposing} (s : Told) (change : Proposal → Proposal) (n : ℕ)
+    (new : Proposing) (result : Result (Unit {0}) RowsFault)
+    → IsChange s change → HasProposed blocks ss old → Becomes old change n new result → Adds blocks ss s n new result
+change_adds {blocks} {ss} {old} s change n new (Ok done) c h r =
     let a = is_at r.0 h r.1 in
-    let grown : new.proposals.items ≡ proposals_of (length blocks) (ss ++ cycles c ∷ []) =
-    r.2 ∙ ap (λ ps. set ps r.0 (with_cycles (at_place ps r.0) c)) h.proposals
-    ∙ sym (cycles_grow blocks ss c r.0 a) in (
-      record { of_block = a.there; few = omega arith },
-      record { proposals = grown; last = r.3 ∙ ap (max 1) h.last ∙ sym (last_block-more ss (cycles c) refl refl) },
+    let grown : new.proposals.items ≡ proposals_of (length blocks) (ss ++ s ∷ []) =
+    r.2 ∙ ap (λ ps. set ps r.0 (change (at_place ps r.0))) h.proposals
+    ∙ sym (change_grows blocks ss s change r.0 c a) in (
+      record { of_block = c.fits blocks ss ∙ a.there; few = omega (arith, c.count ss) },
+      record { proposals = grown; last = r.3 ∙ ap (max 1) h.last ∙ sym (last_block-more ss s c.turns c.proposes) },
     )
-cycles_add c n new (Err (Read fault)) h r = absurd r
-cycles_add c n new (Err NoBlocks) h r = r
-cycles_add c n new (Err (NoSuchBlock k)) h r = (r.0, nowhere h r.1)
+change_adds s change n new (Err (Read InputTooLong)) c h r = r
+change_adds s change n new (Err (Read (BadLine k))) c h r = r
+change_adds s change n new (Err (Read (NumberTooLarge k))) c h r = r
+change_adds s change n new (Err (Read (TooManyBlocks k))) c h r = r
+change_adds s change n new (Err (Read (TooManyOperations k))) c h r = absurd r
+change_adds s change n new (Err (Read NoMemory)) c h r = tt
+change_adds s change n new (Err NoBlocks) c h r = r
+change_adds {blocks} {ss} {old} s change n new (Err (NoSuchBlock k)) c h r = (r.0, c.fits blocks ss ∙ nowhere h r.1)
+
+pub cycles_add : {blocks : List Block} {ss : List Told} {old : Proposing} (c n : ℕ) (new : Proposing)
+    (result : Result (Unit {0}) RowsFault)
+    → HasProposed blocks ss old → Becomes old (λ p. with_cycles p c) n new result
+    → Adds blocks ss (read (cycles c)) n new result
+cycles_add c n new result h r = change_adds (read (cycles c)) (λ p. with_cycles p c) n new result record {
+  turns = refl;
+  proposes = refl;
+  here = λ ss k at. proposal-cycles ss c k at;
+  count = λ ss. refl;
+  fits = λ blocks ss. refl;
+} h r
+
+pub unread_adds : {blocks : List Block} {ss : List Told} {old : Proposing} (text : List ℕ) (n : ℕ) (new : Proposing)
+    (result : Result (Unit {0}) RowsFault)
+    → HasProposed blocks ss old → Becomes old (λ p. with_unread p text) n new result
+    → Adds blocks ss (unread text) n new result
+unread_adds text n new result h r = change_adds (unread text) (λ p. with_unread p text) n new result record {
+  turns = refl;
+  proposes = refl;
+  here = λ ss k at. proposal-unread ss text k at;
+  count = λ ss. refl;
+  fits = λ blocks ss. refl;
+} h r
 
 -- Heads, and lines that propose nothing
 
-same_proposals : (count : ℕ) (ss : List Said) (s : Said) → row_in s ≡ None → cycles_in s ≡ None
+same_proposals : (count : ℕ) (ss : List Told) (s : Told) → row_in s ≡ None → unread_in s ≡ None
+    → cycles_in s ≡ None
     → proposals_of count ss ≡ proposals_of count (ss ++ s ∷ [])
-same_proposals count ss s r c =
-    sym (map-same (proposal_of ss) (proposal_of (ss ++ s ∷ [])) 1 count (λ k le. proposal-same ss s k r c))
+same_proposals count ss s r u c =
+    sym (map-same (proposal_of ss) (proposal_of (ss ++ s ∷ [])) 1 count (λ k le. proposal-same ss s k r u c))
 
 below : (a k : ℕ) → a < k → nat_lt a k ≡ true
 below a k h = grind (arith, nat_tests)
 
-pub head_turns : {blocks : List Block} {ss : List Said} {old : Proposing} (k : ℕ) (name : Option (List ℕ)) (n : ℕ)
+pub head_turns : {blocks : List Block} {ss : List Told} {old : Proposing} (k : ℕ) (name : Option (List ℕ)) (n : ℕ)
     (new : Proposing) (result : Result (Unit {0}) RowsFault)
-    → HasProposed blocks ss old → Turns blocks old k name n new result → Adds blocks ss (head k name) n new result
+    → HasProposed blocks ss old → Turns blocks old k name n new result → Adds blocks ss (read (head k name)) n new result
 head_turns {blocks} {ss} {old} k name n new (Ok done) h r = (
   record {
     of_block = ap₂ (λ a b. a && b) (below (last_block ss) k (let last = h.last in let lt = r.0 in omega arith)) r.1;
     few = omega arith;
   },
   record {
-    proposals = r.2 ∙ h.proposals ∙ same_proposals (length blocks) ss (head k name) refl refl;
+    proposals = r.2 ∙ h.proposals ∙ same_proposals (length blocks) ss (read (head k name)) refl refl refl;
     last = r.3 ∙ sym (last_block-head ss k name (let last = h.last in let lt = r.0 in omega arith));
   },
 )
@@ -191,29 +231,29 @@ head_turns k name n new (Err NoBlocks) h r = r
 head_turns {blocks} {ss} {old} k name n new (Err (NoSuchBlock m)) h r =
     (r.0, ap (λ last. nat_lt last k && is_named blocks k name) (sym h.last) ∙ r.1)
 
-pub nothing_adds : {blocks : List Block} {ss : List Said} {old : Proposing} (n : ℕ) → HasProposed blocks ss old
-    → Adds blocks ss nothing n old (Ok tt)
+pub nothing_adds : {blocks : List Block} {ss : List Told} {old : Proposing} (n : ℕ) → HasProposed blocks ss old
+    → Adds blocks ss (read nothing) n old (Ok tt)
 nothing_adds {blocks} {ss} {old} n h = (
   record { of_block = refl; few = omega arith },
   record {
-    proposals = h.proposals ∙ same_proposals (length blocks) ss nothing refl refl;
-    last = h.last ∙ sym (last_block-none ss nothing refl refl);
+    proposals = h.proposals ∙ same_proposals (length blocks) ss (read nothing) refl refl refl;
+    last = h.last ∙ sym (last_block-none ss (read nothing) refl refl);
   },
 )
 
-pub total_adds : {blocks : List Block} {ss : List Said} {old : Proposing} (t n : ℕ) → HasProposed blocks ss old
-    → Adds blocks ss (total t) n old (Ok tt)
+pub total_adds : {blocks : List Block} {ss : List Told} {old : Proposing} (t n : ℕ) → HasProposed blocks ss old
+    → Adds blocks ss (read (total t)) n old (Ok tt)
 total_adds {blocks} {ss} {old} t n h = (
   record { of_block = refl; few = omega arith },
   record {
-    proposals = h.proposals ∙ same_proposals (length blocks) ss (total t) refl refl;
-    last = h.last ∙ sym (last_block-none ss (total t) refl refl);
+    proposals = h.proposals ∙ same_proposals (length blocks) ss (read (total t)) refl refl refl;
+    last = h.last ∙ sym (last_block-none ss (read (total t)) refl refl);
   },
 )
 
 -- Room
 
-pub rows_few : {blocks : List Block} {ss : List Said} {old : Proposing} → HasProposed blocks ss old
+pub rows_few : {blocks : List Block} {ss : List Told} {old : Proposing} → HasProposed blocks ss old
     → length ss < MAX_ROWS → (i : ℕ) → length (at_place old.proposals.items i).rows < MAX_ROWS
 rows_few {blocks} {ss} {old} h few i =
     let P : List Proposal → Type 0 = λ ps. length (at_place ps i).rows < MAX_ROWS in

@@ -1,15 +1,18 @@
 -- What one more row or claim does to a proposal.
-use Rattle.std.proofs.Common.{◌≡◌, ◌≢◌, ◌∙◌, ℕ, suc, zero, ◌+◌, ◌<◌, ◌≤◌, List, [], ◌∷◌, ◌++◌, length, map, refl, sym, ap, ap₂, None, append_assoc, append-nil, length-append, set, arith}
+use Rattle.std.proofs.Common.{◌≡◌, ◌≢◌, ◌∙◌, ℕ, suc, zero, ◌+◌, ◌<◌, ◌≤◌, List, [], ◌∷◌, ◌++◌, length, map, refl, sym, ap, ap₂, Option, Some, None, append_assoc, append-nil, length-append, set, arith}
 use Rattle.std.specs.List.{range_with_len}
+use Rattle.std.specs.Option.{is_some}
 use Rattle.std.proofs.lemmas.List.FromFn.{map-range_with_len_more}
 use Rattle.iloc_ops.specs.declared.op.Op.{Op}
-use Rattle.iloc_text.specs.ScheduleLines.{Said}
-use Rattle.iloc_text.specs.ScheduleLines.Said.{row, cycles}
+use Rattle.iloc_ops.specs.declared.op.Op.TheVariants.{Nop}
+use Rattle.iloc_text.specs.ScheduleLines.Said.{nothing, row, head, cycles, total}
 use Rattle.iloc_timed.specs.declared.row.Row.{Row}
 use Rattle.iloc_rows.specs.declared.proposal.Proposal.{Proposal}
-use Rattle.iloc_rows.specs.Proposing.{block_of, row_in, cycles_in, rows_of, claims_of, filled, ops_in, slot, numbered, last_of, proposal_of, proposals_of}
-use Rattle.iloc_rows.specs.Steps.Growth.{none_proposed, with_row, with_cycles}
-use Rattle.iloc_rows.proofs.Picking.{last_of-snoc, picked-nothing, picked-here, picked-else, picked-short, picked-none}
+use Rattle.iloc_rows.specs.Told.{Told}
+use Rattle.iloc_rows.specs.Told.Told.{read, unread}
+use Rattle.iloc_rows.specs.Proposing.{block_of, row_in, unread_in, cycles_in, rows_of, unread_of, claims_of, first_unread, filled, ops_in, slot, numbered, last_of, proposal_of, proposals_of}
+use Rattle.iloc_rows.specs.Steps.Growth.{none_proposed, with_row, with_unread, or_this, with_cycles}
+use Rattle.iloc_rows.proofs.Picking.{last_of-snoc, picked-alike, picked-nothing, picked-here, picked-else, picked-short, picked-none}
 
 abbrev pub ops_of_row : Op × Op → List Op
 ops_of_row r = filled r.0 ++ filled r.1
@@ -34,54 +37,106 @@ pub length-numbered : (n : ℕ) (rs : List (Op × Op)) → length (numbered n rs
 length-numbered n [] = refl
 length-numbered n (r ∷ rs) = ap suc (length-numbered (n + length (ops_of_row r)) rs)
 
--- a proposal by its rows and claims
-abbrev made : List (Op × Op) → List ℕ → Proposal
-made rows claims = record { ops = ops_in rows; rows = numbered 0 rows; claimed = last_of claims }
+-- the first row that can't be read
 
-made-row : (rows : List (Op × Op)) (claims : List ℕ) (one two : Op)
-    → made (rows ++ (one, two) ∷ []) claims ≡ with_row (made rows claims) one two
-made-row rows claims one two =
-    ap₂ (λ ops rs. record { ops = ops; rows = rs; claimed = last_of claims }) (ops_in-snoc rows (one, two))
-    (numbered-snoc 0 (length (ops_in rows)) rows (one, two) (omega arith))
+unread-snoc : (n m : ℕ) (us : List (Option (List ℕ))) (text : List ℕ) → n + length us ≡ m
+    → first_unread n (us ++ Some text ∷ []) ≡ or_this (first_unread n us) record { row = m; text = text }
+unread-snoc n m [] text e = let same : n ≡ m = omega arith in ap (λ k. Some record { row = k; text = text }) same
+unread-snoc n m (None ∷ us) text e = unread-snoc (n + 1) m us text (omega arith)
+unread-snoc n m (Some first ∷ us) text e = refl
+
+read-snoc : (n : ℕ) (us : List (Option (List ℕ))) → first_unread n (us ++ None ∷ []) ≡ first_unread n us
+read-snoc n [] = refl
+read-snoc n (None ∷ us) = read-snoc (n + 1) us
+read-snoc n (Some first ∷ us) = refl
+
+-- it is told of each row whether it can be read
+as_many : (k : ℕ) (ts : List Told) → length (unread_of k ts) ≡ length (rows_of k ts)
+as_many k ts = picked-alike unread_in row_in k ts each
+  where
+    each : (t : Told) → is_some (unread_in t) ≡ is_some (row_in t)
+    each (read nothing) = refl
+    each (read (row one two)) = refl
+    each (read (head n name)) = refl
+    each (read (cycles c)) = refl
+    each (read (total n)) = refl
+    each (unread text) = refl
+
+-- a proposal by its rows, which of them can't be read, and its claims
+abbrev made : List (Op × Op) → List (Option (List ℕ)) → List ℕ → Proposal
+made rows texts claims =
+    record { ops = ops_in rows; rows = numbered 0 rows; claimed = last_of claims; unread = first_unread 0 texts }
+
+made-row : (rows : List (Op × Op)) (texts : List (Option (List ℕ))) (claims : List ℕ) (one two : Op)
+    → made (rows ++ (one, two) ∷ []) (texts ++ None ∷ []) claims ≡ with_row (made rows texts claims) one two
+made-row rows texts claims one two =
+    let ops = ops_in-snoc rows (one, two) in
+    let more = numbered-snoc 0 (length (ops_in rows)) rows (one, two) (omega arith) in
+    let still = read-snoc 0 texts in
+    λ i. record { ops = ops i; rows = more i; claimed = last_of claims; unread = still i }
+
+made-unread : (rows : List (Op × Op)) (texts : List (Option (List ℕ))) (claims : List ℕ) (text : List ℕ)
+    → length texts ≡ length rows
+    → made (rows ++ (Nop, Nop) ∷ []) (texts ++ Some text ∷ []) claims ≡ with_unread (made rows texts claims) text
+made-unread rows texts claims text many =
+    let ops = ops_in-snoc rows (Nop, Nop) ∙ append-nil (ops_in rows) in
+    let more = numbered-snoc 0 (length (ops_in rows)) rows (Nop, Nop) (omega arith) in
+    let first = unread-snoc 0 (length (numbered 0 rows)) texts text (omega (arith, many, length-numbered 0 rows)) in
+    λ i. record { ops = ops i; rows = more i; claimed = last_of claims; unread = first i }
 
 -- Proposals
 
+ap₃ : {A B C D : Type 0} (f : A → B → C → D) {a a' : A} {b b' : B} {c c' : C} → a ≡ a' → b ≡ b' → c ≡ c'
+    → f a b c ≡ f a' b' c'
+ap₃ f p q r = λ i. f (p i) (q i) (r i)
+
 -- a line of which nothing is picked
-pub proposal-same : (ss : List Said) (s : Said) (k : ℕ) → row_in s ≡ None → cycles_in s ≡ None
+pub proposal-same : (ss : List Told) (s : Told) (k : ℕ) → row_in s ≡ None → unread_in s ≡ None → cycles_in s ≡ None
     → proposal_of (ss ++ s ∷ []) k ≡ proposal_of ss k
-proposal-same ss s k r c = ap₂ made (picked-nothing row_in k ss s r) (picked-nothing cycles_in k ss s c)
+proposal-same ss s k r u c =
+    ap₃ made (picked-nothing row_in k ss s r) (picked-nothing unread_in k ss s u) (picked-nothing cycles_in k ss s c)
 
-pub proposal-row : (ss : List Said) (one two : Op) (k : ℕ) → block_of (ss ++ row one two ∷ []) ≡ k
-    → proposal_of (ss ++ row one two ∷ []) k ≡ with_row (proposal_of ss k) one two
+-- a line of another block
+pub proposal-else : (ss : List Told) (s : Told) (k : ℕ) → block_of (ss ++ s ∷ []) ≢ k
+    → proposal_of (ss ++ s ∷ []) k ≡ proposal_of ss k
+proposal-else ss s k e =
+    ap₃ made (picked-else row_in k ss s e) (picked-else unread_in k ss s e) (picked-else cycles_in k ss s e)
+
+pub proposal-row : (ss : List Told) (one two : Op) (k : ℕ) → block_of (ss ++ read (row one two) ∷ []) ≡ k
+    → proposal_of (ss ++ read (row one two) ∷ []) k ≡ with_row (proposal_of ss k) one two
 proposal-row ss one two k e =
-    ap₂ made (picked-here row_in k ss (row one two) (one, two) refl e)
-    (picked-nothing cycles_in k ss (row one two) refl)
-    ∙ made-row (rows_of k ss) (claims_of k ss) one two
+    ap₃ made (picked-here row_in k ss (read (row one two)) (one, two) refl e)
+    (picked-here unread_in k ss (read (row one two)) None refl e)
+    (picked-nothing cycles_in k ss (read (row one two)) refl)
+    ∙ made-row (rows_of k ss) (unread_of k ss) (claims_of k ss) one two
 
-pub proposal-row_else : (ss : List Said) (one two : Op) (k : ℕ) → block_of (ss ++ row one two ∷ []) ≢ k
-    → proposal_of (ss ++ row one two ∷ []) k ≡ proposal_of ss k
-proposal-row_else ss one two k e = ap₂ made (picked-else row_in k ss (row one two) e)
-    (picked-nothing cycles_in k ss (row one two) refl)
+pub proposal-unread : (ss : List Told) (text : List ℕ) (k : ℕ) → block_of (ss ++ unread text ∷ []) ≡ k
+    → proposal_of (ss ++ unread text ∷ []) k ≡ with_unread (proposal_of ss k) text
+proposal-unread ss text k e =
+    ap₃ made (picked-here row_in k ss (unread text) (Nop, Nop) refl e)
+    (picked-here unread_in k ss (unread text) (Some text) refl e)
+    (picked-nothing cycles_in k ss (unread text) refl)
+    ∙ made-unread (rows_of k ss) (unread_of k ss) (claims_of k ss) text (as_many k ss)
 
-pub proposal-cycles : (ss : List Said) (c k : ℕ) → block_of (ss ++ cycles c ∷ []) ≡ k
-    → proposal_of (ss ++ cycles c ∷ []) k ≡ with_cycles (proposal_of ss k) c
+pub proposal-cycles : (ss : List Told) (c k : ℕ) → block_of (ss ++ read (cycles c) ∷ []) ≡ k
+    → proposal_of (ss ++ read (cycles c) ∷ []) k ≡ with_cycles (proposal_of ss k) c
 proposal-cycles ss c k e =
-    ap₂ made (picked-nothing row_in k ss (cycles c) refl) (picked-here cycles_in k ss (cycles c) c refl e)
-    ∙ ap (λ claim. record { ops = ops_in (rows_of k ss); rows = numbered 0 (rows_of k ss); claimed = claim })
-    (last_of-snoc (claims_of k ss) c)
+    ap₃ made (picked-nothing row_in k ss (read (cycles c)) refl) (picked-nothing unread_in k ss (read (cycles c)) refl)
+    (picked-here cycles_in k ss (read (cycles c)) c refl e)
+    ∙ ap (λ claim. record {
+      ops = ops_in (rows_of k ss);
+      rows = numbered 0 (rows_of k ss);
+      claimed = claim;
+      unread = first_unread 0 (unread_of k ss);
+    }) (last_of-snoc (claims_of k ss) c)
 
-pub proposal-cycles_else : (ss : List Said) (c k : ℕ) → block_of (ss ++ cycles c ∷ []) ≢ k
-    → proposal_of (ss ++ cycles c ∷ []) k ≡ proposal_of ss k
-proposal-cycles_else ss c k e = ap₂ made (picked-nothing row_in k ss (cycles c) refl)
-    (picked-else cycles_in k ss (cycles c) e)
-
-pub proposal-short : (ss : List Said) (k : ℕ) → length (proposal_of ss k).rows ≤ length ss
+pub proposal-short : (ss : List Told) (k : ℕ) → length (proposal_of ss k).rows ≤ length ss
 proposal-short ss k = omega (arith, length-numbered 0 (rows_of k ss), picked-short row_in k ss)
 
 -- Lists of proposals
 
 nothing_proposed : (k : ℕ) → proposal_of [] k ≡ none_proposed
-nothing_proposed k = ap₂ made (picked-none row_in k) (picked-none cycles_in k)
+nothing_proposed k = ap₃ made (picked-none row_in k) (picked-none unread_in k) (picked-none cycles_in k)
 
 -- one block more, for which nothing is proposed
 pub none-more : (n : ℕ) → proposals_of n [] ++ none_proposed ∷ [] ≡ proposals_of (n + 1) []

@@ -7,7 +7,6 @@ use Rattle.iloc_text.specs.declared.fault.ReadFault.{ReadFault}
 use Rattle.iloc_text.specs.declared.fault.ReadFault.TheVariants.{InputTooLong, BadLine, NumberTooLarge, TooManyBlocks, TooManyOperations, NoMemory}
 use Rattle.iloc_text.specs.Files as files
 use Rattle.iloc_text.specs.Files.{AreLines}
-use Rattle.iloc_text.specs.ScheduleLines.{Said, Says}
 use Rattle.iloc_text.specs.Lines.{lines_of, lines_left}
 use Rattle.iloc_text.proofs.Splitting.{lines_are, lines_few}
 use Rattle.iloc_timed.specs.Limits.{MAX_ROWS}
@@ -16,27 +15,28 @@ use Rattle.iloc_rows.specs.declared.fault.RowsFault.TheVariants.{Read, NoBlocks,
 use Rattle.iloc_rows.specs.declared.blocks_end.CutText.{CutText}
 use Rattle.iloc_rows.specs.declared.proposal.Proposal.{Proposal}
 use Rattle.iloc_rows.specs.declared.proposing.Proposing.{Proposing}
+use Rattle.iloc_rows.specs.Told.{Told, Tells}
 use Rattle.iloc_rows.specs.Proposing.{proposals_of, Fits, AllFit}
-use Rattle.iloc_rows.specs.Submissions.{SayAll, Propose, Denotes, IsFaulty, HaveFirstFault, HasNoBlocks, BlocksAreRefused, RowsAreRefused, IsRefused, ProposeApart, HaveFault, AreRefusedFor}
+use Rattle.iloc_rows.specs.Submissions.{TellAll, Propose, Denotes, IsFaulty, HaveFirstFault, HasNoBlocks, BlocksAreRefused, RowsAreRefused, IsRefused, ProposeApart, HaveFault, AreRefusedFor}
 use Rattle.iloc_rows.specs.Steps.Growth.{HasProposed, Adds}
 use Rattle.iloc_rows.specs.Steps.Ends.{IsCutOf}
 use Rattle.iloc_rows.proofs.Picking.{last_block-nothing}
 use Rattle.iloc_rows.proofs.Ends.{join-append}
 
-pub SayAll-snoc : (lines : List (List ℕ)) (ss : List Said) (line : List ℕ) (s : Said) → SayAll lines ss → Says line s
-    → SayAll (lines ++ line ∷ []) (ss ++ s ∷ [])
-SayAll-snoc [] [] line s h says = (says, tt)
-SayAll-snoc [] (x ∷ xs) line s h says = absurd h
-SayAll-snoc (l ∷ ls) [] line s h says = absurd h
-SayAll-snoc (l ∷ ls) (x ∷ xs) line s h says = (h.0, SayAll-snoc ls xs line s h.1 says)
+pub TellAll-snoc : (lines : List (List ℕ)) (ss : List Told) (line : List ℕ) (s : Told) → TellAll lines ss → Tells line s
+    → TellAll (lines ++ line ∷ []) (ss ++ s ∷ [])
+TellAll-snoc [] [] line s h says = (says, tt)
+TellAll-snoc [] (x ∷ xs) line s h says = absurd h
+TellAll-snoc (l ∷ ls) [] line s h says = absurd h
+TellAll-snoc (l ∷ ls) (x ∷ xs) line s h says = (h.0, TellAll-snoc ls xs line s h.1 says)
 
-pub length-SayAll : (lines : List (List ℕ)) (ss : List Said) → SayAll lines ss → length ss ≡ length lines
-length-SayAll [] [] h = refl
-length-SayAll [] (s ∷ ss) h = absurd h
-length-SayAll (l ∷ ls) [] h = absurd h
-length-SayAll (l ∷ ls) (s ∷ ss) h = ap suc (length-SayAll ls ss h.1)
+pub length-TellAll : (lines : List (List ℕ)) (ss : List Told) → TellAll lines ss → length ss ≡ length lines
+length-TellAll [] [] h = refl
+length-TellAll [] (s ∷ ss) h = absurd h
+length-TellAll (l ∷ ls) [] h = absurd h
+length-TellAll (l ∷ ls) (s ∷ ss) h = ap suc (length-TellAll ls ss h.1)
 
-pub AllFit-snoc : (blocks : List Block) (lines ss : List Said) (s : Said) → AllFit blocks lines ss
+pub AllFit-snoc : (blocks : List Block) (lines ss : List Told) (s : Told) → AllFit blocks lines ss
     → Fits blocks (lines ++ ss) s → AllFit blocks lines (ss ++ s ∷ [])
 AllFit-snoc blocks lines [] s h f = (subst (λ l. Fits blocks l s) (append-nil lines) f, tt)
 AllFit-snoc blocks lines (x ∷ xs) s h f = (
@@ -49,10 +49,10 @@ AllFit-snoc blocks lines (x ∷ xs) s h f = (
 pub record Progress (blocks : List Block) (lines : ℕ) (all : List (List ℕ)) (state : Proposing) (number : ℕ)
     (rest : Option (Bor (List ℕ))) : Type 0 where
   pub before : List (List ℕ)
-  pub said : List Said
-  pub say : SayAll before said
-  pub fit : AllFit blocks [] said
-  pub proposed : HasProposed blocks said state
+  pub told : List Told
+  pub tell : TellAll before told
+  pub fit : AllFit blocks [] told
+  pub proposed : HasProposed blocks told state
   pub number_is : number ≡ lines + length before
   pub whole : all ≡ before ++ lines_left rest
 
@@ -61,8 +61,8 @@ pub progress_begins : (blocks : List Block) (lines : ℕ) (state : Proposing) (r
     → Progress blocks lines (lines_left rest) state lines rest
 progress_begins blocks lines state rest p l = record {
   before = [];
-  said = [];
-  say = tt;
+  told = [];
+  tell = tt;
   fit = tt;
   proposed = record { proposals = p; last = l ∙ sym last_block-nothing };
   number_is = omega arith;
@@ -71,15 +71,15 @@ progress_begins blocks lines state rest p l = record {
 
 pub progress_step : {blocks : List Block} {lines : ℕ} {all : List (List ℕ)} {state : Proposing} {number : ℕ}
     {text : Bor (List ℕ)} (p : Progress blocks lines all state number (Some text)) (line : List ℕ)
-    (after : Option (Bor (List ℕ))) (s : Said) (new : Proposing)
-    → lines_of text.now ≡ line ∷ lines_left after → Says line s
-    → Fits blocks p.said s × HasProposed blocks (p.said ++ s ∷ []) new
+    (after : Option (Bor (List ℕ))) (s : Told) (new : Proposing)
+    → lines_of text.now ≡ line ∷ lines_left after → Tells line s
+    → Fits blocks p.told s × HasProposed blocks (p.told ++ s ∷ []) new
     → Progress blocks lines all new (number + 1) after
 progress_step {blocks} {lines} {all} {state} {number} {text} p line after s new split says added = record {
   before = p.before ++ line ∷ [];
-  said = p.said ++ s ∷ [];
-  say = SayAll-snoc p.before p.said line s p.say says;
-  fit = AllFit-snoc blocks [] p.said s p.fit added.0;
+  told = p.told ++ s ∷ [];
+  tell = TellAll-snoc p.before p.told line s p.tell says;
+  fit = AllFit-snoc blocks [] p.told s p.fit added.0;
   proposed = added.1;
   number_is = omega (arith, length-append p.before (line ∷ []), p.number_is);
   whole = p.whole ∙ ap (λ l. p.before ++ l) split ∙ sym (append_assoc p.before (line ∷ []) (lines_left after));
@@ -93,15 +93,15 @@ progress_number {blocks} {lines} {all} {state} {number} {rest} p =
 
 pub progress_room : {blocks : List Block} {lines : ℕ} {all : List (List ℕ)} {state : Proposing} {number : ℕ}
     {rest : Option (Bor (List ℕ))} (p : Progress blocks lines all state number rest)
-    → lines + length all ≤ MAX_INPUT + 1 → length p.said < MAX_ROWS
+    → lines + length all ≤ MAX_INPUT + 1 → length p.told < MAX_ROWS
 progress_room {blocks} {lines} {all} {state} {number} {rest} p few =
-    omega (arith, length-SayAll p.before p.said p.say, ap length p.whole, length-append p.before (lines_left rest))
+    omega (arith, length-TellAll p.before p.told p.tell, ap length p.whole, length-append p.before (lines_left rest))
 
 pub progress_ends : {blocks : List Block} {lines : ℕ} {all : List (List ℕ)} {state : Proposing} {number : ℕ}
     → Progress blocks lines all state number None → Propose blocks all state.proposals.items
 progress_ends {blocks} {lines} {all} {state} {number} p = record {
-  said = p.said;
-  say = subst (λ ls. SayAll ls p.said) (sym (p.whole ∙ append-nil p.before)) p.say;
+  told = p.told;
+  tell = subst (λ ls. TellAll ls p.told) (sym (p.whole ∙ append-nil p.before)) p.tell;
   fit = p.fit;
   are = p.proposed.proposals;
 }
@@ -112,31 +112,31 @@ progress_ends {blocks} {lines} {all} {state} {number} p = record {
 pub fault_here : {blocks : List Block} {lines : ℕ} {all : List (List ℕ)} {state : Proposing} {number : ℕ}
     {text : Bor (List ℕ)} (p : Progress blocks lines all state number (Some text)) (line : List ℕ)
     (after : Option (Bor (List ℕ))) (fault : RowsFault)
-    → lines_of text.now ≡ line ∷ lines_left after → IsFaulty blocks p.said line (number + 1) fault
+    → lines_of text.now ≡ line ∷ lines_left after → IsFaulty blocks p.told line (number + 1) fault
     → HaveFirstFault blocks lines all fault
 fault_here {blocks} {lines} {all} {state} {number} {text} p line after fault split faulty = record {
   before = p.before;
   line = line;
   after = lines_left after;
   whole = p.whole ∙ ap (λ l. p.before ++ l) split;
-  said = p.said;
-  say = p.say;
+  told = p.told;
+  tell = p.tell;
   fit = p.fit;
-  faulty = subst (λ n. IsFaulty blocks p.said line n fault) (ap (λ n. n + 1) p.number_is) faulty;
+  faulty = subst (λ n. IsFaulty blocks p.told line n fault) (ap (λ n. n + 1) p.number_is) faulty;
 }
 
-pub added_faulty : (blocks : List Block) (ss : List Said) (line : List ℕ) (s : Said) (n : ℕ) (state : Proposing)
-    (fault : RowsFault) → Says line s → Adds blocks ss s n state (Err fault) → fault ≢ Read NoMemory
+pub added_faulty : (blocks : List Block) (ss : List Told) (line : List ℕ) (s : Told) (n : ℕ) (state : Proposing)
+    (fault : RowsFault) → Tells line s → Adds blocks ss s n state (Err fault) → fault ≢ Read NoMemory
     → IsFaulty blocks ss line n fault
 added_faulty blocks ss line s n state (Read InputTooLong) says a memory = a
 added_faulty blocks ss line s n state (Read (BadLine k)) says a memory = absurd a
 added_faulty blocks ss line s n state (Read (NumberTooLarge k)) says a memory = absurd a
 added_faulty blocks ss line s n state (Read (TooManyBlocks k)) says a memory = a
 added_faulty blocks ss line s n state (Read (TooManyOperations k)) says a memory =
-    (a.0, record { said = s; says = says; of_block = a.1; many = a.2 })
+    (a.0, record { told = s; tells = says; of_block = a.1; many = a.2 })
 added_faulty blocks ss line s n state (Read NoMemory) says a memory = absurd (memory refl)
 added_faulty blocks ss line s n state NoBlocks says a memory = a
-added_faulty blocks ss line s n state (NoSuchBlock k) says a memory = (a.0, record { said = s; says = says; of_none = a.1 })
+added_faulty blocks ss line s n state (NoSuchBlock k) says a memory = (a.0, record { told = s; tells = says; of_none = a.1 })
 
 -- the fault that a call hands on
 pub err_is : {T : Type 0} (P : RowsFault → Type 0) (r : Result T RowsFault) (fault : RowsFault) → r ≡ Err fault

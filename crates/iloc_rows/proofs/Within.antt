@@ -4,46 +4,60 @@ use Rattle.std.specs.List.{AllByRecursion, range_with_len}
 use Rattle.std.proofs.lemmas.Bool.{cases_eq}
 use Rattle.iloc_ops.specs.Limits.{MAX_OPS}
 use Rattle.iloc_ops.specs.declared.op.Op.{Op}
+use Rattle.iloc_ops.specs.declared.op.Op.TheVariants.{Nop}
 use Rattle.iloc_ops.specs.declared.file.Block.{Block}
-use Rattle.iloc_text.specs.ScheduleLines.{Said}
 use Rattle.iloc_text.specs.ScheduleLines.Said.{nothing, row, head, cycles, total}
 use Rattle.iloc_text.specs.Files as files
 use Rattle.iloc_text.proofs.Within.{files_within}
 use Rattle.iloc_rows.specs.declared.proposal.Proposal.{Proposal}
+use Rattle.iloc_rows.specs.Told.{Told}
+use Rattle.iloc_rows.specs.Told.Told.{read, unread}
 use Rattle.iloc_rows.specs.Proposing.{block_of, row_in, rows_of, ops_in, proposal_of, proposals_of, Fits, AllFit}
 use Rattle.iloc_rows.specs.Laws.{AreWithinLimits, SubmissionsApartAreWithinLimits, SubmissionsAreWithinLimits}
 use Rattle.iloc_rows.specs.Submissions.{Propose}
 use Rattle.iloc_rows.proofs.Picking.{picked-nothing, picked-here, picked-else, picked-none}
+use Rattle.iloc_rows.proofs.Numbering.{ops_in-snoc}
 use Rattle.iloc_rows.proofs.Growing.{length-proposals, still_of}
 use Rattle.iloc_rows.proofs.Slots.{numbered_once, numbered_in_range}
 
 -- Operations
 
 -- the rows of each block have at most 10,000 operations
-abbrev AreFew : List Said → Type 0
+abbrev AreFew : List Told → Type 0
 AreFew ss = (k : ℕ) → length (ops_in (rows_of k ss)) ≤ MAX_OPS
 
 few_rows : (rows rows' : List (Op × Op)) → rows ≡ rows' → length (ops_in rows') ≤ MAX_OPS → length (ops_in rows) ≤ MAX_OPS
 few_rows rows rows' e h = omega (arith, ap (λ rs. length (ops_in rs)) e)
 
-few-row : (blocks : List Block) (ss : List Said) (one two : Op) → Fits blocks ss (row one two) → AreFew ss
-    → AreFew (ss ++ row one two ∷ [])
+few-row : (blocks : List Block) (ss : List Told) (one two : Op) → Fits blocks ss (read (row one two)) → AreFew ss
+    → AreFew (ss ++ read (row one two) ∷ [])
 few-row blocks ss one two f h k =
-    let still : block_of (ss ++ row one two ∷ []) ≡ block_of ss = still_of ss (row one two) refl refl in
-    elim (cases_eq (block_of (ss ++ row one two ∷ [])) k) [
-      | inl here ↦ few_rows _ _ (picked-here row_in k ss (row one two) (one, two) refl here)
+    let still : block_of (ss ++ read (row one two) ∷ []) ≡ block_of ss = still_of ss (read (row one two)) refl refl in
+    elim (cases_eq (block_of (ss ++ read (row one two) ∷ [])) k) [
+      | inl here ↦ few_rows _ _ (picked-here row_in k ss (read (row one two)) (one, two) refl here)
           (few_rows _ _ (ap (λ n. rows_of n ss ++ (one, two) ∷ []) (sym here ∙ still)) f.few)
-      | inr apart ↦ few_rows _ _ (picked-else row_in k ss (row one two) apart) (h k)
+      | inr apart ↦ few_rows _ _ (picked-else row_in k ss (read (row one two)) apart) (h k)
     ]
 
-few-line : (blocks : List Block) (ss : List Said) (s : Said) → Fits blocks ss s → AreFew ss → AreFew (ss ++ s ∷ [])
-few-line blocks ss nothing f h k = few_rows _ _ (picked-nothing row_in k ss nothing refl) (h k)
-few-line blocks ss (row one two) f h k = few-row blocks ss one two f h k
-few-line blocks ss (head n name) f h k = few_rows _ _ (picked-nothing row_in k ss (head n name) refl) (h k)
-few-line blocks ss (cycles c) f h k = few_rows _ _ (picked-nothing row_in k ss (cycles c) refl) (h k)
-few-line blocks ss (total t) f h k = few_rows _ _ (picked-nothing row_in k ss (total t) refl) (h k)
+few-line : (blocks : List Block) (ss : List Told) (s : Told) → Fits blocks ss s → AreFew ss → AreFew (ss ++ s ∷ [])
+few-line blocks ss (read nothing) f h k = few_rows _ _ (picked-nothing row_in k ss (read nothing) refl) (h k)
+few-line blocks ss (read (row one two)) f h k = few-row blocks ss one two f h k
+few-line blocks ss (read (head n name)) f h k = few_rows _ _ (picked-nothing row_in k ss (read (head n name)) refl) (h k)
+few-line blocks ss (read (cycles c)) f h k = few_rows _ _ (picked-nothing row_in k ss (read (cycles c)) refl) (h k)
+few-line blocks ss (read (total t)) f h k = few_rows _ _ (picked-nothing row_in k ss (read (total t)) refl) (h k)
+few-line blocks ss (unread text) f h k =
+    elim (cases_eq (block_of (ss ++ unread text ∷ [])) k) [
+      | inl here ↦ few_rows _ _ (picked-here row_in k ss (unread text) (Nop, Nop) refl here) (few_more (h k))
+      | inr apart ↦ few_rows _ _ (picked-else row_in k ss (unread text) apart) (h k)
+    ]
+  where
+    few_more : length (ops_in (rows_of k ss)) ≤ MAX_OPS → length (ops_in (rows_of k ss ++ (Nop, Nop) ∷ [])) ≤ MAX_OPS
+    few_more few =
+        let same : ops_in (rows_of k ss ++ (Nop, Nop) ∷ []) ≡ ops_in (rows_of k ss) =
+        ops_in-snoc (rows_of k ss) (Nop, Nop) ∙ append-nil (ops_in (rows_of k ss)) in
+        omega (arith, ap length same)
 
-few-lines : (blocks : List Block) (lines ss : List Said) → AllFit blocks lines ss → AreFew lines → AreFew (lines ++ ss)
+few-lines : (blocks : List Block) (lines ss : List Told) → AllFit blocks lines ss → AreFew lines → AreFew (lines ++ ss)
 few-lines blocks lines [] f h = subst AreFew (sym (append-nil lines)) h
 few-lines blocks lines (s ∷ ss) f h =
     subst AreFew (append_assoc lines (s ∷ []) ss)
@@ -59,7 +73,7 @@ all-map P f [] h = tt
 all-map P f (x ∷ xs) h = (h x, all-map P f xs h)
 
 -- what holds of what any block is proposed holds of all that is proposed
-all_proposed : (P : Proposal → Type 0) (count : ℕ) (ss : List Said) (proposals : List Proposal)
+all_proposed : (P : Proposal → Type 0) (count : ℕ) (ss : List Told) (proposals : List Proposal)
     → proposals ≡ proposals_of count ss → ((k : ℕ) → P (proposal_of ss k)) → AllByRecursion P proposals
 all_proposed P count ss proposals e h =
     subst (AllByRecursion P) (sym e) (all-map P (proposal_of ss) (range_with_len 1 count) h)
@@ -69,15 +83,15 @@ proposals_within : (text : List ℕ) (blocks : List Block) (lines : List (List �
     → files.Denotes text blocks → Propose blocks lines proposals → AreWithinLimits blocks proposals
 proposals_within text blocks lines proposals file propose =
     let few = files_within text blocks file in
-    let said = propose.said in
+    let told = propose.told in
     record {
       few_blocks = few.0;
       short_blocks = few.1;
-      as_many = ap length propose.are ∙ length-proposals (length blocks) said;
-      short_proposals = all_proposed (λ p. length p.ops ≤ MAX_OPS) (length blocks) said proposals propose.are
-          (few-lines blocks [] said propose.fit few-none);
-      once = all_proposed _ (length blocks) said proposals propose.are (λ k. numbered_once (rows_of k said));
-      in_range = all_proposed _ (length blocks) said proposals propose.are (λ k. numbered_in_range (rows_of k said));
+      as_many = ap length propose.are ∙ length-proposals (length blocks) told;
+      short_proposals = all_proposed (λ p. length p.ops ≤ MAX_OPS) (length blocks) told proposals propose.are
+          (few-lines blocks [] told propose.fit few-none);
+      once = all_proposed _ (length blocks) told proposals propose.are (λ k. numbered_once (rows_of k told));
+      in_range = all_proposed _ (length blocks) told proposals propose.are (λ k. numbered_in_range (rows_of k told));
     }
 
 pub submissions_within : SubmissionsAreWithinLimits

@@ -1,4 +1,5 @@
 pub mod Fault
+pub mod Told
 pub mod Proposing
 pub mod EitherSlot
 pub mod Submissions

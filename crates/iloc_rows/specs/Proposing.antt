@@ -7,10 +7,12 @@ use Rattle.iloc_ops.specs.Limits.{MAX_OPS}
 use Rattle.iloc_ops.specs.declared.op.Op.{Op}
 use Rattle.iloc_ops.specs.declared.op.Op.TheVariants.{Nop}
 use Rattle.iloc_ops.specs.declared.file.Block.{Block}
-use Rattle.iloc_text.specs.ScheduleLines.{Said}
 use Rattle.iloc_text.specs.ScheduleLines.Said.{nothing, row, head, cycles, total}
 use Rattle.iloc_timed.specs.declared.row.Row.{Row}
 use Rattle.iloc_rows.specs.declared.proposal.Proposal.{Proposal}
+use Rattle.iloc_rows.specs.declared.proposal.unread.Unread.{Unread}
+use Rattle.iloc_rows.specs.Told.{Told}
+use Rattle.iloc_rows.specs.Told.Told.{read, unread}
 
 -- Whose lines they are
 
@@ -21,72 +23,88 @@ last_of (x ∷ []) = Some x
 last_of (x ∷ y ∷ xs) = last_of (y ∷ xs)
 
 -- the lines up to the first, up to the second, and so on
-abbrev pub fronts : List Said → List (List Said)
+abbrev pub fronts : List Told → List (List Told)
 fronts [] = []
 fronts (s ∷ ss) = (s ∷ []) ∷ map (λ front. s ∷ front) (fronts ss)
 
 -- the number in a head
-abbrev pub head_number : Said → Option ℕ
-head_number nothing = None
-head_number (row zero one) = None
-head_number (head k name) = Some k
-head_number (cycles c) = None
-head_number (total t) = None
+abbrev pub head_number : Told → Option ℕ
+head_number (read nothing) = None
+head_number (read (row zero one)) = None
+head_number (read (head k name)) = Some k
+head_number (read (cycles c)) = None
+head_number (read (total t)) = None
+head_number (unread text) = None
 
 -- the number in the last head, 0 where there is none
-unfoldable pub last_head : List Said → ℕ
+unfoldable pub last_head : List Told → ℕ
 last_head lines = unwrap_or (last_of (filter_map head_number lines)) 0
 
--- whether a line is of a block: a row, or a number of cycles
-abbrev pub proposes : Said → Bool
-proposes nothing = false
-proposes (row zero one) = true
-proposes (head k name) = false
-proposes (cycles c) = true
-proposes (total t) = false
+-- whether a line is of a block: a row, read or not, or a number of cycles
+abbrev pub proposes : Told → Bool
+proposes (read nothing) = false
+proposes (read (row zero one)) = true
+proposes (read (head k name)) = false
+proposes (read (cycles c)) = true
+proposes (read (total t)) = false
+proposes (unread text) = true
 
 -- the number of the block of which the lines have been last: that in the last head, 1 where lines are of a block without a
 -- head, and 0 where none has been of a block
-unfoldable pub last_block : List Said → ℕ
+unfoldable pub last_block : List Told → ℕ
 last_block lines = max (last_head lines) (if list_any proposes lines then 1 else 0)
 
 -- the number of the block of which the last line is: without a head the first
-abbrev pub block_of : List Said → ℕ
+abbrev pub block_of : List Told → ℕ
 block_of lines = max 1 (last_block lines)
 
 -- what is picked of the last line
-abbrev pub of_last : {A : Type 0} → (Said → Option A) → List Said → Option A
+abbrev pub of_last : {A : Type 0} → (Told → Option A) → List Told → Option A
 of_last pick [] = None
 of_last pick (s ∷ []) = pick s
 of_last pick (s ∷ t ∷ ss) = of_last pick (t ∷ ss)
 
 -- what is picked of the lines of block k, in order
-unfoldable pub picked : {A : Type 0} → (Said → Option A) → ℕ → List Said → List A
+unfoldable pub picked : {A : Type 0} → (Told → Option A) → ℕ → List Told → List A
 picked pick k lines = filter_map (λ front. if block_of front == k then of_last pick front else None) (fronts lines)
 
 -- Rows
 
--- the operations of a row, on unit 0 and on unit 1
-abbrev pub row_in : Said → Option (Op × Op)
-row_in nothing = None
-row_in (row zero one) = Some (zero, one)
-row_in (head k name) = None
-row_in (cycles c) = None
-row_in (total t) = None
+-- the operations of a row, on unit 0 and on unit 1: none in one that can't be read
+abbrev pub row_in : Told → Option (Op × Op)
+row_in (read nothing) = None
+row_in (read (row zero one)) = Some (zero, one)
+row_in (read (head k name)) = None
+row_in (read (cycles c)) = None
+row_in (read (total t)) = None
+row_in (unread text) = Some (Nop, Nop)
+
+-- of a row: its text, if it can't be read
+abbrev pub unread_in : Told → Option (Option (List ℕ))
+unread_in (read nothing) = None
+unread_in (read (row zero one)) = Some None
+unread_in (read (head k name)) = None
+unread_in (read (cycles c)) = None
+unread_in (read (total t)) = None
+unread_in (unread text) = Some (Some text)
 
 -- a number of cycles
-abbrev pub cycles_in : Said → Option ℕ
-cycles_in nothing = None
-cycles_in (row zero one) = None
-cycles_in (head k name) = None
-cycles_in (cycles c) = Some c
-cycles_in (total t) = None
+abbrev pub cycles_in : Told → Option ℕ
+cycles_in (read nothing) = None
+cycles_in (read (row zero one)) = None
+cycles_in (read (head k name)) = None
+cycles_in (read (cycles c)) = Some c
+cycles_in (read (total t)) = None
+cycles_in (unread text) = None
 
--- the rows of block k, and the numbers of cycles that are said of it
-abbrev pub rows_of : ℕ → List Said → List (Op × Op)
+-- the rows of block k, which of them can't be read, and the numbers of cycles that are said of it
+abbrev pub rows_of : ℕ → List Told → List (Op × Op)
 rows_of k lines = picked row_in k lines
 
-abbrev pub claims_of : ℕ → List Said → List ℕ
+abbrev pub unread_of : ℕ → List Told → List (Option (List ℕ))
+unread_of k lines = picked unread_in k lines
+
+abbrev pub claims_of : ℕ → List Told → List ℕ
 claims_of k lines = picked cycles_in k lines
 
 -- a `nop` is written for an empty slot
@@ -113,16 +131,23 @@ numbered n (r ∷ rs) =
     record { zero = slot n r.0; one = slot (n + length (filled r.0)) r.1 }
     ∷ numbered (n + length (filled r.0 ++ filled r.1)) rs
 
+-- the first row that can't be read, after n rows
+abbrev pub first_unread : ℕ → List (Option (List ℕ)) → Option Unread
+first_unread n [] = None
+first_unread n (None ∷ rows) = first_unread (n + 1) rows
+first_unread n (Some text ∷ rows) = Some record { row = n; text = text }
+
 -- what the lines propose for block k
-abbrev pub proposal_of : List Said → ℕ → Proposal
+abbrev pub proposal_of : List Told → ℕ → Proposal
 proposal_of lines k = record {
   ops = ops_in (rows_of k lines);
   rows = numbered 0 (rows_of k lines);
   claimed = last_of (claims_of k lines);
+  unread = first_unread 0 (unread_of k lines);
 }
 
 -- what they propose for so many blocks
-abbrev pub proposals_of : ℕ → List Said → List Proposal
+abbrev pub proposals_of : ℕ → List Told → List Proposal
 proposals_of count lines = map (proposal_of lines) (range_with_len 1 count)
 
 -- Which lines fit the blocks
@@ -140,27 +165,29 @@ is_named blocks k name = option_map_or (λ block. is_same_name block.name name) 
 
 -- After these lines a line speaks of a block that is there: a head names one after that of which lines have been last, and
 -- a row or a number of cycles comes below a head, or there is one block only.
-abbrev pub is_of_block : List Block → List Said → Said → Bool
-is_of_block blocks lines nothing = true
-is_of_block blocks lines (row zero one) = nat_lt 0 (last_block lines) || (length blocks == 1)
-is_of_block blocks lines (head k name) = nat_lt (last_block lines) k && is_named blocks k name
-is_of_block blocks lines (cycles c) = nat_lt 0 (last_block lines) || (length blocks == 1)
-is_of_block blocks lines (total t) = true
+abbrev pub is_of_block : List Block → List Told → Told → Bool
+is_of_block blocks lines (read nothing) = true
+is_of_block blocks lines (read (row zero one)) = nat_lt 0 (last_block lines) || (length blocks == 1)
+is_of_block blocks lines (read (head k name)) = nat_lt (last_block lines) k && is_named blocks k name
+is_of_block blocks lines (read (cycles c)) = nat_lt 0 (last_block lines) || (length blocks == 1)
+is_of_block blocks lines (read (total t)) = true
+is_of_block blocks lines (unread text) = nat_lt 0 (last_block lines) || (length blocks == 1)
 
--- how many operations the rows of its block have with this one, where the line is a row
-abbrev pub op_count : List Said → Said → ℕ
-op_count lines nothing = 0
-op_count lines (row zero one) = length (ops_in (rows_of (block_of lines) lines ++ (zero, one) ∷ []))
-op_count lines (head k name) = 0
-op_count lines (cycles c) = 0
-op_count lines (total t) = 0
+-- how many operations the rows of its block have with this one, where the line is a row that was read
+abbrev pub op_count : List Told → Told → ℕ
+op_count lines (read nothing) = 0
+op_count lines (read (row zero one)) = length (ops_in (rows_of (block_of lines) lines ++ (zero, one) ∷ []))
+op_count lines (read (head k name)) = 0
+op_count lines (read (cycles c)) = 0
+op_count lines (read (total t)) = 0
+op_count lines (unread text) = 0
 
 -- the line speaks of a block that is there, and its row makes no more than 10,000 operations
-pub record Fits (blocks : List Block) (lines : List Said) (line : Said) : Type 0 where
+pub record Fits (blocks : List Block) (lines : List Told) (line : Told) : Type 0 where
   pub of_block : is_of_block blocks lines line ≡ true
   pub few : op_count lines line ≤ MAX_OPS
 
 -- so does each further line
-abbrev pub AllFit : List Block → List Said → List Said → Type 0
+abbrev pub AllFit : List Block → List Told → List Told → Type 0
 AllFit blocks lines [] = Unit {0}
 AllFit blocks lines (s ∷ ss) = Fits blocks lines s × AllFit blocks (lines ++ s ∷ []) ss

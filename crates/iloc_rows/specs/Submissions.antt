@@ -7,18 +7,19 @@ use Rattle.iloc_text.specs.declared.fault.ReadFault.{ReadFault}
 use Rattle.iloc_text.specs.declared.fault.ReadFault.TheVariants.{InputTooLong, BadLine, NumberTooLarge, TooManyBlocks, TooManyOperations, NoMemory}
 use Rattle.iloc_text.specs.Files as files
 use Rattle.iloc_text.specs.Files.{AreLines}
-use Rattle.iloc_text.specs.ScheduleLines.{Said, Says, SaysSomething, SaysSomethingWidely, IsScheduleLine}
+use Rattle.iloc_text.specs.ScheduleLines.{SaysSomething, SaysSomethingWidely, IsScheduleLine}
 use Rattle.iloc_rows.specs.declared.fault.RowsFault.{RowsFault}
 use Rattle.iloc_rows.specs.declared.fault.RowsFault.TheVariants.{Read, NoBlocks, NoSuchBlock}
 use Rattle.iloc_rows.specs.declared.proposal.Proposal.{Proposal}
+use Rattle.iloc_rows.specs.Told.{Told, OpensRow, Tells}
 use Rattle.iloc_rows.specs.Proposing.{proposals_of, is_of_block, op_count, AllFit}
 
--- the lines say this, one by one
-abbrev pub SayAll : List (List ℕ) → List Said → Type 0
-SayAll [] [] = Unit {0}
-SayAll [] (s ∷ ss) = ⊥
-SayAll (line ∷ lines) [] = ⊥
-SayAll (line ∷ lines) (s ∷ ss) = Says line s × SayAll lines ss
+-- the lines tell this, one by one
+abbrev pub TellAll : List (List ℕ) → List Told → Type 0
+TellAll [] [] = Unit {0}
+TellAll [] (t ∷ ts) = ⊥
+TellAll (line ∷ lines) [] = ⊥
+TellAll (line ∷ lines) (t ∷ ts) = Tells line t × TellAll lines ts
 
 abbrev pub StartWithSchedule : List (List ℕ) → Type 0
 StartWithSchedule [] = Unit {0}
@@ -33,10 +34,10 @@ pub record BlocksEnd (before after : List (List ℕ)) : Type 0 where
 
 -- the lines propose these schedules for the blocks
 pub record Propose (blocks : List Block) (lines : List (List ℕ)) (proposals : List Proposal) : Type 0 where
-  pub said : List Said
-  pub say : SayAll lines said
-  pub fit : AllFit blocks [] said
-  pub are : proposals ≡ proposals_of (length blocks) said
+  pub told : List Told
+  pub tell : TellAll lines told
+  pub fit : AllFit blocks [] told
+  pub are : proposals ≡ proposals_of (length blocks) told
 
 -- the bytes denote the blocks and what is proposed for them
 pub record Denotes (input : List ℕ) (blocks : List Block) (proposals : List Proposal) : Type 0 where
@@ -68,24 +69,24 @@ pub record DenoteApart (text input : List ℕ) (blocks : List Block) (proposals 
 
 -- Refusals
 
--- after lines that say this a line speaks of no block that is there, or makes too many operations of its block
-pub record SpeaksOfNoBlock (blocks : List Block) (lines : List Said) (line : List ℕ) : Type 0 where
-  pub said : Said
-  pub says : Says line said
-  pub of_none : is_of_block blocks lines said ≡ false
+-- after lines that tell this a line speaks of no block that is there, or makes too many operations of its block
+pub record SpeaksOfNoBlock (blocks : List Block) (lines : List Told) (line : List ℕ) : Type 0 where
+  pub told : Told
+  pub tells : Tells line told
+  pub of_none : is_of_block blocks lines told ≡ false
 
-pub record HoldsTooManyOperations (blocks : List Block) (lines : List Said) (line : List ℕ) : Type 0 where
-  pub said : Said
-  pub says : Says line said
-  pub of_block : is_of_block blocks lines said ≡ true
-  pub many : MAX_OPS < op_count lines said
+pub record HoldsTooManyOperations (blocks : List Block) (lines : List Told) (line : List ℕ) : Type 0 where
+  pub told : Told
+  pub tells : Tells line told
+  pub of_block : is_of_block blocks lines told ≡ true
+  pub many : MAX_OPS < op_count lines told
 
--- line n, after schedule lines that say this, has this fault
-abbrev pub IsFaulty : List Block → List Said → List ℕ → ℕ → RowsFault → Type 0
+-- line n, after lines that tell this, has this fault; one that opens a row is never misunderstood
+abbrev pub IsFaulty : List Block → List Told → List ℕ → ℕ → RowsFault → Type 0
 IsFaulty blocks lines line n (Read InputTooLong) = ⊥
-IsFaulty blocks lines line n (Read (BadLine k)) = (k ≡ n) × (SaysSomethingWidely line → ⊥)
+IsFaulty blocks lines line n (Read (BadLine k)) = (k ≡ n) × (OpensRow line → ⊥) × (SaysSomethingWidely line → ⊥)
 IsFaulty blocks lines line n (Read (NumberTooLarge k)) =
-    (k ≡ n) × SaysSomethingWidely line × (SaysSomething line → ⊥)
+    (k ≡ n) × (OpensRow line → ⊥) × SaysSomethingWidely line × (SaysSomething line → ⊥)
 IsFaulty blocks lines line n (Read (TooManyBlocks k)) = ⊥
 IsFaulty blocks lines line n (Read (TooManyOperations k)) = (k ≡ n) × HoldsTooManyOperations blocks lines line
 IsFaulty blocks lines line n (Read NoMemory) = ⊥
@@ -98,10 +99,10 @@ pub record HaveFirstFault (blocks : List Block) (n : ℕ) (lines : List (List �
   pub line : List ℕ
   pub after : List (List ℕ)
   pub whole : lines ≡ before ++ line ∷ after
-  pub said : List Said
-  pub say : SayAll before said
-  pub fit : AllFit blocks [] said
-  pub faulty : IsFaulty blocks said line (n + length before + 1) fault
+  pub told : List Told
+  pub tell : TellAll before told
+  pub fit : AllFit blocks [] told
+  pub faulty : IsFaulty blocks told line (n + length before + 1) fault
 
 -- the text is refused in its blocks
 pub record BlocksAreRefused (input : List ℕ) (fault : ReadFault) : Type 0 where

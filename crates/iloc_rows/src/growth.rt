@@ -1,13 +1,16 @@
 //! How what is proposed grows, line by line.
 ghost use Rattle.std.specs.Prelude.{◌≡◌, ◌≤◌, ◌<◌, ◌+◌, ℕ, [], ◌++◌, List, length, vec_len, slice_set, option_map, IfOk, IfSome, OnOk};
 ghost use Rattle.std.specs.Option.{option_copied};
-ghost use Rattle.iloc_text.specs.ScheduleLines.{Said, said_of};
+ghost use Rattle.iloc_text.specs.ScheduleLines.{said_of};
+ghost use Rattle.iloc_rows.specs.Told.{Told, told_of};
+ghost use Rattle.iloc_rows.specs.Told.Told.{read};
 ghost use Rattle.iloc_rows.specs.Proposing.{is_empty, filled, slot, is_same_name, is_named, proposals_of};
-ghost use Rattle.iloc_rows.specs.Steps.Growth.{none_proposed, with_row, with_cycles, place, at_place, HasProposed, Adds, RowAdds, CyclesAdd, Turns};
+ghost use Rattle.iloc_rows.specs.Steps.Growth.{none_proposed, with_row, with_cycles, with_unread, or_this, place, at_place, HasProposed, Adds, Becomes, RowAdds, Turns};
 
 use crate::fault::RowsFault;
-use crate::proposal::{Proposal, Rows};
+use crate::proposal::{Proposal, RowText, Rows, Unread};
 use crate::proposing::Proposing;
+use crate::told::ToldLine;
 use iloc_text::{Block, MAX_OPS, Name, NoMemory, Op, Ops, ReadFault, ScheduleLine};
 use iloc_timed::{MAX_ROWS, Row};
 use std::alloc::Global;
@@ -50,6 +53,7 @@ impl Proposal {
             ops: Ops::new(Vec::new(alloc)),
             rows: Rows::none(alloc),
             claimed: None,
+            unread: None,
         }
     }
 
@@ -74,6 +78,34 @@ impl Proposal {
         let zero = self.push_slot(zero)?;
         let one = self.push_slot(one)?;
         self.rows.push(Row { zero, one })?;
+        Ok(())
+    }
+
+    /// Notes the row that comes next as one that can't be read, unless there is one already.
+    fn note_unread(&mut self, alloc: Global, text: &[u8]) -> Result<(), NoMemory>
+        requires { length self.old.rows < MAX_ROWS }
+        ensures { OnOk result (self.new ≡ record self.old {
+          unread = or_this self.old.unread record { row = length self.old.rows; text = text.now };
+        }) }
+    {
+        if self.unread.is_none() {
+            let text = RowText::of(alloc, text)?;
+            let row = self.rows.as_slice().len() as u32;
+            self.unread = Some(Unread { row, text });
+        }
+        Ok(())
+    }
+
+    /// Adds a row that can't be read.
+    fn push_unread(&mut self, alloc: Global, text: &[u8]) -> Result<(), NoMemory>
+        requires { length self.old.rows < MAX_ROWS }
+        ensures { OnOk result (self.new ≡ with_unread self.old text.now) }
+    {
+        self.note_unread(alloc, text)?;
+        self.rows.push(Row {
+            zero: None,
+            one: None,
+        })?;
         Ok(())
     }
 }
@@ -117,6 +149,18 @@ impl Proposing {
         Ok(())
     }
 
+    /// Adds a row that can't be read to what is proposed for the block at this place.
+    fn push_unread(&mut self, alloc: Global, i: usize, text: &[u8]) -> Result<(), NoMemory>
+        requires within { i < vec_len self.old.proposals }
+        requires few { length (at_place self.old.proposals.items i).rows < MAX_ROWS }
+        ensures proposals { OnOk result (self.new.proposals.items
+            ≡ slice_set self.old.proposals.items i (with_unread (at_place self.old.proposals.items i) text.now)) }
+        ensures last { self.new.last ≡ self.old.last }
+    {
+        self.proposals[i].push_unread(alloc, text)?;
+        Ok(())
+    }
+
     /// Sets the last claim of the block at this place.
     fn set_cycles(&mut self, i: usize, cycles: u32)
         requires { i < vec_len self.old.proposals }
@@ -145,12 +189,25 @@ impl Proposing {
 
     /// Adds a claim on the line with this number.
     fn add_cycles(&mut self, cycles: u32, number: u32) -> Result<(), RowsFault>
-        ensures { CyclesAdd self.old cycles number self.new result }
+        ensures { Becomes self.old (λ p. with_cycles p cycles) number self.new result }
     {
         let Some(i) = self.place() else {
             return Err(RowsFault::NoSuchBlock(number));
         };
         self.set_cycles(i, cycles);
+        self.last = self.last.max(1);
+        Ok(())
+    }
+
+    /// Adds a row that can't be read, on the line with this number.
+    fn add_unread(&mut self, alloc: Global, text: &[u8], number: u32) -> Result<(), RowsFault>
+        requires { (i : ℕ) → length (at_place self.old.proposals.items i).rows < MAX_ROWS }
+        ensures { Becomes self.old (λ p. with_unread p text.now) number self.new result }
+    {
+        let Some(i) = self.place() else {
+            return Err(RowsFault::NoSuchBlock(number));
+        };
+        self.push_unread(alloc, i, text)?;
         self.last = self.last.max(1);
         Ok(())
     }
@@ -174,15 +231,15 @@ impl Proposing {
     }
 
     /// Adds what the line with this number says of these blocks.
-    pub fn add(
+    fn add_read(
         &mut self,
         blocks: &[Block],
         line: ScheduleLine<'_>,
         number: u32,
     ) -> Result<(), RowsFault>
-        requires { (lines : List Said) × HasProposed blocks.now lines self.old × (length lines < MAX_ROWS) }
-        ensures { (lines : List Said) → HasProposed blocks.now lines self.old →
-            Adds blocks.now lines (said_of line.entry) number self.new result }
+        requires { (lines : List Told) × HasProposed blocks.now lines self.old × (length lines < MAX_ROWS) }
+        ensures { (lines : List Told) → HasProposed blocks.now lines self.old →
+            Adds blocks.now lines (read (said_of line.entry)) number self.new result }
     {
         match line {
             ScheduleLine::Empty | ScheduleLine::Total(_) => Ok(()),
@@ -192,6 +249,24 @@ impl Proposing {
                 name,
             } => self.turn_to(blocks, block, name, number),
             ScheduleLine::Cycles(cycles) => self.add_cycles(cycles, number),
+        }
+    }
+
+    /// Adds what the line with this number tells of these blocks.
+    pub fn add(
+        &mut self,
+        alloc: Global,
+        blocks: &[Block],
+        line: ToldLine<'_>,
+        number: u32,
+    ) -> Result<(), RowsFault>
+        requires { (lines : List Told) × HasProposed blocks.now lines self.old × (length lines < MAX_ROWS) }
+        ensures { (lines : List Told) → HasProposed blocks.now lines self.old →
+            Adds blocks.now lines (told_of line.entry) number self.new result }
+    {
+        match line {
+            ToldLine::Reads(line) => self.add_read(blocks, line, number),
+            ToldLine::Unread(text) => self.add_unread(alloc, text, number),
         }
     }
 }

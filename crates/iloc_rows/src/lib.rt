@@ -8,7 +8,8 @@ pub mod laws;
 mod proposal;
 mod proposing;
 mod reader;
+mod told;
 
 pub use fault::RowsFault;
-pub use proposal::{Proposal, Proposals, Rows};
+pub use proposal::{Proposal, Proposals, RowText, Rows, Unread};
 pub use reader::{Submission, read_rows, read_submission, read_task};

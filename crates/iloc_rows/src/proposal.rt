@@ -3,11 +3,13 @@ ghost use Rattle.std.specs.Prelude.{◌≡◌, ◌≤◌, ◌<◌, [], ◌∷◌
 ghost use Rattle.iloc_timed.specs.declared.row.Row.{Row as row_value};
 
 mod either_slot;
+mod unread;
 
 use iloc_ops::{NoMemory, Ops};
 use iloc_timed::{MAX_ROWS, Row};
 use std::alloc::Global;
 use std::marker::Model;
+pub use unread::{RowText, Unread};
 
 /// The rows that are proposed for a block, the first for cycle 0, no more than a schedule may have.
 #[derive(Debug, Drop)]
@@ -64,7 +66,8 @@ impl Rows {
 }
 
 /// What is proposed for a block: the operations of its rows in order, in each row that on unit 0 first; the rows, with
-/// each operation in its own slot; and how many cycles are claimed, if any are.
+/// each operation in its own slot; how many cycles are claimed, if any are; and the first row that can't be read, if there is
+/// one. Such a row is there without operations.
 #[derive(Debug, Drop)]
 pub struct Proposal {
     /// The operations, without the `nop`s, which are written for empty slots.
@@ -73,6 +76,8 @@ pub struct Proposal {
     pub rows: Rows,
     /// The last number of cycles that is claimed for the block.
     pub claimed: Option<u32>,
+    /// The first row that can't be read.
+    pub unread: Option<Unread>,
 }
 
 /// What is proposed for the blocks of a file, in their order.

@@ -9,9 +9,8 @@ use crate::blocks_end::cut_before_rows;
 use crate::fault::RowsFault;
 use crate::proposal::Proposals;
 use crate::proposing::Proposing;
-use iloc_text::{
-    Block, Blocks, MAX_INPUT, ParseFault, ReadFault, read_file, read_schedule_line, split_line,
-};
+use crate::told::read_told_line;
+use iloc_text::{Block, Blocks, MAX_INPUT, ParseFault, ReadFault, read_file, split_line};
 use std::alloc::Global;
 
 /// Blocks, and what is proposed for each.
@@ -23,7 +22,7 @@ pub struct Submission {
     pub proposals: Proposals,
 }
 
-/// What the schedule lines, after `lines` other lines, propose for the blocks, or the first fault.
+/// What the lines below the blocks, after `lines` other lines, propose for the blocks, or the first fault.
 fn read_proposals(
     alloc: Global,
     blocks: &[Block],
@@ -41,14 +40,14 @@ fn read_proposals(
     while let Some(text) = rest {
         number += 1;
         let (bytes, after) = split_line(text);
-        let line = match read_schedule_line(bytes) {
+        let line = match read_told_line(bytes) {
             Ok(line) => line,
             Err(ParseFault::Bad) => return Err(RowsFault::Read(ReadFault::BadLine(number))),
             Err(ParseFault::NumberTooLarge) => {
                 return Err(RowsFault::Read(ReadFault::NumberTooLarge(number)));
             }
         };
-        proposing.add(blocks, line, number)?;
+        proposing.add(alloc, blocks, line, number)?;
         rest = after;
     }
     Ok(Proposals::new(proposing.proposals))
@@ -61,7 +60,8 @@ fn read_proposals(
 /// The blocks end before the first schedule line, and what precedes it is read as `iloc_text::read_file` reads it. If that
 /// has no block, the text is refused whatever follows. A text that is too long is refused before any line is looked at;
 /// otherwise the earliest faulty line is named. On one line `BadLine` comes before `NumberTooLarge`, `NoSuchBlock` and
-/// `TooManyOperations`. `NoMemory` may come instead, if a growth is refused.
+/// `TooManyOperations`. A line below the blocks that begins with `[` and can't be read is a row without operations, and
+/// neither bad nor too large. `NoMemory` may come instead, if a growth is refused.
 pub fn read_submission(alloc: Global, input: &[u8]) -> Result<Submission, RowsFault>
     ensures ok { IfOk result (λ found. Denotes input.now found.blocks found.proposals) }
     ensures err { IfErr result (λ fault. fault ≢ read no_memory → IsRefused input.now fault) }

@@ -1,13 +1,16 @@
 -- The listing of what is said of the schedules that others proposed for a file's blocks.
-use Rattle.std.specs.Prelude.{ℕ, ◌+◌, ◌≡◌, ℤ, Bool, true, false, List, [], ◌∷◌, ◌++◌, map, sum_by, codes}
+use Rattle.std.specs.Prelude.{ℕ, ◌+◌, ◌≡◌, ℤ, Bool, true, false, Option, Some, None, List, [], ◌∷◌, ◌++◌, map, sum_by, codes}
 use Rattle.std.specs.List.{All, list_all}
 use Rattle.std.specs.Fmt.{decimal}
 use Rattle.iloc_ops.specs.declared.file.Block.{Block}
+use Rattle.iloc_ops.specs.declared.op.Op.{Op}
 use Rattle.iloc_timed.specs.declared.latencies.Latencies.{Latencies}
 use Rattle.iloc_timed.specs.Schedule.{Table}
 use Rattle.iloc_rows.specs.declared.proposal.Proposal.{Proposal}
+use Rattle.iloc_rows.specs.declared.proposal.unread.Unread.{Unread}
 use Rattle.iloc_judge.specs.declared.checked.Checked.{Checked}
 use Rattle.iloc_judge.specs.Checked.{IsCheck, passes}
+use Rattle.iloc_judge.specs.Unread.{IsUnread}
 use Rattle.iloc_farm.specs.Fault.{finding_of}
 use Rattle.iloc_farm.specs.Listing.{head_as, opening_as}
 use Rattle.iloc_farm.specs.Schedules.{AreGreedy, AreTheOnlyGreedy}
@@ -21,9 +24,19 @@ pub record Judged : Type 0 where
   pub checked : Checked
   pub text : List ℕ
 
--- what is said of the proposal, in a table or not, of outcomes or of outputs alone, is right
+-- What is found of a proposal, and said of it, in a table or not, of outcomes or of outputs alone, is right: where this row can't
+-- be read, that; else what is said of its rows.
+abbrev pub IsSaid : Option Unread → (csv outputs : Bool) → Latencies → List ℤ → List Op → Table → Proposal → Checked → List ℕ
+    → Type 0
+IsSaid None csv outputs lat memory block ours proposal checked text =
+    IsCheck csv outputs lat memory block ours proposal checked text
+IsSaid (Some unread) csv outputs lat memory block ours proposal checked text =
+    IsUnread csv lat block ours proposal checked text
+
+-- so it is of the proposal that is judged
 abbrev pub IsJudged : (csv outputs : Bool) → Latencies → List ℤ → Judged → Type 0
-IsJudged csv outputs lat memory j = IsCheck csv outputs lat memory j.block.ops j.ours j.proposal j.checked j.text
+IsJudged csv outputs lat memory j =
+    IsSaid j.proposal.unread csv outputs lat memory j.block.ops j.ours j.proposal j.checked j.text
 
 -- the head of each block and what is said of its proposal, numbered from k on
 abbrev pub judged_entries : Bool → ℕ → List Judged → List ℕ

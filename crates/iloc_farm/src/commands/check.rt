@@ -1,11 +1,15 @@
 //! `check`: what is said of the schedules that others proposed for blocks.
-ghost use Rattle.std.specs.Prelude.{◌≡◌, ◌≢◌, IfErr, IfOk};
+ghost use Rattle.std.specs.Prelude.{ℕ, ◌≡◌, ◌≢◌, ◌≤◌, ◌++◌, List, length, IfErr, IfOk};
+ghost use Rattle.iloc_ops.specs.Limits.{MAX_OPS};
+ghost use Rattle.iloc_timed.specs.Schedule.{AreInRange, AreOnce};
+ghost use Rattle.iloc_sched.specs.Lawful.{IsLawful};
+ghost use Rattle.iloc_sched.specs.Least as bound;
 ghost use Rattle.iloc_rows.specs.Laws.{AreWithinLimits};
 ghost use Rattle.iloc_rows.specs.Submissions as submissions;
 ghost use Rattle.iloc_rows.specs.declared.fault.RowsFault.TheVariants.{Read as read};
 ghost use Rattle.iloc_text.specs.declared.fault.ReadFault.TheVariants.{NoMemory as no_memory};
 ghost use Rattle.iloc_args.specs.declared.request.Task.TheVariants as task;
-ghost use Rattle.iloc_farm.specs.Commands.Check.{ListsChecked};
+ghost use Rattle.iloc_farm.specs.Commands.Check.{IsSaid, ListsChecked};
 ghost use Rattle.iloc_farm.specs.Run.{Checks, Lists, ListsApart, ListsFrom};
 ghost use Rattle.iloc_farm.specs.Steps.OfInput.{EndsReading, EndsSubmission};
 ghost use Rattle.iloc_farm.specs.Steps.OfTask.{EndsApart};
@@ -19,13 +23,13 @@ use crate::listing::text::Listing;
 use crate::reading::task::submission_apart;
 use crate::texts::Texts;
 use iloc_args::Request;
-use iloc_judge::push_check;
+use iloc_judge::{Checked, push_check, push_unread};
 use iloc_meaning::Memory;
 use iloc_rows::laws::{placed_rows_are_within_limits, submissions_are_within_limits};
-use iloc_rows::{RowsFault, Submission, read_submission};
+use iloc_rows::{Proposal, RowsFault, Submission, read_submission};
 use iloc_sched::{Heuristic, Scheduler};
-use iloc_text::{NoMemory, read_text_from};
-use iloc_timed::MAX_ROWS;
+use iloc_text::{Block, NoMemory, read_text_from};
+use iloc_timed::{Latencies, MAX_ROWS, Schedule};
 use std::alloc::Global;
 use std::io::Read;
 
@@ -49,6 +53,39 @@ fn submission_of(alloc: Global, input: Vec<u8>) -> Result<Submission, RowsFault>
 {
     submissions_are_within_limits();
     read_submission(alloc, &input)
+}
+
+/// Appends what is said of a proposal beside our schedule of the block: of its first row that can't be read, if there is one,
+/// and else of its rows.
+fn push_judged(
+    alloc: Global,
+    text: &mut Vec<u8>,
+    csv: bool,
+    outputs: bool,
+    block: &Block,
+    ours: &Schedule,
+    least: u64,
+    proposal: Proposal,
+    latencies: &Latencies,
+    memory: &Memory,
+) -> Result<Checked, NoMemory>
+    requires few { length block.now.ops ≤ MAX_OPS }
+    requires in_range { AreInRange (length proposal.ops) proposal.rows }
+    requires once { AreOnce (length proposal.ops) proposal.rows }
+    requires lawful { IsLawful latencies.now block.now.ops ours.now.ops ours.now.rows }
+    requires least { least ≡ bound.least latencies.now block.now.ops }
+    ensures { IfOk result (λ checked. (entry : List ℕ)
+        × IsSaid proposal.unread csv outputs latencies.now memory.now block.now.ops ours.now proposal checked entry
+        × (text.new.items ≡ text.old.items ++ entry)) }
+{
+    if let Some(unread) = &proposal.unread {
+        return push_unread(
+            alloc, text, csv, block, ours, least, &proposal, unread, latencies,
+        );
+    }
+    push_check(
+        alloc, text, csv, outputs, block, ours, least, proposal, latencies, memory,
+    )
 }
 
 /// The listing of what is said of each proposal beside the greedy schedule of its block, with this memory handed in: a table if
@@ -76,7 +113,7 @@ fn checked_text(
         let (ours, least) = scheduler.lend_with_least(block, latencies, Heuristic::Chain)?;
         prove!(proposal.rows.as_slice().len() <= MAX_ROWS);
         push_head(&mut text, csv, totals.blocks + 1, block.name.as_ref())?;
-        let checked = push_check(
+        let checked = push_judged(
             alloc, &mut text, csv, outputs, block, &ours, least, proposal, latencies, memory,
         )?;
         scheduler.take_back(ours);

@@ -41,7 +41,25 @@ fn push_wrong_claim(text: &mut Vec<u8>, cycles: u64, claimed: Option<u32>) -> Re
     }
 }
 
-/// Appends the line of a verdict, with the numbers that go with it and the number of cycles that is claimed.
+/// Appends the line with the word for a verdict, the numbers that go with it and the number of cycles that is claimed.
+pub(crate) fn push_line(
+    text: &mut Vec<u8>,
+    word: &str,
+    checked: Checked,
+    claimed: Option<u32>,
+) -> Result<(), NoMemory>
+    ensures { OnOk result (text.new.items ≡ text.old.items ++ listed.line_of word.now checked claimed) }
+{
+    text.extend_from_slice(b" ")?;
+    text.extend_from_slice(word.as_bytes())?;
+    push_column(text, "cycles", checked.cycles)?;
+    push_column(text, "ours", checked.ours)?;
+    push_column(text, "least", checked.least)?;
+    push_wrong_claim(text, checked.cycles, claimed)?;
+    Ok(text.extend_from_slice(b"\n")?)
+}
+
+/// Appends the line of a verdict.
 pub(crate) fn push_verdict_line(
     text: &mut Vec<u8>,
     verdict: &Verdict,
@@ -51,13 +69,7 @@ pub(crate) fn push_verdict_line(
     ensures { OnOk result (text.new.items
         ≡ text.old.items ++ listed.verdict_line verdict.now checked claimed) }
 {
-    text.extend_from_slice(b" ")?;
-    text.extend_from_slice(verdict_word(verdict).as_bytes())?;
-    push_column(text, "cycles", checked.cycles)?;
-    push_column(text, "ours", checked.ours)?;
-    push_column(text, "least", checked.least)?;
-    push_wrong_claim(text, checked.cycles, claimed)?;
-    Ok(text.extend_from_slice(b"\n")?)
+    push_line(text, verdict_word(verdict), checked, claimed)
 }
 
 /// Appends `,N`.
@@ -78,7 +90,25 @@ fn push_claim(text: &mut Vec<u8>, claimed: Option<u32>) -> Result<(), NoMemory>
     }
 }
 
-/// Appends the row of a table with a verdict, the numbers that go with it and the number of cycles that is claimed.
+/// Appends the row of a table with the word for a verdict, the numbers that go with it and the number of cycles that is claimed.
+pub(crate) fn push_table_row(
+    text: &mut Vec<u8>,
+    word: &str,
+    checked: Checked,
+    claimed: Option<u32>,
+) -> Result<(), NoMemory>
+    ensures { OnOk result (text.new.items ≡ text.old.items ++ listed.row_of word.now checked claimed) }
+{
+    text.extend_from_slice(b",")?;
+    text.extend_from_slice(word.as_bytes())?;
+    push_value(text, checked.cycles)?;
+    push_value(text, checked.ours)?;
+    push_value(text, checked.least)?;
+    push_claim(text, claimed)?;
+    Ok(text.extend_from_slice(b"\n")?)
+}
+
+/// Appends the row of a table with a verdict.
 pub(crate) fn push_verdict_row(
     text: &mut Vec<u8>,
     verdict: &Verdict,
@@ -88,11 +118,5 @@ pub(crate) fn push_verdict_row(
     ensures { OnOk result (text.new.items
         ≡ text.old.items ++ listed.verdict_row verdict.now checked claimed) }
 {
-    text.extend_from_slice(b",")?;
-    text.extend_from_slice(verdict_word(verdict).as_bytes())?;
-    push_value(text, checked.cycles)?;
-    push_value(text, checked.ours)?;
-    push_value(text, checked.least)?;
-    push_claim(text, claimed)?;
-    Ok(text.extend_from_slice(b"\n")?)
+    push_table_row(text, verdict_word(verdict), checked, claimed)
 }

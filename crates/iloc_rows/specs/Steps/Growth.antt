@@ -4,16 +4,17 @@ use Rattle.iloc_ops.specs.Limits.{MAX_OPS}
 use Rattle.iloc_ops.specs.declared.op.Op.{Op}
 use Rattle.iloc_ops.specs.declared.file.Block.{Block}
 use Rattle.iloc_text.specs.declared.fault.ReadFault.TheVariants.{InputTooLong, BadLine, NumberTooLarge, TooManyBlocks, TooManyOperations, NoMemory}
-use Rattle.iloc_text.specs.ScheduleLines.{Said}
 use Rattle.iloc_rows.specs.declared.fault.RowsFault.{RowsFault}
 use Rattle.iloc_rows.specs.declared.fault.RowsFault.TheVariants.{Read, NoBlocks, NoSuchBlock}
 use Rattle.iloc_rows.specs.declared.proposal.Proposal.{Proposal}
+use Rattle.iloc_rows.specs.declared.proposal.unread.Unread.{Unread}
 use Rattle.iloc_rows.specs.declared.proposing.Proposing.{Proposing}
+use Rattle.iloc_rows.specs.Told.{Told}
 use Rattle.iloc_rows.specs.Proposing.{last_block, filled, slot, is_named, proposals_of, is_of_block, op_count, Fits}
 
 -- nothing is proposed
 abbrev pub none_proposed : Proposal
-none_proposed = record { ops = []; rows = []; claimed = None }
+none_proposed = record { ops = []; rows = []; claimed = None; unread = None }
 
 -- one more row is proposed
 abbrev pub with_row : Proposal → Op → Op → Proposal
@@ -21,11 +22,26 @@ with_row p zero one = record {
   ops = p.ops ++ (filled zero ++ filled one);
   rows = p.rows ++ record { zero = slot (length p.ops) zero; one = slot (length p.ops + length (filled zero)) one } ∷ [];
   claimed = p.claimed;
+  unread = p.unread;
+}
+
+-- this one where there is none yet
+abbrev pub or_this : Option Unread → Unread → Option Unread
+or_this None u = Some u
+or_this (Some first) u = Some first
+
+-- one more row is proposed that can't be read
+abbrev pub with_unread : Proposal → List ℕ → Proposal
+with_unread p text = record {
+  ops = p.ops;
+  rows = p.rows ++ record { zero = None; one = None } ∷ [];
+  claimed = p.claimed;
+  unread = or_this p.unread record { row = length p.rows; text = text };
 }
 
 -- so many cycles are claimed
 abbrev pub with_cycles : Proposal → ℕ → Proposal
-with_cycles p c = record { ops = p.ops; rows = p.rows; claimed = Some c }
+with_cycles p c = record { ops = p.ops; rows = p.rows; claimed = Some c; unread = p.unread }
 
 -- the place of the block of which rows are, if there is one, by the number of the last block and the count of blocks
 abbrev pub place : ℕ → ℕ → Option ℕ
@@ -35,22 +51,22 @@ abbrev pub at_place : List Proposal → ℕ → Proposal
 at_place proposals i = slice_index_or proposals i none_proposed
 
 -- what the lines say has been proposed
-pub record HasProposed (blocks : List Block) (lines : List Said) (state : Proposing) : Type 0 where
+pub record HasProposed (blocks : List Block) (lines : List Told) (state : Proposing) : Type 0 where
   pub proposals : state.proposals.items ≡ proposals_of (length blocks) lines
   pub last : state.last ≡ last_block lines
 
--- what comes of a line with this number that says this
-abbrev pub Adds : List Block → List Said → Said → ℕ → Proposing → Result (Unit {0}) RowsFault → Type 0
-Adds blocks lines said number state (Ok done) = Fits blocks lines said × HasProposed blocks (lines ++ said ∷ []) state
-Adds blocks lines said number state (Err (Read InputTooLong)) = ⊥
-Adds blocks lines said number state (Err (Read (BadLine n))) = ⊥
-Adds blocks lines said number state (Err (Read (NumberTooLarge n))) = ⊥
-Adds blocks lines said number state (Err (Read (TooManyBlocks n))) = ⊥
-Adds blocks lines said number state (Err (Read (TooManyOperations n))) =
-    (n ≡ number) × (is_of_block blocks lines said ≡ true) × (MAX_OPS < op_count lines said)
-Adds blocks lines said number state (Err (Read NoMemory)) = Unit {0}
-Adds blocks lines said number state (Err NoBlocks) = ⊥
-Adds blocks lines said number state (Err (NoSuchBlock n)) = (n ≡ number) × (is_of_block blocks lines said ≡ false)
+-- what comes of a line with this number that tells this
+abbrev pub Adds : List Block → List Told → Told → ℕ → Proposing → Result (Unit {0}) RowsFault → Type 0
+Adds blocks lines told number state (Ok done) = Fits blocks lines told × HasProposed blocks (lines ++ told ∷ []) state
+Adds blocks lines told number state (Err (Read InputTooLong)) = ⊥
+Adds blocks lines told number state (Err (Read (BadLine n))) = ⊥
+Adds blocks lines told number state (Err (Read (NumberTooLarge n))) = ⊥
+Adds blocks lines told number state (Err (Read (TooManyBlocks n))) = ⊥
+Adds blocks lines told number state (Err (Read (TooManyOperations n))) =
+    (n ≡ number) × (is_of_block blocks lines told ≡ true) × (MAX_OPS < op_count lines told)
+Adds blocks lines told number state (Err (Read NoMemory)) = Unit {0}
+Adds blocks lines told number state (Err NoBlocks) = ⊥
+Adds blocks lines told number state (Err (NoSuchBlock n)) = (n ≡ number) × (is_of_block blocks lines told ≡ false)
 
 -- so does a row in this state
 abbrev pub RowAdds : Proposing → Op → Op → ℕ → Proposing → Result (Unit {0}) RowsFault → Type 0
@@ -70,15 +86,20 @@ RowAdds old zero one number new (Err NoBlocks) = ⊥
 RowAdds old zero one number new (Err (NoSuchBlock n)) =
     (n ≡ number) × (place old.last (length old.proposals.items) ≡ None)
 
--- so does a number of cycles
-abbrev pub CyclesAdd : Proposing → ℕ → ℕ → Proposing → Result (Unit {0}) RowsFault → Type 0
-CyclesAdd old c number new (Ok done) =
+-- so does a line without operations by which the proposal becomes another: a number of cycles, or a row that can't be read
+abbrev pub Becomes : Proposing → (Proposal → Proposal) → ℕ → Proposing → Result (Unit {0}) RowsFault → Type 0
+Becomes old change number new (Ok done) =
     (i : ℕ) × (place old.last (length old.proposals.items) ≡ Some i)
-    × (new.proposals.items ≡ slice_set old.proposals.items i (with_cycles (at_place old.proposals.items i) c))
+    × (new.proposals.items ≡ slice_set old.proposals.items i (change (at_place old.proposals.items i)))
     × (new.last ≡ max 1 old.last)
-CyclesAdd old c number new (Err (Read fault)) = ⊥
-CyclesAdd old c number new (Err NoBlocks) = ⊥
-CyclesAdd old c number new (Err (NoSuchBlock n)) =
+Becomes old change number new (Err (Read InputTooLong)) = ⊥
+Becomes old change number new (Err (Read (BadLine n))) = ⊥
+Becomes old change number new (Err (Read (NumberTooLarge n))) = ⊥
+Becomes old change number new (Err (Read (TooManyBlocks n))) = ⊥
+Becomes old change number new (Err (Read (TooManyOperations n))) = ⊥
+Becomes old change number new (Err (Read NoMemory)) = Unit {0}
+Becomes old change number new (Err NoBlocks) = ⊥
+Becomes old change number new (Err (NoSuchBlock n)) =
     (n ≡ number) × (place old.last (length old.proposals.items) ≡ None)
 
 -- so does a head

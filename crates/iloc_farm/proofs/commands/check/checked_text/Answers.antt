@@ -27,8 +27,8 @@ lend_with_least-requires c =
     c.loop-proposal.totals c.in-Some.ensures.steps.0 c.loop-proposal.invariant c.requires.as_many c.requires.short_blocks
     block read
 
-pub push_check-requires-clause-few : goal.push_check-requires-clause-few
-push_check-requires-clause-few c =
+pub push_judged-requires-clause-few : goal.push_judged-requires-clause-few
+push_judged-requires-clause-few c =
     let block = c.index-as_slice-totals.result in
     let read : block ≡ get_or c.args.submission.blocks c.loop-proposal.totals.blocks block =
     rw c.as_slice.ensures at c.index-as_slice-totals.is in
@@ -37,25 +37,25 @@ push_check-requires-clause-few c =
     c.loop-proposal.totals c.in-Some.ensures.steps.0 c.loop-proposal.invariant c.requires.as_many c.requires.short_blocks
     block read
 
-pub push_check-requires-clause-in_range : goal.push_check-requires-clause-in_range
-push_check-requires-clause-in_range c =
+pub push_judged-requires-clause-in_range : goal.push_judged-requires-clause-in_range
+push_judged-requires-clause-in_range c =
     holds_of_next c.args.request.now.lawful c.args.request.now.csv c.args.request.now.outputs c.args.request.now.latencies c.args.memory.now c.args.submission.blocks c.args.submission.proposals
     c.loop-proposal.proposal-iterator.rest.items c.next.new.self.rest.items c.in-Some.proposal c.loop-proposal.text.items
     c.loop-proposal.totals c.in-Some.ensures.steps.0 c.loop-proposal.invariant
     (λ (p : Proposal). AreInRange (length p.ops) p.rows) c.requires.in_range
 
-pub push_check-requires-clause-once : goal.push_check-requires-clause-once
-push_check-requires-clause-once c =
+pub push_judged-requires-clause-once : goal.push_judged-requires-clause-once
+push_judged-requires-clause-once c =
     holds_of_next c.args.request.now.lawful c.args.request.now.csv c.args.request.now.outputs c.args.request.now.latencies c.args.memory.now c.args.submission.blocks c.args.submission.proposals
     c.loop-proposal.proposal-iterator.rest.items c.next.new.self.rest.items c.in-Some.proposal c.loop-proposal.text.items
     c.loop-proposal.totals c.in-Some.ensures.steps.0 c.loop-proposal.invariant
     (λ (p : Proposal). AreOnce (length p.ops) p.rows) c.requires.once
 
-pub push_check-requires-clause-lawful : goal.push_check-requires-clause-lawful
-push_check-requires-clause-lawful c = c.in_ok-ours.ensures.schedule.greedy.lawful
+pub push_judged-requires-clause-lawful : goal.push_judged-requires-clause-lawful
+push_judged-requires-clause-lawful c = c.in_ok-ours.ensures.schedule.greedy.lawful
 
-pub push_check-requires-clause-least : goal.push_check-requires-clause-least
-push_check-requires-clause-least c = c.in_ok-ours.ensures.least
+pub push_judged-requires-clause-least : goal.push_judged-requires-clause-least
+push_judged-requires-clause-least c = c.in_ok-ours.ensures.least
 
 pub add-requires : goal.add-requires
 add-requires c =
@@ -73,7 +73,7 @@ add-requires c =
     block read in
     let listed = c.in_ok-checked.ensures in
     let small : IsSmall c.in_ok-checked.checked =
-    small_check c.args.request.now.csv c.args.request.now.outputs c.args.request.now.latencies c.args.memory.now block.ops c.in_ok-ours.ours c.in-Some.proposal
+    small_check c.in-Some.proposal.unread c.args.request.now.csv c.args.request.now.outputs c.args.request.now.latencies c.args.memory.now block.ops c.in_ok-ours.ours c.in-Some.proposal
     c.in_ok-checked.checked listed.0 listed.1 c.in_ok-ours.ensures.schedule.greedy
     short
     c.as_slice-in-loop-proposal.ensures.few in
@@ -97,14 +97,14 @@ loop-proposal-preserved c =
     block read in
     let listed = c.in_ok-checked.ensures in
     let small : IsSmall c.in_ok-checked.checked =
-    small_check c.args.request.now.csv c.args.request.now.outputs c.args.request.now.latencies c.args.memory.now block.ops c.in_ok-ours.ours c.in-Some.proposal
+    small_check c.in-Some.proposal.unread c.args.request.now.csv c.args.request.now.outputs c.args.request.now.latencies c.args.memory.now block.ops c.in_ok-ours.ours c.in-Some.proposal
     c.in_ok-checked.checked listed.0 listed.1 c.in_ok-ours.ensures.schedule.greedy
     short
     c.as_slice-in-loop-proposal.ensures.few in
     one_checked c.args.request.now.lawful c.args.request.now.csv c.args.request.now.outputs c.args.request.now.latencies c.args.memory.now c.args.submission.blocks c.args.submission.proposals
     c.loop-proposal.proposal-iterator.rest.items c.next.new.self.rest.items c.in-Some.proposal c.loop-proposal.text.items
     c.loop-proposal.totals c.in-Some.ensures.steps.0 c.loop-proposal.invariant block c.in_ok-ours.ours
-    c.in_ok-checked.checked c.push_check.new.text.items listed.0 c.add.new.self within read c.in_ok-ours.ensures.schedule.greedy
+    c.in_ok-checked.checked c.push_judged.new.text.items listed.0 c.add.new.self within read c.in_ok-ours.ensures.schedule.greedy
     listed.1 small
     (listed.2 ∙ ap (λ xs. xs ++ listed.0) (c.in_ok-push_head.ensures
     ∙ ap (λ name. c.loop-proposal.text.items

@@ -1,0 +1,44 @@
+use Rattle.std.proofs.Common.{◌++◌, refl, ap, ◌∙◌, false, append_assoc}
+use Rattle.std.specs.Prelude.{codes}
+use Rattle.iloc_timed.proofs.Standing.{numbered_from}
+use Rattle.iloc_judge.specs.declared.checked.Checked.{Checked}
+use Rattle.iloc_judge.specs.Listing.{line_of}
+use Rattle.iloc_judge.specs.Unread.{unread_as, unread_told}
+use Rattle.iloc_judge.proofs.unread.push_unread.Goals as goal
+
+pub cycles_of-requires-clause-numbered : goal.cycles_of-requires-clause-numbered
+cycles_of-requires-clause-numbered c =
+    rw (c.as_slice-ops.ensures, c.as_slice-rows.ensures.rows)
+    (numbered_from c.args.proposal.now.ops c.args.proposal.now.rows c.requires.in_range c.requires.once)
+
+pub returns : goal.returns
+returns c =
+    let checked : Checked = record {
+      is_lawful = false;
+      is_same = false;
+      cycles = c.cycles_of.result;
+      ours = c.cycles.result;
+      least = c.args.least;
+    } in
+    let line = line_of (codes "unread") checked c.args.proposal.now.claimed in
+    let row = c.in_ok-push_unread_row.ensures in
+    let told = unread_told c.args.unread.now.row row.0 in (
+      unread_as false checked c.args.proposal.now.claimed c.args.unread.now.row row.0,
+      record {
+        unread = c.args.unread.now;
+        first = c.requires.first;
+        is_found =
+            rw (
+              c.cycles_of.ensures,
+              c.as_slice-ops.ensures,
+              c.as_slice-rows.ensures.rows,
+              c.cycles.ensures,
+              c.requires.least,
+            ) refl;
+        words = row.0;
+        listed = rw c.if-csv.false refl;
+      },
+      row.1
+          ∙ ap (λ xs. xs ++ told) c.in_ok-push_line.ensures
+          ∙ append_assoc c.args.text.now.items line told,
+    )

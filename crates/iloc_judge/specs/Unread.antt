@@ -1,0 +1,46 @@
+-- What is listed of rows of which one can't be read.
+use Rattle.std.specs.Prelude.{ℕ, ◌+◌, ◌≡◌, ◌==◌, not, Bool, true, false, Some, Option, List, ◌++◌, codes}
+use Rattle.std.specs.List.{filter}
+use Rattle.std.specs.Fmt.{decimal}
+use Rattle.iloc_ops.specs.declared.op.Op.{Op}
+use Rattle.iloc_timed.specs.declared.latencies.Latencies.{Latencies}
+use Rattle.iloc_timed.specs.Cycles.{cycles}
+use Rattle.iloc_timed.specs.Schedule.{Table}
+use Rattle.iloc_rows.specs.declared.proposal.Proposal.{Proposal}
+use Rattle.iloc_rows.specs.declared.proposal.unread.Unread.{Unread}
+use Rattle.iloc_sched.specs.Least.{least}
+use Rattle.iloc_judge.specs.declared.checked.Checked.{Checked}
+use Rattle.iloc_judge.specs.Listing.{line_of, row_of}
+
+-- it never passes; its cycles are those of its rows, where what can't be read is empty
+abbrev pub found_unread : Latencies → List Op → Table → Proposal → Checked
+found_unread lat block ours proposal = record {
+  is_lawful = false;
+  is_same = false;
+  cycles = cycles lat proposal.ops proposal.rows;
+  ours = cycles lat ours.ops ours.rows;
+  least = least lat block;
+}
+
+-- the words without line ends
+abbrev pub in_one_line : List ℕ → List ℕ
+in_one_line words = filter (λ byte. not (byte == 10)) words
+
+-- `row N: ` and some words, where rows count from 1
+abbrev pub unread_told : ℕ → List ℕ → List ℕ
+unread_told row words = codes "  row " ++ decimal (row + 1) ++ codes ": " ++ in_one_line words ++ codes "\n"
+
+-- a row of a table, where one is asked for, and else the line of the verdict `unread` with one for the row below it
+abbrev pub unread_as : Bool → Checked → Option ℕ → ℕ → List ℕ → List ℕ
+unread_as true checked claimed row words = row_of (codes "unread") checked claimed
+unread_as false checked claimed row words = line_of (codes "unread") checked claimed ++ unread_told row words
+
+-- this is the first row of what is proposed for a block that can't be read, this is found of it, and this entry listed, in a
+-- table or not
+pub record IsUnread (csv : Bool) (lat : Latencies) (block : List Op) (ours : Table) (proposal : Proposal)
+    (checked : Checked) (entry : List ℕ) : Type 0 where
+  pub unread : Unread
+  pub first : proposal.unread ≡ Some unread
+  pub is_found : checked ≡ found_unread lat block ours proposal
+  pub words : List ℕ
+  pub listed : entry ≡ unread_as csv checked proposal.claimed unread.row words

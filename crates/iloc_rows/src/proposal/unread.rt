@@ -1,0 +1,47 @@
+//! A row that can't be read.
+ghost use Rattle.std.specs.Prelude.{◌≡◌, IfOk};
+
+use iloc_ops::NoMemory;
+use std::alloc::Global;
+use std::marker::Model;
+
+/// The text of a row, as it is written.
+#[derive(Debug, Drop)]
+pub struct RowText {
+    bytes: Vec<u8>,
+}
+
+impl Model for RowText {
+    ghost use Rattle.std.specs.Prelude.{ℕ, List};
+
+    ghost Value = { List ℕ };
+
+    ghost view = { λ text. text.bytes.items };
+}
+
+impl RowText {
+    /// These bytes.
+    pub(crate) fn of(alloc: Global, bytes: &[u8]) -> Result<RowText, NoMemory>
+        ensures { IfOk result (λ text. text ≡ bytes.now) }
+    {
+        Ok(RowText {
+            bytes: Vec::from_slice(alloc, bytes)?,
+        })
+    }
+
+    /// Promise: lends the bytes of the text.
+    pub fn as_bytes(&self) -> &[u8]
+        ensures { result.now ≡ self.now }
+    {
+        self.bytes.as_slice()
+    }
+}
+
+/// A row that can't be read.
+#[derive(Debug, Drop)]
+pub struct Unread {
+    /// How many rows of its block precede it.
+    pub row: u32,
+    /// Its text.
+    pub text: RowText,
+}
