@@ -98,8 +98,8 @@ class Charts(Place):
         self.expect("title", root.find(f"{SVG}title").text, "block 1: 14 cycles, at least 13")
         early = self.call("ilocfarm", "explain", "--task", task, given=given.replace(b"[ ]\n", b""))
         self.expect("rows that come early", self.call("charts/timeline", given=early[1]),
-                    (1, b"", b"charts/timeline: the rows of block 1 are not lawful: early by 4: row 4: add r1, r2 => r1 "
-                             b"for row 3: loadAI r9, 4 => r2\n"))
+                    (1, b"", b"charts/timeline: the rows of block 1 are not lawful: early by 3: row 4: add r1, r2 => r1 "
+                             b"for row 2: load r9 => r1\n"))
 
     def test_timeline_of_many(self):
         """Three hundred operations, each drawn once; the second block of two, for other latencies."""
