@@ -72,8 +72,29 @@ add-requires-clause-cycles c =
     c.in_ok-one.one c.in_ok-one.ensures.0 c.in_ok-one.ensures.1 c.as_slice-in-loop-proposal.ensures.few in
     omega arith
 
+-- whether or not a row of the proposal that is let go couldn't be read
 pub loop-proposal-preserved : goal.loop-proposal-preserved
 loop-proposal-preserved c =
+    let within : c.loop-proposal.found.blocks < length c.args.submission.blocks =
+    block_to_tell c.args.request.now.priority c.args.request.now.latencies c.args.submission.blocks c.args.submission.proposals
+    c.loop-proposal.proposal-iterator.rest.items c.next.new.self.rest.items c.in-Some.proposal c.loop-proposal.text.items
+    c.loop-proposal.found c.in-Some.ensures.steps.0 c.loop-proposal.invariant c.requires.as_many in
+    let block = c.index-as_slice-found.result in
+    let read : block ≡ get_or c.args.submission.blocks c.loop-proposal.found.blocks block =
+    rw c.as_slice.ensures at c.index-as_slice-found.is in
+    let listed = c.in_ok-one.ensures in
+    one_told c.args.request.now.priority c.args.request.now.latencies c.args.submission.blocks c.args.submission.proposals
+    c.loop-proposal.proposal-iterator.rest.items c.next.new.self.rest.items c.in-Some.proposal c.loop-proposal.text.items
+    c.loop-proposal.found c.in-Some.ensures.steps.0 c.loop-proposal.invariant block c.in_ok-one.one
+    c.push_rows_explanation.new.text.items listed.0 c.add.new.self within read listed.1
+    c.as_slice-in-loop-proposal.ensures.few
+    (listed.2 ∙ ap (λ xs. xs ++ listed.0) (c.in_ok-push.ensures.items
+    ∙ ap (λ xs. xs ++ codes "\n") (c.in_ok-push_block_head.ensures
+    ∙ ap (λ name. c.loop-proposal.text.items ++ block_head (c.loop-proposal.found.blocks + 1) name) c.as_ref.ensures.value)))
+    c.add.ensures
+
+pub loop-proposal-preserved-in_ok-one : goal.loop-proposal-preserved-in_ok-one
+loop-proposal-preserved-in_ok-one c =
     let within : c.loop-proposal.found.blocks < length c.args.submission.blocks =
     block_to_tell c.args.request.now.priority c.args.request.now.latencies c.args.submission.blocks c.args.submission.proposals
     c.loop-proposal.proposal-iterator.rest.items c.next.new.self.rest.items c.in-Some.proposal c.loop-proposal.text.items
