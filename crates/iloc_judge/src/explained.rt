@@ -48,11 +48,7 @@ fn push_why(text: &mut Vec<u8>, reason: &Reason) -> Result<(), NoMemory>
 }
 
 /// Appends that rows aren't lawful, and the first of them that can't be read.
-fn push_unread_rows(
-    alloc: Global,
-    text: &mut Vec<u8>,
-    unread: &Unread,
-) -> Result<(), NoMemory>
+fn push_unread_rows(alloc: Global, text: &mut Vec<u8>, unread: &Unread) -> Result<(), NoMemory>
     ensures { OnOk result ((entry : List ℕ) × HaveUnread unread.now.row entry
         × (text.new.items ≡ text.old.items ++ entry)) }
 {
