@@ -8,14 +8,17 @@ from svg import Unread
 
 COLOURS = {"load": "#6cb6ff", "store": "#b392f0", "mult": "#f0a35e", "output": "#6fce7c", "other": "#b9c0c8"}
 CHAIN = "#e5484d"
+WRONG = "#d6409f"
 HEADER = re.compile(r"block (\d+) (\S+)")
-ROW = re.compile(r"\[ *(.+?) *; *(.+?) *\]")
+ROW = re.compile(r"\[ *(.*?) *(?:; *(.*?) *)?\]")
 COMMENT = re.compile(r"//.*")
 CYCLES = re.compile(r"cycles (\d+)(?: least (\d+).*)?")
 CHAINED = re.compile(r"chain (?:-|(\d+(?: \d+)*))")
 EXPLAINED = re.compile(r"(\d+) cycle (\d+) unit ([01]) ready (\d+) after (-|\d+(?:,\d+)*) priority (\d+) "
                        r"earliest \d+ slack \d+ held (?:-|free|\d+) (.+?) ; (.+)")
 NUMBER = re.compile(r"\d+")
+VERDICT = re.compile(r"block (\d+) (\S+) ([a-z]+) cycles \d+ ours \d+ least (\d+)(?: claimed \d+)?")
+WRONG_ROW = re.compile(r"(?:early by \d+: |reads r\d+: |added \d+: )?row (\d+): .+")
 NOTHING = re.compile(r"path .+|total \d+.*")
 UNLAWFUL = re.compile(r"not lawful")
 REASON = re.compile(r"(?:row|left out|added|early by|reads) .+")
@@ -77,12 +80,25 @@ class Listed:
     least: str = ""
     chain: list = field(default_factory=list)
     reasons: list = field(default_factory=list)     # why the rows aren't lawful
+    verdict: str = ""
+    wrong: dict = field(default_factory=dict)       # by row what is said of it below the verdict
+
+    def judge(self, name, verdict, least):
+        self.name, self.verdict, self.least = name, verdict, least
+
+    def note(self, line):
+        """Keeps a line below the verdict, if it is of a row."""
+        if found := WRONG_ROW.fullmatch(line):
+            self.wrong.setdefault(int(found[1]) - 1, []).append(line)
 
     def take(self, line):
         """Reads a line below the block's header, and says whether it is one."""
-        if found := ROW.fullmatch(line):
-            for unit, spelling in enumerate(found.groups()):
-                if spelling != "nop":
+        if self.verdict:
+            self.note(line)
+        elif found := ROW.fullmatch(line):
+            slots = found.groups() if found[2] is not None or not is_product(found[1]) else ("", found[1])
+            for unit, spelling in enumerate(slots):
+                if spelling and spelling != "nop":
                     self.operations.append(Operation(spelling, self.rows, unit))
             self.rows += 1
         elif found := EXPLAINED.fullmatch(line):
@@ -117,19 +133,24 @@ class Listed:
             raise Unread("these are not the latencies of the listing: give them by --load, --store and --mult")
 
 
+def is_product(spelling):
+    return bool(spelling) and kind_of(spelling.split()[0]) == "mult"
+
+
 def read_blocks(lines):
-    """The blocks one after the other; rows without a header are block 1."""
-    block = Listed(1, "-", is_headed=False)
+    """The blocks one after the other; rows without a header are block 1. What `check` says of them may follow."""
+    blocks = [Listed(1, "-", is_headed=False)]
+    block = blocks[0]
     for at, line in enumerate(lines, 1):
         text = " ".join(COMMENT.sub("", line).split())
-        if found := HEADER.fullmatch(text):
-            if block.is_headed or block.rows:
-                yield block
-            block = Listed(int(found[1]), found[2])
+        if found := VERDICT.fullmatch(text):
+            block = next((it for it in reversed(blocks) if it.number == int(found[1])), block)
+            block.judge(*found.groups()[1:])
+        elif found := HEADER.fullmatch(text):
+            blocks.append(block := Listed(int(found[1]), found[2]))
         elif text and not block.take(text) and not NOTHING.fullmatch(text):
             raise Unread(f"line {at} is none of a listing of schedule or explain: {line}")
-    if block.is_headed or block.rows:
-        yield block
+    return [it for it in blocks if it.is_headed or it.rows]
 
 
 def read_block(lines, wanted):

@@ -41,6 +41,7 @@ block 2 dot differs cycles 19 ours 22 least 20 claimed 8
 total 33 ours 36 least 33
 """
 CHAIN_OUTLINE = "#e5484d"
+WRONG_OUTLINE = "#d6409f"
 
 
 EDGE = re.compile(r'        b(\d+)_(\d+) -> b\1_(\d+) \[label="(\d+)"')
@@ -118,6 +119,22 @@ class Charts(Place):
             self.expect("title", root.find(f"{SVG}title").text, f"block 1: {cycles} cycles")
         self.expect("tooltips", tooltips(root), ["loadI 1 => r1\nunit 0, issued at 0, arrives at 1",
                                             "add r1, r1 => r1\nunit 1, issued at 1, arrives at 2"])
+
+    def test_timeline_of_rows_judged(self):
+        """What `check` says is wrong is marked at its row, also where latencies aren't those of the rows."""
+        rows = self.read("examples/class/schedules/ben.rows")
+        said = self.call("ilocfarm", "check", "--task", "examples/class/schedules/task.iloc", "3", "4", given=rows)[1]
+        for given in (rows + said, b"block 1 both\n" + rows + said):
+            root = self.picture("charts/timeline", given=given)
+            self.expect("title", root.find(f"{SVG}title").text, "block 1 both: 15 cycles, at least 16, differs")
+            marked = [group.find(f"{SVG}title").text for group in root.iter(f"{SVG}g")
+                      if any(it.get("stroke") == WRONG_OUTLINE for it in group)]
+            self.expect("wrong", marked, ["add r1, r2 => r3\nunit 0, issued at 6, arrives at 7\n"
+                                          "early by 1: row 7: add r1, r2 => r3 for row 3: loadAI r0, 4 => r2"])
+        root = self.picture("charts/timeline", given=b"[ ]\n[ multI r1, 2 => r2 ]\n[ ; output 4 ]\nblock 1 - units cycles 4 ours 4 least 4\n"
+                            b"  row 3: [ nop ; output 4 ]\ntotal 4 ours 4 least 4\n")
+        self.expect("rows of one operation", tooltips(root), ["multI r1, 2 => r2\nunit 1, issued at 1, arrives at 4",
+                    "output 4\nunit 1, issued at 2, arrives at 3\nrow 3: [ nop ; output 4 ]"])
 
     def test_timeline_refuses(self):
         listing = self.call("ilocfarm", "schedule", "--load", "2", given=BLOCK)[1]
