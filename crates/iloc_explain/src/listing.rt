@@ -15,7 +15,7 @@ use crate::holding::Holder;
 use crate::path::path_of;
 use crate::path_line::push_path;
 use crate::starts::starts;
-use iloc_ops::{Block, MAX_OPS, NoMemory, Op, push_column, push_decimal, push_op};
+use iloc_ops::{Block, MAX_OPS, NoMemory, Op, push_column, push_number, push_op};
 use iloc_sched::{Heuristic, priorities, priorities_by};
 use iloc_timed::{Latencies, Schedule, cycles};
 use std::alloc::Global;
@@ -27,7 +27,7 @@ fn push_marked(text: &mut Vec<u8>, mark: &[u8], numbers: &[usize]) -> Result<(),
 {
     for number in numbers {
         text.extend_from_slice(mark)?;
-        push_decimal(text, *number as u64)?;
+        push_number(text, *number)?;
     }
     Ok(())
 }
@@ -39,7 +39,7 @@ fn push_comma_separated(text: &mut Vec<u8>, numbers: &[usize]) -> Result<(), NoM
     match numbers {
         [] => Ok(text.extend_from_slice(b"-")?),
         [first, rest @ ..] => {
-            push_decimal(text, *first as u64)?;
+            push_number(text, *first)?;
             push_marked(text, b",", rest)
         }
     }
@@ -61,7 +61,7 @@ fn push_holder(text: &mut Vec<u8>, holder: Holder) -> Result<(), NoMemory>
 {
     match holder {
         Holder::Delays => Ok(text.extend_from_slice(b"-")?),
-        Holder::Operation(i) => push_decimal(text, i as u64),
+        Holder::Operation(i) => push_number(text, i),
         Holder::Nothing => Ok(text.extend_from_slice(b"free")?),
     }
 }
@@ -88,7 +88,7 @@ fn push_explained(
     ensures { OnOk result (text.new.items
         ≡ text.old.items ++ listed.explained_line j explained.now op.now issued.now) }
 {
-    push_decimal(text, j as u64)?;
+    push_number(text, j)?;
     push_column(text, "cycle", explained.cycle as u64)?;
     push_column(text, "unit", unit_number(explained.unit))?;
     push_column(text, "ready", explained.ready as u64)?;
@@ -144,9 +144,9 @@ fn push_cycles(text: &mut Vec<u8>, cycles: u64, least: u64) -> Result<(), NoMemo
     ensures { OnOk result (text.new.items ≡ text.old.items ++ listed.cycles_line cycles least) }
 {
     text.extend_from_slice(b"cycles ")?;
-    push_decimal(text, cycles)?;
+    push_number(text, cycles)?;
     text.extend_from_slice(b" least ")?;
-    push_decimal(text, least)?;
+    push_number(text, least)?;
     if cycles == least {
         text.extend_from_slice(b" optimal")?;
     }

@@ -5,14 +5,14 @@ ghost use Rattle.std.specs.Fmt.{decimal};
 ghost use Rattle.iloc_explain.specs.Listing as listed;
 
 use crate::path::Stretch;
-use iloc_ops::{NoMemory, push_decimal};
+use iloc_ops::{NoMemory, push_number};
 
 /// Appends a number after a mark.
 fn push_after(text: &mut Vec<u8>, mark: &[u8], number: usize) -> Result<(), NoMemory>
     ensures { OnOk result (text.new.items ≡ text.old.items ++ mark.now ++ decimal number) }
 {
     text.extend_from_slice(mark)?;
-    push_decimal(text, number as u64)
+    push_number(text, number)
 }
 
 /// Appends a stretch.

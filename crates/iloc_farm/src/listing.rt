@@ -63,7 +63,7 @@ fn push_words(text: &mut Vec<u8>, words: &[i32]) -> Result<(), NoMemory>
     ensures { OnOk result (text.new.items ≡ text.old.items ++ flat_map listed.word_line words.now) }
 {
     for word in words {
-        push_number(text, i64::from(*word))?;
+        push_number(text, *word)?;
         text.push(b'\n')?;
     }
     Ok(())

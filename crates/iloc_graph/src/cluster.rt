@@ -9,7 +9,7 @@ ghost use Rattle.iloc_graph.specs.Listing.{IsCluster};
 
 use crate::nearest::nearest_pairs;
 use iloc_explain::longest_chain;
-use iloc_ops::{Block, MAX_OPS, Name, NoMemory, Op, push_decimal, push_op};
+use iloc_ops::{Block, MAX_OPS, Name, NoMemory, Op, push_number, push_op};
 use iloc_sched::{Pair, priorities, rename};
 use iloc_timed::{Kind, Latencies};
 use std::alloc::Global;
@@ -43,7 +43,7 @@ fn push_numbered(text: &mut Vec<u8>, words: &[u8], number: u64) -> Result<(), No
     ensures { OnOk result (text.new.items ≡ text.old.items ++ words.now ++ decimal number) }
 {
     text.extend_from_slice(words)?;
-    push_decimal(text, number)
+    push_number(text, number)
 }
 
 /// The colour of the box of an operation of this kind.

@@ -7,7 +7,7 @@ ghost use Rattle.iloc_judge.specs.Unread.{in_one_line, unread_told, IsUnread};
 use crate::checked::Checked;
 use crate::checked::verdict_line::{push_line, push_table_row};
 use iloc_lint::row_wording;
-use iloc_ops::{Block, NoMemory, push_decimal};
+use iloc_ops::{Block, NoMemory, push_number};
 use iloc_rows::{Proposal, Unread};
 use iloc_timed::{Latencies, Schedule, cycles, cycles_of};
 use std::alloc::Global;
@@ -29,7 +29,7 @@ fn push_told(text: &mut Vec<u8>, row: u32, words: &[u8]) -> Result<(), NoMemory>
     ensures { OnOk result (text.new.items ≡ text.old.items ++ unread_told row words.now) }
 {
     text.extend_from_slice(b"  row ")?;
-    push_decimal(text, u64::from(row) + 1)?;
+    push_number(text, u64::from(row) + 1)?;
     text.extend_from_slice(b": ")?;
     push_in_one_line(text, words)?;
     Ok(text.extend_from_slice(b"\n")?)

@@ -10,7 +10,7 @@ use crate::place::place_of;
 use crate::refused::Refused;
 use crate::shown::push_shown;
 use crate::wording::{ABOVE_LIMIT, wording};
-use iloc_text::{NoMemory, ReadFault, push_column, push_decimal};
+use iloc_text::{NoMemory, ReadFault, push_column, push_number};
 use std::alloc::Global;
 
 /// So many bytes of a line are shown.
@@ -80,7 +80,7 @@ fn push_line_entry(
     ensures { OnOk result (text.new.items ≡ text.old.items ++ line_entry number what.now line.now at) }
 {
     text.extend_from_slice(b"line ")?;
-    push_decimal(text, u64::from(number))?;
+    push_number(text, number)?;
     text.extend_from_slice(b": ")?;
     push_shown(text, what)?;
     text.push(b'\n')?;
@@ -137,7 +137,7 @@ fn push_totals(text: &mut Vec<u8>, found: &Linted<'_>) -> Result<(), NoMemory>
         ++ total_line found.now.blocks found.now.ops (length found.now.faults.items)) }
 {
     text.extend_from_slice(b"blocks ")?;
-    push_decimal(text, found.blocks as u64)?;
+    push_number(text, found.blocks)?;
     push_column(text, "operations", found.ops as u64)?;
     push_column(text, "faults", found.faults.len() as u64)?;
     Ok(text.push(b'\n')?)

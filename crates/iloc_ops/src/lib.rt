@@ -14,7 +14,7 @@ mod ops;
 mod registers;
 mod spelling;
 
-pub use column::{push_column, push_decimal};
+pub use column::push_column;
 pub use file::{Block, Blocks, IlocFile};
 pub use forms::{Opcode, Operands, form_of, op_of};
 pub use limits::{MAX_BLOCKS, MAX_INPUT, MAX_NUMBER, MAX_OPS};

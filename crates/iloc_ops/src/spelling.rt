@@ -1,6 +1,6 @@
 //! How operations and numbers are written.
 ghost use Rattle.std.specs.Prelude.{◌≡◌, ◌++◌, OnOk, OnErr, [], ◌∷◌, drop, vec_len, vec_capacity, length, codes, ◌+◌, ◌<◌, ◌≤◌};
-ghost use Rattle.std.specs.Fmt.{decimal, signed_decimal};
+ghost use Rattle.std.specs.Fmt.{decimal};
 ghost use Rattle.iloc_ops.specs.Forms.{◌▹◌, opcode_text};
 ghost use Rattle.iloc_ops.specs.Forms.Lead.{space, comma, arrow};
 ghost use Rattle.iloc_ops.specs.Forms.Value.{Use, Definition, Constant};
@@ -12,18 +12,18 @@ use crate::decimal::write_number;
 use crate::forms::{Opcode, Operands, form_of};
 use crate::no_memory::NoMemory;
 use crate::op::{Op, Reg};
-use itoa::Buffer;
+use itoa::{Buffer, Integer};
 
 /// An operation is spelled in at most so many bytes.
 pub const OP_ROOM: usize = 64;
 
 /// Promise: appends a number in decimal, with a `-` before a negative one and no other sign; after a refusal of memory,
 /// which comes only where the text must grow, the text is as before.
-pub fn push_number(text: &mut Vec<u8>, number: i64) -> Result<(), NoMemory>
-    ensures ok { OnOk result (text.new.items ≡ text.old.items ++ signed_decimal number) }
+pub fn push_number<N: Integer>(text: &mut Vec<u8>, number: N) -> Result<(), NoMemory>
+    ensures ok { OnOk result (text.new.items ≡ text.old.items ++ N.text number) }
     ensures err { OnErr result (text.new.items ≡ text.old.items) }
     ensures full { OnErr result
-        (vec_capacity text.old < vec_len text.old + length (signed_decimal number)) }
+        (vec_capacity text.old < vec_len text.old + length (N.text number)) }
 {
     let mut buffer = Buffer::new();
     text.extend_from_slice(buffer.format(number).as_bytes())?;

@@ -12,7 +12,7 @@ mod text_parts;
 pub use fault::{InputFault, ReadFault, StreamFault};
 pub use iloc_ops::{
     Block, Blocks, IlocFile, MAX_BLOCKS, MAX_INPUT, MAX_NUMBER, MAX_OPS, Name, NoMemory, OP_ROOM,
-    Op, Ops, Reg, defines, push_column, push_decimal, push_number, push_op, uses, write_op,
+    Op, Ops, Reg, defines, push_column, push_number, push_op, uses, write_op,
     write_text,
 };
 pub use line::ParseFault;

@@ -51,20 +51,17 @@ impl Totals {
 
     /// Appends `total C ours O least L`, but in a table.
     pub(crate) fn push_line(&self, text: &mut Vec<u8>, csv: bool) -> Result<(), NoMemory>
-        requires cycles { self.now.cycles < 2 ^ 63 }
-        requires ours { self.now.ours < 2 ^ 63 }
-        requires least { self.now.least < 2 ^ 63 }
         ensures { OnOk result (text.new.items ≡ text.old.items ++ totals_text csv self.now) }
     {
         if csv {
             return Ok(());
         }
         text.extend_from_slice(b"total ")?;
-        push_number(text, self.cycles as i64)?;
+        push_number(text, self.cycles)?;
         text.extend_from_slice(b" ours ")?;
-        push_number(text, self.ours as i64)?;
+        push_number(text, self.ours)?;
         text.extend_from_slice(b" least ")?;
-        push_number(text, self.least as i64)?;
+        push_number(text, self.least)?;
         text.push(b'\n')?;
         Ok(())
     }

@@ -11,7 +11,7 @@ use crate::difference::Difference;
 use crate::refutation::probe::Probe;
 use crate::verdict::Verdict;
 use crate::void::Void;
-use iloc_ops::{NoMemory, Op, push_decimal, push_number, push_op};
+use iloc_ops::{NoMemory, Op, push_number, push_op};
 use iloc_timed::{Row, push_row};
 
 /// Appends a word, `none` where there is none.
@@ -19,7 +19,7 @@ fn push_word(text: &mut Vec<u8>, word: Option<i32>) -> Result<(), NoMemory>
     ensures { OnOk result (text.new.items ≡ text.old.items ++ listed.word_or_none word) }
 {
     match word {
-        Some(word) => push_number(text, i64::from(word)),
+        Some(word) => push_number(text, word),
         None => Ok(text.extend_from_slice(b"none")?),
     }
 }
@@ -41,7 +41,7 @@ fn push_difference(text: &mut Vec<u8>, difference: &Difference) -> Result<(), No
     match *difference {
         Difference::Output { index, got, wanted } => {
             text.extend_from_slice(b"  output ")?;
-            push_decimal(text, index as u64 + 1)?;
+            push_number(text, index as u64 + 1)?;
             text.extend_from_slice(b": ")?;
             push_both(text, got, wanted)
         }
@@ -51,7 +51,7 @@ fn push_difference(text: &mut Vec<u8>, difference: &Difference) -> Result<(), No
             wanted,
         } => {
             text.extend_from_slice(b"  word ")?;
-            push_decimal(text, u64::from(address))?;
+            push_number(text, address)?;
             text.extend_from_slice(b": ")?;
             push_both(text, Some(got), Some(wanted))
         }
@@ -67,7 +67,7 @@ fn push_words(text: &mut Vec<u8>, words: &[u32]) -> Result<(), NoMemory>
 {
     for word in words {
         text.extend_from_slice(b" ")?;
-        push_decimal(text, u64::from(*word))?;
+        push_number(text, *word)?;
     }
     Ok(())
 }
@@ -77,7 +77,7 @@ fn push_probe(text: &mut Vec<u8>, probe: &Probe) -> Result<(), NoMemory>
     ensures { OnOk result (text.new.items ≡ text.old.items ++ listed.probe_told probe.now) }
 {
     text.extend_from_slice(b" with --at ")?;
-    push_decimal(text, u64::from(probe.at))?;
+    push_number(text, probe.at)?;
     push_words(text, &probe.words)
 }
 
@@ -122,7 +122,7 @@ pub(crate) fn push_bad_row(
     ensures { OnOk result (text.new.items ≡ text.old.items ++ listed.bad_row ops.now rows.now row) }
 {
     text.extend_from_slice(b"  row ")?;
-    push_decimal(text, row as u64 + 1)?;
+    push_number(text, row as u64 + 1)?;
     text.extend_from_slice(b": ")?;
     push_row(text, ops, &rows[row])?;
     Ok(text.extend_from_slice(b"\n")?)

@@ -3,7 +3,7 @@ ghost use Rattle.std.specs.Prelude.{◌≡◌, ◌++◌, IfSome, OnOk};
 ghost use Rattle.iloc_judge.specs.Reasons as told;
 ghost use Rattle.iloc_judge.specs.Steps.Counted.{CanBeTold, IsNumbered};
 
-use iloc_ops::{NoMemory, Reg, push_decimal, push_op};
+use iloc_ops::{NoMemory, Reg, push_number, push_op};
 use iloc_validation::{Added, Issue, LeftOut, Reason};
 
 /// Appends a label with its number.
@@ -11,7 +11,7 @@ fn push_numbered(text: &mut Vec<u8>, label: &str, number: u64) -> Result<(), NoM
     ensures { OnOk result (text.new.items ≡ text.old.items ++ told.numbered label.now number) }
 {
     text.extend_from_slice(label.as_bytes())?;
-    push_decimal(text, number)?;
+    push_number(text, number)?;
     Ok(text.extend_from_slice(b": ")?)
 }
 

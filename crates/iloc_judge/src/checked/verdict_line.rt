@@ -5,7 +5,7 @@ ghost use Rattle.iloc_judge.specs.Listing as listed;
 use crate::checked::Checked;
 use crate::comparison::Comparison;
 use crate::verdict::Verdict;
-use iloc_ops::{NoMemory, push_column, push_decimal};
+use iloc_ops::{NoMemory, push_column, push_number};
 
 /// The word for how rows compare with their block.
 fn comparison_word(comparison: &Comparison) -> &'static str
@@ -77,7 +77,7 @@ fn push_value(text: &mut Vec<u8>, number: u64) -> Result<(), NoMemory>
     ensures { OnOk result (text.new.items ≡ text.old.items ++ listed.value number) }
 {
     text.extend_from_slice(b",")?;
-    push_decimal(text, number)
+    push_number(text, number)
 }
 
 /// Appends `,X` with the number of cycles that is claimed, or `,` where none is.
