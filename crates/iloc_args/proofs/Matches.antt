@@ -24,7 +24,7 @@ use Rattle.clap.specs.declared.parser.matches.SubCommand.{SubCommand}
 use Rattle.iloc_meaning.specs.Address.{LAST_ADDRESS}
 use Rattle.iloc_timed.specs.Limits.{LONGEST_LATENCY}
 use Rattle.iloc_args.specs.Asked.{asked, asked_as, asked_by, task_named}
-use Rattle.iloc_args.specs.Command.{Entry, entries, farm_app, shape}
+use Rattle.iloc_args.specs.Command.{Subcommand, entries, farm_app, shape}
 use Rattle.iloc_args.specs.Due.{faults_in}
 use Rattle.iloc_args.specs.Steps.Taken.{AreNumbersIn, HoldValues, HoldsFlag, HoldsIn, IsFlagText, IsNumberIn}
 use Rattle.iloc_args.specs.declared.request.Task.{Task}
@@ -94,7 +94,7 @@ flag_taken id rules (Some r) takes kept =
 
 -- ---- a command, as the parser builds it
 
-abbrev built_of : Entry → Shape
+abbrev built_of : Subcommand → Shape
 built_of e = built_leaf (inherited farm_app.top (shape e))
 
 leaf_holds : (s : Shape) (words : List Text) → IsFit s.rules → level_fault s [] nothing_held words false [] ≡ []
@@ -120,11 +120,11 @@ leaf_holds s words fit e =
       either_slot = flag (codes "either-slot") fit.either_slot;
     }
 
-every_fits : (es : List Entry) → list_all (λ (e : Entry). is_fit (built_of e).rules) es ≡ true
+every_fits : (es : List Subcommand) → list_all (λ (e : Subcommand). is_fit (built_of e).rules) es ≡ true
     → AllByRecursion (λ e. IsFit (built_of e).rules) es
 every_fits [] are = tt
 every_fits (e ∷ es) are =
-    let parts = and_parts (is_fit (built_of e).rules) (list_all (λ (x : Entry). is_fit (built_of x).rules) es) are in
+    let parts = and_parts (is_fit (built_of e).rules) (list_all (λ (x : Subcommand). is_fit (built_of x).rules) es) are in
     (fits (built_of e).rules parts.0, every_fits es parts.1)
 
 all_fit : AllByRecursion (λ e. IsFit (built_of e).rules) entries
@@ -133,17 +133,17 @@ all_fit = every_fits entries refl
 -- ---- the whole command line
 
 -- a command of the list has this name, and the matches hold numbers in their ranges
-pub record IsEntered (es : List Entry) (word : Text) (named : Text × List Row) : Type 0 where
+pub record IsEntered (es : List Subcommand) (word : Text) (named : Text × List Row) : Type 0 where
   pub same : named.0 ≡ word
-  pub entry : Entry
+  pub entry : Subcommand
   pub first : find (λ e. bytes_eq e.name word) es ≡ Some entry
   pub hold : HoldValues named.1
 
 -- these commands as the parser builds them, and its own command `help` after them
-abbrev with_help : List Entry → List Shape
+abbrev with_help : List Subcommand → List Shape
 with_help es = map built_of es ++ built_leaf help_shape ∷ []
 
-entered_one : (es : List Entry) (p : Text × List Text) (named : Text × List Row)
+entered_one : (es : List Subcommand) (p : Text × List Text) (named : Text × List Row)
     → AllByRecursion (λ e. IsFit (built_of e).rules) es → bytes_eq p.0 (codes "help") ≡ false
     → option_map (λ s. rows_at s p.1) (find (λ s. answers_to p.0 (label_of s)) (with_help es)) ≡ Some named
     → option_map_or (λ s. level_fault s [] nothing_held p.1 false [])
@@ -231,7 +231,7 @@ entered_command words name rows (Some p) is has named e =
     let found = taken_matches words p (sym is) e in
     let same_rows : p.1 ≡ rows = sym (ap (λ o. unwrap_or o rows) has) in
     let same_name : p.0 ≡ name = sym (ap (λ o. unwrap_or o name) named) in
-    let task : task_named p.0 ≡ Some found.entry.task = ap (option_map (λ (e : Entry). e.task)) found.first in
+    let task : task_named p.0 ≡ Some found.entry.task = ap (option_map (λ (e : Subcommand). e.task)) found.first in
     record {
       task = found.entry.task;
       named = ap task_named (sym same_name) ∙ task;

@@ -79,17 +79,17 @@ abbrev pub either_slot_rule : Rule
 either_slot_rule = flag_rule (codes "either-slot")
 
 -- a command: its name, the task that it asks for, and its arguments
-pub record Entry : Type 0 where
+pub record Subcommand : Type 0 where
   pub name : Text
   pub task : Task
   pub rules : List Rule
 
 -- `run [--at N] [WORD]..`
-abbrev pub run_entry : Entry
+abbrev pub run_entry : Subcommand
 run_entry = record { name = codes "run"; task = Run; rules = at_rule ∷ words_rule ∷ [] }
 
 -- `simulate [--at N] [WORD].. [--load N] [--store N] [--mult N] [--priority NAME]`
-abbrev pub simulate_entry : Entry
+abbrev pub simulate_entry : Subcommand
 simulate_entry = record {
   name = codes "simulate";
   task = Simulate;
@@ -97,7 +97,7 @@ simulate_entry = record {
 }
 
 -- `schedule [--workers N] [--load N] [--store N] [--mult N] [--priority NAME]`
-abbrev pub schedule_entry : Entry
+abbrev pub schedule_entry : Subcommand
 schedule_entry = record {
   name = codes "schedule";
   task = Schedule;
@@ -105,7 +105,7 @@ schedule_entry = record {
 }
 
 -- `counts [--workers N] [--load N] [--store N] [--mult N] [--priority NAME] [--csv]`
-abbrev pub counts_entry : Entry
+abbrev pub counts_entry : Subcommand
 counts_entry = record {
   name = codes "counts";
   task = Counts;
@@ -113,7 +113,7 @@ counts_entry = record {
 }
 
 -- `compare [--workers N] [--load N] [--store N] [--mult N] [--csv]`
-abbrev pub compare_entry : Entry
+abbrev pub compare_entry : Subcommand
 compare_entry = record {
   name = codes "compare";
   task = Compare;
@@ -121,7 +121,7 @@ compare_entry = record {
 }
 
 -- `explain [--load N] [--store N] [--mult N] [--priority NAME] [--task FILE] [--either-slot]`
-abbrev pub explain_entry : Entry
+abbrev pub explain_entry : Subcommand
 explain_entry = record {
   name = codes "explain";
   task = Explain;
@@ -129,7 +129,7 @@ explain_entry = record {
 }
 
 -- `check [--at N] [WORD].. [--load N] [--store N] [--mult N] [--task FILE] [--either-slot] [--lawful] [--outputs] [--csv]`
-abbrev pub check_entry : Entry
+abbrev pub check_entry : Subcommand
 check_entry = record {
   name = codes "check";
   task = Check;
@@ -138,15 +138,15 @@ check_entry = record {
 }
 
 -- `graph [--load N] [--store N] [--mult N]`
-abbrev pub graph_entry : Entry
+abbrev pub graph_entry : Subcommand
 graph_entry = record { name = codes "graph"; task = Graph; rules = latency_rules }
 
 -- `lint`
-abbrev pub lint_entry : Entry
+abbrev pub lint_entry : Subcommand
 lint_entry = record { name = codes "lint"; task = Lint; rules = [] }
 
 -- the commands that there are
-abbrev pub entries : List Entry
+abbrev pub entries : List Subcommand
 entries =
     run_entry
     ∷ simulate_entry
@@ -160,7 +160,7 @@ entries =
     ∷ []
 
 -- a command as the parser has it
-abbrev pub shape : Entry → Shape
+abbrev pub shape : Subcommand → Shape
 shape e = record (new_shape e.name) { rules = e.rules }
 
 -- the program without its commands: its words stand after its name, the first of them is a command,

@@ -141,7 +141,7 @@ module _ {J A : Type 0} (count : ℕ) where
 
   pub tries_on : (b : BoardView J) (o p q : PassView J A) (x : Step) (n : ℕ) → Tries b o p → q ≡ stepped p x (Stale n)
       → job_of (state p) < n → n < count → Tries b o q
-  tries_on b o p q x n h e lt room =
+  tries_on b o p q x n h e lt capacity =
       let here = at b o p h in
       let now : state_of (noted p.journal x (Stale n)).entries ≡ Looked n =
       state_from-snoc Free p.journal.entries x (Stale n) in
@@ -150,16 +150,16 @@ module _ {J A : Type 0} (count : ℕ) where
       subst P (sym e) record {
         own = h.own;
         looking = ap is_looking now;
-        within = subst Q (sym now) room;
-        goes = works.stale_goes count o.journal p.journal x (job_of (state p)) n h.goes here.0 lt room;
+        within = subst Q (sym now) capacity;
+        goes = works.stale_goes count o.journal p.journal x (job_of (state p)) n h.goes here.0 lt capacity;
         nothing = hands_none_more o p x (Stale n) h.nothing refl;
       }
 
   pub tries_fall : (b : BoardView J) (o p q : PassView J A) (x : Step) (n : ℕ) → Tries b o p → q ≡ stepped p x (Stale n)
       → job_of (state p) < n → n < count → left count q.journal < left count p.journal
-  tries_fall b o p q x n h e lt room =
+  tries_fall b o p q x n h e lt capacity =
       let P : PassView J A → Type 0 = λ v. left count v.journal < left count p.journal in
-      subst P (sym e) (works.stale_falls count p.journal x (job_of (state p)) n (at b o p h).0 lt room)
+      subst P (sym e) (works.stale_falls count p.journal x (job_of (state p)) n (at b o p h).0 lt capacity)
 
   pub late_claims : (b : BoardView J) (o p q : PassView J A) (x : Step) → Tries b o p → q ≡ stepped p x NoneLeft
       → Ended count o.journal q.journal × IsDone q.journal

@@ -26,7 +26,7 @@ use Rattle.iloc_board.specs.Views.{BoardView, RootView, AllFit, priced}
 use Rattle.iloc_board.specs.Steps.Inside.{IsRoot}
 use Rattle.iloc_board.specs.Steps.Closing.{IsClosed}
 use Rattle.iloc_board.specs.Steps.Row.{placed, IsFirstHole, HoleOf}
-use Rattle.iloc_board.specs.Collecting.{AllMade, answer, said_in, FitsSaid, IsLegalWith, NoneTwice, jobs_of, workers_of, AreTheAnswers, IsFirstMissing, IsWhole}
+use Rattle.iloc_board.specs.Collecting.{AllMade, answer, handed_back_in, FitsHandedBack, IsLegalWith, NoneTwice, jobs_of, workers_of, AreTheAnswers, IsFirstMissing, IsWhole}
 use Rattle.iloc_board.specs.declared.collect.CollectFault.{CollectFault}
 use Rattle.iloc_board.specs.declared.collect.CollectFault.TheVariants.{Missing, NoMemory}
 use Rattle.iloc_board.specs.Faults.{MissingOf, IsNoMemory}
@@ -138,12 +138,12 @@ module _ {A : Type 0} where
   jobs_priced price (x ∷ xs) = ap (λ t. x.0 ∷ t) (jobs_priced price xs)
 
   pub said_fits : (fits : ℕ → A → Type 0) (xs : List (ℕ × A)) → AllFit fits xs → (k cost : ℕ)
-      → FitsSaid fits k (said_in xs k cost)
+      → FitsHandedBack fits k (handed_back_in xs k cost)
   said_fits fits [] f k cost = tt
   said_fits fits (x ∷ xs) f k cost = go (k == x.0) refl (said_fits fits xs f.1 k cost)
     where
-      go : (b : Bool) → (k == x.0) ≡ b → FitsSaid fits k (said_in xs k cost)
-          → FitsSaid fits k (cond b (answer x.1) (said_in xs k cost))
+      go : (b : Bool) → (k == x.0) ≡ b → FitsHandedBack fits k (handed_back_in xs k cost)
+          → FitsHandedBack fits k (cond b (answer x.1) (handed_back_in xs k cost))
       go true e rest = let P : ℕ → Type 0 = λ j. fits j x.1 in subst P (sym (eqb-true k x.0 e)) f.0
       go false e rest = rest
 
@@ -330,7 +330,7 @@ module _ {J A : Type 0} (count : ℕ) (fits : ℕ → A → Type 0) (price : A �
         (q.1.worker, subst P (sym (ap handed (c.tells q.0 q.1 q.2).entries)) q.3)
 
     pub legal : IsLegalWith fits r.answers count steps
-    legal = (laws.whole (FitsSaid fits) (said_in r.answers) (said_fits fits r.answers c.fitting.fit) count steps).0
+    legal = (laws.whole (FitsHandedBack fits) (handed_back_in r.answers) (said_fits fits r.answers c.fitting.fit) count steps).0
 
     pub each_once : NoneTwice (jobs_of r.answers)
     each_once =
@@ -391,9 +391,9 @@ module _ {J A : Type 0} (count : ℕ) (fits : ℕ → A → Type 0) (price : A �
         slice_get_within (placed (replicate count none) r.answers) i none h.0 in (
           omega arith,
           (λ a there.
-              let room : i < length (replicate count none) = let e : length (replicate count none) ≡ count =
+              let capacity : i < length (replicate count none) = let e : length (replicate count none) ≡ count =
               length-replicate count None in omega arith in
-              let q = placed_some (replicate count None) r.answers i a room there in
+              let q = placed_some (replicate count None) r.answers i a capacity there in
               let both : Some none ≡ Some (Some q.0) = sym h.0 ∙ q.1 in absurd (cc)),
           (λ j below.
               let q = h.1 j below in

@@ -112,7 +112,7 @@ hands_one count c taken es st h long x cost k holding by costs e =
     let now : List Entry = es ++ entry x r ∷ [] in
     let next : d.next ≡ c.next = ap (λ q. next_after c.next q) e in
     let few : k < c.next = st.below v k (st.has v k holding) in
-    let room : k < count = let low : c.next ≤ count = st.low in omega arith in
+    let capacity : k < count = let low : c.next ≤ count = st.low in omega arith in
     let mine : handed (entries_of v now) ≡ handed (entries_of v es) ++ (k, cost) ∷ [] =
     ap handed (entries_here v es x r refl)
     ∙ (handed_from-snoc Free (entries_of v es) x r

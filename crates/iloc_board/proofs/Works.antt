@@ -176,7 +176,7 @@ took_goes count j t x k h looked lt =
 
 pub stale_goes : (count : ℕ) (j t : Journal) (x : Step) (k n : ℕ) → Goes count j t → state_of t.entries ≡ Looked k
     → k < n → n < count → Goes count j (noted t x (Stale n))
-stale_goes count j t x k n h looked lt room =
+stale_goes count j t x k n h looked lt capacity =
     let a : left count t ≡ 3 * (count - k) = left_is count t (Looked k) looked in
     let b : left count (noted t x (Stale n)) ≡ 3 * (count - n) = left_noted count t x (Stale n) (Looked k) looked in
     let c : slack count t ≡ count - k = slack_is count t (Looked k) looked in
@@ -186,7 +186,7 @@ stale_goes count j t x k n h looked lt room =
 -- the measure of the loop of tries
 pub stale_falls : (count : ℕ) (t : Journal) (x : Step) (k n : ℕ) → state_of t.entries ≡ Looked k → k < n → n < count
     → left count (noted t x (Stale n)) < left count t
-stale_falls count t x k n looked lt room =
+stale_falls count t x k n looked lt capacity =
     let a : left count t ≡ 3 * (count - k) = left_is count t (Looked k) looked in
     let b : left count (noted t x (Stale n)) ≡ 3 * (count - n) = left_noted count t x (Stale n) (Looked k) looked in
     omega arith

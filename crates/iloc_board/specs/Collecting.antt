@@ -41,23 +41,23 @@ pub record IsOneList (count made : ℕ) (gathered : List Journal) (steps : List 
   pub once : TakesEachOnce count steps
 
 -- what is known to have come back for a job: the answer, where its pass was gathered, and else its cost alone
-pub data Said (A : Type 0) : Type 0 where
-  answer : A → Said A
-  only_cost : ℕ → Said A
+pub data HandedBack (A : Type 0) : Type 0 where
+  answer : A → HandedBack A
+  only_cost : ℕ → HandedBack A
 
 module _ {A : Type 0} where
-  abbrev pub said_in : List (ℕ × A) → ℕ → ℕ → Said A
-  said_in [] k cost = only_cost cost
-  said_in (x ∷ xs) k cost = cond (k == x.0) (answer x.1) (said_in xs k cost)
+  abbrev pub handed_back_in : List (ℕ × A) → ℕ → ℕ → HandedBack A
+  handed_back_in [] k cost = only_cost cost
+  handed_back_in (x ∷ xs) k cost = cond (k == x.0) (answer x.1) (handed_back_in xs k cost)
 
-  abbrev pub FitsSaid : (ℕ → A → Type 0) → ℕ → Said A → Type 0
-  FitsSaid fits k (answer a) = fits k a
-  FitsSaid fits k (only_cost cost) = Unit {0}
+  abbrev pub FitsHandedBack : (ℕ → A → Type 0) → ℕ → HandedBack A → Type 0
+  FitsHandedBack fits k (answer a) = fits k a
+  FitsHandedBack fits k (only_cost cost) = Unit {0}
 
   -- the list of steps is a legal history, with the answers that were gathered
   abbrev pub IsLegalWith : (ℕ → A → Type 0) → List (ℕ × A) → ℕ → List Step → Type 0
   IsLegalWith fits answers count steps =
-      Legal (FitsSaid fits) (opened count) (history (said_in answers) count (opening count) steps)
+      Legal (FitsHandedBack fits) (opened count) (history (handed_back_in answers) count (opening count) steps)
 
   -- the jobs of these answers
   abbrev pub jobs_of : List (ℕ × A) → List ℕ

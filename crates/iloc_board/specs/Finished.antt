@@ -9,12 +9,12 @@ use Rattle.iloc_board.specs.History.{history}
 use Rattle.iloc_board.specs.Journal.{all_handed}
 use Rattle.iloc_board.specs.Play.{final, taken_jobs}
 use Rattle.iloc_board.specs.Views.{AreFitting}
-use Rattle.iloc_board.specs.Collecting.{AreTheAnswers, IsLegalWith, IsOneList, IsWhole, NoneTwice, Said, jobs_of, said_in}
+use Rattle.iloc_board.specs.Collecting.{AreTheAnswers, IsLegalWith, IsOneList, IsWhole, NoneTwice, HandedBack, jobs_of, handed_back_in}
 
 -- the successful takes and hand-backs of these steps, and the replies that no job is left, as calls at a board of one
 -- thread, with the answers that were handed back
-abbrev pub calls : {A : Type 0} → ℕ → List (ℕ × A) → List Step → List (Call (Said A))
-calls count handed steps = history (said_in handed) count (opening count) steps
+abbrev pub calls : {A : Type 0} → ℕ → List (ℕ × A) → List Step → List (Call (HandedBack A))
+calls count handed steps = history (handed_back_in handed) count (opening count) steps
 
 -- nothing waits and nothing is out
 pub record IsOver {A : Type 0} (b : SequentialBoard A) : Type 0 where

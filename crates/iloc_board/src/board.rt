@@ -105,7 +105,7 @@ impl<'a, J: Jobs> Board<'a, J> {
     /// Promise: the pass has the next number, starts no earlier than the gathered passes had got, and has done nothing.
     pub fn pass(&self, root: &mut Root<'a, J>) -> Pass<'a, J>
         requires own { root.old.board ≡ self.now }
-        requires room { root.old.made < root.old.workers }
+        requires left { root.old.made < root.old.workers }
         ensures root { root.new ≡ with_pass root.old }
         ensures pass { result ≡ new_pass (J.number self.now.jobs) root.old }
     {

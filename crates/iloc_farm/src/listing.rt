@@ -17,7 +17,7 @@ use itoa::write_digits;
 use std::alloc::Global;
 
 /// More bytes than a number takes with the words around it.
-const LINE_ROOM: usize = 48;
+const LONGEST_LINE: usize = 48;
 
 /// Appends a number with a word before it and one after it, in one go.
 #[inline(always)]
@@ -31,8 +31,8 @@ pub(crate) fn push_numbered(
     requires { length before.now + length after.now ≤ 16 }
     ensures { OnOk result (text.new.items ≡ text.old.items ++ before.now ++ decimal number ++ after.now) }
 {
-    let mut line = [0; LINE_ROOM];
-    let end = write_text(&mut line, LINE_ROOM, after);
+    let mut line = [0; LONGEST_LINE];
+    let end = write_text(&mut line, LONGEST_LINE, after);
     let end = write_digits(number, &mut line, end);
     let start = write_text(&mut line, end, before);
     text.extend_from_slice(&line[start..])?;

@@ -10,8 +10,8 @@ use Rattle.iloc_text.specs.Files.{AreLines, HasNoLineEnd, Reading, ReadAs, Denot
 use Rattle.iloc_text.specs.Steps.Growth.{with_line}
 use Rattle.iloc_text.proofs.Answer.{lines_are_of}
 use Rattle.iloc_text.proofs.BlockLists.{file-snoc}
-use Rattle.iloc_lint.specs.declared.alone.Said.{Said}
-use Rattle.iloc_lint.specs.declared.alone.Unread.TheVariants as unread
+use Rattle.iloc_lint.specs.declared.alone.Content.{Content}
+use Rattle.iloc_lint.specs.declared.alone.Unknown.TheVariants as unread
 use Rattle.iloc_lint.specs.Steps.Alone.{said_after, unread_of, Says}
 use Rattle.iloc_lint.proofs.Counted.{Starts, Goes, last_in, label_starts, first_starts, empty_goes, none_counted, none_last}
 
@@ -26,12 +26,12 @@ only line lines h are = sym (lines_are_of line lines are) ∙ lines_are_of line 
 -- What it says
 
 -- the last block alone counts
-pub said_more : (start : Said) (blocks : List Block) (b : Block)
+pub said_more : (start : Content) (blocks : List Block) (b : Block)
     → said_after start (blocks ++ b ∷ []) ≡ record { labelled = is_some b.name; op = slice_get b.ops 0 }
 said_more start [] b = refl
 said_more start (x ∷ xs) b = said_more (record { labelled = is_some x.name; op = slice_get x.ops 0 }) xs b
 
-abbrev pub nothing_said : Said
+abbrev pub nothing_said : Content
 nothing_said = record { labelled = false; op = None }
 
 no_file : file_of [] ≡ []
@@ -48,7 +48,7 @@ line_said (Some name) (Some op) = refl
 one_said : (r : Reading) → said_after nothing_said (file_of (r ∷ [])) ≡ record { labelled = is_some r.label; op = r.op }
 one_said r = ap (said_after nothing_said) (file-snoc [] r ∙ ap (with_line r.label r.op) no_file) ∙ line_said r.label r.op
 
-pub line_says : (line : List ℕ) (blocks : List Block) (said : Said) → HasNoLineEnd line → Denotes line blocks
+pub line_says : (line : List ℕ) (blocks : List Block) (said : Content) → HasNoLineEnd line → Denotes line blocks
     → said ≡ said_after nothing_said blocks → Says line (Ok said)
 line_says line blocks said h d e = by d.readings (subst (λ ls. ReadAs ls d.readings) (only line d.lines h d.are_lines) d.read) d.file
   where

@@ -9,7 +9,7 @@ use std::alloc::Global;
 
 /// What a line says.
 #[derive(Clone, Copy, Drop)]
-pub struct Said {
+pub struct Content {
     /// Whether it has a label.
     pub labelled: bool,
     /// Its operation.
@@ -18,7 +18,7 @@ pub struct Said {
 
 /// Why it isn't known what a line says.
 #[derive(Clone, Copy, Drop)]
-pub enum Unread {
+pub enum Unknown {
     /// It would have no reading if numbers had no limit either.
     Bad,
     /// It would have one if numbers had no limit.
@@ -27,14 +27,14 @@ pub enum Unread {
     NoMemory,
 }
 
-impl TakeBlocks for Said {
+impl TakeBlocks for Content {
     ghost use Rattle.std.specs.Prelude.{◌≡◌, refl};
     ghost use Rattle.iloc_lint.specs.Steps.Alone.{said_after};
 
     ghost took = { λ start blocks now. now ≡ said_after start blocks };
 
     fn take(&mut self, _alloc: Global, _number: usize, block: &Block) -> Result<(), NoMemory> {
-        *self = Said {
+        *self = Content {
             labelled: block.name.is_some(),
             op: block.ops.as_slice().first().copied(),
         };
@@ -45,23 +45,23 @@ impl TakeBlocks for Said {
 }
 
 /// Why nothing is known of a line that is refused as a text of its own.
-fn why_unread(fault: ReadFault) -> Unread
+fn why_unread(fault: ReadFault) -> Unknown
     ensures { result ≡ unread_of fault }
 {
     match fault {
-        ReadFault::NoMemory => Unread::NoMemory,
-        ReadFault::NumberTooLarge(_) => Unread::TooLarge,
-        _ => Unread::Bad,
+        ReadFault::NoMemory => Unknown::NoMemory,
+        ReadFault::NumberTooLarge(_) => Unknown::TooLarge,
+        _ => Unknown::Bad,
     }
 }
 
 /// What the line says, or why that isn't known.
-pub fn read_alone(alloc: Global, line: &[u8]) -> Result<Said, Unread>
+pub fn read_alone(alloc: Global, line: &[u8]) -> Result<Content, Unknown>
     requires single { HasNoLineEnd line.now }
     requires short { length line.now ≤ MAX_INPUT }
     ensures { Says line.now result }
 {
-    let mut said = Said {
+    let mut said = Content {
         labelled: false,
         op: None,
     };

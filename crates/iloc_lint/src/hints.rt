@@ -3,7 +3,7 @@ ghost use Rattle.std.specs.Prelude.{◌≤◌, length};
 ghost use Rattle.iloc_ops.specs.Limits.{MAX_INPUT};
 ghost use Rattle.iloc_text.specs.Files.{HasNoLineEnd};
 
-use crate::alone::{Said, Unread, read_alone};
+use crate::alone::{Content, Unknown, read_alone};
 use crate::hint::Hint;
 use iloc_ops::{NoMemory, Op, defines, uses};
 use iloc_text::{MAX_INPUT, split_line};
@@ -118,7 +118,7 @@ impl Hints {
     }
 
     /// Notes whether what may be another file's end was passed.
-    fn note_end(&mut self, line: u32, said: &Said) -> Result<(), NoMemory> {
+    fn note_end(&mut self, line: u32, said: &Content) -> Result<(), NoMemory> {
         self.ended = match (said.labelled, said.op, self.ended) {
             (true, _, _) => 0,
             (_, Some(Op::Output { .. }), 0 | 1) => 1,
@@ -133,7 +133,7 @@ impl Hints {
     }
 
     /// Notes a line.
-    fn note_line(&mut self, line: u32, said: &Said) -> Result<(), NoMemory> {
+    fn note_line(&mut self, line: u32, said: &Content) -> Result<(), NoMemory> {
         self.note_end(line, said)?;
         if said.labelled {
             self.end_block()?;
@@ -154,7 +154,7 @@ impl Hints {
     {
         match read_alone(self.alloc, bytes) {
             Ok(said) => self.note_line(line, &said),
-            Err(Unread::NoMemory) => Err(NoMemory),
+            Err(Unknown::NoMemory) => Err(NoMemory),
             Err(_) => Ok(()),
         }
     }

@@ -4,7 +4,7 @@ ghost use Rattle.iloc_ops.specs.Limits.{MAX_INPUT};
 ghost use Rattle.iloc_text.specs.Files.{HasNoLineEnd, Reading};
 ghost use Rattle.iloc_lint.specs.Steps.Counted.{Adds, Count, Judged, grown};
 
-use crate::alone::{Said, Unread, read_alone};
+use crate::alone::{Content, Unknown, read_alone};
 use crate::counts::Counts;
 use iloc_text::{MAX_BLOCKS, MAX_OPS, NoMemory, Op, ReadFault};
 use std::alloc::Global;
@@ -32,7 +32,7 @@ impl Counts {
     }
 
     /// How many blocks there are with a line that says so, and how many operations the last has.
-    fn grown(&self, said: &Said) -> (usize, usize)
+    fn grown(&self, said: &Content) -> (usize, usize)
         ensures { result ≡ grown self.now.blocks self.now.last said.now.labelled (is_some said.now.op) }
     {
         match (said.labelled, said.op.is_some()) {
@@ -45,7 +45,7 @@ impl Counts {
     }
 
     /// Adds a line with this number that says so, or answers which limit it goes beyond.
-    fn add(&mut self, said: &Said, number: u32) -> Result<(), ReadFault>
+    fn add(&mut self, said: &Content, number: u32) -> Result<(), ReadFault>
         requires { self.old.ops < 2 ^ 32 }
         ensures { (before : List Reading) (label : Option (List ℕ)) → Count before self.old →
             said.now.labelled ≡ is_some label →
@@ -78,9 +78,9 @@ impl Counts {
     {
         match read_alone(alloc, line) {
             Ok(said) => Ok(self.add(&said, number).err()),
-            Err(Unread::Bad) => Ok(Some(ReadFault::BadLine(number))),
-            Err(Unread::TooLarge) => Ok(Some(ReadFault::NumberTooLarge(number))),
-            Err(Unread::NoMemory) => Err(NoMemory),
+            Err(Unknown::Bad) => Ok(Some(ReadFault::BadLine(number))),
+            Err(Unknown::TooLarge) => Ok(Some(ReadFault::NumberTooLarge(number))),
+            Err(Unknown::NoMemory) => Err(NoMemory),
         }
     }
 }

@@ -19,7 +19,7 @@ fn pair(number: u32) -> [u8; 2]
 #[inline(always)]
 fn write_two(line: &mut [u8], end: usize, number: u32) -> usize
     requires small { number < 100 }
-    requires room { (2 ≤ end) × (end ≤ length line.old) }
+    requires space { (2 ≤ end) × (end ≤ length line.old) }
     ensures start { (result ≤ end) × (end ≤ result + 2) }
     ensures length { length line.new ≡ length line.old }
     ensures written { drop result line.new ≡ decimal number ++ drop end line.old }
@@ -32,7 +32,7 @@ fn write_two(line: &mut [u8], end: usize, number: u32) -> usize
 #[inline(always)]
 fn write_four(line: &mut [u8], end: usize, number: u32) -> usize
     requires small { (100 ≤ number) × (number < 10000) }
-    requires room { (4 ≤ end) × (end ≤ length line.old) }
+    requires space { (4 ≤ end) × (end ≤ length line.old) }
     ensures start { (result ≤ end) × (end ≤ result + 4) }
     ensures length { length line.new ≡ length line.old }
     ensures written { drop result line.new ≡ decimal number ++ drop end line.old }

@@ -23,4 +23,4 @@ pub use no_memory::NoMemory;
 pub use op::{Op, Reg};
 pub use ops::Ops;
 pub use registers::{defines, uses};
-pub use spelling::{OP_ROOM, push_number, push_op, write_op, write_text};
+pub use spelling::{LONGEST_OPERATION, push_number, push_op, write_op, write_text};

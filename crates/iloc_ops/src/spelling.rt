@@ -6,7 +6,7 @@ ghost use Rattle.iloc_ops.specs.Forms.Lead.{space, comma, arrow};
 ghost use Rattle.iloc_ops.specs.Forms.Value.{Use, Definition, Constant};
 ghost use Rattle.iloc_ops.specs.Spelling.{spelled_operands, spelling};
 ghost use Rattle.iloc_ops.specs.Operands.{operands_in};
-ghost use Rattle.iloc_ops.specs.declared.spelling.TheConstants.{OP_ROOM};
+ghost use Rattle.iloc_ops.specs.declared.spelling.TheConstants.{LONGEST_OPERATION};
 
 use crate::decimal::write_number;
 use crate::forms::{Opcode, Operands, form_of};
@@ -15,7 +15,7 @@ use crate::op::{Op, Reg};
 use itoa::{Buffer, Integer};
 
 /// An operation is spelled in at most so many bytes.
-pub const OP_ROOM: usize = 64;
+pub const LONGEST_OPERATION: usize = 64;
 
 /// Promise: appends a number in decimal, with a `-` before a negative one and no other sign; after a refusal of memory,
 /// which comes only where the text must grow, the text is as before.
@@ -40,19 +40,19 @@ pub fn push_op(text: &mut Vec<u8>, op: &Op) -> Result<(), NoMemory>
     ensures full { OnErr result
         (vec_capacity text.old < vec_len text.old + length (spelling op.now)) }
 {
-    let mut line = [0; OP_ROOM];
-    let start = write_op(&mut line, OP_ROOM, op);
+    let mut line = [0; LONGEST_OPERATION];
+    let start = write_op(&mut line, LONGEST_OPERATION, op);
     text.extend_from_slice(&line[start..])?;
     Ok(())
 }
 
 /// Writes the spelling of `op`, as `push_op` has it, and gives where it starts.
 ///
-/// Promise: the operation is spelled out just before `end`, in at most `OP_ROOM` bytes; the bytes after `end` stay.
+/// Promise: the operation is spelled out just before `end`, in at most `LONGEST_OPERATION` bytes; the bytes after `end` stay.
 #[inline(always)]
 pub fn write_op(line: &mut [u8], end: usize, op: &Op) -> usize
-    requires { (OP_ROOM ≤ end) × (end ≤ length line.old) }
-    ensures room { (result ≤ end) × (end ≤ result + OP_ROOM) }
+    requires { (LONGEST_OPERATION ≤ end) × (end ≤ length line.old) }
+    ensures space { (result ≤ end) × (end ≤ result + LONGEST_OPERATION) }
     ensures length { length line.new ≡ length line.old }
     ensures written { drop result line.new ≡ spelling op.now ++ drop end line.old }
 {
@@ -66,7 +66,7 @@ pub fn write_op(line: &mut [u8], end: usize, op: &Op) -> usize
 #[inline(always)]
 fn write_opcode(line: &mut [u8], end: usize, opcode: Opcode) -> usize
     requires { (8 ≤ end) × (end ≤ length line.old) }
-    ensures room { (result ≤ end) × (end ≤ result + 7) }
+    ensures space { (result ≤ end) × (end ≤ result + 7) }
     ensures length { length line.new ≡ length line.old }
     ensures written { drop result line.new ≡ opcode_text opcode ++ drop end line.old }
 {
@@ -76,8 +76,8 @@ fn write_opcode(line: &mut [u8], end: usize, opcode: Opcode) -> usize
 
 /// Writes the operands so that they end at `end`, the last of them first, and gives where they start.
 fn write_operands(line: &mut [u8], end: usize, operands: Operands) -> usize
-    requires { (OP_ROOM ≤ end) × (end ≤ length line.old) }
-    ensures room { (result ≤ end) × (end ≤ result + 40) }
+    requires { (LONGEST_OPERATION ≤ end) × (end ≤ length line.old) }
+    ensures space { (result ≤ end) × (end ≤ result + 40) }
     ensures length { length line.new ≡ length line.old }
     ensures written { drop result line.new ≡ spelled_operands (operands_in operands) ++ drop end line.old }
 {
@@ -102,7 +102,7 @@ fn write_operands(line: &mut [u8], end: usize, operands: Operands) -> usize
 /// Writes `source => target` after a space, so that it ends at `end`, and gives where it starts.
 fn write_transfer(line: &mut [u8], end: usize, source: Reg, target: Reg) -> usize
     requires { (34 ≤ end) × (end ≤ length line.old) }
-    ensures room { (result ≤ end) × (end ≤ result + 27) }
+    ensures space { (result ≤ end) × (end ≤ result + 27) }
     ensures length { length line.new ≡ length line.old }
     ensures written { drop result line.new
         ≡ codes " r" ++ (decimal source.0 ++ (codes " => r" ++ (decimal target.0 ++ drop end line.old))) }
@@ -113,8 +113,8 @@ fn write_transfer(line: &mut [u8], end: usize, source: Reg, target: Reg) -> usiz
 
 /// Writes `left, right => dest` after a space, so that it ends at `end`, and gives where it starts.
 fn write_two_sources(line: &mut [u8], end: usize, left: Reg, right: Reg, dest: Reg) -> usize
-    requires { (OP_ROOM ≤ end) × (end ≤ length line.old) }
-    ensures room { (result ≤ end) × (end ≤ result + 40) }
+    requires { (LONGEST_OPERATION ≤ end) × (end ≤ length line.old) }
+    ensures space { (result ≤ end) × (end ≤ result + 40) }
     ensures length { length line.new ≡ length line.old }
     ensures written { drop result line.new
         ≡ spelled_operands (space ▹ Use left ∷ comma ▹ Use right ∷ arrow ▹ Definition dest ∷ []) ++ drop end line.old }
@@ -126,8 +126,8 @@ fn write_two_sources(line: &mut [u8], end: usize, left: Reg, right: Reg, dest: R
 
 /// Writes `left, value => dest` after a space, so that it ends at `end`, and gives where it starts.
 fn write_immediate(line: &mut [u8], end: usize, left: Reg, value: u32, dest: Reg) -> usize
-    requires { (OP_ROOM ≤ end) × (end ≤ length line.old) }
-    ensures room { (result ≤ end) × (end ≤ result + 40) }
+    requires { (LONGEST_OPERATION ≤ end) × (end ≤ length line.old) }
+    ensures space { (result ≤ end) × (end ≤ result + 40) }
     ensures length { length line.new ≡ length line.old }
     ensures written { drop result line.new
         ≡ spelled_operands (space ▹ Use left ∷ comma ▹ Constant value ∷ arrow ▹ Definition dest ∷ []) ++ drop end line.old }
@@ -141,7 +141,7 @@ fn write_immediate(line: &mut [u8], end: usize, left: Reg, value: u32, dest: Reg
 #[inline(always)]
 fn write_operand(line: &mut [u8], end: usize, lead: &[u8], number: u32) -> usize
     requires { (length lead.now + 10 ≤ end) × (end ≤ length line.old) }
-    ensures room { (result ≤ end) × (end ≤ result + (length lead.now + 10)) }
+    ensures space { (result ≤ end) × (end ≤ result + (length lead.now + 10)) }
     ensures length { length line.new ≡ length line.old }
     ensures written { drop result line.new ≡ lead.now ++ (decimal number ++ drop end line.old) }
 {

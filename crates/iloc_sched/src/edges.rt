@@ -133,16 +133,16 @@ impl Edges {
         Ok(())
     }
 
-    /// No operation, with capacity for `room`.
-    pub fn empty(&mut self, room: usize) -> Result<(), NoMemory>
+    /// No operation, with capacity for `space`.
+    pub fn empty(&mut self, space: usize) -> Result<(), NoMemory>
         ensures partial { OnOk result ((lat : Latencies) (ops : List Op) → length ops ≡ 0
             → IsPartialGraph lat ops (graph_of self.new) 0) }
         ensures starts { OnOk result (length self.new.starts.items ≡ 1) }
         ensures edges { OnOk result (length self.new.edges.items ≡ 0) }
     {
         self.clear(0)?;
-        self.starts.reserve(room)?;
-        self.heads.reserve(room)?;
+        self.starts.reserve(space)?;
+        self.heads.reserve(space)?;
         Ok(())
     }
 
@@ -159,7 +159,7 @@ impl Edges {
 
     /// Adds an edge.
     fn add(&mut self, from: u32, to: u32, delay: u32) -> Result<(), NoMemory>
-        requires room { length self.old.edges.items < 5 * length self.old.heads.items }
+        requires space { length self.old.edges.items < 5 * length self.old.heads.items }
         requires there { from < length self.old.heads.items }
         ensures adds { OnOk result (AddsFrom (λ i. i ≡ from) (graph_of self.old) (graph_of self.new) to delay) }
         ensures count { OnOk result (length self.new.edges.items ≡ length self.old.edges.items + 1) }
@@ -179,7 +179,7 @@ impl Edges {
 
     /// Adds an edge from an operation that there may be.
     fn add_from(&mut self, from: Option<u32>, to: u32, delay: u32) -> Result<(), NoMemory>
-        requires room { length self.old.edges.items < 5 * length self.old.heads.items }
+        requires space { length self.old.edges.items < 5 * length self.old.heads.items }
         requires there { (i : ℕ) → from ≡ Some i → i < length self.old.heads.items }
         ensures adds { OnOk result (AddsFrom (λ i. from ≡ Some i) (graph_of self.old) (graph_of self.new) to delay) }
         ensures count { OnOk result (length self.new.edges.items ≤ length self.old.edges.items + 1) }
@@ -193,7 +193,7 @@ impl Edges {
 
     /// Adds an edge from each of some operations.
     fn add_each(&mut self, from: &[u32], to: u32, delay: u32) -> Result<(), NoMemory>
-        requires room { length self.old.edges.items + length from.now ≤ 5 * length self.old.heads.items }
+        requires space { length self.old.edges.items + length from.now ≤ 5 * length self.old.heads.items }
         requires there { (i : ℕ) → In from.now i → i < length self.old.heads.items }
         ensures adds { OnOk result (AddsFrom (In from.now) (graph_of self.old) (graph_of self.new) to delay) }
         ensures count { OnOk result (length self.new.edges.items ≡ length self.old.edges.items + length from.now) }
@@ -218,7 +218,7 @@ impl Edges {
         requires next { IsNext operations.now.ops.now operations.now.kinds.now lasts.now j }
         requires own { operations.now.latencies.now ≡ map (latency latencies.now) operations.now.ops.now }
         requires used { Contains (used (op_at operations.now.ops.now j)) register }
-        requires room { length self.old.edges.items < 5 * length self.old.heads.items }
+        requires space { length self.old.edges.items < 5 * length self.old.heads.items }
         requires partial { IsPartialGraph latencies.now operations.now.ops.now (graph_of self.old) j }
         ensures grows { OnOk result (Grows latencies.now operations.now.ops.now (graph_of self.old) (graph_of self.new) j) }
         ensures covers { OnOk result (CoversUse latencies.now operations.now.ops.now (graph_of self.new) j register) }
@@ -244,7 +244,7 @@ impl Edges {
         requires next { IsNext operations.now.ops.now operations.now.kinds.now lasts.now j }
         requires uses { listed uses ≡ used (op_at operations.now.ops.now j) }
         requires own { operations.now.latencies.now ≡ map (latency latencies.now) operations.now.ops.now }
-        requires room { length self.old.edges.items + 2 ≤ 5 * length self.old.heads.items }
+        requires space { length self.old.edges.items + 2 ≤ 5 * length self.old.heads.items }
         requires partial { IsPartialGraph latencies.now operations.now.ops.now (graph_of self.old) j }
         ensures grows { OnOk result (Grows latencies.now operations.now.ops.now (graph_of self.old) (graph_of self.new) j) }
         ensures covers { OnOk result (CoversUses latencies.now operations.now.ops.now (graph_of self.new) j) }
@@ -272,7 +272,7 @@ impl Edges {
         j: usize,
     ) -> Result<(), NoMemory>
         requires next { IsNext operations.now.ops.now operations.now.kinds.now lasts.now j }
-        requires room { length self.old.edges.items + 2 + length lasts.now.loads.items ≤ 5 * length self.old.heads.items }
+        requires space { length self.old.edges.items + 2 + length lasts.now.loads.items ≤ 5 * length self.old.heads.items }
         requires partial { IsPartialGraph latencies.now operations.now.ops.now (graph_of self.old) j }
         ensures grows { OnOk result (Grows latencies.now operations.now.ops.now (graph_of self.old) (graph_of self.new) j) }
         ensures covers { OnOk result (CoversMemory latencies.now operations.now.ops.now (graph_of self.new) j) }
@@ -309,7 +309,7 @@ impl Edges {
         requires uses { listed uses ≡ used (op_at operations.now.ops.now j) }
         requires next { IsNext operations.now.ops.now operations.now.kinds.now lasts.now j }
         requires own { operations.now.latencies.now ≡ map (latency latencies.now) operations.now.ops.now }
-        requires room { length self.old.edges.items + 4 + length lasts.now.loads.items ≤ 5 * length self.old.heads.items }
+        requires space { length self.old.edges.items + 4 + length lasts.now.loads.items ≤ 5 * length self.old.heads.items }
         requires starts { length self.old.starts.items ≡ j + 1 }
         requires partial { IsPartialGraph latencies.now operations.now.ops.now (graph_of self.old) j }
         ensures partial { OnOk result (IsPartialGraph latencies.now operations.now.ops.now (graph_of self.new) (j + 1)) }

@@ -11,9 +11,8 @@ mod text_parts;
 
 pub use fault::{InputFault, ReadFault, StreamFault};
 pub use iloc_ops::{
-    Block, Blocks, IlocFile, MAX_BLOCKS, MAX_INPUT, MAX_NUMBER, MAX_OPS, Name, NoMemory, OP_ROOM,
-    Op, Ops, Reg, defines, push_column, push_number, push_op, uses, write_op,
-    write_text,
+    Block, Blocks, IlocFile, LONGEST_OPERATION, MAX_BLOCKS, MAX_INPUT, MAX_NUMBER, MAX_OPS, Name,
+    NoMemory, Op, Ops, Reg, defines, push_column, push_number, push_op, uses, write_op, write_text,
 };
 pub use line::ParseFault;
 pub use line::schedule_line::{ScheduleLine, read_schedule_line};

@@ -1,20 +1,20 @@
 //! How a row is written.
 ghost use Rattle.std.specs.Prelude.{◌≡◌, ◌≤◌, ◌+◌, ◌++◌, drop, length, OnErr, OnOk};
 ghost use Rattle.iloc_ops.specs.Spelling.{spelling};
-ghost use Rattle.iloc_ops.specs.declared.spelling.TheConstants.{OP_ROOM};
+ghost use Rattle.iloc_ops.specs.declared.spelling.TheConstants.{LONGEST_OPERATION};
 ghost use Rattle.iloc_timed.specs.Spelling.{op_in, row_line, row_spelling};
-ghost use Rattle.iloc_timed.specs.declared.spelling.TheConstants.{ROOM};
+ghost use Rattle.iloc_timed.specs.declared.spelling.TheConstants.{LONGEST_ROW};
 
 use crate::row::Row;
-use iloc_ops::{NoMemory, OP_ROOM, Op, write_op, write_text};
+use iloc_ops::{LONGEST_OPERATION, NoMemory, Op, write_op, write_text};
 
 /// More bytes than a row is written with.
-const ROOM: usize = 2 * OP_ROOM + 7;
+const LONGEST_ROW: usize = 2 * LONGEST_OPERATION + 7;
 
 /// Writes the operation in a slot, `nop` where it is empty, so that it ends at `end`, and gives where it starts.
 fn write_slot(line: &mut [u8], end: usize, ops: &[Op], slot: Option<usize>) -> usize
-    requires { (OP_ROOM ≤ end) × (end ≤ length line.old) }
-    ensures room { (result ≤ end) × (end ≤ result + OP_ROOM) }
+    requires { (LONGEST_OPERATION ≤ end) × (end ≤ length line.old) }
+    ensures space { (result ≤ end) × (end ≤ result + LONGEST_OPERATION) }
     ensures length { length line.new ≡ length line.old }
     ensures written { drop result line.new ≡ spelling (op_in ops.now slot) ++ drop end line.old }
 {
@@ -27,8 +27,8 @@ fn write_slot(line: &mut [u8], end: usize, ops: &[Op], slot: Option<usize>) -> u
 /// Writes a row so that it ends at `end`, and gives where it starts.
 #[inline(always)]
 fn write_row(line: &mut [u8], end: usize, ops: &[Op], row: &Row) -> usize
-    requires { (ROOM ≤ end) × (end ≤ length line.old) }
-    ensures room { result ≤ end }
+    requires { (LONGEST_ROW ≤ end) × (end ≤ length line.old) }
+    ensures space { result ≤ end }
     ensures length { length line.new ≡ length line.old }
     ensures written { drop result line.new ≡ row_spelling ops.now row.now ++ drop end line.old }
 {
@@ -45,8 +45,8 @@ pub fn push_row(text: &mut Vec<u8>, ops: &[Op], row: &Row) -> Result<(), NoMemor
     ensures ok { OnOk result (text.new.items ≡ text.old.items ++ row_spelling ops.now row.now) }
     ensures err { OnErr result (text.new.items ≡ text.old.items) }
 {
-    let mut line = [0; ROOM];
-    let start = write_row(&mut line, ROOM, ops, row);
+    let mut line = [0; LONGEST_ROW];
+    let start = write_row(&mut line, LONGEST_ROW, ops, row);
     text.extend_from_slice(&line[start..])?;
     Ok(())
 }
@@ -60,8 +60,8 @@ pub fn push_row_line(text: &mut Vec<u8>, ops: &[Op], row: &Row) -> Result<(), No
         text.extend_from_slice(b"[ nop ; nop ]\n")?;
         return Ok(());
     }
-    let mut line = [b'\n'; ROOM + 1];
-    let start = write_row(&mut line, ROOM, ops, row);
+    let mut line = [b'\n'; LONGEST_ROW + 1];
+    let start = write_row(&mut line, LONGEST_ROW, ops, row);
     text.extend_from_slice(&line[start..])?;
     Ok(())
 }

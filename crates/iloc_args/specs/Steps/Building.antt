@@ -6,7 +6,7 @@ use Rattle.clap.specs.declared.builder.command.Command.TheViews.{out-Command}
 use Rattle.clap.specs.declared.builder.value_parser.ValueParser.{ValueParser}
 use Rattle.clap.specs.Words.{App, Rule, Shape, Text, app_of, new_rule, rule_of, with_rule}
 use Rattle.clap.specs.Simple.{new_shape}
-use Rattle.iloc_args.specs.Command.{Entry, at_rule, shape, words_rule, workers_rule}
+use Rattle.iloc_args.specs.Command.{Subcommand, at_rule, shape, words_rule, workers_rule}
 
 -- `--NAME N`, a number that this parser takes, and this one where it is not given
 abbrev pub option_rule : Text → Text → ValueParser → Rule
@@ -21,7 +21,7 @@ option_rule name default parser = record (new_rule name) {
 abbrev pub alone : Shape → App
 alone s = record { top = s; subs = [] }
 
-abbrev pub app : Entry → App
+abbrev pub app : Subcommand → App
 app e = alone (shape e)
 
 -- a command of this name that takes words and their start

@@ -1,5 +1,5 @@
 use crate::asserted::assert_list;
-use iloc_ops::{NoMemory, OP_ROOM, Op, push_number, push_op, write_op};
+use iloc_ops::{LONGEST_OPERATION, NoMemory, Op, push_number, push_op, write_op};
 use std::process::Abort;
 use std::test::Fail;
 
@@ -43,7 +43,7 @@ fn leaves_the_text_as_it_was_where_it_is_refused(rt: HostRuntime) -> Result<(), 
 
 #[test]
 fn writes_an_operation_before_a_place(rt: HostRuntime) {
-    let mut line = [b'.'; OP_ROOM + 2];
-    let start = write_op(&mut line, OP_ROOM, &OUTPUT);
+    let mut line = [b'.'; LONGEST_OPERATION + 2];
+    let start = write_op(&mut line, LONGEST_OPERATION, &OUTPUT);
     assert_list(&rt, &line[start..], b"output 1024..");
 }

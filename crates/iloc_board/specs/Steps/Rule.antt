@@ -71,22 +71,22 @@ abbrev pub Sat : Type 0
 Sat = Me (Unit {0}) SeatView
 
 -- what a step tells: of the step, the seat before, the number found and the seat after
-abbrev pub Told : Type 1
-Told = table.Step (Unit {0}) → Sat → ℕ → Sat → Type 0
+abbrev pub StepEffect : Type 1
+StepEffect = table.Step (Unit {0}) → Sat → ℕ → Sat → Type 0
 
 abbrev pub adds : Sat → Step → Reply → Sat
 adds m x r = (pass_seat m.0.count (noted m.0.journal x r), m.1)
 
 -- a load of word 0
-abbrev pub looks : Told
+abbrev pub looks : StepEffect
 looks st m n after = (after ≡ adds m (Look m.0.journal.worker) (found m.0.count n)) × (seen m.0.count m.0.journal ≤ n)
 
 -- a compare and exchange of word 0
-abbrev pub tries : Told
+abbrev pub tries : StepEffect
 tries st m n after = (after ≡ adds m (Try m.0.journal.worker) (cond (n == st.first) (Took st.first) (missed m.0.count n))) × (seen m.0.count m.0.journal ≤ n)
 
 -- a store of a cost
-abbrev pub hands : Told
+abbrev pub hands : StepEffect
 hands st m n after = after ≡ adds m (Hand m.0.journal.worker n) Handed
 
 -- the root after it made a pass, and the pass

@@ -12,28 +12,28 @@ use Rattle.iloc_farm.specs.Listing.{block_head, total_of}
 use Rattle.iloc_farm.specs.declared.commands.Finding.{Finding}
 
 -- a block, what is proposed for it, what was found of that, and what is said of it
-pub record Told : Type 0 where
+pub record ExplainedBlock : Type 0 where
   pub block : Block
   pub proposal : Proposal
   pub found : ExplainedRows
   pub text : List ℕ
 
 -- what is said of the proposal is right
-abbrev pub IsTold : Heuristic → Latencies → Told → Type 0
-IsTold heuristic lat t = IsRowsExplanation heuristic lat t.block.ops t.proposal t.found t.text
+abbrev pub IsExplainedBlock : Heuristic → Latencies → ExplainedBlock → Type 0
+IsExplainedBlock heuristic lat t = IsRowsExplanation heuristic lat t.block.ops t.proposal t.found t.text
 
 -- the head of each block and what is said of its proposal, numbered from k on
-abbrev pub told_entries : ℕ → List Told → List ℕ
-told_entries k [] = []
-told_entries k (t ∷ ts) = block_head k t.block.name ++ codes "\n" ++ t.text ++ told_entries (k + 1) ts
+abbrev pub explained_entries : ℕ → List ExplainedBlock → List ℕ
+explained_entries k [] = []
+explained_entries k (t ∷ ts) = block_head k t.block.name ++ codes "\n" ++ t.text ++ explained_entries (k + 1) ts
 
 -- The text says of each proposal what is right, and at the end how many cycles all take. They passed exactly where each is known to
 -- be by the book.
 pub record ExplainsRows (heuristic : Heuristic) (lat : Latencies) (blocks : List Block) (proposals : List Proposal)
     (finding : Finding) (text : List ℕ) : Type 0 where
-  pub told : List Told
+  pub told : List ExplainedBlock
   pub of_blocks : map (λ t. t.block) told ≡ blocks
   pub of_proposals : map (λ t. t.proposal) told ≡ proposals
-  pub right : All (IsTold heuristic lat) told
+  pub right : All (IsExplainedBlock heuristic lat) told
   pub found : finding ≡ finding_of (list_all (λ t. t.found.is_lawful) told)
-  pub listed : text ≡ told_entries 1 told ++ total_of (sum_by (λ t. t.found.cycles) told)
+  pub listed : text ≡ explained_entries 1 told ++ total_of (sum_by (λ t. t.found.cycles) told)

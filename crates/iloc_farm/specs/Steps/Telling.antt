@@ -7,11 +7,11 @@ use Rattle.iloc_rows.specs.declared.proposal.Proposal.{Proposal}
 use Rattle.iloc_sched.specs.declared.ranking.heuristic.Heuristic.{Heuristic}
 use Rattle.iloc_judge.specs.declared.explained.ExplainedRows.{ExplainedRows}
 use Rattle.iloc_farm.specs.declared.commands.explain_rows.Found.{Found}
-use Rattle.iloc_farm.specs.Commands.ExplainRows.{IsTold, Told, told_entries}
+use Rattle.iloc_farm.specs.Commands.ExplainRows.{IsExplainedBlock, ExplainedBlock, explained_entries}
 use Rattle.iloc_farm.specs.Steps.Limits.{most_proposed_cycles}
 
 -- what was found of these together
-abbrev pub found_of : List Told → Found
+abbrev pub found_of : List ExplainedBlock → Found
 found_of ts = record {
   blocks = length ts;
   cycles = sum_by (λ t. t.found.cycles) ts;
@@ -29,10 +29,10 @@ with_rows all one = record {
 -- the text has the entries of the first blocks, for which this was found, and these proposals are left
 pub record IsToldTo (heuristic : Heuristic) (lat : Latencies) (blocks : List Block) (proposals left : List Proposal)
     (text : List ℕ) (found : Found) : Type 0 where
-  pub told : List Told
+  pub told : List ExplainedBlock
   pub sums : found ≡ found_of told
   pub few : found.cycles ≤ most_proposed_cycles * found.blocks
   pub of_blocks : map (λ t. t.block) told ≡ take (length told) blocks
   pub of_proposals : map (λ t. t.proposal) told ++ left ≡ proposals
-  pub right : All (IsTold heuristic lat) told
-  pub listed : text ≡ told_entries 1 told
+  pub right : All (IsExplainedBlock heuristic lat) told
+  pub listed : text ≡ explained_entries 1 told

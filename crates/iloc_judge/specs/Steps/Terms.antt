@@ -9,8 +9,8 @@ use Rattle.iloc_judge.specs.declared.table.node.Binary.{Binary}
 use Rattle.iloc_judge.specs.declared.table.node.Binary.TheVariants.{Sum, Product, ShiftLeft, ShiftRight}
 use Rattle.iloc_judge.specs.declared.table.tries.Found.{Found}
 use Rattle.iloc_judge.specs.declared.table.tries.Found.TheVariants.{Term, Nothing, Untold}
-use Rattle.iloc_judge.specs.declared.table.memories.Seen.{Seen}
-use Rattle.iloc_judge.specs.declared.table.memories.Seen.TheVariants.{Written, In}
+use Rattle.iloc_judge.specs.declared.table.memories.LoadSource.{LoadSource}
+use Rattle.iloc_judge.specs.declared.table.memories.LoadSource.TheVariants.{Written, In}
 use Rattle.iloc_judge.specs.declared.table.node.Node.{Node}
 use Rattle.iloc_judge.specs.declared.table.node.Node.TheVariants.{Known, Offset, Scaled, Combined, Word, Start, Epoch, Empty, Leaf, Fork}
 
@@ -115,7 +115,7 @@ abbrev pub ArePartsOf : Meaning → ℕ → Option ℕ → ℤ → Type 0
 ArePartsOf d number base c = d.word number ≡ wrapped (base_word d base +ℤ c)
 
 -- what an address of a memory has, as far as its last epoch says
-abbrev pub IsSeen : Meaning → ℕ → ℕ → Seen → Type 0
+abbrev pub IsSeen : Meaning → ℕ → ℕ → LoadSource → Type 0
 IsSeen d memory address (Written value) = d.words memory (d.word address) ≡ d.word value
 IsSeen d memory address (In other) = d.words memory (d.word address) ≡ d.words other (d.word address)
 

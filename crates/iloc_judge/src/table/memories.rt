@@ -10,7 +10,7 @@ use iloc_ops::NoMemory;
 
 /// What the last epoch of a memory says of an address.
 #[derive(Clone, Copy, Debug)]
-pub(crate) enum Seen {
+pub(crate) enum LoadSource {
     /// The word with this number stands there.
     Written(u32),
     /// What this memory has.
@@ -105,7 +105,7 @@ impl Table {
     }
 
     /// What the last epoch of a memory says of an address.
-    fn seen(&self, memory: u32, address: u32) -> Seen
+    fn seen(&self, memory: u32, address: u32) -> LoadSource
         ensures { (words : List ℤ) (d : Meaning) → IsMeaning words self.now d → IsSeen d memory address result }
     {
         let Some(
@@ -116,16 +116,16 @@ impl Table {
             },
         ) = self.node(memory)
         else {
-            return Seen::In(memory);
+            return LoadSource::In(memory);
         };
         let Location { base, key } = self.location(address);
         if last != base {
-            return Seen::In(memory);
+            return LoadSource::In(memory);
         }
         match self.found(trie, key) {
-            Found::Term(value) => Seen::Written(value),
-            Found::Nothing => Seen::In(before),
-            Found::Untold => Seen::In(memory),
+            Found::Term(value) => LoadSource::Written(value),
+            Found::Nothing => LoadSource::In(before),
+            Found::Untold => LoadSource::In(memory),
         }
     }
 
@@ -134,8 +134,8 @@ impl Table {
         ensures { IfOk result (λ n. Adds self.old self.new (λ _ d. d.word n ≡ d.words memory (d.word address))) }
     {
         match self.seen(memory, address) {
-            Seen::Written(value) => Ok(value),
-            Seen::In(memory) => self.intern(Node::Word { address, memory }),
+            LoadSource::Written(value) => Ok(value),
+            LoadSource::In(memory) => self.intern(Node::Word { address, memory }),
         }
     }
 }

@@ -4,23 +4,23 @@ use Rattle.iloc_ops.specs.declared.file.Block.{Block}
 use Rattle.iloc_text.specs.declared.fault.ReadFault.{ReadFault}
 use Rattle.iloc_text.specs.declared.fault.ReadFault.TheVariants.{NumberTooLarge, NoMemory}
 use Rattle.iloc_text.specs.Grammar.{Reads, HasReading, HasWideReading}
-use Rattle.iloc_lint.specs.declared.alone.Said.{Said}
-use Rattle.iloc_lint.specs.declared.alone.Unread.{Unread}
-use Rattle.iloc_lint.specs.declared.alone.Unread.TheVariants as unread
+use Rattle.iloc_lint.specs.declared.alone.Content.{Content}
+use Rattle.iloc_lint.specs.declared.alone.Unknown.{Unknown}
+use Rattle.iloc_lint.specs.declared.alone.Unknown.TheVariants as unread
 
 -- what the last block says
-abbrev pub said_after : Said → List Block → Said
+abbrev pub said_after : Content → List Block → Content
 said_after start [] = start
 said_after start (b ∷ bs) = said_after (record { labelled = is_some b.name; op = slice_get b.ops 0 }) bs
 
 -- why nothing is known of a line that is refused so
-abbrev pub unread_of : ReadFault → Unread
+abbrev pub unread_of : ReadFault → Unknown
 unread_of NoMemory = unread.NoMemory
 unread_of (NumberTooLarge n) = unread.TooLarge
 unread_of _ = unread.Bad
 
 -- what is known of a line
-abbrev pub Says : List ℕ → Result Said Unread → Type 0
+abbrev pub Says : List ℕ → Result Content Unknown → Type 0
 Says line (Ok said) = (label : Option (List ℕ)) × Reads line label said.op × (said.labelled ≡ is_some label)
 Says line (Err unread.Bad) = HasWideReading line → ⊥
 Says line (Err unread.TooLarge) = HasWideReading line × (HasReading line → ⊥)

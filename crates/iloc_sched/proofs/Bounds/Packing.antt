@@ -390,7 +390,7 @@ module _ (links : List ℕ) (p : ℕ) (is : IsLinked links) (within : p < length
 -- a link goes no further than behind the last taken place
 pub link_near : (links : List ℕ) (top p : ℕ) → IsLinked links → ((q : ℕ) → is_taken links q ≡ true → q ≤ top)
     → p < length links → top + 1 < length links → link links p < length links
-link_near links top p is up_to within room = by_eq (link links p) p
+link_near links top p is up_to within space = by_eq (link links p) p
     (λ same. omega arith)
     (λ apart.
     let forth : p ≤ link links p = is.forth p within in

@@ -104,8 +104,8 @@ key width p q n t f a limit some crowd each start =
           (in_between a (limit - b + 1) (t i) first (omega arith))) in
           let few : count_by (λ i. p i && between a (limit - b + 1) (t i)) range ≤ width * ((limit - b + 1) - a) =
           crowd a (limit - b + 1) in
-          let room : (limit - b + 1) - a ≡ (limit - b - a) + 1 = omega arith in
-          let product : width * ((limit - b + 1) - a) ≡ width * ((limit - b - a) + 1) = ap (λ m. width * m) room in
+          let space : (limit - b + 1) - a ≡ (limit - b - a) + 1 = omega arith in
+          let product : width * ((limit - b + 1) - a) ≡ width * ((limit - b - a) + 1) = ap (λ m. width * m) space in
           let most : count_from all b ≤ width * ((limit - b - a) + 1) = omega arith in
           let quotient : (count_from all b - 1) / width ≤ limit - b - a =
           rest_within width (count_from all b) (limit - b - a) some most in

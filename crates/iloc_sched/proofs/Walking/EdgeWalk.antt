@@ -3,7 +3,8 @@ use Rattle.std.proofs.Common.{◌≡◌, ◌≢◌, ℕ, ◌+◌, ◌-◌, ◌%�
 use Rattle.iloc_sched.specs.Steps.Members.{In, AreApart}
 use Rattle.iloc_sched.specs.Steps.Graph.{Graph, IsLast, IsGraph}
 use Rattle.iloc_sched.specs.Steps.Progress.{Progress, UpTo, Waits, CanIssue, count_from}
-use Rattle.iloc_sched.proofs.Walking.UnmetEdges.{by_bool, not_true, without, without_it, without_other, count_same, count_less}
+use Rattle.iloc_meaning.proofs.Cases.{by_bool}
+use Rattle.iloc_sched.proofs.Walking.UnmetEdges.{not_true, without, without_it, without_other, count_same, count_less}
 use Rattle.iloc_sched.proofs.Basics.Cases.{by_eq, by_lt, not_both, same_some, none_of}
 
 -- what passes below n is at most the last that does

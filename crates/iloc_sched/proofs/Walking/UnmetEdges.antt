@@ -1,12 +1,9 @@
 -- How many edges are unmet once one more is over; for `Waiting::pass`, `open`.
 use Rattle.std.proofs.Common.{◌≡◌, ◌≢◌, ℕ, zero, suc, ◌+◌, ◌<◌, ◌≤◌, Bool, true, false, ◌⊎◌, inl, inr, refl, sym, ap, subst, arith}
 use Rattle.std.proofs.lemmas.Bool.{cases_eq}
+use Rattle.iloc_meaning.proofs.Cases.{by_bool}
 use Rattle.iloc_sched.specs.Steps.Progress.{count_from, one_if}
 use Rattle.iloc_sched.proofs.Basics.Cases.{by_eq}
-
-pub by_bool : {P : Type 0} → (b : Bool) → (b ≡ true → P) → (b ≡ false → P) → P
-by_bool {P} b when_true when_false =
-    elim b as (λ v. (v ≡ true → P) → (v ≡ false → P) → P) [ true ↦ λ f g. f refl | false ↦ λ f g. g refl ] when_true when_false
 
 pub not_true : {P : Type 0} → (b : Bool) → b ≡ false → b ≡ true → P
 not_true b is_false is_true = cc

@@ -49,7 +49,7 @@ impl Calendar {
     /// Takes out all operations, and has capacity for at least `count`.
     pub fn clear(&mut self, count: usize) -> Result<(), NoMemory>
         ensures empty { (b : ℕ) → bucket_of self.new b ≡ [] }
-        ensures room { OnOk result (count ≤ length self.new.behind.items) }
+        ensures space { OnOk result (count ≤ length self.new.behind.items) }
     {
         self.buckets = [Bucket { first: 0, count: 0 }; BUCKETS];
         if self.behind.len() < count {
@@ -67,7 +67,7 @@ impl Calendar {
         ensures put { bucket_of self.new (cycle % 32)
             ≡ (if ready then j ∷ bucket_of self.old (cycle % 32) else bucket_of self.old (cycle % 32)) }
         ensures others { (b : ℕ) → b < 32 → b ≢ cycle % 32 → bucket_of self.new b ≡ bucket_of self.old b }
-        ensures room { length self.new.behind.items ≡ length self.old.behind.items }
+        ensures space { length self.new.behind.items ≡ length self.old.behind.items }
     {
         let place = cycle as usize % BUCKETS;
         let bucket = self.buckets[place];
@@ -85,7 +85,7 @@ impl Calendar {
         ensures unchanged { IfNone result (self.new ≡ self.old) }
         ensures taken { IfSome result (λ j. bucket_of self.old (cycle % 32) ≡ j ∷ bucket_of self.new (cycle % 32)) }
         ensures others { (b : ℕ) → b < 32 → b ≢ cycle % 32 → bucket_of self.new b ≡ bucket_of self.old b }
-        ensures room { length self.new.behind.items ≡ length self.old.behind.items }
+        ensures space { length self.new.behind.items ≡ length self.old.behind.items }
     {
         let place = cycle as usize % BUCKETS;
         let bucket = self.buckets[place];

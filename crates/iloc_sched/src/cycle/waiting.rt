@@ -166,7 +166,7 @@ impl Waiting {
         ensures others { (b : ℕ) → b < 32 → b ≢ cycle % 32
             → (progress_of self.new).bucket b ≡ (progress_of self.old).bucket b }
         ensures states { self.new.states ≡ self.old.states }
-        ensures room { length self.new.calendar.behind.items ≡ length self.old.calendar.behind.items }
+        ensures space { length self.new.calendar.behind.items ≡ length self.old.calendar.behind.items }
     {
         self.calendar.take(cycle)
     }

@@ -43,7 +43,7 @@ impl Packing {
     fn first_free(&mut self, from: u32) -> u32
         requires linked { IsLinked self.old.links.items }
         requires up_to { (q : ℕ) → is_taken self.old.links.items q ≡ true → q ≤ self.old.top }
-        requires room { self.old.top + 1 < length self.old.links.items }
+        requires space { self.old.top + 1 < length self.old.links.items }
         requires there { from < length self.old.links.items }
         ensures linked { IsLinked self.new.links.items }
         ensures alike { AreTakenAlike self.old.links.items self.new.links.items }

@@ -31,7 +31,7 @@ pub(crate) enum By {
 
 /// An operation.
 #[derive(Clone, Copy, Debug)]
-pub(crate) struct Node {
+pub(crate) struct OperationNode {
     pub label: Label,
     /// What it reads.
     pub sources: Sources,
@@ -53,7 +53,7 @@ struct Reader {
 /// The operations of one side, with numbers for what they have in common with those of the other.
 #[derive(Drop)]
 pub(crate) struct Graph {
-    pub nodes: Vec<Node>,
+    pub nodes: Vec<OperationNode>,
     /// The operations in the order in which they are executed.
     pub order: Vec<usize>,
     // By operation the numbers of what it has in common with others.
@@ -65,7 +65,7 @@ pub(crate) struct Graph {
 }
 
 /// Counts that these results are read.
-fn count_uses(nodes: &mut Vec<Node>, sources: Sources) {
+fn count_uses(nodes: &mut Vec<OperationNode>, sources: Sources) {
     for source in sources.both() {
         if let Some(s) = source
             && s < nodes.len()
@@ -85,7 +85,7 @@ impl Graph {
     ) -> Result<Graph, NoMemory> {
         let mut nodes = Vec::with_capacity(alloc, ops.len())?;
         for (k, op) in ops.iter().enumerate() {
-            nodes.push(Node {
+            nodes.push(OperationNode {
                 label: Label::of(op),
                 sources: sources.get(k).copied().unwrap_or(Sources::Nothing),
                 stores: 0,
@@ -105,12 +105,17 @@ impl Graph {
     }
 
     /// Operation k.
-    pub(crate) fn node(&self, k: usize) -> Option<Node> {
+    pub(crate) fn node(&self, k: usize) -> Option<OperationNode> {
         self.nodes.get(k).copied()
     }
 
     /// Numbers the terms of operation k.
-    fn number(&mut self, numbering: &mut Numbering, k: usize, node: Node) -> Result<(), NoMemory> {
+    fn number(
+        &mut self,
+        numbering: &mut Numbering,
+        k: usize,
+        node: OperationNode,
+    ) -> Result<(), NoMemory> {
         let label = Key {
             label: node.label,
             sources: Sources::Nothing,

@@ -62,7 +62,7 @@ loop-j-init c =
     let ops_size : graph.ops ≡ length c.requires.ops = c.requires.kept.size in
     record {
       size = omega arith;
-      room = omega (arith, c.in_ok-loads.ensures.size);
+      space = omega (arith, c.in_ok-loads.ensures.size);
       tailed = λ ops kept are. subst (λ n. IsTailed lat ops graph c.fill_latencies.new.own.items n (graph.start n))
           (sym all)
           (tailed_none lat ops graph kept c.fill_latencies.new.own.items
@@ -96,7 +96,7 @@ tail_of-tail-requires-clause-packed c =
     let small : get_or found j 0 ≤ 16 * length ops =
     tailed_small lat ops graph kept found (j + 1) (graph.start (j + 1)) j tailed (omega arith) in
     let reach = loads_reach lat ops (j + 1) c.index-chain.result.now (omega arith) in
-    let room : length c.loop-j.loads.links.items ≡ 17 * length kinds + 2 = c.loop-j.invariant.room in
+    let space : length c.loop-j.loads.links.items ≡ 17 * length kinds + 2 = c.loop-j.invariant.space in
     let enough : needed 1 (c.index-chain.result.now ∷ loads_from lat ops (j + 1)) + 1 < length c.loop-j.loads.links.items =
     omega arith in
     (loads_from lat ops (j + 1), packed, enough)
@@ -107,7 +107,7 @@ tail_of-tail-requires-clause-small c =
     ap length c.requires.kinds_are ∙ length-map c.requires.ops kind in
     let ops_size : length c.args.edges.now.heads.items ≡ length c.requires.ops = c.requires.kept.size in
     let few : length c.args.edges.now.heads.items ≤ 10000 = c.args.edges.now.short in
-    let room = c.loop-j.invariant.room in
+    let space = c.loop-j.invariant.space in
     let short = c.args.latencies.now.short_store in
     omega arith
 
@@ -162,7 +162,7 @@ loop-j-preserved c =
     let back : c.loop-j.j ≡ j + 1 = omega arith in
     record {
       size = c.raise_sources.ensures.size ∙ length-set found j c.tail_of-tail.result ∙ c.loop-j.invariant.size;
-      room = c.tail_of-tail.ensures.size ∙ c.loop-j.invariant.room;
+      space = c.tail_of-tail.ensures.size ∙ c.loop-j.invariant.space;
       tailed = λ ops kept are.
           let ops_size : graph.ops ≡ length ops = kept.size in
           let kinds_size : length kinds ≡ length ops = ap length are ∙ length-map ops kind in

@@ -10,7 +10,7 @@ use Rattle.iloc_sched.proofs.lower_bound.tails.fill_tails.Given as goal
 abbrev pub invariant-loop-j : goal.invariant-loop-j
 invariant-loop-j l = record {
   size : length l.found.items ≡ length l.edges.heads.items;
-  room : length l.loads.links.items ≡ 17 * length l.kinds + 2;
+  space : length l.loads.links.items ≡ 17 * length l.kinds + 2;
   tailed : (ops : List Op) → IsGraphOf l.latencies ops (graph_of l.edges) → l.kinds ≡ map kind ops
       → IsTailed l.latencies ops (graph_of l.edges) l.found.items l.j ((graph_of l.edges).start l.j);
   packed : (ops : List Op) → IsGraphOf l.latencies ops (graph_of l.edges) → l.kinds ≡ map kind ops

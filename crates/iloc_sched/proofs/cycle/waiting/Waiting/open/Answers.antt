@@ -33,7 +33,7 @@ loop-j-preserved c =
     record {
       opening = opening_more e c.loop-j.self v c.loop-j.j state (omega arith) c.loop-j.invariant.opening
           c.in_ok-push.ensures.items refl unmet refl (nat_eq c.loop-j.place c.start-end.result)
-          c.put_if.ensures.put c.put_if.ensures.others c.put_if.ensures.room
+          c.put_if.ensures.put c.put_if.ensures.others c.put_if.ensures.space
           (λ is. let same : c.loop-j.place ≡ c.start-end.result = grind (arith, nat_tests) in sym at ∙ same ∙ c.start-end.ensures)
           (λ not same. let alike : c.loop-j.place ≡ c.start-end.result = at ∙ same ∙ sym c.start-end.ensures in
           grind (arith, nat_tests));

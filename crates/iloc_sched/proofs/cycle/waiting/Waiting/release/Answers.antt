@@ -52,7 +52,7 @@ loop-j-preserved c =
     releasing_more c.args.plan.now c.args.self.now c.loop-j.self c.args.queues.now c.loop-j.queues c.args.cycle
     c.requires.plan c.requires.under_way c.loop-j.invariant c.take.new.self c.in-Some.j c.in-Some.ensures.taken
     c.insert.new.self c.class_of-class.result c.candidate-candidate.result
-    c.in-Some.ensures.others c.in-Some.ensures.states c.in-Some.ensures.room c.class_of-class.ensures
+    c.in-Some.ensures.others c.in-Some.ensures.states c.in-Some.ensures.space c.class_of-class.ensures
     c.candidate-candidate.ensures c.in_ok-insert.ensures
 
 pub returns-clause-under_way : goal.returns-clause-under_way

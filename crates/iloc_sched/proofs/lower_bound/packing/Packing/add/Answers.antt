@@ -3,18 +3,18 @@ use Rattle.iloc_sched.specs.Steps.Packing.{is_taken, IsPacked}
 use Rattle.iloc_sched.proofs.Bounds.Packing.{packed_needed, packed_more, needed_more, needed_own, put_now, put_other, put_linked}
 use Rattle.iloc_sched.proofs.lower_bound.packing.Packing.add.Goals as goal
 
-pub first_free-place-requires-clause-room : goal.first_free-place-requires-clause-room
-first_free-place-requires-clause-room c =
+pub first_free-place-requires-clause-space : goal.first_free-place-requires-clause-space
+first_free-place-requires-clause-space c =
     let xs : List ℕ = c.requires.packed.0 in
     let top = packed_needed xs (is_taken c.args.self.now.links.items) c.args.self.now.top c.requires.packed.1.packed in
     let more = needed_more c.args.from xs in
-    let room = c.requires.packed.2 in
+    let space = c.requires.packed.2 in
     omega arith
 
 pub first_free-place-requires-clause-there : goal.first_free-place-requires-clause-there
 first_free-place-requires-clause-there c =
     let own = needed_own c.args.from c.requires.packed.0 in
-    let room = c.requires.packed.2 in
+    let space = c.requires.packed.2 in
     omega arith
 
 pub overflow_add-place : goal.overflow_add-place

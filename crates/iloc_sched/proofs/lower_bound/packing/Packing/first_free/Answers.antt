@@ -10,7 +10,7 @@ index-after-requires c =
     let links : List ℕ = c.loop-place.self.links.items in
     let size : length links ≡ length c.args.self.now.links.items = c.loop-place.invariant.size in
     let there = c.loop-place.invariant.there in
-    let room = c.requires.room in
+    let space = c.requires.space in
     let is = get_or_read links c.loop-place.place c.index-next.result.now (omega arith) c.index-next.ensures
     c.loop-place.place in
     let near = link_near links c.args.self.now.top c.loop-place.place c.loop-place.invariant.linked
@@ -30,7 +30,7 @@ next_near c =
     let links : List ℕ = c.loop-place.self.links.items in
     let size : length links ≡ length c.args.self.now.links.items = c.loop-place.invariant.size in
     let there = c.loop-place.invariant.there in
-    let room = c.requires.room in
+    let space = c.requires.space in
     let is = next_is c in
     let near = link_near links c.args.self.now.top c.loop-place.place c.loop-place.invariant.linked (up_to c) (omega arith)
     (omega arith) in
@@ -52,7 +52,7 @@ after_near : (c : goal.After-self-in-loop-place-1) → c.index-after.result.now 
 after_near c =
     let links : List ℕ = c.loop-place.self.links.items in
     let size : length links ≡ length c.args.self.now.links.items = c.loop-place.invariant.size in
-    let room = c.requires.room in
+    let space = c.requires.space in
     let is = after_is c in
     let near = link_near links c.args.self.now.top c.index-next.result.now c.loop-place.invariant.linked (up_to c)
     (next_near c) (omega arith) in

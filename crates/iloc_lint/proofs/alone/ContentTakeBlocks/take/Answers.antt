@@ -1,6 +1,6 @@
 use Rattle.std.proofs.Common.{◌∙◌, sym, ap, ap₂, slice_get}
 use Rattle.iloc_lint.proofs.OneLine.{said_more}
-use Rattle.iloc_lint.proofs.alone.SaidTakeBlocks.take.Goals as goal
+use Rattle.iloc_lint.proofs.alone.ContentTakeBlocks.take.Goals as goal
 
 pub returns : goal.returns
 returns c = λ start blocks taken count.
