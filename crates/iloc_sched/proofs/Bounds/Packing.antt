@@ -1,10 +1,10 @@
 -- Packed numbers reach just as far as `needed` says; for `least`, by `Packing`.
-use Rattle.std.proofs.Common.{◌≡◌, ◌≢◌, ◌∙◌, ℕ, ◌+◌, ◌-◌, ◌<◌, ◌≤◌, ◌/◌, max, zero, suc, Bool, true, false, cond, not, List, [], ◌∷◌, ◌++◌, length, map, set, refl, sym, ap, inl, inr, arith}
+use Rattle.std.proofs.Common.{◌≡◌, ◌≢◌, ◌∙◌, ℕ, ◌+◌, ◌-◌, ◌<◌, ◌≤◌, ◌/◌, max, zero, suc, Bool, true, false, cond, not, List, [], ◌∷◌, length, map, set, refl, sym, ap, inl, inr, arith}
 use Rattle.std.specs.Prelude.{nat_le, ◌==◌}
 use Rattle.std.specs.List.{range_with_len}
 use Rattle.std.proofs.Math.Nat.{div-one}
 use Rattle.std.proofs.lemmas.Bool.Decides.{nat_tests}
-use Rattle.std.proofs.lemmas.List.{get_or-set_same, get_or-set_other, length-set, get_or_append_left, get_or_push, get_or_past, length_push}
+use Rattle.std.proofs.lemmas.List.{get_or-set_same, get_or-set_other, length-set}
 use Rattle.iloc_meaning.proofs.Cases.{by_bool}
 use Rattle.iloc_sched.specs.Least.{count_from, cycles_from, needed}
 use Rattle.iloc_sched.specs.Steps.Members.{In}
@@ -397,15 +397,6 @@ link_near links top p is up_to within space = by_eq (link links p) p
     let last : link links p - 1 ≤ top =
     up_to (link links p - 1) (is.between p (link links p - 1) within (omega arith) (omega arith)) in
     omega arith)
-
--- free places alone
-pub one_more_free : (links : List ℕ) (n : ℕ) → length links ≡ n → ((q : ℕ) → link links q ≡ q) → (q : ℕ)
-    → link (links ++ n ∷ []) q ≡ q
-one_more_free links n size all q = by_lt q n
-    (λ less. get_or_append_left links (n ∷ []) q q (omega arith) ∙ all q)
-    (λ up. by_eq q n
-    (λ same. get_or_push links n q q (omega arith) ∙ sym same)
-    (λ apart. let long = length_push links n in get_or_past (links ++ n ∷ []) q q (omega arith)))
 
 pub free_linked : (links : List ℕ) → ((q : ℕ) → link links q ≡ q) → IsLinked links
 free_linked links all = record {

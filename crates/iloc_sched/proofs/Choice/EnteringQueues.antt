@@ -16,9 +16,6 @@ use Rattle.iloc_sched.proofs.Basics.Members.{in_left, in_right, from_append}
 use Rattle.iloc_sched.proofs.Walking.BucketOfCycle.{due_now, then_due, later_still}
 use Rattle.iloc_sched.proofs.Walking.StillIssuable.{can_issue_still, can_issue_back}
 
-pub admits_none : (ops : List Op) (prios : List ℕ) (q : Queues) → Admits ops prios q q []
-admits_none ops prios q = record { comes = λ j held. absurd held; stays = λ k c held. held; was = λ k c held. inl held }
-
 -- operation j is added too
 pub admits_more : (ops : List Op) (prios : List ℕ) (q q1 q2 : Queues) (js : List ℕ) (j : ℕ) (k : Class) (c : Candidate)
     → Admits ops prios q q1 js → k ≡ class_at ops j → c ≡ candidate_at prios j → AddsTo q1 q2 k c

@@ -14,21 +14,6 @@ use Rattle.iloc_sched.specs.Steps.Changes.{IsFirstOf, Adds, Removes}
 use Rattle.iloc_sched.specs.Steps.Queued.{candidates, KeepsOthers, IsOpen, IsBest, IsBestClass, Takes, AddsTo}
 use Rattle.iloc_sched.proofs.Choice.CandidateHeaps.{first_trans}
 
--- what isn't kept out, of the candidates of a class
-pub kept_in : (q : Queues) (beside : Option Class) (k : Class) (top : ℕ) → is_excluded beside k ≡ false
-    → IsGreatestRank (In (candidates q k)) top → IsGreatestRank (IsOpen q beside k) top
-kept_in q beside k top may is = record {
-  above = λ c held. is.above c held.1;
-  one = elim is.one [ inl none ↦ inl none | inr some ↦ inr (some.0, (may, some.1), some.2) ];
-}
-
-pub kept_out : (q : Queues) (beside : Option Class) (k : Class) → is_excluded beside k ≡ true
-    → IsGreatestRank (IsOpen q beside k) 0
-kept_out q beside k out = record {
-  above = λ c held. let may : is_excluded beside k ≡ false = held.0 in cc;
-  one = inl refl;
-}
-
 -- of two ranks the greater is that of what comes first
 first_by_rank : (c d : Candidate) → rank d ≤ rank c → c.number < 4294967295 → d.number < 4294967295 → IsFirst c d
 first_by_rank c d most small_c small_d = grind (arith, nat_tests)
@@ -82,73 +67,3 @@ pub either_offer : (q : Queues) (beside : Option Class) (a b o : Offer) → IsOf
     → (o ≡ a) ⊎ (o ≡ b) → IsOffer q beside o
 either_offer q beside a b o is_a is_b one =
     elim one [ inl same ↦ subst (IsOffer q beside) (sym same) is_a | inr same ↦ subst (IsOffer q beside) (sym same) is_b ]
-
--- the first of a class that has the best is the best
-pub popped_best : (q : Queues) (beside : Option Class) (best : Choice) (c : Candidate) → IsBest q beside (Some best)
-    → IsFirstOf (candidates q best.class) (Some c)
-    → IsBest q beside (Some (record { candidate = c; class = best.class }))
-popped_best q beside best c is first = (
-  (is.0.0, first.0),
-  λ k d held. first_trans c best.candidate d (first.1 best.candidate is.0.1) (is.1 k d held),
-)
-
--- two classes are one or apart
-same_class : (k class : Class) → (k ≡ class) ⊎ (k ≡ class → ⊥)
-same_class C.Memory C.Memory = inl refl
-same_class C.Memory C.Product = inr (λ e. cc)
-same_class C.Memory C.Output = inr (λ e. cc)
-same_class C.Memory C.Rest = inr (λ e. cc)
-same_class C.Product C.Memory = inr (λ e. cc)
-same_class C.Product C.Product = inl refl
-same_class C.Product C.Output = inr (λ e. cc)
-same_class C.Product C.Rest = inr (λ e. cc)
-same_class C.Output C.Memory = inr (λ e. cc)
-same_class C.Output C.Product = inr (λ e. cc)
-same_class C.Output C.Output = inl refl
-same_class C.Output C.Rest = inr (λ e. cc)
-same_class C.Rest C.Memory = inr (λ e. cc)
-same_class C.Rest C.Product = inr (λ e. cc)
-same_class C.Rest C.Output = inr (λ e. cc)
-same_class C.Rest C.Rest = inl refl
-
--- each class is the one, or keeps its queue
-same_or_kept : (q q' : Queues) (class k : Class) → KeepsOthers q q' class
-    → (k ≡ class) ⊎ ((k ≡ class → ⊥) × (candidates q' k ≡ candidates q k))
-same_or_kept q q' class k keeps =
-    elim (same_class k class) [ inl same ↦ inl same | inr apart ↦ inr (apart, keeps k apart) ]
-
--- one class has lost its first, and the others keep theirs
-pub takes_from : (q q' : Queues) (class : Class) (c : Candidate)
-    → Removes (candidates q class) (candidates q' class) c.number → KeepsOthers q q' class
-    → Takes q q' (record { candidate = c; class = class })
-takes_from q q' class c removes keeps = record {
-  stays = λ k d held apart. elim (same_or_kept q q' class k keeps) [
-    | inl same ↦ subst (λ j. In (candidates q' j) d) (sym same)
-        (removes.stays d (subst (λ j. In (candidates q j) d) same held) (apart same))
-    | inr kept ↦ subst (λ ds. In ds d) (sym kept.1) held
-  ];
-  was = λ k d held. elim (same_or_kept q q' class k keeps) [
-    | inl same ↦
-        let old : In (candidates q class) d × (d.number ≢ c.number) =
-        removes.was d (subst (λ j. In (candidates q' j) d) same held) in
-        (subst (λ j. In (candidates q j) d) (sym same) old.0, λ is. old.1)
-    | inr kept ↦ (subst (λ ds. In ds d) kept.1 held, λ same number. kept.0 same)
-  ];
-}
-
--- one class has one more, and the others keep theirs
-pub adds_to : (q q' : Queues) (class : Class) (c : Candidate) → Adds (candidates q class) (candidates q' class) c
-    → KeepsOthers q q' class → AddsTo q q' class c
-adds_to q q' class c adds keeps = record {
-  there = adds.there;
-  stays = λ k d held. elim (same_or_kept q q' class k keeps) [
-    | inl same ↦ subst (λ j. In (candidates q' j) d) (sym same)
-        (adds.stays d (subst (λ j. In (candidates q j) d) same held))
-    | inr kept ↦ subst (λ ds. In ds d) (sym kept.1) held
-  ];
-  was = λ k d held. elim (same_or_kept q q' class k keeps) [
-    | inl same ↦ elim (adds.was d (subst (λ j. In (candidates q' j) d) same held))
-        [ inl old ↦ inl (subst (λ j. In (candidates q j) d) (sym same) old) | inr new ↦ inr (same, new) ]
-    | inr kept ↦ inl (subst (λ ds. In ds d) kept.1 held)
-  ];
-}

@@ -19,7 +19,7 @@ use Rattle.iloc_sched.specs.Steps.Calendar.{bucket_of}
 use Rattle.iloc_sched.specs.Steps.Views.{graph_of, issued_list, progress_with, progress_of, IsSized}
 use Rattle.iloc_sched.specs.Steps.SoFar.{class_at, IsPlan, IsQueued, Admits, IsReleasing, IsUnderWay, Issues}
 use Rattle.iloc_sched.proofs.Basics.Members.{in_right, split_apart}
-use Rattle.iloc_sched.proofs.Choice.EnteringQueues.{admits_none, admits_more, due_is_new, queued_with_due, queued_after}
+use Rattle.iloc_sched.proofs.Choice.EnteringQueues.{admits_more, due_is_new, queued_with_due, queued_after}
 use Rattle.iloc_sched.proofs.Walking.TableReads.{issued_size}
 use Rattle.iloc_sched.proofs.Walking.BucketOfCycle.{empties}
 
@@ -57,17 +57,6 @@ issues_choice p w w' q q' c choice is under held takes waits' issued keeps sized
       waiting = can.waiting;
       issued = issued;
     }
-
--- nothing of the bucket is in the queues yet
-pub releasing_none : (p : Plan) (w : Waiting) (q : Queues) (c : ℕ) → IsReleasing p w w q q c
-releasing_none p w q c = record {
-  done = [];
-  bucket = refl;
-  admits = admits_none p.ops.items p.priorities.items q;
-  others = λ b small apart. refl;
-  states = refl;
-  links = refl;
-}
 
 module _ (p : Plan) (w w1 : Waiting) (q q1 : Queues) (c : ℕ) (plan : IsPlan p) (under : IsUnderWay p w q c)
     (so_far : IsReleasing p w w1 q q1 c) where

@@ -20,7 +20,7 @@ use Rattle.iloc_sched.specs.Steps.Queued.{IsBest}
 use Rattle.iloc_sched.specs.Steps.Progress.{MatchesRows}
 use Rattle.iloc_sched.specs.Steps.Views.{issued_list, progress_of}
 use Rattle.iloc_sched.specs.Steps.SoFar.{IsPlan, IsUnderWay, IsSoFar, Issues, IssuesAny, number_of, is_memory_choice, row_with, slot_count, waiting_count}
-use Rattle.iloc_sched.proofs.Basics.IssueCycles.{issue_cycle_more, issue_cycle_last, issue_cycle_beyond, row_at_last}
+use Rattle.iloc_sched.proofs.Basics.IssueCycles.{issue_cycle_more, issue_cycle_last, issue_cycle_beyond}
 use Rattle.iloc_sched.proofs.Basics.Slots.{holds_from, from_holds}
 use Rattle.iloc_sched.proofs.Choice.RowAfterRow.{chosen_more, chosen_is_greedy}
 use Rattle.iloc_sched.proofs.Bounds.BusyCycles.{rows_bound}
@@ -90,10 +90,6 @@ in_second : (a b : Choice) → In (slots (row_with a (Some b))) b.candidate.numb
 in_second a b = by_bool (is_product_class a.class || is_memory_choice (Some b))
     (λ t. rw t (inr (inl refl)))
     (λ f. rw f (inl refl))
-
--- the row is a choice's, so it isn't empty
-pub row_filled : (a : Choice) (b : Option Choice) → slots (row_with a b) ≡ [] → ⊥
-row_filled a b empty = subst (λ xs. In xs a.candidate.number) empty (in_first a b)
 
 -- nothing is ready
 pub so_far_none : (p : Plan) (w w1 w2 : Waiting) (q q1 q2 : Queues) (rows rows' : List Row) (row : Row) → IsPlan p
@@ -231,14 +227,6 @@ so_far_row p w w1 w2 w3 q q1 q2 q3 rows rows' row a b plan so_far same under bes
       each = chosen_more p.priorities.items p.latencies p.ops.items rows (row_with a b) so_far.each
           (chosen_row p w1 q1 rows plan under matches so_far.each q2 a best_a.0.1 issues_a.takes b best_a best_b);
     })
-
--- the new row is the choice's
-pub last_filled : (rows rows' : List Row) (row : Row) (a : Choice) (b : Option Choice) → row ≡ row_with a b
-    → rows' ≡ rows ++ row ∷ [] → slots (row_at rows' (length rows)) ≡ [] → ⊥
-last_filled rows rows' row a b is_row is_rows empty =
-    let last : row_at rows' (length rows) ≡ row_with a b = ap (λ rs. row_at rs (length rows)) is_rows
-    ∙ row_at_last rows row ∙ is_row in
-    row_filled a b (ap slots (sym last) ∙ empty)
 
 -- a cycle in which nothing is ready, as the code has it
 pub step_none : (p : Plan) (w w1 w2 : Waiting) (q q1 q2 : Queues) (rows rows' : List Row) (row : Row) (c : ℕ)

@@ -1,7 +1,7 @@
 -- The edges that are added to an operation are its near pairs; for `Edges::add_all` and what it calls.
-use Rattle.std.proofs.Common.{◌≡◌, ℕ, zero, suc, ◌+◌, ◌<◌, ◌≤◌, List, [], ◌∷◌, ◌++◌, length, get_or, set, Option, Some, None, inl, inr, refl, sym, ◌∙◌, ap, subst, arith}
+use Rattle.std.proofs.Common.{◌≡◌, ℕ, ◌+◌, ◌<◌, ◌≤◌, List, [], ◌∷◌, ◌++◌, length, get_or, set, Option, Some, None, inl, inr, refl, sym, ◌∙◌, ap, subst, arith}
 use Rattle.std.specs.Prelude.{Contains}
-use Rattle.std.proofs.lemmas.List.{length-set, length_push, get_or_push, get_or-set_same, get_or-set_other}
+use Rattle.std.proofs.lemmas.List.{length-set, length_push, get_or_push, get_or_append_left, get_or-set_same, get_or-set_other}
 use Rattle.iloc_ops.specs.declared.op.Reg.{Reg}
 use Rattle.iloc_ops.specs.declared.op.Op.{Op}
 use Rattle.iloc_ops.specs.Registers.{used}
@@ -22,13 +22,8 @@ use Rattle.iloc_sched.specs.Steps.PartialGraph.{IsPartialGraph, HasEdge, HasOneM
 use Rattle.iloc_sched.specs.Steps.Views.{no_edge}
 use Rattle.iloc_sched.proofs.Basics.Members.{in_from, in_left, in_right, from_append}
 use Rattle.iloc_sched.proofs.Basics.Cases.{not_both, same_some}
-use Rattle.iloc_sched.proofs.Graph.PartialGraphs.{grows_by_one, has_new, grows_none, grows_then}
-use Rattle.iloc_sched.proofs.Graph.NearPairs.{covers_load, covers_output, covers_store, covers_use, store_before_load, store_before_output, store_before_store, output_before_output, output_before_store, load_before_store, use_pair}
-
-pub front_at : {X : Type 0} → (xs ys : List X) (k : ℕ) (d : X) → k < length xs → get_or (xs ++ ys) k d ≡ get_or xs k d
-front_at [] ys k d below = absurd (omega arith)
-front_at (x ∷ xs) ys zero d below = refl
-front_at (x ∷ xs) ys (suc k) d below = front_at xs ys k d (omega arith)
+use Rattle.iloc_sched.proofs.Graph.PartialGraphs.{grows_by_one, has_new, grows_then}
+use Rattle.iloc_sched.proofs.Graph.NearPairs.{covers_load, covers_output, covers_store, covers_use, store_before, output_before, load_before_store, use_pair}
 
 -- the graph of three tables
 abbrev pub tables_graph : List Edge → List ℕ → List (Option ℕ) → Graph
@@ -52,10 +47,10 @@ one_more edges starts heads i j d edge there from_is to_is delay_is previous_is 
   ops = length-set heads i (Some (length edges));
   count = length_push edges edge;
   start = λ k. refl;
-  from = λ x before. ap (λ (e : Edge). e.from) (front_at edges (edge ∷ []) x no_edge before);
-  to = λ x before. ap (λ (e : Edge). e.to) (front_at edges (edge ∷ []) x no_edge before);
-  delay = λ x before. ap (λ (e : Edge). e.delay) (front_at edges (edge ∷ []) x no_edge before);
-  previous = λ x before. ap (λ (e : Edge). e.previous) (front_at edges (edge ∷ []) x no_edge before);
+  from = λ x before. ap (λ (e : Edge). e.from) (get_or_append_left edges (edge ∷ []) no_edge x before);
+  to = λ x before. ap (λ (e : Edge). e.to) (get_or_append_left edges (edge ∷ []) no_edge x before);
+  delay = λ x before. ap (λ (e : Edge). e.delay) (get_or_append_left edges (edge ∷ []) no_edge x before);
+  previous = λ x before. ap (λ (e : Edge). e.previous) (get_or_append_left edges (edge ∷ []) no_edge x before);
   last_from = ap (λ (e : Edge). e.from) (get_or_push edges edge no_edge (length edges) refl) ∙ from_is;
   last_to = ap (λ (e : Edge). e.to) (get_or_push edges edge no_edge (length edges) refl) ∙ to_is;
   last_delay = ap (λ (e : Edge). e.delay) (get_or_push edges edge no_edge (length edges) refl) ∙ delay_is;
@@ -97,9 +92,6 @@ adds_some o i a b j d at adds = λ lat ops is pairs.
     let h = adds lat ops is (λ k same. pairs k (at ∙ ap Some (sym same))) in
     (h.0, λ k at_k. h.1 k (same_some o k i at_k at))
 
-pub adds_nothing : (a : Graph) (j d : ℕ) → AddsFrom (In []) a a j d
-adds_nothing a j d = λ lat ops is pairs. (grows_none lat ops a j is, λ k none. absurd none)
-
 pub adds_more : (front : List ℕ) (x : ℕ) (a b c : Graph) (j d : ℕ) → AddsFrom (In front) a b j d
     → AddsFrom (λ k. k ≡ x) b c j d → AddsFrom (In (front ++ x ∷ [])) a c j d
 adds_more front x a b c j d first second = λ lat ops is pairs.
@@ -135,15 +127,15 @@ module _ (lat : Latencies) (ops : List Op) (lasts : Lasts) (j : ℕ) (is : IsLas
     pub memory_load : (a b : Graph) → IsPartialGraph lat ops a j → kind (op_at ops j) ≡ K.Load
         → AddsFrom (λ i. lasts.store ≡ Some i) a b j lat.store → Grows lat ops a b j × CoversMemory lat ops b j
     memory_load a b partial kind_is stored =
-        let h = stored lat ops partial (store_before_load lat ops j lasts is within kind_is) in
+        let h = stored lat ops partial (store_before lat ops j lasts is K.Load lat.store (inl refl) within kind_is) in
         (h.0, covers_load lat ops j lasts is b kind_is h.1)
 
     pub memory_output : (a b c : Graph) → IsPartialGraph lat ops a j → kind (op_at ops j) ≡ K.Output
         → AddsFrom (λ i. lasts.store ≡ Some i) a b j lat.store → AddsFrom (λ i. lasts.output ≡ Some i) b c j 1
         → Grows lat ops a c j × CoversMemory lat ops c j
     memory_output a b c partial kind_is stored emitted =
-        let h = stored lat ops partial (store_before_output lat ops j lasts is within kind_is) in
-        let g = emitted lat ops h.0.partial (output_before_output lat ops j lasts is within kind_is) in (
+        let h = stored lat ops partial (store_before lat ops j lasts is K.Output lat.store (inl refl) within kind_is) in
+        let g = emitted lat ops h.0.partial (output_before lat ops j lasts is K.Output 1 (inl refl) within kind_is) in (
           grows_then lat ops a b c j h.0 g.0,
           covers_output lat ops j lasts is c kind_is (λ i at. g.0.keeps i lat.store (h.1 i at)) g.1,
         )
@@ -152,8 +144,8 @@ module _ (lat : Latencies) (ops : List Op) (lasts : Lasts) (j : ℕ) (is : IsLas
         → AddsFrom (λ i. lasts.store ≡ Some i) a b j 1 → AddsFrom (λ i. lasts.output ≡ Some i) b c j 1
         → AddsFrom (In lasts.loads.items) c e j 1 → Grows lat ops a e j × CoversMemory lat ops e j
     memory_store a b c e partial kind_is stored emitted loaded =
-        let h = stored lat ops partial (store_before_store lat ops j lasts is within kind_is) in
-        let g = emitted lat ops h.0.partial (output_before_store lat ops j lasts is within kind_is) in
+        let h = stored lat ops partial (store_before lat ops j lasts is K.Store 1 (inl refl) within kind_is) in
+        let g = emitted lat ops h.0.partial (output_before lat ops j lasts is K.Store 1 (inl refl) within kind_is) in
         let f = loaded lat ops g.0.partial (load_before_store lat ops j lasts is within kind_is) in (
           grows_then lat ops a c e j (grows_then lat ops a b c j h.0 g.0) f.0,
           covers_store lat ops j lasts is e kind_is
@@ -182,7 +174,7 @@ uses_more lat ops a b j front r grows before last s held =
 pub starts_pushed : (starts starts' : List ℕ) (n j : ℕ) → starts' ≡ starts ++ n ∷ [] → length starts ≡ j + 1
     → ((b : ℕ) → b ≤ j → get_or starts' b 0 ≡ get_or starts b 0) × (get_or starts' (j + 1) 0 ≡ n)
 starts_pushed starts starts' n j pushed size = (
-  λ b most. ap (λ ss. get_or ss b 0) pushed ∙ front_at starts (n ∷ []) b 0 (omega arith),
+  λ b most. ap (λ ss. get_or ss b 0) pushed ∙ get_or_append_left starts (n ∷ []) 0 b (omega arith),
   ap (λ ss. get_or ss (j + 1) 0) pushed ∙ get_or_push starts n 0 (j + 1) size,
 )
 

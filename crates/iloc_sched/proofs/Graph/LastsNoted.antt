@@ -1,5 +1,5 @@
 -- What stands last before the next operation, once one more is noted; for `Lasts::note`.
-use Rattle.std.proofs.Common.{◌≡◌, ℕ, ◌+◌, ◌<◌, ◌≤◌, Bool, true, false, List, [], ◌∷◌, ◌++◌, length, Some, inl, inr, refl, sym, ◌∙◌, ap, subst, arith}
+use Rattle.std.proofs.Common.{◌≡◌, ℕ, ◌+◌, ◌<◌, ◌≤◌, Bool, true, false, List, [], ◌∷◌, ◌++◌, length, Option, Some, inl, inr, refl, sym, ◌∙◌, ap, subst, arith}
 use Rattle.std.proofs.lemmas.Bool.{false≢true}
 use Rattle.std.proofs.lemmas.List.{length-append}
 use Rattle.iloc_ops.specs.declared.op.Reg.{Reg}
@@ -45,25 +45,16 @@ module _ (ops : List Op) (j : ℕ) (old new : Lasts) (is : IsLasts ops old j) (k
   here : (test : Kind → Bool) → test k ≡ true → test (kind (op_at ops j)) ≡ true
   here test holds = ap test kind_is ∙ holds
 
-  store_stays : is_store k ≡ false → new.store ≡ old.store
-      → IsLast (λ i. is_store (kind (op_at ops i)) ≡ true) (j + 1) new.store
-  store_stays fails same = subst (λ o. IsLast (λ i. is_store (kind (op_at ops i)) ≡ true) (j + 1) o) (sym same)
-      (last_before (λ i. is_store (kind (op_at ops i)) ≡ true) j old.store (not_here is_store fails) is.store)
+  abbrev Last : (Kind → Bool) → ℕ → Option ℕ → Type 0
+  Last test n o = IsLast (λ i. test (kind (op_at ops i)) ≡ true) n o
 
-  store_new : is_store k ≡ true → new.store ≡ Some j
-      → IsLast (λ i. is_store (kind (op_at ops i)) ≡ true) (j + 1) new.store
-  store_new holds same = subst (λ o. IsLast (λ i. is_store (kind (op_at ops i)) ≡ true) (j + 1) o) (sym same)
-      (last_here (λ i. is_store (kind (op_at ops i)) ≡ true) j (here is_store holds))
+  stays : (test : Kind → Bool) (o o' : Option ℕ) → Last test j o → test k ≡ false → o' ≡ o → Last test (j + 1) o'
+  stays test o o' last fails same = subst (λ v. Last test (j + 1) v) (sym same)
+      (last_before (λ i. test (kind (op_at ops i)) ≡ true) j o (not_here test fails) last)
 
-  output_stays : is_output k ≡ false → new.output ≡ old.output
-      → IsLast (λ i. is_output (kind (op_at ops i)) ≡ true) (j + 1) new.output
-  output_stays fails same = subst (λ o. IsLast (λ i. is_output (kind (op_at ops i)) ≡ true) (j + 1) o) (sym same)
-      (last_before (λ i. is_output (kind (op_at ops i)) ≡ true) j old.output (not_here is_output fails) is.output)
-
-  output_new : is_output k ≡ true → new.output ≡ Some j
-      → IsLast (λ i. is_output (kind (op_at ops i)) ≡ true) (j + 1) new.output
-  output_new holds same = subst (λ o. IsLast (λ i. is_output (kind (op_at ops i)) ≡ true) (j + 1) o) (sym same)
-      (last_here (λ i. is_output (kind (op_at ops i)) ≡ true) j (here is_output holds))
+  comes : (test : Kind → Bool) (o' : Option ℕ) → test k ≡ true → o' ≡ Some j → Last test (j + 1) o'
+  comes test o' holds same = subst (λ v. Last test (j + 1) v) (sym same)
+      (last_here (λ i. test (kind (op_at ops i)) ≡ true) j (here test holds))
 
   abbrev Loads : List ℕ → Type 0
   Loads items = (i : ℕ) → In items i → (i < j + 1) × (is_load (kind (op_at ops i)) ≡ true)
@@ -109,78 +100,44 @@ module _ (ops : List Op) (j : ℕ) (old new : Lasts) (is : IsLasts ops old j) (k
       (λ same. not_here is_load fails (subst (λ m. is_load (kind (op_at ops m)) ≡ true) same load))
       (λ apart. false≢true (sym (none j (omega arith) (omega arith)) ∙ here is_store store))
 
-noted_load : (ops : List Op) (j : ℕ) (old new : Lasts) → IsLasts ops old j → kind (op_at ops j) ≡ K.Load
-    → NotesDefiner (op_at ops j) old.definers new.definers j → NotesKind K.Load old new j → IsLasts ops new (j + 1)
-noted_load ops j old new is kind_is definers notes = record {
-  definers = definers_noted ops j old.definers new.definers is.definers definers;
-  store = store_stays ops j old new is K.Load kind_is refl notes.0;
-  output = output_stays ops j old new is K.Load kind_is refl notes.1;
-  loads = subst (λ items. (i : ℕ) → In items i → (i < j + 1) × (is_load (kind (op_at ops i)) ≡ true)) (sym notes.2)
-      (loads_more ops j old new is K.Load kind_is refl);
-  all_loads = subst (λ items. (i : ℕ) → i < j + 1 → is_load (kind (op_at ops i)) ≡ true
-      → ((m : ℕ) → i < m → m < j + 1 → is_store (kind (op_at ops m)) ≡ false) → In items i) (sym notes.2)
-      (all_loads_more ops j old new is K.Load kind_is);
-}
+  noted_as : NotesDefiner (op_at ops j) old.definers new.definers j → Last is_store (j + 1) new.store
+      → Last is_output (j + 1) new.output → (items : List ℕ) → new.loads.items ≡ items → Loads items → AllLoads items
+      → IsLasts ops new (j + 1)
+  noted_as definers store output items same loads all = record {
+    definers = definers_noted ops j old.definers new.definers is.definers definers;
+    store = store;
+    output = output;
+    loads = subst Loads (sym same) loads;
+    all_loads = subst AllLoads (sym same) all;
+  }
 
-noted_store : (ops : List Op) (j : ℕ) (old new : Lasts) → IsLasts ops old j → kind (op_at ops j) ≡ K.Store
-    → NotesDefiner (op_at ops j) old.definers new.definers j → NotesKind K.Store old new j → IsLasts ops new (j + 1)
-noted_store ops j old new is kind_is definers notes = record {
-  definers = definers_noted ops j old.definers new.definers is.definers definers;
-  store = store_new ops j old new is K.Store kind_is refl notes.0;
-  output = output_stays ops j old new is K.Store kind_is refl notes.1;
-  loads = subst (λ items. (i : ℕ) → In items i → (i < j + 1) × (is_load (kind (op_at ops i)) ≡ true)) (sym notes.2)
-      ((λ i held. absurd held));
-  all_loads = subst (λ items. (i : ℕ) → i < j + 1 → is_load (kind (op_at ops i)) ≡ true
-      → ((m : ℕ) → i < m → m < j + 1 → is_store (kind (op_at ops m)) ≡ false) → In items i) (sym notes.2)
-      (all_loads_gone ops j old new is K.Store kind_is refl refl);
-}
-
-noted_mult : (ops : List Op) (j : ℕ) (old new : Lasts) → IsLasts ops old j → kind (op_at ops j) ≡ K.Mult
-    → NotesDefiner (op_at ops j) old.definers new.definers j → NotesKind K.Mult old new j → IsLasts ops new (j + 1)
-noted_mult ops j old new is kind_is definers notes = record {
-  definers = definers_noted ops j old.definers new.definers is.definers definers;
-  store = store_stays ops j old new is K.Mult kind_is refl notes.0;
-  output = output_stays ops j old new is K.Mult kind_is refl notes.1;
-  loads = subst (λ items. (i : ℕ) → In items i → (i < j + 1) × (is_load (kind (op_at ops i)) ≡ true)) (sym notes.2)
-      (loads_stay ops j old new is K.Mult kind_is);
-  all_loads = subst (λ items. (i : ℕ) → i < j + 1 → is_load (kind (op_at ops i)) ≡ true
-      → ((m : ℕ) → i < m → m < j + 1 → is_store (kind (op_at ops m)) ≡ false) → In items i) (sym notes.2)
-      (all_loads_stay ops j old new is K.Mult kind_is refl);
-}
-
-noted_output : (ops : List Op) (j : ℕ) (old new : Lasts) → IsLasts ops old j → kind (op_at ops j) ≡ K.Output
-    → NotesDefiner (op_at ops j) old.definers new.definers j → NotesKind K.Output old new j → IsLasts ops new (j + 1)
-noted_output ops j old new is kind_is definers notes = record {
-  definers = definers_noted ops j old.definers new.definers is.definers definers;
-  store = store_stays ops j old new is K.Output kind_is refl notes.0;
-  output = output_new ops j old new is K.Output kind_is refl notes.1;
-  loads = subst (λ items. (i : ℕ) → In items i → (i < j + 1) × (is_load (kind (op_at ops i)) ≡ true)) (sym notes.2)
-      (loads_stay ops j old new is K.Output kind_is);
-  all_loads = subst (λ items. (i : ℕ) → i < j + 1 → is_load (kind (op_at ops i)) ≡ true
-      → ((m : ℕ) → i < m → m < j + 1 → is_store (kind (op_at ops m)) ≡ false) → In items i) (sym notes.2)
-      (all_loads_stay ops j old new is K.Output kind_is refl);
-}
-
-noted_other : (ops : List Op) (j : ℕ) (old new : Lasts) → IsLasts ops old j → kind (op_at ops j) ≡ K.Other
-    → NotesDefiner (op_at ops j) old.definers new.definers j → NotesKind K.Other old new j → IsLasts ops new (j + 1)
-noted_other ops j old new is kind_is definers notes = record {
-  definers = definers_noted ops j old.definers new.definers is.definers definers;
-  store = store_stays ops j old new is K.Other kind_is refl notes.0;
-  output = output_stays ops j old new is K.Other kind_is refl notes.1;
-  loads = subst (λ items. (i : ℕ) → In items i → (i < j + 1) × (is_load (kind (op_at ops i)) ≡ true)) (sym notes.2)
-      (loads_stay ops j old new is K.Other kind_is);
-  all_loads = subst (λ items. (i : ℕ) → i < j + 1 → is_load (kind (op_at ops i)) ≡ true
-      → ((m : ℕ) → i < m → m < j + 1 → is_store (kind (op_at ops m)) ≡ false) → In items i) (sym notes.2)
-      (all_loads_stay ops j old new is K.Other kind_is refl);
-}
+  -- neither a load nor a store
+  noted_apart : NotesDefiner (op_at ops j) old.definers new.definers j → is_store k ≡ false → is_load k ≡ false
+      → new.store ≡ old.store → Last is_output (j + 1) new.output → new.loads.items ≡ old.loads.items
+      → IsLasts ops new (j + 1)
+  noted_apart definers no_store no_load same output loads =
+      noted_as definers (stays is_store old.store new.store is.store no_store same) output old.loads.items loads loads_stay
+      (all_loads_stay no_load)
 
 noted_by : (k : Kind) (ops : List Op) (j : ℕ) (old new : Lasts) → IsLasts ops old j → kind (op_at ops j) ≡ k
     → NotesDefiner (op_at ops j) old.definers new.definers j → NotesKind k old new j → IsLasts ops new (j + 1)
-noted_by K.Load = noted_load
-noted_by K.Store = noted_store
-noted_by K.Mult = noted_mult
-noted_by K.Output = noted_output
-noted_by K.Other = noted_other
+noted_by K.Load ops j old new is kind_is definers notes =
+    noted_as ops j old new is K.Load kind_is definers
+    (stays ops j old new is K.Load kind_is is_store old.store new.store is.store refl notes.0)
+    (stays ops j old new is K.Load kind_is is_output old.output new.output is.output refl notes.1)
+    (old.loads.items ++ j ∷ []) notes.2 (loads_more ops j old new is K.Load kind_is refl)
+    (all_loads_more ops j old new is K.Load kind_is)
+noted_by K.Store ops j old new is kind_is definers notes =
+    noted_as ops j old new is K.Store kind_is definers
+    (comes ops j old new is K.Store kind_is is_store new.store refl notes.0)
+    (stays ops j old new is K.Store kind_is is_output old.output new.output is.output refl notes.1) [] notes.2
+    (λ i held. absurd held) (all_loads_gone ops j old new is K.Store kind_is refl refl)
+noted_by K.Output ops j old new is kind_is definers notes =
+    noted_apart ops j old new is K.Output kind_is definers refl refl notes.0
+    (comes ops j old new is K.Output kind_is is_output new.output refl notes.1) notes.2
+noted_by _ ops j old new is kind_is definers notes =
+    noted_apart ops j old new is _ kind_is definers refl refl notes.0
+    (stays ops j old new is _ kind_is is_output old.output new.output is.output refl notes.1) notes.2
 
 pub noted : (ops : List Op) (j : ℕ) (old new : Lasts) → IsLasts ops old j
     → NotesDefiner (op_at ops j) old.definers new.definers j → NotesKind (kind (op_at ops j)) old new j
@@ -190,10 +147,7 @@ noted ops j old new is definers notes = noted_by (kind (op_at ops j)) ops j old 
 same_kind : (k : Kind) (old new : Lasts) (d : ByRegister) (j : ℕ) → NotesKind k (record old { definers = d }) new j
     → NotesKind k old new j
 same_kind K.Load old new d j notes = notes
-same_kind K.Store old new d j notes = notes
-same_kind K.Mult old new d j notes = notes
-same_kind K.Output old new d j notes = notes
-same_kind K.Other old new d j notes = notes
+same_kind _ old new d j notes = notes
 
 -- first what it defines is noted, then its kind
 pub noted_in_turn : (ops : List Op) (j : ℕ) (old new : Lasts) (d : ByRegister) (op : Op) (k : Kind) → IsLasts ops old j
@@ -211,9 +165,5 @@ pub loads_noted : (k : Kind) (j : ℕ) (old new : Lasts) → NotesKind k old new
 loads_noted K.Load j old new notes = let size : length new.loads.items ≡ length (old.loads.items ++ j ∷ []) =
     ap (length {A = ℕ}) notes.2 in omega (arith, length-append old.loads.items (j ∷ []))
 loads_noted K.Store j old new notes = let size : length new.loads.items ≡ 0 = ap (length {A = ℕ}) notes.2 in omega arith
-loads_noted K.Mult j old new notes = let size : length new.loads.items ≡ length old.loads.items =
-    ap (length {A = ℕ}) notes.2 in omega arith
-loads_noted K.Output j old new notes = let size : length new.loads.items ≡ length old.loads.items =
-    ap (length {A = ℕ}) notes.2 in omega arith
-loads_noted K.Other j old new notes = let size : length new.loads.items ≡ length old.loads.items =
+loads_noted _ j old new notes = let size : length new.loads.items ≡ length old.loads.items =
     ap (length {A = ℕ}) notes.2 in omega arith

@@ -48,20 +48,6 @@ before_store lat K.Output d (inl is) = (sym is, inr (inl refl))
 before_store lat K.Output d (inr none) = absurd none
 before_store lat _ d held = absurd held
 
-before_mult : (lat : Latencies) (k : Kind) (d : ℕ) → In (kind_delays lat k K.Mult) d → ⊥
-before_mult lat K.Load d held = absurd held
-before_mult lat K.Store d held = absurd held
-before_mult lat K.Mult d held = absurd held
-before_mult lat K.Output d held = absurd held
-before_mult lat K.Other d held = absurd held
-
-before_other : (lat : Latencies) (k : Kind) (d : ℕ) → In (kind_delays lat k K.Other) d → ⊥
-before_other lat K.Load d held = absurd held
-before_other lat K.Store d held = absurd held
-before_other lat K.Mult d held = absurd held
-before_other lat K.Output d held = absurd held
-before_other lat K.Other d held = absurd held
-
 store_is : (k : Kind) → is_store k ≡ true → k ≡ K.Store
 store_is K.Store holds = refl
 store_is _ holds = cc
@@ -75,29 +61,24 @@ load_is K.Load holds = refl
 load_is _ holds = cc
 
 module _ (lat : Latencies) (ops : List Op) (j : ℕ) (lasts : Lasts) (is : IsLasts ops lasts j) where
+  none_like : (a : Kind) (i : ℕ) → kind (op_at ops i) ≡ a → NoneBetween ops i j → (k : ℕ) → i < k → k < j
+      → (if is_output a then is_output (kind (op_at ops k)) else is_store (kind (op_at ops k))) ≡ false
+  none_like a i kind_is none k after before = subst (λ q. (if is_output q then is_output (kind (op_at ops k))
+      else is_store (kind (op_at ops k))) ≡ false) kind_is (none k after before)
+
   last_store : (i : ℕ) → i < j → kind (op_at ops i) ≡ K.Store → NoneBetween ops i j → lasts.store ≡ Some i
   last_store i below kind_is none =
       last_is (λ k. is_store (kind (op_at ops k)) ≡ true) j lasts.store i is.store below (ap is_store kind_is)
-      (λ k after before here.
-      let not : is_store (kind (op_at ops k)) ≡ false =
-      subst (λ q. (if is_output q then is_output (kind (op_at ops k)) else is_store (kind (op_at ops k))) ≡ false)
-      kind_is (none k after before) in
-      false≢true (sym not ∙ here))
+      (λ k after before here. false≢true (sym (none_like K.Store i kind_is none k after before) ∙ here))
 
   last_output : (i : ℕ) → i < j → kind (op_at ops i) ≡ K.Output → NoneBetween ops i j → lasts.output ≡ Some i
   last_output i below kind_is none =
       last_is (λ k. is_output (kind (op_at ops k)) ≡ true) j lasts.output i is.output below (ap is_output kind_is)
-      (λ k after before here.
-      let not : is_output (kind (op_at ops k)) ≡ false =
-      subst (λ q. (if is_output q then is_output (kind (op_at ops k)) else is_store (kind (op_at ops k))) ≡ false)
-      kind_is (none k after before) in
-      false≢true (sym not ∙ here))
+      (λ k after before here. false≢true (sym (none_like K.Output i kind_is none k after before) ∙ here))
 
   recent_load : (i : ℕ) → i < j → kind (op_at ops i) ≡ K.Load → NoneBetween ops i j → In lasts.loads.items i
   recent_load i below kind_is none =
-      is.all_loads i below (ap is_load kind_is)
-      (λ k after before. subst (λ q. (if is_output q then is_output (kind (op_at ops k)) else is_store
-      (kind (op_at ops k))) ≡ false) kind_is (none k after before))
+      is.all_loads i below (ap is_load kind_is) (none_like K.Load i kind_is none)
 
   -- the delays into an operation of a kind
   delays_into : (k : Kind) → kind (op_at ops j) ≡ k → (i d : ℕ)
@@ -133,14 +114,6 @@ module _ (lat : Latencies) (ops : List Op) (j : ℕ) (lasts : Lasts) (is : IsLas
             | inr load ↦ loaded i (recent_load i below load none)
           ]
         ])
-
-    pub covers_mult : kind (op_at ops j) ≡ K.Mult → CoversMemory lat ops graph j
-    covers_mult kind_is = λ i d below held none.
-        absurd (before_mult lat (kind (op_at ops i)) d (delays_into K.Mult kind_is i d held))
-
-    pub covers_other : kind (op_at ops j) ≡ K.Other → CoversMemory lat ops graph j
-    covers_other kind_is = λ i d below held none.
-        absurd (before_other lat (kind (op_at ops i)) d (delays_into K.Other kind_is i d held))
 
     -- a used register's definition is the one that is noted
     pub covers_use : IsRenamed ops → (r : Reg)
@@ -178,30 +151,15 @@ module _ (lat : Latencies) (ops : List Op) (j : ℕ) (lasts : Lasts) (is : IsLas
   definer_there r i at = last_holds (λ k. defined (op_at ops k) ≡ Some r) j (number_at lasts.definers r.0) i
       (is.definers r) at
 
-  pub store_before_load : j < length ops → kind (op_at ops j) ≡ K.Load → (i : ℕ) → lasts.store ≡ Some i
-      → IsDelayPair lat ops i j lat.store
-  store_before_load within kind_is i at = let h = store_there i at in
-      memory_pair i lat.store h.0 within K.Store K.Load h.1 kind_is (inl refl)
+  pub store_before : (b : Kind) (d : ℕ) → In (kind_delays lat K.Store b) d → j < length ops → kind (op_at ops j) ≡ b
+      → (i : ℕ) → lasts.store ≡ Some i → IsDelayPair lat ops i j d
+  store_before b d delay within kind_is i at = let h = store_there i at in
+      memory_pair i d h.0 within K.Store b h.1 kind_is delay
 
-  pub store_before_output : j < length ops → kind (op_at ops j) ≡ K.Output → (i : ℕ) → lasts.store ≡ Some i
-      → IsDelayPair lat ops i j lat.store
-  store_before_output within kind_is i at = let h = store_there i at in
-      memory_pair i lat.store h.0 within K.Store K.Output h.1 kind_is (inl refl)
-
-  pub store_before_store : j < length ops → kind (op_at ops j) ≡ K.Store → (i : ℕ) → lasts.store ≡ Some i
-      → IsDelayPair lat ops i j 1
-  store_before_store within kind_is i at = let h = store_there i at in
-      memory_pair i 1 h.0 within K.Store K.Store h.1 kind_is (inl refl)
-
-  pub output_before_output : j < length ops → kind (op_at ops j) ≡ K.Output → (i : ℕ) → lasts.output ≡ Some i
-      → IsDelayPair lat ops i j 1
-  output_before_output within kind_is i at = let h = output_there i at in
-      memory_pair i 1 h.0 within K.Output K.Output h.1 kind_is (inl refl)
-
-  pub output_before_store : j < length ops → kind (op_at ops j) ≡ K.Store → (i : ℕ) → lasts.output ≡ Some i
-      → IsDelayPair lat ops i j 1
-  output_before_store within kind_is i at = let h = output_there i at in
-      memory_pair i 1 h.0 within K.Output K.Store h.1 kind_is (inl refl)
+  pub output_before : (b : Kind) (d : ℕ) → In (kind_delays lat K.Output b) d → j < length ops → kind (op_at ops j) ≡ b
+      → (i : ℕ) → lasts.output ≡ Some i → IsDelayPair lat ops i j d
+  output_before b d delay within kind_is i at = let h = output_there i at in
+      memory_pair i d h.0 within K.Output b h.1 kind_is delay
 
   pub load_before_store : j < length ops → kind (op_at ops j) ≡ K.Store → (i : ℕ) → In lasts.loads.items i
       → IsDelayPair lat ops i j 1

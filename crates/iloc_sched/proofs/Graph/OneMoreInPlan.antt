@@ -20,24 +20,12 @@ use Rattle.iloc_sched.specs.Steps.Near.{IsNear, takes_over}
 use Rattle.iloc_sched.specs.Steps.Graph.{Graph, IsLast}
 use Rattle.iloc_sched.specs.Steps.Lasts.{IsLasts, IsNext}
 use Rattle.iloc_sched.specs.Steps.PartialGraph.{IsPartialGraph}
-use Rattle.iloc_sched.specs.Steps.Views.{no_edge, graph_of}
+use Rattle.iloc_sched.specs.Steps.Views.{graph_of}
 use Rattle.iloc_sched.proofs.Basics.Cases.{by_eq}
 use Rattle.iloc_sched.proofs.Basics.LastOnes.{last_same}
+use Rattle.iloc_sched.proofs.Graph.AddedEdges.{tables_graph}
 use Rattle.iloc_sched.proofs.Renamed.OneMoreOperation.{op_at_kept}
 use Rattle.std.specs.Prelude.{true, false, Contains, IsTrue}
-
--- the graph of these tables
-abbrev pub graph_by : List Edge → List ℕ → List (Option ℕ) → Graph
-graph_by edges starts heads = record {
-  ops = length heads;
-  count = length edges;
-  from = λ x. (get_or edges x no_edge).from;
-  to = λ x. (get_or edges x no_edge).to;
-  delay = λ x. (get_or edges x no_edge).delay;
-  start = λ j. get_or starts j 0;
-  head = λ i. get_or heads i None;
-  previous = λ x. (get_or edges x no_edge).previous;
-}
 
 module _ (ops : List Op) (op : Op) where
   on : (P : Op → Type 0) (k : ℕ) → k < length ops → P (op_at ops k) → P (op_at (ops ++ op ∷ []) k)
@@ -163,13 +151,13 @@ module _ (ops : List Op) (op : Op) where
   partial_grown lat e e' j ops' ops_is at edges starts heads is =
       let size : length e'.heads.items ≡ length e.heads.items + 1 =
       ap length heads ∙ length-append e.heads.items (None ∷ []) in
-      let next : IsPartialGraph lat (ops ++ op ∷ []) (graph_by e.edges.items e.starts.items e'.heads.items) (length ops) =
+      let next : IsPartialGraph lat (ops ++ op ∷ []) (tables_graph e.edges.items e.starts.items e'.heads.items) (length ops) =
       partial_next lat (graph_of e) (length e'.heads.items) (λ i. get_or e'.heads.items i None) is size
       (λ i below. ap (λ xs. get_or xs i None) heads ∙ get_or-append e.heads.items (None ∷ []) None i below)
       (ap (λ xs. get_or xs (length e.heads.items) None) heads ∙ get_or-append_seam e.heads.items None [] None) in
       subst (λ xs. IsPartialGraph lat xs (graph_of e') j) (sym ops_is)
       (subst (λ n. IsPartialGraph lat (ops ++ op ∷ []) (graph_of e') n) (sym at)
-      (subst (λ (v : Vec Edge). IsPartialGraph lat (ops ++ op ∷ []) (graph_by v.items e'.starts.items e'.heads.items) (length ops))
+      (subst (λ (v : Vec Edge). IsPartialGraph lat (ops ++ op ∷ []) (tables_graph v.items e'.starts.items e'.heads.items) (length ops))
       (sym edges)
-      (subst (λ (v : Vec ℕ). IsPartialGraph lat (ops ++ op ∷ []) (graph_by e.edges.items v.items e'.heads.items) (length ops))
+      (subst (λ (v : Vec ℕ). IsPartialGraph lat (ops ++ op ∷ []) (tables_graph e.edges.items v.items e'.heads.items) (length ops))
       (sym starts) next)))

@@ -158,10 +158,6 @@ module _ (lat : Latencies) (ops : List Op) (graph graph' : Graph) (i j d : ℕ) 
         long = omega arith;
       }
 
-pub grows_none : (lat : Latencies) (ops : List Op) (graph : Graph) (j : ℕ) → IsPartialGraph lat ops graph j
-    → Grows lat ops graph graph j
-grows_none lat ops graph j is = record { partial = is; keeps = λ i d edge. edge }
-
 pub grows_then : (lat : Latencies) (ops : List Op) (a b c : Graph) (j : ℕ) → Grows lat ops a b j → Grows lat ops b c j
     → Grows lat ops a c j
 grows_then lat ops a b c j first second = record {

@@ -1,5 +1,5 @@
 -- The bits of the sets are counted, 64 operations at a time; for `Heuristic::Descendants`.
-use Rattle.std.proofs.Common.{◌≡◌, ℕ, zero, suc, ◌+◌, ◌<◌, ◌≤◌, ◌^◌, Bool, true, false, cond, List, map, length, get_or, inl, inr, refl, sym, ◌∙◌, ap, ◌-◌, arith, count_ones}
+use Rattle.std.proofs.Common.{◌≡◌, ℕ, ◌+◌, ◌<◌, ◌≤◌, ◌^◌, Bool, true, false, cond, List, map, length, get_or, inl, inr, refl, sym, ◌∙◌, ap, ◌-◌, arith, count_ones}
 use Rattle.std.specs.Prelude.{count_by}
 use Rattle.std.specs.List.{range_with_len}
 use Rattle.std.specs.Int.{bit_at}

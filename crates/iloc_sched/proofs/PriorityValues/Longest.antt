@@ -1,6 +1,6 @@
 -- A priority is the greatest of latency and d + prio(j) over the delay pairs; for `priorities` and the bounds.
-use Rattle.std.proofs.Common.{◌≡◌, ℕ, ◌+◌, ◌<◌, ◌≤◌, zero, suc, List, [], ◌∷◌, map, length, ◌⊎◌, inl, inr, refl, ap, sym, arith}
-use Rattle.std.specs.Prelude.{slice_index}
+use Rattle.std.proofs.Common.{◌≡◌, ℕ, ◌+◌, ◌<◌, ◌≤◌, zero, suc, List, [], ◌∷◌, max, map, length, drop, ◌⊎◌, inl, inr, refl, ap, sym, subst, arith}
+use Rattle.std.specs.Prelude.{fold, slice_index}
 use Rattle.iloc_ops.specs.declared.op.Op.{Op}
 use Rattle.iloc_meaning.specs.Trace.{op_at}
 use Rattle.iloc_timed.specs.declared.latencies.Latencies.{Latencies}
@@ -58,12 +58,6 @@ from_reaches lat op (next ∷ later) (prio ∷ prios) x there =
       is = r.is;
     }
 
-own_latency : (lat : Latencies) (ops : List Op) (i : ℕ) → i < length ops
-    → latency lat (op_at ops i) ≤ priority lat ops i
-own_latency lat [] i within = absurd (omega arith)
-own_latency lat (op ∷ later) zero within = fold_max_start (latency lat op) (reaches lat op later (priorities lat later))
-own_latency lat (op ∷ later) (suc i) within = own_latency lat later i (omega arith)
-
 -- a delay pair of what follows the first operation
 pub inner_pair : (lat : Latencies) (op : Op) (later : List Op) (i j d : ℕ) → IsDelayPair lat (op ∷ later) (suc i) (suc j) d
     → IsDelayPair lat later i j d
@@ -79,50 +73,82 @@ outer_pair lat op later i j d pair =
     let within : j < length later = pair.within in
     record { order = omega arith; within = omega arith; delay = pair.delay }
 
-pair_reaches : (lat : Latencies) (ops : List Op) (i j d : ℕ) → IsDelayPair lat ops i j d
-    → d + priority lat ops j ≤ priority lat ops i
-pair_reaches lat [] i j d pair = absurd (let within : j < 0 = pair.within in omega arith)
-pair_reaches lat (op ∷ later) i zero d pair = absurd (let order : i < 0 = pair.order in omega arith)
-pair_reaches lat (op ∷ later) zero (suc j) d pair =
+-- the greatest of the latency and of d + value(j) over the delay pairs (i, j, d)
+abbrev pub chain_of : Latencies → List Op → List ℕ → ℕ → ℕ
+chain_of lat ops values i = fold max (latency lat (op_at ops i))
+    (reaches lat (op_at ops i) (drop (suc i) ops) (drop (suc i) values))
+
+pub chain_own : (lat : Latencies) (ops : List Op) (values : List ℕ) (i : ℕ)
+    → latency lat (op_at ops i) ≤ chain_of lat ops values i
+chain_own lat ops values i = fold_max_start (latency lat (op_at ops i))
+    (reaches lat (op_at ops i) (drop (suc i) ops) (drop (suc i) values))
+
+pub chain_pairs : (lat : Latencies) (ops : List Op) (values : List ℕ) → length values ≡ length ops → (i j d : ℕ)
+    → IsDelayPair lat ops i j d → d + slice_index values j ≤ chain_of lat ops values i
+chain_pairs lat [] values size i j d pair = absurd (let within : j < 0 = pair.within in omega arith)
+chain_pairs lat (op ∷ later) [] size i j d pair = absurd (omega arith)
+chain_pairs lat (op ∷ later) (v ∷ values) size i zero d pair = absurd (let order : i < 0 = pair.order in omega arith)
+chain_pairs lat (op ∷ later) (v ∷ values) size zero (suc j) d pair =
     let within : suc j < suc (length later) = pair.within in
-    fold_max_each (latency lat op) (reaches lat op later (priorities lat later)) (d + priority lat later j)
-    (in_reaches lat op later (priorities lat later) j d (length-priorities lat later) (omega arith)
+    fold_max_each (latency lat op) (reaches lat op later values) (d + slice_index values j)
+    (in_reaches lat op later values j d (omega arith) (omega arith)
     (in_from (delays lat op (op_at later j)) d pair.delay))
-pair_reaches lat (op ∷ later) (suc i) (suc j) d pair = pair_reaches lat later i j d (inner_pair lat op later i j d pair)
+chain_pairs lat (op ∷ later) (v ∷ values) size (suc i) (suc j) d pair =
+    chain_pairs lat later values (omega arith) i j d (inner_pair lat op later i j d pair)
 
--- the priority is the latency, or d + prio(j) of a delay pair
-abbrev IsOne : Latencies → List Op → ℕ → Type 0
-IsOne lat ops i = (priority lat ops i ≡ latency lat (op_at ops i))
-    ⊎ ((j : ℕ) × (d : ℕ) × IsDelayPair lat ops i j d × (priority lat ops i ≡ d + priority lat ops j))
+-- it is the latency, or d + value(j) of a delay pair
+abbrev pub IsOne : Latencies → List Op → List ℕ → ℕ → ℕ → Type 0
+IsOne lat ops values i value = (value ≡ latency lat (op_at ops i))
+    ⊎ ((j : ℕ) × (d : ℕ) × IsDelayPair lat ops i j d × (value ≡ d + slice_index values j))
 
-is_one : (lat : Latencies) (ops : List Op) (i : ℕ) → i < length ops → IsOne lat ops i
-is_one lat [] i within = absurd (omega arith)
-is_one lat (op ∷ later) zero within = elim
-    (fold_max_reached (latency lat op) (reaches lat op later (priorities lat later))) [
+pub chain_reached : (lat : Latencies) (ops : List Op) (values : List ℕ) → length values ≡ length ops → (i : ℕ)
+    → i < length ops → IsOne lat ops values i (chain_of lat ops values i)
+chain_reached lat [] values size i within = absurd (omega arith)
+chain_reached lat (op ∷ later) [] size i within = absurd (omega arith)
+chain_reached lat (op ∷ later) (v ∷ values) size zero within = elim
+    (fold_max_reached (latency lat op) (reaches lat op later values)) [
       | inl own ↦ inl own
-      | inr there ↦ inr (by_pair (from_reaches lat op later (priorities lat later) (priority lat (op ∷ later) 0) there))
+      | inr there ↦
+          let r = from_reaches lat op later values (chain_of lat (op ∷ later) (v ∷ values) 0) there in
+          let below : r.to < length later = r.within in
+          inr (
+            suc r.to,
+            r.delay,
+            record {
+              order = omega arith;
+              within = omega arith;
+              delay = contains_from (delays lat op (op_at later r.to)) r.delay r.there;
+            },
+            r.is,
+          )
     ]
-  where
-    by_pair : Reached lat op later (priorities lat later) (priority lat (op ∷ later) 0) → (j : ℕ) × (d : ℕ)
-        × IsDelayPair lat (op ∷ later) 0 j d × (priority lat (op ∷ later) 0 ≡ d + priority lat (op ∷ later) j)
-    by_pair r =
-        let below : r.to < length later = r.within in (
-          suc r.to,
-          r.delay,
-          record {
-            order = omega arith;
-            within = omega arith;
-            delay = contains_from (delays lat op (op_at later r.to)) r.delay r.there;
-          },
-          r.is,
-        )
-is_one lat (op ∷ later) (suc i) within = elim (is_one lat later i (omega arith)) [
-  | inl own ↦ inl own
-  | inr pair ↦ inr (suc pair.0, pair.1, outer_pair lat op later i pair.0 pair.1 pair.2, pair.3)
-]
+chain_reached lat (op ∷ later) (v ∷ values) size (suc i) within =
+    elim (chain_reached lat later values (omega arith) i (omega arith)) [
+      | inl own ↦ inl own
+      | inr pair ↦ inr (suc pair.0, pair.1, outer_pair lat op later i pair.0 pair.1 pair.2, pair.3)
+    ]
+
+priority_value : (lat : Latencies) (ops : List Op) (i : ℕ) → i < length ops
+    → priority lat ops i ≡ chain_of lat ops (priorities lat ops) i
+priority_value lat [] i within = absurd (omega arith)
+priority_value lat (op ∷ later) zero within = refl
+priority_value lat (op ∷ later) (suc i) within = priority_value lat later i (omega arith)
 
 pub is_priority : (lat : Latencies) (ops : List Op) → IsPriority lat ops (priority lat ops)
-is_priority lat ops = record { own = own_latency lat ops; pairs = pair_reaches lat ops; reached = is_one lat ops }
+is_priority lat ops =
+    let size : length (priorities lat ops) ≡ length ops = length-priorities lat ops in
+    record {
+      own = λ i within.
+          let least = chain_own lat ops (priorities lat ops) i in
+          let same = priority_value lat ops i within in omega arith;
+      pairs = λ i j d pair.
+          let least = chain_pairs lat ops (priorities lat ops) size i j d pair in
+          let order : i < j = pair.order in
+          let within : j < length ops = pair.within in
+          let same = priority_value lat ops i (omega arith) in omega arith;
+      reached = λ i within. subst (IsOne lat ops (priorities lat ops) i) (sym (priority_value lat ops i within))
+          (chain_reached lat ops (priorities lat ops) size i within);
+    }
 
 not_above : (lat : Latencies) (ops : List Op) (prio other : ℕ → ℕ) → IsPriority lat ops prio → IsPriority lat ops other
     → (n i : ℕ) → i < length ops → length ops ≤ i + n → prio i ≤ other i

@@ -1,15 +1,13 @@
 -- A priority is at most 16 cycles an operation; for the sums of `priorities` and `least`.
 use Rattle.std.proofs.Common.{◌≡◌, ℕ, ◌+◌, ◌*◌, ◌<◌, ◌≤◌, zero, suc, List, length, inl, inr, arith}
-use Rattle.std.specs.Prelude.{All}
-use Rattle.std.proofs.lemmas.List.Elements.{All-from_get_or}
 use Rattle.iloc_ops.specs.declared.op.Op.{Op}
 use Rattle.iloc_meaning.specs.Trace.{op_at}
 use Rattle.iloc_timed.specs.declared.latencies.Latencies.{Latencies}
 use Rattle.iloc_timed.specs.Kinds.{kind}
 use Rattle.iloc_timed.specs.Latency.{latency}
-use Rattle.iloc_sched.specs.Priority.{priorities, priority}
+use Rattle.iloc_sched.specs.Priority.{priority}
 use Rattle.iloc_sched.proofs.DelayPairs.DelayBounds.{delay_at_most}
-use Rattle.iloc_sched.proofs.PriorityValues.Longest.{is_priority, length-priorities}
+use Rattle.iloc_sched.proofs.PriorityValues.Longest.{is_priority}
 use Rattle.iloc_timed.proofs.WholeRuns.{short_latency}
 
 -- a priority is at most 16 cycles for each operation from its own on
@@ -28,10 +26,3 @@ priority_most lat ops (suc n) i few below =
           let same : priority lat ops i ≡ long.1 + priority lat ops long.0 = long.3 in
           omega arith)
     ]
-
-pub priorities_small : (lat : Latencies) (ops : List Op) → length ops ≤ 10000
-    → All (λ q. q ≤ 160000) (priorities lat ops)
-priorities_small lat ops few = All-from_get_or (λ q. q ≤ 160000) (priorities lat ops) 0 (λ i below.
-    let here : i < length ops = omega (arith, length-priorities lat ops) in
-    let most : priority lat ops i ≤ 16 * length ops = priority_most lat ops (length ops) i (omega arith) here in
-    omega arith)

@@ -1,7 +1,7 @@
 -- Zeros that are raised along the kept edges, the first first, become the starts; for `Heuristic::Slack`.
-use Rattle.std.proofs.Common.{◌≡◌, ◌≢◌, ℕ, zero, suc, ◌+◌, ◌*◌, ◌<◌, ◌≤◌, max, List, length, set, get_or, inl, inr, sym, ◌∙◌, ap, arith}
+use Rattle.std.proofs.Common.{◌≡◌, ℕ, zero, suc, ◌+◌, ◌*◌, ◌<◌, ◌≤◌, max, List, length, set, get_or, inl, inr, sym, ◌∙◌, ap, arith}
 use Rattle.std.specs.Prelude.{replicate}
-use Rattle.std.proofs.lemmas.List.{get_or-set_same, get_or-set_other, length-set, get_or-replicate, length-replicate}
+use Rattle.std.proofs.lemmas.List.{get_or-replicate, length-replicate}
 use Rattle.iloc_ops.specs.declared.op.Op.{Op}
 use Rattle.iloc_timed.specs.declared.latencies.Latencies.{Latencies}
 use Rattle.iloc_sched.specs.Delays.{IsDelayPair}
@@ -9,8 +9,7 @@ use Rattle.iloc_sched.specs.Starts.{starts, start}
 use Rattle.iloc_sched.specs.Steps.Graph.{Graph, IsGraphOf}
 use Rattle.iloc_sched.specs.Steps.Starts.{IsStarted}
 use Rattle.iloc_sched.proofs.PriorityValues.Starts.{is_start, length-starts, start_most}
-use Rattle.iloc_sched.proofs.PriorityValues.Raised.{same_numbers}
-use Rattle.iloc_sched.proofs.Basics.Cases.{by_eq}
+use Rattle.iloc_sched.proofs.PriorityValues.Raised.{same_numbers, size_kept, still_upper, one_over}
 use Rattle.iloc_sched.proofs.Graph.FarPairs.{near_or_by_way}
 
 module _ (lat : Latencies) (ops : List Op) (graph : Graph) (is : IsGraphOf lat ops graph) where
@@ -88,37 +87,19 @@ module _ (lat : Latencies) (ops : List Op) (graph : Graph) (is : IsGraphOf lat o
       let done : get_or found (graph.from x) 0 ≡ start lat ops (graph.from x) =
       done_into found x (graph.from x) started (omega arith) (omega arith) in
       let at_from : get_or found from 0 ≡ start lat ops (graph.from x) = ap (λ k. get_or found k 0) from_is ∙ done in
-      let value : get_or found' to 0 ≡ max (get_or found to 0) (delay + get_or found from 0) =
-      ap (λ xs. get_or xs to 0) found_is ∙ get_or-set_same found to _ 0 (omega arith) in
-      let other : (k : ℕ) → k ≢ to → get_or found' k 0 ≡ get_or found k 0 =
-      (λ k apart. ap (λ xs. get_or xs k 0) found_is ∙ get_or-set_other found to k _ 0 apart) in
-      let grown : (k : ℕ) → get_or found k 0 ≤ get_or found' k 0 = (λ k. by_eq k to
-      (λ same. let a : get_or found k 0 ≡ get_or found to 0 = ap (λ n. get_or found n 0) same in
-      let b : get_or found' k 0 ≡ get_or found' to 0 = ap (λ n. get_or found' n 0) same in omega arith)
-      (λ apart. let a : get_or found' k 0 ≡ get_or found k 0 = other k apart in omega arith)) in
       let pair : graph.delay x + start lat ops (graph.from x) ≤ start lat ops (graph.to x) =
       (is_start lat ops).pairs (graph.from x) (graph.to x) (graph.delay x) (is.sound x below) in
       let same_start : start lat ops to ≡ start lat ops (graph.to x) = ap (start lat ops) to_is in
       let upper_to : get_or found to 0 ≤ start lat ops to = started.upper to (omega arith) in
+      let inside : to < length found = omega arith in
+      let v : ℕ = delay + get_or found from 0 in
       record {
-        size = ap length found_is ∙ length-set found to _ ∙ size;
-        upper = λ i within. by_eq i to
-            (λ same. let a : get_or found' i 0 ≡ get_or found' to 0 = ap (λ n. get_or found' n 0) same in
-            let b : start lat ops i ≡ start lat ops to = ap (start lat ops) same in omega arith)
-            (λ apart. let a : get_or found' i 0 ≡ get_or found i 0 = other i apart in
-            let b : get_or found i 0 ≤ start lat ops i = started.upper i within in omega arith);
-        over = λ y before within. by_eq y x
-            (λ same.
-            let a : get_or found' (graph.to y) 0 ≡ get_or found' to 0 =
-            ap (λ n. get_or found' n 0) (ap graph.to same ∙ sym to_is) in
-            let b : graph.delay y ≡ graph.delay x = ap graph.delay same in
-            let c : start lat ops (graph.from y) ≡ start lat ops (graph.from x) =
-            ap (λ n. start lat ops (graph.from n)) same in
-            omega arith)
-            (λ apart. let old : graph.delay y + start lat ops (graph.from y)
-            ≤ get_or found (graph.to y) 0 = started.over y (omega arith) within in
-            let up : get_or found (graph.to y) 0 ≤ get_or found' (graph.to y) 0 = grown (graph.to y) in
-            omega arith);
+        size = size_kept found found' to v inside found_is ∙ size;
+        upper = λ i within. still_upper found found' to v inside found_is (start lat ops) upper_to (omega arith) i
+            (started.upper i within);
+        over = λ y before within. one_over found found' to v inside found_is graph.to
+            (λ n. graph.delay n + start lat ops (graph.from n)) x y to_is (omega arith)
+            (λ apart. started.over y (omega arith) within);
       }
 
   -- all edges are done

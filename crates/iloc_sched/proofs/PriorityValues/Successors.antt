@@ -1,5 +1,5 @@
 -- The operations that wait for each directly, counted by their kinds and by the edges; for `Heuristic::Successors`.
-use Rattle.std.proofs.Common.{◌≡◌, ◌≢◌, ℕ, zero, suc, ◌+◌, ◌-◌, ◌<◌, ◌≤◌, Bool, true, false, cond, ◌==◌, ◌||◌, ◌&&◌, List, [], ◌∷◌, ◌++◌, length, map, set, get_or, Option, Some, None, inl, inr, refl, sym, ◌∙◌, ap, subst, arith}
+use Rattle.std.proofs.Common.{◌≡◌, ◌≢◌, ℕ, suc, ◌+◌, ◌-◌, ◌<◌, ◌≤◌, Bool, true, false, cond, ◌||◌, ◌&&◌, List, ◌++◌, length, map, set, get_or, inl, inr, refl, sym, ◌∙◌, ap, subst, arith}
 use Rattle.std.specs.Prelude.{count_by, replicate, nat_lt, not}
 use Rattle.std.specs.List.{range_with_len}
 use Rattle.std.proofs.lemmas.Bool.{ltb-true, lt-ltb, and_parts, cases_lt, true≢false}
@@ -15,14 +15,12 @@ use Rattle.iloc_meaning.proofs.Cases.{by_bool}
 use Rattle.iloc_sched.specs.Delays.{delays, uses_result, reads_stored, keeps_order, when, memory_delays, IsDelayPair}
 use Rattle.iloc_sched.specs.Heuristics.{waits_for, successors}
 use Rattle.iloc_sched.specs.declared.edges.later.Later.{Later}
-use Rattle.iloc_sched.specs.Steps.Graph.{Graph, IsGraphOf, IsLast}
 use Rattle.iloc_sched.specs.Steps.Members.{In}
 use Rattle.iloc_sched.specs.Steps.Near.{IsNear}
-use Rattle.iloc_sched.specs.Steps.Successors.{waits_by_kind, waits_by_use, waiting_for, from_on, AreNoted, AreCounted, leads_into, adds_one, IsCounting}
-use Rattle.iloc_sched.proofs.Basics.Cases.{by_eq, by_option}
+use Rattle.iloc_sched.specs.Steps.Successors.{waits_by_kind, waits_by_use, waiting_for, from_on, AreNoted, AreCounted}
+use Rattle.iloc_sched.proofs.Basics.Cases.{by_eq}
 use Rattle.iloc_sched.proofs.Basics.CountedRanges.{count_first, count_range, none_in_range, count_sum, count_most}
 use Rattle.iloc_sched.proofs.Basics.Members.{contains_from, in_left}
-use Rattle.iloc_sched.proofs.PriorityValues.Dependents.{pair_waits, waits_pair}
 use Rattle.iloc_sched.proofs.PriorityValues.Raised.{same_numbers}
 
 -- there is a delay just where the result is used, or memory or outputs ask for one

@@ -1,5 +1,5 @@
 -- A tail is the greatest of latency, d + tail(j) over the delay pairs, and what the loads behind a store need; for `least`.
-use Rattle.std.proofs.Common.{◌≡◌, ◌∙◌, ℕ, ◌+◌, ◌-◌, ◌*◌, ◌<◌, ◌≤◌, max, zero, suc, Bool, true, false, List, [], ◌∷◌, ◌++◌, length, drop, ◌⊎◌, inl, inr, refl, ap, ap₂, sym, add-one, arith}
+use Rattle.std.proofs.Common.{◌≡◌, ◌∙◌, ℕ, ◌+◌, ◌-◌, ◌*◌, ◌<◌, ◌≤◌, max, zero, suc, Bool, true, false, List, [], ◌∷◌, ◌++◌, length, drop, inl, inr, refl, ap, ap₂, sym, add-one, arith}
 use Rattle.std.proofs.lemmas.List.{drop_more, length-drop, get_or_default}
 use Rattle.iloc_ops.specs.declared.op.Op.{Op}
 use Rattle.iloc_ops.specs.declared.op.Op.TheVariants.{Nop}
@@ -10,14 +10,12 @@ use Rattle.iloc_timed.specs.declared.kind.Kind.TheVariants as K
 use Rattle.iloc_timed.specs.declared.latencies.Latencies.{Latencies}
 use Rattle.iloc_timed.specs.Kinds.{kind, is_load, is_store}
 use Rattle.iloc_timed.specs.Latency.{latency, latency_of}
-use Rattle.iloc_sched.specs.Delays.{when, delays, IsDelayPair}
-use Rattle.iloc_sched.specs.Priority.{reaches}
+use Rattle.iloc_sched.specs.Delays.{when}
 use Rattle.iloc_sched.specs.Least.{needed, load_tails, tails, tail}
 use Rattle.iloc_sched.specs.Steps.Members.{In}
 use Rattle.iloc_sched.specs.Steps.Tails.{loads_from, chain_tail, store_tail, tail_by, IsTail}
-use Rattle.iloc_sched.proofs.Basics.Members.{contains_from, in_from, from_append}
-use Rattle.iloc_sched.proofs.Basics.Maxima.{fold_max_start, fold_max_each, fold_max_reached}
-use Rattle.iloc_sched.proofs.PriorityValues.Longest.{Reached, in_reaches, from_reaches, inner_pair, outer_pair}
+use Rattle.iloc_sched.proofs.Basics.Members.{contains_from, from_append}
+use Rattle.iloc_sched.proofs.PriorityValues.Longest.{chain_own, chain_pairs, chain_reached}
 use Rattle.iloc_sched.proofs.Bounds.Swept.{in_drop, needed_most}
 use Rattle.iloc_sched.proofs.Bounds.TailBound.{tail_most}
 
@@ -31,58 +29,12 @@ tail_value lat [] i within = absurd (omega arith)
 tail_value lat (op ∷ later) zero within = refl
 tail_value lat (op ∷ later) (suc i) within = tail_value lat later i (omega arith)
 
-tail_own : (lat : Latencies) (ops : List Op) (i : ℕ) → i < length ops → latency lat (op_at ops i) ≤ chain_tail lat ops i
-tail_own lat [] i within = absurd (omega arith)
-tail_own lat (op ∷ later) zero within = fold_max_start (latency lat op) (reaches lat op later (tails lat later))
-tail_own lat (op ∷ later) (suc i) within = tail_own lat later i (omega arith)
-
-tail_pairs : (lat : Latencies) (ops : List Op) (i j d : ℕ) → IsDelayPair lat ops i j d
-    → d + tail lat ops j ≤ chain_tail lat ops i
-tail_pairs lat [] i j d pair = absurd (let within : j < 0 = pair.within in omega arith)
-tail_pairs lat (op ∷ later) i zero d pair = absurd (let order : i < 0 = pair.order in omega arith)
-tail_pairs lat (op ∷ later) zero (suc j) d pair =
-    let within : suc j < suc (length later) = pair.within in
-    fold_max_each (latency lat op) (reaches lat op later (tails lat later)) (d + tail lat later j)
-    (in_reaches lat op later (tails lat later) j d (length-tails lat later) (omega arith)
-    (in_from (delays lat op (op_at later j)) d pair.delay))
-tail_pairs lat (op ∷ later) (suc i) (suc j) d pair = tail_pairs lat later i j d (inner_pair lat op later i j d pair)
-
-abbrev IsOne : Latencies → List Op → ℕ → Type 0
-IsOne lat ops i = (chain_tail lat ops i ≡ latency lat (op_at ops i))
-    ⊎ ((j : ℕ) × (d : ℕ) × IsDelayPair lat ops i j d × (chain_tail lat ops i ≡ d + tail lat ops j))
-
-tail_reached : (lat : Latencies) (ops : List Op) (i : ℕ) → i < length ops → IsOne lat ops i
-tail_reached lat [] i within = absurd (omega arith)
-tail_reached lat (op ∷ later) zero within = elim
-    (fold_max_reached (latency lat op) (reaches lat op later (tails lat later))) [
-      | inl own ↦ inl own
-      | inr there ↦ inr (by_pair (from_reaches lat op later (tails lat later) (chain_tail lat (op ∷ later) 0) there))
-    ]
-  where
-    by_pair : Reached lat op later (tails lat later) (chain_tail lat (op ∷ later) 0) → (j : ℕ) × (d : ℕ)
-        × IsDelayPair lat (op ∷ later) 0 j d × (chain_tail lat (op ∷ later) 0 ≡ d + tail lat (op ∷ later) j)
-    by_pair r =
-        let below : r.to < length later = r.within in (
-          suc r.to,
-          r.delay,
-          record {
-            order = omega arith;
-            within = omega arith;
-            delay = contains_from (delays lat op (op_at later r.to)) r.delay r.there;
-          },
-          r.is,
-        )
-tail_reached lat (op ∷ later) (suc i) within = elim (tail_reached lat later i (omega arith)) [
-  | inl own ↦ inl own
-  | inr pair ↦ inr (suc pair.0, pair.1, outer_pair lat op later i pair.0 pair.1 pair.2, pair.3)
-]
-
 pub is_tail : (lat : Latencies) (ops : List Op) → IsTail lat ops
 is_tail lat ops = record {
   value = tail_value lat ops;
-  own = tail_own lat ops;
-  pairs = tail_pairs lat ops;
-  reached = tail_reached lat ops;
+  own = λ i within. chain_own lat ops (tails lat ops) i;
+  pairs = chain_pairs lat ops (tails lat ops) (length-tails lat ops);
+  reached = chain_reached lat ops (tails lat ops) (length-tails lat ops);
 }
 
 -- The loads
@@ -163,18 +115,12 @@ loads_reach lat ops i x small =
 
 -- a store has its latency
 stored : (lat : Latencies) (k : Kind) → is_store k ≡ true → latency_of lat k ≡ lat.store
-stored lat K.Load is = cc
 stored lat K.Store is = refl
-stored lat K.Mult is = cc
-stored lat K.Output is = cc
-stored lat K.Other is = cc
+stored lat _ is = cc
 
 not_stored : (k : Kind) → is_load k ≡ true → is_store k ≡ false
 not_stored K.Load is = refl
-not_stored K.Store is = cc
-not_stored K.Mult is = cc
-not_stored K.Output is = cc
-not_stored K.Other is = cc
+not_stored _ is = cc
 
 -- the tail by the latency of stores
 pub tail_by_store : (lat : Latencies) (ops : List Op) (i : ℕ) → i < length ops → tail_by (kind (op_at ops i))

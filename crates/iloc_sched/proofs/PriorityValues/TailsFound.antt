@@ -1,5 +1,5 @@
 -- Latencies that are raised along the kept edges and by the rule of stores, the last first, become the tails; for `least`.
-use Rattle.std.proofs.Common.{◌≡◌, ◌≢◌, ℕ, zero, suc, ◌+◌, ◌*◌, ◌<◌, ◌≤◌, max, List, length, map, set, get_or, inl, inr, sym, ◌∙◌, ap, arith}
+use Rattle.std.proofs.Common.{◌≡◌, ◌≢◌, ℕ, ◌+◌, ◌*◌, ◌<◌, ◌≤◌, max, List, length, map, set, get_or, inl, inr, sym, ◌∙◌, ap, arith}
 use Rattle.std.proofs.lemmas.List.{get_or-set_same, get_or-set_other, length-set, length-map, get_or-map}
 use Rattle.iloc_ops.specs.declared.op.Op.{Op}
 use Rattle.iloc_ops.specs.declared.op.Op.TheVariants.{Nop}
@@ -10,11 +10,10 @@ use Rattle.iloc_sched.specs.Delays.{IsDelayPair}
 use Rattle.iloc_sched.specs.Least.{tails, tail}
 use Rattle.iloc_sched.specs.Steps.Graph.{Graph, IsGraphOf}
 use Rattle.iloc_sched.specs.Steps.Tails.{chain_tail, store_tail, IsTailed}
-use Rattle.iloc_sched.proofs.PriorityValues.Raised.{same_numbers}
+use Rattle.iloc_sched.proofs.PriorityValues.Raised.{same_numbers, other, size_kept, grown, still_upper, one_over, pair_over}
 use Rattle.iloc_sched.proofs.PriorityValues.Tails.{is_tail, length-tails}
 use Rattle.iloc_sched.proofs.Basics.Cases.{by_eq, by_lt}
 use Rattle.iloc_sched.proofs.Bounds.TailBound.{tail_most}
-use Rattle.iloc_sched.proofs.Graph.FarPairs.{near_or_by_way}
 
 module _ (lat : Latencies) (ops : List Op) (graph : Graph) (is : IsGraphOf lat ops graph) where
   chain_most : (i : ℕ) → i < length ops → chain_tail lat ops i ≤ tail lat ops i
@@ -39,40 +38,13 @@ module _ (lat : Latencies) (ops : List Op) (graph : Graph) (is : IsGraphOf lat o
         over = λ y after below. absurd (omega arith);
       }
 
-  -- d cycles and a tail are no more than what the number of operation j says
-  pair_tailed : (found : List ℕ) (j : ℕ) → IsTailed lat ops graph found (j + 1) (graph.start (j + 1)) → (n k d : ℕ)
-      → k ≤ j + n → IsDelayPair lat ops j k d → d + tail lat ops k ≤ get_or found j 0
-  pair_tailed found j tailed zero k d few pair = let order : j < k = pair.order in absurd (omega arith)
-  pair_tailed found j tailed (suc n) k d few pair = elim (near_or_by_way lat ops j k d pair) [
-    | inl near ↦
-        let edge : (y : ℕ) × (y < graph.count) × (graph.to y ≡ k) × (graph.from y ≡ j) × (d ≤ graph.delay y) =
-        is.all j k d pair near in
-        let place : (graph.to edge.0 < graph.ops) × (graph.start (graph.to edge.0) ≤ edge.0)
-        × (edge.0 < graph.start (graph.to edge.0 + 1)) = is.is_graph.to_there edge.0 edge.1 in
-        let order : j < k = pair.order in
-        let to_k : graph.to edge.0 ≡ k = edge.2 in
-        let there : graph.to edge.0 < graph.ops = place.0 in
-        let up : graph.start (j + 1) ≤ graph.start (graph.to edge.0) =
-        is.is_graph.rises (j + 1) (graph.to edge.0) (omega arith) (omega arith) in
-        let first : graph.start (graph.to edge.0) ≤ edge.0 = place.1 in
-        let over : graph.delay edge.0 + tail lat ops (graph.to edge.0) ≤ get_or found (graph.from edge.0) 0 =
-        tailed.over edge.0 (omega arith) edge.1 in
-        let same_to : tail lat ops (graph.to edge.0) ≡ tail lat ops k = ap (tail lat ops) to_k in
-        let same_from : get_or found (graph.from edge.0) 0 ≡ get_or found j 0 = ap (λ i. get_or found i 0) edge.3 in
-        let long : d ≤ graph.delay edge.0 = edge.4 in
-        omega arith
-    | inr by ↦
-        let order : j < by.way = by.first.order in
-        let later : by.way < k = by.second.order in
-        let within : k < length ops = by.second.within in
-        let start : by.first_delay + tail lat ops by.way ≤ get_or found j 0 =
-        pair_tailed found j tailed n by.way by.first_delay (omega arith) by.first in
-        let rest : by.second_delay + tail lat ops k ≤ chain_tail lat ops by.way =
-        (is_tail lat ops).pairs by.way k by.second_delay by.second in
-        let whole = chain_most by.way (omega arith) in
-        let enough : d ≤ by.first_delay + by.second_delay = by.enough in
-        omega arith
-  ]
+  whole_pairs : (i j d : ℕ) → IsDelayPair lat ops i j d → d + tail lat ops j ≤ tail lat ops i
+  whole_pairs i j d pair =
+      let order : i < j = pair.order in
+      let within : j < length ops = pair.within in
+      let part : d + tail lat ops j ≤ chain_tail lat ops i = (is_tail lat ops).pairs i j d pair in
+      let whole = chain_most i (omega arith) in
+      omega arith
 
   -- the number of operation j says what its delays leave, once all edges out of it are done
   pub chain_found : (found : List ℕ) (j : ℕ) → IsTailed lat ops graph found (j + 1) (graph.start (j + 1))
@@ -84,7 +56,8 @@ module _ (lat : Latencies) (ops : List Op) (graph : Graph) (is : IsGraphOf lat o
         | inl alone ↦ let same : chain_tail lat ops j ≡ latency lat (op_at ops j) = alone in omega arith
         | inr long ↦
             let least : long.1 + tail lat ops long.0 ≤ get_or found j 0 =
-            pair_tailed found j tailed long.0 long.0 long.1 (omega arith) long.2 in
+            pair_over lat ops graph is (tail lat ops) whole_pairs found (graph.start (j + 1)) j tailed.over (omega arith)
+            long.0 long.0 long.1 (omega arith) long.2 in
             let same : chain_tail lat ops j ≡ long.1 + tail lat ops long.0 = long.3 in
             omega arith
       ]
@@ -135,42 +108,25 @@ module _ (lat : Latencies) (ops : List Op) (graph : Graph) (is : IsGraphOf lat o
       let there : graph.to x < graph.ops = place.0 in
       let earlier : graph.from x < graph.to x = is.is_graph.earlier x below in
       let at_j : get_or found j 0 ≡ tail lat ops j = tailed.done j (omega arith) (omega arith) in
-      let value : get_or found' from 0 ≡ max (get_or found from 0) (delay + get_or found j 0) =
-      ap (λ xs. get_or xs from 0) found_is ∙ get_or-set_same found from _ 0 (omega arith) in
-      let other : (k : ℕ) → k ≢ from → get_or found' k 0 ≡ get_or found k 0 =
-      (λ k apart. ap (λ xs. get_or xs k 0) found_is ∙ get_or-set_other found from k _ 0 apart) in
-      let grown : (k : ℕ) → get_or found k 0 ≤ get_or found' k 0 = (λ k. by_eq k from
-      (λ same. let a : get_or found k 0 ≡ get_or found from 0 = ap (λ n. get_or found n 0) same in
-      let b : get_or found' k 0 ≡ get_or found' from 0 = ap (λ n. get_or found' n 0) same in omega arith)
-      (λ apart. let a : get_or found' k 0 ≡ get_or found k 0 = other k apart in omega arith)) in
       let pair : graph.delay x + tail lat ops (graph.to x) ≤ chain_tail lat ops (graph.from x) =
       (is_tail lat ops).pairs (graph.from x) (graph.to x) (graph.delay x) (is.sound x below) in
       let same_to : tail lat ops (graph.to x) ≡ tail lat ops j = ap (tail lat ops) to_is in
       let same_chain : chain_tail lat ops from ≡ chain_tail lat ops (graph.from x) = ap (chain_tail lat ops) from_is in
       let upper_from : get_or found from 0 ≤ chain_tail lat ops from = tailed.upper from (omega arith) (omega arith) in
+      let inside : from < length found = omega arith in
+      let v : ℕ = delay + get_or found j 0 in
       record {
-        size = ap length found_is ∙ length-set found from _ ∙ size;
-        done = λ i after within. other i (λ e. absurd (omega arith)) ∙ tailed.done i after within;
+        size = size_kept found found' from v inside found_is ∙ size;
+        done = λ i after within. other found found' from v inside found_is i (λ e. absurd (omega arith))
+            ∙ tailed.done i after within;
         own = λ i before within.
             let old : latency lat (op_at ops i) ≤ get_or found i 0 = tailed.own i before within in
-            let up : get_or found i 0 ≤ get_or found' i 0 = grown i in omega arith;
-        upper = λ i before within. by_eq i from
-            (λ same. let a : get_or found' i 0 ≡ get_or found' from 0 = ap (λ n. get_or found' n 0) same in
-            let b : chain_tail lat ops i ≡ chain_tail lat ops from = ap (chain_tail lat ops) same in omega arith)
-            (λ apart. let a : get_or found' i 0 ≡ get_or found i 0 = other i apart in
-            let b : get_or found i 0 ≤ chain_tail lat ops i = tailed.upper i before within in omega arith);
-        over = λ y after within. by_eq y x
-            (λ same.
-            let a : get_or found' (graph.from y) 0 ≡ get_or found' from 0 =
-            ap (λ n. get_or found' n 0) (ap graph.from same ∙ sym from_is) in
-            let b : graph.delay y ≡ graph.delay x = ap graph.delay same in
-            let c : tail lat ops (graph.to y) ≡ tail lat ops (graph.to x) =
-            ap (λ n. tail lat ops (graph.to n)) same in
-            omega arith)
-            (λ apart. let old : graph.delay y + tail lat ops (graph.to y)
-            ≤ get_or found (graph.from y) 0 = tailed.over y (omega arith) within in
-            let up : get_or found (graph.from y) 0 ≤ get_or found' (graph.from y) 0 = grown (graph.from y) in
-            omega arith);
+            let up = grown found found' from v inside found_is i in omega arith;
+        upper = λ i before within. still_upper found found' from v inside found_is (chain_tail lat ops) upper_from
+            (omega arith) i (tailed.upper i before within);
+        over = λ y after within. one_over found found' from v inside found_is graph.from
+            (λ n. graph.delay n + tail lat ops (graph.to n)) x y from_is (omega arith)
+            (λ apart. tailed.over y (omega arith) within);
       }
 
   pub tailed_small : (found : List ℕ) (j x i : ℕ) → IsTailed lat ops graph found j x → i < length ops

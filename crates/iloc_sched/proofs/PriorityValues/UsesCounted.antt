@@ -1,22 +1,21 @@
 -- The edges into an operation, each source once, are the operations that it waits for by use; for `Heuristic::Successors`.
-use Rattle.std.proofs.Common.{◌≡◌, ◌≢◌, ℕ, ◌+◌, ◌<◌, ◌≤◌, Bool, true, false, cond, ◌==◌, ◌||◌, ◌&&◌, List, length, set, get_or, Option, Some, None, inl, inr, refl, sym, ◌∙◌, ap, subst, arith}
+use Rattle.std.proofs.Common.{◌≡◌, ◌≢◌, ℕ, ◌+◌, ◌<◌, ◌≤◌, Bool, true, false, cond, ◌&&◌, List, length, set, get_or, refl, sym, ◌∙◌, ap, subst, arith}
 use Rattle.std.specs.Prelude.{not}
 use Rattle.std.proofs.lemmas.Bool.{and_parts, eq-eqb, eqb-true, true≢false}
 use Rattle.std.proofs.lemmas.List.{get_or-set_same, get_or-set_other, length-set}
 use Rattle.iloc_ops.specs.declared.op.Op.{Op}
 use Rattle.iloc_meaning.specs.Trace.{op_at}
-use Rattle.iloc_timed.specs.declared.kind.Kind.{Kind}
 use Rattle.iloc_timed.specs.declared.latencies.Latencies.{Latencies}
 use Rattle.iloc_timed.specs.Kinds.{kind}
 use Rattle.iloc_timed.specs.Latency.{latency}
 use Rattle.iloc_meaning.proofs.Cases.{by_bool}
-use Rattle.iloc_sched.specs.Delays.{delays, uses_result, IsDelayPair}
+use Rattle.iloc_sched.specs.Delays.{IsDelayPair}
 use Rattle.iloc_sched.specs.Heuristics.{waits_for}
 use Rattle.iloc_sched.specs.Steps.Graph.{Graph, IsGraphOf, IsLast}
 use Rattle.iloc_sched.specs.Steps.Successors.{waits_by_kind, waits_by_use, leads_into, adds_one, IsCounting}
 use Rattle.iloc_sched.proofs.Basics.Cases.{by_eq, by_lt, by_option}
 use Rattle.iloc_sched.proofs.PriorityValues.Dependents.{pair_waits}
-use Rattle.iloc_sched.proofs.PriorityValues.Successors.{waits_order, use_pair}
+use Rattle.iloc_sched.proofs.PriorityValues.Successors.{use_pair}
 
 module _ (lat : Latencies) (ops : List Op) (graph : Graph) (is : IsGraphOf lat ops graph) (j : ℕ) (there : j < graph.ops) where
   -- whether operation j waits for operation i by their kinds

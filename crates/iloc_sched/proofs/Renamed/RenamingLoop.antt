@@ -204,14 +204,16 @@ nothing_named own given current = λ done op uses defines named.
     next_without done op [] own given current (rw uses (uses_begin done given current named)) defines
 
 -- an operation with the new registers in their places is the next one renamed
-pub placed_renamed : (op op' : Op) (olds : List Reg) (defines : Option Reg) (news : List Reg) (own : Reg) (given given'
-    : ℕ) (current current' : Reg → Option ℕ) → NamesAll olds defines news own given current given' current'
-    → used op ≡ olds → defined op ≡ defines
-    → ((new : Reg → Reg) → news ≡ map new olds → op' ≡ with_registers new own op) → (done : List Op)
+pub placed_renamed : (op shape op' : Op) (news : List Reg) (own : Reg) (given given' : ℕ) (current current' : Reg
+    → Option ℕ) → op ≡ shape → NamesAll (used shape) (defined shape) news own given current given' current'
+    → ((new : Reg → Reg) → news ≡ map new (used shape) → op' ≡ with_registers new own shape) → (done : List Op)
     → Named done given current → Named (done ++ op ∷ []) given' current' × (op' ≡ next_renamed done op)
-placed_renamed op op' olds defines news own given given' current current' names uses definition placed done named =
-    let next = names done op uses definition named in
-    (next.named, placed next.new (next.names ∙ ap (map next.new) uses) ∙ next.renamed)
+placed_renamed op shape op' news own given given' current current' is names placed done named =
+    let next = names done op (ap used is) (ap defined is) named in (
+      next.named,
+      placed next.new (next.names ∙ ap (λ o. map next.new (used o)) is)
+          ∙ ap (with_registers next.new own) (sym is) ∙ next.renamed,
+    )
 
 name_more : (done : List Op) (op : Op) (s : Source) → Stands (numbering done) s
     → name_of (numbering (done ++ op ∷ [])) s ≡ name_of (numbering done) s

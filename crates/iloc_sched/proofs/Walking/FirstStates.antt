@@ -16,14 +16,11 @@ use Rattle.iloc_sched.specs.Steps.Graph.{Graph, IsGraph}
 use Rattle.iloc_sched.specs.Steps.Progress.{Progress, Waits}
 use Rattle.iloc_sched.specs.Steps.Views.{graph_of, issued_in, unmet_in, earliest_in, issued_list, unmet_list, earliest_list, progress_of, IsSized}
 use Rattle.iloc_sched.specs.Steps.Queued.{candidates}
-use Rattle.iloc_sched.specs.Steps.SoFar.{IsSoFar, waiting_count}
+use Rattle.iloc_sched.specs.Steps.SoFar.{IsSoFar}
 use Rattle.iloc_sched.specs.Steps.Opening.{AreRoots, not_issued, IsOpening}
 use Rattle.iloc_sched.proofs.Basics.Cases.{by_eq, not_both}
 use Rattle.iloc_sched.proofs.Walking.UnmetEdges.{not_true, count_all}
 use Rattle.iloc_sched.proofs.Walking.LinkedBuckets.{apart_few, read_replicate}
-
-pub no_roots : (graph : Graph) → AreRoots graph [] 0
-no_roots graph = record { all = λ j below. absurd (omega arith); only = λ j held. absurd held; apart = tt }
 
 root_put : (graph : Graph) (js : List ℕ) (n : ℕ) → AreRoots graph js n → graph.start n ≡ graph.start (n + 1)
     → AreRoots graph (n ∷ js) (n + 1)
@@ -105,14 +102,6 @@ module _ (e : Edges) (w v : Waiting) (n : ℕ) (state : OperationState) (below :
     others = λ b small apart. others b small apart ∙ so_far.others b small apart;
   }
 
--- the next operation is in no bucket
-pub next_in_none : (e : Edges) (w : Waiting) (n : ℕ) → IsOpening e w n → (b : ℕ) → b < 32
-    → In ((progress_of w).bucket b) n → ⊥
-next_in_none e w n so_far b small held = by_eq b 0
-    (λ same. let h : n < n =
-    (so_far.roots.only n (subst (λ a. In ((progress_of w).bucket a) n) same held)).0 in absurd (omega arith))
-    (λ apart. subst (λ js. In js n) (so_far.others b small apart) held)
-
 pub roots_few : (e : Edges) (w : Waiting) (n : ℕ) → IsOpening e w n → length ((progress_of w).bucket 0) ≤ n
 roots_few e w n so_far =
     apart_few ((progress_of w).bucket 0) n so_far.roots.apart (λ j held. (so_far.roots.only j held).0)
@@ -158,9 +147,6 @@ module _ (e : Edges) (w : Waiting) (is : IsGraph (graph_of e)) (made : IsOpening
       ∙ get_or-map-range_with_len (edges_into (graph_of e)) 0 (length e.heads.items) j j 0 there (omega arith))
       (λ j. ap (λ xs. get_or xs j 0) made.earliest ∙ read_replicate (length e.heads.items) 0 j)
       made.roots made.others
-
-  pub all_wait : waiting_count w ≡ length e.heads.items
-  all_wait = ap (count_by is_none) made.issued ∙ count_replicate (length e.heads.items)
 
   pub all_sized : length e.starts.items ≡ length e.heads.items + 1 → IsSized e w
   all_sized starts = record {

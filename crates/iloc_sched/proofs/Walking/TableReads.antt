@@ -1,16 +1,12 @@
 -- What is read of the tables is what their views say; for `Waiting::pass`.
 use Rattle.std.proofs.Common.{◌≡◌, ℕ, ◌<◌, length, get_or, sym, ◌∙◌, ap, arith}
-use Rattle.std.proofs.lemmas.List.{length-map, get_or_read, get_or-map}
+use Rattle.std.proofs.lemmas.List.{length-map, get_or-map}
 use Rattle.iloc_sched.specs.declared.edges.Edge.{Edge}
 use Rattle.iloc_sched.specs.declared.edges.Edges.{Edges}
 use Rattle.iloc_sched.specs.declared.cycle.waiting.OperationState.{OperationState}
 use Rattle.iloc_sched.specs.declared.cycle.waiting.Waiting.{Waiting}
 use Rattle.iloc_sched.specs.Steps.Graph.{IsGraph}
-use Rattle.iloc_sched.specs.Steps.Views.{no_edge, edge_at, graph_of, issued_list, unmet_list, earliest_list, progress_of, IsSized}
-
-pub edge_read : (e : Edges) (x : ℕ) (edge : Edge) → x < length e.edges.items → edge ≡ get_or e.edges.items x edge
-    → edge ≡ edge_at e x
-edge_read e x edge below is = get_or_read e.edges.items x edge below is no_edge
+use Rattle.iloc_sched.specs.Steps.Views.{edge_at, graph_of, issued_list, unmet_list, earliest_list, progress_of, IsSized}
 
 module _ (e : Edges) (w : Waiting) (sized : IsSized e w) where
   pub issued_size : length (issued_list w) ≡ length e.heads.items

@@ -1,8 +1,6 @@
-use Rattle.std.proofs.Common.{◌≡◌, subst}
+use Rattle.std.proofs.Common.{subst}
 use Rattle.std.proofs.lemmas.Result.{on_ok_weaker}
-use Rattle.iloc_meaning.specs.Trace.{op_at}
 use Rattle.iloc_timed.specs.declared.kind.Kind.TheVariants as K
-use Rattle.iloc_timed.specs.Kinds.{kind}
 use Rattle.iloc_sched.specs.Steps.Members.{In}
 use Rattle.iloc_sched.specs.Steps.PartialGraph.{AddsFrom}
 use Rattle.iloc_sched.specs.Steps.Views.{graph_of}
@@ -11,72 +9,48 @@ use Rattle.iloc_sched.proofs.Graph.AddedEdges.{memory_load, memory_output, memor
 use Rattle.iloc_sched.proofs.edges.Edges.add_memory.Goals as goal
 
 pub returns-in-Load-clause-grows : goal.returns-in-Load-clause-grows
-returns-in-Load-clause-grows c =
-    let kind_is : kind (op_at c.args.operations.now.ops.now c.args.j) ≡ K.Load =
-    kind_read c.args.operations.now.ops.now c.args.operations.now.kinds.now c.args.j K.Load _ c.requires.next.kinds_known
-    c.requires.next.there c.in-Load.is in
-    on_ok_weaker c.add_from.result
-    (λ adds. (memory_load c.args.latencies.now c.args.operations.now.ops.now c.args.lasts.now c.args.j c.requires.next.known
-    c.requires.next.there (graph_of c.args.self.now) (graph_of c.add_from.new.self) c.requires.partial kind_is adds).0)
+returns-in-Load-clause-grows c = on_ok_weaker c.add_from.result
+    (λ adds. (memory_load _ _ _ _ c.requires.next.known c.requires.next.there _ (graph_of c.add_from.new.self)
+    c.requires.partial (kind_read _ _ _ K.Load _ c.requires.next.kinds_known c.requires.next.there c.in-Load.is) adds).0)
     c.add_from.ensures.adds
 
 pub returns-in-Load-clause-covers : goal.returns-in-Load-clause-covers
-returns-in-Load-clause-covers c =
-    let kind_is : kind (op_at c.args.operations.now.ops.now c.args.j) ≡ K.Load =
-    kind_read c.args.operations.now.ops.now c.args.operations.now.kinds.now c.args.j K.Load _ c.requires.next.kinds_known
-    c.requires.next.there c.in-Load.is in
-    on_ok_weaker c.add_from.result
-    (λ adds. (memory_load c.args.latencies.now c.args.operations.now.ops.now c.args.lasts.now c.args.j c.requires.next.known
-    c.requires.next.there (graph_of c.args.self.now) (graph_of c.add_from.new.self) c.requires.partial kind_is adds).1)
+returns-in-Load-clause-covers c = on_ok_weaker c.add_from.result
+    (λ adds. (memory_load _ _ _ _ c.requires.next.known c.requires.next.there _ (graph_of c.add_from.new.self)
+    c.requires.partial (kind_read _ _ _ K.Load _ c.requires.next.kinds_known c.requires.next.there c.in-Load.is) adds).1)
     c.add_from.ensures.adds
 
 pub returns-in_ok-add_from-in-Output-clause-grows : goal.returns-in_ok-add_from-in-Output-clause-grows
-returns-in_ok-add_from-in-Output-clause-grows c =
-    let kind_is : kind (op_at c.args.operations.now.ops.now c.args.j) ≡ K.Output =
-    kind_read c.args.operations.now.ops.now c.args.operations.now.kinds.now c.args.j K.Output _ c.requires.next.kinds_known
-    c.requires.next.there c.in-Output.is in
-    on_ok_weaker c.add_from-in-Output-2.result
-    (λ adds. (memory_output c.args.latencies.now c.args.operations.now.ops.now c.args.lasts.now c.args.j c.requires.next.known
-    c.requires.next.there (graph_of c.args.self.now) (graph_of c.add_from-in-Output.new.self)
-    (graph_of c.add_from-in-Output-2.new.self) c.requires.partial kind_is c.in_ok-add_from-in-Output.ensures.adds
-    adds).0)
+returns-in_ok-add_from-in-Output-clause-grows c = on_ok_weaker c.add_from-in-Output-2.result
+    (λ adds. (memory_output _ _ _ _ c.requires.next.known c.requires.next.there _ (graph_of c.add_from-in-Output.new.self)
+    (graph_of c.add_from-in-Output-2.new.self) c.requires.partial
+    (kind_read _ _ _ K.Output _ c.requires.next.kinds_known c.requires.next.there c.in-Output.is)
+    c.in_ok-add_from-in-Output.ensures.adds adds).0)
     c.add_from-in-Output-2.ensures.adds
 
 pub returns-in_ok-add_from-in-Output-clause-covers : goal.returns-in_ok-add_from-in-Output-clause-covers
-returns-in_ok-add_from-in-Output-clause-covers c =
-    let kind_is : kind (op_at c.args.operations.now.ops.now c.args.j) ≡ K.Output =
-    kind_read c.args.operations.now.ops.now c.args.operations.now.kinds.now c.args.j K.Output _ c.requires.next.kinds_known
-    c.requires.next.there c.in-Output.is in
-    on_ok_weaker c.add_from-in-Output-2.result
-    (λ adds. (memory_output c.args.latencies.now c.args.operations.now.ops.now c.args.lasts.now c.args.j c.requires.next.known
-    c.requires.next.there (graph_of c.args.self.now) (graph_of c.add_from-in-Output.new.self)
-    (graph_of c.add_from-in-Output-2.new.self) c.requires.partial kind_is c.in_ok-add_from-in-Output.ensures.adds
-    adds).1)
+returns-in_ok-add_from-in-Output-clause-covers c = on_ok_weaker c.add_from-in-Output-2.result
+    (λ adds. (memory_output _ _ _ _ c.requires.next.known c.requires.next.there _ (graph_of c.add_from-in-Output.new.self)
+    (graph_of c.add_from-in-Output-2.new.self) c.requires.partial
+    (kind_read _ _ _ K.Output _ c.requires.next.kinds_known c.requires.next.there c.in-Output.is)
+    c.in_ok-add_from-in-Output.ensures.adds adds).1)
     c.add_from-in-Output-2.ensures.adds
 
 pub returns-in_ok-add_from-in-Store-2-clause-grows : goal.returns-in_ok-add_from-in-Store-2-clause-grows
-returns-in_ok-add_from-in-Store-2-clause-grows c =
-    let kind_is : kind (op_at c.args.operations.now.ops.now c.args.j) ≡ K.Store =
-    kind_read c.args.operations.now.ops.now c.args.operations.now.kinds.now c.args.j K.Store _ c.requires.next.kinds_known
-    c.requires.next.there c.in-Store.is in
-    on_ok_weaker c.add_each.result
-    (λ adds. (memory_store c.args.latencies.now c.args.operations.now.ops.now c.args.lasts.now c.args.j c.requires.next.known
-    c.requires.next.there (graph_of c.args.self.now) (graph_of c.add_from-in-Store.new.self)
-    (graph_of c.add_from-in-Store-2.new.self) (graph_of c.add_each.new.self) c.requires.partial kind_is
+returns-in_ok-add_from-in-Store-2-clause-grows c = on_ok_weaker c.add_each.result
+    (λ adds. (memory_store _ _ _ _ c.requires.next.known c.requires.next.there _ (graph_of c.add_from-in-Store.new.self)
+    (graph_of c.add_from-in-Store-2.new.self) (graph_of c.add_each.new.self) c.requires.partial
+    (kind_read _ _ _ K.Store _ c.requires.next.kinds_known c.requires.next.there c.in-Store.is)
     c.in_ok-add_from-in-Store.ensures.adds c.in_ok-add_from-in-Store-2.ensures.adds
     (subst (λ xs. AddsFrom (In xs) (graph_of c.add_from-in-Store-2.new.self) (graph_of c.add_each.new.self) c.args.j
     1) c.deref.ensures.value adds)).0)
     c.add_each.ensures.adds
 
 pub returns-in_ok-add_from-in-Store-2-clause-covers : goal.returns-in_ok-add_from-in-Store-2-clause-covers
-returns-in_ok-add_from-in-Store-2-clause-covers c =
-    let kind_is : kind (op_at c.args.operations.now.ops.now c.args.j) ≡ K.Store =
-    kind_read c.args.operations.now.ops.now c.args.operations.now.kinds.now c.args.j K.Store _ c.requires.next.kinds_known
-    c.requires.next.there c.in-Store.is in
-    on_ok_weaker c.add_each.result
-    (λ adds. (memory_store c.args.latencies.now c.args.operations.now.ops.now c.args.lasts.now c.args.j c.requires.next.known
-    c.requires.next.there (graph_of c.args.self.now) (graph_of c.add_from-in-Store.new.self)
-    (graph_of c.add_from-in-Store-2.new.self) (graph_of c.add_each.new.self) c.requires.partial kind_is
+returns-in_ok-add_from-in-Store-2-clause-covers c = on_ok_weaker c.add_each.result
+    (λ adds. (memory_store _ _ _ _ c.requires.next.known c.requires.next.there _ (graph_of c.add_from-in-Store.new.self)
+    (graph_of c.add_from-in-Store-2.new.self) (graph_of c.add_each.new.self) c.requires.partial
+    (kind_read _ _ _ K.Store _ c.requires.next.kinds_known c.requires.next.there c.in-Store.is)
     c.in_ok-add_from-in-Store.ensures.adds c.in_ok-add_from-in-Store-2.ensures.adds
     (subst (λ xs. AddsFrom (In xs) (graph_of c.add_from-in-Store-2.new.self) (graph_of c.add_each.new.self) c.args.j
     1) c.deref.ensures.value adds)).1)

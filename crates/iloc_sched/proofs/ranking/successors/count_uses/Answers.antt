@@ -1,11 +1,10 @@
-use Rattle.std.proofs.Common.{ℕ, ◌≡◌, ◌+◌, ◌<◌, ◌≤◌, List, length, map, set, get_or, refl, sym, ◌∙◌, ap, subst, arith}
+use Rattle.std.proofs.Common.{ℕ, ◌≡◌, ◌+◌, ◌<◌, ◌≤◌, length, set, get_or, refl, sym, ◌∙◌, ap, subst, arith}
 use Rattle.std.specs.Global.{Vec}
 use Rattle.std.proofs.lemmas.List.{get_or_read, length-set}
-use Rattle.iloc_ops.specs.declared.op.Op.{Op}
 use Rattle.iloc_sched.specs.declared.edges.Edge.{Edge}
-use Rattle.iloc_sched.specs.Steps.Graph.{Graph, IsGraphOf}
+use Rattle.iloc_sched.specs.Steps.Graph.{Graph}
 use Rattle.iloc_sched.specs.Steps.Successors.{IsCounting}
-use Rattle.iloc_sched.specs.Steps.Views.{graph_of, edge_at}
+use Rattle.iloc_sched.specs.Steps.Views.{graph_of}
 use Rattle.iloc_sched.proofs.PriorityValues.UsesCounted.{none_counting, into_j, skipped, counts, before_count, all_counting}
 use Rattle.iloc_sched.proofs.ranking.successors.count_uses.Goals as goal
 use Rattle.iloc_sched.proofs.ranking.successors.count_uses.Goals.{then-adds_one, else-adds_one}
