@@ -15,7 +15,7 @@ use Rattle.iloc_sched.specs.declared.cycle.calendar.TheConstants.{LONGEST_DELAY}
 use Rattle.iloc_sched.specs.declared.ranking.heuristic.Heuristic.{Heuristic}
 use Rattle.iloc_judge.specs.declared.explained.ExplainedRows.{ExplainedRows}
 use Rattle.iloc_judge.specs.RowsExplained.{IsRowsExplanation}
-use Rattle.iloc_farm.specs.Commands.ExplainRows.{ExplainsRows, IsTold, Told, told_entries}
+use Rattle.iloc_farm.specs.Commands.ExplainRows.{ExplainsRows, IsExplainedBlock, ExplainedBlock, explained_entries}
 use Rattle.iloc_farm.specs.Fault.{finding_of}
 use Rattle.iloc_farm.specs.Listing.{block_head, total_of}
 use Rattle.iloc_farm.specs.Steps.Limits.{most_proposed_cycles}
@@ -32,21 +32,21 @@ few_told heuristic lat block p one text is few =
     let within : cycles lat p.ops p.rows ≤ length p.rows + LONGEST_DELAY = cycles_within lat p.ops p.rows in
     omega arith
 
-found_more : (ts : List Told) (t : Told) → with_rows (found_of ts) t.found ≡ found_of (ts ++ t ∷ [])
+found_more : (ts : List ExplainedBlock) (t : ExplainedBlock) → with_rows (found_of ts) t.found ≡ found_of (ts ++ t ∷ [])
 found_more ts t =
     let blocks : length ts + 1 ≡ length (ts ++ t ∷ []) = omega (arith, length-append ts (t ∷ [])) in
-    let theirs = sym (sum_more (λ (x : Told). x.found.cycles) ts t) in
-    let lawful = sym (all_more (λ (x : Told). x.found.is_lawful) ts t) in
+    let theirs = sym (sum_more (λ (x : ExplainedBlock). x.found.cycles) ts t) in
+    let lawful = sym (all_more (λ (x : ExplainedBlock). x.found.is_lawful) ts t) in
     λ i. record { blocks = blocks i; cycles = theirs i; all_lawful = lawful i }
 
-entries_more : (k n : ℕ) (ts : List Told) (t : Told) → k + length ts ≡ n
-    → told_entries k (ts ++ t ∷ []) ≡ told_entries k ts ++ (block_head n t.block.name ++ codes "\n" ++ t.text)
+entries_more : (k n : ℕ) (ts : List ExplainedBlock) (t : ExplainedBlock) → k + length ts ≡ n
+    → explained_entries k (ts ++ t ∷ []) ≡ explained_entries k ts ++ (block_head n t.block.name ++ codes "\n" ++ t.text)
 entries_more k n [] t at =
     append-nil (block_head k t.block.name ++ codes "\n" ++ t.text)
     ∙ ap (λ m. block_head m t.block.name ++ codes "\n" ++ t.text) (let same : k ≡ n = omega arith in same)
 entries_more k n (u ∷ ts) t at =
     ap (λ rest. block_head k u.block.name ++ codes "\n" ++ u.text ++ rest) (entries_more (k + 1) n ts t (omega arith))
-    ∙ sym (append_assoc (block_head k u.block.name ++ codes "\n" ++ u.text) (told_entries (k + 1) ts)
+    ∙ sym (append_assoc (block_head k u.block.name ++ codes "\n" ++ u.text) (explained_entries (k + 1) ts)
     (block_head n t.block.name ++ codes "\n" ++ t.text))
 
 joined : (text head line entry : List ℕ) → ((text ++ head) ++ line) ++ entry ≡ text ++ ((head ++ line) ++ entry)
@@ -57,20 +57,20 @@ module _ (heuristic : Heuristic) (lat : Latencies) (blocks : List Block) (propos
       (so_far : IsToldTo heuristic lat blocks proposals left text found) where
     -- the next proposal is one of all
     whole : map (λ t. t.proposal) so_far.told ++ p ∷ rest ≡ proposals
-    whole = ap (λ ps. map (λ (t : Told). t.proposal) so_far.told ++ ps) (sym next) ∙ so_far.of_proposals
+    whole = ap (λ ps. map (λ (t : ExplainedBlock). t.proposal) so_far.told ++ ps) (sym next) ∙ so_far.of_proposals
 
     pub told_of_next : (P : Proposal → Type 0) → AllByRecursion P proposals → P p
     told_of_next P all =
-        middle P (map (λ (t : Told). t.proposal) so_far.told) rest p (subst (AllByRecursion P) (sym whole) all)
+        middle P (map (λ (t : ExplainedBlock). t.proposal) so_far.told) rest p (subst (AllByRecursion P) (sym whole) all)
 
     -- and there is a block for it
     pub block_to_tell : length proposals ≡ length blocks → found.blocks < length blocks
     block_to_tell as_many =
-        let many : length (map (λ (t : Told). t.proposal) so_far.told ++ p ∷ rest) ≡ length proposals =
+        let many : length (map (λ (t : ExplainedBlock). t.proposal) so_far.told ++ p ∷ rest) ≡ length proposals =
         ap length whole in
-        let both = length-append (map (λ (t : Told). t.proposal) so_far.told) (p ∷ rest) in
-        let told : length (map (λ (t : Told). t.proposal) so_far.told) ≡ length so_far.told =
-        length-map so_far.told (λ (t : Told). t.proposal) in
+        let both = length-append (map (λ (t : ExplainedBlock). t.proposal) so_far.told) (p ∷ rest) in
+        let told : length (map (λ (t : ExplainedBlock). t.proposal) so_far.told) ≡ length so_far.told =
+        length-map so_far.told (λ (t : ExplainedBlock). t.proposal) in
         let count : found.blocks ≡ length so_far.told = ap (λ (f : Found). f.blocks) so_far.sums in
         omega arith
 
@@ -85,8 +85,8 @@ module _ (heuristic : Heuristic) (lat : Latencies) (blocks : List Block) (propos
         → more ≡ ((text ++ block_head (found.blocks + 1) b.name) ++ codes "\n") ++ entry → sums ≡ with_rows found one
         → IsToldTo heuristic lat blocks proposals rest more sums
     one_told b one more entry sums within read is short pushed added =
-        let ts : List Told = so_far.told in
-        let t : Told = record { block = b; proposal = p; found = one; text = entry } in
+        let ts : List ExplainedBlock = so_far.told in
+        let t : ExplainedBlock = record { block = b; proposal = p; found = one; text = entry } in
         let count : found.blocks ≡ length ts = ap (λ (f : Found). f.blocks) so_far.sums in
         let at : length ts < length blocks = omega arith in
         let here : b ≡ get_or blocks (length ts) b = subst (λ (n : ℕ). b ≡ get_or blocks n b) count read in
@@ -102,11 +102,11 @@ module _ (heuristic : Heuristic) (lat : Latencies) (blocks : List Block) (propos
           told = ts ++ t ∷ [];
           sums = added ∙ (ap (λ f. with_rows f one) so_far.sums ∙ found_more ts t);
           few = omega arith;
-          of_blocks = map-append (λ (x : Told). x.block) ts (t ∷ [])
+          of_blocks = map-append (λ (x : ExplainedBlock). x.block) ts (t ∷ [])
               ∙ (ap (λ bs. bs ++ b ∷ []) so_far.of_blocks ∙ sym front);
-          of_proposals = ap (λ ps. ps ++ rest) (map-append (λ (x : Told). x.proposal) ts (t ∷ []))
-              ∙ (append_assoc (map (λ (x : Told). x.proposal) ts) (p ∷ []) rest ∙ whole);
-          right = All-push (IsTold heuristic lat) ts t so_far.right is;
+          of_proposals = ap (λ ps. ps ++ rest) (map-append (λ (x : ExplainedBlock). x.proposal) ts (t ∷ []))
+              ∙ (append_assoc (map (λ (x : ExplainedBlock). x.proposal) ts) (p ∷ []) rest ∙ whole);
+          right = All-push (IsExplainedBlock heuristic lat) ts t so_far.right is;
           listed = pushed ∙ (joined text (block_head (found.blocks + 1) b.name) (codes "\n") entry
               ∙ (ap₂ (λ xs n. xs ++ (block_head n b.name ++ codes "\n" ++ entry)) so_far.listed
               (let same : found.blocks + 1 ≡ 1 + length ts = omega arith in same)
@@ -122,7 +122,7 @@ module _ (heuristic : Heuristic) (lat : Latencies) (blocks : List Block) (propos
     few = let cycles : found.cycles ≡ 0 = ap (λ (f : Found). f.cycles) none in omega arith;
     of_blocks = refl;
     of_proposals = all;
-    right = All-nil (IsTold heuristic lat);
+    right = All-nil (IsExplainedBlock heuristic lat);
     listed = empty;
   }
 
@@ -133,11 +133,11 @@ module _ (heuristic : Heuristic) (lat : Latencies) (blocks : List Block) (propos
       → ExplainsRows heuristic lat blocks proposals (finding_of found.all_lawful) more
   all_told (p ∷ left) text more found none as_many so_far pushed = absurd (omega arith)
   all_told [] text more found none as_many so_far pushed =
-      let ts : List Told = so_far.told in
-      let theirs : map (λ (t : Told). t.proposal) ts ≡ proposals =
-      sym (append-nil (map (λ (t : Told). t.proposal) ts)) ∙ so_far.of_proposals in
+      let ts : List ExplainedBlock = so_far.told in
+      let theirs : map (λ (t : ExplainedBlock). t.proposal) ts ≡ proposals =
+      sym (append-nil (map (λ (t : ExplainedBlock). t.proposal) ts)) ∙ so_far.of_proposals in
       let many : length ts ≡ length blocks =
-      sym (length-map ts (λ (t : Told). t.proposal)) ∙ (ap length theirs ∙ as_many) in
+      sym (length-map ts (λ (t : ExplainedBlock). t.proposal)) ∙ (ap length theirs ∙ as_many) in
       let every : take (length ts) blocks ≡ blocks = take_all (length ts) blocks (omega arith) in
       record {
         told = ts;
