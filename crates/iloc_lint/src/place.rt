@@ -5,7 +5,7 @@ ghost use Rattle.iloc_text.specs.Grammar.{is_blank, is_word_byte};
 ghost use Rattle.iloc_lint.specs.Place.{IsPlace};
 ghost use Rattle.iloc_lint.specs.Steps.Longest.{Called, Longest, NumberAt, PartAt, RegisterAt, Rest, SignAt, alternate, blanks_in, comment_in, common_in, digits_in, label_in, parts, word_in};
 
-use iloc_ops::{Opcode, Operands, form_of, op_of};
+use iloc_ops::{OPCODES, Opcode, Operands, form_of, op_of};
 use iloc_text::MAX_NUMBER;
 
 /// A part of an operation after its opcode.
@@ -24,27 +24,6 @@ pub enum Part {
 }
 
 use Part::{Arrow, Comma, Constant, Register, Space};
-
-/// All opcodes.
-pub const OPCODES: [Opcode; 17] = [
-    Opcode::LoadI,
-    Opcode::Load,
-    Opcode::Store,
-    Opcode::Add,
-    Opcode::Sub,
-    Opcode::Mult,
-    Opcode::Lshift,
-    Opcode::Rshift,
-    Opcode::Output,
-    Opcode::Nop,
-    Opcode::AddI,
-    Opcode::SubI,
-    Opcode::MultI,
-    Opcode::LshiftI,
-    Opcode::RshiftI,
-    Opcode::LoadAI,
-    Opcode::StoreAI,
-];
 
 /// The parts after an opcode.
 pub fn parts_of(opcode: Opcode) -> &'static [Part]

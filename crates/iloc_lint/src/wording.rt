@@ -2,10 +2,10 @@
 ghost use Rattle.std.specs.Prelude.{◌≤◌, ◌<◌, length};
 
 use crate::place::{
-    OPCODES, Part, Place, blanks_at, is_word_byte, label_at, operands_at, place_of, word_at,
+    Part, Place, blanks_at, is_word_byte, label_at, operands_at, place_of, word_at,
 };
 use crate::shown::push_shown;
-use iloc_ops::Opcode;
+use iloc_ops::{OPCODES, Opcode};
 use iloc_text::NoMemory;
 use std::alloc::Global;
 

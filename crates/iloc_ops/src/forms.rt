@@ -27,6 +27,27 @@ pub enum Opcode {
     StoreAI,
 }
 
+/// All opcodes.
+pub const OPCODES: [Opcode; 17] = [
+    Opcode::LoadI,
+    Opcode::Load,
+    Opcode::Store,
+    Opcode::Add,
+    Opcode::Sub,
+    Opcode::Mult,
+    Opcode::Lshift,
+    Opcode::Rshift,
+    Opcode::Output,
+    Opcode::Nop,
+    Opcode::AddI,
+    Opcode::SubI,
+    Opcode::MultI,
+    Opcode::LshiftI,
+    Opcode::RshiftI,
+    Opcode::LoadAI,
+    Opcode::StoreAI,
+];
+
 /// The operands of an operation: what follows its opcode.
 #[derive(Clone, Copy, Debug, PartialEq, Eq)]
 pub enum Operands {

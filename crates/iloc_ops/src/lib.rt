@@ -2,7 +2,6 @@
 #![tactic(auto)]
 
 mod column;
-mod decimal;
 mod file;
 mod forms;
 pub mod laws;
@@ -16,7 +15,7 @@ mod spelling;
 
 pub use column::push_column;
 pub use file::{Block, Blocks, IlocFile};
-pub use forms::{Opcode, Operands, form_of, op_of};
+pub use forms::{OPCODES, Opcode, Operands, form_of, op_of};
 pub use limits::{MAX_BLOCKS, MAX_INPUT, MAX_NUMBER, MAX_OPS};
 pub use name::Name;
 pub use no_memory::NoMemory;

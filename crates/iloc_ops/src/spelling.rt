@@ -8,11 +8,10 @@ ghost use Rattle.iloc_ops.specs.Spelling.{spelled_operands, spelling};
 ghost use Rattle.iloc_ops.specs.Operands.{operands_in};
 ghost use Rattle.iloc_ops.specs.declared.spelling.TheConstants.{LONGEST_OPERATION};
 
-use crate::decimal::write_number;
 use crate::forms::{Opcode, Operands, form_of};
 use crate::no_memory::NoMemory;
 use crate::op::{Op, Reg};
-use itoa::{Buffer, Integer};
+use itoa::{Buffer, Integer, write_digits};
 
 /// An operation is spelled in at most so many bytes.
 pub const LONGEST_OPERATION: usize = 64;
@@ -139,13 +138,14 @@ fn write_immediate(line: &mut [u8], end: usize, left: Reg, value: u32, dest: Reg
 
 /// Writes `lead` and the number so that they end at `end`, and gives where they start.
 #[inline(always)]
+#[tactic(auto, using(crate::proofs::ShortDecimals::decimal_is_short))]
 fn write_operand(line: &mut [u8], end: usize, lead: &[u8], number: u32) -> usize
     requires { (length lead.now + 10 ≤ end) × (end ≤ length line.old) }
     ensures space { (result ≤ end) × (end ≤ result + (length lead.now + 10)) }
     ensures length { length line.new ≡ length line.old }
     ensures written { drop result line.new ≡ lead.now ++ (decimal number ++ drop end line.old) }
 {
-    let start = write_number(line, end, number);
+    let start = write_digits(u64::from(number), line, end);
     write_text(line, start, lead)
 }
 

@@ -4,28 +4,7 @@ ghost use Rattle.iloc_ops.specs.Forms.{opcode_text};
 ghost use Rattle.iloc_ops.specs.Operands.{operands_in};
 ghost use Rattle.iloc_text.specs.Steps.Opcodes.{opcode_of, operands_of};
 
-use iloc_ops::{Opcode, Operands, form_of, op_of};
-
-/// All opcodes.
-const ALL: [Opcode; 17] = [
-    Opcode::LoadI,
-    Opcode::Load,
-    Opcode::Store,
-    Opcode::Add,
-    Opcode::Sub,
-    Opcode::Mult,
-    Opcode::Lshift,
-    Opcode::Rshift,
-    Opcode::Output,
-    Opcode::Nop,
-    Opcode::AddI,
-    Opcode::SubI,
-    Opcode::MultI,
-    Opcode::LshiftI,
-    Opcode::RshiftI,
-    Opcode::LoadAI,
-    Opcode::StoreAI,
-];
+use iloc_ops::{OPCODES, Opcode, Operands, form_of, op_of};
 
 /// The operands of an opcode, with 0 for each number.
 #[inline(always)]
@@ -39,7 +18,7 @@ pub fn shape_of(opcode: Opcode) -> Operands
 pub fn opcode_of(word: &[u8]) -> Option<Opcode>
     ensures { result ≡ opcode_of word.now }
 {
-    ALL.iter().copied().find(|opcode| opcode.text() == word)
+    OPCODES.iter().copied().find(|opcode| opcode.text() == word)
 }
 
 /// What follows the text, if the bytes begin with it.
