@@ -76,22 +76,20 @@ pub fn number_at(bytes: &[u8]) -> Option<(u32, &[u8])>
     }
 }
 
-/// A number within the limit and how many digits it has; no digits if there is none, or one of more than `MOST_DIGITS`
-/// digits, of which at most one more is looked at.
+/// A number within the limit and how many digits it has, if these are at most `MOST_DIGITS`: at most one more is looked at.
 #[cold]
 #[inline(never)]
-fn long_number_at(bytes: &[u8]) -> (u32, usize)
-    ensures is { 0 < result.1 → number_at bytes.now ≡ Some (result.0, drop result.1 bytes.now) }
-    ensures small { nat_lt result.0 ABOVE_LIMIT ≡ true }
-    ensures near { result.1 ≤ MOST_DIGITS }
-    ensures inside { result.1 ≤ length bytes.now }
+fn long_number_at(bytes: &[u8]) -> Option<(u32, usize)>
+    ensures is { IfSome result (λ found. number_at bytes.now ≡ Some (found.0, drop found.1 bytes.now)) }
+    ensures small { IfSome result (λ found. nat_lt found.0 ABOVE_LIMIT ≡ true) }
+    ensures near { IfSome result (λ found. found.1 ≤ MOST_DIGITS) }
 {
     let front = &bytes[..bytes.len().min(MOST_DIGITS + 1)];
     let (value, count) = with_digits(0, front);
-    if value < ABOVE_LIMIT && count <= MOST_DIGITS {
-        (value, count)
+    if 0 < count && count <= MOST_DIGITS && value < ABOVE_LIMIT {
+        Some((value, count))
     } else {
-        (0, 0)
+        None
     }
 }
 
@@ -148,12 +146,7 @@ pub fn fast_register_number_at(bytes: &[u8]) -> Option<(u32, usize)>
     if let Some(found) = two_digits_at(bytes) {
         return Some(found);
     }
-    let (value, count) = long_number_at(bytes);
-    if count == 0 {
-        None
-    } else {
-        Some((value, count))
-    }
+    long_number_at(bytes)
 }
 
 /// As `fast_register_number_at`, of a constant.
@@ -167,10 +160,5 @@ pub fn fast_number_at(bytes: &[u8]) -> Option<(u32, usize)>
     if let Some(found) = four_digits_at(bytes) {
         return Some(found);
     }
-    let (value, count) = long_number_at(bytes);
-    if count == 0 {
-        None
-    } else {
-        Some((value, count))
-    }
+    long_number_at(bytes)
 }
