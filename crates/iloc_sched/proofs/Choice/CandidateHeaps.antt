@@ -1,29 +1,20 @@
--- The candidates of a queue of ranks before and after a push, a look and a pop; for `Queue::insert`, `top`, `pop`.
-use Rattle.std.proofs.Common.{◌≡◌, ◌≢◌, ℕ, zero, suc, ◌-◌, ◌/◌, ◌%◌, ◌<◌, ◌≤◌, min, max, true, false, List, [], ◌∷◌, Some, inl, inr, refl, sym, ◌∙◌, ap, subst, arith}
+-- The candidates of one heap of ranks before and after a push, a look and a pop; for `Queue::insert`, `top_of`, `top`,
+-- `pop`.
+use Rattle.std.proofs.Common.{◌≡◌, ◌≢◌, ℕ, ◌-◌, ◌/◌, ◌%◌, ◌<◌, ◌≤◌, true, false, List, [], ◌∷◌, length, Some, inl, inr, refl, sym, ◌∙◌, ap, subst, arith}
 use Rattle.std.proofs.lemmas.Bool.Decides.{nat_tests}
-use Rattle.std.proofs.lemmas.List.Elements.{All-from_recursion, recursion_from_All}
-use Rattle.std.proofs.lemmas.List.Sorted.{All-permutation, Contains-permutation, IsPermutation-refl, IsPermutation-sym, IsPermutation-trans, IsPermutation-cons, IsPermutation-swap, IsPermutation-map}
+use Rattle.std.proofs.lemmas.List.Sorted.{Contains-permutation, IsPermutation-sym, IsPermutation-map}
 use Rattle.std.proofs.lemmas.Map.Keys.{IsDistinct-IsPermutation, IsDistinct-cons, IsDistinct-head, IsDistinct-tail}
 use Rattle.std.specs.List.{IsDistinct, AllByRecursion}
 use Rattle.std.specs.List.Sorted.{IsPermutation}
 use Rattle.std.specs.Ordering.{nat_cmp, is_lt}
+use Rattle.std.specs.Prelude.{slice_index, slice_index_or}
 use Rattle.std.specs.BinaryHeap.{IsUpperBound}
 use Rattle.iloc_sched.specs.declared.cycle.candidate.Candidate.{Candidate}
 use Rattle.iloc_sched.specs.Steps.Members.{In}
-use Rattle.iloc_sched.specs.Steps.Order.{rank, of_rank, by_rank, ranks_from, same_number, AreRanked, AreUpTo, IsFirst, IsGreatestRank}
+use Rattle.iloc_sched.specs.Steps.Order.{rank, of_rank, by_rank, same_number, AreRanked, AreUpTo, IsFirst, IsGreatestRank}
 use Rattle.iloc_sched.specs.Steps.Changes.{IsFirstOf, HasNone, Adds, Removes}
 use Rattle.iloc_sched.proofs.Basics.Cases.{by_lt}
 use Rattle.iloc_sched.proofs.Basics.Members.{contains_from, in_from}
-
-pub first_trans : (a b c : Candidate) → IsFirst a b → IsFirst b c → IsFirst a c
-first_trans a b c (inl above) (inl more) = inl (omega arith)
-first_trans a b c (inl above) (inr same) = inl (let e : b.priority ≡ c.priority = same.0 in omega arith)
-first_trans a b c (inr same) (inl more) = inl (let e : a.priority ≡ b.priority = same.0 in omega arith)
-first_trans a b c (inr same) (inr equal) = inr (
-  same.0 ∙ equal.0,
-  let l : a.number ≤ b.number = same.1 in
-      let m : b.number ≤ c.number = equal.1 in omega arith,
-)
 
 pub all_in : {X : Type 0} (P : X → Type 0) (xs : List X) (x : X) → AllByRecursion P xs → In xs x → P x
 all_in P [] x all there = absurd there
@@ -134,92 +125,35 @@ module _ (ranks ranks' : List ℕ) (r : ℕ) (moved : IsPermutation ranks (r ∷
         );
       }
 
-  pub popped_first : AreUpTo r ranks → IsFirstOf (by_rank ranks) (Some (of_rank r))
-  popped_first most = (
+  pub popped_first : IsUpperBound nat_cmp r ranks → IsFirstOf (by_rank ranks) (Some (of_rank r))
+  popped_first bound = (
     was_there (of_rank r) (inl refl),
     λ c held. in_ranks (λ d. IsFirst (of_rank r) d) ranks c held
-        (λ s there. greater_first r s (all_in (λ s. s ≤ r) ranks s most there)),
+        (λ s there. greater_first r s (all_in (λ s. s ≤ r) ranks s (up_to_bound ranks r bound) there)),
   )
 
--- the greatest apart from all others
-from_some : (top : ℕ) (rest : List ℕ) → 0 < top → ranks_from top rest ≡ top ∷ rest
-from_some zero rest some = absurd (omega arith)
-from_some (suc n) rest some = refl
+-- the greatest at hand
+pub none_up_to : (ranks : List ℕ) (n : ℕ) → n ≡ length ranks → (0 < n → ⊥) → AreUpTo 0 ranks
+none_up_to [] n size none = tt
+none_up_to (r ∷ ranks) n size none = absurd (none (omega arith))
 
-up_to_permutation : (top : ℕ) (ranks ranks' : List ℕ) → IsPermutation ranks ranks' → AreUpTo top ranks
-    → AreUpTo top ranks'
-up_to_permutation top ranks ranks' moved most =
-    recursion_from_All (λ r. r ≤ top) ranks' (All-permutation (λ r. r ≤ top) ranks ranks' moved
-    (All-from_recursion (λ r. r ≤ top) ranks most))
+pub none_first : (ranks : List ℕ) (n : ℕ) → n ≡ length ranks → (0 < n → ⊥) → 0 ≡ slice_index ranks 0
+none_first [] n size none = refl
+none_first (r ∷ ranks) n size none = absurd (none (omega arith))
 
-up_to_more : (top more : ℕ) (ranks : List ℕ) → top ≤ more → AreUpTo top ranks → AreUpTo more ranks
-up_to_more top more ranks above most = all_from (λ r. r ≤ more) ranks (λ r held.
-    let under : r ≤ top = all_in (λ r. r ≤ top) ranks r most held in omega arith)
+pub is_at_front : (ranks : List ℕ) (n top : ℕ) → n ≡ length ranks → 0 < n → top ≡ slice_index_or ranks 0 top
+    → top ≡ slice_index ranks 0
+is_at_front [] n top size some is = absurd (omega arith)
+is_at_front (r ∷ ranks) n top size some is = is
 
--- after a push the lower of the rank and the top is one of the others
-both_ranks : (r top : ℕ) (rest : List ℕ) → IsPermutation (r ∷ top ∷ rest) (max r top ∷ min r top ∷ rest)
-both_ranks r top rest = by_lt r top
-    (λ below. let least : min r top ≡ r = omega arith in let most : max r top ≡ top = omega arith in
-    rw least (rw most (IsPermutation-swap (r ∷ top ∷ rest) (top ∷ r ∷ rest) 0 1 (omega arith) (omega arith) refl)))
-    (λ not_below. let least : min r top ≡ top = omega arith in let most : max r top ≡ r = omega arith in
-    rw least (rw most (IsPermutation-refl (r ∷ top ∷ rest))))
-
-pub insert_moves : (r top lower higher : ℕ) (rest rest' : List ℕ) → 0 < r → lower ≡ min r top → higher ≡ max r top
-    → (top ≡ 0 → rest ≡ []) → (lower ≡ 0 → rest' ≡ rest) → (0 < lower → IsPermutation (lower ∷ rest) rest')
-    → IsPermutation (r ∷ ranks_from top rest) (ranks_from higher rest')
-insert_moves r zero lower higher rest rest' some least most none same moved =
-    let low : lower ≡ 0 = omega arith in
-    let high : higher ≡ r = omega arith in
-    rw high (rw (same low) (rw (none refl) (rw (from_some r [] some) (IsPermutation-refl (r ∷ [])))))
-insert_moves r (suc n) lower higher rest rest' some least most none same moved =
-    let pushed : IsPermutation (min r (suc n) ∷ rest) rest' =
-    subst (λ low. IsPermutation (low ∷ rest) rest') least (moved (omega arith)) in
-    rw most (rw (from_some (max r (suc n)) rest' (omega arith))
-    (IsPermutation-trans (r ∷ suc n ∷ rest) (max r (suc n) ∷ min r (suc n) ∷ rest) (max r (suc n) ∷ rest')
-    (both_ranks r (suc n) rest)
-    (IsPermutation-cons (max r (suc n)) (min r (suc n) ∷ rest) rest' pushed)))
-
-pub insert_up_to : (r top lower higher : ℕ) (rest rest' : List ℕ) → 0 < r → lower ≡ min r top → higher ≡ max r top
-    → (top ≡ 0 → rest ≡ []) → (lower ≡ 0 → rest' ≡ rest) → (0 < lower → IsPermutation (lower ∷ rest) rest')
-    → AreUpTo top rest → AreUpTo higher rest'
-insert_up_to r zero lower higher rest rest' some least most none same moved up_to =
-    rw (same (omega arith)) (rw (none refl) tt)
-insert_up_to r (suc n) lower higher rest rest' some least most none same moved up_to =
-    up_to_permutation higher (lower ∷ rest) rest' (moved (omega arith))
-    (omega (arith, least, most), up_to_more (suc n) higher rest (omega (arith, most)) up_to)
-
-pub above_rank : (c : Candidate) → c.number < 4294967295 → 0 < rank c
-above_rank c small = omega arith
-
--- each rank is above 0
-pub above_none : (ranks : List ℕ) → AreRanked (by_rank ranks) → AllByRecursion (λ r. 0 < r) ranks
-above_none [] ranked = tt
-above_none (r ∷ ranks) ranked =
-    (let small : 4294967295 - r % 4294967296 < 4294967295 = ranked.0 in omega arith, above_none ranks ranked.1)
-
--- the top is apart from all others, none of which is above it
-pub above_rest : (top : ℕ) (rest : List ℕ) → (top ≡ 0 → ⊥) → AreRanked (by_rank (ranks_from top rest))
-    → AllByRecursion (λ r. 0 < r) rest
-above_rest zero rest some ranked = absurd (some refl)
-above_rest (suc n) rest some ranked = above_none rest ranked.1
-
-pub up_to_all : (top : ℕ) (rest : List ℕ) → (top ≡ 0 → ⊥) → AreUpTo top rest → AreUpTo top (ranks_from top rest)
-up_to_all zero rest some most = absurd (some refl)
-up_to_all (suc n) rest some most = (omega arith, most)
-
-pub pop_moves : (top : ℕ) (rest ranks' : List ℕ) → (top ≡ 0 → ⊥) → IsPermutation rest ranks'
-    → IsPermutation (ranks_from top rest) (top ∷ ranks')
-pop_moves zero rest ranks' some moved = absurd (some refl)
-pop_moves (suc n) rest ranks' some moved = IsPermutation-cons (suc n) rest ranks' moved
-
-pub greatest_first : (rest : List ℕ) (top : ℕ) → AreRanked (by_rank (ranks_from top rest)) → AreUpTo top rest
-    → IsGreatestRank (In (by_rank (ranks_from top rest))) top
-greatest_first rest zero ranked most = record { above = λ c held. absurd held; one = inl refl }
-greatest_first rest (suc n) ranked most = record {
+pub greatest_first : (ranks : List ℕ) (top : ℕ) → AreRanked (by_rank ranks) → AreUpTo top ranks
+    → top ≡ slice_index ranks 0 → IsGreatestRank (In (by_rank ranks)) top
+greatest_first [] top ranked most same = record { above = λ c held. absurd held; one = inl same }
+greatest_first (r ∷ ranks) top ranked most same = record {
   above = λ c there. (
-    in_ranks (λ d. rank d ≤ suc n) (suc n ∷ rest) c there
-        (λ s held. subst (λ n'. n' ≤ suc n) (sym (rank_again s)) (all_in (λ s. s ≤ suc n) (suc n ∷ rest) s (omega arith, most) held)),
-    all_in (λ (d : Candidate). d.number < 4294967295) (by_rank (suc n ∷ rest)) c ranked there,
+    in_ranks (λ d. rank d ≤ top) (r ∷ ranks) c there
+        (λ s held. subst (λ n. n ≤ top) (sym (rank_again s)) (all_in (λ s. s ≤ top) (r ∷ ranks) s most held)),
+    all_in (λ (d : Candidate). d.number < 4294967295) (by_rank (r ∷ ranks)) c ranked there,
   );
-  one = inr (of_rank (suc n), inl refl, rank_again (suc n));
+  one = inr (of_rank r, inl refl, rank_again r ∙ sym same);
 }

@@ -8,7 +8,7 @@ use Rattle.iloc_sched.specs.declared.cycle.queue.Queue.{Queue}
 use Rattle.iloc_sched.specs.declared.cycle.queues.Queues.{Queues}
 use Rattle.iloc_sched.specs.declared.cycle.queues.Choice.{Choice}
 use Rattle.iloc_sched.specs.Steps.Members.{In}
-use Rattle.iloc_sched.specs.Steps.Order.{by_rank, ranks_from, IsFirst}
+use Rattle.iloc_sched.specs.Steps.Order.{by_rank, IsFirst}
 use Rattle.iloc_sched.specs.Steps.Classes.{is_excluded}
 
 -- the place of a class among the queues
@@ -18,13 +18,9 @@ place_of C.Product = 1
 place_of C.Output = 2
 place_of C.Rest = 3
 
--- the ranks that stand in a queue
-unfoldable pub ranks_of : Queue → List ℕ
-ranks_of u = ranks_from u.top (heap_items u.rest)
-
 -- by class the candidates that stand in its queue
 abbrev pub candidates_in : List Queue → Class → List Candidate
-candidates_in queues k = slice_index_or (map (λ (u : Queue). by_rank (ranks_of u)) queues) (place_of k) []
+candidates_in queues k = slice_index_or (map (λ (u : Queue). by_rank (heap_items u.heap)) queues) (place_of k) []
 
 -- the candidates of a class
 abbrev pub candidates : Queues → Class → List Candidate
