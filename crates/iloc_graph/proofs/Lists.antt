@@ -1,5 +1,5 @@
 -- Members of joined lists, and rising lists; for the other proofs.
-use Rattle.std.proofs.Common.{◌≡◌, ℕ, ◌<◌, suc, Bool, false, List, [], ◌∷◌, length, get_or, Option, Some, None, inl, inr, refl, ap, sym, ◌∙◌, subst, arith}
+use Rattle.std.proofs.Common.{◌≡◌, ℕ, ◌<◌, suc, Bool, false, List, [], ◌∷◌, length, get_or, Option, Some, None, inl, inr, refl, ap, sym, subst, arith}
 use Rattle.std.specs.Prelude.{Contains, option_to_list}
 use Rattle.std.specs.List.{AllPairs, flat_map, list_any}
 use Rattle.iloc_sched.specs.Steps.Members.{In}
@@ -43,38 +43,3 @@ rises_from (x ∷ xs) pairs = (
       omega arith,
   rises_from xs (λ i j d before within. pairs (suc i) (suc j) d (omega arith) (omega arith)),
 )
-
--- two rising lists with the same members are one
-pub rises_same : (xs ys : List ℕ) → Rises xs → Rises ys → ((z : ℕ) → In xs z → In ys z) → ((z : ℕ) → In ys z → In xs z)
-    → xs ≡ ys
-rises_same [] [] f g to from = refl
-rises_same [] (y ∷ ys) f g to from = absurd (from y (inl refl))
-rises_same (x ∷ xs) [] f g to from = absurd (to x (inl refl))
-rises_same (x ∷ xs) (y ∷ ys) f g to from =
-    ap (λ z. z ∷ xs) heads ∙ ap (λ zs. y ∷ zs) (rises_same xs ys f.1 g.1 rest_to rest_from)
-  where
-    heads : x ≡ y
-    heads = elim (to x (inl refl)) [
-      | inl here ↦ sym here
-      | inr there ↦
-          let high : y < x = g.0 x there in
-          elim (from y (inl refl)) [
-            | inl same ↦ absurd (omega arith)
-            | inr other ↦ let low : x < y = f.0 y other in
-                absurd (omega arith)
-          ]
-    ]
-
-    rest_to : (z : ℕ) → In xs z → In ys z
-    rest_to z there = elim (to z (inr there)) [
-      | inl here ↦ let high : x < z = f.0 z there in
-          absurd (omega (arith, heads))
-      | inr rest ↦ rest
-    ]
-
-    rest_from : (z : ℕ) → In ys z → In xs z
-    rest_from z there = elim (from z (inr there)) [
-      | inl here ↦ let high : y < z = g.0 z there in
-          absurd (omega (arith, heads))
-      | inr rest ↦ rest
-    ]

@@ -18,11 +18,12 @@ use Rattle.iloc_sched.specs.Steps.Members.{In}
 use Rattle.iloc_sched.proofs.Basics.LastOnes.{last_is, last_holds}
 use Rattle.iloc_sched.proofs.Basics.Members.{any_at, contains_from, from_any, from_append, from_filter, from_range, in_at, in_filter, in_from, in_left, in_range_from, in_right}
 use Rattle.iloc_sched.proofs.Basics.Registers.{is_register_same, is_register_from}
-use Rattle.iloc_sched.proofs.Basics.Rising.{rises_filter, rises_range}
+use Rattle.iloc_sched.proofs.Basics.Ordered.{ordered_filter}
+use Rattle.iloc_sched.proofs.Basics.Rising.{rises_range, rises_same}
 use Rattle.iloc_graph.specs.declared.preceding.Preceding.{Preceding}
 use Rattle.iloc_graph.specs.Nearest.{takes_over, is_taken_over, is_ordered, is_nearest, sources}
 use Rattle.iloc_graph.specs.Steps.Preceding.{AreLasts, IsInOrder, definer_of, ordered_before, waited_for}
-use Rattle.iloc_graph.proofs.Lists.{any_none, from_flat_map, from_option, in_flat_map, in_option, rises_from, rises_same}
+use Rattle.iloc_graph.proofs.Lists.{any_none, from_flat_map, from_option, in_flat_map, in_option, rises_from}
 
 not_true : (b : Bool) → (b ≡ true → ⊥) → b ≡ false
 not_true b not = by_bool b (λ t. absurd (not t)) (λ f. f)
@@ -193,7 +194,7 @@ module _ (ops : List Op) (n : ℕ) (lasts : Preceding) (are : AreLasts ops n las
       let here : IsInOrder (waited_for lasts (op_at ops n)) sorted =
       subst (λ o. IsInOrder (waited_for lasts o) sorted) is order in
       rises_same sorted (sources ops n) (rises_from sorted (AllPairs-from_increasing sorted here.rises))
-      (rises_filter (is_nearest ops n) (range_with_len 0 n) (rises_range 0 n))
+      (ordered_filter (λ (x y : ℕ). x < y) (is_nearest ops n) (range_with_len 0 n) (rises_range 0 n))
       (λ i there.
       let h = nearest_from i (in_from (waited_for lasts (op_at ops n)) i (here.from i (contains_from sorted i there))) in
       let before : i < n = h.0 in

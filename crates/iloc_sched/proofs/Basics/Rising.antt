@@ -1,20 +1,18 @@
 -- Lists of numbers that rise or fall, and a search down from n; for the choice, and for look-ups in a log.
-use Rattle.std.proofs.Common.{◌≡◌, ℕ, ◌+◌, ◌<◌, ◌≤◌, zero, suc, Bool, true, false, List, [], ◌∷◌, Some, None, ◌⊎◌, inl, inr, refl, ap, sym, ◌∙◌, arith}
-use Rattle.std.specs.Prelude.{filter, find}
+use Rattle.std.proofs.Common.{◌≡◌, ℕ, ◌+◌, ◌<◌, ◌≤◌, zero, suc, Bool, true, false, List, [], ◌∷◌, Some, None, ◌⊎◌, inl, inr, refl, ap, sym, ◌∙◌, subst, arith}
+use Rattle.std.specs.Prelude.{find}
 use Rattle.std.specs.List.{range_with_len}
 use Rattle.std.proofs.lemmas.Bool.{cases_eq}
 use Rattle.iloc_meaning.proofs.Cases.{by_bool}
 use Rattle.iloc_sched.specs.Steps.Members.{In}
-use Rattle.iloc_sched.proofs.Basics.Members.{from_filter, from_range}
+use Rattle.iloc_sched.proofs.Basics.Members.{from_range}
 use Rattle.iloc_sched.proofs.Basics.Ordered.{Ordered}
 
 abbrev pub Rises : List ℕ → Type 0
-Rises [] = Unit {0}
-Rises (x ∷ xs) = ((y : ℕ) → In xs y → x < y) × Rises xs
+Rises = Ordered (λ x y. x < y)
 
 abbrev pub Falls : List ℕ → Type 0
-Falls [] = Unit {0}
-Falls (x ∷ xs) = ((y : ℕ) → In xs y → y < x) × Falls xs
+Falls = Ordered (λ x y. y < x)
 
 pub rises_range : (a n : ℕ) → Rises (range_with_len a n)
 rises_range a zero = tt
@@ -23,54 +21,47 @@ rises_range a (suc n) = (
   rises_range (a + 1) n,
 )
 
-pub rises_filter : (p : ℕ → Bool) (xs : List ℕ) → Rises xs → Rises (filter p xs)
-rises_filter p [] r = tt
-rises_filter p (x ∷ xs) r =
-    by_bool (p x)
-    (λ t. rw t ((λ y there. r.0 y (from_filter p xs y there).0), rises_filter p xs r.1))
-    (λ t. rw t (rises_filter p xs r.1))
-
-pub falls_filter : (p : ℕ → Bool) (xs : List ℕ) → Falls xs → Falls (filter p xs)
-falls_filter p [] f = tt
-falls_filter p (x ∷ xs) f =
-    by_bool (p x)
-    (λ t. rw t ((λ y there. f.0 y (from_filter p xs y there).0), falls_filter p xs f.1))
-    (λ t. rw t (falls_filter p xs f.1))
-
--- two falling lists with the same members are one
-pub falls_same : (xs ys : List ℕ) → Falls xs → Falls ys → ((z : ℕ) → In xs z → In ys z) → ((z : ℕ) → In ys z → In xs z)
-    → xs ≡ ys
-falls_same [] [] f g to from = refl
-falls_same [] (y ∷ ys) f g to from = absurd (from y (inl refl))
-falls_same (x ∷ xs) [] f g to from = absurd (to x (inl refl))
-falls_same (x ∷ xs) (y ∷ ys) f g to from =
-    ap (λ z. z ∷ xs) heads ∙ ap (λ zs. y ∷ zs) (falls_same xs ys f.1 g.1 rest_to rest_from)
+-- two lists that one asymmetric relation orders are one if they have the same members
+same_ordered : (R : ℕ → ℕ → Type 0) → ((x y : ℕ) → R x y → R y x → ⊥) → (xs ys : List ℕ) → Ordered R xs → Ordered R ys
+    → ((z : ℕ) → In xs z → In ys z) → ((z : ℕ) → In ys z → In xs z) → xs ≡ ys
+same_ordered R apart [] [] f g to from = refl
+same_ordered R apart [] (y ∷ ys) f g to from = absurd (from y (inl refl))
+same_ordered R apart (x ∷ xs) [] f g to from = absurd (to x (inl refl))
+same_ordered R apart (x ∷ xs) (y ∷ ys) f g to from =
+    ap (λ z. z ∷ xs) heads ∙ ap (λ zs. y ∷ zs) (same_ordered R apart xs ys f.1 g.1 rest_to rest_from)
   where
     heads : x ≡ y
     heads = elim (to x (inl refl)) [
       | inl here ↦ sym here
-      | inr there ↦
-          let low : x < y = g.0 x there in
-          elim (from y (inl refl)) [
-            | inl same ↦ absurd (omega arith)
-            | inr other ↦ let high : y < x = f.0 y other in
-                absurd (omega arith)
-          ]
+      | inr there ↦ elim (from y (inl refl)) [
+        | inl same ↦ same
+        | inr other ↦ absurd (apart x y (f.0 y other) (g.0 x there))
+      ]
     ]
 
     rest_to : (z : ℕ) → In xs z → In ys z
     rest_to z there = elim (to z (inr there)) [
-      | inl here ↦ let low : z < x = f.0 z there in
-          absurd (omega (arith, heads))
+      | inl here ↦
+          let again : R x x = subst (R x) (sym here ∙ sym heads) (f.0 z there) in
+          absurd (apart x x again again)
       | inr rest ↦ rest
     ]
 
     rest_from : (z : ℕ) → In ys z → In xs z
     rest_from z there = elim (from z (inr there)) [
-      | inl here ↦ let low : z < y = g.0 z there in
-          absurd (omega (arith, heads))
+      | inl here ↦
+          let again : R y y = subst (R y) (sym here ∙ heads) (g.0 z there) in
+          absurd (apart y y again again)
       | inr rest ↦ rest
     ]
+
+pub rises_same : (xs ys : List ℕ) → Rises xs → Rises ys → ((z : ℕ) → In xs z → In ys z) → ((z : ℕ) → In ys z → In xs z)
+    → xs ≡ ys
+rises_same = same_ordered (λ x y. x < y) (λ x y (less : x < y) (more : y < x). omega arith)
+
+pub falls_same : (xs ys : List ℕ) → Falls xs → Falls ys → ((z : ℕ) → In xs z → In ys z) → ((z : ℕ) → In ys z → In xs z)
+    → xs ≡ ys
+falls_same = same_ordered (λ x y. y < x) (λ x y (more : y < x) (less : x < y). omega arith)
 
 -- the numbers below n, the greatest first
 abbrev pub countdown : ℕ → List ℕ

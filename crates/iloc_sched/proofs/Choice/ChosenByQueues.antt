@@ -1,5 +1,5 @@
 -- The choice of a cycle by the queues is the choice of the definition; for `Waiting::step`.
-use Rattle.std.proofs.Common.{◌≡◌, ◌≢◌, ℕ, ◌+◌, ◌==◌, ◌&&◌, ◌||◌, not, Bool, true, false, if◌then◌else◌, List, length, Option, Some, None, refl, sym, ◌∙◌, ap, subst, arith}
+use Rattle.std.proofs.Common.{◌≡◌, ◌<◌, ◌≢◌, ℕ, ◌+◌, ◌==◌, ◌&&◌, ◌||◌, not, Bool, true, false, if◌then◌else◌, List, length, Option, Some, None, refl, sym, ◌∙◌, ap, subst, arith}
 use Rattle.std.proofs.lemmas.Bool.Decides.{nat_tests}
 use Rattle.std.specs.Prelude.{filter}
 use Rattle.iloc_meaning.specs.Trace.{op_at}
@@ -24,7 +24,7 @@ use Rattle.iloc_sched.specs.Steps.Progress.{MatchesRows}
 use Rattle.iloc_sched.specs.Steps.Views.{graph_of, progress_of}
 use Rattle.iloc_sched.specs.Steps.SoFar.{class_at, IsPlan, IsUnderWay, number_of, is_memory_choice, row_with}
 use Rattle.iloc_sched.proofs.Basics.Members.{in_filter, from_filter}
-use Rattle.iloc_sched.proofs.Basics.Rising.{rises_filter}
+use Rattle.iloc_sched.proofs.Basics.Ordered.{ordered_filter}
 use Rattle.iloc_sched.proofs.Choice.Ready.{ready_rises}
 use Rattle.iloc_sched.proofs.Choice.FirstOfAll.{first_is, first_none}
 use Rattle.iloc_meaning.proofs.Cases.{by_bool}
@@ -186,7 +186,7 @@ module _ (p : Plan) (w : Waiting) (q : Queues) (rows : List Row) (plan : IsPlan 
         (under.queued.only b.class b.candidate (takes.was b.class b.candidate best.0.1).0).2 in
         first_is p.priorities.items (filter beside (ready p.latencies p.ops.items rows (length rows)))
         b.candidate.number
-        (rises_filter beside (ready p.latencies p.ops.items rows (length rows))
+        (ordered_filter (λ (x y : ℕ). x < y) beside (ready p.latencies p.ops.items rows (length rows))
         (ready_rises p.latencies p.ops.items rows (length rows)))
         (open_left b.class b.candidate best.0.0 best.0.1)
         (λ j held.

@@ -13,7 +13,8 @@ use Rattle.iloc_sched.specs.Delays.{delays, IsDelayPair}
 use Rattle.iloc_sched.specs.Greedy.{is_ready, ready}
 use Rattle.iloc_sched.specs.Steps.Members.{In}
 use Rattle.iloc_sched.proofs.Basics.Members.{contains_from, in_from, in_filter, from_filter, all_from, from_all, in_range_from, from_range}
-use Rattle.iloc_sched.proofs.Basics.Rising.{Rises, rises_filter, rises_range}
+use Rattle.iloc_sched.proofs.Basics.Ordered.{ordered_filter}
+use Rattle.iloc_sched.proofs.Basics.Rising.{Rises, rises_range}
 use Rattle.iloc_sched.proofs.DelayPairs.DelayBounds.{delay_at_least}
 use Rattle.iloc_sched.proofs.Basics.IssueCycles.{issue_cycle_front, issue_cycle_back}
 
@@ -67,7 +68,7 @@ ready_from lat ops rows c i is =
     })))))
 
 pub ready_rises : (lat : Latencies) (ops : List Op) (rows : List Row) (c : ℕ) → Rises (ready lat ops rows c)
-ready_rises lat ops rows c = rises_filter (is_ready lat ops rows c) (range_with_len 0 (length ops))
+ready_rises lat ops rows c = ordered_filter (λ (x y : ℕ). x < y) (is_ready lat ops rows c) (range_with_len 0 (length ops))
     (rises_range 0 (length ops))
 
 -- below cycle c operation i is issued at the same cycle by both lists of rows, or by neither

@@ -22,7 +22,7 @@ use Rattle.iloc_meaning.proofs.Cases.{by_bool}
 use Rattle.iloc_sched.specs.Renaming.{IsRenamed}
 use Rattle.iloc_sched.specs.Steps.Members.{In}
 use Rattle.iloc_sched.proofs.Basics.Members.{contains_from, in_map, from_map, in_filter, from_filter, any_same}
-use Rattle.iloc_sched.proofs.Basics.Rising.{countdown, in_countdown, from_countdown, falls_countdown, falls_filter, falls_from, falls_same}
+use Rattle.iloc_sched.proofs.Basics.Rising.{countdown, in_countdown, from_countdown, falls_countdown, falls_from, falls_same}
 use Rattle.iloc_sched.proofs.Basics.Ordered.{ordered_filter}
 use Rattle.iloc_sched.proofs.Basics.Slots.{numbers_before, ComesLater, issued_early, early_issued, issued_within, issued_in_order, cycle_is, within}
 use Rattle.iloc_sched.proofs.Outcome.UsedEffects.{reads_memory, effect_used, only_stores_write, only_outputs_emit, latency_of_store}
@@ -260,7 +260,7 @@ module _ (lat : Latencies) (ops : List Op) (rows : List Row) (memory : List ℤ)
       let first = from_filter emits issued x one in
       let second = from_filter emits issued y other in
       outputs_fall x y (from_issued x first.0) (from_issued y second.0) first.1 second.1 later))
-      (falls_filter emits (countdown (length ops)) (falls_countdown (length ops)))
+      (ordered_filter (λ (x y : ℕ). y < x) emits (countdown (length ops)) (falls_countdown (length ops)))
       (λ k there. let at = from_filter emits issued k there in
       in_filter emits (countdown (length ops)) k (in_countdown (length ops) k (from_issued k at.0)) at.1)
       (λ k there. let at = from_filter emits (countdown (length ops)) k there in
