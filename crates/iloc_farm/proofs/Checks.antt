@@ -1,9 +1,9 @@
 -- The listing of checks, block by block.
 use Rattle.std.proofs.Common.{◌≡◌, ◌<◌, ◌≤◌, ℕ, ◌+◌, Bool, true, false, ◌&&◌, List, [], ◌∷◌, ◌++◌, length, map, take, get_or, sum_by, arith, refl, sym, ap, ap₂, ◌∙◌, subst, append_assoc, append-nil, Option, Some, None}
 use Rattle.std.specs.Prelude.{ℤ}
-use Rattle.std.specs.List.{All, AllByRecursion, AllZip, list_all}
+use Rattle.std.specs.List.{All, AllZip, list_all}
 use Rattle.std.proofs.Math.Bool.{and-true}
-use Rattle.std.proofs.lemmas.List.{length-append, length-map, map-append, take_all, take_more}
+use Rattle.std.proofs.lemmas.List.{length-append, map-append}
 use Rattle.std.proofs.lemmas.List.Elements.{All-nil, All-push, All-head, All-tail}
 use Rattle.std.proofs.lemmas.List.Folds.{list_all-append}
 use Rattle.std.proofs.lemmas.List.Sums.{sum_by-append, sum_by-cons}
@@ -33,7 +33,8 @@ use Rattle.iloc_farm.specs.Steps.Limits.{most_cycles}
 use Rattle.iloc_farm.specs.Steps.Checking.{IsCheckedTo, IsSmall, totals_of, totals_text, with_checked}
 use Rattle.iloc_farm.specs.declared.commands.Finding.TheVariants.{Passed}
 use Rattle.iloc_farm.specs.declared.commands.totals.Totals.{Totals}
-use Rattle.iloc_farm.proofs.Schedules.{cycles_few, cycles_within, greedy_all_same, greedy_more, short_at}
+use Rattle.iloc_farm.proofs.Proposed.{all_blocks, all_proposals, front_more, proposals_more}
+use Rattle.iloc_farm.proofs.Schedules.{cycles_few, cycles_within, greedy_all_same, greedy_more}
 
 -- What is found of one proposal
 
@@ -97,36 +98,9 @@ ending_same false lawful js = refl
 
 -- What is left
 
-pub middle : {X : Type 0} (P : X → Type 0) (xs ys : List X) (x : X) → AllByRecursion P (xs ++ x ∷ ys) → P x
-middle P [] ys x all = all.0
-middle P (z ∷ xs) ys x all = middle P xs ys x all.1
-
 module _ (lawful csv outputs : Bool) (lat : Latencies) (memory : List ℤ) (blocks : List Block) (proposals : List Proposal) where
   module _ (left rest : List Proposal) (p : Proposal) (text : List ℕ) (totals : Totals) (next : left ≡ p ∷ rest)
       (so_far : IsCheckedTo lawful csv outputs lat memory blocks proposals left text totals) where
-    -- the next proposal is one of all
-    whole : map (λ j. j.proposal) so_far.judged ++ p ∷ rest ≡ proposals
-    whole = ap (λ ps. map (λ (j : Judged). j.proposal) so_far.judged ++ ps) (sym next) ∙ so_far.of_proposals
-
-    pub holds_of_next : (P : Proposal → Type 0) → AllByRecursion P proposals → P p
-    holds_of_next P all =
-        middle P (map (λ (j : Judged). j.proposal) so_far.judged) rest p (subst (AllByRecursion P) (sym whole) all)
-
-    -- and there is a block for it
-    pub block_of_next : length proposals ≡ length blocks → totals.blocks < length blocks
-    block_of_next as_many =
-        let many : length (map (λ (j : Judged). j.proposal) so_far.judged ++ p ∷ rest) ≡ length proposals =
-        ap length whole in
-        let both = length-append (map (λ (j : Judged). j.proposal) so_far.judged) (p ∷ rest) in
-        let judged : length (map (λ (j : Judged). j.proposal) so_far.judged) ≡ length so_far.judged =
-        length-map so_far.judged (λ (j : Judged). j.proposal) in
-        let count : totals.blocks ≡ length so_far.judged = ap (λ (t : Totals). t.blocks) so_far.sums in
-        omega arith
-
-    pub short_next : length proposals ≡ length blocks → AllByRecursion (λ (a : Block). length a.ops ≤ MAX_OPS) blocks
-        → (b : Block) → b ≡ get_or blocks totals.blocks b → length b.ops ≤ MAX_OPS
-    short_next as_many short b read = short_at blocks totals.blocks b short (block_of_next as_many) read
-
     -- one block more
     pub one_checked : (b : Block) (s : Table) (c : Checked) (more entry : List ℕ) (sums : Totals)
         → totals.blocks < length blocks → b ≡ get_or blocks totals.blocks b
@@ -137,12 +111,8 @@ module _ (lawful csv outputs : Bool) (lat : Latencies) (memory : List ℤ) (bloc
         let js : List Judged = so_far.judged in
         let j : Judged = record { block = b; ours = s; proposal = p; checked = c; text = entry } in
         let count : totals.blocks ≡ length js = ap (λ (t : Totals). t.blocks) so_far.sums in
-        let at : length js < length blocks = omega arith in
-        let here : b ≡ get_or blocks (length js) b = subst (λ (n : ℕ). b ≡ get_or blocks n b) count read in
-        let long : length (js ++ j ∷ []) ≡ length js + 1 = omega (arith, length-append js (j ∷ [])) in
         let front : take (length (js ++ j ∷ [])) blocks ≡ take (length js) blocks ++ b ∷ [] =
-        ap (λ n. take n blocks) long ∙ (take_more blocks (length js) b at
-        ∙ ap (λ x. take (length js) blocks ++ x ∷ []) (sym here)) in
+        front_more (λ (x : Judged). x.proposal) blocks proposals js j b totals.blocks count within read in
         record {
           judged = js ++ j ∷ [];
           sums = added ∙ (ap (λ t. with_checked lawful t c) so_far.sums ∙ totals_more lawful js j);
@@ -154,8 +124,8 @@ module _ (lawful csv outputs : Bool) (lat : Latencies) (memory : List ℤ) (bloc
               record { cycles = omega arith; ours = omega arith; least = omega arith };
           of_blocks = map-append (λ (x : Judged). x.block) js (j ∷ [])
               ∙ (ap (λ bs. bs ++ b ∷ []) so_far.of_blocks ∙ sym front);
-          of_proposals = ap (λ ps. ps ++ rest) (map-append (λ (x : Judged). x.proposal) js (j ∷ []))
-              ∙ (append_assoc (map (λ (x : Judged). x.proposal) js) (p ∷ []) rest ∙ whole);
+          of_proposals = proposals_more (λ (x : Judged). x.proposal) blocks proposals js left rest p next
+              so_far.of_proposals j refl;
           greedy =
               let P : List Block → List Table → Type 0 = λ bs ss. AreGreedy lat bs ss in
               rw (front, map-append (λ (x : Judged). x.ours) js (j ∷ []))
@@ -196,16 +166,13 @@ module _ (lawful csv outputs : Bool) (lat : Latencies) (memory : List ℤ) (bloc
   all_checked (p ∷ left) text more totals none as_many so_far pushed = absurd (omega arith)
   all_checked [] text more totals none as_many so_far pushed =
       let js : List Judged = so_far.judged in
-      let theirs : map (λ (j : Judged). j.proposal) js ≡ proposals =
-      sym (append-nil (map (λ (j : Judged). j.proposal) js)) ∙ so_far.of_proposals in
-      let many : length js ≡ length blocks =
-      sym (length-map js (λ (j : Judged). j.proposal)) ∙ (ap length theirs ∙ as_many) in
-      let every : take (length js) blocks ≡ blocks = take_all (length js) blocks (omega arith) in
+      let every : take (length js) blocks ≡ blocks =
+      all_blocks (λ (j : Judged). j.proposal) blocks proposals js so_far.of_proposals as_many in
       let greedy : AreGreedy lat blocks (map (λ (j : Judged). j.ours) js) = rw every at so_far.greedy in
       record {
         judged = js;
         of_blocks = so_far.of_blocks ∙ every;
-        of_proposals = theirs;
+        of_proposals = all_proposals (λ (j : Judged). j.proposal) blocks proposals js so_far.of_proposals;
         greedy = greedy;
         only = λ others are. greedy_all_same lat blocks (map (λ (j : Judged). j.ours) js) others greedy are;
         right = so_far.right;

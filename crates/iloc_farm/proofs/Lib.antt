@@ -5,6 +5,7 @@ pub mod Written
 pub mod Joining
 pub mod Parted
 pub mod Routines
+pub mod Proposed
 pub mod Checks
 pub mod RowsTold
 pub mod Status

@@ -1,10 +1,8 @@
 -- The listing of what explains rows, block by block.
-use Rattle.std.proofs.Common.{◌≡◌, ◌<◌, ◌≤◌, ℕ, ◌+◌, ◌*◌, Bool, ◌&&◌, List, [], ◌∷◌, ◌++◌, length, map, take, get_or, sum_by, arith, refl, sym, ap, ap₂, ◌∙◌, subst, append_assoc, append-nil}
+use Rattle.std.proofs.Common.{◌≡◌, ◌<◌, ◌≤◌, ℕ, ◌+◌, ◌*◌, List, [], ◌∷◌, ◌++◌, length, take, get_or, arith, refl, sym, ap, ap₂, ◌∙◌, append_assoc, append-nil}
 use Rattle.std.specs.Prelude.{codes}
-use Rattle.std.specs.List.{All, AllByRecursion, list_all}
-use Rattle.std.proofs.lemmas.List.{length-append, length-map, map-append, take_all, take_more}
+use Rattle.std.proofs.lemmas.List.{length-append, map-append}
 use Rattle.std.proofs.lemmas.List.Elements.{All-nil, All-push}
-use Rattle.iloc_ops.specs.Limits.{MAX_OPS}
 use Rattle.iloc_ops.specs.declared.op.Op.{Op}
 use Rattle.iloc_ops.specs.declared.file.Block.{Block}
 use Rattle.iloc_timed.specs.Limits.{MAX_ROWS}
@@ -21,8 +19,9 @@ use Rattle.iloc_farm.specs.Listing.{block_head, total_of}
 use Rattle.iloc_farm.specs.Steps.Limits.{most_proposed_cycles}
 use Rattle.iloc_farm.specs.Steps.Telling.{IsToldTo, found_of, with_rows}
 use Rattle.iloc_farm.specs.declared.commands.explain_rows.Found.{Found}
-use Rattle.iloc_farm.proofs.Checks.{all_more, middle, sum_more}
-use Rattle.iloc_farm.proofs.Schedules.{cycles_within, short_at}
+use Rattle.iloc_farm.proofs.Checks.{all_more, sum_more}
+use Rattle.iloc_farm.proofs.Proposed.{all_blocks, all_proposals, front_more, proposals_more}
+use Rattle.iloc_farm.proofs.Schedules.{cycles_within}
 
 -- the cycles of one proposal are few
 pub few_told : (heuristic : Heuristic) (lat : Latencies) (block : List Op) (p : Proposal) (one : ExplainedRows) (text : List ℕ)
@@ -55,29 +54,6 @@ joined text head line entry = simp append_assoc
 module _ (heuristic : Heuristic) (lat : Latencies) (blocks : List Block) (proposals : List Proposal) where
   module _ (left rest : List Proposal) (p : Proposal) (text : List ℕ) (found : Found) (next : left ≡ p ∷ rest)
       (so_far : IsToldTo heuristic lat blocks proposals left text found) where
-    -- the next proposal is one of all
-    whole : map (λ t. t.proposal) so_far.told ++ p ∷ rest ≡ proposals
-    whole = ap (λ ps. map (λ (t : ExplainedBlock). t.proposal) so_far.told ++ ps) (sym next) ∙ so_far.of_proposals
-
-    pub told_of_next : (P : Proposal → Type 0) → AllByRecursion P proposals → P p
-    told_of_next P all =
-        middle P (map (λ (t : ExplainedBlock). t.proposal) so_far.told) rest p (subst (AllByRecursion P) (sym whole) all)
-
-    -- and there is a block for it
-    pub block_to_tell : length proposals ≡ length blocks → found.blocks < length blocks
-    block_to_tell as_many =
-        let many : length (map (λ (t : ExplainedBlock). t.proposal) so_far.told ++ p ∷ rest) ≡ length proposals =
-        ap length whole in
-        let both = length-append (map (λ (t : ExplainedBlock). t.proposal) so_far.told) (p ∷ rest) in
-        let told : length (map (λ (t : ExplainedBlock). t.proposal) so_far.told) ≡ length so_far.told =
-        length-map so_far.told (λ (t : ExplainedBlock). t.proposal) in
-        let count : found.blocks ≡ length so_far.told = ap (λ (f : Found). f.blocks) so_far.sums in
-        omega arith
-
-    pub short_to_tell : length proposals ≡ length blocks → AllByRecursion (λ (a : Block). length a.ops ≤ MAX_OPS) blocks
-        → (b : Block) → b ≡ get_or blocks found.blocks b → length b.ops ≤ MAX_OPS
-    short_to_tell as_many short b read = short_at blocks found.blocks b short (block_to_tell as_many) read
-
     -- one block more
     pub one_told : (b : Block) (one : ExplainedRows) (more entry : List ℕ) (sums : Found)
         → found.blocks < length blocks → b ≡ get_or blocks found.blocks b
@@ -88,12 +64,8 @@ module _ (heuristic : Heuristic) (lat : Latencies) (blocks : List Block) (propos
         let ts : List ExplainedBlock = so_far.told in
         let t : ExplainedBlock = record { block = b; proposal = p; found = one; text = entry } in
         let count : found.blocks ≡ length ts = ap (λ (f : Found). f.blocks) so_far.sums in
-        let at : length ts < length blocks = omega arith in
-        let here : b ≡ get_or blocks (length ts) b = subst (λ (n : ℕ). b ≡ get_or blocks n b) count read in
-        let long : length (ts ++ t ∷ []) ≡ length ts + 1 = omega (arith, length-append ts (t ∷ [])) in
         let front : take (length (ts ++ t ∷ [])) blocks ≡ take (length ts) blocks ++ b ∷ [] =
-        ap (λ n. take n blocks) long ∙ (take_more blocks (length ts) b at
-        ∙ ap (λ x. take (length ts) blocks ++ x ∷ []) (sym here)) in
+        front_more (λ (x : ExplainedBlock). x.proposal) blocks proposals ts t b found.blocks count within read in
         let few : found.cycles ≤ most_proposed_cycles * found.blocks = so_far.few in
         let small : one.cycles ≤ most_proposed_cycles = few_told heuristic lat b.ops p one entry is short in
         let cycles : sums.cycles ≡ found.cycles + one.cycles = ap (λ (f : Found). f.cycles) added in
@@ -104,8 +76,8 @@ module _ (heuristic : Heuristic) (lat : Latencies) (blocks : List Block) (propos
           few = omega arith;
           of_blocks = map-append (λ (x : ExplainedBlock). x.block) ts (t ∷ [])
               ∙ (ap (λ bs. bs ++ b ∷ []) so_far.of_blocks ∙ sym front);
-          of_proposals = ap (λ ps. ps ++ rest) (map-append (λ (x : ExplainedBlock). x.proposal) ts (t ∷ []))
-              ∙ (append_assoc (map (λ (x : ExplainedBlock). x.proposal) ts) (p ∷ []) rest ∙ whole);
+          of_proposals = proposals_more (λ (x : ExplainedBlock). x.proposal) blocks proposals ts left rest p next
+              so_far.of_proposals t refl;
           right = All-push (IsExplainedBlock heuristic lat) ts t so_far.right is;
           listed = pushed ∙ (joined text (block_head (found.blocks + 1) b.name) (codes "\n") entry
               ∙ (ap₂ (λ xs n. xs ++ (block_head n b.name ++ codes "\n" ++ entry)) so_far.listed
@@ -134,15 +106,12 @@ module _ (heuristic : Heuristic) (lat : Latencies) (blocks : List Block) (propos
   all_told (p ∷ left) text more found none as_many so_far pushed = absurd (omega arith)
   all_told [] text more found none as_many so_far pushed =
       let ts : List ExplainedBlock = so_far.told in
-      let theirs : map (λ (t : ExplainedBlock). t.proposal) ts ≡ proposals =
-      sym (append-nil (map (λ (t : ExplainedBlock). t.proposal) ts)) ∙ so_far.of_proposals in
-      let many : length ts ≡ length blocks =
-      sym (length-map ts (λ (t : ExplainedBlock). t.proposal)) ∙ (ap length theirs ∙ as_many) in
-      let every : take (length ts) blocks ≡ blocks = take_all (length ts) blocks (omega arith) in
+      let every : take (length ts) blocks ≡ blocks =
+      all_blocks (λ (t : ExplainedBlock). t.proposal) blocks proposals ts so_far.of_proposals as_many in
       record {
         told = ts;
         of_blocks = so_far.of_blocks ∙ every;
-        of_proposals = theirs;
+        of_proposals = all_proposals (λ (t : ExplainedBlock). t.proposal) blocks proposals ts so_far.of_proposals;
         right = so_far.right;
         found = ap (λ (f : Found). finding_of f.all_lawful) so_far.sums;
         listed = pushed ∙ ap₂ (λ xs n. xs ++ total_of n) so_far.listed (ap (λ (f : Found). f.cycles) so_far.sums);

@@ -1,6 +1,5 @@
 //! `check`: what is said of the schedules that others proposed for blocks.
 ghost use Rattle.std.specs.Prelude.{ℕ, ◌≡◌, ◌≢◌, ◌≤◌, ◌++◌, List, length, IfErr, IfOk};
-ghost use Rattle.iloc_ops.specs.Limits.{MAX_OPS};
 ghost use Rattle.iloc_timed.specs.Schedule.{AreInRange, AreOnce};
 ghost use Rattle.iloc_sched.specs.Lawful.{IsLawful};
 ghost use Rattle.iloc_sched.specs.Least as bound;
@@ -28,7 +27,7 @@ use iloc_meaning::Memory;
 use iloc_rows::laws::{placed_rows_are_within_limits, submissions_are_within_limits};
 use iloc_rows::{Proposal, RowsFault, Submission, read_submission};
 use iloc_sched::{Heuristic, Scheduler};
-use iloc_text::{Block, NoMemory, read_text_from};
+use iloc_text::{Block, MAX_OPS, NoMemory, read_text_from};
 use iloc_timed::{Latencies, MAX_ROWS, Schedule};
 use std::alloc::Global;
 use std::io::Read;
@@ -110,6 +109,7 @@ fn checked_text(
     push_opening(&mut text, csv, HEADER)?;
     for proposal in proposals.into_vec() {
         let block = &blocks.as_slice()[totals.blocks];
+        prove!(block.ops.as_slice().len() <= MAX_OPS);
         let (ours, least) = scheduler.lend_with_least(block, latencies, Heuristic::Chain)?;
         prove!(proposal.rows.as_slice().len() <= MAX_ROWS);
         push_head(&mut text, csv, totals.blocks + 1, block.name.as_ref())?;

@@ -17,7 +17,7 @@ use iloc_judge::{ExplainedRows, push_rows_explanation};
 use iloc_rows::Submission;
 use iloc_rows::laws::placed_rows_are_within_limits;
 use iloc_sched::Scheduler;
-use iloc_text::NoMemory;
+use iloc_text::{MAX_OPS, NoMemory};
 use iloc_timed::MAX_ROWS;
 use std::alloc::Global;
 use std::io::Read;
@@ -82,6 +82,7 @@ fn explained_text(
     let mut found = Found::none();
     for proposal in proposals.into_vec() {
         let block = &blocks.as_slice()[found.blocks];
+        prove!(block.ops.as_slice().len() <= MAX_OPS);
         let (ours, least) = scheduler.lend_with_least(block, latencies, priority)?;
         prove!(proposal.rows.as_slice().len() <= MAX_ROWS);
         push_block_head(&mut text, found.blocks + 1, block.name.as_ref())?;

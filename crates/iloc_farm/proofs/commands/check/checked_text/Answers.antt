@@ -6,7 +6,10 @@ use Rattle.iloc_farm.specs.Commands.Check.{ListsChecked, check_header}
 use Rattle.iloc_farm.specs.Listing.{head_as, opening_as}
 use Rattle.iloc_farm.specs.Steps.Checking.{IsSmall}
 use Rattle.iloc_farm.specs.declared.commands.Finding.{Finding}
-use Rattle.iloc_farm.proofs.Checks.{all_checked, block_of_next, holds_of_next, none_checked, one_checked, short_next, small_check}
+use Rattle.iloc_farm.specs.Commands.Check.{Judged}
+use Rattle.iloc_farm.specs.declared.commands.totals.Totals.{Totals}
+use Rattle.iloc_farm.proofs.Checks.{all_checked, none_checked, one_checked, small_check}
+use Rattle.iloc_farm.proofs.Proposed.{block_of_next, holds_of_next, short_next}
 use Rattle.iloc_farm.proofs.commands.check.checked_text.Goals as goal
 
 pub loop-proposal-init : goal.loop-proposal-init
@@ -17,38 +20,16 @@ loop-proposal-init c =
     ∙ ap (λ xs. xs ++ opening_as c.args.request.now.csv check_header) c.new-text.ensures.items)
     (c.none-totals.ensures c.args.request.now.lawful)
 
-pub lend_with_least-requires : goal.lend_with_least-requires
-lend_with_least-requires c =
-    let block = c.index-as_slice-totals.result in
-    let read : block ≡ get_or c.args.submission.blocks c.loop-proposal.totals.blocks block =
-    rw c.as_slice.ensures at c.index-as_slice-totals.is in
-    short_next c.args.request.now.lawful c.args.request.now.csv c.args.request.now.outputs c.args.request.now.latencies c.args.memory.now c.args.submission.blocks c.args.submission.proposals
-    c.loop-proposal.proposal-iterator.rest.items c.next.new.self.rest.items c.in-Some.proposal c.loop-proposal.text.items
-    c.loop-proposal.totals c.in-Some.ensures.steps.0 c.loop-proposal.invariant c.requires.as_many c.requires.short_blocks
-    block read
-
-pub push_judged-requires-clause-few : goal.push_judged-requires-clause-few
-push_judged-requires-clause-few c =
-    let block = c.index-as_slice-totals.result in
-    let read : block ≡ get_or c.args.submission.blocks c.loop-proposal.totals.blocks block =
-    rw c.as_slice.ensures at c.index-as_slice-totals.is in
-    short_next c.args.request.now.lawful c.args.request.now.csv c.args.request.now.outputs c.args.request.now.latencies c.args.memory.now c.args.submission.blocks c.args.submission.proposals
-    c.loop-proposal.proposal-iterator.rest.items c.next.new.self.rest.items c.in-Some.proposal c.loop-proposal.text.items
-    c.loop-proposal.totals c.in-Some.ensures.steps.0 c.loop-proposal.invariant c.requires.as_many c.requires.short_blocks
-    block read
-
 pub push_judged-requires-clause-in_range : goal.push_judged-requires-clause-in_range
 push_judged-requires-clause-in_range c =
-    holds_of_next c.args.request.now.lawful c.args.request.now.csv c.args.request.now.outputs c.args.request.now.latencies c.args.memory.now c.args.submission.blocks c.args.submission.proposals
-    c.loop-proposal.proposal-iterator.rest.items c.next.new.self.rest.items c.in-Some.proposal c.loop-proposal.text.items
-    c.loop-proposal.totals c.in-Some.ensures.steps.0 c.loop-proposal.invariant
+    holds_of_next (λ (j : Judged). j.proposal) c.args.submission.blocks c.args.submission.proposals
+    c.loop-proposal.invariant.judged _ _ _ c.in-Some.ensures.steps.0 c.loop-proposal.invariant.of_proposals
     (λ (p : Proposal). AreInRange (length p.ops) p.rows) c.requires.in_range
 
 pub push_judged-requires-clause-once : goal.push_judged-requires-clause-once
 push_judged-requires-clause-once c =
-    holds_of_next c.args.request.now.lawful c.args.request.now.csv c.args.request.now.outputs c.args.request.now.latencies c.args.memory.now c.args.submission.blocks c.args.submission.proposals
-    c.loop-proposal.proposal-iterator.rest.items c.next.new.self.rest.items c.in-Some.proposal c.loop-proposal.text.items
-    c.loop-proposal.totals c.in-Some.ensures.steps.0 c.loop-proposal.invariant
+    holds_of_next (λ (j : Judged). j.proposal) c.args.submission.blocks c.args.submission.proposals
+    c.loop-proposal.invariant.judged _ _ _ c.in-Some.ensures.steps.0 c.loop-proposal.invariant.of_proposals
     (λ (p : Proposal). AreOnce (length p.ops) p.rows) c.requires.once
 
 pub push_judged-requires-clause-lawful : goal.push_judged-requires-clause-lawful
@@ -60,23 +41,23 @@ push_judged-requires-clause-least c = c.in_ok-ours.ensures.least
 pub add-requires : goal.add-requires
 add-requires c =
     let within : c.loop-proposal.totals.blocks < length c.args.submission.blocks =
-    block_of_next c.args.request.now.lawful c.args.request.now.csv c.args.request.now.outputs c.args.request.now.latencies c.args.memory.now c.args.submission.blocks c.args.submission.proposals
-    c.loop-proposal.proposal-iterator.rest.items c.next.new.self.rest.items c.in-Some.proposal c.loop-proposal.text.items
-    c.loop-proposal.totals c.in-Some.ensures.steps.0 c.loop-proposal.invariant c.requires.as_many in
+    block_of_next (λ (j : Judged). j.proposal) c.args.submission.blocks c.args.submission.proposals
+    c.loop-proposal.invariant.judged _ _ _ c.in-Some.ensures.steps.0 c.loop-proposal.invariant.of_proposals
+    c.loop-proposal.totals.blocks (ap (λ (t : Totals). t.blocks) c.loop-proposal.invariant.sums) c.requires.as_many in
     let block = c.index-as_slice-totals.result in
     let read : block ≡ get_or c.args.submission.blocks c.loop-proposal.totals.blocks block =
     rw c.as_slice.ensures at c.index-as_slice-totals.is in
     let short : length block.ops ≤ MAX_OPS =
-    short_next c.args.request.now.lawful c.args.request.now.csv c.args.request.now.outputs c.args.request.now.latencies c.args.memory.now c.args.submission.blocks c.args.submission.proposals
-    c.loop-proposal.proposal-iterator.rest.items c.next.new.self.rest.items c.in-Some.proposal c.loop-proposal.text.items
-    c.loop-proposal.totals c.in-Some.ensures.steps.0 c.loop-proposal.invariant c.requires.as_many c.requires.short_blocks
-    block read in
+    short_next (λ (j : Judged). j.proposal) c.args.submission.blocks c.args.submission.proposals
+    c.loop-proposal.invariant.judged _ _ _ c.in-Some.ensures.steps.0 c.loop-proposal.invariant.of_proposals
+    c.loop-proposal.totals.blocks block (ap (λ (t : Totals). t.blocks) c.loop-proposal.invariant.sums) c.requires.as_many
+    c.requires.short_blocks read in
     let listed = c.in_ok-checked.ensures in
     let small : IsSmall c.in_ok-checked.checked =
     small_check c.in-Some.proposal.unread c.args.request.now.csv c.args.request.now.outputs c.args.request.now.latencies c.args.memory.now block.ops c.in_ok-ours.ours c.in-Some.proposal
     c.in_ok-checked.checked listed.0 listed.1 c.in_ok-ours.ensures.schedule.greedy
     short
-    c.as_slice-in-loop-proposal.ensures.few in
+    c.as_slice-in-loop-proposal-2.ensures.few in
     let few = c.loop-proposal.invariant.few in
     let most : length c.args.submission.blocks ≤ MAX_BLOCKS = c.requires.few_blocks in
     record { blocks = omega arith; cycles = omega arith; ours = omega arith; least = omega arith }
@@ -84,23 +65,23 @@ add-requires c =
 pub loop-proposal-preserved : goal.loop-proposal-preserved
 loop-proposal-preserved c =
     let within : c.loop-proposal.totals.blocks < length c.args.submission.blocks =
-    block_of_next c.args.request.now.lawful c.args.request.now.csv c.args.request.now.outputs c.args.request.now.latencies c.args.memory.now c.args.submission.blocks c.args.submission.proposals
-    c.loop-proposal.proposal-iterator.rest.items c.next.new.self.rest.items c.in-Some.proposal c.loop-proposal.text.items
-    c.loop-proposal.totals c.in-Some.ensures.steps.0 c.loop-proposal.invariant c.requires.as_many in
+    block_of_next (λ (j : Judged). j.proposal) c.args.submission.blocks c.args.submission.proposals
+    c.loop-proposal.invariant.judged _ _ _ c.in-Some.ensures.steps.0 c.loop-proposal.invariant.of_proposals
+    c.loop-proposal.totals.blocks (ap (λ (t : Totals). t.blocks) c.loop-proposal.invariant.sums) c.requires.as_many in
     let block = c.index-as_slice-totals.result in
     let read : block ≡ get_or c.args.submission.blocks c.loop-proposal.totals.blocks block =
     rw c.as_slice.ensures at c.index-as_slice-totals.is in
     let short : length block.ops ≤ MAX_OPS =
-    short_next c.args.request.now.lawful c.args.request.now.csv c.args.request.now.outputs c.args.request.now.latencies c.args.memory.now c.args.submission.blocks c.args.submission.proposals
-    c.loop-proposal.proposal-iterator.rest.items c.next.new.self.rest.items c.in-Some.proposal c.loop-proposal.text.items
-    c.loop-proposal.totals c.in-Some.ensures.steps.0 c.loop-proposal.invariant c.requires.as_many c.requires.short_blocks
-    block read in
+    short_next (λ (j : Judged). j.proposal) c.args.submission.blocks c.args.submission.proposals
+    c.loop-proposal.invariant.judged _ _ _ c.in-Some.ensures.steps.0 c.loop-proposal.invariant.of_proposals
+    c.loop-proposal.totals.blocks block (ap (λ (t : Totals). t.blocks) c.loop-proposal.invariant.sums) c.requires.as_many
+    c.requires.short_blocks read in
     let listed = c.in_ok-checked.ensures in
     let small : IsSmall c.in_ok-checked.checked =
     small_check c.in-Some.proposal.unread c.args.request.now.csv c.args.request.now.outputs c.args.request.now.latencies c.args.memory.now block.ops c.in_ok-ours.ours c.in-Some.proposal
     c.in_ok-checked.checked listed.0 listed.1 c.in_ok-ours.ensures.schedule.greedy
     short
-    c.as_slice-in-loop-proposal.ensures.few in
+    c.as_slice-in-loop-proposal-2.ensures.few in
     one_checked c.args.request.now.lawful c.args.request.now.csv c.args.request.now.outputs c.args.request.now.latencies c.args.memory.now c.args.submission.blocks c.args.submission.proposals
     c.loop-proposal.proposal-iterator.rest.items c.next.new.self.rest.items c.in-Some.proposal c.loop-proposal.text.items
     c.loop-proposal.totals c.in-Some.ensures.steps.0 c.loop-proposal.invariant block c.in_ok-ours.ours
