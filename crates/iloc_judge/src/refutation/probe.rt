@@ -1,5 +1,6 @@
 //! Memories that the judge makes up.
 ghost use Rattle.std.specs.Prelude.{◌≡◌, ◌+◌, ◌*◌, ◌%◌, ◌≤◌, ◌<◌, length};
+ghost use Rattle.iloc_meaning.specs.Address.{LAST_ADDRESS};
 
 use crate::refutation::clues::Clues;
 use crate::refutation::pattern::Pattern;
@@ -15,8 +16,8 @@ pub struct Probe {
     /// The words from there on, as 32-bit patterns.
     pub words: Vec<u32>,
     ghost aligned: { at % 4 ≡ 0 },
-    ghost in_memory: { at ≤ 65532 },
-    ghost fits: { at + 4 * length words.items ≤ 65536 },
+    ghost in_memory: { at ≤ LAST_ADDRESS },
+    ghost fits: { at + 4 * length words.items ≤ LAST_ADDRESS + 4 },
 }
 
 /// How many bits the place of a word of a made-up memory has.
