@@ -9,10 +9,9 @@ use Rattle.clap.specs.declared.error.kind.ErrorKind.{ErrorKind}
 use Rattle.clap.specs.declared.error.kind.ErrorKind.TheVariants.{OutOfMemory}
 use Rattle.clap.specs.declared.parser.matches.ArgMatches.{ArgMatches}
 use Rattle.std.specs.Prelude.{List}
-use Rattle.iloc_args.specs.Asked.{Asked}
 use Rattle.iloc_args.specs.Command.{farm_app}
-use Rattle.iloc_args.specs.Due.{Asks, IsAskedFor, IsDue, faults_in}
-use Rattle.iloc_args.specs.Steps.Refusing.{IsFaultBy, IsOutOfRange}
+use Rattle.iloc_args.specs.Due.{IsAskedFor, IsDue, faults_in}
+use Rattle.iloc_args.specs.Steps.Refusing.{IsFaultBy}
 use Rattle.iloc_args.specs.declared.fault.LineFault.{LineFault}
 use Rattle.iloc_args.specs.declared.fault.LineFault.TheVariants.{Help, Refused, BadStart, TooManyWords, NoSuchPriority, NoMemory}
 
@@ -59,12 +58,3 @@ refused_words a words e f is h =
     go TooManyWords has by = absurd by
     go NoSuchPriority has by = absurd by
     go NoMemory has by = tt
-
--- a request out of range is a fault of the words that asked for it
-pub ranged_words : (words : List Text) (a : Asked) (f : LineFault) → Asks words a → IsOutOfRange a f → IsDue words f
-ranged_words words a (Help text) asks h = absurd h
-ranged_words words a (Refused text) asks h = absurd h
-ranged_words words a (BadStart at) asks h = (a, asks, h)
-ranged_words words a TooManyWords asks h = (a, asks, h)
-ranged_words words a NoSuchPriority asks h = (a, asks, h)
-ranged_words words a NoMemory asks h = tt

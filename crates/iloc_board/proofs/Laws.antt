@@ -12,7 +12,7 @@ use Rattle.iloc_board.specs.declared.board.state.State.{State}
 use Rattle.iloc_board.specs.declared.board.state.State.TheVariants.{Free, Looked, Holding}
 use Rattle.iloc_board.specs.Core.{Core, IsWithin, opening, is_holding, worker_of, reply_to, state_after, next_after, after, ends, played}
 use Rattle.iloc_board.specs.Sequential as sequential
-use Rattle.iloc_board.specs.Sequential.{Call, SequentialBoard, is_pair, is_out, has_out, without, opened, moved, board_after, Allowed, Legal}
+use Rattle.iloc_board.specs.Sequential.{Call, SequentialBoard, is_pair, is_out, has_out, without, opened, moved, board_after, Legal}
 use Rattle.iloc_board.specs.History.{accepted, hand_backs, taken_by, takes, holds_job, is_held, given, calls_of, history, StandsAt, IsExact, IsExactReply}
 use Rattle.iloc_board.specs.Play as play
 use Rattle.iloc_board.proofs.Effects.{finds, misses, none, wins, returns, waits, effect, state_here}

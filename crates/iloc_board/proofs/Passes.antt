@@ -17,7 +17,7 @@ use Rattle.std.proofs.lemmas.List.{append-nil, append_assoc, map-append}
 use Rattle.iloc_board.proofs.Parts.{state_from-snoc, handed_from-snoc, told_none, looked_seen}
 use Rattle.iloc_board.specs.Journal.{state_of, noted, handed, all_handed, seen, saw_none}
 use Rattle.iloc_board.specs.Steps.Rule.{Sat, pass_seat, root_seat, adds, gathers}
-use Rattle.iloc_board.specs.Views.{BoardView, PassView, RootView, state, stepped, job_of, AllFit, priced}
+use Rattle.iloc_board.specs.Views.{BoardView, PassView, RootView, state, job_of, AllFit, priced}
 
 pub all_fit-append : {A : Type 0} (fits : ℕ → A → Type 0) (xs ys : List (ℕ × A)) → AllFit fits xs → AllFit fits ys
     → AllFit fits (xs ++ ys)
@@ -59,22 +59,6 @@ module _ {J A : Type 0} where
   pub free_inside : (p q : PassView J A) → p ≡ q → is_holding (state q) ≡ false
       → is_holding (state_of p.journal.entries) ≡ false
   free_inside p q e h = ap (λ (v : PassView J A). is_holding (state v)) e ∙ h
-
-  -- the pass after a step
-  pub step_view : (p q : PassView J A) (me new : Sat) (id : TableId) (x : Step) (r : Reply) → p ≡ q
-      → p.journal ≡ me.0.journal → id ≡ p.board.table → new ≡ adds me x r
-      → record { board = record { table = id; jobs = p.board.jobs }; journal = new.0.journal; answers = p.answers }
-      ≡ stepped q x r
-  step_view p q me new id x r e j t n =
-      let journal : new.0.journal ≡ noted p.journal x r = ap (λ (v : Sat). v.0.journal) n
-      ∙ ap (λ v. noted v x r) (sym j) in
-      let here : record {
-        board = record { table = id; jobs = p.board.jobs };
-        journal = new.0.journal;
-        answers = p.answers;
-      } ≡ stepped p x r =
-      λ i. record { board = record { table = t i; jobs = p.board.jobs }; journal = journal i; answers = p.answers } in
-      here ∙ ap (λ v. stepped v x r) e
 
   -- what a pass keeps inside, after a step that hands nothing back
   pub steps_inside : (number : ℕ) (fits : ℕ → A → Type 0) (price : A → ℕ) (me new : Sat) (worker : ℕ)

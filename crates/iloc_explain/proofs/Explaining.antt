@@ -12,7 +12,7 @@ use Rattle.iloc_meaning.specs.Trace.{op_at}
 use Rattle.iloc_sched.specs.Starts.{start}
 use Rattle.iloc_explain.specs.declared.explanation.Explained.{Explained}
 use Rattle.iloc_explain.specs.declared.latest.Latest.{Latest}
-use Rattle.iloc_explain.specs.Explained.{IsExplained, AreExplained, slack_in, unit_of}
+use Rattle.iloc_explain.specs.Explained.{IsExplained, slack_in, unit_of}
 use Rattle.iloc_explain.specs.Holding.{holder}
 use Rattle.iloc_explain.specs.Waiting.{waited_until}
 use Rattle.iloc_explain.specs.Steps.Latest.{AreLatest, Notes, ready_after}
@@ -54,10 +54,6 @@ one_explained prios lat ops rows n old new explained more e so_far are is added 
       let last : IsExplained prios lat ops rows (length explained) e = rw so_far.all is in
       each_more (IsExplained prios lat ops rows) explained e so_far.each last j f (rw added at there);
 }
-
-pub all_explained : (prios : List ℕ) (lat : Latencies) (ops : List Op) (rows : List Row) (n : ℕ) (latest : Latest) (explained : List Explained)
-    → IsExplainedSoFar prios lat ops rows n latest explained → n ≡ length ops → AreExplained prios lat ops rows explained
-all_explained prios lat ops rows n latest explained so_far all = record { all = so_far.all ∙ all; each = so_far.each }
 
 -- a noted cycle of issue, read from the list of all
 pub noted_cycle : (cycles : List ℕ) (rows : List Row) (count j c : ℕ) → c ≡ get_or cycles j c → length cycles ≡ count

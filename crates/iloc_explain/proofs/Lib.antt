@@ -1,4 +1,3 @@
-pub mod Greatest
 pub mod HasDelay
 pub mod IssueCycles
 pub mod LatestOnes

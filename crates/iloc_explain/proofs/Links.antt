@@ -150,11 +150,6 @@ chain_ends lat [] i last j chain so_far all first = absurd (let known : last < 0
 chain_ends lat (op ∷ ops) i last j chain so_far all first =
     (i, first, chain_whole lat (op ∷ ops) i last j chain so_far all)
 
-pub no_chain : (lat : Latencies) (ops : List Op) (chain : List ℕ) → priorities lat ops ≡ [] → chain ≡ []
-    → IsLongestChain lat ops chain
-no_chain lat [] chain none empty = empty
-no_chain lat (op ∷ ops) chain none empty = absurd cc
-
 -- the place of the greatest number is that of the first operation of the greatest priority
 pub first_of_greatest : (lat : Latencies) (ops : List Op) (prios : List ℕ) (i : ℕ) → prios ≡ priorities lat ops
     → i < length prios → ((k : ℕ) → k < length prios → slice_index prios k ≤ slice_index prios i)

@@ -86,12 +86,6 @@ walk_ends lat (op ∷ ops) rows last j c back path is walked begins turned = (
   turned ∙ ap reverse walked.whole,
 )
 
-pub no_path : (lat : Latencies) (ops : List Op) (rows : List Row) (numbers : List ℕ) (path : List Stretch)
-    → numbers ≡ map (λ i. issue_cycle rows i + latency lat (op_at ops i)) (range_with_len 0 (length ops)) → numbers ≡ []
-    → path ≡ [] → IsPath lat ops rows path
-no_path lat [] rows numbers path are none empty = empty
-no_path lat (op ∷ ops) rows numbers path are none empty = absurd cc
-
 -- one more arrival
 pub arrival_more : (f : ℕ → ℕ) (found more : List ℕ) (i x : ℕ) → found ≡ map f (range_with_len 0 i) → more ≡ found ++ x ∷ []
     → x ≡ f i → more ≡ map f (range_with_len 0 (i + 1))

@@ -3,7 +3,7 @@ use Rattle.std.proofs.Common.{◌≡◌, ℕ, zero, suc, ◌+◌, ◌<◌, List,
 use Rattle.std.specs.Prelude.{get_or, replicate, slice_index_or}
 use Rattle.std.proofs.lemmas.List.{append_assoc, get_or-replicate, map-append}
 use Rattle.std.specs.List.{All, AllZip, range_with_len}
-use Rattle.std.proofs.lemmas.List.Elements.{All-nil, All-cons, All-head, All-tail, All-same, All-push, All-replicate}
+use Rattle.std.proofs.lemmas.List.Elements.{All-nil, All-cons, All-head, All-tail, All-same, All-push}
 
 -- a number more at the end
 pub range-more : (a n : ℕ) → range_with_len a (suc n) ≡ range_with_len a n ++ (a + n) ∷ []
@@ -83,6 +83,3 @@ module _ {S : Type 0} (xs : List S) (n : ℕ) (x y : S) (all : xs ≡ replicate 
   -- the first of a list of equals is what they all are
   pub first_is : y ≡ x
   first_is = first ∙ (ap (λ z. get_or z 0 y) all ∙ get_or-replicate n 0 x y some)
-
-  pub all_first : All (λ z. z ≡ y) xs
-  all_first = All-same (λ z. z ≡ y) xs (replicate n x) all (All-replicate (λ z. z ≡ y) n x (sym first_is))

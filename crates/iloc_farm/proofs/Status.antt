@@ -1,5 +1,5 @@
 -- What a status of 0 tells, where the words ask for a check.
-use Rattle.std.proofs.Common.{◌≡◌, ℕ, Bool, List, Ok, Err, None, Option, Result, Some, arith, refl, sym, ap, ◌∙◌, subst, inl, inr}
+use Rattle.std.proofs.Common.{◌≡◌, ℕ, List, Ok, Err, None, Option, Result, Some, arith, refl, sym, ap, ◌∙◌, subst, inl, inr}
 use Rattle.std.specs.Prelude.{option_map}
 use Rattle.std.specs.List.{AllZip}
 use Rattle.std.specs.String.{string_bytes}

@@ -1,7 +1,6 @@
 -- The listing of a text, put together.
-use Rattle.std.proofs.Common.{◌≡◌, ◌∙◌, ℕ, Bool, true, false, ◌==◌, List, [], ◌∷◌, ◌++◌, length, flat_map, sym, ap, refl, append_assoc, append-nil, arith}
+use Rattle.std.proofs.Common.{◌≡◌, ◌∙◌, ℕ, Bool, ◌==◌, List, [], ◌∷◌, ◌++◌, length, flat_map, sym, ap, append_assoc, append-nil}
 use Rattle.std.proofs.lemmas.List.{length-map}
-use Rattle.std.proofs.lemmas.Bool.Decides.{nat_tests}
 use Rattle.iloc_lint.specs.Faults.{IsLinted}
 use Rattle.iloc_lint.specs.Refused.{refusal_of, refusals_of}
 use Rattle.iloc_lint.specs.declared.refused.Refused.{Refused}
@@ -18,19 +17,6 @@ hint_added said what start text new so added =
     more [] = append-nil (hint_line what)
     more (x ∷ xs) = ap (λ t. hint_line x ++ t) (more xs)
         ∙ sym (append_assoc (hint_line x) (flat_map hint_line xs) (hint_line what))
-
--- hints are given where no line is refused
-abbrev pub Hinted : List Refused → List ℕ → List ℕ → Type 0
-Hinted faults text new = (hints : List ℕ) × AreHints (refusals_of faults) hints × (new ≡ text ++ hints)
-
-pub hints_given : (faults : List Refused) (said : List (List ℕ)) (text new : List ℕ) → (length faults == 0) ≡ true
-    → new ≡ text ++ flat_map hint_line said → Hinted faults text new
-hints_given [] said text new none e = (flat_map hint_line said, (said, refl), e)
-hints_given (f ∷ faults) said text new none e = absurd (grind (arith, nat_tests))
-
-pub none_given : (faults : List Refused) (text : List ℕ) → (length faults == 0) ≡ false → Hinted faults text text
-none_given [] text some = absurd (grind (arith, nat_tests))
-none_given (f ∷ faults) text some = ([], refl, sym (append-nil text))
 
 pub all_listed : (input : List ℕ) (faults : List Refused) (blocks ops : ℕ) (reads : Bool) (entries hints text : List ℕ)
     → IsLinted input (refusals_of faults) blocks ops → AreEntries (refusals_of faults) entries → AreHints (refusals_of faults) hints

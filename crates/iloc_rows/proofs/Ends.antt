@@ -87,9 +87,6 @@ pub record AreBlocks (input : List ℕ) (number : ℕ) (rest : Option (Bor (List
   pub lines : lines_of input ≡ before ++ lines_left rest
   pub count : number ≡ length before
 
-pub blocks_begin : (input : Bor (List ℕ)) → AreBlocks input.now 0 (Some input)
-blocks_begin input = record { before = []; none = tt; lines = refl; count = refl }
-
 pub all-snoc : {A : Type 0} (P : A → Type 0) (xs : List A) (x : A) → AllByRecursion P xs → P x
     → AllByRecursion P (xs ++ x ∷ [])
 all-snoc P [] x h p = (p, tt)

@@ -21,14 +21,6 @@ abbrev pub Goes : List ℕ → List Block → ℕ → List ℕ → Type 0
 Goes text blocks n rest = (more : List ℕ)
     → answer_from [] 1 (lines_of (text ++ more)) ≡ answer_from blocks n (lines_of (rest ++ more))
 
--- the piece is kept
-pub kept_further : (text rest piece : List ℕ) (blocks : List Block) (n : ℕ) → Goes text blocks n rest
-    → Goes (text ++ piece) blocks n (rest ++ piece)
-kept_further text rest piece blocks n h more =
-    ap (λ t. answer_from [] 1 (lines_of t)) (append_assoc text piece more)
-    ∙ h (piece ++ more)
-    ∙ ap (λ t. answer_from blocks n (lines_of t)) (sym (append_assoc rest piece more))
-
 -- the piece ends the line that was kept, and more lines
 lines_behind : (text rest piece front back : List ℕ) (blocks : List Block) (n : ℕ) → Goes text blocks n rest
     → piece ≡ front ++ 10 ∷ back → (more : List ℕ) → answer_from [] 1 (lines_of ((text ++ piece) ++ more))

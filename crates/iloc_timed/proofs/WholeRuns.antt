@@ -1,14 +1,12 @@
 -- Rows, and the run of a schedule from its start to its end.
 use Rattle.std.proofs.Common.{◌≡◌, ◌<◌, ◌≤◌, ℕ, zero, suc, ◌+◌, ◌-◌, ◌*◌, ◌/◌, nat_le, Bool, true, false, List, [], ◌∷◌, ◌++◌, length, get_or, map, Option, Some, None, option_to_list, Result, Ok, Err, IfOk, IfSome, ℤ, pos, arith, refl, sym, ap, ◌∙◌, add-one, add-zero, add-suc, subst}
 use Rattle.std.proofs.lemmas.Bool.{or_right, or_from, lt-leb}
-use Rattle.std.proofs.lemmas.Bool.Decides.{nat_tests}
 use Rattle.std.proofs.lemmas.List.{get_or_default}
 use Rattle.std.proofs.lemmas.List.FromFn.{fill_by_all}
 use Rattle.iloc_ops.specs.declared.op.Reg.{Reg}
 use Rattle.iloc_ops.specs.declared.op.Op.{Op}
 use Rattle.iloc_ops.specs.declared.op.Op.TheVariants.{Nop}
 use Rattle.iloc_meaning.specs.declared.outcome.Outcome.TheVariants.{Finished, Fault}
-use Rattle.iloc_meaning.specs.Address.{is_good}
 use Rattle.iloc_meaning.specs.Memory.{WORDS, word_at, with_words}
 use Rattle.iloc_meaning.specs.Registers.{value_of}
 use Rattle.iloc_meaning.proofs.MemoryWords.{good_word}
@@ -102,13 +100,6 @@ fault_stays : (more log : List Issued) → has_fault (executed_in log) ≡ true 
 fault_stays [] log fault = fault
 fault_stays (e ∷ more) log fault = or_right (is_fault e.executed.effect) (has_fault (executed_in (more ++ log)))
     (fault_stays more log fault)
-
-pub fault_in_row : (lat : Latencies) (memory : List ℤ) (ops : List Op) (c : ℕ) (row : Row) (log : List Issued)
-    → has_fault (executed_in (issue_all lat memory ops c (option_to_list row.zero) log)) ≡ true
-    → has_fault (executed_in (issue_all lat memory ops c (slots row) log)) ≡ true
-fault_in_row lat memory ops c row log fault =
-    rw (← row_issued lat memory ops c row log)
-    (fault_stays (map _ (option_to_list row.one)) (issue_all lat memory ops c (option_to_list row.zero) log) fault)
 
 pub fault_later : (lat : Latencies) (memory : List ℤ) (ops : List Op) (rows : List Row) (c more : ℕ)
     → has_fault (executed_in (issued_before lat memory ops rows c)) ≡ true

@@ -42,18 +42,6 @@ module _ (lat : Latencies) (block : List Op) (givens : List Sources) (schedule :
   abbrev IsUnder : Type 0
   IsUnder = IsScheduleUnder lat block ops schedule.rows origin partner
 
-  pub leads_there : IsUnder → LeadsBack there back × LeadsBack back there
-  leads_there under = (
-    λ k here.
-        let inside : k < length ops = omega arith in
-        let below : origin k < length block = under.paired.there k inside in
-        (omega arith, under.paired.back k inside),
-    λ i here.
-        let inside : i < length block = omega arith in
-        let below : partner i < length ops = under.paired.there_too i inside in
-        (omega arith, under.paired.back_too i inside),
-  )
-
   issued_at : (k : ℕ) → k < length ops → (reading_at readings k).cycle ≡ issue_cycle schedule.rows k
   issued_at k here = ap (λ (r : Reading). r.cycle) (sides.each_reading k here)
 

@@ -6,9 +6,7 @@ use Rattle.iloc_ops.specs.declared.op.Op.{Op}
 use Rattle.iloc_ops.specs.declared.op.Op.TheVariants.{Load, LoadI, Store, Add, Sub, Mult, Lshift, Rshift, Output, Nop, AddI, SubI, MultI, LshiftI, RshiftI, LoadAI, StoreAI}
 use Rattle.iloc_ops.specs.Registers.{used, with_registers}
 use Rattle.iloc_meaning.specs.Effect.{effect}
-use Rattle.iloc_timed.specs.declared.latencies.Latencies.{Latencies}
 use Rattle.iloc_timed.specs.Kinds.{kind}
-use Rattle.iloc_timed.specs.Latency.{latency, latency_of}
 use Rattle.iloc_validation.specs.ByTheBook.{label}
 
 pub kind-with_registers : (new : Reg → Reg) (own : Reg) (op : Op) → kind (with_registers new own op) ≡ kind op
@@ -24,9 +22,6 @@ same_kind a b same =
     sym (kind-with_registers (λ r. record { 0 = 0 }) (record { 0 = 0 }) a)
     ∙ ap kind same
     ∙ kind-with_registers (λ r. record { 0 = 0 }) (record { 0 = 0 }) b
-
-pub same_latency : (lat : Latencies) (a b : Op) → label a ≡ label b → latency lat a ≡ latency lat b
-same_latency lat a b same = ap (latency_of lat) (same_kind a b same)
 
 abbrev reg : ℕ → Reg
 reg n = record { 0 = n }

@@ -18,7 +18,7 @@ use Rattle.iloc_timed.specs.Latency.{latency, latency_of}
 use Rattle.iloc_timed.specs.Cycles.{cycles}
 use Rattle.iloc_timed.specs.Rows.{row_at, slots, issue_cycle, times_issued, keeps_units, IsTable}
 use Rattle.iloc_timed.specs.Timed as timed
-use Rattle.iloc_timed.specs.Timed.{Issued, issue, register_in, word_in, timed_outcome, timed_outcome_of}
+use Rattle.iloc_timed.specs.Timed.{Issued, register_in, word_in, timed_outcome, timed_outcome_of}
 use Rattle.iloc_sched.specs.Delays.{uses_result, reads_stored, keeps_order, when, memory_delays, delays}
 use Rattle.iloc_sched.specs.Lawful.{IsLawful}
 use Rattle.iloc_sched.specs.Least.{least}

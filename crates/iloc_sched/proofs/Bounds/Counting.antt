@@ -1,12 +1,11 @@
 -- How many numbers pass a test, and of ascending ones how many follow; for `laws::least_bounds_the_cycles`.
-use Rattle.std.proofs.Common.{◌≡◌, ◌∙◌, ℕ, ◌+◌, ◌-◌, ◌<◌, ◌≤◌, ◌/◌, zero, suc, Bool, true, false, cond, ◌&&◌, ◌||◌, ◌==◌, List, [], ◌∷◌, ◌++◌, length, map, filter, get_or, refl, sym, ap, ap₂, subst, subst₂, inl, inr, arith}
+use Rattle.std.proofs.Common.{◌≡◌, ◌∙◌, ℕ, ◌+◌, ◌-◌, ◌<◌, ◌≤◌, ◌/◌, zero, suc, Bool, true, false, cond, ◌&&◌, ◌||◌, ◌==◌, List, [], ◌∷◌, ◌++◌, length, map, filter, get_or, refl, sym, ap, ap₂, subst₂, inl, inr, arith}
 use Rattle.std.specs.Prelude.{count_by, nat_le}
 use Rattle.std.specs.List.{range_with_len}
 use Rattle.std.specs.List.Sorted.{IsPermutation}
 use Rattle.std.proofs.Math.Nat.{div-mul-le_self}
 use Rattle.std.proofs.lemmas.Nat.{le-div}
 use Rattle.std.proofs.lemmas.Bool.Decides.{nat_tests}
-use Rattle.std.proofs.lemmas.List.Sums.{count_by-le-length}
 use Rattle.std.proofs.lemmas.List.Sorted.{sum_by-IsPermutation}
 use Rattle.iloc_sched.specs.Steps.Members.{In}
 use Rattle.iloc_sched.proofs.Basics.Slots.{count_by-cons}
@@ -165,9 +164,6 @@ div-mono w a b some h = le-div (a / w) b w some (let less = div-mul-le_self a w 
 abbrev pub Ascends : List ℕ → Type 0
 Ascends xs = (i j : ℕ) → i ≤ j → j < length xs → get_or xs i 0 ≤ get_or xs j 0
 
-ascends_tail : (x : ℕ) (xs : List ℕ) → Ascends (x ∷ xs) → Ascends xs
-ascends_tail x xs h = λ i j le lt. h (suc i) (suc j) (omega arith) (omega arith)
-
 pub all_pass : (q : ℕ) (xs : List ℕ) → ((j : ℕ) → j < length xs → q ≤ get_or xs j 0)
     → count_by (λ p. nat_le q p) xs ≡ length xs
 all_pass q [] h = refl
@@ -177,37 +173,3 @@ all_pass q (x ∷ xs) h =
     let rest = all_pass q xs (λ j lt. h (suc j) (omega arith)) in
     let one = count_by-cons (λ p. nat_le q p) x xs ∙ ap (λ b. cond b 1 0 + count_by (λ p. nat_le q p) xs) here in
     omega arith
-
--- from a place on all numbers are at least that at the place
-pub count_up : (xs : List ℕ) (k : ℕ) → Ascends xs → k < length xs
-    → length xs ≤ k + count_by (λ p. nat_le (get_or xs k 0) p) xs
-count_up [] k h lt = absurd (omega arith)
-count_up (x ∷ xs) zero h lt = let all = all_pass x (x ∷ xs) (λ j less. h 0 j (omega arith) less) in omega arith
-count_up (x ∷ xs) (suc k) h lt =
-    let q = get_or xs k 0 in
-    let rest : length xs ≤ k + count_by (λ p. nat_le q p) xs = count_up xs k (ascends_tail x xs h) (omega arith) in
-    let one = count_by-cons (λ p. nat_le q p) x xs in
-    subst (λ n. length (x ∷ xs) ≤ suc k + n) (sym one) (omega arith)
-
--- of those that are at least q the first stands as far from the end as there are
-pub count_down : (xs : List ℕ) (q : ℕ) → Ascends xs → 0 < count_by (λ p. nat_le q p) xs
-    → q ≤ get_or xs (length xs - count_by (λ p. nat_le q p) xs) 0
-count_down [] q h some = absurd (omega arith)
-count_down (x ∷ xs) q h some = by (nat_le q x) refl (count_down xs q (ascends_tail x xs h))
-  where
-    by : (b : Bool) → nat_le q x ≡ b
-        → (0 < count_by (λ p. nat_le q p) xs → q ≤ get_or xs (length xs - count_by (λ p. nat_le q p) xs) 0)
-        → q ≤ get_or (x ∷ xs) (length (x ∷ xs) - count_by (λ p. nat_le q p) (x ∷ xs)) 0
-    by true e rest =
-        let low : q ≤ x = grind (arith, nat_tests) in
-        let all = all_pass q (x ∷ xs) (λ j lt. let up = h 0 j (omega arith) lt in omega arith) in
-        let first : length (x ∷ xs) - count_by (λ p. nat_le q p) (x ∷ xs) ≡ 0 = omega arith in
-        subst (λ n. q ≤ get_or (x ∷ xs) n 0) (sym first) low
-    by false e rest =
-        let none : cond {A = ℕ} (nat_le q x) 1 0 ≡ 0 = rw e refl in
-        let both = count_by-cons (λ p. nat_le q p) x xs in
-        let one : count_by (λ p. nat_le q p) (x ∷ xs) ≡ count_by (λ p. nat_le q p) xs = omega arith in
-        let short = count_by-le-length (λ p. nat_le q p) xs in
-        let next : length (x ∷ xs) - count_by (λ p. nat_le q p) (x ∷ xs)
-        ≡ suc (length xs - count_by (λ p. nat_le q p) xs) = omega arith in
-        subst (λ n. q ≤ get_or (x ∷ xs) n 0) (sym next) (rest (omega arith))

@@ -48,10 +48,6 @@ first_on_zero K.Output K.Load = refl
 first_on_zero K.Other K.Load = refl
 first_on_zero _ _ = refl
 
-or_false : (b : Bool) → (b || false) ≡ b
-or_false true = refl
-or_false false = refl
-
 -- the second, if any, can go beside the first
 abbrev FitsBeside : List Op → ℕ → Option ℕ → Type 0
 FitsBeside ops a b = (k : ℕ) → b ≡ Some k → may_stand_beside (kind (op_at ops a)) (kind (op_at ops k)) ≡ true

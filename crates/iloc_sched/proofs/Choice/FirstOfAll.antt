@@ -1,7 +1,7 @@
 -- The first of all candidates goes before each of them; for `schedule` (`greedy`).
-use Rattle.std.proofs.Common.{◌≡◌, ℕ, ◌<◌, ◌≤◌, true, false, List, [], ◌∷◌, ◌++◌, Option, Some, None, ◌⊎◌, inl, inr, refl, ap, sym, ◌∙◌, subst, arith}
+use Rattle.std.proofs.Common.{◌≡◌, ℕ, ◌<◌, ◌≤◌, List, [], ◌∷◌, Option, Some, None, ◌⊎◌, inl, inr, refl, ap, sym, ◌∙◌, subst, arith}
 use Rattle.std.specs.Prelude.{nat_lt, slice_index}
-use Rattle.std.proofs.lemmas.Bool.{ltb-true, ltb-false, lt-ltb, le-ltb, cases_eq}
+use Rattle.std.proofs.lemmas.Bool.{ltb-true, ltb-false, cases_eq}
 use Rattle.std.proofs.lemmas.Option.{none-some, same_Some}
 use Rattle.iloc_meaning.proofs.Cases.{by_bool}
 use Rattle.iloc_sched.specs.Greedy.{better, first_of_all}
@@ -99,38 +99,3 @@ first_is prios xs k rises there best =
 
 pub first_none : (prios xs : List ℕ) → ((j : ℕ) → In xs j → ⊥) → first_of_all prios xs ≡ None
 first_none prios xs none = ap (first_of_all prios) (empty_from xs none)
-
--- the best of what came before and one more
-abbrev pub best_with : List ℕ → Option ℕ → ℕ → ℕ
-best_with prios None x = x
-best_with prios (Some k) x = better prios k (Some x)
-
-better_chain : (prios : List ℕ) (i m x : ℕ) → better prios i (Some (better prios m (Some x)))
-    ≡ better prios (better prios i (Some m)) (Some x)
-better_chain prios i m x =
-    by_bool (nat_lt (slice_index prios m) (slice_index prios x))
-    (λ t. by_bool (nat_lt (slice_index prios i) (slice_index prios m))
-    (λ u.
-    let one : slice_index prios m < slice_index prios x = ltb-true _ _ t in
-    let two : slice_index prios i < slice_index prios m = ltb-true _ _ u in
-    let both : nat_lt (slice_index prios i) (slice_index prios x) ≡ true = lt-ltb _ _ (omega arith) in
-    rw (t, u, both, t) refl)
-    (λ u. rw (t, u) refl))
-    (λ t. by_bool (nat_lt (slice_index prios i) (slice_index prios m))
-    (λ u. rw (t, u, t) refl)
-    (λ u.
-    let one : slice_index prios x ≤ slice_index prios m = ltb-false _ _ t in
-    let two : slice_index prios m ≤ slice_index prios i = ltb-false _ _ u in
-    let both : nat_lt (slice_index prios i) (slice_index prios x) ≡ false = le-ltb _ _ (omega arith) in
-    rw (t, u, both) refl))
-
-better_push : (prios : List ℕ) (i x : ℕ) (o : Option ℕ) → better prios i (Some (best_with prios o x))
-    ≡ better prios (better prios i o) (Some x)
-better_push prios i x None = refl
-better_push prios i x (Some m) = better_chain prios i m x
-
-pub first_push : (prios xs : List ℕ) (x : ℕ) → first_of_all prios (xs ++ x ∷ [])
-    ≡ Some (best_with prios (first_of_all prios xs) x)
-first_push prios [] x = refl
-first_push prios (i ∷ is) x = ap (λ o. Some (better prios i o)) (first_push prios is x)
-    ∙ ap Some (better_push prios i x (first_of_all prios is))

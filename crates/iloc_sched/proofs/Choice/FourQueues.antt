@@ -1,18 +1,13 @@
 -- The best of the firsts of four queues is the first of all that may stand there; for `Queues::best_class`.
-use Rattle.std.proofs.Common.{ℕ, ◌<◌, ◌≤◌, true, false, arith, ◌≡◌, ◌≢◌, Option, Some, None, ◌⊎◌, inl, inr, refl, sym, ◌∙◌, subst}
+use Rattle.std.proofs.Common.{ℕ, ◌<◌, ◌≤◌, arith, ◌≡◌, ◌≢◌, Option, Some, None, ◌⊎◌, inl, inr, sym, ◌∙◌, subst}
 use Rattle.std.proofs.lemmas.Bool.Decides.{nat_tests}
 use Rattle.iloc_sched.specs.declared.cycle.candidate.Candidate.{Candidate}
 use Rattle.iloc_sched.specs.declared.cycle.class.Class.{Class}
 use Rattle.iloc_sched.specs.declared.cycle.class.Class.TheVariants as C
 use Rattle.iloc_sched.specs.declared.cycle.queues.Queues.{Queues}
-use Rattle.iloc_sched.specs.declared.cycle.queues.Choice.{Choice}
 use Rattle.iloc_sched.specs.declared.cycle.queues.Offer.{Offer}
-use Rattle.iloc_sched.specs.Steps.Classes.{is_excluded}
-use Rattle.iloc_sched.specs.Steps.Members.{In}
 use Rattle.iloc_sched.specs.Steps.Order.{rank, IsFirst, IsGreatestRank}
-use Rattle.iloc_sched.specs.Steps.Changes.{IsFirstOf, Adds, Removes}
-use Rattle.iloc_sched.specs.Steps.Queued.{candidates, KeepsOthers, IsOpen, IsBest, IsBestClass, Takes, AddsTo}
-use Rattle.iloc_sched.proofs.Choice.CandidateHeaps.{first_trans}
+use Rattle.iloc_sched.specs.Steps.Queued.{IsOpen, IsBest, IsBestClass}
 
 -- of two ranks the greater is that of what comes first
 first_by_rank : (c d : Candidate) → rank d ≤ rank c → c.number < 4294967295 → d.number < 4294967295 → IsFirst c d

@@ -163,11 +163,3 @@ not_above lat ops prio other is also (suc n) i within far = elim (is.reached i w
       let same : prio i ≡ pair.1 + prio pair.0 = pair.3 in
       omega arith
 ]
-
--- there is one such function
-pub priority_only : (lat : Latencies) (ops : List Op) (prio other : ℕ → ℕ) → IsPriority lat ops prio
-    → IsPriority lat ops other → (i : ℕ) → i < length ops → prio i ≡ other i
-priority_only lat ops prio other is also i within =
-    let low : prio i ≤ other i = not_above lat ops prio other is also (length ops) i within (omega arith) in
-    let high : other i ≤ prio i = not_above lat ops other prio also is (length ops) i within (omega arith) in
-    omega arith

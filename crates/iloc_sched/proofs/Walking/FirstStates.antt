@@ -1,10 +1,9 @@
 -- The states and buckets with which a schedule begins; for `Waiting::open`.
-use Rattle.std.proofs.Common.{◌≡◌, ◌≢◌, ℕ, zero, suc, ◌+◌, ◌-◌, ◌%◌, ◌<◌, ◌≤◌, List, [], ◌∷◌, ◌++◌, length, map, get_or, Bool, true, false, if◌then◌else◌, Option, None, inl, inr, refl, sym, ◌∙◌, ap, subst, arith, cond}
-use Rattle.std.specs.Prelude.{replicate, count_by, is_none}
+use Rattle.std.proofs.Common.{◌≡◌, ◌≢◌, ℕ, ◌+◌, ◌-◌, ◌%◌, ◌<◌, ◌≤◌, List, [], ◌∷◌, ◌++◌, length, map, get_or, Bool, true, false, if◌then◌else◌, Option, None, inl, inr, refl, sym, ◌∙◌, ap, subst, arith}
+use Rattle.std.specs.Prelude.{replicate}
 use Rattle.std.proofs.lemmas.List.{length-map, length-replicate, replicate_more}
 use Rattle.std.proofs.lemmas.List.FromFn.{get_or-map-range_with_len, map-range_with_len_more}
 use Rattle.std.specs.List.{range_with_len}
-use Rattle.std.proofs.lemmas.List.Sums.{sum_by-cons}
 use Rattle.iloc_sched.specs.declared.edges.Edges.{Edges}
 use Rattle.iloc_sched.specs.declared.plan.Plan.{Plan}
 use Rattle.iloc_sched.specs.declared.cycle.queues.Queues.{Queues}
@@ -49,14 +48,6 @@ roots_more : (graph : Graph) (js : List ℕ) (n : ℕ) (ready : Bool) → AreRoo
     → AreRoots graph (if ready then n ∷ js else js) (n + 1)
 roots_more graph js n true roots free not = root_put graph js n roots (free refl)
 roots_more graph js n false roots free not = roots_kept graph js n roots (not refl)
-
-pub count_replicate : (n : ℕ) → count_by is_none (replicate n not_issued) ≡ n
-count_replicate zero = refl
-count_replicate (suc n) =
-    let rest : count_by is_none (replicate n not_issued) ≡ n = count_replicate n in
-    let step : count_by is_none (not_issued ∷ replicate n not_issued) ≡ 1 + count_by is_none (replicate n not_issued) =
-    sum_by-cons (λ (o : Option ℕ). cond (is_none o) 1 0) not_issued (replicate n not_issued) in
-    omega arith
 
 pushed : {Y : Type 0} → (f : OperationState → Y) (xs : List OperationState) (s : OperationState) → map f (xs ++ s ∷ []) ≡ map f xs ++ f s ∷ []
 pushed f [] s = refl
