@@ -9,7 +9,7 @@ use crate::cycle::candidate::Candidate;
 use crate::cycle::class::Class;
 use crate::edges::Edges;
 use crate::edges::lasts::Lasts;
-use crate::kinds::{Operations, latency_of};
+use crate::kinds::Operations;
 use crate::ranking::heuristic::{Heuristic, rank_by};
 use crate::registers::OperandRegisters;
 use crate::renaming::{Names, is_nop};
@@ -87,7 +87,7 @@ impl Plan {
         let kind = Kind::of(&op);
         self.ops.push(op)?;
         self.kinds.push(kind)?;
-        self.priorities.push(latency_of(kind, &self.latencies))?;
+        self.priorities.push(self.latencies.of(kind))?;
         self.edges.grow()?;
         let operations = Operations {
             ops: &self.ops,

@@ -8,7 +8,6 @@ ghost use Rattle.iloc_sched.specs.Steps.Graph.{IsGraphOf, AreLatencies};
 ghost use Rattle.iloc_sched.specs.Steps.Views.{graph_of};
 
 use crate::edges::Edges;
-use crate::kinds::latency_of;
 use iloc_ops::NoMemory;
 use iloc_timed::{Kind, Latencies};
 
@@ -23,7 +22,7 @@ pub(crate) fn fill_latencies(
     own.clear();
     own.reserve(kinds.len())?;
     for kind in kinds {
-        own.push(latency_of(*kind, latencies))?;
+        own.push(latencies.of(*kind))?;
     }
     Ok(())
 }

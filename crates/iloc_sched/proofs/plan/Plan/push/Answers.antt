@@ -31,7 +31,7 @@ add_all-requires-clause-own c =
     latencies_more c.args.self.now.ops.items c.args.op lat c.args.self.now.priorities.items c.deref-3.result.now
     c.deref.result.now (c.deref.ensures.value ∙ c.in_ok-push.ensures.items)
     (c.deref-3.ensures.value ∙ c.in_ok-push-3.ensures.items ∙ ap (λ n. c.args.self.now.priorities.items ++ n ∷ [])
-    (c.latency_of.ensures ∙ ap (latency_of lat) c.of-kind.ensures))
+    (c.of.ensures.latency ∙ ap (latency_of lat) c.of-kind.ensures))
     c.requires.filling.own
 
 pub returns-clause-filling : goal.returns-clause-filling
@@ -53,7 +53,7 @@ returns-clause-filling c =
       own = latencies_more c.args.self.now.ops.items c.args.op lat c.args.self.now.priorities.items c.push-3.new.self.items ops
           c.in_ok-push.ensures.items
           (c.in_ok-push-3.ensures.items ∙ ap (λ n. c.args.self.now.priorities.items ++ n ∷ [])
-          (c.latency_of.ensures ∙ ap (latency_of lat) c.of-kind.ensures))
+          (c.of.ensures.latency ∙ ap (latency_of lat) c.of-kind.ensures))
           c.requires.filling.own;
       partial = subst (λ n. IsPartialGraph lat ops (graph_of c.add_all.new.self) n) size
           (subst (λ xs. IsPartialGraph lat xs (graph_of c.add_all.new.self) (c.len-j.result + 1)) read
