@@ -1,5 +1,5 @@
 //! The table of forms: the opcode and the operands of each operation, and the operation of an opcode and numbers.
-ghost use Rattle.std.specs.Prelude.{◌≡◌, ◌≤◌, ◌-◌, drop, length, get_or};
+ghost use Rattle.std.specs.Prelude.{◌≡◌, ◌≤◌, length, get_or};
 ghost use Rattle.iloc_ops.specs.Forms.{opcode, operands, opcode_text, op_of};
 ghost use Rattle.iloc_ops.specs.Operands.{operands_in};
 
@@ -94,32 +94,6 @@ impl Opcode {
             Opcode::RshiftI => b"rshiftI",
             Opcode::LoadAI => b"loadAI",
             Opcode::StoreAI => b"storeAI",
-        }
-    }
-
-    /// Promise: eight bytes that end with the text of an opcode.
-    #[inline(always)]
-    pub fn padded(self) -> &'static [u8; 8]
-        ensures text { drop (8 - length (opcode_text self)) result.now ≡ opcode_text self }
-    {
-        match self {
-            Opcode::LoadI => b"   loadI",
-            Opcode::Load => b"    load",
-            Opcode::Store => b"   store",
-            Opcode::Add => b"     add",
-            Opcode::Sub => b"     sub",
-            Opcode::Mult => b"    mult",
-            Opcode::Lshift => b"  lshift",
-            Opcode::Rshift => b"  rshift",
-            Opcode::Output => b"  output",
-            Opcode::Nop => b"     nop",
-            Opcode::AddI => b"    addI",
-            Opcode::SubI => b"    subI",
-            Opcode::MultI => b"   multI",
-            Opcode::LshiftI => b" lshiftI",
-            Opcode::RshiftI => b" rshiftI",
-            Opcode::LoadAI => b"  loadAI",
-            Opcode::StoreAI => b" storeAI",
         }
     }
 }

@@ -1,14 +1,14 @@
 //! How operations and numbers are written.
 ghost use Rattle.std.specs.Prelude.{◌≡◌, ◌++◌, OnOk, OnErr, [], ◌∷◌, drop, vec_len, vec_capacity, length, codes, ◌+◌, ◌<◌, ◌≤◌};
 ghost use Rattle.std.specs.Fmt.{decimal};
-ghost use Rattle.iloc_ops.specs.Forms.{◌▹◌, opcode_text};
+ghost use Rattle.iloc_ops.specs.Forms.{◌▹◌};
 ghost use Rattle.iloc_ops.specs.Forms.Lead.{space, comma, arrow};
 ghost use Rattle.iloc_ops.specs.Forms.Value.{Use, Definition, Constant};
 ghost use Rattle.iloc_ops.specs.Spelling.{spelled_operands, spelling};
 ghost use Rattle.iloc_ops.specs.Operands.{operands_in};
 ghost use Rattle.iloc_ops.specs.declared.spelling.TheConstants.{LONGEST_OPERATION};
 
-use crate::forms::{Opcode, Operands, form_of};
+use crate::forms::{Operands, form_of};
 use crate::no_memory::NoMemory;
 use crate::op::{Op, Reg};
 use itoa::{Buffer, Integer, write_digits};
@@ -57,20 +57,7 @@ pub fn write_op(line: &mut [u8], end: usize, op: &Op) -> usize
 {
     let (opcode, operands) = form_of(op);
     let start = write_operands(line, end, operands);
-    write_opcode(line, start, opcode)
-}
-
-/// Writes the opcode so that it ends at `end`, and gives where it starts. All eight bytes before `end` are written, since a
-/// copy of so many is one step, whatever the opcode.
-#[inline(always)]
-fn write_opcode(line: &mut [u8], end: usize, opcode: Opcode) -> usize
-    requires { (8 ≤ end) × (end ≤ length line.old) }
-    ensures space { (result ≤ end) × (end ≤ result + 7) }
-    ensures length { length line.new ≡ length line.old }
-    ensures written { drop result line.new ≡ opcode_text opcode ++ drop end line.old }
-{
-    let start = write_text(line, end, opcode.padded());
-    start + 8 - opcode.text().len()
+    write_text(line, start, opcode.text())
 }
 
 /// Writes the operands so that they end at `end`, the last of them first, and gives where they start.
