@@ -1,17 +1,16 @@
--- The candidates of one heap of ranks before and after a push, a look and a pop; for `Queue::insert`, `top_of`, `top`,
--- `pop`.
-use Rattle.std.proofs.Common.{◌≡◌, ◌≢◌, ℕ, ◌-◌, ◌/◌, ◌%◌, ◌<◌, ◌≤◌, true, false, List, [], ◌∷◌, length, Some, inl, inr, refl, sym, ◌∙◌, ap, subst, arith}
+-- The candidates of one heap of ranks before and after a push, a look and a pop; for `Queue::insert`, `top`, `pop`.
+use Rattle.std.proofs.Common.{◌≡◌, ◌≢◌, ℕ, ◌-◌, ◌/◌, ◌%◌, ◌<◌, ◌≤◌, true, false, List, [], ◌∷◌, length, Option, None, Some, Result, Ok, Err, OnOk, OnErr, IfSome, IfNone, inl, inr, refl, sym, ◌∙◌, ap, subst, arith}
 use Rattle.std.proofs.lemmas.Bool.Decides.{nat_tests}
 use Rattle.std.proofs.lemmas.List.Sorted.{Contains-permutation, IsPermutation-sym, IsPermutation-map}
 use Rattle.std.proofs.lemmas.Map.Keys.{IsDistinct-IsPermutation, IsDistinct-cons, IsDistinct-head, IsDistinct-tail}
 use Rattle.std.specs.List.{IsDistinct, AllByRecursion}
 use Rattle.std.specs.List.Sorted.{IsPermutation}
 use Rattle.std.specs.Ordering.{nat_cmp, is_lt}
-use Rattle.std.specs.Prelude.{slice_index, slice_index_or}
+use Rattle.std.specs.Prelude.{slice_index_or}
 use Rattle.std.specs.BinaryHeap.{IsUpperBound}
 use Rattle.iloc_sched.specs.declared.cycle.candidate.Candidate.{Candidate}
 use Rattle.iloc_sched.specs.Steps.Members.{In}
-use Rattle.iloc_sched.specs.Steps.Order.{rank, of_rank, by_rank, same_number, AreRanked, AreUpTo, IsFirst, IsGreatestRank}
+use Rattle.iloc_sched.specs.Steps.Order.{rank, of_rank, by_rank, same_number, AreRanked, IsFirst, IsGreatestRank}
 use Rattle.iloc_sched.specs.Steps.Changes.{IsFirstOf, HasNone, Adds, Removes}
 use Rattle.iloc_sched.proofs.Basics.Cases.{by_lt}
 use Rattle.iloc_sched.proofs.Basics.Members.{contains_from, in_from}
@@ -49,7 +48,7 @@ greater_first r s most = by_lt (s / 4294967296) (r / 4294967296) (λ above. inl 
 not_below : (r s : ℕ) → is_lt (nat_cmp r s) ≡ false → s ≤ r
 not_below r s above = grind (arith, nat_tests)
 
-pub up_to_bound : (ranks : List ℕ) (r : ℕ) → IsUpperBound nat_cmp r ranks → AreUpTo r ranks
+up_to_bound : (ranks : List ℕ) (r : ℕ) → IsUpperBound nat_cmp r ranks → AllByRecursion (λ s. s ≤ r) ranks
 up_to_bound ranks r bound = all_from (λ s. s ≤ r) ranks (λ s held. not_below r s
     (all_in (λ s. is_lt (nat_cmp r s) ≡ false) ranks s bound held))
 
@@ -132,28 +131,30 @@ module _ (ranks ranks' : List ℕ) (r : ℕ) (moved : IsPermutation ranks (r ∷
         (λ s there. greater_first r s (all_in (λ s. s ≤ r) ranks s (up_to_bound ranks r bound) there)),
   )
 
--- the greatest at hand
-pub none_up_to : (ranks : List ℕ) (n : ℕ) → n ≡ length ranks → (0 < n → ⊥) → AreUpTo 0 ranks
-none_up_to [] n size none = tt
-none_up_to (r ∷ ranks) n size none = absurd (none (omega arith))
+-- the greatest rank
+pub no_greatest : (ranks : List ℕ) (n : ℕ) → n ≡ length ranks → (0 < n → ⊥) → IsGreatestRank (In (by_rank ranks)) 0
+no_greatest [] n size none = record { above = λ c held. absurd held; one = inl refl }
+no_greatest (r ∷ ranks) n size none = absurd (none (omega arith))
 
-pub none_first : (ranks : List ℕ) (n : ℕ) → n ≡ length ranks → (0 < n → ⊥) → 0 ≡ slice_index ranks 0
-none_first [] n size none = refl
-none_first (r ∷ ranks) n size none = absurd (none (omega arith))
-
-pub is_at_front : (ranks : List ℕ) (n top : ℕ) → n ≡ length ranks → 0 < n → top ≡ slice_index_or ranks 0 top
-    → top ≡ slice_index ranks 0
-is_at_front [] n top size some is = absurd (omega arith)
-is_at_front (r ∷ ranks) n top size some is = is
-
-pub greatest_first : (ranks : List ℕ) (top : ℕ) → AreRanked (by_rank ranks) → AreUpTo top ranks
-    → top ≡ slice_index ranks 0 → IsGreatestRank (In (by_rank ranks)) top
-greatest_first [] top ranked most same = record { above = λ c held. absurd held; one = inl same }
-greatest_first (r ∷ ranks) top ranked most same = record {
+pub greatest_first : (ranks : List ℕ) (n top : ℕ) → n ≡ length ranks → 0 < n → top ≡ slice_index_or ranks 0 top
+    → AreRanked (by_rank ranks) → IsUpperBound nat_cmp top ranks → IsGreatestRank (In (by_rank ranks)) top
+greatest_first [] n top size some first ranked bound = absurd (omega arith)
+greatest_first (r ∷ ranks) n top size some first ranked bound = record {
   above = λ c there. (
-    in_ranks (λ d. rank d ≤ top) (r ∷ ranks) c there
-        (λ s held. subst (λ n. n ≤ top) (sym (rank_again s)) (all_in (λ s. s ≤ top) (r ∷ ranks) s most held)),
+    in_ranks (λ d. rank d ≤ top) (r ∷ ranks) c there (λ s held. subst (λ n. n ≤ top) (sym (rank_again s))
+        (all_in (λ s. s ≤ top) (r ∷ ranks) s (up_to_bound (r ∷ ranks) top bound) held)),
     all_in (λ (d : Candidate). d.number < 4294967295) (by_rank (r ∷ ranks)) c ranked there,
   );
-  one = inr (of_rank r, inl refl, rank_again r ∙ sym same);
+  one = inr (of_rank r, inl refl, rank_again r ∙ sym first);
 }
+
+-- what holds of ranks before and after a push that may be refused, and a pop that may find none
+pub after_push : (B : Type 0) {T E A : Type 0} (P : List ℕ → Type 0) (ranks ranks' : List ℕ) (pushed : Result T E) → P ranks
+    → OnOk pushed A → OnErr pushed ((ranks' ≡ ranks) × B) → (A → P ranks') → P ranks'
+after_push B P ranks ranks' (Ok x) held ok err new = new ok
+after_push B P ranks ranks' (Err x) held ok err new = subst P (sym err.0) held
+
+pub after_pop : (B : Type 0) {A : ℕ → Type 0} (P : List ℕ → Type 0) (ranks ranks' : List ℕ) (popped : Option ℕ) → P ranks
+    → IfSome popped A → IfNone popped ((ranks' ≡ ranks) × B) → ((r : ℕ) → A r → P ranks') → P ranks'
+after_pop B P ranks ranks' (Some r) held some none new = new r some
+after_pop B P ranks ranks' None held some none new = subst P (sym none.0) held

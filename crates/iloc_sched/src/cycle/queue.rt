@@ -1,39 +1,23 @@
 //! The ready operations of one class.
-ghost use Rattle.std.specs.Prelude.{◌≡◌, ◌-◌, ◌<◌, ◌^◌, [], slice_index, OnOk};
+ghost use Rattle.std.specs.Prelude.{◌≡◌, ◌-◌, ◌<◌, ◌^◌, [], OnOk};
 ghost use Rattle.std.specs.List.{IsDistinct};
 ghost use Rattle.std.specs.Ordering.{nat_cmp};
 ghost use Rattle.std.specs.BinaryHeap.{IsHeap, heap_items};
 ghost use Rattle.std.proofs.Props.{props};
-ghost use Rattle.iloc_sched.specs.Steps.Order.{AreRanked, AreUpTo, by_rank, same_number};
+ghost use Rattle.iloc_sched.specs.Steps.Order.{AreRanked, by_rank, same_number};
 
 use crate::cycle::candidate::Candidate;
 use iloc_ops::NoMemory;
 use std::alloc::Global;
 use std::collections::BinaryHeap;
 
-/// The greatest of a heap of ranks, 0 where there is none.
-fn top_of(heap: &BinaryHeap<u64>) -> u64
-    requires { IsHeap nat_cmp (heap_items heap.now) }
-    ensures up_to { AreUpTo result (heap_items heap.now) }
-    ensures first { result ≡ slice_index (heap_items heap.now) 0 }
-{
-    match heap.peek() {
-        Some(first) => *first,
-        None => 0,
-    }
-}
-
-/// Ready operations, each at most once, by their ranks. The greatest rank is at hand.
+/// Ready operations, each at most once, by their ranks.
 #[derive(Drop)]
 pub struct Queue {
     pub heap: BinaryHeap<u64>,
-    // The greatest rank, 0 where there is none.
-    top: u64,
     pub ghost ordered: { IsHeap nat_cmp (heap_items heap) } by { Prim.hlevel props },
     pub ghost distinct: { IsDistinct same_number (by_rank (heap_items heap)) } by { Prim.hlevel props },
     pub ghost ranked: { AreRanked (by_rank (heap_items heap)) } by { Prim.hlevel props },
-    pub ghost up_to_top: { AreUpTo top (heap_items heap) } by { Prim.hlevel props },
-    pub ghost first: { top ≡ slice_index (heap_items heap) 0 } by { Prim.hlevel props },
 }
 
 impl Queue {
@@ -47,7 +31,6 @@ impl Queue {
     {
         Queue {
             heap: BinaryHeap::new(alloc),
-            top: 0,
         }
     }
 
@@ -56,14 +39,16 @@ impl Queue {
         ensures { heap_items self.new.heap ≡ [] }
     {
         self.heap.clear();
-        self.top = 0;
     }
 
     /// The rank of the first, 0 where there is none.
     pub fn top(&self) -> u64
         ensures { IsGreatestRank (In (by_rank (heap_items self.now.heap))) result }
     {
-        self.top
+        match self.heap.peek() {
+            Some(first) => *first,
+            None => 0,
+        }
     }
 
     /// Adds an operation.
@@ -73,7 +58,6 @@ impl Queue {
         ensures { OnOk result (Adds (by_rank (heap_items self.old.heap)) (by_rank (heap_items self.new.heap)) candidate) }
     {
         self.heap.push(candidate.rank())?;
-        self.top = top_of(&self.heap);
         Ok(())
     }
 
@@ -83,7 +67,6 @@ impl Queue {
         ensures popped { Popped (by_rank (heap_items self.old.heap)) (by_rank (heap_items self.new.heap)) result }
     {
         let rank = self.heap.pop()?;
-        self.top = top_of(&self.heap);
         Some(Candidate::of_rank(rank))
     }
 }
