@@ -85,7 +85,7 @@ fn line_at(bytes: &[u8]) -> Option<Line<'_>>
 
 /// No number was capped.
 #[inline(always)]
-pub fn are_within_limit(numbers: &[u32]) -> bool
+fn are_within_limit(numbers: &[u32]) -> bool
     ensures { result ≡ list_all (λ n. nat_lt n ABOVE_LIMIT) numbers.now }
 {
     numbers.iter().all(|number| *number < ABOVE_LIMIT)

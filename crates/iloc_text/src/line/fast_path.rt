@@ -55,27 +55,14 @@ fn place_behind_comma(bytes: &[u8], at: usize) -> usize
     }
 }
 
-/// Whether the two bytes of an arrow are at the place.
-#[inline(always)]
-fn is_bare_arrow(bytes: &[u8], at: usize) -> bool
-    requires { at + 2 ≤ length bytes.now }
-    ensures { result ≡ true → (get_or bytes.now at 0 ≡ 61) × (get_or bytes.now (at + 1) 0 ≡ 62) }
-{
-    bytes[at] == b'=' && bytes[at + 1] == b'>'
-}
-
-/// The place after an arrow at a place and any blanks around it; 0 if there is none, or too many blanks. An arrow
-/// without blanks is tried first.
+/// The place after an arrow at a place and any blanks around it; 0 if there is none, or too many blanks.
 #[cold]
 #[inline(never)]
 fn place_behind_arrow(bytes: &[u8], at: usize) -> usize
-    requires { at + 3 ≤ length bytes.now }
+    requires { at ≤ length bytes.now }
     ensures is { 0 < result → arrow_at (drop at bytes.now) ≡ Some (drop result bytes.now) }
     ensures near { result ≤ at + MOST_PASSED }
 {
-    if is_bare_arrow(bytes, at) && bytes[at + 2] == b'r' {
-        return at + 2;
-    }
     match arrow_at(&bytes[at..]) {
         Some(rest) => place_of(bytes, rest, at + MOST_PASSED),
         None => 0,
@@ -179,15 +166,14 @@ fn constant_behind_comma(bytes: &[u8], at: usize) -> Option<(u32, usize)>
     }
 }
 
-/// Whether the four bytes of an arrow with a space on both sides are at the place. They are compared as one number.
+/// Whether the four bytes of an arrow with a space on both sides are at the place.
 #[inline(always)]
 fn is_spaced_arrow(bytes: &[u8], at: usize) -> bool
     requires { at + 4 ≤ length bytes.now }
     ensures { result ≡ true → (get_or bytes.now at 0 ≡ 32) × (get_or bytes.now (at + 1) 0 ≡ 61)
         × (get_or bytes.now (at + 2) 0 ≡ 62) × (get_or bytes.now (at + 3) 0 ≡ 32) }
 {
-    let four = [bytes[at], bytes[at + 1], bytes[at + 2], bytes[at + 3]];
-    u32::from_le_bytes(four) == u32::from_le_bytes([b' ', b'=', b'>', b' '])
+    bytes[at] == b' ' && bytes[at + 1] == b'=' && bytes[at + 2] == b'>' && bytes[at + 3] == b' '
 }
 
 /// An arrow at a place and a register.

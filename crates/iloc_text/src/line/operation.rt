@@ -13,7 +13,7 @@ use iloc_ops::{Op, Opcode, Operands, op_of};
 
 /// The numbers after an opcode by their places, with 0 in each place that it doesn't have.
 #[tactic(auto, using(crate::proofs::Zeros::zero_stands_for_none, crate::proofs::Zeros::zeros_stand_for_none, crate::proofs::Zeros::all_zeros_stand_for_none), unfolding(crate::specs::Steps::Scan::called_at, crate::specs::Steps::Scan::operand_then))]
-pub fn numbers_at(opcode: Opcode, bytes: &[u8]) -> Option<([u32; 3], &[u8])>
+fn numbers_at(opcode: Opcode, bytes: &[u8]) -> Option<([u32; 3], &[u8])>
     ensures { option_map (λ found. (op_of opcode found.0, found.1.now)) result ≡ called_at opcode bytes.now }
 {
     match shape_of(opcode) {
