@@ -1,5 +1,5 @@
 //! Texts that several threads read, each a part.
-ghost use Rattle.std.specs.Prelude.{◌≡◌, ◌≤◌, ◌++◌, length, IfOk, IfSome, List, map, OnOk};
+ghost use Rattle.std.specs.Prelude.{◌≡◌, ◌≤◌, length, IfOk, IfSome, List, map};
 ghost use Rattle.std.specs.List.{All, AllZip, flat_map};
 ghost use Rattle.iloc_ops.specs.declared.file.Block.{Block as block_value};
 ghost use Rattle.iloc_text.specs.Files.{Denotes};
@@ -59,18 +59,6 @@ fn routines_of(alloc: Global, text: &[u8], most: usize) -> Result<Vec<TextPart<'
     Ok(routines)
 }
 
-/// Adds blocks to the end, which moves none where there are none yet.
-fn append_blocks(all: &mut Vec<Block>, own: Blocks) -> Result<(), NoMemory>
-    ensures { OnOk result (all.new.items ≡ all.old.items ++ own) }
-{
-    let mut own = own.into_vec();
-    if all.is_empty() {
-        *all = own;
-        return Ok(());
-    }
-    Ok(all.append(&mut own)?)
-}
-
 /// The blocks of all parts in one list, or none where the text of a part is refused.
 fn blocks_of_parts(alloc: Global, parts: Vec<PartRead<'_>>) -> Result<Option<Blocks>, NoMemory>
     requires { All HoldsItsFile parts.items }
@@ -80,7 +68,7 @@ fn blocks_of_parts(alloc: Global, parts: Vec<PartRead<'_>>) -> Result<Option<Blo
     let mut blocks = Vec::new(alloc);
     for part in parts {
         match part.file {
-            Ok(file) => append_blocks(&mut blocks, file.blocks)?,
+            Ok(file) => blocks.append(&mut file.blocks.into_vec())?,
             Err(ReadFault::NoMemory) => return Err(NoMemory),
             Err(_) => return Ok(None),
         }

@@ -14,7 +14,8 @@ loop-part-preserved c =
     let rest = c.in-Some.ensures.steps.0 in
     let holds = All-head HoldsItsFile part c.next.new.self.rest.items (All-same HoldsItsFile _ _ (sym rest) now.left) in
     let denotes : Denotes part.text.now file.blocks = rw c.in-Ok.is at holds in
-    let added : c.append_blocks.new.all.items ≡ blocks ++ file.blocks = rw c.in-Ok.is at c.in_ok-append_blocks-in-Ok.ensures in
+    let added : c.append.new.self.items ≡ blocks ++ file.blocks = rw c.in-Ok.is at (c.in_ok-append-in-Ok.ensures.items
+    ∙ ap (λ more. blocks ++ more) c.into_vec.ensures) in
     record {
       left = All-rest HoldsItsFile part _ _ rest now.left;
       whole = λ more apart.
