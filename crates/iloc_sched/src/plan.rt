@@ -101,7 +101,8 @@ impl Plan {
     }
 
     /// Takes the operations of a block, with their latencies in place of priorities. Each is renamed and gets the edges
-    /// into it at once: the branch on its kind is seldom predicted, so it is taken once.
+    /// into it at once: the branch on its kind is seldom predicted, so it is taken once. With a loop for each `counts` takes
+    /// 5 to 9 % more processor time.
     fn gather(
         &mut self,
         names: &mut Names,

@@ -1,5 +1,6 @@
 //! Numbers. Those of few digits, as most are, are read without a branch for each digit, since how many digits a number
-//! has is hard to predict. Some bytes follow them, so the end of the text needs no test.
+//! has is hard to predict: with one `run` takes 11 % more processor time on blocks of outputs. Some bytes follow them, so
+//! the end of the text needs no test.
 ghost use Rattle.std.specs.Prelude.{◌≡◌, ◌≤◌, ◌<◌, ◌-◌, ◌+◌, ◌*◌, true, if◌then◌else◌, nat_lt, option_map, Some, IfSome, length, drop};
 ghost use Rattle.std.specs.Char.{is_ascii_digit};
 ghost use Rattle.iloc_text.specs.Steps.Scan.{capped, digits_after, number_at};
@@ -21,7 +22,8 @@ fn with_digit(value: u32, digit: u8) -> u32
     wide.min(u64::from(ABOVE_LIMIT)) as u32
 }
 
-/// The number that `value` becomes when the digits at the front are appended, and how many they are.
+/// The number that `value` becomes when the digits at the front are appended, and how many they are. Digits that can't lead
+/// above the limit are appended without a test: with one `counts` takes 16 % more processor time on a number of 16 MB.
 #[cold]
 #[inline(never)]
 fn with_digits(value: u32, bytes: &[u8]) -> (u32, usize)

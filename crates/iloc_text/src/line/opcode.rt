@@ -53,7 +53,8 @@ fn first_of<'a>(opcodes: &[Opcode], bytes: &'a [u8]) -> Option<(Opcode, &'a [u8]
 /// The longest opcode at the front of the bytes, and what follows it.
 ///
 /// The first letter picks the few opcodes whose texts are compared, each longer one before its own front.
-/// The compiler unrolls the comparisons, since these lists and the texts are known to it.
+/// The compiler unrolls the comparisons, since these lists and the texts are known to it. With one list of all opcodes
+/// `counts` takes 4 to 16 % more processor time.
 #[inline(always)]
 pub fn opcode_at(bytes: &[u8]) -> Option<(Opcode, &[u8])>
     ensures { IfSome result (λ found. bytes.now ≡ opcode_text found.0 ++ found.1.now) }

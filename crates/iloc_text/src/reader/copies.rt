@@ -8,7 +8,8 @@ use std::alloc::Global;
 use std::mem;
 use std::sync::Arc;
 
-/// A shared list has at most so many operations, or those of a single block that has more.
+/// A shared list has at most so many operations, or those of a single block that has more. With a list for each block
+/// `counts` takes 12 % more processor time on 65,535 blocks of some ten operations.
 const MOST_SHARED: usize = 4096;
 
 /// A block whose operations are in the list that is being filled.
