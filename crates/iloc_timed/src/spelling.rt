@@ -25,7 +25,6 @@ fn write_slot(line: &mut [u8], end: usize, ops: &[Op], slot: Option<usize>) -> u
 }
 
 /// Writes a row so that it ends at `end`, and gives where it starts.
-#[inline(always)]
 fn write_row(line: &mut [u8], end: usize, ops: &[Op], row: &Row) -> usize
     requires { (LONGEST_ROW ≤ end) × (end ≤ length line.old) }
     ensures space { result ≤ end }
