@@ -3,25 +3,26 @@ use iloc_text::{NoMemory, parts_of};
 use std::alloc::Global;
 use std::test::Fail;
 
-const TEXT: &[u8] = b"nop\nA: nop\n// B: nop\nnop\nB: nop\nnop : nop\n\tC :\nnop\nD:nop";
+const TEXT: &[u8] =
+    b"nop\nA: // the first\nnop\n// B:\nnop\nB:\nnop\nnop :\nnop\n\tC :\nnop\nD:\nnop";
 
 /// How many parts are wanted at most, and those that are found, with a bar behind each.
 const CASES: &[(usize, &[u8])] = &[
     (
         1,
-        b"nop\nA: nop\n// B: nop\nnop\nB: nop\nnop : nop\n\tC :\nnop\nD:nop|",
+        b"nop\nA: // the first\nnop\n// B:\nnop\nB:\nnop\nnop :\nnop\n\tC :\nnop\nD:\nnop|",
     ),
     (
         2,
-        b"nop\nA: nop\n// B: nop\nnop\nB: nop|nop : nop\n\tC :\nnop\nD:nop|",
+        b"nop\nA: // the first\nnop\n// B:\nnop|B:\nnop\nnop :\nnop\n\tC :\nnop\nD:\nnop|",
     ),
     (
         3,
-        b"nop\nA: nop\n// B: nop\nnop|B: nop\nnop : nop|\tC :\nnop\nD:nop|",
+        b"nop\nA: // the first\nnop\n// B:\nnop|B:\nnop\nnop :\nnop|\tC :\nnop\nD:\nnop|",
     ),
     (
         8,
-        b"nop\nA: nop\n// B: nop\nnop|B: nop|nop : nop|\tC :\nnop|D:nop|",
+        b"nop\nA: // the first\nnop\n// B:\nnop|B:\nnop|nop :\nnop|\tC :\nnop|D:\nnop|",
     ),
 ];
 
