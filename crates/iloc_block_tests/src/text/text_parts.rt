@@ -27,9 +27,9 @@ const CASES: &[(usize, &[u8])] = &[
 ];
 
 /// The parts that are found, with a bar behind each.
-fn barred(alloc: Global, most: usize) -> Result<Vec<u8>, NoMemory> {
+fn barred(alloc: Global, text: &[u8], most: usize) -> Result<Vec<u8>, NoMemory> {
     let mut all = Vec::new(alloc);
-    for part in parts_of(alloc, TEXT, most)? {
+    for part in parts_of(alloc, text, most)? {
         all.extend_from_slice(part)?;
         all.push(b'|')?;
     }
@@ -39,7 +39,17 @@ fn barred(alloc: Global, most: usize) -> Result<Vec<u8>, NoMemory> {
 #[test]
 fn falls_into_parts_before_labels(rt: HostRuntime) -> Result<(), Fail> {
     for (most, wanted) in CASES {
-        assert_list(&rt, &barred(rt.alloc(), *most)?, wanted);
+        assert_list(&rt, &barred(rt.alloc(), TEXT, *most)?, wanted);
     }
+    Ok(())
+}
+
+#[test]
+fn falls_into_parts_before_a_label_and_an_operation(rt: HostRuntime) -> Result<(), Fail> {
+    const LONG: &[u8] =
+        b"nop\nnop\nnop\nnop\nnop\nnop\nnop\nB: nop\n// an operation behind a label is found where all that it can take in follows, and so much is this comment, to its very last word here";
+    const WANTED: &[u8] =
+        b"nop\nnop\nnop\nnop\nnop\nnop\nnop|B: nop\n// an operation behind a label is found where all that it can take in follows, and so much is this comment, to its very last word here|";
+    assert_list(&rt, &barred(rt.alloc(), LONG, 8)?, WANTED);
     Ok(())
 }
