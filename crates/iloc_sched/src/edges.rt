@@ -24,6 +24,9 @@ use iloc_ops::{MAX_OPS, NoMemory, Reg};
 use iloc_timed::{Kind, Latencies};
 use std::alloc::Global;
 
+/// At most so many edges are kept for each operation.
+const MOST_EDGES: usize = 5;
+
 /// A delay pair that is kept: the operation `to` may be issued `delay` cycles after `from`.
 #[derive(Clone, Copy, Debug, Drop)]
 pub struct Edge {
@@ -52,7 +55,7 @@ impl Edges {
     ghost use Rattle.iloc_sched.specs.Steps.Graph.{IsGraphOf};
     ghost use Rattle.iloc_sched.specs.Steps.Lasts.{IsNext, loads_before};
     ghost use Rattle.iloc_sched.specs.Steps.Registers.{listed};
-    ghost use Rattle.iloc_sched.specs.Steps.PartialGraph.{IsPartialGraph, KeepsFrame, Grows, AddsFrom, CoversUse, CoversUses, CoversMemory};
+    ghost use Rattle.iloc_sched.specs.Steps.PartialGraph.{HasCapacity, IsPartialGraph, KeepsFrame, KeepsCapacity, Grows, AddsFrom, CoversUse, CoversUses, CoversMemory};
     ghost use Rattle.iloc_sched.specs.Steps.Successors.{leads_into};
     ghost use Rattle.iloc_sched.specs.Steps.Views.{edge_at, graph_of};
 
@@ -123,11 +126,13 @@ impl Edges {
             → IsPartialGraph lat ops (graph_of self.new) 0) }
         ensures starts { OnOk result (length self.new.starts.items ≡ 1) }
         ensures edges { OnOk result (length self.new.edges.items ≡ 0) }
+        ensures capacity { OnOk result (HasCapacity self.new count) }
     {
         self.edges.clear();
+        self.edges.reserve(MOST_EDGES * count)?;
         self.starts.clear();
         self.starts.reserve(count + 1)?;
-        self.starts.push(0)?;
+        self.starts.push_reserved(0);
         self.heads.clear();
         self.heads.resize(count, None)?;
         Ok(())
@@ -135,74 +140,78 @@ impl Edges {
 
     /// No operation, with capacity for `space`.
     pub fn empty(&mut self, space: usize) -> Result<(), NoMemory>
+        requires { space ≤ MAX_OPS }
         ensures partial { OnOk result ((lat : Latencies) (ops : List Op) → length ops ≡ 0
             → IsPartialGraph lat ops (graph_of self.new) 0) }
         ensures starts { OnOk result (length self.new.starts.items ≡ 1) }
         ensures edges { OnOk result (length self.new.edges.items ≡ 0) }
+        ensures capacity { OnOk result (HasCapacity self.new space) }
     {
         self.clear(0)?;
+        self.edges.reserve(MOST_EDGES * space)?;
         self.starts.reserve(space)?;
         self.heads.reserve(space)?;
         Ok(())
     }
 
     /// One operation more, with no edge out of it yet.
-    pub fn grow(&mut self) -> Result<(), NoMemory>
-        requires { length self.old.heads.items < MAX_OPS }
-        ensures heads { OnOk result (self.new.heads.items ≡ self.old.heads.items ++ None ∷ []) }
+    pub fn grow(&mut self)
+        requires few { length self.old.heads.items < MAX_OPS }
+        requires capacity { HasCapacity self.old (length self.old.heads.items + 1) }
+        ensures heads { self.new.heads.items ≡ self.old.heads.items ++ None ∷ [] }
         ensures edges { self.new.edges ≡ self.old.edges }
         ensures starts { self.new.starts ≡ self.old.starts }
+        ensures capacity { KeepsCapacity self.old self.new }
     {
-        self.heads.push(None)?;
-        Ok(())
+        self.heads.push_reserved(None);
     }
 
     /// Adds an edge.
-    fn add(&mut self, from: u32, to: u32, delay: u32) -> Result<(), NoMemory>
+    fn add(&mut self, from: u32, to: u32, delay: u32)
         requires space { length self.old.edges.items < 5 * length self.old.heads.items }
+        requires capacity { HasCapacity self.old (length self.old.heads.items) }
         requires there { from < length self.old.heads.items }
-        ensures adds { OnOk result (AddsFrom (λ i. i ≡ from) (graph_of self.old) (graph_of self.new) to delay) }
-        ensures count { OnOk result (length self.new.edges.items ≡ length self.old.edges.items + 1) }
+        ensures adds { AddsFrom (λ i. i ≡ from) (graph_of self.old) (graph_of self.new) to delay }
+        ensures count { length self.new.edges.items ≡ length self.old.edges.items + 1 }
         ensures frame { KeepsFrame self.old self.new }
     {
         let place = self.edges.len() as u32;
         let previous = self.heads[from as usize];
-        self.edges.push(Edge {
+        self.edges.push_reserved(Edge {
             from,
             to,
             delay,
             previous,
-        })?;
+        });
         self.heads[from as usize] = Some(place);
-        Ok(())
     }
 
     /// Adds an edge from an operation that there may be.
-    fn add_from(&mut self, from: Option<u32>, to: u32, delay: u32) -> Result<(), NoMemory>
+    fn add_from(&mut self, from: Option<u32>, to: u32, delay: u32)
         requires space { length self.old.edges.items < 5 * length self.old.heads.items }
+        requires capacity { HasCapacity self.old (length self.old.heads.items) }
         requires there { (i : ℕ) → from ≡ Some i → i < length self.old.heads.items }
-        ensures adds { OnOk result (AddsFrom (λ i. from ≡ Some i) (graph_of self.old) (graph_of self.new) to delay) }
-        ensures count { OnOk result (length self.new.edges.items ≤ length self.old.edges.items + 1) }
+        ensures adds { AddsFrom (λ i. from ≡ Some i) (graph_of self.old) (graph_of self.new) to delay }
+        ensures count { length self.new.edges.items ≤ length self.old.edges.items + 1 }
         ensures frame { KeepsFrame self.old self.new }
     {
-        match from {
-            Some(i) => self.add(i, to, delay),
-            None => Ok(()),
+        if let Some(i) = from {
+            self.add(i, to, delay);
         }
     }
 
     /// Adds an edge from each of some operations.
-    fn add_each(&mut self, from: &[u32], to: u32, delay: u32) -> Result<(), NoMemory>
+    fn add_each(&mut self, from: &[u32], to: u32, delay: u32)
         requires space { length self.old.edges.items + length from.now ≤ 5 * length self.old.heads.items }
+        requires capacity { HasCapacity self.old (length self.old.heads.items) }
         requires there { (i : ℕ) → In from.now i → i < length self.old.heads.items }
-        ensures adds { OnOk result (AddsFrom (In from.now) (graph_of self.old) (graph_of self.new) to delay) }
-        ensures count { OnOk result (length self.new.edges.items ≡ length self.old.edges.items + length from.now) }
+        ensures adds { AddsFrom (In from.now) (graph_of self.old) (graph_of self.new) to delay }
+        ensures count { length self.new.edges.items ≡ length self.old.edges.items + length from.now }
         ensures frame { KeepsFrame self.old self.new }
     {
         for i in from {
-            self.add(*i, to, delay)?;
+            self.add(*i, to, delay);
         }
-        Ok(())
     }
 
     /// Adds the edge into operation j for a register that it uses.
@@ -214,20 +223,20 @@ impl Edges {
         lasts: &Lasts,
         register: Reg,
         j: usize,
-    ) -> Result<(), NoMemory>
+    )
         requires next { IsNext operations.now.ops.now operations.now.kinds.now lasts.now j }
         requires own { operations.now.latencies.now ≡ map (latency latencies.now) operations.now.ops.now }
         requires used { Contains (used (op_at operations.now.ops.now j)) register }
         requires space { length self.old.edges.items < 5 * length self.old.heads.items }
+        requires capacity { HasCapacity self.old (length self.old.heads.items) }
         requires partial { IsPartialGraph latencies.now operations.now.ops.now (graph_of self.old) j }
-        ensures grows { OnOk result (Grows latencies.now operations.now.ops.now (graph_of self.old) (graph_of self.new) j) }
-        ensures covers { OnOk result (CoversUse latencies.now operations.now.ops.now (graph_of self.new) j register) }
-        ensures count { OnOk result (length self.new.edges.items ≤ length self.old.edges.items + 1) }
+        ensures grows { Grows latencies.now operations.now.ops.now (graph_of self.old) (graph_of self.new) j }
+        ensures covers { CoversUse latencies.now operations.now.ops.now (graph_of self.new) j register }
+        ensures count { length self.new.edges.items ≤ length self.old.edges.items + 1 }
         ensures frame { KeepsFrame self.old self.new }
     {
-        match lasts.definers.get(register) {
-            Some(i) => self.add(i, j as u32, operations.latencies[i as usize]),
-            None => Ok(()),
+        if let Some(i) = lasts.definers.get(register) {
+            self.add(i, j as u32, operations.latencies[i as usize]);
         }
     }
 
@@ -240,24 +249,24 @@ impl Edges {
         lasts: &Lasts,
         uses: Uses,
         j: usize,
-    ) -> Result<(), NoMemory>
+    )
         requires next { IsNext operations.now.ops.now operations.now.kinds.now lasts.now j }
         requires uses { listed uses ≡ used (op_at operations.now.ops.now j) }
         requires own { operations.now.latencies.now ≡ map (latency latencies.now) operations.now.ops.now }
         requires space { length self.old.edges.items + 2 ≤ 5 * length self.old.heads.items }
+        requires capacity { HasCapacity self.old (length self.old.heads.items) }
         requires partial { IsPartialGraph latencies.now operations.now.ops.now (graph_of self.old) j }
-        ensures grows { OnOk result (Grows latencies.now operations.now.ops.now (graph_of self.old) (graph_of self.new) j) }
-        ensures covers { OnOk result (CoversUses latencies.now operations.now.ops.now (graph_of self.new) j) }
-        ensures count { OnOk result (length self.new.edges.items ≤ length self.old.edges.items + 2) }
+        ensures grows { Grows latencies.now operations.now.ops.now (graph_of self.old) (graph_of self.new) j }
+        ensures covers { CoversUses latencies.now operations.now.ops.now (graph_of self.new) j }
+        ensures count { length self.new.edges.items ≤ length self.old.edges.items + 2 }
         ensures frame { KeepsFrame self.old self.new }
     {
         match uses {
-            Uses::Nothing => Ok(()),
+            Uses::Nothing => {}
             Uses::One(register) => self.add_use(operations, latencies, lasts, register, j),
             Uses::Two(left, right) => {
-                self.add_use(operations, latencies, lasts, left, j)?;
-                self.add_use(operations, latencies, lasts, right, j)?;
-                Ok(())
+                self.add_use(operations, latencies, lasts, left, j);
+                self.add_use(operations, latencies, lasts, right, j);
             }
         }
     }
@@ -270,29 +279,30 @@ impl Edges {
         latencies: &Latencies,
         lasts: &Lasts,
         j: usize,
-    ) -> Result<(), NoMemory>
+    )
         requires next { IsNext operations.now.ops.now operations.now.kinds.now lasts.now j }
         requires space { length self.old.edges.items + 2 + length lasts.now.loads.items ≤ 5 * length self.old.heads.items }
+        requires capacity { HasCapacity self.old (length self.old.heads.items) }
         requires partial { IsPartialGraph latencies.now operations.now.ops.now (graph_of self.old) j }
-        ensures grows { OnOk result (Grows latencies.now operations.now.ops.now (graph_of self.old) (graph_of self.new) j) }
-        ensures covers { OnOk result (CoversMemory latencies.now operations.now.ops.now (graph_of self.new) j) }
-        ensures count { OnOk result (length self.new.edges.items ≤ length self.old.edges.items + 2
-            + loads_before (kind (op_at operations.now.ops.now j)) lasts.now) }
+        ensures grows { Grows latencies.now operations.now.ops.now (graph_of self.old) (graph_of self.new) j }
+        ensures covers { CoversMemory latencies.now operations.now.ops.now (graph_of self.new) j }
+        ensures count { length self.new.edges.items ≤ length self.old.edges.items + 2
+            + loads_before (kind (op_at operations.now.ops.now j)) lasts.now }
         ensures frame { KeepsFrame self.old self.new }
     {
         let to = j as u32;
         match operations.kinds[j] {
             Kind::Load => self.add_from(lasts.store, to, latencies.store),
             Kind::Output => {
-                self.add_from(lasts.store, to, latencies.store)?;
-                self.add_from(lasts.output, to, 1)
+                self.add_from(lasts.store, to, latencies.store);
+                self.add_from(lasts.output, to, 1);
             }
             Kind::Store => {
-                self.add_from(lasts.store, to, 1)?;
-                self.add_from(lasts.output, to, 1)?;
-                self.add_each(&lasts.loads, to, 1)
+                self.add_from(lasts.store, to, 1);
+                self.add_from(lasts.output, to, 1);
+                self.add_each(&lasts.loads, to, 1);
             }
-            Kind::Mult | Kind::Other => Ok(()),
+            Kind::Mult | Kind::Other => {}
         }
     }
 
@@ -305,22 +315,24 @@ impl Edges {
         lasts: &Lasts,
         uses: Uses,
         j: usize,
-    ) -> Result<(), NoMemory>
+    )
         requires uses { listed uses ≡ used (op_at operations.now.ops.now j) }
         requires next { IsNext operations.now.ops.now operations.now.kinds.now lasts.now j }
         requires own { operations.now.latencies.now ≡ map (latency latencies.now) operations.now.ops.now }
         requires space { length self.old.edges.items + 4 + length lasts.now.loads.items ≤ 5 * length self.old.heads.items }
+        requires capacity { HasCapacity self.old (length self.old.heads.items) }
         requires starts { length self.old.starts.items ≡ j + 1 }
         requires partial { IsPartialGraph latencies.now operations.now.ops.now (graph_of self.old) j }
-        ensures partial { OnOk result (IsPartialGraph latencies.now operations.now.ops.now (graph_of self.new) (j + 1)) }
-        ensures count { OnOk result (length self.new.edges.items ≤ length self.old.edges.items + 4
-            + loads_before (kind (op_at operations.now.ops.now j)) lasts.now) }
-        ensures starts { OnOk result (length self.new.starts.items ≡ j + 2) }
+        ensures partial { IsPartialGraph latencies.now operations.now.ops.now (graph_of self.new) (j + 1) }
+        ensures count { length self.new.edges.items ≤ length self.old.edges.items + 4
+            + loads_before (kind (op_at operations.now.ops.now j)) lasts.now }
+        ensures starts { length self.new.starts.items ≡ j + 2 }
+        ensures heads { length self.new.heads.items ≡ length self.old.heads.items }
+        ensures capacity { KeepsCapacity self.old self.new }
     {
-        self.add_uses(operations, latencies, lasts, uses, j)?;
-        self.add_memory(operations, latencies, lasts, j)?;
-        self.starts.push(self.edges.len() as u32)?;
-        Ok(())
+        self.add_uses(operations, latencies, lasts, uses, j);
+        self.add_memory(operations, latencies, lasts, j);
+        self.starts.push_reserved(self.edges.len() as u32);
     }
 
     /// The kept edges of renamed operations, found fastest where their registers are below the limit.
@@ -342,7 +354,7 @@ impl Edges {
         lasts.clear(registers);
         for j in 0..operations.ops.len() {
             let registers = OperandRegisters::of(&operations.ops[j]);
-            self.add_all(operations, latencies, lasts, registers.uses, j)?;
+            self.add_all(operations, latencies, lasts, registers.uses, j);
             lasts.note(operations, registers.defines, j)?;
         }
         Ok(())

@@ -1,4 +1,4 @@
--- How many numbers pass a test, and of ascending ones how many follow; for `laws::least_bounds_the_cycles`.
+-- How many numbers pass a test; for `laws::least_bounds_the_cycles`.
 use Rattle.std.proofs.Common.{◌≡◌, ◌∙◌, ℕ, ◌+◌, ◌<◌, ◌≤◌, ◌/◌, zero, suc, Bool, true, false, cond, ◌&&◌, ◌||◌, ◌==◌, List, [], ◌∷◌, ◌++◌, length, map, filter, get_or, refl, sym, ap, ap₂, subst₂, inl, inr, arith}
 use Rattle.std.specs.Prelude.{count_by, nat_le}
 use Rattle.std.specs.List.{range_with_len}
@@ -157,12 +157,6 @@ among-short (x ∷ xs) a n =
 
 pub div-mono : (w a b : ℕ) → 0 < w → a ≤ b → a / w ≤ b / w
 div-mono w a b some h = le-div (a / w) b w some (let less = div-mul-le_self a w in omega arith)
-
--- Ascending numbers
-
--- each is at most the next
-abbrev pub Ascends : List ℕ → Type 0
-Ascends xs = (i j : ℕ) → i ≤ j → j < length xs → get_or xs i 0 ≤ get_or xs j 0
 
 pub all_pass : (q : ℕ) (xs : List ℕ) → ((j : ℕ) → j < length xs → q ≤ get_or xs j 0)
     → count_by (λ p. nat_le q p) xs ≡ length xs

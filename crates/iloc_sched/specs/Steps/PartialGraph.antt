@@ -1,5 +1,5 @@
 -- The kept edges while they are made.
-use Rattle.std.specs.Prelude.{ℕ, ◌+◌, ◌≡◌, ◌≢◌, ◌<◌, ◌≤◌, List, length, Some, Contains}
+use Rattle.std.specs.Prelude.{ℕ, ◌+◌, ◌≡◌, ◌≢◌, ◌<◌, ◌≤◌, ◌*◌, List, length, vec_capacity, Some, Contains}
 use Rattle.iloc_ops.specs.declared.op.Reg.{Reg}
 use Rattle.iloc_ops.specs.declared.op.Op.{Op}
 use Rattle.iloc_ops.specs.Registers.{used, defined}
@@ -48,10 +48,23 @@ pub record HasOneMore (graph graph' : Graph) (i j d : ℕ) : Type 0 where
   pub head : graph'.head i ≡ Some graph.count
   pub heads : (k : ℕ) → k ≢ i → graph'.head k ≡ graph.head k
 
+-- there is capacity for n operations and the edges into them
+pub record HasCapacity (e : Edges) (n : ℕ) : Type 0 where
+  pub starts : n < vec_capacity e.starts
+  pub heads : n ≤ vec_capacity e.heads
+  pub edges : 5 * n ≤ vec_capacity e.edges
+
+-- the capacities stay
+pub record KeepsCapacity (old new : Edges) : Type 0 where
+  pub starts : vec_capacity new.starts ≡ vec_capacity old.starts
+  pub heads : vec_capacity new.heads ≡ vec_capacity old.heads
+  pub edges : vec_capacity new.edges ≡ vec_capacity old.edges
+
 -- the operations and what leads into those before stay
 pub record KeepsFrame (old new : Edges) : Type 0 where
   pub heads : length new.heads.items ≡ length old.heads.items
   pub starts : new.starts ≡ old.starts
+  pub capacity : KeepsCapacity old new
 
 -- more edges into j, the others as they were
 pub record Grows (lat : Latencies) (ops : List Op) (graph graph' : Graph) (j : ℕ) : Type 0 where

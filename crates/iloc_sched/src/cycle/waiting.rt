@@ -69,13 +69,13 @@ impl Waiting {
         let mut place = edges.start(0);
         for j in 0..count {
             let end = edges.start(j + 1);
-            self.states.push(OperationState {
+            self.states.push_reserved(OperationState {
                 issued: None,
                 wait: Wait {
                     unmet: end - place,
                     earliest: 0,
                 },
-            })?;
+            });
             self.calendar.put_if(place == end, j as u32, 0);
             place = end;
         }

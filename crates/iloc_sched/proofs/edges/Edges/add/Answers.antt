@@ -5,7 +5,7 @@ use Rattle.std.proofs.lemmas.List.{get_or_read}
 
 pub returns-clause-adds : goal.returns-clause-adds
 returns-clause-adds c =
-    adds_one c.args.self.now.edges.items c.push.new.self.items c.args.self.now.starts.items c.args.self.now.heads.items
+    adds_one c.args.self.now.edges.items c.push_reserved.new.self.items c.args.self.now.starts.items c.args.self.now.heads.items
     c.args.from c.args.to c.args.delay c.len-place.result c.index-previous.result.now
     c.requires.there (omega arith) (get_or_read c.args.self.now.heads.items c.args.from c.index-previous.result.now
-    c.requires.there c.index-previous.ensures None) c.in_ok-push.ensures.items
+    c.requires.there c.index-previous.ensures None) c.push_reserved.ensures.items

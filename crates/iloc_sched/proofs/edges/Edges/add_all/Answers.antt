@@ -13,15 +13,15 @@ returns-clause-partial c =
     let ops = c.args.operations.now.ops.now in
     let j : ℕ = c.args.j in
     let graph = graph_of c.add_memory.new.self in
-    let grows = c.in_ok-add_memory.ensures.grows in
+    let grows = c.add_memory.ensures.grows in
     let uses : CoversUses lat ops graph j = λ r held. use_covered lat ops (graph_of c.add_uses.new.self) graph j r grows
-    (c.in_ok-add_uses.ensures.covers r held) in
+    (c.add_uses.ensures.covers r held) in
     let same_starts : c.add_memory.new.self.starts.items ≡ c.args.self.now.starts.items =
     ap (λ (v : Vec ℕ). v.items) (c.add_memory.ensures.frame.starts ∙ c.add_uses.ensures.frame.starts) in
     let size : length c.add_memory.new.self.starts.items ≡ j + 1 = ap (length {A = ℕ}) same_starts
     ∙ c.requires.starts in
-    let starts = starts_pushed c.add_memory.new.self.starts.items c.push.new.self.items c.len.result j
-    c.in_ok-push.ensures.items size in
+    let starts = starts_pushed c.add_memory.new.self.starts.items c.push_reserved.new.self.items c.len.result j
+    c.push_reserved.ensures.items size in
     let end : c.len.result ≡ length c.add_memory.new.self.edges.items = omega arith in
-    closed lat ops graph j grows.partial (near_is_covered lat ops graph j uses c.in_ok-add_memory.ensures.covers)
-    (λ k. get_or c.push.new.self.items k 0) starts.0 (starts.1 ∙ end)
+    closed lat ops graph j grows.partial (near_is_covered lat ops graph j uses c.add_memory.ensures.covers)
+    (λ k. get_or c.push_reserved.new.self.items k 0) starts.0 (starts.1 ∙ end)

@@ -21,9 +21,13 @@ loop-i-preserved c =
       adds = subst (λ ys. AddsFrom (In ys) (graph_of c.args.self.now) (graph_of c.add.new.self) c.args.to c.args.delay)
           (sym (take_more xs k 0 below))
           (adds_more (take k xs) _ (graph_of c.args.self.now) (graph_of c.loop-i.self) (graph_of c.add.new.self)
-          c.args.to c.args.delay c.loop-i.invariant.adds c.in_ok-add.ensures.adds);
-      count = omega (arith, c.in_ok-add.ensures.count);
-      frame = record { heads = omega arith; starts = cc };
+          c.args.to c.args.delay c.loop-i.invariant.adds c.add.ensures.adds);
+      count = omega (arith, c.add.ensures.count);
+      frame = record {
+        heads = omega arith;
+        starts = cc;
+        capacity = record { starts = omega arith; heads = omega arith; edges = omega arith };
+      };
     }
 
 pub returns-clause-adds : goal.returns-clause-adds

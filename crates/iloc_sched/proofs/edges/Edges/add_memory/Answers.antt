@@ -1,5 +1,4 @@
 use Rattle.std.proofs.Common.{subst}
-use Rattle.std.proofs.lemmas.Result.{on_ok_weaker}
 use Rattle.iloc_timed.specs.declared.kind.Kind.TheVariants as K
 use Rattle.iloc_sched.specs.Steps.Members.{In}
 use Rattle.iloc_sched.specs.Steps.PartialGraph.{AddsFrom}
@@ -9,49 +8,43 @@ use Rattle.iloc_sched.proofs.Graph.AddedEdges.{memory_load, memory_output, memor
 use Rattle.iloc_sched.proofs.edges.Edges.add_memory.Goals as goal
 
 pub returns-in-Load-clause-grows : goal.returns-in-Load-clause-grows
-returns-in-Load-clause-grows c = on_ok_weaker c.add_from.result
-    (λ adds. (memory_load _ _ _ _ c.requires.next.known c.requires.next.there _ (graph_of c.add_from.new.self)
-    c.requires.partial (kind_read _ _ _ K.Load _ c.requires.next.kinds_known c.requires.next.there c.in-Load.is) adds).0)
-    c.add_from.ensures.adds
+returns-in-Load-clause-grows c =
+    (memory_load _ _ _ _ c.requires.next.known c.requires.next.there _ (graph_of c.add_from.new.self)
+    c.requires.partial (kind_read _ _ _ K.Load _ c.requires.next.kinds_known c.requires.next.there c.in-Load.is) c.add_from.ensures.adds).0
 
 pub returns-in-Load-clause-covers : goal.returns-in-Load-clause-covers
-returns-in-Load-clause-covers c = on_ok_weaker c.add_from.result
-    (λ adds. (memory_load _ _ _ _ c.requires.next.known c.requires.next.there _ (graph_of c.add_from.new.self)
-    c.requires.partial (kind_read _ _ _ K.Load _ c.requires.next.kinds_known c.requires.next.there c.in-Load.is) adds).1)
-    c.add_from.ensures.adds
+returns-in-Load-clause-covers c =
+    (memory_load _ _ _ _ c.requires.next.known c.requires.next.there _ (graph_of c.add_from.new.self)
+    c.requires.partial (kind_read _ _ _ K.Load _ c.requires.next.kinds_known c.requires.next.there c.in-Load.is) c.add_from.ensures.adds).1
 
-pub returns-in_ok-add_from-in-Output-clause-grows : goal.returns-in_ok-add_from-in-Output-clause-grows
-returns-in_ok-add_from-in-Output-clause-grows c = on_ok_weaker c.add_from-in-Output-2.result
-    (λ adds. (memory_output _ _ _ _ c.requires.next.known c.requires.next.there _ (graph_of c.add_from-in-Output.new.self)
+pub returns-in-Output-clause-grows : goal.returns-in-Output-clause-grows
+returns-in-Output-clause-grows c =
+    (memory_output _ _ _ _ c.requires.next.known c.requires.next.there _ (graph_of c.add_from-in-Output.new.self)
     (graph_of c.add_from-in-Output-2.new.self) c.requires.partial
     (kind_read _ _ _ K.Output _ c.requires.next.kinds_known c.requires.next.there c.in-Output.is)
-    c.in_ok-add_from-in-Output.ensures.adds adds).0)
-    c.add_from-in-Output-2.ensures.adds
+    c.add_from-in-Output.ensures.adds c.add_from-in-Output-2.ensures.adds).0
 
-pub returns-in_ok-add_from-in-Output-clause-covers : goal.returns-in_ok-add_from-in-Output-clause-covers
-returns-in_ok-add_from-in-Output-clause-covers c = on_ok_weaker c.add_from-in-Output-2.result
-    (λ adds. (memory_output _ _ _ _ c.requires.next.known c.requires.next.there _ (graph_of c.add_from-in-Output.new.self)
+pub returns-in-Output-clause-covers : goal.returns-in-Output-clause-covers
+returns-in-Output-clause-covers c =
+    (memory_output _ _ _ _ c.requires.next.known c.requires.next.there _ (graph_of c.add_from-in-Output.new.self)
     (graph_of c.add_from-in-Output-2.new.self) c.requires.partial
     (kind_read _ _ _ K.Output _ c.requires.next.kinds_known c.requires.next.there c.in-Output.is)
-    c.in_ok-add_from-in-Output.ensures.adds adds).1)
-    c.add_from-in-Output-2.ensures.adds
+    c.add_from-in-Output.ensures.adds c.add_from-in-Output-2.ensures.adds).1
 
-pub returns-in_ok-add_from-in-Store-2-clause-grows : goal.returns-in_ok-add_from-in-Store-2-clause-grows
-returns-in_ok-add_from-in-Store-2-clause-grows c = on_ok_weaker c.add_each.result
-    (λ adds. (memory_store _ _ _ _ c.requires.next.known c.requires.next.there _ (graph_of c.add_from-in-Store.new.self)
+pub returns-in-Store-clause-grows : goal.returns-in-Store-clause-grows
+returns-in-Store-clause-grows c =
+    (memory_store _ _ _ _ c.requires.next.known c.requires.next.there _ (graph_of c.add_from-in-Store.new.self)
     (graph_of c.add_from-in-Store-2.new.self) (graph_of c.add_each.new.self) c.requires.partial
     (kind_read _ _ _ K.Store _ c.requires.next.kinds_known c.requires.next.there c.in-Store.is)
-    c.in_ok-add_from-in-Store.ensures.adds c.in_ok-add_from-in-Store-2.ensures.adds
+    c.add_from-in-Store.ensures.adds c.add_from-in-Store-2.ensures.adds
     (subst (λ xs. AddsFrom (In xs) (graph_of c.add_from-in-Store-2.new.self) (graph_of c.add_each.new.self) c.args.j
-    1) c.deref.ensures.value adds)).0)
-    c.add_each.ensures.adds
+    1) c.deref.ensures.value c.add_each.ensures.adds)).0
 
-pub returns-in_ok-add_from-in-Store-2-clause-covers : goal.returns-in_ok-add_from-in-Store-2-clause-covers
-returns-in_ok-add_from-in-Store-2-clause-covers c = on_ok_weaker c.add_each.result
-    (λ adds. (memory_store _ _ _ _ c.requires.next.known c.requires.next.there _ (graph_of c.add_from-in-Store.new.self)
+pub returns-in-Store-clause-covers : goal.returns-in-Store-clause-covers
+returns-in-Store-clause-covers c =
+    (memory_store _ _ _ _ c.requires.next.known c.requires.next.there _ (graph_of c.add_from-in-Store.new.self)
     (graph_of c.add_from-in-Store-2.new.self) (graph_of c.add_each.new.self) c.requires.partial
     (kind_read _ _ _ K.Store _ c.requires.next.kinds_known c.requires.next.there c.in-Store.is)
-    c.in_ok-add_from-in-Store.ensures.adds c.in_ok-add_from-in-Store-2.ensures.adds
+    c.add_from-in-Store.ensures.adds c.add_from-in-Store-2.ensures.adds
     (subst (λ xs. AddsFrom (In xs) (graph_of c.add_from-in-Store-2.new.self) (graph_of c.add_each.new.self) c.args.j
-    1) c.deref.ensures.value adds)).1)
-    c.add_each.ensures.adds
+    1) c.deref.ensures.value c.add_each.ensures.adds)).1

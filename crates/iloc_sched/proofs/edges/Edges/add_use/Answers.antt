@@ -1,26 +1,17 @@
-use Rattle.std.proofs.Common.{ℕ, ◌≡◌, ◌<◌, length, get_or, Some, sym, ◌∙◌, arith}
-use Rattle.std.proofs.lemmas.Result.{on_ok_weaker}
+use Rattle.std.proofs.Common.{◌≡◌, ◌<◌, length, get_or, Some, sym, ◌∙◌, arith}
 use Rattle.iloc_meaning.specs.Trace.{op_at}
 use Rattle.iloc_timed.specs.Latency.{latency}
 use Rattle.iloc_sched.specs.Steps.ByRegister.{number_at}
-use Rattle.iloc_sched.specs.Steps.PartialGraph.{AddsFrom, Grows, CoversUse}
+use Rattle.iloc_sched.specs.Steps.PartialGraph.{Grows, CoversUse}
 use Rattle.iloc_sched.specs.Steps.Views.{graph_of}
 use Rattle.iloc_sched.proofs.Graph.ListedKinds.{latency_listed}
 use Rattle.iloc_sched.proofs.Graph.NearPairs.{definer_there}
 use Rattle.iloc_sched.proofs.Graph.AddedEdges.{adds_use}
 use Rattle.iloc_sched.proofs.edges.Edges.add_use.Goals as goal
 
--- the delay of the edge
-abbrev delay_read : goal.After-add → ℕ
-delay_read c = get_or c.args.operations.now.latencies.now c.in-Some.i 0
-
-abbrev Both : goal.After-add → Type 0
-Both c =
-    AddsFrom (λ i. i ≡ c.in-Some.i) (graph_of c.args.self.now) (graph_of c.add.new.self) c.args.j (delay_read c)
-    → Grows c.args.latencies.now c.args.operations.now.ops.now (graph_of c.args.self.now) (graph_of c.add.new.self) c.args.j
-    × CoversUse c.args.latencies.now c.args.operations.now.ops.now (graph_of c.add.new.self) c.args.j c.args.register
-
-both : (c : goal.After-add) → Both c
+both : (c : goal.After-add) → Grows c.args.latencies.now c.args.operations.now.ops.now (graph_of c.args.self.now)
+    (graph_of c.add.new.self) c.args.j × CoversUse c.args.latencies.now c.args.operations.now.ops.now
+    (graph_of c.add.new.self) c.args.j c.args.register
 both c =
     let ops = c.args.operations.now.ops.now in
     let at : number_at c.args.lasts.now.definers c.args.register.0 ≡ Some c.in-Some.i = sym c.get.ensures
@@ -29,14 +20,15 @@ both c =
     (definer_there c.args.latencies.now ops c.args.j c.args.lasts.now c.requires.next.known c.args.register c.in-Some.i
     at).0 in
     let there : c.in-Some.i < length ops = omega arith in
-    let long : delay_read c ≡ latency c.args.latencies.now (op_at ops c.in-Some.i) =
+    let delay = get_or c.args.operations.now.latencies.now c.in-Some.i 0 in
+    let long : delay ≡ latency c.args.latencies.now (op_at ops c.in-Some.i) =
     latency_listed c.args.latencies.now ops c.args.operations.now.latencies.now c.in-Some.i 0 c.requires.own there in
     adds_use c.args.latencies.now ops c.args.lasts.now c.args.j c.requires.next.known c.requires.next.there
-    (graph_of c.args.self.now) (graph_of c.add.new.self) c.args.register c.in-Some.i (delay_read c)
-    c.requires.next.renamed c.requires.used c.requires.partial at long
+    (graph_of c.args.self.now) (graph_of c.add.new.self) c.args.register c.in-Some.i delay
+    c.requires.next.renamed c.requires.used c.requires.partial at long c.add.ensures.adds
 
 pub returns-in-Some-clause-grows : goal.returns-in-Some-clause-grows
-returns-in-Some-clause-grows c = on_ok_weaker c.add.result (λ adds. (both c adds).0) c.add.ensures.adds
+returns-in-Some-clause-grows c = (both c).0
 
 pub returns-in-Some-clause-covers : goal.returns-in-Some-clause-covers
-returns-in-Some-clause-covers c = on_ok_weaker c.add.result (λ adds. (both c adds).1) c.add.ensures.adds
+returns-in-Some-clause-covers c = (both c).1

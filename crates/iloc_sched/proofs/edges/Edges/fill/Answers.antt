@@ -5,12 +5,19 @@ use Rattle.iloc_sched.proofs.Graph.PartialGraphs.{kept_at_end}
 use Rattle.iloc_sched.proofs.edges.Edges.fill.Goals as goal
 
 pub loop-j-init : goal.loop-j-init
-loop-j-init c = record {
-  partial = c.in_ok-clear.ensures.partial c.args.latencies.now c.args.operations.now.ops.now refl;
-  lasts = c.clear-2.ensures.lasts c.args.operations.now.ops.now;
-  starts = c.in_ok-clear.ensures.starts;
-  count = omega (arith, c.in_ok-clear.ensures.edges, c.clear-2.ensures.loads);
-}
+loop-j-init c =
+    let size = (c.in_ok-clear.ensures.partial c.args.latencies.now c.args.operations.now.ops.now refl).size in
+    record {
+      partial = c.in_ok-clear.ensures.partial c.args.latencies.now c.args.operations.now.ops.now refl;
+      lasts = c.clear-2.ensures.lasts c.args.operations.now.ops.now;
+      starts = c.in_ok-clear.ensures.starts;
+      capacity = let capacity = c.in_ok-clear.ensures.capacity in record {
+        starts = omega (arith, size, capacity.starts);
+        heads = omega (arith, size, capacity.heads);
+        edges = omega (arith, size, capacity.edges);
+      };
+      count = omega (arith, c.in_ok-clear.ensures.edges, c.clear-2.ensures.loads);
+    }
 
 pub returns-clause-graph : goal.returns-clause-graph
 returns-clause-graph c =

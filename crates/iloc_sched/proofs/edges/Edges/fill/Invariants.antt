@@ -1,6 +1,6 @@
 use Rattle.std.proofs.Common.{◌≡◌, ◌+◌, ◌*◌, ◌≤◌, length}
 use Rattle.iloc_sched.specs.Steps.Lasts.{IsLasts}
-use Rattle.iloc_sched.specs.Steps.PartialGraph.{IsPartialGraph}
+use Rattle.iloc_sched.specs.Steps.PartialGraph.{HasCapacity, IsPartialGraph}
 use Rattle.iloc_sched.specs.Steps.Views.{graph_of}
 use Rattle.iloc_sched.proofs.edges.Edges.fill.Given as goal
 
@@ -9,5 +9,6 @@ invariant-loop-j l = record {
   partial : IsPartialGraph l.latencies l.operations.ops.now (graph_of l.self) l.j;
   lasts : IsLasts l.operations.ops.now l.lasts l.j;
   starts : length l.self.starts.items ≡ l.j + 1;
+  capacity : HasCapacity l.self (length l.self.heads.items);
   count : length l.self.edges.items + length l.lasts.loads.items ≤ 5 * l.j;
 }

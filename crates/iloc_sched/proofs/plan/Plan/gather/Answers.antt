@@ -42,6 +42,7 @@ loop-op-preserved c = elim c.if-not-is_nop.branch [
             omega arith;
         filling = w.in_ok-push.ensures.filling;
         latencies = w.push.ensures.latencies ∙ c.loop-op.invariant.latencies;
+        capacity = w.push.ensures.capacity _ c.loop-op.invariant.capacity;
       })
   | else-not-is_nop w ↦
       rw (
@@ -57,6 +58,7 @@ loop-op-preserved c = elim c.if-not-is_nop.branch [
         few = omega arith;
         filling = c.loop-op.invariant.filling;
         latencies = c.loop-op.invariant.latencies;
+        capacity = c.loop-op.invariant.capacity;
       })
 ]
 

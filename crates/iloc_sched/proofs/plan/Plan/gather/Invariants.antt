@@ -2,7 +2,7 @@ use Rattle.std.proofs.Common.{◌≡◌, ◌*◌, ◌≤◌, take, length}
 use Rattle.iloc_sched.specs.Renaming.{without_nops, numbering, renamed_by}
 use Rattle.iloc_sched.specs.Steps.NamingWalk.{Named}
 use Rattle.iloc_sched.specs.Steps.CurrentNames.{current_of}
-use Rattle.iloc_sched.specs.Steps.Filling.{IsFilling}
+use Rattle.iloc_sched.specs.Steps.Filling.{CanHold, IsFilling}
 use Rattle.iloc_sched.proofs.plan.Plan.gather.Given as goal
 
 abbrev pub invariant-loop-op : goal.invariant-loop-op
@@ -14,4 +14,5 @@ invariant-loop-op l = record {
   few : length l.self.ops.items ≤ l.op-index;
   filling : IsFilling l.self l.lasts;
   latencies : l.self.latencies ≡ l.fn.self.latencies;
+  capacity : CanHold l.self (length l.op-items);
 }

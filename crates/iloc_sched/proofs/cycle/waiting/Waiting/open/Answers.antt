@@ -29,15 +29,17 @@ loop-j-preserved c =
     let at = c.loop-j.invariant.place in
     let unmet : c.start-end.result - c.loop-j.place ≡ (graph_of e).start (c.loop-j.j + 1) - (graph_of e).start c.loop-j.j =
     ap (λ n. n - c.loop-j.place) c.start-end.ensures ∙ ap (λ n. (graph_of e).start (c.loop-j.j + 1) - n) at in
-    let v : Waiting = record { states = c.push.new.self; calendar = c.put_if.new.self } in
+    let v : Waiting = record { states = c.push_reserved.new.self; calendar = c.put_if.new.self } in
     record {
       opening = opening_more e c.loop-j.self v c.loop-j.j state (omega arith) c.loop-j.invariant.opening
-          c.in_ok-push.ensures.items refl unmet refl (nat_eq c.loop-j.place c.start-end.result)
+          c.push_reserved.ensures.items refl unmet refl (nat_eq c.loop-j.place c.start-end.result)
           c.put_if.ensures.put c.put_if.ensures.others c.put_if.ensures.space
           (λ is. let same : c.loop-j.place ≡ c.start-end.result = grind (arith, nat_tests) in sym at ∙ same ∙ c.start-end.ensures)
           (λ not same. let alike : c.loop-j.place ≡ c.start-end.result = at ∙ same ∙ sym c.start-end.ensures in
           grind (arith, nat_tests));
       place = c.start-end.ensures;
+      size = omega arith;
+      capacity = omega arith;
     }
 
 pub returns-clause-waits : goal.returns-clause-waits
