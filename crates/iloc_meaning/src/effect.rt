@@ -76,20 +76,14 @@ impl Effect {
         ensures { result ≡
             at_address (good_address address) (λ a. Effect.Gives (word_at memory.now a)) }
     {
-        match good_address(address) {
-            Some(address) => Effect::Gives(memory.get(address)),
-            None => Effect::Faults,
-        }
+        good_address(address).map_or(Effect::Faults, |address| Effect::Gives(memory.get(address)))
     }
 
     /// A store of a word at the address that a value denotes.
     fn store(word: i32, address: i32) -> Effect
         ensures { result ≡ at_address (good_address address) (λ a. Effect.Writes a word) }
     {
-        match good_address(address) {
-            Some(address) => Effect::Writes { address, word },
-            None => Effect::Faults,
-        }
+        good_address(address).map_or(Effect::Faults, |address| Effect::Writes { address, word })
     }
 
     /// An output from the address that a value denotes.
@@ -97,9 +91,6 @@ impl Effect {
         ensures { result ≡
             at_address (good_address address) (λ a. Effect.Emits (word_at memory.now a)) }
     {
-        match good_address(address) {
-            Some(address) => Effect::Emits(memory.get(address)),
-            None => Effect::Faults,
-        }
+        good_address(address).map_or(Effect::Faults, |address| Effect::Emits(memory.get(address)))
     }
 }

@@ -39,14 +39,12 @@ fn push_issue_or_none(text: &mut Vec<u8>, issue: Option<Issue>) -> Result<(), No
 fn push_left_out(text: &mut Vec<u8>, left_out: Option<LeftOut>) -> Result<(), NoMemory>
     ensures { OnOk result (text.new.items ≡ text.old.items ++ told.left_out_told left_out) }
 {
-    match left_out {
-        Some(it) => {
-            push_numbered(text, "  left out ", it.count as u64)?;
-            push_op(text, &it.op)?;
-            Ok(text.extend_from_slice(b"\n")?)
-        }
-        None => Ok(()),
-    }
+    let Some(it) = left_out else {
+        return Ok(());
+    };
+    push_numbered(text, "  left out ", it.count as u64)?;
+    push_op(text, &it.op)?;
+    Ok(text.extend_from_slice(b"\n")?)
 }
 
 /// Appends how many operations are added to the block's, and one of them, if there are any.
@@ -54,14 +52,12 @@ fn push_added(text: &mut Vec<u8>, added: Option<Added>) -> Result<(), NoMemory>
     requires { IfSome added (λ it. IsNumbered it.issue) }
     ensures { OnOk result (text.new.items ≡ text.old.items ++ told.added_told added) }
 {
-    match added {
-        Some(it) => {
-            push_numbered(text, "  added ", it.count as u64)?;
-            push_issue(text, it.issue)?;
-            Ok(text.extend_from_slice(b"\n")?)
-        }
-        None => Ok(()),
-    }
+    let Some(it) = added else {
+        return Ok(());
+    };
+    push_numbered(text, "  added ", it.count as u64)?;
+    push_issue(text, it.issue)?;
+    Ok(text.extend_from_slice(b"\n")?)
 }
 
 /// Appends that an operation comes so many cycles too early for another.
