@@ -50,10 +50,10 @@ def as_many_as_asked(command):
 
 
 def as_many_that_read(command):
-    """A long text is read by as many as then work, and by the one that is there already where one is asked for."""
+    """A long text is read by two threads before others work, and by the one that is there already where one is asked for."""
     for workers in range(1, 9):
         _, report = refusing(Asked([command, *by(workers)], "a long text", long_text()))
-        if report.threads != (2 * workers if workers > 1 else 1):
+        if report.threads != (2 + workers if workers > 1 else 1):
             yield f"{workers} workers: {report.threads} threads"
 
 

@@ -79,8 +79,8 @@ def middling():
 
 
 def long_text():
-    """The middling blocks with long comments between them: two threads read this text, and then two more work."""
-    return middling().replace(b"\nL", b"\n//" + b" " * 7000 + b"\nL")
+    """The middling blocks with long comments between them: two threads read this text, and then the others work."""
+    return middling().replace(b"\nL", b"\n//" + b" " * 15_000 + b"\nL")
 
 
 def middling_rows():

@@ -3,7 +3,6 @@ pub mod Said
 pub mod Words
 pub mod Written
 pub mod Joining
-pub mod Parted
 pub mod Routines
 pub mod Proposed
 pub mod Checks

@@ -3,7 +3,6 @@ pub mod Tallies
 pub mod Text
 pub mod Joined
 pub mod Listed
-pub mod Reading
 pub mod OfInput
 pub mod OfTask
 pub mod Limits

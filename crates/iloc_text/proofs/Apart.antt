@@ -1,8 +1,8 @@
 -- The parts of a text are read apart as they are in the text.
-use Rattle.std.proofs.Common.{◌≡◌, ◌∙◌, ℕ, suc, ◌+◌, ◌<◌, ◌≤◌, nat_lt, Bool, true, false, cond, List, [], ◌∷◌, ◌++◌, length, refl, sym, ap, ap₂, subst, subst₂, Option, Some, None, is_some, Result, Ok, Err, append_assoc, append-nil, length-append, ◌⊎◌, inl, inr, arith}
-use Rattle.std.specs.List.{flat_map, onto_first}
+use Rattle.std.proofs.Common.{◌≡◌, ◌∙◌, ℕ, suc, ◌+◌, ◌<◌, ◌≤◌, nat_lt, Bool, true, false, cond, List, [], ◌∷◌, ◌++◌, length, refl, sym, ap, ap₂, Option, Some, None, is_some, Result, Ok, Err, append_assoc, append-nil, length-append, ◌⊎◌, inl, inr, arith}
+use Rattle.std.specs.List.{onto_first}
 use Rattle.std.proofs.lemmas.Bool.Decides.{nat_tests}
-use Rattle.iloc_ops.specs.Limits.{MAX_INPUT, MAX_BLOCKS, MAX_OPS}
+use Rattle.iloc_ops.specs.Limits.{MAX_BLOCKS, MAX_OPS}
 use Rattle.iloc_ops.specs.declared.op.Op.{Op}
 use Rattle.iloc_ops.specs.declared.file.Block.{Block}
 use Rattle.iloc_text.specs.declared.fault.ReadFault.{ReadFault}
@@ -10,14 +10,12 @@ use Rattle.iloc_text.specs.declared.fault.ReadFault.TheVariants.{NumberTooLarge,
 use Rattle.iloc_text.specs.Grammar.{Reads}
 use Rattle.iloc_text.specs.Files.{Denotes}
 use Rattle.iloc_text.specs.Parts.{BeginsLabelled}
-use Rattle.iloc_text.specs.Laws.{PartsAreReadApart}
 use Rattle.iloc_text.specs.Lines.{is_line_end, lines_of}
 use Rattle.iloc_text.specs.Steps.Scan.{line_at, is_within}
 use Rattle.iloc_text.specs.Steps.Growth.{opened, with_op, with_optional_op, with_line, last_ops, limited}
 use Rattle.iloc_text.proofs.Splitting.{lines_are}
 use Rattle.iloc_text.specs.Steps.Verdicts.{verdict_on, verdict, answer_from, on_verdict}
 use Rattle.iloc_text.proofs.Answer.{reads_verdict, lines_are_of, file_answer}
-use Rattle.iloc_text.proofs.Every.{Answers, answers}
 use Rattle.iloc_text.proofs.Reading.{answer_begins}
 
 -- The lines of both parts
@@ -216,39 +214,19 @@ labelled_behind front out line more name op n reads e few =
         ∙ answer_behind front grown out 2 (n + 1) more f (omega arith) few
     by (Err fault) v f = cc
 
--- Texts
+-- A part with these blocks
 
 first_answer : (text : List ℕ) (blocks : List Block) → Denotes text blocks → answer_from [] 1 (lines_of text) ≡ Ok blocks
 first_answer text blocks d = sym (answer_begins text d.short) ∙ file_answer text blocks d
 
-both_denoted : (front back : List ℕ) (first second : List Block) → Denotes front first → Denotes back second
-    → BeginsLabelled back → length (front ++ 10 ∷ back) ≤ MAX_INPUT → length (first ++ second) ≤ MAX_BLOCKS
-    → Denotes (front ++ 10 ∷ back) (first ++ second)
-both_denoted front back first second d e begins short few =
-    let lines = lines_are_of back (begins.line ∷ begins.more) begins.are_lines in
-    let n = length (lines_of front) + 1 in
-    let count = length-append first second in
-    subst (Answers (front ++ 10 ∷ back))
-    (answer_begins (front ++ 10 ∷ back) short
-    ∙ ap (answer_from [] 1) (lines_of_both front back)
-    ∙ answer_of_both [] first 1 (lines_of front) (lines_of back) (first_answer front first d)
-    ∙ ap (answer_from first n) lines
-    ∙ labelled_behind first second begins.line begins.more begins.name begins.op n begins.reads
-    (ap (answer_from [] 1) (sym lines) ∙ first_answer back second e) (omega arith))
-    (answers (front ++ 10 ∷ back))
-
-pub parts_apart : PartsAreReadApart
-parts_apart text [] files parts each short few = absurd parts
-parts_apart text (part ∷ []) [] parts each short few = absurd each
-parts_apart text (part ∷ []) (file ∷ []) parts each short few = subst₂ Denotes parts (sym (append-nil file)) each.0
-parts_apart text (part ∷ []) (file ∷ next ∷ files) parts each short few = absurd each.1
-parts_apart text (part ∷ next ∷ more) [] parts each short few = absurd each
-parts_apart text (part ∷ next ∷ more) (file ∷ files) parts each short few =
-    let falls = parts.1 in
-    let length_of = ap length falls.whole in
-    let length_both = length-append part (10 ∷ parts.0) in
-    let count = length-append file (flat_map (λ (bs : List Block). bs) files) in
-    subst (λ t. Denotes t (file ++ flat_map (λ bs. bs) files)) (sym falls.whole)
-    (both_denoted part parts.0 file (flat_map (λ bs. bs) files) each.0
-    (parts_apart parts.0 (next ∷ more) files parts.2 each.1 (omega arith) (omega arith))
-    falls.labelled (omega arith) few)
+pub denoted_behind : (front : List Block) (part : List ℕ) (blocks : List Block) (n : ℕ) → Denotes part blocks
+    → ((length front ≡ 0) × (n ≡ 1)) ⊎ BeginsLabelled part → length front + length blocks ≤ MAX_BLOCKS
+    → answer_from front n (lines_of part) ≡ Ok (front ++ blocks)
+denoted_behind [] part blocks n d (inl first) few =
+    ap (λ m. answer_from [] m (lines_of part)) first.1 ∙ first_answer part blocks d
+denoted_behind (b ∷ front) part blocks n d (inl first) few = absurd (omega (arith, first.0))
+denoted_behind front part blocks n d (inr begins) few =
+    let lines = lines_are_of part (begins.line ∷ begins.more) begins.are_lines in
+    ap (answer_from front n) lines
+    ∙ labelled_behind front blocks begins.line begins.more begins.name begins.op n begins.reads
+    (ap (answer_from [] 1) (sym lines) ∙ first_answer part blocks d) few

@@ -5,7 +5,7 @@ use Rattle.std.specs.List.{join_with_byte}
 use Rattle.std.proofs.Math.Seq.{take-append_seam}
 use Rattle.iloc_text.specs.declared.line.Line.{Line}
 use Rattle.iloc_text.specs.Grammar.{Reads}
-use Rattle.iloc_text.specs.Parts.{BeginsLabelled, FallsInto, AreParts}
+use Rattle.iloc_text.specs.Parts.{BeginsLabelled}
 use Rattle.iloc_text.specs.Lines.{lines_of, lines_left}
 use Rattle.iloc_text.specs.Steps.LineReads.{FirstIs, label_of}
 use Rattle.iloc_text.proofs.Splitting.{lines_are}
@@ -53,9 +53,3 @@ labelled_first text line after first some = by line.label refl
       op = line.op;
       reads = rw (ap (option_map (λ (n : Bor (List ℕ)). n.now)) e) at first.is;
     }
-
--- one part more
-pub falls_further : (rest front back : List ℕ) (more : List (List ℕ)) → FallsInto rest front back → AreParts back more
-    → AreParts rest (front ∷ more)
-falls_further rest front back [] falls parts = absurd parts
-falls_further rest front back (part ∷ more) falls parts = (back, falls, parts)

@@ -30,3 +30,4 @@ pub mod Apart
 pub mod TextReads
 pub mod Streams
 pub mod Places
+pub mod PartReads

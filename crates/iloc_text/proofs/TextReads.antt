@@ -1,5 +1,5 @@
 -- What a reader has read of a text that comes piece by piece, piece after piece.
-use Rattle.std.proofs.Common.{◌≡◌, ◌≢◌, ◌∙◌, ℕ, suc, ◌+◌, ◌-◌, ◌<◌, ◌≤◌, ◌^◌, ◌==◌, min, true, List, [], ◌∷◌, ◌++◌, length, take, drop, get_or, sym, ap, ap₂, subst, subst₂, Option, Some, None, is_some, false, refl, Result, Ok, Err, IfErr, append_assoc, append-nil, take-append-drop, arith}
+use Rattle.std.proofs.Common.{◌≡◌, ◌≢◌, ◌∙◌, ℕ, suc, ◌+◌, ◌-◌, ◌<◌, ◌≤◌, ◌^◌, ◌==◌, min, true, List, [], ◌∷◌, ◌++◌, length, take, drop, get_or, sym, ap, ap₂, subst, subst₂, Option, Some, None, is_some, false, refl, Result, Ok, Err, IfErr, append_assoc, append-nil, take-append-drop, ◌⊎◌, inl, inr, arith}
 use Rattle.std.proofs.Math.Seq.{drop-cons}
 use Rattle.std.proofs.lemmas.Bool.Decides.{nat_tests}
 use Rattle.iloc_ops.specs.Limits.{MAX_INPUT}
@@ -9,7 +9,8 @@ use Rattle.iloc_text.specs.declared.fault.ReadFault.TheVariants.{NoMemory}
 use Rattle.iloc_text.specs.declared.stream.text_reader.TextReader.{TextReader}
 use Rattle.iloc_text.specs.Files.{IsRefused}
 use Rattle.iloc_text.specs.Lines.{lines_of}
-use Rattle.iloc_text.specs.Steps.TextReads.{GoesOn, HasFault}
+use Rattle.iloc_text.specs.Parts.{BeginsLabelled}
+use Rattle.iloc_text.specs.Steps.TextReads.{GoesOn, HasFault, StandsAt}
 use Rattle.iloc_text.specs.Steps.Open.{HasTaken}
 use Rattle.iloc_text.specs.Steps.Verdicts.{verdict, answer_from, on_verdict}
 use Rattle.iloc_text.proofs.Answer.{answer}
@@ -99,6 +100,19 @@ goes_further took start a b text piece front back out goes e ok taken number res
       read_further text a.rest.items piece front back goes.blocks out (a.number + 1) goes.answer e ok more
       ∙ ap₂ (λ n r. answer_from out n (lines_of (r ++ more))) (omega (arith, number)) (sym rest);
 }
+
+-- without a fault the reading goes on behind the part and its line end
+pub stands_behind : {T : Type 0} (took : T → List Block → T → Type 0) (start : T) (reader : TextReader T)
+    (before part : List ℕ) → reader.fault ≡ None → GoesOn took start reader (before ++ (part ++ 10 ∷ []))
+    → StandsAt reader.fault took start reader (before ++ part ++ 10 ∷ [])
+stands_behind took start reader before part none goes = subst (λ fault. StandsAt fault took start reader (before ++ part ++ 10 ∷ [])) (sym none)
+    (subst (GoesOn took start reader) (sym (append_assoc before part (10 ∷ []))) goes)
+
+-- a part that opens the text, or a block behind these
+pub opens_behind : (blocks : List Block) (part : List ℕ) (count number : ℕ) → length blocks ≡ count
+    → ((count ≡ 0) × (number ≡ 0)) ⊎ BeginsLabelled part → ((length blocks ≡ 0) × (number + 1 ≡ 1)) ⊎ BeginsLabelled part
+opens_behind blocks part count number e (inl first) = inl (e ∙ first.0, ap (λ n. n + 1) first.1)
+opens_behind blocks part count number e (inr begins) = inr begins
 
 -- At the end
 

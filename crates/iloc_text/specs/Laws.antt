@@ -1,15 +1,12 @@
 -- What holds of the language as a whole.
-use Rattle.std.specs.Prelude.{◌≡◌, ℕ, ◌≤◌, Option, Some, None, ◌⊎◌, List, length}
-use Rattle.std.specs.List.{AllZip, flat_map}
+use Rattle.std.specs.Prelude.{◌≡◌, ℕ, Option, Some, None, ◌⊎◌, List}
 use Rattle.iloc_ops.specs.declared.op.Op.{Op}
 use Rattle.iloc_ops.specs.declared.file.Block.{Block}
 use Rattle.iloc_text.specs.declared.fault.ReadFault.{ReadFault}
 use Rattle.iloc_text.specs.Grammar.{Reads, IsWithinLimit}
 use Rattle.iloc_ops.specs.Spelling.{spelling}
 use Rattle.iloc_text.specs.Files.{AreWithinLimits, Denotes, IsRefused}
-use Rattle.iloc_text.specs.Parts.{AreParts}
 use Rattle.iloc_text.specs.ScheduleLines.{Said, Says}
-use Rattle.iloc_ops.specs.Limits.{MAX_INPUT, MAX_BLOCKS}
 
 -- a line has at most one reading
 abbrev pub LinesHaveOneReading : Type 0
@@ -39,9 +36,3 @@ TextsHaveAnAnswer = (input : List ℕ)
 abbrev pub FilesAreWithinLimits : Type 0
 FilesAreWithinLimits = (input : List ℕ) (blocks : List Block) → Denotes input blocks
     → AreWithinLimits blocks
-
--- where each part of a text denotes a file, the text denotes the blocks of all, if they and it are within the limits
-abbrev pub PartsAreReadApart : Type 0
-PartsAreReadApart = (input : List ℕ) (parts : List (List ℕ)) (files : List (List Block)) → AreParts input parts
-    → AllZip Denotes parts files → length input ≤ MAX_INPUT → length (flat_map (λ blocks. blocks) files) ≤ MAX_BLOCKS
-    → Denotes input (flat_map (λ blocks. blocks) files)

@@ -1,8 +1,11 @@
 -- Parts of a text that can be read apart.
-use Rattle.std.specs.Prelude.{◌≡◌, ℕ, Option, Some, List, [], ◌∷◌, ◌++◌}
+use Rattle.std.specs.Prelude.{◌≡◌, ℕ, Option, None, Some, List, [], ◌∷◌, ◌++◌, length, IfOk}
 use Rattle.iloc_ops.specs.declared.op.Op.{Op}
 use Rattle.iloc_text.specs.Grammar.{Reads}
-use Rattle.iloc_text.specs.Files.{AreLines}
+use Rattle.iloc_text.specs.declared.text_parts.Counted.{Counted}
+use Rattle.iloc_text.specs.declared.text_parts.TextPart.{TextPart}
+use Rattle.iloc_text.specs.Files.{AreLines, Denotes}
+use Rattle.iloc_text.specs.Lines.{lines_of}
 
 -- the first line has a label
 pub record BeginsLabelled (text : List ℕ) : Type 0 where
@@ -18,8 +21,16 @@ pub record FallsInto (text front back : List ℕ) : Type 0 where
   pub whole : text ≡ front ++ 10 ∷ back
   pub labelled : BeginsLabelled back
 
--- the text falls into these parts, in order, with such a line end between each two
-abbrev pub AreParts : List ℕ → List (List ℕ) → Type 0
-AreParts text [] = ⊥
-AreParts text (part ∷ []) = part ≡ text
-AreParts text (part ∷ next ∷ parts) = (back : List ℕ) × FallsInto text part back × AreParts back (next ∷ parts)
+-- the text denotes this file, and has so many lines
+pub record IsCounted (text : List ℕ) (counted : Counted) : Type 0 where
+  pub denotes : Denotes text counted.file.blocks
+  pub lines : counted.lines ≡ length (lines_of text)
+
+-- what was found of the part, where it isn't refused, holds of its text
+abbrev pub IsReadApart : TextPart → Type 0
+IsReadApart part = IfOk part.found (IsCounted part.text.items)
+
+-- a part with this text is read behind these, or was given back, read
+abbrev pub IsStarted : List (List ℕ) → List ℕ → List (List ℕ) → Option TextPart → Type 0
+IsStarted old text new None = new ≡ old ++ text ∷ []
+IsStarted old text new (Some part) = (new ≡ old) × (part.text.items ≡ text) × IsReadApart part

@@ -8,3 +8,4 @@ pub mod Growth
 pub mod Open
 pub mod Verdicts
 pub mod TextReads
+pub mod PartReads

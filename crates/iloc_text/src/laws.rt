@@ -1,5 +1,5 @@
 //! Laws of the language, as contracts of functions that do nothing.
-ghost use Rattle.iloc_text.specs.Laws.{LinesHaveOneReading, ScheduleLinesSayOneThing, SpellingsReadBack, TextsHaveAnAnswer, TextsHaveOneAnswer, FilesAreWithinLimits, PartsAreReadApart};
+ghost use Rattle.iloc_text.specs.Laws.{LinesHaveOneReading, ScheduleLinesSayOneThing, SpellingsReadBack, TextsHaveAnAnswer, TextsHaveOneAnswer, FilesAreWithinLimits};
 
 pub use iloc_ops::laws::{limits_are_these, renaming_maps_uses, renaming_replaces_the_definition};
 
@@ -32,10 +32,4 @@ pub fn texts_have_an_answer()
 /// Promise: a file that a text denotes has at most 65,535 blocks, each of at most 10,000 operations.
 pub fn files_are_within_limits()
     ensures { FilesAreWithinLimits }
-{}
-
-/// Promise: if each part of a text denotes a file, the whole text denotes the blocks of all parts, in order, as long as
-/// blocks and text are within the limits.
-pub fn parts_are_read_apart()
-    ensures { PartsAreReadApart }
 {}

@@ -22,5 +22,6 @@ pub use line::schedule_line::{ScheduleLine, read_schedule_line};
 pub use line_ends::split_line;
 pub use reader::taker::TakeBlocks;
 pub use reader::{read_blocks, read_file};
+pub use stream::parts::{ReadParts, read_file_in_parts};
 pub use stream::{read_blocks_from, read_file_from, read_text_from};
-pub use text_parts::parts_of;
+pub use text_parts::TextPart;

@@ -70,6 +70,26 @@ pub(crate) fn read_lines<T: TakeBlocks>(
     Ok(number)
 }
 
+/// Reads a text as `read_blocks` does, and answers how many lines it has.
+pub(crate) fn read_counted<T: TakeBlocks>(
+    alloc: Global,
+    input: &[u8],
+    taker: &mut T,
+) -> Result<u32, ReadFault>
+    ensures lines { IfOk result (λ lines. lines ≡ length (lines_of input.now)) }
+    ensures ok { OnOk result
+        ((blocks : List Block) × Denotes input.now blocks × T.took taker.old blocks taker.new) }
+    ensures err { IfErr result (λ fault. fault ≢ no_memory → IsRefused input.now fault) }
+{
+    if input.len() > MAX_INPUT {
+        return Err(ReadFault::InputTooLong);
+    }
+    let mut open = OpenBlock::none(alloc);
+    let lines = read_lines(alloc, input, 0, &mut open, taker)?;
+    open.hand_over(alloc, taker)?;
+    Ok(lines)
+}
+
 /// Reads a text of ILOC and hands each block over, in order, as soon as its last line is read.
 ///
 /// Promise: the taker gets exactly the blocks that the text denotes, in order, or the text is refused as it denotes.
@@ -86,12 +106,7 @@ pub fn read_blocks<T: TakeBlocks>(
         ((blocks : List Block) × Denotes input.now blocks × T.took taker.old blocks taker.new) }
     ensures err { IfErr result (λ fault. fault ≢ no_memory → IsRefused input.now fault) }
 {
-    if input.len() > MAX_INPUT {
-        return Err(ReadFault::InputTooLong);
-    }
-    let mut open = OpenBlock::none(alloc);
-    read_lines(alloc, input, 0, &mut open, taker)?;
-    open.hand_over(alloc, taker)?;
+    read_counted(alloc, input, taker)?;
     Ok(())
 }
 

@@ -4,6 +4,7 @@ ghost use Rattle.iloc_ops.specs.declared.file.Block.{Block};
 ghost use Rattle.iloc_text.specs.Files.{AreWithinLimits, Denotes};
 ghost use Rattle.iloc_text.specs.Streams.{EndsStream, ReadsText};
 
+pub mod parts;
 pub mod pieces;
 pub mod text_reader;
 

@@ -1,17 +1,20 @@
-//! Splitting a text into parts that can be read apart, by several threads for example.
-ghost use Rattle.std.specs.Prelude.{◌≡◌, ◌≤◌, length, map, IfOk, IfSome, IsTrue};
-ghost use Rattle.iloc_text.specs.Parts.{AreParts, BeginsLabelled, FallsInto};
+//! Parts of a text that are read apart, by several threads for example.
+ghost use Rattle.std.specs.Prelude.{◌≡◌, ◌≤◌, length, IfOk, IfSome, IsTrue};
+ghost use Rattle.iloc_text.specs.Parts.{BeginsLabelled, FallsInto, IsCounted};
 
+use crate::fault::ReadFault;
 use crate::line::one_pass::fast_line;
 use crate::line_ends::split_line;
-use iloc_ops::NoMemory;
+use crate::reader::copies::Copies;
+use crate::reader::read_counted;
+use iloc_ops::IlocFile;
 use std::alloc::Global;
 
 /// On how many lines a label is searched for: about as many as a block of the greatest length has.
 const MOST_LINES: u32 = 16_384;
 
 /// Whether the first line is found to have a label.
-fn begins_labelled(text: &[u8]) -> bool
+pub(crate) fn begins_labelled(text: &[u8]) -> bool
     ensures { IsTrue result → BeginsLabelled text.now }
 {
     match fast_line(text) {
@@ -21,7 +24,7 @@ fn begins_labelled(text: &[u8]) -> bool
 }
 
 /// The two parts before and after the first line end from this place on that a label is found to follow.
-fn split_from(text: &[u8], place: usize) -> Option<(&[u8], &[u8])>
+pub(crate) fn split_before_label(text: &[u8], place: usize) -> Option<(&[u8], &[u8])>
     requires { place ≤ length text.now }
     ensures { IfSome result (λ parts. FallsInto text.now parts.0.now parts.1.now) }
 {
@@ -38,21 +41,41 @@ fn split_from(text: &[u8], place: usize) -> Option<(&[u8], &[u8])>
     None
 }
 
-/// Splits a text into parts of about equal length, at most `most` of them; there may be fewer.
-///
-/// Promise: the parts, joined by line ends, are the text, and each part but the first begins with a label.
-pub fn parts_of(alloc: Global, text: &[u8], most: usize) -> Result<Vec<&[u8]>, NoMemory>
-    ensures { IfOk result (λ parts. AreParts text.now (map (λ part. part.now) parts.items)) }
+/// A file, and how many lines its text has.
+#[derive(Drop)]
+pub(crate) struct Counted {
+    pub file: IlocFile,
+    pub lines: u32,
+}
+
+/// A part of a text, and what it denotes where it stands alone, or why it is refused.
+#[derive(Drop)]
+pub struct TextPart {
+    pub(crate) text: Vec<u8>,
+    pub(crate) found: Result<Counted, ReadFault>,
+}
+
+/// The file that the text denotes, with its lines counted.
+fn read_file_counted(alloc: Global, text: &[u8]) -> Result<Counted, ReadFault>
+    ensures { IfOk result (IsCounted text.now) }
 {
-    let mut parts = Vec::with_capacity(alloc, most)?;
-    let mut rest = text;
-    for left in (1..most).rev() {
-        let Some((front, back)) = split_from(rest, rest.len() / (left + 1)) else {
-            break;
-        };
-        parts.push(front)?;
-        rest = back;
+    let mut copies = Copies::new(alloc);
+    let lines = read_counted(alloc, text, &mut copies)?;
+    let file = copies.into_file(alloc)?;
+    Ok(Counted { file, lines })
+}
+
+impl TextPart {
+    ghost use Rattle.iloc_text.specs.Parts.{IsReadApart};
+
+    /// Reads a part of a text apart.
+    ///
+    /// Promise: the part has this text, and what it was read as, it denotes.
+    pub fn read(alloc: Global, text: Vec<u8>) -> TextPart
+        ensures text { result.text ≡ text }
+        ensures found { IsReadApart result }
+    {
+        let found = read_file_counted(alloc, &text);
+        TextPart { text, found }
     }
-    parts.push(rest)?;
-    Ok(parts)
 }

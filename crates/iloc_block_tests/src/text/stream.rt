@@ -8,7 +8,7 @@ use std::test::Fail;
 
 /// Gives its bytes, at most `at_once` a turn and blanks behind them, and then fails or is at its end.
 #[derive(Drop)]
-struct Source<'a> {
+pub(super) struct Source<'a> {
     bytes: &'a [u8],
     blanks: usize,
     at_once: usize,
@@ -36,7 +36,7 @@ impl<'a> Read for Source<'a> {
 }
 
 /// Gives the bytes, at most so many a turn.
-fn giving(bytes: &[u8], at_once: usize) -> Source<'_> {
+pub(super) fn giving(bytes: &[u8], at_once: usize) -> Source<'_> {
     Source {
         bytes,
         blanks: 0,

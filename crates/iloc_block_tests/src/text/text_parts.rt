@@ -1,55 +1,183 @@
+ghost use Rattle.std.specs.Prelude.{◌≡◌, []};
+
+use super::diary::Diary;
+use super::stream::giving;
 use crate::asserted::assert_list;
-use iloc_text::{NoMemory, parts_of};
+use iloc_text::{
+    MAX_BLOCKS, NoMemory, ReadFault, ReadParts, StreamFault, TextPart, read_file_in_parts,
+};
 use std::alloc::Global;
+use std::collections::VecDeque;
 use std::test::Fail;
 
-const TEXT: &[u8] =
-    b"nop\nA: // the first\nnop\n// B:\nnop\nB:\nnop\nnop :\nnop\n\tC :\nnop\nD:\nnop";
-
-/// How many parts are wanted at most, and those that are found, with a bar behind each.
-const CASES: &[(usize, &[u8])] = &[
-    (
-        1,
-        b"nop\nA: // the first\nnop\n// B:\nnop\nB:\nnop\nnop :\nnop\n\tC :\nnop\nD:\nnop|",
-    ),
-    (
-        2,
-        b"nop\nA: // the first\nnop\n// B:\nnop|B:\nnop\nnop :\nnop\n\tC :\nnop\nD:\nnop|",
-    ),
-    (
-        3,
-        b"nop\nA: // the first\nnop\n// B:\nnop|B:\nnop\nnop :\nnop|\tC :\nnop\nD:\nnop|",
-    ),
-    (
-        8,
-        b"nop\nA: // the first\nnop\n// B:\nnop|B:\nnop|nop :\nnop|\tC :\nnop|D:\nnop|",
-    ),
-];
-
-/// The parts that are found, with a bar behind each.
-fn barred(alloc: Global, text: &[u8], most: usize) -> Result<Vec<u8>, NoMemory> {
-    let mut all = Vec::new(alloc);
-    for part in parts_of(alloc, text, most)? {
-        all.extend_from_slice(part)?;
-        all.push(b'|')?;
-    }
-    Ok(all)
+/// Reads each part when it is wanted, and refuses to begin more than so many.
+#[derive(Drop)]
+struct Queue {
+    alloc: Global,
+    texts: VecDeque<Vec<u8>>,
+    left: usize,
 }
 
+impl Queue {
+    /// Begins so many parts.
+    fn of(alloc: Global, left: usize) -> Queue
+        ensures { result.texts.items ≡ [] }
+    {
+        Queue {
+            alloc,
+            texts: VecDeque::new(alloc),
+            left,
+        }
+    }
+}
+
+impl ReadParts for Queue {
+    ghost use Rattle.std.specs.Prelude.{map};
+
+    ghost texts = { λ queue. map (λ text. text.items) queue.texts.items };
+
+    fn len(&self) -> usize {
+        self.texts.len()
+    }
+
+    fn start(&mut self, _: Global, text: Vec<u8>) -> Result<Option<TextPart>, NoMemory> {
+        if self.left == 0 {
+            return Err(NoMemory);
+        }
+        self.left -= 1;
+        self.texts.push_back(text)?;
+        Ok(None)
+    }
+
+    fn next(&mut self) -> Option<TextPart> {
+        let text = self.texts.pop_front()?;
+        Some(TextPart::read(self.alloc, text))
+    }
+}
+
+/// Reads each part at once.
+#[derive(Drop)]
+struct AtOnce;
+
+impl ReadParts for AtOnce {
+    ghost use Rattle.std.specs.Prelude.{[]};
+
+    ghost texts = { λ _. [] };
+
+    fn len(&self) -> usize {
+        0
+    }
+
+    fn start(&mut self, alloc: Global, text: Vec<u8>) -> Result<Option<TextPart>, NoMemory> {
+        Ok(Some(TextPart::read(alloc, text)))
+    }
+
+    fn next(&mut self) -> Option<TextPart> {
+        None
+    }
+}
+
+/// The blocks of a text, written down.
+fn read_by<P: ReadParts + Drop>(
+    alloc: Global,
+    text: &[u8],
+    readers: P,
+    most: usize,
+) -> Result<Vec<u8>, StreamFault>
+    requires { P.texts readers ≡ [] }
+{
+    let file = read_file_in_parts(alloc, &mut giving(text, 32_768), readers, most)?;
+    let mut diary = Diary::new(alloc, 0);
+    diary.write_all(file.blocks.as_slice())?;
+    Ok(diary.lines)
+}
+
+/// A text that begins with these lines, each in a part of its own, for comments behind them make them long enough.
+fn long_text(alloc: Global, parts: &[&[u8]], rest: &[u8]) -> Result<Vec<u8>, Fail> {
+    let mut text = Vec::new(alloc);
+    for part in parts {
+        text.extend_from_slice(*part)?;
+        text.extend_from_slice(b"\n//")?;
+        let blanks = 520_000_usize.saturating_sub(part.len());
+        text.resize(text.len().saturating_add(blanks), b' ')?;
+        text.push(b'\n')?;
+    }
+    text.extend_from_slice(rest)?;
+    Ok(text)
+}
+
+/// Lines in parts of their own, the rest of the text, and its blocks.
+const READ: &[(&[&[u8]], &[u8], &[u8])] = &[
+    (
+        &[b"nop\nA:\nnop", b"B: output 0"],
+        b"C:\noutput 4",
+        b"-; nop\nA; nop\nB; output 0\nC; output 4\n",
+    ),
+    (&[b"// no block", b"A:"], b"B:\nnop", b"A\nB; nop\n"),
+];
+
 #[test]
-fn falls_into_parts_before_labels(rt: HostRuntime) -> Result<(), Fail> {
-    for (most, wanted) in CASES {
-        assert_list(&rt, &barred(rt.alloc(), TEXT, *most)?, wanted);
+fn takes_parts_in_order(rt: HostRuntime) -> Result<(), Fail> {
+    let alloc = rt.alloc();
+    for (parts, rest, lines) in READ {
+        let text = long_text(alloc, parts, rest)?;
+        assert_list(&rt, &read_by(alloc, &text, AtOnce, 1)?, lines);
+        for most in 0..4 {
+            assert_list(
+                &rt,
+                &read_by(alloc, &text, Queue::of(alloc, parts.len()), most)?,
+                lines,
+            );
+        }
     }
     Ok(())
 }
 
 #[test]
-fn falls_into_parts_before_a_label_and_an_operation(rt: HostRuntime) -> Result<(), Fail> {
-    const LONG: &[u8] =
-        b"nop\nnop\nnop\nnop\nnop\nnop\nnop\nB: nop\n// an operation behind a label is found where all that it can take in follows, and so much is this comment, to its very last word here";
-    const WANTED: &[u8] =
-        b"nop\nnop\nnop\nnop\nnop\nnop\nnop|B: nop\n// an operation behind a label is found where all that it can take in follows, and so much is this comment, to its very last word here|";
-    assert_list(&rt, &barred(rt.alloc(), LONG, 8)?, WANTED);
+fn has_each_part_read_apart(rt: HostRuntime) -> Result<(), Fail> {
+    let alloc = rt.alloc();
+    for (parts, rest, _) in READ {
+        let text = long_text(alloc, parts, rest)?;
+        for left in 0..parts.len() {
+            let told = read_by(alloc, &text, Queue::of(alloc, left), 4).err();
+            assert!(rt; told == Some(StreamFault::Text(ReadFault::NoMemory)));
+        }
+    }
+    Ok(())
+}
+
+/// Lines in parts of their own, the rest of the text, and why it is refused.
+const REFUSED: &[(&[&[u8]], &[u8], ReadFault)] = &[
+    (&[b"A: not"], b"B:", ReadFault::BadLine(1)),
+    (&[b"A:\nnop", b"B:\nnot"], b"C: not", ReadFault::BadLine(5)),
+    (&[b"A:\nnop", b"B: nop"], b"C:\nnot", ReadFault::BadLine(7)),
+    (
+        &[b"A: nop", b"B: loadI 2147483648 => r1"],
+        b"C: not",
+        ReadFault::NumberTooLarge(3),
+    ),
+];
+
+#[test]
+fn tells_the_first_fault_of_parts(rt: HostRuntime) -> Result<(), Fail> {
+    let alloc = rt.alloc();
+    for (parts, rest, fault) in REFUSED {
+        let text = long_text(alloc, parts, rest)?;
+        let told = read_by(alloc, &text, Queue::of(alloc, parts.len()), 2).err();
+        assert!(rt; told == Some(StreamFault::Text(*fault)));
+    }
+    Ok(())
+}
+
+#[test]
+fn takes_no_more_blocks_than_a_file_has(rt: HostRuntime) -> Result<(), Fail> {
+    let alloc = rt.alloc();
+    let mut labels = Vec::from_slice(alloc, b"A:")?;
+    for _ in 1..MAX_BLOCKS {
+        labels.extend_from_slice(b"\nA:")?;
+    }
+    let text = long_text(alloc, &[&labels, b"B:"], b"C: not")?;
+    let told = read_by(alloc, &text, Queue::of(alloc, 2), 2).err();
+    assert!(rt; told == Some(StreamFault::Text(ReadFault::TooManyBlocks(65_537))));
     Ok(())
 }

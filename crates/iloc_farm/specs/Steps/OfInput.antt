@@ -11,16 +11,6 @@ use Rattle.iloc_farm.specs.declared.fault.FarmFault.TheVariants as farm
 use Rattle.iloc_farm.specs.declared.fault.RunFault.{RunFault}
 use Rattle.iloc_farm.specs.declared.fault.RunFault.TheVariants.{ReadFailed, Text, Rows, Task as of_task, Farm, WriteFailed}
 
--- why no file is known of the input
-abbrev pub EndsText : List ℕ → RunFault → Type 0
-EndsText input ReadFailed = ⊥
-EndsText input (Text fault) = files.IsRefused input fault
-EndsText input (Rows fault) = ⊥
-EndsText input (of_task fault) = ⊥
-EndsText input (Farm farm.NoThread) = ⊥
-EndsText input (Farm farm.NoMemory) = Unit {0}
-EndsText input WriteFailed = ⊥
-
 -- why no file was read from a reader, or it was not listed as it was read
 abbrev pub EndsFile : Option (List ℕ) → Option (List ℕ) → RunFault → Type 0
 EndsFile old new ReadFailed = Unit {0}

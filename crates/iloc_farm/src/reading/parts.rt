@@ -1,103 +1,89 @@
-//! Texts that several threads read, each a part.
-ghost use Rattle.std.specs.Prelude.{◌≡◌, ◌≤◌, length, IfOk, IfSome, List, map};
-ghost use Rattle.std.specs.List.{All, AllZip, flat_map};
-ghost use Rattle.iloc_ops.specs.declared.file.Block.{Block as block_value};
-ghost use Rattle.iloc_text.specs.Files.{Denotes};
-ghost use Rattle.iloc_text.specs.Parts.{AreParts};
-ghost use Rattle.iloc_farm.specs.Steps.Reading.{AreReadApart, HoldsItsFile};
+//! Threads that read parts of a text.
+ghost use Rattle.std.specs.Prelude.{◌≡◌, IfErr, IfOk, List, ℕ};
+ghost use Rattle.iloc_text.specs.Files.{AreWithinLimits, Denotes};
+ghost use Rattle.iloc_text.specs.Parts.{IsReadApart};
+ghost use Rattle.iloc_text.specs.Streams.{EndsStream, ReadsText};
 
-use crate::crew::{Routine, crew};
-use crate::fault::FarmFault;
-use iloc_text::laws::parts_are_read_apart;
-use iloc_text::{
-    Block, Blocks, IlocFile, MAX_BLOCKS, MAX_INPUT, NoMemory, ReadFault, parts_of, read_file,
-};
+use iloc_text::{IlocFile, NoMemory, ReadParts, StreamFault, TextPart, read_file_in_parts};
 use std::alloc::Global;
-use std::sync::Wait;
-use std::thread::Threads;
+use std::collections::VecDeque;
+use std::io::Read;
+use std::snapshot::Snapshot;
+use std::thread;
+use std::thread::{Promise, PromisedHandle, Threads};
 
-/// A part of a text, to be read apart.
+// A thread's promise: the part that it read has this text.
 #[derive(Drop)]
-pub struct TextPart<'t> {
-    pub alloc: Global,
-    pub text: &'t [u8],
-}
+struct HasText(Snapshot<Vec<u8>>);
 
-/// A part of a text, and the file that it denotes, or why none is known.
-#[derive(Drop)]
-pub struct PartRead<'t> {
-    pub text: &'t [u8],
-    pub file: Result<IlocFile, ReadFault>,
-}
-
-impl<'t> Routine for TextPart<'t> {
+impl Promise<TextPart> for HasText {
     ghost use Rattle.std.specs.Prelude.{◌≡◌};
-    ghost use Rattle.iloc_farm.specs.Steps.Reading.{HoldsItsFile};
+    ghost use Rattle.iloc_text.specs.Parts.{IsReadApart};
 
-    type Output = PartRead<'t>;
+    ghost kept_by = { λ p part. (part.text ≡ p.0.value) × IsReadApart part };
+}
 
-    ghost can_run = { λ _. Unit {0} };
+/// Threads that read parts of a text, one each. When it is dropped, it waits for those that still run.
+struct PartThreads<'h, H: Threads> {
+    rt: &'h H,
+    parts: VecDeque<PromisedHandle<TextPart, HasText>>,
+}
 
-    ghost run_gives = { λ part read. (read.text ≡ part.text) × HoldsItsFile read };
+impl<'h, H: Threads> ReadParts for PartThreads<'h, H> {
+    ghost use Rattle.std.specs.Prelude.{map};
 
-    fn run(self) -> PartRead<'t> {
-        PartRead {
-            text: self.text,
-            file: read_file(self.alloc, self.text),
+    ghost texts = { λ threads. map (λ part. part.promise.0.value.items) threads.parts.items };
+
+    fn len(&self) -> usize {
+        self.parts.len()
+    }
+
+    fn start(&mut self, alloc: Global, text: Vec<u8>) -> Result<Option<TextPart>, NoMemory> {
+        self.parts.reserve(1)?;
+        let promise = HasText(Snapshot::of(&text));
+        match thread::spawn_with(
+            self.rt,
+            promise,
+            move || -> TextPart
+                ensures text { result.text ≡ text }
+                ensures found { IsReadApart result }
+            { TextPart::read(alloc, text) },
+        ) {
+            Ok(part) => {
+                self.parts.push_back_reserved(part);
+                Ok(None)
+            }
+            Err(refused) => Ok(Some((refused.value)())),
+        }
+    }
+
+    fn next(&mut self) -> Option<TextPart> {
+        let part = self.parts.pop_front()?;
+        Some(part.join(self.rt))
+    }
+}
+
+impl<'h, H: Threads> Drop for PartThreads<'h, H> {
+    fn drop(self) {
+        let Self { rt, parts } = self;
+        for part in parts {
+            part.join(rt);
         }
     }
 }
 
-/// The parts into which the text falls, as routines.
-fn routines_of(alloc: Global, text: &[u8], most: usize) -> Result<Vec<TextPart<'_>>, NoMemory>
-    ensures { IfOk result (λ parts. AreParts text.now (map (λ part. part.text.now) parts.items)) }
-{
-    let mut routines = Vec::with_capacity(alloc, most)?;
-    for text in parts_of(alloc, text, most)? {
-        routines.push(TextPart { alloc, text })?;
-    }
-    Ok(routines)
-}
-
-/// The blocks of all parts in one list, or none where the text of a part is refused.
-fn blocks_of_parts(alloc: Global, parts: Vec<PartRead<'_>>) -> Result<Option<Blocks>, NoMemory>
-    requires { All HoldsItsFile parts.items }
-    ensures { IfOk result (λ found. IfSome found
-        (AreReadApart (map (λ part. part.text.now) parts.entry.items))) }
-{
-    let mut blocks = Vec::new(alloc);
-    for part in parts {
-        match part.file {
-            Ok(file) => blocks.append(&mut file.blocks.into_vec())?,
-            Err(ReadFault::NoMemory) => return Err(NoMemory),
-            Err(_) => return Ok(None),
-        }
-    }
-    Ok(Some(Blocks::new(blocks)))
-}
-
-/// The blocks of the file that the text denotes, each part read by a thread of its own; or none where a part, or all
-/// together, are refused, or a thread can't be started.
-pub(crate) fn read_apart<R: Threads + Wait + Sync>(
-    rt: &R,
+/// The file that a stream gives. At most so many threads read parts of it while the rest comes; all have ended then.
+pub(crate) fn read_by_threads<H: Threads, R: Read>(
+    rt: &H,
     alloc: Global,
-    text: &[u8],
-    threads: usize,
-) -> Result<Option<Blocks>, NoMemory>
-    ensures { IfOk result (λ found. IfSome found (Denotes text.now)) }
+    stream: &mut R,
+    most: usize,
+) -> Result<IlocFile, StreamFault>
+    ensures ok { IfOk result (λ file. (text : List ℕ) ×
+        ReadsText (R.remaining stream.old) (R.remaining stream.new) text × Denotes text file.blocks) }
+    ensures limits { IfOk result (λ file. AreWithinLimits file.blocks) }
+    ensures err { IfErr result (EndsStream (R.remaining stream.old) (R.remaining stream.new)) }
 {
-    parts_are_read_apart();
-    let routines = routines_of(alloc, text, threads)?;
-    let parts = match crew(rt, alloc, routines) {
-        Ok(parts) => parts,
-        Err(FarmFault::NoThread) => return Ok(None),
-        Err(FarmFault::NoMemory) => return Err(NoMemory),
-    };
-    let Some(blocks) = blocks_of_parts(alloc, parts)? else {
-        return Ok(None);
-    };
-    if blocks.as_slice().len() > MAX_BLOCKS || text.len() > MAX_INPUT {
-        return Ok(None);
-    }
-    Ok(Some(blocks))
+    let parts = VecDeque::new(alloc);
+    read_file_in_parts(alloc, stream, PartThreads { rt, parts }, most)
 }

@@ -1,10 +1,11 @@
 -- What a reader has read of a text that comes piece by piece.
-use Rattle.std.specs.Prelude.{◌≡◌, ℕ, ◌+◌, ◌≤◌, ◌-◌, ◌^◌, min, Option, Some, None, Err, List, [], ◌++◌, length}
-use Rattle.iloc_ops.specs.Limits.{MAX_INPUT}
+use Rattle.std.specs.Prelude.{◌≡◌, ◌⊎◌, ℕ, ◌+◌, ◌<◌, ◌≤◌, ◌-◌, ◌^◌, min, Option, Some, None, Err, List, [], ◌++◌, length}
+use Rattle.iloc_ops.specs.Limits.{MAX_BLOCKS, MAX_INPUT}
 use Rattle.iloc_ops.specs.declared.file.Block.{Block}
 use Rattle.iloc_text.specs.declared.fault.ReadFault.{ReadFault}
 use Rattle.iloc_text.specs.declared.stream.text_reader.TextReader.{TextReader}
 use Rattle.iloc_text.specs.Lines.{lines_of}
+use Rattle.iloc_text.specs.Parts.{BeginsLabelled}
 use Rattle.iloc_text.specs.Steps.Open.{HasTaken}
 use Rattle.iloc_text.specs.Steps.Verdicts.{answer_from}
 
@@ -31,3 +32,11 @@ pub record HasRead {T : Type 0} (took : T → List Block → T → Type 0) (star
     : Type 0 where
   pub counted : reader.length ≡ min (length text) (2 ^ 64 - 1)
   pub stands : length text ≤ MAX_INPUT → StandsAt reader.fault took start reader text
+
+-- the part with these blocks begins the text, or a line and a block of it, and with it all is within the limits
+pub record CanTake {T : Type 0} (reader : TextReader T) (part : List ℕ) (blocks : List Block) : Type 0 where
+  pub at_line : reader.rest.items ≡ []
+  pub faultless : reader.fault ≡ None
+  pub short : reader.length + length part < MAX_INPUT
+  pub few : reader.open_block.count + length blocks ≤ MAX_BLOCKS
+  pub opens : ((reader.open_block.count ≡ 0) × (reader.number ≡ 0)) ⊎ BeginsLabelled part

@@ -91,6 +91,15 @@ impl Copies {
         Ok(())
     }
 
+    /// Takes these blocks over.
+    pub(crate) fn append(&mut self, alloc: Global, mut blocks: Vec<Block>) -> Result<(), NoMemory>
+        ensures { OnOk result (all_of self.new ≡ all_of self.old ++ blocks.items) }
+    {
+        self.settle(alloc)?;
+        self.done.append(&mut blocks)?;
+        Ok(())
+    }
+
     /// The file of all blocks.
     pub fn into_file(mut self, alloc: Global) -> Result<IlocFile, NoMemory>
         ensures { IfOk result (λ file. file.blocks ≡ all_of self) }

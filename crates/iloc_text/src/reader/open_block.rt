@@ -1,5 +1,5 @@
 //! The block that is being read: how the blocks of a file grow, line by line, within the limits.
-ghost use Rattle.std.specs.Prelude.{◌≡◌, ◌<◌, ◌≤◌, [], List, IsUtf8, None, IfOk, OnOk, length};
+ghost use Rattle.std.specs.Prelude.{◌≡◌, ◌+◌, ◌<◌, ◌≤◌, ◌++◌, [], List, IsUtf8, None, IfOk, OnOk, length};
 ghost use Rattle.std.specs.Option.{ForSome, option_copied};
 ghost use Rattle.iloc_ops.specs.declared.file.Block.{Block as block_value};
 ghost use Rattle.iloc_ops.specs.Limits.{MAX_BLOCKS, MAX_OPS};
@@ -8,8 +8,9 @@ ghost use Rattle.iloc_text.specs.Steps.Growth.{opened, with_op, with_optional_op
 
 use crate::fault::ReadFault;
 use crate::line::Line;
+use crate::reader::copies::Copies;
 use crate::reader::taker::TakeBlocks;
-use iloc_ops::{Block, MAX_BLOCKS, MAX_OPS, Name, NoMemory, Op, Ops};
+use iloc_ops::{Block, Blocks, MAX_BLOCKS, MAX_OPS, Name, NoMemory, Op, Ops};
 use std::alloc::Global;
 use std::str;
 
@@ -43,6 +44,8 @@ fn name_of(alloc: Global, text: Option<&str>) -> Result<Option<Name>, NoMemory>
 }
 
 impl OpenBlock {
+    ghost use Rattle.iloc_text.specs.Files.{AreWithinLimits};
+    ghost use Rattle.iloc_text.specs.Steps.Copied.{has_copied};
     ghost use Rattle.iloc_text.specs.Steps.Open.{AreSoFar, HasTaken};
 
     /// No block is open.
@@ -54,6 +57,13 @@ impl OpenBlock {
         OpenBlock { count: 0, block }
     }
 
+    /// How many blocks there are with the open one.
+    pub fn count(&self) -> usize
+        ensures { result ≡ self.now.count }
+    {
+        self.count
+    }
+
     /// Hands the open block over, if there is one.
     pub fn hand_over<T: TakeBlocks>(&self, alloc: Global, taker: &mut T) -> Result<(), NoMemory>
         ensures { (start : T) (blocks : List block_value) →
@@ -62,6 +72,30 @@ impl OpenBlock {
         if self.count > 0 {
             taker.take(alloc, self.count, &self.block)?;
         }
+        Ok(())
+    }
+
+    /// Hands the open block over, and all of these but the last one, which it opens.
+    pub fn hand_on(
+        &mut self,
+        alloc: Global,
+        taker: &mut Copies,
+        blocks: Blocks,
+    ) -> Result<(), NoMemory>
+        requires few { self.old.count + length blocks ≤ MAX_BLOCKS }
+        requires limits { AreWithinLimits blocks }
+        ensures { (start : Copies) (before : List block_value) → HasTaken has_copied start taker.old self.old before →
+            OnOk result (HasTaken has_copied start taker.new self.new (before ++ blocks)) }
+    {
+        let mut further = blocks.into_vec();
+        let count = self.count + further.len();
+        let Some(last) = further.pop() else {
+            return Ok(());
+        };
+        self.hand_over(alloc, taker)?;
+        taker.append(alloc, further)?;
+        self.count = count;
+        self.block = last;
         Ok(())
     }
 

@@ -1,16 +1,18 @@
 //! A reader of a text that comes piece by piece.
-ghost use Rattle.std.specs.Prelude.{◌≡◌, ◌≢◌, ◌+◌, ◌≤◌, ◌++◌, [], List, ℕ, length, vec_len, IfOk, IfErr, OnOk, OnErr};
+ghost use Rattle.std.specs.Prelude.{◌≡◌, ◌≢◌, ◌+◌, ◌≤◌, ◌++◌, ◌∷◌, [], List, ℕ, length, vec_len, IfOk, IfErr, IsTrue, OnOk, OnErr};
 ghost use Rattle.iloc_ops.specs.Limits.{MAX_INPUT};
 ghost use Rattle.iloc_ops.specs.declared.file.Block.{Block as block_value};
 ghost use Rattle.iloc_text.specs.declared.fault.ReadFault.TheVariants.{NoMemory as no_memory};
 ghost use Rattle.iloc_text.specs.Files.{Denotes, IsRefused};
 
 use crate::fault::ReadFault;
+use crate::reader::copies::Copies;
 use crate::reader::open_block::OpenBlock;
 use crate::reader::read_lines;
 use crate::reader::taker::TakeBlocks;
 use crate::stream::pieces::TakePieces;
-use iloc_ops::{MAX_INPUT, NoMemory};
+use crate::text_parts::{Counted, TextPart, begins_labelled};
+use iloc_ops::{IlocFile, MAX_BLOCKS, MAX_INPUT, NoMemory};
 use memchr::memrchr;
 use std::alloc::Global;
 
@@ -153,6 +155,62 @@ impl<T: TakeBlocks + Drop> TextReader<T> {
         } = self;
         open_block.hand_over(alloc, &mut taker)?;
         Ok(taker)
+    }
+}
+
+impl TextReader<Copies> {
+    ghost use Rattle.iloc_text.specs.Parts.{IsCounted, IsReadApart};
+    ghost use Rattle.iloc_text.specs.Steps.Copied.{has_copied};
+    ghost use Rattle.iloc_text.specs.Steps.TextReads.{CanTake, HasRead};
+
+    /// Whether a part's blocks can be taken over: it begins where a line does, opens a block of its own, and keeps all
+    /// within the limits.
+    fn can_take(&self, text: &[u8], file: &IlocFile) -> bool
+        ensures { IsTrue result → CanTake self.now text.now file.now.blocks }
+    {
+        let count = self.open_block.count();
+        self.rest.is_empty()
+            && self.fault.is_none()
+            && self.length.saturating_add(text.len()) < MAX_INPUT
+            && file.blocks.as_slice().len() <= MAX_BLOCKS - count
+            && (count == 0 && self.number == 0 || begins_labelled(text))
+    }
+
+    /// Takes the blocks of a part over, as they were read.
+    fn take_blocks(&mut self, alloc: Global, text: &[u8], part: Counted) -> Result<(), NoMemory>
+        requires can_take { CanTake self.old text.now part.file.blocks }
+        requires counted { IsCounted text.now part }
+        ensures { (start : Copies) (before : List ℕ) → HasRead has_copied start self.old before →
+            OnOk result (HasRead has_copied start self.new (before ++ text.now ++ 10 ∷ [])) }
+    {
+        self.open_block
+            .hand_on(alloc, &mut self.taker, part.file.blocks)?;
+        self.length += text.len() + 1;
+        self.number += part.lines;
+        Ok(())
+    }
+
+    /// Takes a part of the text that was read apart, and the line end behind it, and gives its buffer back. What can't
+    /// be taken over as it was read, as where a line is refused, is read again.
+    pub fn take_part(&mut self, alloc: Global, part: TextPart) -> Result<Vec<u8>, NoMemory>
+        requires { IsReadApart part }
+        ensures { (start : Copies) (before : List ℕ) → HasRead has_copied start self.old before →
+            IfOk result (λ _. HasRead has_copied start self.new (before ++ part.text.items ++ 10 ∷ [])) }
+    {
+        let TextPart { text, found } = part;
+        match found {
+            Ok(counted) => {
+                if self.can_take(&text, &counted.file) {
+                    self.take_blocks(alloc, &text, counted)?;
+                    return Ok(text);
+                }
+            }
+            Err(ReadFault::NoMemory) => return Err(NoMemory),
+            Err(_fault) => {}
+        }
+        self.read(alloc, &text)?;
+        self.read(alloc, b"\n")?;
+        Ok(text)
     }
 }
 

@@ -1,7 +1,7 @@
 use Rattle.std.proofs.Common.{◌∙◌, ◌-◌, ◌++◌, ◌∷◌, [], ap, refl, sym, length, take, drop, length-drop, length-append, append_assoc, take-append-drop, arith}
 use Rattle.std.proofs.lemmas.List.{take_all}
 use Rattle.iloc_text.proofs.Falling.{one_line_further, front_by_length}
-use Rattle.iloc_text.proofs.text_parts.split_from.Goals as goal
+use Rattle.iloc_text.proofs.text_parts.split_before_label.Goals as goal
 
 pub loop-init : goal.loop-init
 loop-init c =

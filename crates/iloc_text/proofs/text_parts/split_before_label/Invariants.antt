@@ -1,5 +1,5 @@
 use Rattle.std.proofs.Common.{◌≡◌, ◌++◌, ℕ, List}
-use Rattle.iloc_text.proofs.text_parts.split_from.Given as goal
+use Rattle.iloc_text.proofs.text_parts.split_before_label.Given as goal
 
 -- something stands before the rest
 abbrev pub invariant-loop : goal.invariant-loop

@@ -1,0 +1,45 @@
+use Rattle.std.proofs.Common.{◌≡◌, ◌∙◌, ◌++◌, ◌∷◌, [], length, take, sym, ap}
+use Rattle.std.proofs.Math.Seq.{take-append_seam}
+use Rattle.iloc_text.proofs.PartReads.{cut_off}
+use Rattle.iloc_text.proofs.stream.parts.PartedText.cut.Goals as goal
+
+pub returns-in_default : goal.returns-in_default
+returns-in_default g c = λ text come. record {
+  front = come.front;
+  begun = record {
+    start = come.begun.start;
+    none = come.begun.none;
+    done = come.begun.done;
+    read = come.begun.read;
+    whole = come.begun.whole;
+  };
+  whole = come.whole;
+}
+
+pub returns : goal.returns
+returns g c = λ text come.
+    let texts = g.P.ReadParts.texts in
+    let old = c.args.self.now in
+    let part = c.in-Some.front.now in
+    let back = c.in-Some.back.now in
+    let falls : old.rest.items ≡ part ++ 10 ∷ back = sym c.deref.ensures.value ∙ c.in-Some.ensures.whole in
+    let cut : c.truncate.new.self.items ≡ part = c.truncate.ensures.items
+    ∙ ap (λ v. take (length part) v.items) c.replace-text.ensures.value
+    ∙ ap (take (length part)) falls ∙ take-append_seam part (10 ∷ back) in
+    let left : c.start.new.self.rest.items ≡ back = ap (λ v. v.items) c.in_ok-start.ensures.rest
+    ∙ ap (λ v. v.items) c.replace-text.ensures.after
+    ∙ c.in_ok-extend_from_slice.ensures.items
+    ∙ ap (λ before. before ++ back) (c.in_ok-reserve.ensures.items ∙ c.clear.ensures.items) in
+    record {
+      front = come.front ++ c.truncate.new.self.items ++ 10 ∷ [];
+      begun = c.in_ok-start.ensures.begun come.front (record {
+        start = come.begun.start;
+        none = come.begun.none;
+        done = come.begun.done;
+        read = come.begun.read;
+        whole = come.begun.whole;
+      });
+      whole = cut_off texts old text part back come falls
+          ∙ ap (λ p. come.front ++ p ++ 10 ∷ [] ++ back) (sym cut)
+          ∙ ap (λ b. come.front ++ c.truncate.new.self.items ++ 10 ∷ [] ++ b) (sym left);
+    }
