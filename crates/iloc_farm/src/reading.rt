@@ -32,6 +32,6 @@ pub(crate) fn read_blocks<H: Threads + Wait + Sync, R: Read>(
     if request.workers == 1 {
         return Ok(read_file_from(alloc, reader)?.blocks);
     }
-    let workers = request.workers as usize;
-    Ok(read_by_threads(rt, alloc, reader, workers)?.blocks)
+    let threads = request.workers as usize;
+    Ok(read_by_threads(rt, alloc, reader, threads)?.blocks)
 }

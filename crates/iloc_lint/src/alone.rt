@@ -66,7 +66,7 @@ pub fn read_alone(alloc: Global, line: &[u8]) -> Result<Content, Unknown>
         op: None,
     };
     match read_blocks(alloc, line, &mut said) {
-        Ok(()) => Ok(said),
+        Ok(_) => Ok(said),
         Err(fault) => Err(why_unread(fault)),
     }
 }

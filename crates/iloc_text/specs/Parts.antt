@@ -16,11 +16,6 @@ pub record BeginsLabelled (text : List ℕ) : Type 0 where
   pub op : Option Op
   pub reads : Reads line (Some name) op
 
--- the text falls in two at a line end, which a line with a label follows
-pub record FallsInto (text front back : List ℕ) : Type 0 where
-  pub whole : text ≡ front ++ 10 ∷ back
-  pub labelled : BeginsLabelled back
-
 -- the text denotes this file, and has so many lines
 pub record IsCounted (text : List ℕ) (counted : Counted) : Type 0 where
   pub denotes : Denotes text counted.file.blocks

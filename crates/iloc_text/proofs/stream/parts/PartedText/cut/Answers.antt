@@ -22,7 +22,7 @@ returns g c = λ text come.
     let old = c.args.self.now in
     let part = c.in-Some.front.now in
     let back = c.in-Some.back.now in
-    let falls : old.rest.items ≡ part ++ 10 ∷ back = sym c.deref.ensures.value ∙ c.in-Some.ensures.whole in
+    let falls : old.rest.items ≡ part ++ 10 ∷ back = sym c.deref.ensures.value ∙ c.in-Some.ensures in
     let cut : c.truncate.new.self.items ≡ part = c.truncate.ensures.items
     ∙ ap (λ v. take (length part) v.items) c.replace-text.ensures.value
     ∙ ap (take (length part)) falls ∙ take-append_seam part (10 ∷ back) in

@@ -1,8 +1,8 @@
 use Rattle.std.proofs.Common.{◌∙◌, ◌++◌, sym, ap, append_assoc}
 use Rattle.iloc_text.proofs.stream.parts.PartedTextTakePieces.take.Goals as goal
 
-pub returns-then-len-self : goal.returns-then-len-self
-returns-then-len-self g c = λ start text goes begins.
+pub returns-then-len-lt-PART : goal.returns-then-len-lt-PART
+returns-then-len-lt-PART g c = λ start text goes begins.
     let come = goes begins in
     record {
       front = come.front;

@@ -2,7 +2,7 @@ use Rattle.std.proofs.Common.{◌∙◌, [], Err, ap}
 use Rattle.std.proofs.lemmas.Result.{err_from_is_err_and}
 use Rattle.iloc_text.specs.Steps.Open.{HasTaken}
 use Rattle.iloc_text.proofs.Reading.{answer_begins, err_refused, denoted}
-use Rattle.iloc_text.proofs.reader.read_counted.Goals as goal
+use Rattle.iloc_text.proofs.reader.read_blocks.Goals as goal
 
 pub returns-in_err-lines-clause-err : goal.returns-in_err-lines-clause-err
 returns-in_err-lines-clause-err g c =
