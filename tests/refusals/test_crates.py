@@ -23,7 +23,7 @@ TESTS = {
         "text::stream::reads_a_stream_into_a_file",
         "text::stream::reads_a_text_as_it_comes",
         "text::spelling::leaves_the_text_as_it_was_where_it_is_refused",
-        "text::text_parts::falls_into_parts_before_labels",
+        "text::text_parts::takes_parts_in_order",
         "meaning::effect::reads_registers_and_memory",
         "meaning::interpreter::a_refused_run_can_be_repeated",
         "meaning::interpreter::the_outcome_is_that_of_the_last_block",
