@@ -10,3 +10,4 @@ pub mod Pairing
 pub mod Sides
 pub mod Counterparts
 pub mod Broken
+pub mod Colours
