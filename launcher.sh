@@ -1,4 +1,5 @@
-# What ilocfarm and build share. Both may be started anywhere, also by links, and work at the top of the repository.
+# What ilocfarm and build share. Both may be started anywhere, also by links, and work at the top of the repository; $here
+# is where they were started.
 say() {
     echo "ilocfarm: $*" >&2
 }
@@ -46,5 +47,6 @@ stopped() {
 }
 
 top=${self%/*}
+here=$PWD
 rt=$(command -v rt) && rt=$(readlink -f -- "$rt")
 cd -- "$top" && [ -f crates.txt ] || fail "no crates.txt in $top: start this in its repository, or by a link to it"

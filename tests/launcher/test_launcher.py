@@ -3,6 +3,7 @@
 One case has the real rt run a small program unproved.
 """
 import os
+import re
 import shutil
 import signal
 import subprocess
@@ -183,6 +184,20 @@ class Answers(Repository):
         self.builds(1)
         for by in ("bin/near", "far"):
             self.assertEqual(self.ran("run", given="text", by=f"{self.folder}/{by}"), (7, "build 1: run: text\n", ""))
+
+    def test_paths_are_the_callers(self):
+        """A relative path after --task leads from the caller's folder, whether the program is built or not."""
+        os.mkdir(f"{self.folder}/at home")
+        for words, made in ((["check", "--task", "a b"], f"check --task {self.folder}/at home/a b"),
+                            (["check", "--task=../b", "3"], f"check --task={self.folder}/at home/../b 3"),
+                            (["check", "--task", "/c", "--csv"], "check --task /c --csv"), (["check", "--task=/c"], "check --task=/c"),
+                            (["check", "--task", "--csv"], "check --task --csv"), (["check", "--task"], "check --task")):
+            with self.subTest(words):
+                _, out, _ = self.ran(*words, cwd=f"{self.folder}/at home")
+                self.assertEqual(out, f"unproved: {made}: \n")
+        self.script("bin/rt", RT.replace('"build %s: $*: $(cat)', '"build %s: $*: $(pwd)'))
+        self.assertEqual(self.ran(by="build")[0], 0)
+        self.assertEqual(self.ran("--task", "b", cwd=f"{self.folder}/at home"), (7, f"build 1: --task b: {self.folder}/at home\n", ""))
 
     def test_any_input_for_the_program(self):
         self.builds(1)
