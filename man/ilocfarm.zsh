@@ -25,21 +25,21 @@ simulate) shift words; (( CURRENT-- ))
         '--load[Cycles that load and loadAI take, 1 to 16 \[default\: 5\]]:N:' \
         '--store[Cycles that store and storeAI take, 1 to 16 \[default\: 5\]]:N:' \
         '--mult[Cycles that mult and multI take, 1 to 16 \[default\: 3\]]:N:' \
-        '--priority[What goes first\: chain, slack, descendants, successors, latency or order \[default\: chain\]]:N:' \
+        '--priority[What goes first\: chain, slack, descendants, successors, latency or order \[default\: chain\]]:N:(chain slack descendants successors latency order)' \
         '--help[Print help]' ;;
 schedule) shift words; (( CURRENT-- ))
     _arguments '--workers[How many workers share the blocks, 1 to 8 \[default\: 2\]]:N:' \
         '--load[Cycles that load and loadAI take, 1 to 16 \[default\: 5\]]:N:' \
         '--store[Cycles that store and storeAI take, 1 to 16 \[default\: 5\]]:N:' \
         '--mult[Cycles that mult and multI take, 1 to 16 \[default\: 3\]]:N:' \
-        '--priority[What goes first\: chain, slack, descendants, successors, latency or order \[default\: chain\]]:N:' \
+        '--priority[What goes first\: chain, slack, descendants, successors, latency or order \[default\: chain\]]:N:(chain slack descendants successors latency order)' \
         '--help[Print help]' ;;
 counts) shift words; (( CURRENT-- ))
     _arguments '--workers[How many workers share the blocks, 1 to 8 \[default\: 2\]]:N:' \
         '--load[Cycles that load and loadAI take, 1 to 16 \[default\: 5\]]:N:' \
         '--store[Cycles that store and storeAI take, 1 to 16 \[default\: 5\]]:N:' \
         '--mult[Cycles that mult and multI take, 1 to 16 \[default\: 3\]]:N:' \
-        '--priority[What goes first\: chain, slack, descendants, successors, latency or order \[default\: chain\]]:N:' \
+        '--priority[What goes first\: chain, slack, descendants, successors, latency or order \[default\: chain\]]:N:(chain slack descendants successors latency order)' \
         '--csv[Print a table of comma-separated values, a row for each block]' \
         '--help[Print help]' ;;
 compare) shift words; (( CURRENT-- ))
@@ -53,7 +53,7 @@ explain) shift words; (( CURRENT-- ))
     _arguments '--load[Cycles that load and loadAI take, 1 to 16 \[default\: 5\]]:N:' \
         '--store[Cycles that store and storeAI take, 1 to 16 \[default\: 5\]]:N:' \
         '--mult[Cycles that mult and multI take, 1 to 16 \[default\: 3\]]:N:' \
-        '--priority[What goes first\: chain, slack, descendants, successors, latency or order \[default\: chain\]]:N:' \
+        '--priority[What goes first\: chain, slack, descendants, successors, latency or order \[default\: chain\]]:N:(chain slack descendants successors latency order)' \
         '--task[Read the blocks from FILE, and only rows from standard input]:FILE:_files' \
         '--either-slot[Exchange the operations of a row that can be issued only so]' \
         '--help[Print help]' ;;

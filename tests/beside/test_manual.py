@@ -10,6 +10,7 @@ from limits import MAX_NUMBER, MOST_BLOCKS, MOST_BYTES, MOST_OPERATIONS
 
 PAGE = f"{TOP}/man/ilocfarm.1"
 LITERAL = re.compile(r"^\.Bd -literal.*\n((?:(?!\.Ed).*\n)*)\.Ed\n", re.MULTILINE)
+PRIORITIES = "chain slack descendants successors latency order"
 # The words of a line, the last of which is to be completed, and what is offered.
 COMPLETIONS = (
     (["s"], "simulate schedule"),
@@ -19,6 +20,8 @@ COMPLETIONS = (
     (["counts", "--load", "1", "--m"], "--mult"),
     (["check", "--"], "--at --load --store --mult --task --either-slot --lawful --outputs --csv --help"),
     (["help", "c"], "counts compare check"),
+    (["counts", "--priority", ""], PRIORITIES),
+    (["schedule", "--load", "1", "--priority", "s"], "slack successors"),
     (["run", "--at", "4", "1"], ""),
     (["run", "<", ""], ""),
     (["<", "first.iloc"], ""),
@@ -33,11 +36,14 @@ TYPED = (
     ("ilocfarm si\t", "> ilocfarm simulate"),
     ("ilocfarm counts --wo\t", "> ilocfarm counts --workers"),
     ("ilocfarm check --mu\t", "> ilocfarm check --mult"),
+    ("ilocfarm counts --priority desc\t", "> ilocfarm counts --priority descendants"),
 )
 IN_FISH = (
     ("ilocfarm si", "simulate\tSchedule each block, and run the schedule\n"),
     ("ilocfarm counts --wo", "--workers\tHow many workers share the blocks, 1 to 8 [default: 2]\n"),
     ("ilocfarm run < examples/fir", "examples/first.iloc\n"),
+    ("ilocfarm explain --priority s", "".join(f"{it}\tWhat goes first: chain, slack, descendants, successors, latency or order "
+                                              "[default: chain]\n" for it in ("slack", "successors"))),
 )
 READS_TERMINAL = b"ilocfarm: reading blocks from the terminal; Ctrl-D on a line of its own ends them\n"
 COMPLETE = ('source "$0"; COMP_WORDS=(ilocfarm "$@"); COMP_CWORD=$#; _ilocfarm; echo "${COMPREPLY[*]}"')
