@@ -1,11 +1,15 @@
 """Cases of cluster/split, cluster/job and cluster/join without an engine: each piece is run in turn."""
 import os
 import random
+import re
 
 from harness.place import Place
 
 COMMANDS = (["run", "--at", "0", "1", "2"], ["simulate", "--load", "2"], ["schedule", "--mult", "1"], ["counts"],
-            ["explain", "--load", "3"])
+            ["explain", "--load", "3"], ["compare"], ["compare", "--csv", "--store", "2"], ["counts", "--csv"])
+JOINED = {"run", "simulate", "schedule", "counts", "compare", "explain"}
+# What is given for an option's value.
+VALUES = {"priority": "slack", "task": "blocks"}
 FILES = 48
 OPERATIONS = (b"nop", b"add r1, r2 => r3", b"loadI 4 => r1", b"output 4", b"store r1=>r2", b"loadAI r1,4 => r2",
               b"mult r3, r3 =>\tr1", b"output 3 // odd: a fault")
@@ -69,6 +73,31 @@ class Pieces(Place):
             os.rename(self.path("pieces"), self.path(f"pieces{number}"))
         if cuts < FILES // 2 or not 0 < faults < FILES // 2:
             self.fail(f"{cuts} files were cut and {faults} are refused: too few to show anything")
+
+    def options_of(self, command):
+        """The words that a command's help lists, each with a value."""
+        out = self.call("ilocfarm", command, "--help")[1].decode()
+        options = re.findall(r"--([\w-]+)(?: <(\w+)>)?  ", out.partition("Options:\n")[2])
+        return [["3", "4"]] * ("[WORD]" in out) + [[f"--{name}"] + [VALUES.get(name, "4")] * bool(value) for name, value in options]
+
+    def test_every_command(self):
+        """With each option of each command the joined bytes are one run's, or the command is refused by its name."""
+        out = self.call("ilocfarm", "--help")[1].decode()
+        commands = re.findall(r"^  (\w+) ", out.partition("Commands:\n")[2].partition("\n\n")[0], re.MULTILINE)
+        self.write("blocks", b"nop\nr1: " + self.read("examples/dot.iloc") + b"c:\nd: output 4\n" + self.read("examples/book.iloc"))
+        count, joined = self.split("--blocks", "2"), set()
+        for command, options in [(it, [[], *self.options_of(it)]) for it in commands if it != "help"]:
+            for option in options:
+                for number in range(1, count + 1):
+                    self.run_piece(number, command, *option)
+                ended = self.join()
+                if ended[0] == 3:
+                    self.expect(f"{command} {option} is refused by its name", (ended[1], command.encode() in ended[2]), (b"", True))
+                else:
+                    self.expect(f"{command} {option}", ended, self.call("ilocfarm", command, *option, given=self.read("blocks")))
+                    joined.add((command, *option[:1]))
+        self.expect("joined without an option", {it[0] for it in joined if len(it) == 1}, JOINED)
+        self.expect("tables", {it[0] for it in joined if it[1:] == ("--csv",)}, {"counts", "compare"})
 
     def test_cuts_before_labels_alone(self):
         self.write("blocks", b"nop // a:\n// b:\n\t c \t: nop\n\n//d:\nnop\re: nop\n f :\r")
