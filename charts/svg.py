@@ -2,14 +2,16 @@
 import sys
 from html import escape
 
-# Text, lines and grid are on the page's own ground, so they are neither light nor dark.
+# Lines are on the page's own ground, so they are neither light nor dark; text is one or the other, as the page is.
 INK = "#7d8590"
 GRID = "#7d859055"
+TEXT = {"light": "#59636e", "dark": "#9198a1"}
 # What is written into a filled box.
 ON_FILL = "#0b0f14"
 STYLE = ("text { font: 12px ui-monospace, 'DejaVu Sans Mono', Menlo, Consolas, monospace; }"
-         f" .ink {{ fill: {INK}; }} .on {{ fill: {ON_FILL}; }} .head {{ font-weight: bold; }}"
-         f" .grid {{ stroke: {GRID}; }} .axis {{ stroke: {INK}; }}")
+         f" .ink {{ fill: {TEXT['light']}; }} .on {{ fill: {ON_FILL}; }} .head {{ font-weight: bold; }}"
+         f" .grid {{ stroke: {GRID}; }} .axis {{ stroke: {INK}; }}"
+         f" @media (prefers-color-scheme: dark) {{ .ink {{ fill: {TEXT['dark']}; }} }}")
 # No letter of the fonts above is wider.
 LETTER = 7.4
 

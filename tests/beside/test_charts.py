@@ -185,6 +185,20 @@ class Charts(Place):
         self.expect("tooltips", tooltips(root), ["1 sum\nada: 14\ndan: 24\nours: 14\nleast: 13",
                                             "2 dot\nada: 19\ndan: 19\nours: 22\nleast: 20\nada: differs"])
 
+    def test_compare_priorities(self):
+        """The listing and the table of `compare` have a mark for each priority, and the least."""
+        given = self.read("examples/dot.iloc") + self.read("examples/book.iloc")
+        self.write("listing", self.call("ilocfarm", "compare", given=given)[1])
+        self.write("table", self.call("ilocfarm", "compare", "--csv", given=given)[1])
+        drawn = self.call("charts/compare", "listing")
+        self.expect("the table's picture", self.call("charts/compare", "table"), drawn)
+        marks = {"least": 21, "chain": 22, "slack": 23, "descendants": 22, "successors": 21, "latency": 21, "order": 21}
+        told = tooltips(ElementTree.fromstring(drawn[1]))[0].splitlines()
+        self.expect("tooltip", (told[0], sorted(told[1:])), ("1 dot", sorted(f"{it}: {cycles}" for it, cycles in marks.items())))
+        self.write("counts", self.call("ilocfarm", "counts", given=given)[1])
+        told = tooltips(self.picture("charts/compare", "one=table", "counts"))[0].splitlines()
+        self.expect("names", (told[1], told[7]), ("one chain: 22", "counts: 22"))
+
     def test_compare_leaves_wrong_ones_out(self):
         """Of a block whose verdict doesn't pass nothing is in a total, whichever listing has it."""
         self.write("ada", CHECKED)
@@ -236,9 +250,12 @@ class Charts(Place):
         self.write("two", b"block 1 x cycles 6\nblock 2 y cycles 0\ntotal 6\n")
         self.write("none", b"total 0\n")
         self.write("other", b"block 1 - cycles 4\n[ nop ; nop ]\n")
+        self.write("both", b"block 1 - cycles 4\nblock 2 - least 4 chain 5\n")
         for words, said in ((["one", "two"], b"the listings have 1, 2 blocks: only the same ones can be compared"),
                             (["one", "none"], b"none: there is no block"),
-                            (["one", "other"], b"other: line 2 is none of a listing of counts or check: [ nop ; nop ]")):
+                            (["one", "other"], b"other: line 2 is none of a listing of counts, check or compare: [ nop ; nop ]"),
+                            (["one"], b"one listing of counts or check can't be compared: give another"),
+                            (["both"], b"both: the blocks are listed in more than one way")):
             self.expect(f"compare {words}", self.call("charts/compare", *words), (1, b"", b"charts/compare: " + said + b"\n"))
-        self.expect("status", self.call("charts/compare", "one")[0], 2)
+        self.expect("status", self.call("charts/compare")[0], 2)
         self.expect("status", self.call("charts/compare", "one", "nowhere")[0], 4)
