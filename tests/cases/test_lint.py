@@ -3,6 +3,9 @@ from harness.program import ending, told
 from harness.suite import Case, Check, table
 from limits import MOST_BLOCKS, MOST_BYTES, MOST_OPERATIONS
 
+UTF_16 = "the text is in UTF-16: save it as UTF-8"
+# So many faults are listed.
+MOST_LISTED = 1000
 # A line, what is said of it, and how many bytes of it can be read.
 WRONG = [
     (b"loadi 5 => r1", 'no such opcode "loadi": loadI?', 4),
@@ -56,10 +59,18 @@ WRONG = [
     (b"=> r1", 'expected an operation or "//", found "=>"', 0),
     (b"\tadd\tr1,\x0br2 => r3", 'expected a register, found "?"', 8),
     (b"add r1, r2 => r3\xc3\xa9", 'expected the end of the line, found "?"', 16),
-    (b"\xef\xbb\xbfnop", 'expected an operation or "//", found "?"', 0),
+    (b"\xef\xbb\xbfnop", "the text begins with a byte-order mark: save it without one", 0),
+    (b"\xff\xfen\0o\0p\0", UTF_16, 0),
+    (b"\xfe\xff\0n\0o\0p\0", UTF_16, 0),
+    (b"\0n\0o\0p\0", UTF_16, 0),
+    (b"n\0o\0p\0", UTF_16, 1),
+    (b"\0", UTF_16, 0),
+    (b"add r1\r, r2 r3\r", 'expected "=>", found "r3"', 12),
+    (b"nop \0", 'expected the end of the line, found "?"', 4),
     (b"averylongwordthatisnoopcodeofanykind r1", 'no such opcode "averylongwordthatisnoopc.."', 1),
     (b"nop" + b" " * 100 + b"x" * 100, 'expected the end of the line, found "xxxxxxxxxxxxxxxxxxxxxxxx.."', 103),
 ]
+ALONE = b"hint: each operation has a label, so each is a block of its own\n"
 HINTS = [
     (b"loadI 4 => r1\nstore r1 => r1\n", b""),
     (b"add r0, r0 => r1\n", b"hint: line 1 uses r0, to which nothing before it in the block gives a value: it is 0\n"
@@ -67,7 +78,8 @@ HINTS = [
     (b"loadI 4 => r1\nloadI 5 => r1\noutput 4\n\nstore r1 => r1\n",
      b"hint: line 1: nothing uses this value of r1\n"
      b"hint: line 5 goes on with the block above it: only a label starts a block\n"),
-    (b"a: output 4\nb: output 8\nc: nop\n", b"hint: each operation has a label, so each is a block of its own\n"),
+    (b"a: output 4\nb: output 8\nc: nop\n", ALONE),
+    (b"a: loadI 4 => r1\nb: output 8\nc: nop\n", ALONE + b"hint: line 1: nothing uses this value of r1\n"),
     (b"".join(b"loadI 4 => r%d\n" % k for k in range(22)),
      b"".join(b"hint: line %d: nothing uses this value of r%d\n" % (k + 1, k) for k in range(20))
      + b"hint: and 2 more like these\n"),
@@ -76,7 +88,7 @@ HINTS = [
 
 def entry(number, line, what, at):
     start = max(0, at - 40)
-    text = "".join(chr(c) if 32 <= c < 127 else " " if c == 9 else "?" for c in line[start:start + 64])
+    text = "".join(chr(c) if 32 <= c < 127 else " " if c in b"\t\r" else "?" for c in line[start:start + 64])
     before, after = ".." if start else "", ".." if start + 64 < len(line) else ""
     caret = " " * (len(before) + at - start) + "^"
     return f"line {number}: {what}\n    {before}{text}{after}\n    {caret}\n".encode()
@@ -119,12 +131,14 @@ def limits():
     yield Lint("text too long", b"x" * (MOST_BYTES + 1), b"input longer than 16777216 bytes\n" + totals(0, 0, 1))
     label = b"a: nop\n"
     many = entry(MOST_BLOCKS + 1, b"a: nop", "more than 65535 blocks", 0)
-    hint = b"hint: each operation has a label, so each is a block of its own\n"
-    yield Lint("most blocks", label * MOST_BLOCKS, hint + totals(MOST_BLOCKS, MOST_BLOCKS, 0))
+    yield Lint("most blocks", label * MOST_BLOCKS, ALONE + totals(MOST_BLOCKS, MOST_BLOCKS, 0))
     yield Lint("a block too many", label * (MOST_BLOCKS + 1), many + totals(MOST_BLOCKS, MOST_BLOCKS, 1))
     beyond = [entry(MOST_OPERATIONS + k, b"nop", "more than 10000 operations in a block", 0) for k in (1, 3)]
     yield Lint("operations too many", b"nop\n" * (MOST_OPERATIONS + 1) + b"\nnop\nB: nop\n",
                b"".join(beyond) + totals(2, MOST_OPERATIONS + 1, 2))
+    for count, more in ((MOST_LISTED, b""), (MOST_LISTED + 1, b"and 1 more\n"), (2_000_000, b"and 1999000 more\n")):
+        bad = b"".join(entry(k, b"x", 'no such opcode "x"', 0) for k in range(1, MOST_LISTED + 1))
+        yield Lint(f"{count} faults", b"x\n" * count, bad + more + totals(0, 0, count))
     yield Check("lint/the reader's fault first", wrong_first)
 
 

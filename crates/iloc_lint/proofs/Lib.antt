@@ -3,6 +3,7 @@ pub mod OneLine
 pub mod Judged
 pub mod Linting
 pub mod Entries
+pub mod Kept
 pub mod Readers
 pub mod Short
 pub mod Listed

@@ -1,10 +1,9 @@
 -- The listing of a text, put together.
-use Rattle.std.proofs.Common.{◌≡◌, ◌∙◌, ℕ, Bool, ◌==◌, List, [], ◌∷◌, ◌++◌, length, flat_map, sym, ap, append_assoc, append-nil}
-use Rattle.std.proofs.lemmas.List.{length-map}
-use Rattle.iloc_lint.specs.Faults.{IsLinted}
-use Rattle.iloc_lint.specs.Refused.{refusal_of, refusals_of}
-use Rattle.iloc_lint.specs.declared.refused.Refused.{Refused}
-use Rattle.iloc_lint.specs.Listing.{AreEntries, AreHints, ListsLint, hint_line, total_line}
+use Rattle.std.proofs.Common.{◌≡◌, ◌∙◌, ℕ, Bool, ◌==◌, List, [], ◌∷◌, ◌++◌, flat_map, sym, ap, subst, append_assoc, append-nil}
+use Rattle.iloc_lint.specs.Faults.{IsLinted, Refusal}
+use Rattle.iloc_lint.specs.Refused.{AreKept, refusals_of}
+use Rattle.iloc_lint.specs.declared.refused.Refusals.{Refusals}
+use Rattle.iloc_lint.specs.Listing.{AreEntries, AreHints, ListsLint, hint_line, more_line, total_line}
 
 -- hints, and one more
 pub hint_added : (said : List (List ℕ)) (what start text new : List ℕ) → text ≡ start ++ flat_map hint_line said
@@ -18,21 +17,20 @@ hint_added said what start text new so added =
     more (x ∷ xs) = ap (λ t. hint_line x ++ t) (more xs)
         ∙ sym (append_assoc (hint_line x) (flat_map hint_line xs) (hint_line what))
 
-pub all_listed : (input : List ℕ) (faults : List Refused) (blocks ops : ℕ) (reads : Bool) (entries hints text : List ℕ)
-    → IsLinted input (refusals_of faults) blocks ops → AreEntries (refusals_of faults) entries → AreHints (refusals_of faults) hints
-    → reads ≡ (length faults == 0)
-    → text ≡ (entries ++ hints) ++ total_line blocks ops (length faults) → ListsLint input reads text
-all_listed input faults blocks ops reads entries hints text linted are given finds whole =
-    let count : length faults ≡ length (refusals_of faults) = sym (length-map faults refusal_of) in
+pub all_listed : (input : List ℕ) (refusals : List Refusal) (kept : Refusals) (blocks ops : ℕ) (reads : Bool)
+    (entries hints text : List ℕ) → IsLinted input refusals blocks ops → AreKept refusals kept
+    → AreEntries (refusals_of kept.first.items) entries → AreHints (kept.count == 0) hints → reads ≡ (kept.count == 0)
+    → text ≡ ((entries ++ more_line kept.count) ++ hints) ++ total_line blocks ops kept.count → ListsLint input reads text
+all_listed input refusals kept blocks ops reads entries hints text linted are said given finds whole =
     record {
-      faults = refusals_of faults;
+      faults = refusals;
       blocks = blocks;
       ops = ops;
       linted = linted;
       entries = entries;
-      are_entries = are;
+      are_entries = subst (λ rs. AreEntries rs entries) are.first said;
       hints = hints;
-      are_hints = given;
-      listed = whole ∙ ap (λ n. (entries ++ hints) ++ total_line blocks ops n) count;
-      finds = finds ∙ ap (λ n. n == 0) count;
+      are_hints = subst (λ b. AreHints b hints) (sym finds) given;
+      listed = whole ∙ ap (λ n. entries ++ more_line n ++ hints ++ total_line blocks ops n) are.count;
+      finds = finds ∙ ap (λ n. n == 0) are.count;
     }

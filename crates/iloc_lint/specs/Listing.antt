@@ -1,16 +1,18 @@
 -- What is listed of a text that is read for its faults.
-use Rattle.std.specs.Prelude.{◌≡◌, ℕ, ◌-◌, nat_lt, Bool, ◌&&◌, ◌==◌, if◌then◌else◌, List, [], ◌∷◌, ◌++◌, length, take, drop, codes}
+use Rattle.std.specs.Prelude.{◌≡◌, ℕ, ◌-◌, nat_lt, Bool, true, false, ◌&&◌, ◌==◌, if◌then◌else◌, List, [], ◌∷◌, ◌++◌, length, take, drop, codes}
 use Rattle.std.specs.Fmt.{decimal}
 use Rattle.std.specs.List.{flat_map}
 use Rattle.iloc_text.specs.declared.fault.ReadFault.{ReadFault}
 use Rattle.iloc_text.specs.declared.fault.ReadFault.TheVariants.{InputTooLong, BadLine, NumberTooLarge, TooManyBlocks, TooManyOperations, NoMemory}
 use Rattle.iloc_text.specs.Fault.{fault_text, of_line}
+use Rattle.iloc_text.specs.Grammar.{is_blank}
 use Rattle.iloc_lint.specs.Faults.{Refusal, IsLinted}
 use Rattle.iloc_lint.specs.Place.{IsPlace}
+use Rattle.iloc_lint.specs.Refused.{MOST_LISTED}
 
--- a byte in one column: a tab as a space, and what can't be printed as `?`
+-- a byte in one column: a blank as a space, and what can't be printed as `?`
 abbrev pub shown_byte : ℕ → ℕ
-shown_byte c = if c == 9 then 32 else (if nat_lt 31 c && nat_lt c 127 then c else 63)
+shown_byte c = if is_blank c then 32 else (if nat_lt 31 c && nat_lt c 127 then c else 63)
 
 abbrev pub shown : List ℕ → List ℕ
 shown bytes = flat_map (λ c. shown_byte c ∷ []) bytes
@@ -58,14 +60,19 @@ AreEntries (refusal ∷ refusals) text =
     (entry : List ℕ) × (rest : List ℕ) × IsEntry refusal.line refusal.fault entry × AreEntries refusals rest
     × (text ≡ entry ++ rest)
 
+-- how many more are refused than are listed
+abbrev pub more_line : ℕ → List ℕ
+more_line faults =
+    if nat_lt MOST_LISTED faults then codes "and " ++ decimal (faults - MOST_LISTED) ++ codes " more\n" else []
+
 -- a hint, whose wording is free
 abbrev pub hint_line : List ℕ → List ℕ
 hint_line what = codes "hint: " ++ shown what ++ codes "\n"
 
--- hints are given only where no line is refused
-abbrev pub AreHints : List Refusal → List ℕ → Type 0
-AreHints [] text = (hints : List (List ℕ)) × (text ≡ flat_map hint_line hints)
-AreHints (refusal ∷ refusals) text = text ≡ []
+-- hints are given only on a text that reads
+abbrev pub AreHints : Bool → List ℕ → Type 0
+AreHints true text = (hints : List (List ℕ)) × (text ≡ flat_map hint_line hints)
+AreHints false text = text ≡ []
 
 -- the last line
 abbrev pub total_line : ℕ → ℕ → ℕ → List ℕ
@@ -73,15 +80,16 @@ total_line blocks ops faults =
     codes "blocks " ++ decimal blocks ++ codes " operations " ++ decimal ops ++ codes " faults " ++ decimal faults
     ++ codes "\n"
 
--- The listing of a text that reads or doesn't: an entry for each line that is refused, or hints, and what the text holds.
+-- The listing of a text that reads or doesn't: an entry for each of the first lines that are refused, and how many more there
+-- are; or hints; and what the text holds.
 pub record ListsLint (input : List ℕ) (reads : Bool) (listing : List ℕ) : Type 0 where
   pub faults : List Refusal
   pub blocks : ℕ
   pub ops : ℕ
   pub linted : IsLinted input faults blocks ops
   pub entries : List ℕ
-  pub are_entries : AreEntries faults entries
+  pub are_entries : AreEntries (take MOST_LISTED faults) entries
   pub hints : List ℕ
-  pub are_hints : AreHints faults hints
-  pub listed : listing ≡ entries ++ hints ++ total_line blocks ops (length faults)
+  pub are_hints : AreHints reads hints
+  pub listed : listing ≡ entries ++ more_line (length faults) ++ hints ++ total_line blocks ops (length faults)
   pub finds : reads ≡ (length faults == 0)

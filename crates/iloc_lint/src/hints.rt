@@ -162,13 +162,15 @@ impl Hints {
     /// Adds what can only be said at the end.
     fn finish(mut self) -> Result<Vec<Hint>, NoMemory> {
         self.end_block()?;
-        if self.count > MOST {
-            self.found.push(Hint::More(self.count - MOST))?;
-        }
+        let mut hints = Vec::new(self.alloc);
         if self.headed > 2 && self.others == 0 {
-            self.found.push(Hint::AllHeaded)?;
+            hints.push(Hint::AllHeaded)?;
         }
-        Ok(self.found)
+        hints.extend_from_slice(&self.found)?;
+        if self.count > MOST {
+            hints.push(Hint::More(self.count - MOST))?;
+        }
+        Ok(hints)
     }
 }
 

@@ -17,5 +17,5 @@ mod wording;
 
 pub use faults::{Linted, lint};
 pub use listing::{Report, report_of};
-pub use refused::Refused;
+pub use refused::{Refusals, Refused};
 pub use row::row_wording;

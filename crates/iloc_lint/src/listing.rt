@@ -1,13 +1,13 @@
 //! What is listed of a text: each faulty line with what is wrong there, hints, and what the text holds.
-ghost use Rattle.std.specs.Prelude.{◌≡◌, ◌≤◌, ◌+◌, ◌++◌, List, ℕ, length, take, IfOk, OnOk};
-ghost use Rattle.iloc_lint.specs.Listing.{AreEntries, AreHints, IsEntry, ListsLint, caret_line, cut, line_entry, text_line, total_line};
+ghost use Rattle.std.specs.Prelude.{◌≡◌, ◌≤◌, ◌+◌, ◌++◌, ◌==◌, List, ℕ, length, take, IfOk, OnOk};
+ghost use Rattle.iloc_lint.specs.Listing.{AreEntries, AreHints, IsEntry, ListsLint, caret_line, cut, line_entry, more_line, text_line, total_line};
 ghost use Rattle.iloc_lint.specs.Refused.{refusals_of};
 
 use crate::faults::{Linted, lint};
 use crate::hint::push_hints;
 use crate::hints::hints_on;
 use crate::place::place_of;
-use crate::refused::Refused;
+use crate::refused::{MOST_LISTED, Refused};
 use crate::shown::push_shown;
 use crate::wording::{ABOVE_LIMIT, wording};
 use iloc_text::{NoMemory, ReadFault, push_column, push_number};
@@ -120,7 +120,7 @@ fn push_entry(alloc: Global, text: &mut Vec<u8>, refused: &Refused<'_>) -> Resul
     }
 }
 
-/// Appends the entries of all lines that are refused.
+/// Appends the entries of lines that are refused.
 fn push_entries(alloc: Global, text: &mut Vec<u8>, faults: &[Refused<'_>]) -> Result<(), NoMemory>
     ensures { OnOk result ((entries : List ℕ) × AreEntries (refusals_of faults.now) entries
         × (text.new.items ≡ text.old.items ++ entries)) }
@@ -131,15 +131,27 @@ fn push_entries(alloc: Global, text: &mut Vec<u8>, faults: &[Refused<'_>]) -> Re
     Ok(())
 }
 
+/// Appends how many more lines are refused than are listed.
+fn push_more(text: &mut Vec<u8>, count: usize) -> Result<(), NoMemory>
+    ensures { OnOk result (text.new.items ≡ text.old.items ++ more_line count) }
+{
+    if count > MOST_LISTED {
+        text.extend_from_slice(b"and ")?;
+        push_number(text, count - MOST_LISTED)?;
+        text.extend_from_slice(b" more\n")?;
+    }
+    Ok(())
+}
+
 /// Appends the last line: how many blocks and operations there are, and how many lines are refused.
 fn push_totals(text: &mut Vec<u8>, found: &Linted<'_>) -> Result<(), NoMemory>
     ensures { OnOk result (text.new.items ≡ text.old.items
-        ++ total_line found.now.blocks found.now.ops (length found.now.faults.items)) }
+        ++ total_line found.now.blocks found.now.ops found.now.faults.count) }
 {
     text.extend_from_slice(b"blocks ")?;
     push_number(text, found.blocks)?;
     push_column(text, "operations", found.ops as u64)?;
-    push_column(text, "faults", found.faults.len() as u64)?;
+    push_column(text, "faults", found.faults.count as u64)?;
     Ok(text.push(b'\n')?)
 }
 
@@ -150,7 +162,7 @@ fn push_hints_where(
     found: &Linted<'_>,
     input: &[u8],
 ) -> Result<(), NoMemory>
-    ensures { OnOk result ((hints : List ℕ) × AreHints (refusals_of found.now.faults.items) hints
+    ensures { OnOk result ((hints : List ℕ) × AreHints (found.now.faults.count == 0) hints
         × (text.new.items ≡ text.old.items ++ hints)) }
 {
     if found.reads() {
@@ -170,17 +182,18 @@ pub struct Report {
 }
 
 /// What is listed of a text: for each line that is refused its number, what is wrong there, its text, and a caret below the
-/// first byte with which no reading goes on; hints if the text reads; and at the end how many blocks, operations and faults
-/// there are. The wording of hints and of a line that has no reading is free.
+/// first byte with which no reading goes on, of 1,000 lines at most, and how many more there are; hints if the text reads; and
+/// at the end how many blocks, operations and faults there are. The wording of hints and of a line that has no reading is free.
 ///
-/// Promise: the lines that are listed are exactly those that the grammar refuses, each with its number, its text and the
+/// Promise: the lines that are listed are the first 1,000 that the grammar refuses, each with its number, its text and the
 /// place where its reading ends.
 pub fn report_of(alloc: Global, input: &[u8]) -> Result<Report, NoMemory>
     ensures { IfOk result (λ report. ListsLint input.now report.reads report.text.items) }
 {
     let found = lint(alloc, input)?;
     let mut text = Vec::new(alloc);
-    push_entries(alloc, &mut text, &found.faults)?;
+    push_entries(alloc, &mut text, &found.faults.first)?;
+    push_more(&mut text, found.faults.count)?;
     push_hints_where(alloc, &mut text, &found, input)?;
     push_totals(&mut text, &found)?;
     Ok(Report {

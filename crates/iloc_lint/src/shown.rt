@@ -1,4 +1,4 @@
-//! Bytes of a text as they are shown: a tab as a space, and what can't be printed as `?`, so that each takes one column.
+//! Bytes of a text as they are shown: a blank as a space, and what can't be printed as `?`, so that each takes one column.
 ghost use Rattle.std.specs.Prelude.{◌≡◌, ◌++◌, OnOk};
 ghost use Rattle.iloc_lint.specs.Listing.{shown, shown_byte};
 
@@ -9,7 +9,7 @@ fn shown_byte(byte: u8) -> u8
     ensures { result ≡ shown_byte byte }
 {
     match byte {
-        b'\t' => b' ',
+        b'\t' | b'\r' => b' ',
         b' '..=b'~' => byte,
         _ => b'?',
     }

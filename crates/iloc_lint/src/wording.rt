@@ -172,9 +172,26 @@ fn push_operands(
     push_found(what, line, at)
 }
 
+/// What is wrong with the encoding of the text, if the line shows it.
+fn encoding_of(line: &[u8]) -> Option<&'static [u8]> {
+    match line {
+        [0xef, 0xbb, 0xbf, ..] => {
+            Some(b"the text begins with a byte-order mark: save it without one")
+        }
+        [0xff, 0xfe, ..] | [0xfe, 0xff, ..] | [0, ..] | [_, 0, ..] => {
+            Some(b"the text is in UTF-16: save it as UTF-8")
+        }
+        _ => None,
+    }
+}
+
 /// What is wrong with a line that has no reading, in words.
 pub fn wording(alloc: Global, line: &[u8]) -> Result<Vec<u8>, NoMemory> {
     let mut what = Vec::new(alloc);
+    if let Some(encoding) = encoding_of(line) {
+        what.extend_from_slice(encoding)?;
+        return Ok(what);
+    }
     let label = label_at(line);
     let start = label + blanks_at(&line[label..]);
     let count = word_at(&line[start..]);

@@ -1,30 +1,30 @@
-use Rattle.std.proofs.Common.{◌≡◌, ◌∙◌, ◌++◌, ◌+◌, [], ◌∷◌, length, refl, sym, ap, subst, inl, inr, length-append, arith}
+use Rattle.std.proofs.Common.{◌≡◌, ◌∙◌, ◌++◌, ◌+◌, [], ◌∷◌, length, refl, ap, subst, inl, inr, length-append, arith}
 use Rattle.iloc_text.specs.Lines.{lines_of, lines_left}
 use Rattle.iloc_text.proofs.Splitting.{lines_few, lines_are}
-use Rattle.iloc_lint.specs.Refused.{refusals_of}
+use Rattle.iloc_text.specs.declared.fault.ReadFault.TheVariants.{InputTooLong}
+use Rattle.iloc_lint.specs.Steps.Noted.{refusals}
 use Rattle.iloc_lint.proofs.Counted.{ops_few}
 use Rattle.iloc_lint.proofs.Linting.{GoesOn, begins, lines_fit, fit_first, judged_on, at_end}
 use Rattle.iloc_lint.proofs.faults.lint.Goals as goal
 
 pub returns-then-input-gt-MAX_INPUT : goal.returns-then-input-gt-MAX_INPUT
-returns-then-input-gt-MAX_INPUT c = inr (record {
-  long = c.if-input-gt-MAX_INPUT.true;
-  refused = c.in_ok-found.ensures.0;
-  no_blocks = c.in_ok-found.ensures.1;
-  no_ops = c.in_ok-found.ensures.2;
-})
+returns-then-input-gt-MAX_INPUT c = (
+  record { line = []; fault = InputTooLong } ∷ [],
+  inr (record {
+    long = c.if-input-gt-MAX_INPUT.true;
+    refused = refl;
+    no_blocks = c.in_ok-found.ensures.1;
+    no_ops = c.in_ok-found.ensures.2;
+  }),
+  c.in_ok-found.ensures.0,
+)
 
 pub loop-rest-init : goal.loop-rest-init
 loop-rest-init c = record {
   counted = omega arith;
   fit = lines_fit c.args.input.now c.if-input-gt-MAX_INPUT.false;
-  stands = (
-    [],
-    c.none-counts.ensures,
-    refl,
-    subst (λ f. GoesOn (lines_of c.args.input.now) [] (lines_of c.args.input.now) (refusals_of f))
-        (sym c.new-faults.ensures.items) (begins (lines_of c.args.input.now)),
-  );
+  few = omega (arith, c.none-faults.ensures.count);
+  stands = ([], c.none-counts.ensures, refl, [], begins (lines_of c.args.input.now), c.none-faults.ensures);
 }
 
 pub overflow_add-number : goal.overflow_add-number
@@ -43,6 +43,9 @@ judge-requires-clause-room c =
     let stands = c.loop-rest.invariant.stands in
     omega (arith, stands.1.ops, ops_few stands.0, stands.2, c.loop-rest.invariant.counted, lines_few c.args.input.now, c.if-input-gt-MAX_INPUT.false)
 
+pub add-requires : goal.add-requires
+add-requires c = omega (arith, c.loop-rest.invariant.few)
+
 pub loop-rest-preserved : goal.loop-rest-preserved
 loop-rest-preserved c =
     let now = c.loop-rest.invariant in
@@ -52,11 +55,14 @@ loop-rest-preserved c =
     record {
       counted = omega (arith, now.counted, ap length c.split_line.ensures, ap (λ rest. length (lines_left rest)) c.in-Some.is);
       fit = (fit_first _ _ c.in-Some.is c.split_line.ensures now.fit).1;
+      few = omega (arith, now.few, c.add.ensures.few);
       stands = (
         stands.0 ++ judged.0 ∷ [],
         judged.2,
         length-append stands.0 (judged.0 ∷ []) ∙ number,
-        judged_on _ stands.0 c.split_line.result.1 _ _ _ _ _ stands.3 c.in-Some.is c.split_line.ensures judged c.in_ok-note.ensures,
+        stands.3 ++ refusals _ _,
+        judged_on _ stands.0 c.split_line.result.1 _ stands.3 _ _ _ stands.4 c.in-Some.is c.split_line.ensures judged refl,
+        c.in_ok-add.ensures.kept stands.3 stands.5,
       );
     }
 
@@ -66,7 +72,10 @@ loop-rest-smaller c =
 
 pub returns : goal.returns
 returns c =
-    let stands = c.loop-rest.invariant.stands in
-    inl (at_end c.args.input.now stands.0 _ _ _ c.if-input-gt-MAX_INPUT.false
-    (subst (λ rest. GoesOn (lines_of c.args.input.now) stands.0 (lines_left rest) (refusals_of c.loop-rest.faults.items))
-    c.in_default.is stands.3) stands.1.blocks stands.1.ops)
+    let stands = c.loop-rest.invariant.stands in (
+      stands.3,
+      inl (at_end c.args.input.now stands.0 stands.3 _ _ c.if-input-gt-MAX_INPUT.false
+          (subst (λ rest. GoesOn (lines_of c.args.input.now) stands.0 (lines_left rest) stands.3) c.in_default.is stands.4)
+          stands.1.blocks stands.1.ops),
+      stands.5,
+    )
