@@ -40,6 +40,11 @@ block 2 dot differs cycles 19 ours 22 least 20 claimed 8
   output 2: 7 for 8
 total 33 ours 36 least 33
 """
+# The grounds of pages, and the least contrast of a text to what it is on.
+GROUNDS = {"light": "#ffffff", "dark": "#0d1117"}
+LEAST_CONTRAST = 4.5
+INKS = re.compile(r"\.ink \{ fill: (#\w{6}); \}.*@media \(prefers-color-scheme: dark\) \{ \.ink \{ fill: (#\w{6}); \}")
+ON_FILL = re.compile(r"\.on \{ fill: (#\w{6}); \}")
 CHAIN_OUTLINE = "#e5484d"
 WRONG_OUTLINE = "#d6409f"
 
@@ -49,6 +54,18 @@ EDGE = re.compile(r'        b(\d+)_(\d+) -> b\1_(\d+) \[label="(\d+)"')
 
 def tooltips(root):
     return [it.find(f"{SVG}title").text for it in root.iter(f"{SVG}g")]
+
+
+def luminance(colour):
+    """As WCAG has it, of `#rrggbb` or `white`."""
+    parts = [int(colour[at:at + 2], 16) / 255 for at in (1, 3, 5)] if colour != "white" else [1, 1, 1]
+    red, green, blue = (it / 12.92 if it <= 0.04045 else ((it + 0.055) / 1.055) ** 2.4 for it in parts)
+    return 0.2126 * red + 0.7152 * green + 0.0722 * blue
+
+
+def contrast(one, other):
+    low, high = sorted(luminance(it) + 0.05 for it in (one, other))
+    return high / low
 
 
 def height(part):
@@ -66,6 +83,34 @@ class Charts(Place):
         status, out, err = self.call(*words, given=given)
         self.expect(f"{words}", (status, err), (0, b""))
         return ElementTree.fromstring(out)
+
+    def read_well(self, pairs):
+        faint = {pair for pair in pairs if contrast(*pair) < LEAST_CONTRAST}
+        self.expect("texts of too little contrast", (faint, bool(pairs)), (set(), True))
+
+    def test_contrast_of_charts(self):
+        """Text is read on light and dark pages, and in the boxes."""
+        for name in ("book", "compare", "timeline"):
+            root = ElementTree.fromstring(self.read(f"docs/{name}.svg"))
+            style = root.find(f"{SVG}style").text
+            inks = INKS.search(style).groups()
+            self.expect(f"{name}: classes of texts", {it.get("class").split()[0] for it in root.iter(f"{SVG}text")} <= {"ink", "on"}, True)
+            self.read_well(set(zip(inks, GROUNDS.values())))
+            boxes = {group.findall(f"{SVG}rect")[-1].get("fill") for group in root.iter(f"{SVG}g")
+                     if any(it.get("class") == "on" for it in group)}
+            if boxes:
+                self.read_well({(ON_FILL.search(style)[1], it) for it in boxes})
+
+    def test_contrast_of_graphs(self):
+        """A graph has its own ground, and each node too."""
+        root = ElementTree.fromstring(self.read("docs/graph.svg"))
+        graph = next(it for it in root.iter(f"{SVG}g") if it.get("class") == "graph")
+        ground = graph.find(f"{SVG}polygon").get("fill")
+        pairs = set()
+        for group in graph.iter(f"{SVG}g"):
+            on = group.find(f"{SVG}path").get("fill") if group.get("class") == "node" else ground
+            pairs |= {(it.get("fill"), on) for it in group.findall(f"{SVG}text")}
+        self.read_well(pairs)
 
     def test_timeline(self):
         """Each operation is drawn where the listing has it, and its bar is as long as its latency."""
