@@ -67,7 +67,8 @@ class Growths(Case):
         self.test, self.program = test, f"{TOP}/crates/{crate}/out/{crate}_tests"
 
     def passes(self):
-        self.assertTrue(os.path.exists(self.program), f"{self.program} isn't built: .ci/run or rt test makes it")
+        if not os.path.exists(self.program):
+            self.skipTest("the crates' tests aren't built: .ci/run or rt test builds them")
         for number in itertools.count(1):
             end, report = refusing(Asked([self.test], "", b""), self.program, growth=number)
             if report.refused == NOTHING:
