@@ -9,17 +9,20 @@ from svg import Unread
 COLOURS = {"load": "#6cb6ff", "store": "#b392f0", "mult": "#f0a35e", "output": "#6fce7c", "other": "#b9c0c8"}
 CHAIN = "#e5484d"
 WRONG = "#d6409f"
+PATH = "#0969da"
+PASSED = ("", "lawful", "same", "prints")      # no verdict, or one that passes
 HEADER = re.compile(r"block (\d+) (\S+)")
 ROW = re.compile(r"\[ *(.*?) *(?:; *(.*?) *)?\]")
 COMMENT = re.compile(r"//.*")
 CYCLES = re.compile(r"cycles (\d+)(?: least (\d+).*)?")
 CHAINED = re.compile(r"chain (?:-|(\d+(?: \d+)*))")
+PATHED = re.compile(r"path (?:-|\d+(?: (?:[+=~]?\d+))*)")
 EXPLAINED = re.compile(r"(\d+) cycle (\d+) unit ([01]) ready (\d+) after (-|\d+(?:,\d+)*) priority (\d+) "
                        r"earliest \d+ slack \d+ held (?:-|free|\d+) (.+?) ; (.+)")
 NUMBER = re.compile(r"\d+")
 VERDICT = re.compile(r"block (\d+) (\S+) ([a-z]+) cycles \d+ ours \d+ least (\d+)(?: claimed \d+)?")
 WRONG_ROW = re.compile(r"(?:early by \d+: |reads r\d+: |added \d+: )?row (\d+): .+")
-NOTHING = re.compile(r"path .+|total \d+.*")
+NOTHING = re.compile(r"total \d+.*")
 UNLAWFUL = re.compile(r"not lawful")
 REASON = re.compile(r"(?:row|left out|added|early by|reads) .+")
 
@@ -79,6 +82,7 @@ class Listed:
     cycles: int = 0
     least: str = ""
     chain: list = field(default_factory=list)
+    path: list = field(default_factory=list)
     reasons: list = field(default_factory=list)     # why the rows aren't lawful
     verdict: str = ""
     wrong: dict = field(default_factory=dict)       # by row what is said of it below the verdict
@@ -87,8 +91,8 @@ class Listed:
         self.name, self.verdict, self.least = name, verdict, least
 
     def note(self, line):
-        """Keeps a line below the verdict, if it is of a row."""
-        if found := WRONG_ROW.fullmatch(line):
+        """Keeps a line below a verdict that doesn't pass, if it is of a row."""
+        if self.verdict not in PASSED and (found := WRONG_ROW.fullmatch(line)):
             self.wrong.setdefault(int(found[1]) - 1, []).append(line)
 
     def take(self, line):
@@ -110,6 +114,8 @@ class Listed:
             self.cycles, self.least = int(found[1]), found[2] or ""
         elif found := CHAINED.fullmatch(line):
             self.chain = [int(it) for it in (found[1] or "").split()]
+        elif PATHED.fullmatch(line):
+            self.path = [int(it) for it in line.split()[1:] if it.isdecimal()]
         elif UNLAWFUL.fullmatch(line) or self.reasons and REASON.fullmatch(line):
             self.reasons.append(line)
         else:
@@ -118,6 +124,16 @@ class Listed:
 
     def end(self, latencies):
         return max((it.arrival(latencies) for it in self.operations), default=0)
+
+    def latencies(self, asked):
+        """Those that an explanation shows, since an operation is ready when the last of its delays ends, and of other kinds
+        those asked for. A delay on a store by a load or a store may be one of memory, which says nothing."""
+        issued, shown = {it.number: it for it in self.operations}, dict(asked)
+        for it in self.operations:
+            for awaited in (issued[int(k)] for k in NUMBER.findall(it.after)):
+                if awaited.kind() == "mult" or it.kind() != "store":
+                    shown[awaited.kind()] = it.ready - awaited.cycle
+        return shown
 
     def check(self, latencies):
         """Refuses latencies that the listing can't have: it has other cycles then, or reads a register too early. In the

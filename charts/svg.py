@@ -56,9 +56,9 @@ def mark(shape, x, y, colour, size=5):
     return element("polygon", points=points, fill=colour)
 
 
-def group(tooltip, *parts):
+def group(tooltip, *parts, **attributes):
     """Parts with one tooltip."""
-    return element("g", element("title", escape(tooltip)) + "".join(parts))
+    return element("g", element("title", escape(tooltip)) + "".join(parts), **attributes)
 
 
 def width_of(words):

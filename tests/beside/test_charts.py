@@ -131,7 +131,32 @@ class Charts(Place):
         marked = [group.find(f"{SVG}text").text[0] for group in root.iter(f"{SVG}g")
                   if any(it.get("stroke") == CHAIN_OUTLINE for it in group)]
         self.expect("the chain", marked, list("03456"))
+        dotted = [group.find(f"{SVG}text").text[0] for group in root.iter(f"{SVG}g") if group.findall(f"{SVG}circle")]
+        self.expect("the path", dotted, list("03456"))
         self.expect("title", root.find(f"{SVG}title").text, "block 1: 13 cycles, at least 13")
+
+    def test_timeline_draws_the_latencies_of_an_explanation(self):
+        """Whatever the options say of kinds that it shows: no operation waits last for the product. Of a path that leaves the
+        chain each operation has its dot."""
+        words = ("--load", "9", "--store", "2", "--mult", "4")
+        listing = self.call("ilocfarm", "explain", *words, given=BLOCK)[1]
+        for options, product in (((), 3), (("--load", "3", "--mult", "4"), 4), (words, 4)):
+            root = self.picture("charts/timeline", *options, given=listing)
+            bars = {it.find(f"{SVG}text").text[:1]: (height(it.find(f"{SVG}rect")) + 3) / 18 for it in root.iter(f"{SVG}g")
+                    if len(it.findall(f"{SVG}rect")) == 2}
+            self.expect(f"bars with {options}", bars, {"2": product, "3": 9, "5": 2})
+        listing = self.call("ilocfarm", "explain", given=self.read("examples/class/dan.iloc"))[1]
+        self.expect("path", b"path 0 +1 1 +5 2 +5 3 =1 4 +5 5 +1 6 +5 7 +1\n" in listing, True)
+        root = self.picture("charts/timeline", given=listing)
+        self.expect("dots", len([it for it in root.iter(f"{SVG}g") if it.findall(f"{SVG}circle")]), 8)
+
+    def test_timeline_marks_no_right_rows(self):
+        """Dan's are `same`, and `check` says below that why they aren't by the book: nothing in them is wrong."""
+        rows = self.read("examples/class/schedules/dan.rows")
+        said = self.call("ilocfarm", "check", "--task", "examples/class/schedules/task.iloc", "3", "4", given=rows)[1]
+        root = self.picture("charts/timeline", given=rows + said)
+        self.expect("title", root.find(f"{SVG}title").text, "block 1 both: 15 cycles, at least 16, same")
+        self.expect("marks", [it for it in root.iter() if it.get("stroke") == WRONG_OUTLINE], [])
 
     def test_timeline_of_rows_explained(self):
         """Each operation as it is issued; a register that is used again blames no latency."""

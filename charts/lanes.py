@@ -1,0 +1,103 @@
+"""A block's schedule as a picture: units over cycles, each operation from its issue to its arrival."""
+import svg
+from listing import CHAIN, COLOURS, PATH, WRONG
+
+HEIGHT = 18         # of a row
+LANE = 9            # from one bar to the next
+BAR = 5
+MARGIN = 12
+TOP = 68
+DOT = 3             # half of one that marks the path
+
+
+def lanes(operations, latencies):
+    """Each operation whose result is under way for more than a cycle, with a lane that is free then."""
+    free = []
+    for it in sorted(operations, key=lambda it: it.cycle):
+        if it.arrival(latencies) > it.cycle + 1:
+            lane = next((k for k, end in enumerate(free) if end <= it.cycle), len(free))
+            free[lane:lane + 1] = [it.arrival(latencies)]
+            yield it, lane
+
+
+class Chart:
+    def __init__(self, block, latencies):
+        self.block, self.latencies = block, latencies
+        units = [[it for it in block.operations if it.unit == unit] for unit in (0, 1)]
+        self.flights = [list(lanes(it, latencies)) for it in units]
+        self.boxes = [max([svg.width_of(it.label()) + 12 for it in unit], default=70) for unit in units]
+        lane_counts = [max([lane + 1 for _, lane in it], default=0) for it in self.flights]
+        self.left = MARGIN + svg.width_of(str(block.cycles)) + 10
+        self.starts = [self.left, self.left + self.boxes[0] + LANE * (lane_counts[0] + 1) + 14]
+        self.width = self.starts[1] + self.boxes[1] + LANE * (lane_counts[1] + 1) + MARGIN
+        self.width = max(self.width, self.legend_end() + MARGIN, MARGIN * 2 + svg.width_of(self.title()))
+
+    def title(self):
+        least = f", at least {self.block.least}" if self.block.least else ""
+        least += f", {self.block.verdict}" if self.block.verdict else ""
+        name = "" if self.block.name == "-" else f" {self.block.name}"
+        return f"block {self.block.number}{name}: {self.block.cycles} cycles{least}"
+
+    def y(self, cycle):
+        return TOP + HEIGHT * cycle
+
+    def keys(self):
+        """Legend: name, colour and place."""
+        x = MARGIN
+        marks = [("product" if name == "mult" else name, colour) for name, colour in COLOURS.items()]
+        marks += [("longest chain", CHAIN)] if self.block.chain else []
+        marks += [("path", PATH)] if self.block.path else []
+        marks += [("wrong", WRONG)] if self.block.wrong else []
+        for name, colour in marks:
+            yield name, colour, x
+            x += 18 + svg.width_of(name) + 12
+
+    def legend_end(self):
+        name, _, x = list(self.keys())[-1]
+        return x + 18 + svg.width_of(name)
+
+    def legend(self):
+        for name, colour, x in self.keys():
+            if colour == PATH:
+                yield svg.mark(0, x + 6, 38, PATH, DOT)
+            elif colour in (CHAIN, WRONG):
+                yield svg.rectangle(x, 32, 12, 12, "none", stroke=colour, stroke_width=2)
+            else:
+                yield svg.rectangle(x, 32, 12, 12, colour)
+            yield svg.text(x + 17, 42, name)
+
+    def grid(self):
+        step = 1 if self.block.cycles <= 60 else 5
+        for cycle in range(0, self.block.cycles + 1, step):
+            yield svg.line(self.left - 4, self.y(cycle), self.width - MARGIN, self.y(cycle), class_="grid")
+            yield svg.text(self.left - 8, self.y(cycle) + 13, str(cycle), text_anchor="end")
+
+    def bar(self, it, lane):
+        colour, edge = COLOURS[it.kind()], self.starts[it.unit] + self.boxes[it.unit]
+        x = edge + LANE * lane + 6
+        end = self.y(it.arrival(self.latencies))
+        middle = self.y(it.cycle) + HEIGHT / 2
+        return [svg.line(edge, middle, x + BAR / 2, middle, stroke=colour),
+                svg.rectangle(x, self.y(it.cycle) + 2, BAR, end - self.y(it.cycle) - 3, colour)]
+
+    def box(self, it):
+        mark = WRONG if it.cycle in self.block.wrong else CHAIN if it.number in self.block.chain else None
+        marked = {"stroke": mark, "stroke_width": 2} if mark else {}
+        x, y = self.starts[it.unit], self.y(it.cycle)
+        dot = [svg.mark(0, x, y + HEIGHT / 2, PATH, DOT)] if it.number in self.block.path else []
+        return [svg.rectangle(x, y + 1, self.boxes[it.unit], HEIGHT - 2, COLOURS[it.kind()], class_="box", **marked), *dot,
+                svg.text(x + 6, y + 13, it.label(), "on")]
+
+    def parts(self):
+        yield svg.text(MARGIN, 20, self.title(), "ink head")
+        yield from self.legend()
+        for unit in (0, 1):
+            yield svg.text(self.starts[unit], TOP - 6, f"unit {unit}", "ink head")
+        yield from self.grid()
+        bars = {id(it): self.bar(it, lane) for flights in self.flights for it, lane in flights}
+        for it in self.block.operations:
+            told = "\n".join([it.told(self.latencies), *self.block.wrong.get(it.cycle, [])])
+            yield svg.group(told, *bars.get(id(it), []), *self.box(it), data_op=f"{it.cycle}.{it.unit}")
+
+    def picture(self):
+        return svg.picture(self.width, self.y(self.block.cycles) + HEIGHT + MARGIN, self.title(), self.parts())
