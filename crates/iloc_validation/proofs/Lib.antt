@@ -25,3 +25,8 @@ pub mod MostMissing
 pub mod CountReasons
 pub mod AlikeCounts
 pub mod BrokenDelays
+pub mod ColourSums
+pub mod ForwardColours
+pub mod BackwardColours
+pub mod PassedColours
+pub mod KeptColours

@@ -16,7 +16,7 @@ pub(crate) struct Pairing {
 }
 
 /// Whether each number leads to a place from which another list leads back.
-fn leads_back(there: &[usize], back: &[usize]) -> bool
+pub(crate) fn leads_back(there: &[usize], back: &[usize]) -> bool
     ensures { IsTrue result ↔ LeadsBack there.now back.now }
 {
     for (k, i) in there.iter().enumerate() {

@@ -1,11 +1,139 @@
 -- Colours of the operations of a block and of rows, by which a pairing is looked for.
-use Rattle.std.specs.Prelude.{ℕ, ◌≡◌, ◌<◌, List, length, slice_index}
+use Rattle.std.specs.Prelude.{ℕ, ◌+◌, ◌*◌, ◌-◌, ◌%◌, ◌^◌, ◌≡◌, ◌<◌, ◌==◌, if◌then◌else◌, List, length, slice_index, sum_by, Option, Some, None, IfSome, ⊤}
+use Rattle.std.specs.List.{range_with_len}
 use Rattle.iloc_ops.specs.declared.op.Op.{Op}
 use Rattle.iloc_timed.specs.declared.latencies.Latencies.{Latencies}
 use Rattle.iloc_timed.specs.declared.row.Row.{Row}
+use Rattle.iloc_timed.specs.Schedule.{Table}
+use Rattle.iloc_validation.specs.declared.colours.Coloured.{Coloured}
+use Rattle.iloc_validation.specs.declared.colours.issue_order.IssueOrder.{IssueOrder}
+use Rattle.iloc_validation.specs.declared.reading.Reading.{Reading}
+use Rattle.iloc_validation.specs.declared.reading.sources.Sources.{Sources}
+use Rattle.iloc_validation.specs.declared.reading.sources.Sources.TheVariants.{Nothing, One, Two}
 use Rattle.iloc_validation.specs.ByTheBook.{IsScheduleUnder}
+use Rattle.iloc_validation.specs.Steps.Pairing.{LeadsBack}
+use Rattle.iloc_validation.specs.Steps.Readings.{reading_at}
+use Rattle.iloc_validation.specs.Steps.Sides.{AreSides}
+use Rattle.iloc_validation.specs.Steps.Sources.{sources_at, by_numbers}
 
 -- under whatever pairing the rows are a schedule of the block, each operation has the colour of the one that it is
 abbrev pub AreKept : Latencies → List Op → List Op → List Row → List ℕ → List ℕ → Type 0
 AreKept lat block ops rows here there = (origin partner : ℕ → ℕ) → IsScheduleUnder lat block ops rows origin partner
     → (k : ℕ) → k < length ops → slice_index there k ≡ slice_index here (origin k)
+
+-- New colours
+
+-- the colour that is made of two: for y = 48271 a + 69621 b + 12345 that is y⁵ + a, modulo 2³¹ - 1
+unfoldable pub mixed : ℕ → ℕ → ℕ
+mixed one other =
+    let first = one % 2147483648 in
+    let y = (first * 48271 + other % 2147483648 * 69621 + 12345) % 2147483647 in
+    let square = y * y % 2147483647 in
+    (square * square % 2147483647 * y + first) % 2147483647
+
+-- the colour of what is read; the start of a register has one of its own
+abbrev pub told : (ℕ → ℕ) → Option ℕ → ℕ
+told colour None = 1073741824
+told colour (Some j) = colour j
+
+-- a colour with those of what is read, left to right
+abbrev pub with_told : (ℕ → ℕ) → ℕ → Sources → ℕ
+with_told colour c Nothing = c
+with_told colour c (One only) = mixed c (told colour only)
+with_told colour c (Two left right) = mixed (mixed c (told colour left)) (told colour right)
+
+-- what operation s hears of a use
+abbrev pub said : ℕ → ℕ → Option ℕ → ℕ
+said voice s None = 0
+said voice s (Some j) = if s == j then voice else 0
+
+-- what operation s hears of a reader of colour c
+abbrev pub heard_of : ℕ → ℕ → Sources → ℕ
+heard_of c s Nothing = 0
+heard_of c s (One only) = said (mixed c 1) s only
+heard_of c s (Two left right) = said (mixed c 1) s left + said (mixed c 2) s right
+
+-- what operation s hears of m operations from u on
+abbrev pub heard : (ℕ → ℕ) → List Sources → ℕ → ℕ → ℕ → ℕ
+heard colour sources s u m = sum_by (λ v. heard_of (colour v) s (sources_at sources v)) (range_with_len u m)
+
+-- all that is read, but the start of registers, stands before place n
+abbrev pub IsBelow : ℕ → Sources → Type 0
+IsBelow n Nothing = ⊤
+IsBelow n (One only) = IfSome only (λ j. j < n)
+IsBelow n (Two left right) = IfSome left (λ j. j < n) × IfSome right (λ j. j < n)
+
+-- each that reads earlier ones is mixed with their new colours
+abbrev pub AreForwards : List Sources → List ℕ → List ℕ → Type 0
+AreForwards sources old new = (k : ℕ) → k < length sources → IsBelow k (sources_at sources k)
+    → slice_index new k ≡ with_told (slice_index new) (slice_index old k) (sources_at sources k)
+
+-- each is mixed with the sum of what it hears of those behind it
+abbrev pub AreBackwards : List Sources → List ℕ → List ℕ → Type 0
+AreBackwards sources old new = (k : ℕ) → k < length sources → slice_index new k
+    ≡ mixed (slice_index old k) (heard (slice_index new) sources k (k + 1) (length sources - (k + 1)) % 2 ^ 64)
+
+-- Passes
+
+-- each reads what stands before it
+abbrev pub AreBelow : List Sources → Type 0
+AreBelow sources = (k : ℕ) → k < length sources → IsBelow k (sources_at sources k)
+
+-- operations with the sources `there` are those with the sources `here` under a pairing
+pub record ReadAlike (here there : List Sources) (to from : ℕ → ℕ) : Type 0 where
+  pub leads : (p : ℕ) → p < length there → to p < length here
+  pub back : (p : ℕ) → p < length there → from (to p) ≡ p
+  pub leads_too : (i : ℕ) → i < length here → from i < length there
+  pub back_too : (i : ℕ) → i < length here → to (from i) ≡ i
+  pub reads : (p : ℕ) → p < length there → by_numbers to (sources_at there p) ≡ sources_at here (to p)
+
+-- each of n operations has the colour of the one that it is paired with
+abbrev pub HaveColours : ℕ → (ℕ → ℕ) → List ℕ → List ℕ → Type 0
+HaveColours n to here there = (p : ℕ) → p < n → slice_index there p ≡ slice_index here (to p)
+
+-- where a pairing keeps the old colours, it keeps the new ones
+pub record ArePassedTo (here there : List Sources) (old new : Coloured) : Type 0 where
+  pub here_size : length new.here.items ≡ length here
+  pub there_size : length new.there.items ≡ length there
+  pub kept : AreBelow here → AreBelow there → (to from : ℕ → ℕ) → ReadAlike here there to from
+      → HaveColours (length there) to old.here.items old.there.items
+      → HaveColours (length there) to new.here.items new.there.items
+
+-- what is made of colours; there are none where no pairing keeps the old ones
+abbrev pub ArePassed : List Sources → List Sources → Coloured → Option Coloured → Type 0
+ArePassed here there old None = AreBelow here → AreBelow there → (to from : ℕ → ℕ) → ReadAlike here there to from
+    → HaveColours (length there) to old.here.items old.there.items → ⊥
+ArePassed here there old (Some new) = ArePassedTo here there old new
+
+-- The order of issue
+
+-- the operation at place p in this order reads what stands before it
+pub record AreReadAt (ops : List ℕ) (sources : List Sources) (readings : List Reading) (p : ℕ) : Type 0 where
+  pub below : IsBelow p (sources_at sources p)
+  pub reads : by_numbers (slice_index ops) (sources_at sources p) ≡ (reading_at readings (slice_index ops p)).sources
+
+-- an order of operations in which each reads what stands before it
+pub record IsOrderOf (readings : List Reading) (order : IssueOrder) : Type 0 where
+  pub size : length order.sources.items ≡ length order.ops.items
+  pub all : length order.places.items ≡ length readings
+  pub leads : LeadsBack order.ops.items order.places.items
+  pub returns : LeadsBack order.places.items order.ops.items
+  pub each : (p : ℕ) → p < length order.ops.items → AreReadAt order.ops.items order.sources.items readings p
+
+-- All of it
+
+-- where all pairings keep the first colours, they keep the new ones
+pub record AreColouredAs (block : List Op) (givens : List Sources) (schedule : Table) (readings : List Reading)
+    (here there : List ℕ) (new : Coloured) : Type 0 where
+  pub here_size : length new.here.items ≡ length block
+  pub there_size : length new.there.items ≡ length schedule.ops
+  pub kept : (lat : Latencies) → AreSides lat block givens schedule readings
+      → AreKept lat block schedule.ops schedule.rows here there
+      → AreKept lat block schedule.ops schedule.rows new.here.items new.there.items
+
+-- colours that every pairing keeps, if it keeps the first ones; or none, where there is no pairing
+abbrev pub AreColoured : List Op → List Sources → Table → List Reading → List ℕ → List ℕ → Option Coloured → Type 0
+AreColoured block givens schedule readings here there None = (lat : Latencies)
+    → AreSides lat block givens schedule readings → AreKept lat block schedule.ops schedule.rows here there
+    → (origin partner : ℕ → ℕ) → IsScheduleUnder lat block schedule.ops schedule.rows origin partner → ⊥
+AreColoured block givens schedule readings here there (Some new) = AreColouredAs block givens schedule readings here there new

@@ -1,0 +1,159 @@
+-- A pass backwards keeps colours: what reads operations reads those that they are paired with too, at the same use.
+use Rattle.std.proofs.Common.{◌≡◌, ◌<◌, ◌≤◌, ℕ, zero, suc, ◌+◌, ◌-◌, ◌==◌, true, false, cond, List, length, Option, Some, None, option_map, refl, sym, ap, ap₂, ◌∙◌, subst, arith, eq-eqb, inl, inr}
+use Rattle.std.specs.Prelude.{slice_index, IfSome, ◌%◌, ◌^◌}
+use Rattle.std.specs.List.{range_with_len}
+use Rattle.std.proofs.lemmas.Bool.{cases_eq, eqb-true}
+use Rattle.std.proofs.lemmas.List.Sums.{sum_by-cons}
+use Rattle.std.proofs.Math.Nat.{mod-add-mod, add_comm}
+use Rattle.iloc_meaning.proofs.Cases.{by_bool}
+use Rattle.iloc_validation.specs.declared.reading.sources.Sources.{Sources}
+use Rattle.iloc_validation.specs.declared.reading.sources.Sources.TheVariants.{Nothing, One, Two}
+use Rattle.iloc_validation.specs.Steps.Colours.{mixed, said, heard_of, heard, IsBelow, AreBelow, AreBackwards, ReadAlike, HaveColours}
+use Rattle.iloc_validation.specs.Steps.Sources.{sources_at, by_numbers}
+use Rattle.iloc_validation.proofs.ColourSums.{ranges_paired}
+
+apart_test : (s j : ℕ) → (s ≡ j → ⊥) → (s == j) ≡ false
+apart_test s j apart = by_bool (s == j) (λ t. absurd (apart (eqb-true s j t))) (λ t. t)
+
+-- nothing is heard of what isn't read
+
+said_none : (v s n : ℕ) (o : Option ℕ) → IfSome o (λ j. j < n) → n ≤ s → said v s o ≡ 0
+said_none v s n None below past = refl
+said_none v s n (Some j) below past =
+    let under : j < n = below in
+    ap (λ b. cond {A = ℕ} b v 0) (apart_test s j (λ same. omega arith))
+
+heard_of_none : (c s n : ℕ) (src : Sources) → IsBelow n src → n ≤ s → heard_of c s src ≡ 0
+heard_of_none c s n Nothing below past = refl
+heard_of_none c s n (One only) below past = said_none (mixed c 1) s n only below past
+heard_of_none c s n (Two left right) below past =
+    let one : said (mixed c 1) s left ≡ 0 = said_none (mixed c 1) s n left below.0 past in
+    let two : said (mixed c 2) s right ≡ 0 = said_none (mixed c 2) s n right below.1 past in
+    omega (arith, one, two)
+
+-- so only those behind it count
+behind : (colour : ℕ → ℕ) (sources : List Sources) → AreBelow sources → (s n u m : ℕ) → u ≤ s + 1 → s + 1 + n ≡ u + m
+    → u + m ≤ length sources → heard colour sources s u m ≡ heard colour sources s (s + 1) n
+behind colour sources below s n u zero early all within =
+    let none : n ≡ 0 = omega arith in
+    ap (heard colour sources s (s + 1)) (sym none)
+behind colour sources below s n u (suc m) early all within = elim (cases_eq u (s + 1)) [
+  | inl same ↦ let many : n ≡ suc m = omega arith in ap₂ (heard colour sources s) same (sym many)
+  | inr apart ↦
+      let none : heard_of (colour u) s (sources_at sources u) ≡ 0 =
+      heard_of_none (colour u) s u (sources_at sources u) (below u (omega arith)) (omega arith) in
+      let rest : heard colour sources s (u + 1) m ≡ heard colour sources s (s + 1) n =
+      behind colour sources below s n (u + 1) m (omega arith) (omega arith) (omega arith) in
+      let no_more : 0 + heard colour sources s (s + 1) n ≡ heard colour sources s (s + 1) n = omega arith in
+      sum_by-cons (λ v. heard_of (colour v) s (sources_at sources v)) u (range_with_len (u + 1) m)
+      ∙ ap₂ ◌+◌ none rest
+      ∙ no_more
+]
+
+module _ (to : ℕ → ℕ) (v w p : ℕ) where
+  -- a use of one operation is one of that which it is paired with
+  said_paired : (n : ℕ) (o : Option ℕ) → IfSome o (λ j. j < n) → ((j : ℕ) → j < n → to p ≡ to j → p ≡ j)
+      → (o ≡ Some p → v ≡ w) → said v p o ≡ said w (to p) (option_map to o)
+  said_paired n None below apart same = refl
+  said_paired n (Some j) below apart same = elim (cases_eq p j) [
+    | inl here ↦
+        let test : (p == j) ≡ true = eq-eqb p j here in
+        let test_too : (to p == to j) ≡ true = eq-eqb (to p) (to j) (ap to here) in
+        rw (test, test_too) (same (ap Some (sym here)))
+    | inr other ↦
+        let test : (p == j) ≡ false = apart_test p j other in
+        let test_too : (to p == to j) ≡ false = apart_test (to p) (to j) (λ one. other (apart j below one)) in
+        rw (test, test_too) refl
+  ]
+
+-- what an operation hears of a reader, the one that it is paired with hears of that which the reader is paired with
+module _ (to : ℕ → ℕ) (c d p u q : ℕ) (apart : (j : ℕ) → j < u → to p ≡ to j → p ≡ j) (same : to p < q → c ≡ d) where
+  read : (o : Option ℕ) → IfSome (option_map to o) (λ i. i < q) → o ≡ Some p → to p < q
+  read None below is = absurd cc
+  read (Some j) below is = let here : j ≡ p = cc in subst (λ i. to i < q) here below
+
+  heard_of_paired : (src : Sources) → IsBelow u src → IsBelow q (by_numbers to src)
+      → heard_of c p src ≡ heard_of d (to p) (by_numbers to src)
+  heard_of_paired Nothing below below_too = refl
+  heard_of_paired (One only) below below_too =
+      said_paired to (mixed c 1) (mixed d 1) p u only below apart (λ is. ap (λ x. mixed x 1) (same (read only below_too is)))
+  heard_of_paired (Two left right) below below_too =
+      ap₂ ◌+◌
+      (said_paired to (mixed c 1) (mixed d 1) p u left below.0 apart (λ is. ap (λ x. mixed x 1) (same (read left below_too.0 is))))
+      (said_paired to (mixed c 2) (mixed d 2) p u right below.1 apart (λ is. ap (λ x. mixed x 2) (same (read right below_too.1 is))))
+
+module _ (here there : List Sources) (to from : ℕ → ℕ) (alike : ReadAlike here there to from) (below : AreBelow here)
+    (below_too : AreBelow there) (old new old' new' : List ℕ) (made : AreBackwards here old new)
+    (made_too : AreBackwards there old' new') (kept : HaveColours (length there) to old old') where
+  apart_by : (p j : ℕ) → p < length there → j < length there → to p ≡ to j → p ≡ j
+  apart_by p j within within_too equal = sym (alike.back p within) ∙ ap from equal ∙ alike.back j within_too
+
+  -- by the number in the block, above which all that reads is
+  step : (d p : ℕ) → p < length there → length here ≤ to p + d → slice_index new' p ≡ slice_index new (to p)
+  step zero p within far = let inside : to p < length here = alike.leads p within in absurd (omega arith)
+  step (suc d) p within far =
+      let inside : to p < length here = alike.leads p within in
+      let ours : heard (slice_index new) here (to p) 0 (length here)
+      ≡ heard (slice_index new) here (to p) (to p + 1) (length here - (to p + 1)) =
+      behind (slice_index new) here below (to p) (length here - (to p + 1)) 0 (length here) (omega arith) (omega arith)
+      (omega arith) in
+      let theirs : heard (slice_index new') there p 0 (length there)
+      ≡ heard (slice_index new') there p (p + 1) (length there - (p + 1)) =
+      behind (slice_index new') there below_too p (length there - (p + 1)) 0 (length there) (omega arith) (omega arith)
+      (omega arith) in
+      let both : heard (slice_index new) here (to p) 0 (length here) ≡ heard (slice_index new') there p 0 (length there) =
+      ranges_paired (length here) (length there) to from alike.leads alike.back alike.leads_too alike.back_too
+      (λ i. heard_of (slice_index new i) (to p) (sources_at here i))
+      (λ u. heard_of (slice_index new' u) p (sources_at there u))
+      (λ u there_u.
+      let reads : by_numbers to (sources_at there u) ≡ sources_at here (to u) = alike.reads u there_u in
+      heard_of_paired to (slice_index new' u) (slice_index new (to u)) p u (to u)
+      (λ j before. apart_by p j within (omega arith))
+      (λ later. step d u there_u (omega arith))
+      (sources_at there u) (below_too u there_u)
+      (subst (IsBelow (to u)) (sym reads) (below (to u) (alike.leads u there_u)))
+      ∙ ap (heard_of (slice_index new (to u)) (to p)) reads) in
+      let sums : heard (slice_index new') there p (p + 1) (length there - (p + 1))
+      ≡ heard (slice_index new) here (to p) (to p + 1) (length here - (to p + 1)) = sym theirs ∙ sym both ∙ ours in
+      made_too p within
+      ∙ ap₂ (λ c h. mixed c (h % 2 ^ 64)) (kept p within) sums
+      ∙ sym (made (to p) inside)
+
+  pub backwards_keep : HaveColours (length there) to new new'
+  backwards_keep p within = step (length here) p within (omega arith)
+
+-- The loop
+
+heard_same : (f g : ℕ → ℕ) (sources : List Sources) (s u m : ℕ) → ((v : ℕ) → u ≤ v → g v ≡ f v)
+    → heard g sources s u m ≡ heard f sources s u m
+heard_same f g sources s u zero same = refl
+heard_same f g sources s u (suc m) same =
+    sum_by-cons (λ v. heard_of (g v) s (sources_at sources v)) u (range_with_len (u + 1) m)
+    ∙ ap₂ ◌+◌ (ap (λ c. heard_of c s (sources_at sources u)) (same u (omega arith)))
+    (heard_same f g sources s (u + 1) m (λ v past. same v (omega arith)))
+    ∙ sym (sum_by-cons (λ v. heard_of (f v) s (sources_at sources v)) u (range_with_len (u + 1) m))
+
+-- one more reader, before those that were heard so far
+pub heard_more : (f g : ℕ → ℕ) (sources : List Sources) (s k n before after : ℕ) → 0 < k → k ≤ n
+    → ((v : ℕ) → k ≤ v → g v ≡ f v) → before ≡ heard f sources s k (n - k) % 2 ^ 64
+    → after ≡ (before + heard_of (g (k - 1)) s (sources_at sources (k - 1))) % 2 ^ 64
+    → after ≡ heard g sources s (k - 1) (n - (k - 1)) % 2 ^ 64
+heard_more f g sources s k n before after some within same so_far is =
+    let many : n - (k - 1) ≡ suc (n - k) = omega arith in
+    let next : k - 1 + 1 ≡ k = omega arith in
+    let voice : ℕ = heard_of (g (k - 1)) s (sources_at sources (k - 1)) in
+    let rest : heard g sources s (k - 1 + 1) (n - k) ≡ heard f sources s k (n - k) =
+    rw next (heard_same f g sources s k (n - k) same) in
+    let all : heard g sources s (k - 1) (suc (n - k)) ≡ voice + heard f sources s k (n - k) =
+    sum_by-cons (λ v. heard_of (g v) s (sources_at sources v)) (k - 1) (range_with_len (k - 1 + 1) (n - k))
+    ∙ ap (λ h. voice + h) rest in
+    is
+    ∙ ap (λ b. (b + voice) % 2 ^ 64) so_far
+    ∙ mod-add-mod (heard f sources s k (n - k)) (2 ^ 64) voice
+    ∙ ap (λ h. h % 2 ^ 64) (add_comm (heard f sources s k (n - k)) voice ∙ sym all ∙ ap (heard g sources s (k - 1)) (sym many))
+
+-- what an operation hears of those behind it stays
+pub heard_stays : (f g : ℕ → ℕ) (sources : List Sources) (j k n c : ℕ) → k ≤ j + 1 → ((v : ℕ) → k ≤ v → g v ≡ f v)
+    → mixed c (heard f sources j (j + 1) (n - (j + 1)) % 2 ^ 64) ≡ mixed c (heard g sources j (j + 1) (n - (j + 1)) % 2 ^ 64)
+heard_stays f g sources j k n c past same =
+    ap (λ h. mixed c (h % 2 ^ 64)) (sym (heard_same f g sources j (j + 1) (n - (j + 1)) (λ v late. same v (omega arith))))

@@ -1,0 +1,158 @@
+-- Colours by the order of issue, and those of operations: what a pairing keeps of the ones it keeps of the others.
+use Rattle.std.proofs.Common.{◌≡◌, ◌<◌, ℕ, List, [], ◌∷◌, length, Option, Some, None, option_map, refl, sym, ap, ap₂, ◌∙◌, arith}
+use Rattle.std.specs.Prelude.{slice_index, IfSome}
+use Rattle.iloc_ops.specs.declared.op.Reg.{Reg}
+use Rattle.iloc_ops.specs.declared.op.Op.{Op}
+use Rattle.iloc_ops.specs.Registers.{used}
+use Rattle.iloc_meaning.specs.Trace.{op_at}
+use Rattle.iloc_timed.specs.declared.latencies.Latencies.{Latencies}
+use Rattle.iloc_timed.specs.Rows.{issue_cycle}
+use Rattle.iloc_timed.specs.Schedule.{Table}
+use Rattle.iloc_sched.specs.Renaming.{Source, source}
+use Rattle.iloc_sched.specs.Renaming.Source.{Start, Result}
+use Rattle.iloc_sched.proofs.Renamed.MentionedSources.{source_earlier}
+use Rattle.iloc_validation.specs.declared.colours.Coloured.{Coloured}
+use Rattle.iloc_validation.specs.declared.colours.issue_order.IssueOrder.{IssueOrder}
+use Rattle.iloc_validation.specs.declared.reading.Reading.{Reading}
+use Rattle.iloc_validation.specs.declared.reading.sources.Sources.{Sources}
+use Rattle.iloc_validation.specs.declared.reading.sources.Sources.TheVariants.{Nothing, One, Two}
+use Rattle.iloc_validation.specs.ByTheBook.{read, given, result_in, IsScheduleUnder}
+use Rattle.iloc_validation.specs.Steps.Colours.{AreKept, IsBelow, AreBelow, ReadAlike, HaveColours, ArePassed, ArePassedTo, IsOrderOf, AreColoured}
+use Rattle.iloc_validation.specs.Steps.Readings.{reading_at}
+use Rattle.iloc_validation.specs.Steps.Sides.{AreSides}
+use Rattle.iloc_validation.specs.Steps.Sources.{sources_of, sources_at, by_numbers}
+use Rattle.iloc_validation.proofs.SourceLists.{by_numbers_of, sources_from_lists}
+
+by_numbers_twice : (f g : ℕ → ℕ) (s : Sources) → by_numbers f (by_numbers g s) ≡ by_numbers (λ k. f (g k)) s
+by_numbers_twice f g Nothing = refl
+by_numbers_twice f g (One only) = ap One (mapped_twice only)
+  where
+    mapped_twice : (o : Option ℕ) → option_map f (option_map g o) ≡ option_map (λ k. f (g k)) o
+    mapped_twice None = refl
+    mapped_twice (Some k) = refl
+by_numbers_twice f g (Two left right) = ap₂ Two (mapped_twice left) (mapped_twice right)
+  where
+    mapped_twice : (o : Option ℕ) → option_map f (option_map g o) ≡ option_map (λ k. f (g k)) o
+    mapped_twice None = refl
+    mapped_twice (Some k) = refl
+
+-- what an operation of a block reads stands before it
+
+result_before : (i : ℕ) (s : Source) → ((j : ℕ) → s ≡ Result j → j < i) → IfSome (result_in s) (λ j. j < i)
+result_before i (Start r) earlier = tt
+result_before i (Result j) earlier = earlier j refl
+
+below_of : (i : ℕ) (f : Reg → Option ℕ) → ((r : Reg) → IfSome (f r) (λ j. j < i)) → (rs : List Reg) → IsBelow i (sources_of f rs)
+below_of i f before [] = tt
+below_of i f before (r ∷ []) = before r
+below_of i f before (r ∷ s ∷ rest) = (before r, before s)
+
+module _ (lat : Latencies) (block : List Op) (givens : List Sources) (schedule : Table) (readings : List Reading)
+    (sides : AreSides lat block givens schedule readings) (order : IssueOrder) (is : IsOrderOf readings order) where
+  below_given : AreBelow givens
+  below_given i within =
+      let inside : i < length block = rw sides.given_count at within in
+      rw (sides.each_given i inside)
+      (below_of i (given block i) (λ r. result_before i (source block i r) (λ j. source_earlier block i j r)) (used (op_at block i)))
+
+  below_read : AreBelow order.sources.items
+  below_read p within = (is.each p (rw is.size at within)).below
+
+  module _ (origin partner : ℕ → ℕ) (under : IsScheduleUnder lat block schedule.ops schedule.rows origin partner) where
+    abbrev to : ℕ → ℕ
+    to p = origin (slice_index order.ops.items p)
+
+    abbrev from : ℕ → ℕ
+    from i = slice_index order.places.items (partner i)
+
+    known : (p : ℕ) → p < length order.ops.items → slice_index order.ops.items p < length schedule.ops
+    known p within =
+        let all : length order.places.items ≡ length readings = is.all in
+        let size : length readings ≡ length schedule.ops = sides.reading_count in
+        let there : slice_index order.ops.items p < length order.places.items = (is.leads p within).0 in
+        omega arith
+
+    placed : (k : ℕ) → k < length schedule.ops → (slice_index order.places.items k < length order.ops.items)
+        × (slice_index order.ops.items (slice_index order.places.items k) ≡ k)
+    placed k within =
+        let all : length order.places.items ≡ length readings = is.all in
+        let size : length readings ≡ length schedule.ops = sides.reading_count in
+        is.returns k (omega arith)
+
+    reads_alike : (k : ℕ) → k < length schedule.ops
+        → by_numbers origin (reading_at readings k).sources ≡ sources_at givens (origin k)
+    reads_alike k here =
+        ap (λ (r : Reading). by_numbers origin r.sources) (sides.each_reading k here)
+        ∙ by_numbers_of origin (read lat schedule.ops schedule.rows (issue_cycle schedule.rows k)) (used (op_at schedule.ops k))
+        ∙ sources_from_lists (λ r. option_map origin (read lat schedule.ops schedule.rows (issue_cycle schedule.rows k) r))
+        (given block (origin k)) (used (op_at schedule.ops k)) (used (op_at block (origin k))) (under.reads k here)
+        ∙ sym (sides.each_given (origin k) (under.paired.there k here))
+
+    alike : ReadAlike givens order.sources.items to from
+    alike = record {
+      leads = λ p within.
+          rw sides.given_count (under.paired.there (slice_index order.ops.items p) (known p (rw is.size at within)));
+      back = λ p within.
+          let inside : p < length order.ops.items = rw is.size at within in
+          ap (slice_index order.places.items) (under.paired.back (slice_index order.ops.items p) (known p inside))
+          ∙ (is.leads p inside).1;
+      leads_too = λ i within.
+          rw is.size (placed (partner i) (under.paired.there_too i (rw sides.given_count at within))).0;
+      back_too = λ i within.
+          let inside : i < length block = rw sides.given_count at within in
+          ap origin (placed (partner i) (under.paired.there_too i inside)).1 ∙ under.paired.back_too i inside;
+      reads = λ p within.
+          let inside : p < length order.ops.items = rw is.size at within in
+          sym (by_numbers_twice origin (slice_index order.ops.items) (sources_at order.sources.items p))
+          ∙ ap (by_numbers origin) (is.each p inside).reads
+          ∙ reads_alike (slice_index order.ops.items p) (known p inside);
+    }
+
+    module _ (here there : List ℕ) (kept : AreKept lat block schedule.ops schedule.rows here there) (start : Coloured)
+        (same : start.here.items ≡ here) (each : (p : ℕ) → p < length order.ops.items
+        → slice_index start.there.items p ≡ slice_index there (slice_index order.ops.items p)) where
+      first : HaveColours (length order.sources.items) to start.here.items start.there.items
+      first p within =
+          let inside : p < length order.ops.items = rw is.size at within in
+          each p inside
+          ∙ kept origin partner under (slice_index order.ops.items p) (known p inside)
+          ∙ ap (λ cs. slice_index cs (to p)) (sym same)
+
+      pub none_under : ArePassed givens order.sources.items start None → ⊥
+      none_under none = none below_given below_read to from alike first
+
+      pub kept_under : (last : Coloured) (back : List ℕ) → ArePassedTo givens order.sources.items start last
+          → ((k : ℕ) → k < length order.places.items
+          → slice_index back k ≡ slice_index last.there.items (slice_index order.places.items k))
+          → (k : ℕ) → k < length schedule.ops → slice_index back k ≡ slice_index last.here.items (origin k)
+      kept_under last back passed moved k within =
+          let all : length order.places.items ≡ length readings = is.all in
+          let size : length readings ≡ length schedule.ops = sides.reading_count in
+          let there : slice_index order.places.items k < length order.sources.items = rw is.size (placed k within).0 in
+          moved k (omega arith)
+          ∙ passed.kept below_given below_read to from alike first (slice_index order.places.items k) there
+          ∙ ap (λ j. slice_index last.here.items (origin j)) (placed k within).1
+
+module _ (block : List Op) (givens : List Sources) (schedule : Table) (readings : List Reading) (order : IssueOrder)
+    (is : IsOrderOf readings order) (here there : List ℕ) (start : Coloured) (same : start.here.items ≡ here)
+    (each : (p : ℕ) → p < length order.ops.items
+    → slice_index start.there.items p ≡ slice_index there (slice_index order.ops.items p)) where
+  pub none_coloured : ArePassed givens order.sources.items start None
+      → AreColoured block givens schedule readings here there None
+  none_coloured none = λ lat sides kept origin partner under.
+      none_under lat block givens schedule readings sides order is origin partner under here there kept start same each none
+
+  pub all_coloured : (last new : Coloured) → ArePassedTo givens order.sources.items start last
+      → length givens ≡ length block → length readings ≡ length schedule.ops → new.here.items ≡ last.here.items
+      → length new.there.items ≡ length order.places.items
+      → ((k : ℕ) → k < length order.places.items
+      → slice_index new.there.items k ≡ slice_index last.there.items (slice_index order.places.items k))
+      → AreColoured block givens schedule readings here there (Some new)
+  all_coloured last new passed count count_too same_here size moved = record {
+    here_size = ap length same_here ∙ passed.here_size ∙ count;
+    there_size = size ∙ is.all ∙ count_too;
+    kept = λ lat sides kept origin partner under k within.
+        kept_under lat block givens schedule readings sides order is origin partner under here there kept start same each last
+        new.there.items passed moved k within
+        ∙ ap (λ cs. slice_index cs (origin k)) (sym same_here);
+  }

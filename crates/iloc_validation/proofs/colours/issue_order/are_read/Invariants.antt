@@ -1,0 +1,6 @@
+use Rattle.std.proofs.Common.{◌<◌, ℕ}
+use Rattle.iloc_validation.specs.Steps.Colours.{AreReadAt}
+use Rattle.iloc_validation.proofs.colours.issue_order.are_read.Given as goal
+
+abbrev pub invariant-loop-p : goal.invariant-loop-p
+invariant-loop-p l = (q : ℕ) → q < l.p → AreReadAt l.ops l.sources l.readings q
