@@ -55,7 +55,7 @@ explain) shift words; (( CURRENT-- ))
         '--mult[Cycles that mult and multI take, 1 to 16 \[default\: 3\]]:N:' \
         '--priority[What goes first\: chain, slack, descendants, successors, latency or order \[default\: chain\]]:N:(chain slack descendants successors latency order)' \
         '--task[Read the blocks from FILE, and only rows from standard input]:FILE:_files' \
-        '--either-slot[Exchange the operations of a row that can be issued only so]' \
+        '--either-slot[With --task, accept rows whose operations fit only when swapped]' \
         '--help[Print help]' ;;
 check) shift words; (( CURRENT-- ))
     _arguments '--at[Address of the first WORD, a multiple of 4 up to 65532 \[default\: 1024\]]:N:' \
@@ -63,7 +63,7 @@ check) shift words; (( CURRENT-- ))
         '--store[Cycles that store and storeAI take, 1 to 16 \[default\: 5\]]:N:' \
         '--mult[Cycles that mult and multI take, 1 to 16 \[default\: 3\]]:N:' \
         '--task[Read the blocks from FILE, and only rows from standard input]:FILE:_files' \
-        '--either-slot[Exchange the operations of a row that can be issued only so]' \
+        '--either-slot[Accept rows whose operations fit only when swapped]' \
         '--lawful[Pass nothing but rows that are a schedule by the book]' \
         '--outputs[Compare emitted words and faults alone, and not memory]' \
         '--csv[Print a table of comma-separated values, a row for each block]' \

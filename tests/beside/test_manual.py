@@ -45,7 +45,7 @@ IN_FISH = (
     ("ilocfarm explain --priority s", "".join(f"{it}\tWhat goes first: chain, slack, descendants, successors, latency or order "
                                               "[default: chain]\n" for it in ("slack", "successors"))),
 )
-READS_TERMINAL = b"ilocfarm: reading blocks from the terminal; Ctrl-D on a line of its own ends them\n"
+READS_TERMINAL = "ilocfarm: reading {} from the terminal; Ctrl-D on a line of its own ends them\n"
 COMPLETE = ('source "$0"; COMP_WORDS=(ilocfarm "$@"); COMP_CWORD=$#; _ilocfarm; echo "${COMPREPLY[*]}"')
 INSTALLED = {"bin/ilocfarm", "share/man/man1/ilocfarm.1", "share/bash-completion/completions/ilocfarm",
              "share/zsh/site-functions/_ilocfarm", "share/fish/vendor_completions.d/ilocfarm.fish",
@@ -126,14 +126,27 @@ class Manual(Place):
             self.expect(f"fish completes {typed}", told, (0, offered.encode(), b""))
 
     def test_tells_that_it_reads_a_terminal(self):
-        """A command that reads blocks says so on a terminal, and no other, nor one that is refused."""
-        for words, is_told in ((["run"], True), (["simulate", "3"], True), (["run", "--help"], False), (["--version"], False),
-                               (["help", "run"], False), (["run", "x"], False)):
+        """What a command reads is said on a terminal; nothing is by another, nor by one that is refused."""
+        task = self.path("examples/first.iloc")
+        for words, status, told in ((["run"], 0, "blocks"), (["simulate", "3"], 0, "blocks"), (["check"], 1, "blocks and rows"),
+                                    (["check", "--task", task], 5, "rows"), (["explain", "--task", task], 5, "rows"),
+                                    (["run", "--help"], 0, ""), (["--version"], 0, ""), (["help", "run"], 0, ""), (["run", "x"], 2, "")):
             with terminal() as (screen, slave):
                 screen.type("\x04")
                 done = subprocess.run([TESTED.program, *words], stdin=slave, capture_output=True, timeout=SECONDS)
-            self.expect(f"{words}: says that it reads", READS_TERMINAL in done.stderr, is_told)
-            self.expect(f"{words}: status", done.returncode, 2 if words[-1] == "x" else 0)
+            said = "".join(it for it in done.stderr.decode().splitlines(True) if "reading" in it)
+            self.expect(f"{words}: says what it reads", said, READS_TERMINAL.format(told) if told else "")
+            self.expect(f"{words}: status", done.returncode, status)
+
+    def test_names_of_files(self):
+        """A file's name is answered, before the usage, by how the command is given the file; no advice is refused too."""
+        for name in self.commands_of():
+            if name != "help":
+                status, out, err = self.call("ilocfarm", name, "task.iloc")
+                self.expect(f"{name} task.iloc", (status, out, f"ilocfarm {name} < FILE" in err.decode().partition("Usage")[0]),
+                            (2, b"", True))
+        for words in (["run", "-1"], ["run", "--workers", "3"], ["check", "-x"], ["simulate", "--", "-1"]):
+            self.expect(f"{words}: advises `--`", b"-- " in self.call("ilocfarm", *words)[2], False)
 
     def test_installs(self):
         version = self.call("ilocfarm", "--version")

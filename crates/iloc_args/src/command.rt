@@ -98,7 +98,7 @@ fn words_arg<'a>(alloc: Global) -> Arg<'a>
 {
     Arg::new(alloc, "words")
         .value_name("WORD")
-        .help("What memory holds from there on, 0 to 4294967295 (for -1) each; all else is 0")
+        .help("Memory words from --at on; write -1 as 4294967295; others are 0")
         .num_args(0..)
         .action(ArgAction::Append)
         .value_parser(value_parser!(u32))
@@ -225,14 +225,10 @@ fn outputs_arg<'a>(alloc: Global) -> Arg<'a>
 }
 
 /// `--either-slot`
-fn either_slot_arg<'a>(alloc: Global) -> Arg<'a>
+fn either_slot_arg<'a>(alloc: Global, help: &'a str) -> Arg<'a>
     ensures { HasRule either_slot_rule result }
 {
-    flag_arg(
-        alloc,
-        "either-slot",
-        "Exchange the operations of a row that can be issued only so",
-    )
+    flag_arg(alloc, "either-slot", help)
 }
 
 /// The command with this argument after its own, if it could be made.
@@ -350,7 +346,8 @@ fn explain_command<'a>(alloc: Global) -> Result<Command<'a>, AllocError>
     let command = with_latencies(alloc, Ok(bare_command(alloc, "explain", about, usage)));
     let command = with_arg(command, priority_arg(alloc));
     let command = with_arg(command, task_arg(alloc));
-    with_arg(command, either_slot_arg(alloc))
+    let swapped = "With --task, accept rows whose operations fit only when swapped";
+    with_arg(command, either_slot_arg(alloc, swapped))
 }
 
 /// `check [--at N] [WORD]... [--load N] [--store N] [--mult N] [--task FILE] [--either-slot] [--lawful] [--outputs] [--csv]`
@@ -361,7 +358,8 @@ fn check_command<'a>(alloc: Global) -> Result<Command<'a>, AllocError>
     let usage = "ilocfarm check [OPTIONS] [WORD]... < BLOCKS_AND_ROWS";
     let command = with_latencies(alloc, memory_command(alloc, "check", about, usage));
     let command = with_arg(command, task_arg(alloc));
-    let command = with_arg(command, either_slot_arg(alloc));
+    let swapped = "Accept rows whose operations fit only when swapped";
+    let command = with_arg(command, either_slot_arg(alloc, swapped));
     let command = with_arg(command, lawful_arg(alloc));
     let command = with_arg(command, outputs_arg(alloc));
     with_arg(command, csv_arg(alloc))

@@ -5,14 +5,11 @@ ghost use Rattle.iloc_args.specs.Fault.{status_of};
 ghost use Rattle.iloc_args.specs.Steps.Refusing.{IsFaultBy};
 ghost use Rattle.iloc_args.specs.declared.fault.LineFault.TheVariants.{NoMemory};
 
+use crate::advice::advised;
 use clap::error::{Error as ClapError, ErrorKind};
 use std::alloc::{AllocError, AllocFailed, Global};
 use std::error::Error;
 use std::fmt::{self, Display, Formatter};
-
-/// What is said below a WORD that is none: it may be a file, or a negative number.
-const WORDS_AND_BLOCKS: &str = "\
-A WORD is a number, 4294967295 for -1. Blocks come from standard input: ilocfarm run < FILE\n";
 
 /// Why a command line gives no request. Its `Display` is the text for the user.
 #[derive(Debug, Drop, PartialEq, Eq)]
@@ -55,8 +52,12 @@ impl Display for LineFault {
 impl Error for LineFault {}
 
 impl LineFault {
-    /// The fault for an error of the parser, with its text.
-    pub(crate) fn of_parser(alloc: Global, error: &ClapError) -> Result<LineFault, AllocError>
+    /// The fault for an error of the parser, with its text; the words begin with the name of this command.
+    pub(crate) fn of_parser(
+        alloc: Global,
+        error: &ClapError,
+        command: &str,
+    ) -> Result<LineFault, AllocError>
         ensures { IfOk result (IsFaultBy (kind_of error.now)) }
     {
         Ok(match error.kind() {
@@ -64,14 +65,7 @@ impl LineFault {
             ErrorKind::DisplayHelp | ErrorKind::DisplayVersion => {
                 LineFault::Help(error.to_string(alloc)?)
             }
-            ErrorKind::ValueValidation => {
-                let mut text = error.to_string(alloc)?;
-                if text.as_str().contains("for '[WORD]...'") {
-                    text.push_str(WORDS_AND_BLOCKS)?;
-                }
-                LineFault::Refused(text)
-            }
-            _ => LineFault::Refused(error.to_string(alloc)?),
+            _ => LineFault::Refused(advised(alloc, error.to_string(alloc)?.as_str(), command)?),
         })
     }
 }

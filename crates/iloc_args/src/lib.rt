@@ -1,6 +1,7 @@
 //! The command line of `ilocfarm`: what its words ask for.
 #![tactic(auto)]
 
+mod advice;
 mod command;
 mod fault;
 mod line;

@@ -79,7 +79,10 @@ fn matches_of<'a, S: AsStr>(alloc: Global, words: &'a [S]) -> Result<ArgMatches<
 {
     match farm_command(alloc)?.try_get_matches_from(words) {
         Ok(matches) => Ok(matches),
-        Err(error) => Err(LineFault::of_parser(alloc, &error)?),
+        Err(error) => {
+            let command = words.first().map_or("", |word| word.as_str());
+            Err(LineFault::of_parser(alloc, &error, command)?)
+        }
     }
 }
 
