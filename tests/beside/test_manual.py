@@ -77,6 +77,14 @@ class Manual(Place):
         self.needs("mandoc")
         self.expect("mandoc", self.call("mandoc", "-T", "lint", PAGE), (0, b"", b""))
 
+    def test_page_has_the_words_of_listings(self):
+        """Each field, verdict and line in a table of docs/LANGUAGE.md on listings is on the page."""
+        listings = self.text("docs/LANGUAGE.md").partition("\n## Listings\n")[2].partition("\n## Faults of the program\n")[0]
+        cells = re.findall(r"^\| (`.*?`) \|", listings, re.MULTILINE)
+        words = [word.strip() for cell in cells for word in re.findall("`([^`]+)`", cell) if not word.startswith("line n: ")]
+        page = " ".join(re.sub(r'^\.\w+ |"|\\&', "", self.text(PAGE), flags=re.MULTILINE).split())
+        self.expect("words that the page lacks", ([it for it in words if it not in page], len(words) > 20), ([], True))
+
     def test_page_examples(self):
         text = self.text(PAGE)
         commands = [it for part in LITERAL.findall(text) for it in COMMAND.findall(part)]
