@@ -9,6 +9,7 @@ from harness.program import COMMANDS, TESTED, baseline, ending, folder, stored, 
 from harness.suite import Check, table
 from limits import MOST_BLOCKS, MOST_BYTES, MOST_OPERATIONS
 from oracle.judge import NOT_SAME
+from oracle.reader import NO_SUCH_BLOCK
 from refusals.test_program import NO_MEMORY
 
 # At the usual latencies, for processor time and for memory held. The first holds on slow machines too.
@@ -111,7 +112,7 @@ def judged_inputs():
            .replace(b"output 1024 ]", b"output 1280 ]"), b"block 1 A differs cycles ")
     yield ("10,001 operations in rows", lambda: rows(free * 5000, load),
            refused_line(f"line 5002: more than {MOST_OPERATIONS} operations in a block"))
-    yield "65,535 heads of one block", lambda: rows(b"block 1 A\n" * MOST_BLOCKS), refused_line("line 3: no such block")
+    yield "65,535 heads of one block", lambda: rows(b"block 1 A\n" * MOST_BLOCKS), refused_line(f"line 3: {NO_SUCH_BLOCK}")
     yield "brackets", lambda: rows(b"[]\n", b"[" * (MOST_BYTES - 6)), (
         b"block 1 A unread cycles 0 ours 0 least 0\n  row 2: expected an operation, found [\n")
     yield "a row without an end", lambda: b"A:\n[" + b" " * (MOST_BYTES - 4), refused_line("line 2: not understood")

@@ -5,7 +5,7 @@ from harness.suite import Check, table
 from limits import MOST_BLOCKS, MOST_BYTES, MOST_OPERATIONS
 from oracle.judge import ENTRY, NOT_SAME, entries_of, status_of, total
 from oracle.machine import row_text, words_from
-from oracle.reader import read
+from oracle.reader import NO_SUCH_BLOCK, read
 
 WORDS = ["check", "--at", "4", "9"]
 
@@ -302,7 +302,7 @@ NO_BLOCK = ["a:\nb:\n[ nop ; nop ]", "a:\nb:\ncycles 0", "a:\n[ nop ; nop ]\nblo
             "a:\nb:\nblock 3 c", "a:\nb:\nblock 1 b", "a:\nb:\nblock 1 -", "nop\nb:\nblock 1 a",
             "a:\nblock 1 a\nblock 1 a", "a:\nb:\nblock 2147483647 a", "a:\nb:\nblock 1 A", "a:\nb:\nblock 1 ab",
             "a:\nb:\nblock 65535 a", "a:\nb:\n[ output 2147483648 ]", "a:\n[ output 2147483648 ]\nblock 1 a"]
-BAD, LARGE, NONE = "not understood", "number above 2147483647", "no such block"
+BAD, LARGE, NONE = "not understood", "number above 2147483647", NO_SUCH_BLOCK
 NOTHING_TO_JUDGE = ["", "\n", "// none", "total 0\n", "// none\n\ntotal 7 // seven", "[ nop ; nop ]", "block 1 a\ncycles 0",
                     "\ncycles 0\n", "block 99999999999 a", "[ output 2147483648 ; nop ]", "[ nop ; nop ]\n[ nop ]"]
 # The text, the line of its earliest fault, and the fault.

@@ -22,6 +22,7 @@ NOP = Op("nop", [])
 LABEL = re.compile(rb"(" + NAME + rb")[ \t\r]*:")
 HEAD = re.compile(rb"block[ \t\r]+([0-9]+)[ \t\r]+(-|" + NAME + rb")")
 COUNT = re.compile(rb"(cycles|total)[ \t\r]+([0-9]+)")
+NO_SUCH_BLOCK = 'no such block: "block K NAME" names a later one, by - if unnamed'
 
 
 class Refused(Exception):
@@ -139,12 +140,12 @@ class Reader:
 
     def start(self, number, name):
         if not self.head < number <= len(self.blocks) or self.blocks[number - 1].name != name:
-            raise Refused("no such block")
+            raise Refused(NO_SUCH_BLOCK)
         self.head = number
 
     def current(self):
         if not self.head and len(self.blocks) != 1:
-            raise Refused("no such block")
+            raise Refused(NO_SUCH_BLOCK)
         self.head = self.head or 1
         return self.blocks[self.head - 1]
 

@@ -29,7 +29,10 @@ impl Display for RowsFault {
         match self {
             RowsFault::Read(fault) => write!(f, "{fault}"),
             RowsFault::NoBlocks => f.write_str("no blocks"),
-            RowsFault::NoSuchBlock(line) => write!(f, "line {line}: no such block"),
+            RowsFault::NoSuchBlock(line) => write!(
+                f,
+                "line {line}: no such block: \"block K NAME\" names a later one, by - if unnamed"
+            ),
         }
     }
 }
