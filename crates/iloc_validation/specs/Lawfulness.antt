@@ -18,6 +18,7 @@ use Rattle.iloc_validation.specs.declared.lawfulness.Added.{Added}
 use Rattle.iloc_validation.specs.declared.lawfulness.Reason.{Reason}
 use Rattle.iloc_validation.specs.declared.lawfulness.Reason.TheVariants.{Counts, Early, Reads}
 use Rattle.iloc_validation.specs.declared.lawfulness.Lawfulness.{Lawfulness}
+use Rattle.iloc_validation.specs.declared.reasons.counts.Lacking.{Lacking}
 use Rattle.iloc_validation.specs.declared.lawfulness.Lawfulness.TheVariants.{Lawful, Unlawful}
 use Rattle.iloc_validation.specs.ByTheBook.{label, read, given, ArePaired, IsByTheBook}
 
@@ -42,6 +43,13 @@ lacking ops others = count_by (lacks_counterpart ops others) (range_with_len 0 (
 -- of its label there are more than among the others
 abbrev pub IsShort : Op → List Op → List Op → Type 0
 IsShort op ops others = count_like op others < count_like op ops
+
+-- how many operations have no counterpart among the others, and one that is short
+pub record AreLacking (ops others : List Op) (it : Lacking) : Type 0 where
+  pub count : it.count ≡ lacking ops others
+  pub some : 0 < it.count
+  pub within : it.number < length ops
+  pub short : IsShort (op_at ops it.number) ops others
 
 -- operation k of the rows, with its cycle
 abbrev pub issue_of : List Op → List Row → ℕ → Issue

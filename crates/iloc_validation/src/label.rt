@@ -45,8 +45,8 @@ impl Label {
     }
 }
 
-/// Whether two operations differ in registers alone.
-pub(crate) fn have_one_label(one: &Op, other: &Op) -> bool
+/// Promise: whether two operations differ in registers alone.
+pub fn have_one_label(one: &Op, other: &Op) -> bool
     ensures { IsTrue result ↔ (label one.now ≡ label other.now) }
 {
     Label::of(one) == Label::of(other)

@@ -14,6 +14,11 @@ mod validation;
 mod verification;
 mod waits;
 
+pub use label::have_one_label;
 pub use lawfulness::{Added, Issue, Lawfulness, LeftOut, Reason};
+pub use reading::given::{givens, without_nops};
+pub use reading::sources::Sources;
+pub use reading::{Reading, readings};
+pub use reasons::counts::{Lacking, without_counterpart};
 pub use renumbering::{OwnRows, own_rows};
 pub use validation::validate;

@@ -4,9 +4,9 @@ ghost use Rattle.iloc_ops.specs.Registers.{used};
 ghost use Rattle.iloc_meaning.specs.Trace.{op_at};
 ghost use Rattle.iloc_timed.specs.Limits.{MAX_ROWS};
 ghost use Rattle.iloc_timed.specs.Rows.{IsTable};
-ghost use Rattle.iloc_validation.specs.Steps.Sources.{sources_of};
 ghost use Rattle.iloc_validation.specs.Steps.Holders.{holder};
-ghost use Rattle.iloc_validation.specs.Steps.Readings.{reading_at, reading_of, with_noted};
+ghost use Rattle.iloc_validation.specs.Readings.{reading_at, reading_of, sources_of};
+ghost use Rattle.iloc_validation.specs.Steps.Readings.{with_noted};
 
 pub mod given;
 pub mod holders;
@@ -21,8 +21,10 @@ use std::alloc::Global;
 
 /// When an operation is issued, and what it reads.
 #[derive(Clone, Copy, Debug)]
-pub(crate) struct Reading {
+pub struct Reading {
+    /// The cycle of its row.
     pub cycle: usize,
+    /// The operations of the rows whose results it reads.
     pub sources: Sources,
 }
 
@@ -43,8 +45,8 @@ fn note(readings: &mut Vec<Reading>, run: &Run, ops: &[Op], slot: Option<usize>,
     }
 }
 
-/// By operation of a schedule when it is issued, and what it reads then.
-pub(crate) fn readings(
+/// Promise: by operation of a schedule when it is issued, and what it reads then.
+pub fn readings(
     alloc: Global,
     schedule: &Schedule,
     latencies: &Latencies,

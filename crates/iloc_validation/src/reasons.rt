@@ -5,7 +5,7 @@ ghost use Rattle.iloc_validation.specs.Steps.Sides.{AreSides, IsScheduleBy};
 
 mod broken;
 mod counterparts;
-mod counts;
+pub mod counts;
 mod delays;
 mod unpaired;
 mod uses;

@@ -7,7 +7,8 @@ use Rattle.iloc_validation.specs.declared.reasons.unpaired.Unpaired.{Unpaired}
 use Rattle.iloc_validation.specs.declared.reasons.counterparts.Chains.{Chains}
 use Rattle.iloc_validation.specs.declared.reasons.counts.Lacking.{Lacking}
 use Rattle.iloc_validation.specs.contracts.label.LabelOrd.TheImpl as of_labels
-use Rattle.iloc_validation.specs.Lawfulness.{are_alike, count_like, lacking, IsShort}
+use Rattle.iloc_validation.specs.Lawfulness.{are_alike, count_like}
+pub use Rattle.iloc_validation.specs.Lawfulness.{AreLacking}
 use Rattle.iloc_validation.specs.Steps.Labels.{labelled}
 
 -- the first operation that waits, of those like this one
@@ -48,10 +49,3 @@ abbrev pub IsLackingIn : List (Option ℕ) → Option Lacking → Type 0
 IsLackingIn counterparts None = count_by is_none counterparts ≡ 0
 IsLackingIn counterparts (Some it) = (it.count ≡ count_by is_none counterparts) × (0 < it.count)
     × (it.number < length counterparts) × (noted_at counterparts it.number ≡ None)
-
--- how many operations have no counterpart among the others, and one that is short
-pub record AreLacking (ops others : List Op) (it : Lacking) : Type 0 where
-  pub count : it.count ≡ lacking ops others
-  pub some : 0 < it.count
-  pub within : it.number < length ops
-  pub short : IsShort (op_at ops it.number) ops others

@@ -1,26 +1,12 @@
 -- When operations are issued and what they read, as far as the rows were gone through.
-use Rattle.std.specs.Prelude.{ℕ, ◌≡◌, ◌<◌, List, length, slice_index_or, slice_set, Option, Some, None}
+use Rattle.std.specs.Prelude.{ℕ, ◌≡◌, ◌<◌, List, length, slice_set, Option, Some, None}
 use Rattle.iloc_ops.specs.declared.op.Op.{Op}
-use Rattle.iloc_ops.specs.Registers.{used}
-use Rattle.iloc_meaning.specs.Trace.{op_at}
 use Rattle.iloc_timed.specs.declared.latencies.Latencies.{Latencies}
 use Rattle.iloc_timed.specs.declared.row.Row.{Row}
 use Rattle.iloc_timed.specs.Rows.{issue_cycle}
 use Rattle.iloc_validation.specs.declared.reading.Reading.{Reading}
-use Rattle.iloc_validation.specs.declared.reading.sources.Sources.TheVariants.{Nothing}
-use Rattle.iloc_validation.specs.ByTheBook.{read}
-use Rattle.iloc_validation.specs.Steps.Sources.{sources_of}
-
--- when operation k is issued, and what it reads then
-abbrev pub reading_of : Latencies → List Op → List Row → ℕ → Reading
-reading_of lat ops rows k = record {
-  cycle = issue_cycle rows k;
-  sources = sources_of (read lat ops rows (issue_cycle rows k)) (used (op_at ops k));
-}
-
--- what is noted of operation k
-abbrev pub reading_at : List Reading → ℕ → Reading
-reading_at readings k = slice_index_or readings k (record { cycle = 0; sources = Nothing })
+use Rattle.iloc_validation.specs.Readings.{reading_of, reading_at}
+pub use Rattle.iloc_validation.specs.Readings.{reading_of, reading_at}
 
 -- the list with what is noted of what stands in a slot
 abbrev pub with_noted : List Reading → Option ℕ → (ℕ → Reading) → List Reading

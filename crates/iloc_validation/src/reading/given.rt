@@ -4,15 +4,15 @@ ghost use Rattle.iloc_ops.specs.Registers.{used};
 ghost use Rattle.iloc_meaning.specs.Trace.{op_at};
 ghost use Rattle.iloc_sched.specs.Renaming.{without_nops};
 ghost use Rattle.iloc_validation.specs.ByTheBook.{given};
-ghost use Rattle.iloc_validation.specs.Steps.Sources.{sources_of, sources_at};
+ghost use Rattle.iloc_validation.specs.Readings.{sources_of, sources_at};
 
 use crate::reading::holders::Holders;
 use crate::reading::sources::Sources;
 use iloc_ops::{Block, NoMemory, Op, defines};
 use std::alloc::Global;
 
-/// The operations of a block but for its `nop`s.
-pub(crate) fn without_nops(alloc: Global, block: &Block) -> Result<Vec<Op>, NoMemory>
+/// Promise: the operations of a block but for its `nop`s.
+pub fn without_nops(alloc: Global, block: &Block) -> Result<Vec<Op>, NoMemory>
     ensures { IfOk result (λ ops. ops.items ≡ without_nops block.now.ops) }
 {
     let mut ops = Vec::with_capacity(alloc, block.ops.len())?;
@@ -24,8 +24,8 @@ pub(crate) fn without_nops(alloc: Global, block: &Block) -> Result<Vec<Op>, NoMe
     Ok(ops)
 }
 
-/// By operation what it reads, where all are executed in order.
-pub(crate) fn givens(alloc: Global, block: &[Op]) -> Result<Vec<Sources>, NoMemory>
+/// Promise: by operation what it reads, where all are executed in order.
+pub fn givens(alloc: Global, block: &[Op]) -> Result<Vec<Sources>, NoMemory>
     ensures size { IfOk result (λ givens. length givens.items ≡ length block.now) }
     ensures each { IfOk result (λ givens. (i : ℕ) → i < length block.now
         → sources_at givens.items i ≡ sources_of (given block.now i) (used (op_at block.now i))) }

@@ -73,7 +73,7 @@ fn chained(alloc: Global, ops: &[Op]) -> Result<Chains, NoMemory>
 }
 
 /// By operation its counterpart among the others.
-fn counterparts_among(
+pub(crate) fn counterparts_among(
     alloc: Global,
     ops: &[Op],
     others: &[Op],
