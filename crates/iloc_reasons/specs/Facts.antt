@@ -1,0 +1,140 @@
+-- Facts of rows: each says of operations where they are issued and what they read, so that it is seen that the rows aren't
+-- issued as their block asks for.
+use Rattle.std.specs.Prelude.{ℕ, zero, suc, ◌≡◌, ◌≢◌, ◌<◌, ◌≤◌, ◌||◌, List, [], ◌∷◌, length, map, count_by, Option, Some, None, Contains, IsTrue}
+use Rattle.std.specs.List.{range_with_len}
+use Rattle.iloc_ops.specs.declared.op.Reg.{Reg}
+use Rattle.iloc_ops.specs.declared.op.Op.{Op}
+use Rattle.iloc_ops.specs.Registers.{used, defined}
+use Rattle.iloc_meaning.specs.Trace.{op_at}
+use Rattle.iloc_timed.specs.declared.latencies.Latencies.{Latencies}
+use Rattle.iloc_timed.specs.declared.row.Row.{Row}
+use Rattle.iloc_timed.specs.declared.kind.Kind.{Kind}
+use Rattle.iloc_timed.specs.declared.kind.Kind.TheVariants as K
+use Rattle.iloc_timed.specs.Kinds.{kind, is_store, is_output}
+use Rattle.iloc_timed.specs.Rows.{issue_cycle}
+use Rattle.iloc_sched.specs.Delays.{keeps_order}
+use Rattle.iloc_validation.specs.declared.lawfulness.Issue.{Issue}
+use Rattle.iloc_validation.specs.ByTheBook.{due, issued_before, given, label, read}
+use Rattle.iloc_validation.specs.Lawfulness.{issue_of}
+use Rattle.iloc_validation.specs.UnderWay.{IsUnderWay}
+use Rattle.iloc_reasons.specs.declared.fact.Fact.{Fact}
+use Rattle.iloc_reasons.specs.declared.fact.Fact.TheVariants.{UnderWay, Brings, Replaced, Order, For, LikeNone, See}
+
+-- operation k of the rows, in its row
+pub record IsIssued (ops : List Op) (rows : List Row) (k : ℕ) (issue : Issue) : Type 0 where
+  pub within : k < length ops
+  pub is : issue ≡ issue_of ops rows k
+
+-- a load or an output is issued while a store is under way
+pub record IsWhileUnderWay (lat : Latencies) (ops : List Op) (rows : List Row) (issue store : Issue) (over : ℕ) : Type 0 where
+  pub k : ℕ
+  pub s : ℕ
+  pub here : IsIssued ops rows k issue
+  pub there : IsIssued ops rows s store
+  pub under_way : IsUnderWay lat ops rows k s
+  pub until : over ≡ due lat ops rows s
+
+-- an operation reads a register for which another's result is under way
+pub record IsBroughtLater (lat : Latencies) (ops : List Op) (rows : List Row) (issue : Issue) (register : Reg) (late : Issue)
+    (arrives : ℕ) : Type 0 where
+  pub k : ℕ
+  pub l : ℕ
+  pub here : IsIssued ops rows k issue
+  pub there : IsIssued ops rows l late
+  pub another : l ≢ k
+  pub uses : Contains (used issue.op) register
+  pub defines : defined late.op ≡ Some register
+  pub begun : late.cycle ≤ issue.cycle
+  pub not_there : issue.cycle < arrives
+  pub when : arrives ≡ due lat ops rows l
+
+-- by cycle c a register was as it was at the start, and had the result of an operation other than j
+abbrev pub HasBeenThere : Latencies → List Op → List Row → ℕ → Reg → ℕ → Option Issue → Type 0
+HasBeenThere lat ops rows c register j None = Unit
+HasBeenThere lat ops rows c register j (Some lost) = (l : ℕ) × IsIssued ops rows l lost × (l ≢ j)
+    × (defined lost.op ≡ Some register) × (due lat ops rows l ≤ c)
+
+-- an operation reads in a register a result that came over what was there
+pub record IsReplaced (lat : Latencies) (ops : List Op) (rows : List Row) (issue : Issue) (register : Reg) (from : Issue)
+    (lost : Option Issue) : Type 0 where
+  pub k : ℕ
+  pub j : ℕ
+  pub here : IsIssued ops rows k issue
+  pub uses : Contains (used issue.op) register
+  pub reads : read lat ops rows issue.cycle register ≡ Some j
+  pub there : IsIssued ops rows j from
+  pub before : HasBeenThere lat ops rows issue.cycle register j lost
+
+-- two operations of which memory or outputs fix the order are issued in different rows
+pub record IsOrdered (ops : List Op) (rows : List Row) (issue other : Issue) : Type 0 where
+  pub k : ℕ
+  pub o : ℕ
+  pub here : IsIssued ops rows k issue
+  pub there : IsIssued ops rows o other
+  pub fixed : IsTrue (keeps_order (kind issue.op) (kind other.op) || keeps_order (kind other.op) (kind issue.op))
+  pub apart : issue.cycle ≢ other.cycle
+
+-- an operation has the label of one of the block
+pub record IsFor (block ops : List Op) (rows : List Row) (issue : Issue) (op : Op) : Type 0 where
+  pub k : ℕ
+  pub here : IsIssued ops rows k issue
+  pub there : Contains block op
+  pub alike : label issue.op ≡ label op
+
+-- Alike operations
+
+-- how many of these operations are stores
+abbrev pub stores_among : List Op → List ℕ → ℕ
+stores_among ops ks = count_by (λ k. is_store (kind (op_at ops k))) ks
+
+-- how many of these operations are outputs
+abbrev pub outputs_among : List Op → List ℕ → ℕ
+outputs_among ops ks = count_by (λ k. is_output (kind (op_at ops k))) ks
+
+-- the place of an operation of this kind behind these: what of it memory and outputs fix, how many stores come before a
+-- load, a store or an output, and how many outputs before an output
+abbrev pub place_behind : List Op → List ℕ → Kind → ℕ × ℕ
+place_behind ops ks K.Load = (stores_among ops ks, 0)
+place_behind ops ks K.Store = (stores_among ops ks, 0)
+place_behind ops ks K.Output = (stores_among ops ks, outputs_among ops ks)
+place_behind ops ks _ = (0, 0)
+
+-- both are the start of a register, or results of operations of which this holds
+abbrev pub AreSources : (ℕ → ℕ → Type 0) → Option ℕ → Option ℕ → Type 0
+AreSources Alike None None = Unit
+AreSources Alike (Some i) (Some k) = Alike i k
+AreSources Alike _ _ = ⊥
+
+-- so are they one by one
+abbrev pub AreAllSources : (ℕ → ℕ → Type 0) → List (Option ℕ) → List (Option ℕ) → Type 0
+AreAllSources Alike [] [] = Unit
+AreAllSources Alike (s ∷ ss) (t ∷ ts) = AreSources Alike s t × AreAllSources Alike ss ts
+AreAllSources Alike _ _ = ⊥
+
+-- Operation i of the block and operation k of the rows are alike to a depth: all are to depth 0, and to depth n + 1 those of
+-- one label and one place whose sources are both the start, or alike to depth n.
+abbrev pub AreAlike : Latencies → List Op → List Op → List Row → ℕ → ℕ → ℕ → Type 0
+AreAlike lat block ops rows zero i k = Unit
+AreAlike lat block ops rows (suc n) i k = (label (op_at block i) ≡ label (op_at ops k))
+    × (place_behind block (range_with_len 0 i) (kind (op_at block i))
+    ≡ place_behind ops (issued_before rows (issue_cycle rows k)) (kind (op_at ops k)))
+    × AreAllSources (AreAlike lat block ops rows n) (map (given block i) (used (op_at block i)))
+    (map (read lat ops rows (issue_cycle rows k)) (used (op_at ops k)))
+
+-- of each operation of the block there is a depth to which it isn't alike
+pub record IsLikeNone (lat : Latencies) (block ops : List Op) (rows : List Row) (issue : Issue) : Type 0 where
+  pub k : ℕ
+  pub here : IsIssued ops rows k issue
+  pub none : (i : ℕ) → i < length block → (depth : ℕ) × (AreAlike lat block ops rows depth i k → ⊥)
+
+-- What is listed
+
+-- this holds of the rows of a block, `nop`s left out
+abbrev pub IsFact : Latencies → List Op → List Op → List Row → Fact → Type 0
+IsFact lat block ops rows (UnderWay issue store due) = IsWhileUnderWay lat ops rows issue store due
+IsFact lat block ops rows (Brings issue register late due) = IsBroughtLater lat ops rows issue register late due
+IsFact lat block ops rows (Replaced issue register from lost) = IsReplaced lat ops rows issue register from lost
+IsFact lat block ops rows (Order issue other) = IsOrdered ops rows issue other
+IsFact lat block ops rows (For issue op) = IsFor block ops rows issue op
+IsFact lat block ops rows (LikeNone issue) = IsLikeNone lat block ops rows issue
+IsFact lat block ops rows (See issue) = (k : ℕ) × IsIssued ops rows k issue

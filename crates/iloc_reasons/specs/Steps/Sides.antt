@@ -1,0 +1,21 @@
+-- A block and rows for it, with what their operations read.
+use Rattle.std.specs.Prelude.{ℕ, zero, suc, ◌≡◌, ◌<◌, List, length, Option, None}
+use Rattle.iloc_ops.specs.declared.op.Op.{Op}
+use Rattle.iloc_timed.specs.declared.latencies.Latencies.{Latencies}
+use Rattle.iloc_timed.specs.declared.row.Row.{Row}
+use Rattle.iloc_validation.specs.declared.reading.Reading.{Reading}
+use Rattle.iloc_validation.specs.declared.reading.sources.Sources.{Sources}
+use Rattle.iloc_validation.specs.declared.reading.sources.Sources.TheVariants.{One, Two}
+use Rattle.iloc_validation.specs.Readings.{reading_at, reading_of}
+
+-- what is noted of the operations of rows is when they are issued and what they read
+pub record AreRead (lat : Latencies) (ops : List Op) (rows : List Row) (readings : List Reading) : Type 0 where
+  pub size : length readings ≡ length ops
+  pub each : (k : ℕ) → k < length ops → reading_at readings k ≡ reading_of lat ops rows k
+
+-- what is read at a place, left to right
+abbrev pub source_at : Sources → ℕ → Option ℕ
+source_at (One only) zero = only
+source_at (Two left right) zero = left
+source_at (Two left right) (suc zero) = right
+source_at _ place = None

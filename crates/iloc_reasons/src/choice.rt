@@ -1,0 +1,134 @@
+//! Which facts of rows are claimed. Nothing is promised of the choice, since each claim is checked.
+//!
+//! It goes by terms: the label of an operation, its place among stores and outputs, and the terms of what it reads. An
+//! operation of the rows that the block has no more of is found to be one that is missing there, by the cheapest change of
+//! what it reads; from then on it counts as that one, so that nobody is blamed for another's fault.
+
+mod counts;
+mod graph;
+mod guesses;
+mod missing;
+mod mixing;
+mod standing_out;
+mod terms;
+mod walk;
+
+use self::counts::Counts;
+use self::graph::Graph;
+use self::guesses::Definers;
+use self::missing::Missing;
+use self::standing_out::odd;
+use self::terms::{Counterparts, Side, effects};
+use self::walk::Walk;
+use crate::claim::{Claim, What};
+use crate::sides::Sides;
+use iloc_ops::NoMemory;
+use iloc_timed::{Kind, Row};
+use std::alloc::Global;
+
+/// What is claimed of rows.
+#[derive(Drop)]
+pub(crate) struct Choice {
+    /// In the order in which it is listed.
+    pub claims: Vec<Claim>,
+    /// The operation of the block that is named as left out.
+    pub left_out: Option<usize>,
+    /// The operation of the rows that is named as added.
+    pub added: Option<usize>,
+}
+
+/// Rows that issue a block's operations one by one.
+fn one_by_one(alloc: Global, count: usize) -> Result<Vec<Row>, NoMemory> {
+    let mut rows = Vec::with_capacity(alloc, count)?;
+    for i in 0..count {
+        rows.push(Row {
+            zero: Some(i),
+            one: None,
+        })?;
+    }
+    Ok(rows)
+}
+
+/// The operations of the rows with what they read.
+fn rows_graph<'a>(alloc: Global, sides: &Sides<'a>) -> Result<Graph<'a>, NoMemory> {
+    let mut reads = Vec::with_capacity(alloc, sides.readings.len())?;
+    for reading in sides.readings {
+        reads.push(reading.sources)?;
+    }
+    Graph::of(alloc, sides.schedule.ops(), sides.schedule.rows(), reads)
+}
+
+/// By operation whether there are more of its label than among others.
+fn short(alloc: Global, graph: &Graph, others: &Graph) -> Result<Vec<bool>, NoMemory> {
+    let here = Counts::of(alloc, &graph.labels)?;
+    let there = Counts::of(alloc, &others.labels)?;
+    let mut are = Vec::with_capacity(alloc, graph.labels.len())?;
+    for label in &graph.labels {
+        are.push(there.get(*label) < here.get(*label))?;
+    }
+    Ok(are)
+}
+
+/// The operations of a kind, as they are issued.
+fn issued(alloc: Global, graph: &Graph, kind: Kind) -> Result<Vec<usize>, NoMemory> {
+    let mut found = Vec::new(alloc);
+    for row in graph.rows {
+        for slot in [row.zero, row.one] {
+            if let Some(k) = slot
+                && graph.kind(k) == kind
+            {
+                found.push(k)?;
+            }
+        }
+    }
+    Ok(found)
+}
+
+/// A walk through the rows that has yet to begin.
+fn begun<'a>(
+    alloc: Global,
+    sides: &'a Sides<'a>,
+    block: &'a Side<'a>,
+    rows: &'a Side<'a>,
+    counterparts: &'a Counterparts,
+) -> Result<Walk<'a>, NoMemory> {
+    let short = short(alloc, &block.graph, &rows.graph)?;
+    Ok(Walk {
+        alloc,
+        sides,
+        block,
+        rows,
+        counterparts: counterparts.rows.as_slice(),
+        missing: Missing::of(alloc, block, short, &counterparts.block)?,
+        definers: Definers::none(alloc, rows.terms.len())?,
+        meant: Vec::from_slice(alloc, &rows.terms)?,
+        store: None,
+        stores: issued(alloc, &rows.graph, Kind::Store)?,
+        outputs: issued(alloc, &rows.graph, Kind::Output)?,
+        claims: Vec::new(alloc),
+        unlike: None,
+    })
+}
+
+/// What is claimed of rows.
+pub(crate) fn chosen(alloc: Global, sides: &Sides) -> Result<Choice, NoMemory> {
+    let in_order = one_by_one(alloc, sides.block.len())?;
+    let givens = Vec::from_slice(alloc, sides.givens)?;
+    let here = Graph::of(alloc, sides.block, &in_order, givens)?;
+    let there = rows_graph(alloc, sides)?;
+    let places_count = effects(&here) == effects(&there);
+    let block = Side::of(alloc, here, places_count)?;
+    let rows = Side::of(alloc, there, places_count)?;
+    let counterparts = Counterparts::of(alloc, &block, &rows)?;
+    let mut walk = begun(alloc, sides, &block, &rows, &counterparts)?;
+    for row in sides.schedule.rows() {
+        walk.pass(row)?;
+    }
+    let mut choice = walk.into_choice();
+    if choice.claims.is_empty() {
+        for k in odd(alloc, &block.graph, &rows.graph)? {
+            choice.claims.push(Claim { k, what: What::See })?;
+        }
+    }
+    Ok(choice)
+}

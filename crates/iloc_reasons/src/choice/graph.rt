@@ -1,0 +1,173 @@
+//! The operations of a block or of rows, with numbers for what they compute and for who reads them.
+
+use super::mixing::{Values, label_number, mix};
+use iloc_ops::{NoMemory, Op};
+use iloc_timed::{Kind, Row};
+use iloc_validation::Sources;
+use std::alloc::Global;
+
+/// What memory and outputs fix of an operation: how many stores are before a load, a store or an output, and how many
+/// outputs before an output.
+#[derive(Clone, Copy, Debug, Default, PartialEq, Eq)]
+pub(crate) struct Place {
+    pub stores: usize,
+    pub outputs: usize,
+}
+
+impl Place {
+    /// That of an operation of a kind behind so many.
+    fn of(self, kind: Kind) -> Place {
+        match kind {
+            Kind::Load | Kind::Store => Place { outputs: 0, ..self },
+            Kind::Output => self,
+            _ => Place::default(),
+        }
+    }
+
+    /// With one more operation.
+    fn with(self, kind: Kind) -> Place {
+        let Place { stores, outputs } = self;
+        match kind {
+            Kind::Store => Place {
+                stores: stores.saturating_add(1),
+                outputs,
+            },
+            Kind::Output => Place {
+                stores,
+                outputs: outputs.saturating_add(1),
+            },
+            _ => self,
+        }
+    }
+
+    /// A number for it.
+    pub(crate) fn number(self) -> u64 {
+        mix(self.stores as u64, self.outputs as u64)
+    }
+}
+
+/// The operations of one side in their rows; a block has one in each.
+#[derive(Drop)]
+pub(crate) struct Graph<'a> {
+    pub ops: &'a [Op],
+    pub rows: &'a [Row],
+    /// By operation what it reads.
+    pub sources: Vec<Sources>,
+    pub places: Vec<Place>,
+    pub labels: Vec<u64>,
+}
+
+/// Puts a value at a place, if there is one.
+pub(crate) fn put<T: Drop + Copy>(list: &mut Vec<T>, place: usize, value: T) {
+    if place < list.len() {
+        list[place] = value;
+    }
+}
+
+/// A number at a place, or 0 where there is none.
+pub(crate) fn at(numbers: &[u64], place: usize) -> u64 {
+    numbers.get(place).copied().unwrap_or(0)
+}
+
+/// The places of operations in rows.
+fn places(alloc: Global, ops: &[Op], rows: &[Row]) -> Result<Vec<Place>, NoMemory> {
+    let mut places = vec![in alloc; Place::default(); ops.len()]?;
+    let mut behind = Place::default();
+    for row in rows {
+        let before = behind;
+        for slot in [row.zero, row.one] {
+            if let Some(k) = slot
+                && let Some(op) = ops.get(k)
+            {
+                let kind = Kind::of(op);
+                put(&mut places, k, before.of(kind));
+                behind = behind.with(kind);
+            }
+        }
+    }
+    Ok(places)
+}
+
+impl<'a> Graph<'a> {
+    /// The operations of one side, of which each reads these.
+    pub(crate) fn of(
+        alloc: Global,
+        ops: &'a [Op],
+        rows: &'a [Row],
+        sources: Vec<Sources>,
+    ) -> Result<Graph<'a>, NoMemory> {
+        let mut labels = Vec::with_capacity(alloc, ops.len())?;
+        for op in ops {
+            labels.push(label_number(op))?;
+        }
+        Ok(Graph {
+            ops,
+            rows,
+            sources,
+            places: places(alloc, ops, rows)?,
+            labels,
+        })
+    }
+
+    /// The kind of operation k.
+    pub(crate) fn kind(&self, k: usize) -> Kind {
+        self.ops.get(k).map_or(Kind::Other, Kind::of)
+    }
+
+    /// What operation k reads.
+    pub(crate) fn sources(&self, k: usize) -> Sources {
+        self.sources.get(k).copied().unwrap_or(Sources::Nothing)
+    }
+
+    /// The place of operation k.
+    pub(crate) fn place(&self, k: usize) -> Place {
+        self.places.get(k).copied().unwrap_or_default()
+    }
+
+    /// By operation its number and those of what it reads.
+    pub(crate) fn forwards(&self, alloc: Global, numbers: &[u64]) -> Result<Vec<u64>, NoMemory> {
+        let mut out = vec![in alloc; 0; self.ops.len()]?;
+        for row in self.rows {
+            for slot in [row.zero, row.one] {
+                if let Some(k) = slot {
+                    let number = Values::of(&out, self.sources(k)).behind(at(numbers, k));
+                    put(&mut out, k, number);
+                }
+            }
+        }
+        Ok(out)
+    }
+
+    /// By operation its number and those of who reads it, and at which use.
+    pub(crate) fn backwards(&self, alloc: Global, numbers: &[u64]) -> Result<Vec<u64>, NoMemory> {
+        let mut out = vec![in alloc; 0; self.ops.len()]?;
+        let mut heard = vec![in alloc; 0; self.ops.len()]?;
+        for row in self.rows.iter().rev() {
+            for slot in [row.zero, row.one] {
+                if let Some(k) = slot {
+                    let number = mix(at(numbers, k), at(&heard, k));
+                    put(&mut out, k, number);
+                    tell(&mut heard, self.sources(k), number);
+                }
+            }
+        }
+        Ok(out)
+    }
+}
+
+/// Tells those that are read who reads them.
+fn tell(heard: &mut Vec<u64>, sources: Sources, number: u64) {
+    let (left, right) = match sources {
+        Sources::Nothing => (None, None),
+        Sources::One(only) => (only, None),
+        Sources::Two(left, right) => (left, right),
+    };
+    if let Some(s) = left {
+        let sum = at(heard.as_slice(), s).wrapping_add(mix(number, 1));
+        put(heard, s, sum);
+    }
+    if let Some(s) = right {
+        let sum = at(heard.as_slice(), s).wrapping_add(mix(number, 2));
+        put(heard, s, sum);
+    }
+}

@@ -1,0 +1,251 @@
+//! What an operation may have been meant to read.
+
+use super::graph::{Graph, at};
+use super::mixing::{Values, value};
+use crate::claim::What;
+use crate::sides::Sides;
+use iloc_ops::{NoMemory, Op, Reg, defines, uses};
+use iloc_validation::Sources;
+use std::alloc::Global;
+use std::collections::BTreeMap;
+
+/// How far it is looked back for what defined a register.
+const LOOKS: usize = 64;
+
+/// How many results are thought of, of those under way and of those that were there.
+const MOST: usize = 3;
+
+/// What a use may have been meant to read.
+#[derive(Clone, Copy, Debug)]
+pub(crate) struct Guess {
+    /// The number of it.
+    pub value: u64,
+    /// How unlikely it is.
+    pub cost: u32,
+    /// What is said if it is so.
+    pub what: Option<What>,
+}
+
+/// By register the operations that defined it so far, the last first.
+#[derive(Drop)]
+pub(crate) struct Definers {
+    last: BTreeMap<u32, usize>,
+    // By operation the one before it.
+    before: Vec<Option<usize>>,
+}
+
+impl Definers {
+    /// None, of so many operations.
+    pub(crate) fn none(alloc: Global, count: usize) -> Result<Definers, NoMemory> {
+        Ok(Definers {
+            last: BTreeMap::new(alloc),
+            before: vec![in alloc; None; count]?,
+        })
+    }
+
+    /// Operation k is issued.
+    pub(crate) fn note(&mut self, ops: &[Op], k: usize) -> Result<(), NoMemory> {
+        if let Some(op) = ops.get(k)
+            && let Some(register) = defines(op)
+            && k < self.before.len()
+        {
+            self.before[k] = self.last.get(&register.0).copied();
+            self.last.insert(register.0, k)?;
+        }
+        Ok(())
+    }
+
+    /// The last ones, up to a count.
+    fn last_of(&self, alloc: Global, register: Reg) -> Result<Vec<usize>, NoMemory> {
+        let mut found = Vec::new(alloc);
+        let mut here = self.last.get(&register.0).copied();
+        for _ in 0..LOOKS {
+            let Some(k) = here else {
+                break;
+            };
+            found.push(k)?;
+            here = match self.before.get(k) {
+                Some(before) => *before,
+                None => None,
+            };
+        }
+        Ok(found)
+    }
+}
+
+/// The first use of an operation that reads the register of a use.
+fn first_use(op: &Op, place: usize) -> Option<(usize, Reg)> {
+    let registers = uses(op);
+    let register = registers.get(place).copied()?;
+    let first = registers.iter().position(|r| *r == register)?;
+    Some((first, register))
+}
+
+/// What is known while an operation's uses are looked at.
+#[derive(Clone, Copy)]
+pub(crate) struct Looking<'a> {
+    pub sides: &'a Sides<'a>,
+    pub definers: &'a Definers,
+    /// By operation of the rows what it is meant to bring.
+    pub meant: &'a [u64],
+}
+
+impl Looking<'_> {
+    /// The guess that the result of an operation was meant.
+    fn guess(&self, u: usize, cost: u32, what: What) -> Guess {
+        Guess {
+            value: at(self.meant, u).wrapping_add(1),
+            cost,
+            what: Some(what),
+        }
+    }
+
+    /// What operation k of the rows may have been meant to read at a place, where it reads this.
+    pub(crate) fn guesses(
+        &self,
+        alloc: Global,
+        k: usize,
+        place: usize,
+        read: Option<usize>,
+    ) -> Result<Vec<Guess>, NoMemory> {
+        let mut guesses = Vec::new(alloc);
+        guesses.push(Guess {
+            value: value(self.meant, read),
+            cost: 0,
+            what: None,
+        })?;
+        let Some(op) = self.sides.schedule.ops().get(k) else {
+            return Ok(guesses);
+        };
+        let Some((place, register)) = first_use(op, place) else {
+            return Ok(guesses);
+        };
+        let last = self.definers.last_of(alloc, register)?;
+        self.push_later(&mut guesses, &last, k, place)?;
+        self.push_older(alloc, &mut guesses, &last, k, place, read)?;
+        if read.is_some() {
+            guesses.push(Guess {
+                value: 0,
+                cost: 4,
+                what: Some(What::ReadsOver { place, lost: None }),
+            })?;
+        }
+        Ok(guesses)
+    }
+
+    /// Those of these that are under way when operation k is issued.
+    fn push_later(
+        &self,
+        guesses: &mut Vec<Guess>,
+        last: &[usize],
+        k: usize,
+        place: usize,
+    ) -> Result<(), NoMemory> {
+        let Some((cycle, _)) = self.sides.cycles(k) else {
+            return Ok(());
+        };
+        let mut count: usize = 0;
+        for u in last {
+            if let Some((issued, due)) = self.sides.cycles(*u)
+                && *u != k
+                && cycle < due
+                && count < MOST
+            {
+                let cost = if issued < cycle { 1 } else { 2 };
+                guesses.push(self.guess(*u, cost, What::ReadsBefore { place, late: *u }))?;
+                count = count.saturating_add(1);
+            }
+        }
+        Ok(())
+    }
+
+    /// Those of these that have arrived when operation k is issued, but for what it reads, the last to arrive first.
+    fn push_older(
+        &self,
+        alloc: Global,
+        guesses: &mut Vec<Guess>,
+        last: &[usize],
+        k: usize,
+        place: usize,
+        read: Option<usize>,
+    ) -> Result<(), NoMemory> {
+        let Some((cycle, _)) = self.sides.cycles(k) else {
+            return Ok(());
+        };
+        let mut older: Vec<(usize, usize)> = Vec::new(alloc);
+        for u in last {
+            if let Some((_, due)) = self.sides.cycles(*u)
+                && due <= cycle
+                && Some(*u) != read
+            {
+                older.push((due, *u))?;
+            }
+        }
+        older.sort_unstable();
+        for (_, u) in older.iter().rev().take(MOST) {
+            let what = What::ReadsOver {
+                place,
+                lost: Some(*u),
+            };
+            guesses.push(self.guess(*u, 3, what))?;
+        }
+        Ok(())
+    }
+}
+
+/// What an operation may have been meant to read at all its uses.
+#[derive(Clone, Copy, Debug)]
+pub(crate) struct Pick {
+    pub values: Values,
+    pub cost: u32,
+    /// What is said if it is so, of each use.
+    pub said: [Option<What>; 2],
+}
+
+impl Looking<'_> {
+    /// What operation k of the rows may have been meant to read.
+    pub(crate) fn picks(
+        &self,
+        alloc: Global,
+        graph: &Graph,
+        k: usize,
+    ) -> Result<Vec<Pick>, NoMemory> {
+        let mut picks = Vec::new(alloc);
+        match graph.sources(k) {
+            Sources::Nothing => picks.push(Pick {
+                values: Values::Nothing,
+                cost: 0,
+                said: [None, None],
+            })?,
+            Sources::One(only) => {
+                for guess in &self.guesses(alloc, k, 0, only)? {
+                    picks.push(Pick {
+                        values: Values::One(guess.value),
+                        cost: guess.cost,
+                        said: [guess.what, None],
+                    })?;
+                }
+            }
+            Sources::Two(left, right) => {
+                let left = self.guesses(alloc, k, 0, left)?;
+                let right = self.guesses(alloc, k, 1, right)?;
+                push_pairs(&mut picks, &left, &right)?;
+            }
+        }
+        Ok(picks)
+    }
+}
+
+/// Each of these with each of those.
+fn push_pairs(picks: &mut Vec<Pick>, left: &[Guess], right: &[Guess]) -> Result<(), NoMemory> {
+    for one in left {
+        for other in right {
+            picks.push(Pick {
+                values: Values::Two(one.value, other.value),
+                cost: one.cost.saturating_add(other.cost),
+                said: [one.what, other.what],
+            })?;
+        }
+    }
+    Ok(())
+}

@@ -1,0 +1,224 @@
+//! The operations of a block that have no counterpart in rows, as long as nobody is found to be one.
+
+use super::graph::{at, put};
+use super::mixing::{Values, mix, one_if};
+use super::terms::{Side, has};
+use iloc_ops::NoMemory;
+use iloc_validation::Sources;
+use std::alloc::Global;
+use std::collections::BTreeMap;
+
+/// How many of a line are looked at.
+const LOOKS: usize = 64;
+
+/// What differs in two things that it reads is so far.
+const FAR: u32 = 12;
+
+/// Operations in lines, one for each key, in order.
+#[derive(Drop)]
+struct Lines {
+    first: BTreeMap<u64, usize>,
+    // By operation the one behind it.
+    next: Vec<Option<usize>>,
+}
+
+impl Lines {
+    /// Lines for so many operations.
+    fn new(alloc: Global, count: usize) -> Result<Lines, NoMemory> {
+        Ok(Lines {
+            first: BTreeMap::new(alloc),
+            next: vec![in alloc; None; count]?,
+        })
+    }
+
+    /// The one behind an operation.
+    fn behind(&self, i: usize) -> Option<usize> {
+        match self.next.get(i) {
+            Some(next) => *next,
+            None => None,
+        }
+    }
+
+    /// Puts an operation first.
+    fn put_first(&mut self, key: u64, i: usize) -> Result<(), NoMemory> {
+        put(&mut self.next, i, self.first.get(&key).copied());
+        self.first.insert(key, i)?;
+        Ok(())
+    }
+
+    /// The first one that is free; those before it leave the line.
+    fn first_free(&mut self, key: u64, free: &[bool]) -> Result<Option<usize>, NoMemory> {
+        let Some(first) = self.first.get(&key).copied() else {
+            return Ok(None);
+        };
+        let mut found = Some(first);
+        for _ in 0..self.next.len() {
+            match found {
+                Some(i) if !has(free, i) => found = self.behind(i),
+                _ => break,
+            }
+        }
+        match found {
+            Some(i) if i == first => {}
+            Some(i) => {
+                self.first.insert(key, i)?;
+            }
+            None => {
+                self.first.remove(&key);
+            }
+        }
+        Ok(found)
+    }
+}
+
+/// What an operation of the rows is meant to be.
+#[derive(Clone, Copy, Debug)]
+pub(crate) struct Wanted {
+    pub label: u64,
+    pub place: u64,
+    pub values: Values,
+    pub readers: u64,
+}
+
+/// The operations of a block that have no counterpart, by what they have in common with others.
+#[derive(Drop)]
+pub(crate) struct Missing {
+    /// Whether it is one and nobody was found to be it.
+    pub free: Vec<bool>,
+    /// Whether the rows have too few of its label.
+    pub short: Vec<bool>,
+    by_term: Lines,
+    by_term_and_readers: Lines,
+    // By label and terms of what is read, whatever their places are.
+    by_reads: Lines,
+    by_label: Lines,
+}
+
+impl Missing {
+    /// Those of the block that have no counterpart.
+    pub(crate) fn of(
+        alloc: Global,
+        block: &Side,
+        short: Vec<bool>,
+        counterparts: &[bool],
+    ) -> Result<Missing, NoMemory> {
+        let count = block.terms.len();
+        let mut missing = Missing {
+            free: vec![in alloc; false; count]?,
+            short,
+            by_term: Lines::new(alloc, count)?,
+            by_term_and_readers: Lines::new(alloc, count)?,
+            by_reads: Lines::new(alloc, count)?,
+            by_label: Lines::new(alloc, count)?,
+        };
+        for i in (0..count).rev() {
+            if !has(counterparts, i) {
+                missing.put_first(block, i)?;
+            }
+        }
+        Ok(missing)
+    }
+
+    /// Puts an operation before the others.
+    fn put_first(&mut self, block: &Side, i: usize) -> Result<(), NoMemory> {
+        let values = Values::of(&block.terms, block.graph.sources(i));
+        put(&mut self.free, i, true);
+        self.by_term.put_first(at(&block.terms, i), i)?;
+        self.by_term_and_readers.put_first(block.both(i), i)?;
+        self.by_reads.put_first(block.term(i, 0, values), i)?;
+        self.by_label.put_first(at(&block.graph.labels, i), i)
+    }
+
+    /// The first of a term; one with these readers first.
+    pub(crate) fn of_term(&mut self, term: u64, readers: u64) -> Result<Option<usize>, NoMemory> {
+        let key = mix(term, readers);
+        match self.by_term_and_readers.first_free(key, &self.free)? {
+            Some(i) => Ok(Some(i)),
+            None => self.by_term.first_free(term, &self.free),
+        }
+    }
+
+    /// The first of a label that reads these, whatever its place is.
+    pub(crate) fn of_reads(&mut self, reads: u64) -> Result<Option<usize>, NoMemory> {
+        self.by_reads.first_free(reads, &self.free)
+    }
+
+    /// Somebody is found to be operation i.
+    pub(crate) fn take(&mut self, i: usize) {
+        put(&mut self.free, i, false);
+    }
+
+    /// The first of which the rows have too few.
+    pub(crate) fn first_short(&self) -> Option<usize> {
+        for (i, free) in self.free.iter().enumerate() {
+            if *free && has(&self.short, i) {
+                return Some(i);
+            }
+        }
+        None
+    }
+
+    /// Whether what an operation reads is missing itself, and of its label the rows have too few.
+    fn is_gone(&self, source: Option<usize>) -> bool {
+        source.is_some_and(|s| has(&self.free, s) && has(&self.short, s))
+    }
+
+    /// Whether all is gone that it reads otherwise than these, and something is.
+    fn are_gone(&self, sources: Sources, theirs: Values, these: Values) -> bool {
+        match (sources, theirs, these) {
+            (Sources::One(only), Values::One(one), Values::One(other)) => {
+                one != other && self.is_gone(only)
+            }
+            (Sources::Two(left, right), Values::Two(a, b), Values::Two(c, d)) => {
+                (a != c || b != d)
+                    && (a == c || self.is_gone(left))
+                    && (b == d || self.is_gone(right))
+            }
+            _ => false,
+        }
+    }
+
+    /// How far operation i of the block is from an operation of its label: by what it reads, by place, and by its readers.
+    fn distance(&self, block: &Side, i: usize, wanted: &Wanted) -> u32 {
+        let sources = block.graph.sources(i);
+        let theirs = Values::of(&block.terms, sources);
+        let differing = theirs.differing(wanted.values).saturating_mul(2);
+        let gone = one_if(self.are_gone(sources, theirs, wanted.values));
+        let place = one_if(at(&block.places, i) != wanted.place);
+        let readers = one_if(at(&block.readers, i) != wanted.readers);
+        differing
+            .saturating_sub(gone)
+            .saturating_mul(4)
+            .saturating_add(place.saturating_mul(2))
+            .saturating_add(readers)
+    }
+
+    /// The operation of its label that is nearest, if it differs in one thing that it reads at most, or is the only one.
+    pub(crate) fn nearest(
+        &mut self,
+        block: &Side,
+        wanted: &Wanted,
+    ) -> Result<Option<usize>, NoMemory> {
+        let mut here = self.by_label.first_free(wanted.label, &self.free)?;
+        let mut found: Option<(u32, usize)> = None;
+        let mut count: u32 = 0;
+        for _ in 0..LOOKS {
+            let Some(i) = here else {
+                break;
+            };
+            if has(&self.free, i) {
+                count = count.saturating_add(1);
+                let far = self.distance(block, i, wanted);
+                found = match found {
+                    Some((other, _)) if other <= far => found,
+                    _ => Some((far, i)),
+                };
+            }
+            here = self.by_label.behind(i);
+        }
+        Ok(match found {
+            Some((far, i)) if far < FAR || count == 1 => Some(i),
+            _ => None,
+        })
+    }
+}

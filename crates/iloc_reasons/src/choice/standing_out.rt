@@ -1,0 +1,112 @@
+//! Operations of rows that stand out though all compute what the block's do: others read them.
+
+use super::counts::Counts;
+use super::graph::{Graph, at, put};
+use super::mixing::mix;
+use super::terms::has;
+use iloc_ops::NoMemory;
+use iloc_validation::Sources;
+use std::alloc::Global;
+
+/// How many passes of numbers are made, forwards and backwards in turn.
+const PASSES: usize = 8;
+
+/// A sum over numbers, whatever their order is.
+fn total(numbers: &[u64]) -> u64 {
+    let mut sum: u64 = 0;
+    for number in numbers {
+        sum = sum.wrapping_add(mix(*number, 1));
+    }
+    sum
+}
+
+/// Numbers for the labels and places of operations.
+fn first_numbers(alloc: Global, graph: &Graph) -> Result<Vec<u64>, NoMemory> {
+    let mut numbers = Vec::with_capacity(alloc, graph.labels.len())?;
+    for (label, place) in graph.labels.iter().zip(graph.places.iter()) {
+        numbers.push(mix(*label, place.number()))?;
+    }
+    Ok(numbers)
+}
+
+/// The numbers after one more pass.
+fn passed(
+    alloc: Global,
+    graph: &Graph,
+    numbers: &[u64],
+    pass: usize,
+) -> Result<Vec<u64>, NoMemory> {
+    if pass % 2 == 0 {
+        graph.forwards(alloc, numbers)
+    } else {
+        graph.backwards(alloc, numbers)
+    }
+}
+
+/// Which operations of the rows have a number that is more often there than in the block.
+fn more_often(alloc: Global, block: &[u64], rows: &[u64]) -> Result<Vec<bool>, NoMemory> {
+    let here = Counts::of(alloc, block)?;
+    let there = Counts::of(alloc, rows)?;
+    let mut are = Vec::with_capacity(alloc, rows.len())?;
+    for number in rows {
+        are.push(here.get(*number) < there.get(*number))?;
+    }
+    Ok(are)
+}
+
+/// Which operations of the rows stand out after the first pass that tells them from the block's.
+fn told_apart(alloc: Global, block: &Graph, rows: &Graph) -> Result<Option<Vec<bool>>, NoMemory> {
+    let mut here = first_numbers(alloc, block)?;
+    let mut there = first_numbers(alloc, rows)?;
+    for pass in 0..PASSES {
+        if total(&here) != total(&there) {
+            break;
+        }
+        here = passed(alloc, block, &here, pass)?;
+        there = passed(alloc, rows, &there, pass)?;
+    }
+    if total(&here) == total(&there) {
+        return Ok(None);
+    }
+    Ok(Some(more_often(alloc, &here, &there)?))
+}
+
+/// Operations of the rows that stand out, and that none reads that does, in the order of issue.
+pub(crate) fn odd(alloc: Global, block: &Graph, rows: &Graph) -> Result<Vec<usize>, NoMemory> {
+    let mut found = Vec::new(alloc);
+    let Some(are) = told_apart(alloc, block, rows)? else {
+        return Ok(found);
+    };
+    let mut are_read = vec![in alloc; false; are.len()]?;
+    for (k, sources) in rows.sources.iter().enumerate() {
+        if has(&are, k) {
+            note_read(&mut are_read, *sources);
+        }
+    }
+    for row in rows.rows {
+        for slot in [row.zero, row.one] {
+            if let Some(k) = slot
+                && has(&are, k)
+                && !has(&are_read, k)
+            {
+                found.push(k)?;
+            }
+        }
+    }
+    Ok(found)
+}
+
+/// Notes that these are read.
+fn note_read(are_read: &mut Vec<bool>, sources: Sources) {
+    let (left, right) = match sources {
+        Sources::Nothing => (None, None),
+        Sources::One(only) => (only, None),
+        Sources::Two(left, right) => (left, right),
+    };
+    if let Some(s) = left {
+        put(are_read, s, true);
+    }
+    if let Some(s) = right {
+        put(are_read, s, true);
+    }
+}

@@ -1,0 +1,132 @@
+//! Which operations of a block have no counterpart in rows, by what they compute.
+
+use super::counts::Counts;
+use super::graph::{Graph, at, put};
+use super::mixing::{Values, mix};
+use iloc_ops::NoMemory;
+use iloc_timed::Kind;
+use std::alloc::Global;
+
+/// The operations of one side, with numbers for what they compute and who reads them.
+#[derive(Drop)]
+pub(crate) struct Side<'a> {
+    pub graph: Graph<'a>,
+    /// By operation its place as a number, or 0 where places don't count.
+    pub places: Vec<u64>,
+    /// By operation a number for its label, its place, and the terms of what it reads.
+    pub terms: Vec<u64>,
+    /// By operation a number for its label and for who reads it.
+    pub readers: Vec<u64>,
+}
+
+impl<'a> Side<'a> {
+    /// The numbers of one side, in which places count or don't.
+    pub(crate) fn of(
+        alloc: Global,
+        graph: Graph<'a>,
+        places_count: bool,
+    ) -> Result<Side<'a>, NoMemory> {
+        let mut places = Vec::with_capacity(alloc, graph.ops.len())?;
+        let mut numbers = Vec::with_capacity(alloc, graph.ops.len())?;
+        for (label, place) in graph.labels.iter().zip(graph.places.iter()) {
+            let place = if places_count { place.number() } else { 0 };
+            places.push(place)?;
+            numbers.push(mix(*label, place))?;
+        }
+        let terms = graph.forwards(alloc, &numbers)?;
+        let readers = graph.backwards(alloc, &graph.labels)?;
+        Ok(Side {
+            graph,
+            places,
+            terms,
+            readers,
+        })
+    }
+
+    /// The term of operation k, with a place and where it reads these.
+    pub(crate) fn term(&self, k: usize, place: u64, values: Values) -> u64 {
+        values.behind(mix(at(&self.graph.labels, k), place))
+    }
+
+    /// The term of operation k and who reads it, as one number.
+    pub(crate) fn both(&self, k: usize) -> u64 {
+        mix(at(&self.terms, k), at(&self.readers, k))
+    }
+}
+
+/// A sum over the stores and outputs of one side, equal where they count the same without registers.
+pub(crate) fn effects(graph: &Graph) -> u64 {
+    let mut sum: u64 = 0;
+    for (op, label) in graph.ops.iter().zip(graph.labels.iter()) {
+        if matches!(Kind::of(op), Kind::Store | Kind::Output) {
+            sum = sum.wrapping_add(mix(*label, 1));
+        }
+    }
+    sum
+}
+
+/// Operations that have a counterpart of the same term and readers, and how many of each term have none.
+#[derive(Drop)]
+struct Matched {
+    are: Vec<bool>,
+    others: Counts,
+}
+
+/// Which operations of a side have a counterpart of the same term and readers on the other.
+fn match_readers(alloc: Global, side: &Side, other: &Side) -> Result<Matched, NoMemory> {
+    let mut there = Counts::none(alloc);
+    for k in 0..other.terms.len() {
+        there.add(other.both(k))?;
+    }
+    let mut are = Vec::with_capacity(alloc, side.terms.len())?;
+    let mut others = Counts::none(alloc);
+    for k in 0..side.terms.len() {
+        let is = there.take(side.both(k))?;
+        are.push(is)?;
+        if !is {
+            others.add(at(&side.terms, k))?;
+        }
+    }
+    Ok(Matched { are, others })
+}
+
+/// Which operations have a counterpart of the same term.
+#[derive(Drop)]
+pub(crate) struct Counterparts {
+    pub block: Vec<bool>,
+    pub rows: Vec<bool>,
+}
+
+impl Counterparts {
+    /// Those of one term and the same readers are counterparts first; of the others the first ones of the rows have one, and
+    /// the last ones of the block.
+    pub(crate) fn of(alloc: Global, block: &Side, rows: &Side) -> Result<Counterparts, NoMemory> {
+        let Matched {
+            are: mut here,
+            others: mut left_here,
+        } = match_readers(alloc, block, rows)?;
+        let Matched {
+            are: mut there,
+            others: mut left_there,
+        } = match_readers(alloc, rows, block)?;
+        for i in (0..here.len()).rev() {
+            if !has(&here, i) && left_there.take(at(&block.terms, i))? {
+                put(&mut here, i, true);
+            }
+        }
+        for k in 0..there.len() {
+            if !has(&there, k) && left_here.take(at(&rows.terms, k))? {
+                put(&mut there, k, true);
+            }
+        }
+        Ok(Counterparts {
+            block: here,
+            rows: there,
+        })
+    }
+}
+
+/// Whether there is such a place, and it holds.
+pub(crate) fn has(list: &[bool], place: usize) -> bool {
+    list.get(place).copied().unwrap_or(false)
+}

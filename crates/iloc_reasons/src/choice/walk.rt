@@ -1,0 +1,270 @@
+//! The operations of rows one after another, each with what it is meant to be.
+
+use super::Choice;
+use super::graph::{Place, at, put};
+use super::guesses::{Definers, Looking, Pick};
+use super::missing::{Missing, Wanted};
+use super::mixing::{Values, mix};
+use super::terms::{Side, has};
+use crate::claim::{Claim, What};
+use crate::sides::Sides;
+use iloc_ops::NoMemory;
+use iloc_timed::{Kind, Row};
+use std::alloc::Global;
+
+/// A change that is as unlikely isn't thought of.
+const DEAR: u32 = 6;
+
+/// How much less likely it is that an operation is in another place.
+const MOVED: u32 = 2;
+
+/// The cheapest change that makes an operation one that is missing.
+#[derive(Clone, Copy, Debug)]
+struct Change {
+    cost: u32,
+    /// The operation of the block that it is then.
+    i: usize,
+    said: [Option<What>; 2],
+    moved: bool,
+}
+
+/// The rows, as far as they were gone through.
+#[derive(Drop)]
+pub(crate) struct Walk<'a> {
+    pub alloc: Global,
+    pub sides: &'a Sides<'a>,
+    pub block: &'a Side<'a>,
+    pub rows: &'a Side<'a>,
+    /// By operation of the rows whether it has a counterpart of its term.
+    pub counterparts: &'a [bool],
+    pub missing: Missing,
+    pub definers: Definers,
+    /// By operation of the rows what it is meant to bring.
+    pub meant: Vec<u64>,
+    /// The store that was issued last.
+    pub store: Option<usize>,
+    /// The stores and the outputs of the rows, as they are issued.
+    pub stores: Vec<usize>,
+    pub outputs: Vec<usize>,
+    pub claims: Vec<Claim>,
+    /// The first operation that is like none of the block.
+    pub unlike: Option<usize>,
+}
+
+impl Walk<'_> {
+    /// Something may be a fact of operation k.
+    fn claim(&mut self, k: usize, what: What) -> Result<(), NoMemory> {
+        let claim = Claim { k, what };
+        match self.claims.last() {
+            Some(last) if *last == claim => {}
+            _ => self.claims.push(claim)?,
+        }
+        Ok(())
+    }
+
+    /// Operation k is meant to be operation i of the block.
+    fn take(&mut self, k: usize, i: usize) {
+        self.missing.take(i);
+        put(&mut self.meant, k, at(&self.block.terms, i));
+    }
+
+    /// The place of operation k as a number.
+    fn place(&self, k: usize) -> u64 {
+        at(&self.rows.places, k)
+    }
+
+    /// Goes on to what is issued in a row.
+    pub(crate) fn pass(&mut self, row: &Row) -> Result<(), NoMemory> {
+        for slot in [row.zero, row.one] {
+            if let Some(k) = slot {
+                self.definers.note(self.sides.schedule.ops(), k)?;
+            }
+        }
+        for slot in [row.zero, row.one] {
+            if let Some(k) = slot {
+                self.wait(k)?;
+                self.step(k)?;
+            }
+        }
+        Ok(())
+    }
+
+    /// Whether a store is under way when operation k is issued.
+    fn is_under_way(&self, store: usize, k: usize) -> bool {
+        match (self.sides.cycles(store), self.sides.cycles(k)) {
+            (Some((_, due)), Some((cycle, _))) => cycle < due,
+            _ => false,
+        }
+    }
+
+    /// Says it if load or output k is issued while the last store is under way.
+    fn wait(&mut self, k: usize) -> Result<(), NoMemory> {
+        match (self.rows.graph.kind(k), self.store) {
+            (Kind::Store, _) => self.store = Some(k),
+            (Kind::Load | Kind::Output, Some(store)) if self.is_under_way(store, k) => {
+                self.claim(k, What::While { store })?;
+            }
+            _ => {}
+        }
+        Ok(())
+    }
+
+    /// Finds what operation k is meant to be, and what is said of it.
+    fn step(&mut self, k: usize) -> Result<(), NoMemory> {
+        let values = Values::of(&self.meant, self.rows.graph.sources(k));
+        let own = self.rows.term(k, self.place(k), values);
+        if own == at(&self.rows.terms, k) && has(self.counterparts, k) {
+            put(&mut self.meant, k, own);
+            return Ok(());
+        }
+        if let Some(i) = self.missing.of_term(own, at(&self.rows.readers, k))? {
+            self.take(k, i);
+            return Ok(());
+        }
+        if let Some(change) = self.cheapest(k)? {
+            return self.changed(k, change);
+        }
+        match self.counterpart(k, values)? {
+            Some(i) => {
+                self.claim(k, What::For { op: i })?;
+                self.take(k, i);
+            }
+            None => {
+                self.unlike = self.unlike.or(Some(k));
+                self.claim(k, What::LikeNone)?;
+                put(&mut self.meant, k, mix(own, own));
+            }
+        }
+        Ok(())
+    }
+
+    /// The missing operation that operation k is if its operands are exchanged, or else the nearest one of its label.
+    fn counterpart(&mut self, k: usize, values: Values) -> Result<Option<usize>, NoMemory> {
+        if let Values::Two(left, right) = values
+            && left != right
+        {
+            let exchanged = self.rows.term(k, self.place(k), Values::Two(right, left));
+            if let Some(i) = self.missing.of_term(exchanged, at(&self.rows.readers, k))? {
+                return Ok(Some(i));
+            }
+        }
+        let wanted = Wanted {
+            label: at(&self.rows.graph.labels, k),
+            place: self.place(k),
+            values,
+            readers: at(&self.rows.readers, k),
+        };
+        self.missing.nearest(self.block, &wanted)
+    }
+
+    /// The cheapest change that makes operation k one that is missing.
+    fn cheapest(&mut self, k: usize) -> Result<Option<Change>, NoMemory> {
+        let looking = Looking {
+            sides: self.sides,
+            definers: &self.definers,
+            meant: &self.meant,
+        };
+        let picks = looking.picks(self.alloc, &self.rows.graph, k)?;
+        let mut best = None;
+        for pick in &picks {
+            best = self.cheaper(k, pick, best)?;
+        }
+        Ok(best)
+    }
+
+    /// The cheaper one of a change and of those by which operation k reads these.
+    fn cheaper(
+        &mut self,
+        k: usize,
+        pick: &Pick,
+        best: Option<Change>,
+    ) -> Result<Option<Change>, NoMemory> {
+        let most = match best {
+            Some(change) => change.cost,
+            None => DEAR,
+        };
+        if pick.cost >= most {
+            return Ok(best);
+        }
+        let term = self.rows.term(k, self.place(k), pick.values);
+        if let Some(i) = self.missing.of_term(term, at(&self.rows.readers, k))? {
+            return Ok(Some(Change {
+                cost: pick.cost,
+                i,
+                said: pick.said,
+                moved: false,
+            }));
+        }
+        let cost = pick.cost.saturating_add(MOVED);
+        let reads = self.rows.term(k, 0, pick.values);
+        match self.missing.of_reads(reads)? {
+            Some(i) if cost < most && at(&self.block.places, i) != self.place(k) => {
+                Ok(Some(Change {
+                    cost,
+                    i,
+                    said: pick.said,
+                    moved: true,
+                }))
+            }
+            _ => Ok(best),
+        }
+    }
+
+    /// Operation k is meant to be one of the block by this change.
+    fn changed(&mut self, k: usize, change: Change) -> Result<(), NoMemory> {
+        for said in change.said {
+            if let Some(what) = said {
+                self.claim(k, what)?;
+            }
+        }
+        if change.moved {
+            let place = self.block.graph.place(change.i);
+            if let Some(other) = self.passed(k, place) {
+                self.claim(k, What::Beside { other })?;
+            }
+        }
+        self.take(k, change.i);
+        Ok(())
+    }
+
+    /// The store or output that operation k is on the wrong side of, where this is its place.
+    fn passed(&self, k: usize, wanted: Place) -> Option<usize> {
+        let here = self.rows.graph.place(k);
+        if self.rows.graph.kind(k) == Kind::Store {
+            return self.stores.get(wanted.stores).copied();
+        }
+        if here.stores == wanted.stores {
+            return self.outputs.get(wanted.outputs).copied();
+        }
+        let place = if here.stores < wanted.stores {
+            wanted.stores.saturating_sub(1)
+        } else {
+            wanted.stores
+        };
+        self.stores.get(place).copied()
+    }
+
+    /// What was claimed; of those that are missing the first that is short is named.
+    pub(crate) fn into_choice(self) -> Choice {
+        let Walk {
+            alloc: _,
+            sides: _,
+            block: _,
+            rows: _,
+            counterparts: _,
+            missing,
+            definers: _,
+            meant: _,
+            store: _,
+            stores: _,
+            outputs: _,
+            claims,
+            unlike,
+        } = self;
+        Choice {
+            claims,
+            left_out: missing.first_short(),
+            added: unlike,
+        }
+    }
+}

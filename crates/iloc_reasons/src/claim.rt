@@ -1,0 +1,220 @@
+//! What may be a fact of rows, by the numbers of operations, and whether it is one.
+ghost use Rattle.std.specs.Prelude.{◌≡◌, ◌≢◌, ◌<◌, ◌≤◌, ◌⊎◌, true, Some, IfSome, slice_get};
+ghost use Rattle.iloc_ops.specs.Registers.{used};
+ghost use Rattle.iloc_timed.specs.declared.kind.Kind.TheVariants as kinds;
+ghost use Rattle.iloc_sched.specs.Delays.{keeps_order};
+ghost use Rattle.iloc_reasons.specs.Facts.{IsFact, HasBeenThere};
+ghost use Rattle.iloc_reasons.specs.Steps.Sides.{AreRead, source_at};
+
+use crate::fact::Fact;
+use crate::sides::Sides;
+use iloc_ops::{Op, Reg, defines, uses};
+use iloc_timed::Kind;
+use iloc_validation::{Issue, Sources, have_one_label};
+
+/// What may be a fact of operation k of rows.
+#[derive(Clone, Copy, Debug, PartialEq, Eq)]
+pub(crate) struct Claim {
+    pub k: usize,
+    pub what: What,
+}
+
+/// What may be said of an operation.
+#[derive(Clone, Copy, Debug, PartialEq, Eq)]
+pub(crate) enum What {
+    /// It is issued while this store is under way.
+    While { store: usize },
+    /// It reads at this place a register for which this result is under way.
+    ReadsBefore { place: usize, late: usize },
+    /// It reads at this place what came over this result, or over the start of the register.
+    ReadsOver { place: usize, lost: Option<usize> },
+    /// It is on the wrong side of this one.
+    Beside { other: usize },
+    /// It stands for this one of the block.
+    For { op: usize },
+    /// None of the block is like it.
+    LikeNone,
+    /// It is to be looked at.
+    See,
+}
+
+/// Whether an operation of this kind waits for the stores that are under way.
+fn waits(kind: Kind) -> bool
+    ensures { result ≡ true → (kind ≡ kinds.Load) ⊎ (kind ≡ kinds.Output) }
+{
+    matches!(kind, Kind::Load | Kind::Output)
+}
+
+/// Whether the second has to come after the first where it stands behind it in the block.
+fn keep_order(first: Kind, second: Kind) -> bool
+    ensures { result ≡ keeps_order first second }
+{
+    match second {
+        Kind::Store => first != Kind::Mult && first != Kind::Other,
+        Kind::Output => first == Kind::Output,
+        _ => false,
+    }
+}
+
+/// The register that an operation reads at a place, left to right.
+fn register_at(op: &Op, place: usize) -> Option<Reg>
+    ensures { IfSome result (λ register. slice_get (used op.now) place ≡ Some register) }
+{
+    uses(op).get(place).copied()
+}
+
+/// What is read at a place, left to right.
+fn source_at(sources: Sources, place: usize) -> Option<usize>
+    ensures { result ≡ source_at sources place }
+{
+    match (sources, place) {
+        (Sources::One(only), 0) => only,
+        (Sources::Two(left, _), 0) => left,
+        (Sources::Two(_, right), 1) => right,
+        _ => None,
+    }
+}
+
+/// Load or output k is issued while a store is under way.
+fn under_way(sides: &Sides, k: usize, store: usize) -> Option<Fact>
+    requires { AreRead sides.now.latencies.now sides.now.schedule.now.ops sides.now.schedule.now.rows sides.now.readings.now }
+    ensures { IfSome result (IsFact sides.now.latencies.now sides.now.block.now sides.now.schedule.now.ops
+        sides.now.schedule.now.rows) }
+{
+    let issue = sides.issue(k)?;
+    let it = sides.issue(store)?;
+    let over = sides.due(store)?;
+    if Kind::of(&it.op) == Kind::Store
+        && waits(Kind::of(&issue.op))
+        && it.cycle <= issue.cycle
+        && issue.cycle < over
+    {
+        return Some(Fact::UnderWay {
+            issue,
+            store: it,
+            due: over,
+        });
+    }
+    None
+}
+
+/// Operation k reads at a place a register for which the result of another is under way.
+fn brings(sides: &Sides, k: usize, place: usize, late: usize) -> Option<Fact>
+    requires { AreRead sides.now.latencies.now sides.now.schedule.now.ops sides.now.schedule.now.rows sides.now.readings.now }
+    ensures { IfSome result (IsFact sides.now.latencies.now sides.now.block.now sides.now.schedule.now.ops
+        sides.now.schedule.now.rows) }
+{
+    let issue = sides.issue(k)?;
+    let register = register_at(&issue.op, place)?;
+    let it = sides.issue(late)?;
+    let arrives = sides.due(late)?;
+    if late != k
+        && defines(&it.op) == Some(register)
+        && it.cycle <= issue.cycle
+        && issue.cycle < arrives
+    {
+        return Some(Fact::Brings {
+            issue,
+            register,
+            late: it,
+            due: arrives,
+        });
+    }
+    None
+}
+
+/// What a register had by a cycle, other than the result of operation j: that of another one, or none at the start.
+fn been_there(
+    sides: &Sides,
+    cycle: usize,
+    register: Reg,
+    j: usize,
+    lost: Option<usize>,
+) -> Option<Option<Issue>>
+    requires { AreRead sides.now.latencies.now sides.now.schedule.now.ops sides.now.schedule.now.rows sides.now.readings.now }
+    ensures { IfSome result (HasBeenThere sides.now.latencies.now sides.now.schedule.now.ops sides.now.schedule.now.rows
+        cycle register j) }
+{
+    let Some(l) = lost else {
+        return Some(None);
+    };
+    let it = sides.issue(l)?;
+    let due = sides.due(l)?;
+    if l != j && defines(&it.op) == Some(register) && due <= cycle {
+        return Some(Some(it));
+    }
+    None
+}
+
+/// Operation k reads at a place a result that came over what was there.
+fn replaced(sides: &Sides, k: usize, place: usize, lost: Option<usize>) -> Option<Fact>
+    requires { AreRead sides.now.latencies.now sides.now.schedule.now.ops sides.now.schedule.now.rows sides.now.readings.now }
+    ensures { IfSome result (IsFact sides.now.latencies.now sides.now.block.now sides.now.schedule.now.ops
+        sides.now.schedule.now.rows) }
+{
+    let issue = sides.issue(k)?;
+    let register = register_at(&issue.op, place)?;
+    let reading = sides.reading(k)?;
+    let j = source_at(reading.sources, place)?;
+    let from = sides.issue(j)?;
+    let lost = been_there(sides, issue.cycle, register, j, lost)?;
+    Some(Fact::Replaced {
+        issue,
+        register,
+        from,
+        lost,
+    })
+}
+
+/// Memory or outputs fix in which order operation k and another one come.
+fn ordered(sides: &Sides, k: usize, other: usize) -> Option<Fact>
+    requires { AreRead sides.now.latencies.now sides.now.schedule.now.ops sides.now.schedule.now.rows sides.now.readings.now }
+    ensures { IfSome result (IsFact sides.now.latencies.now sides.now.block.now sides.now.schedule.now.ops
+        sides.now.schedule.now.rows) }
+{
+    let issue = sides.issue(k)?;
+    let it = sides.issue(other)?;
+    let one = Kind::of(&issue.op);
+    let two = Kind::of(&it.op);
+    if (keep_order(one, two) || keep_order(two, one)) && issue.cycle != it.cycle {
+        return Some(Fact::Order { issue, other: it });
+    }
+    None
+}
+
+/// Operation k has the label of operation i of the block.
+fn stands_for(sides: &Sides, k: usize, i: usize) -> Option<Fact>
+    requires { AreRead sides.now.latencies.now sides.now.schedule.now.ops sides.now.schedule.now.rows sides.now.readings.now }
+    ensures { IfSome result (IsFact sides.now.latencies.now sides.now.block.now sides.now.schedule.now.ops
+        sides.now.schedule.now.rows) }
+{
+    let issue = sides.issue(k)?;
+    let op = sides.block.get(i)?;
+    if have_one_label(&issue.op, op) {
+        return Some(Fact::For { issue, op: *op });
+    }
+    None
+}
+
+impl Claim {
+    /// The fact that it claims, if it is one.
+    pub(crate) fn fact(self, sides: &Sides) -> Option<Fact>
+        requires { AreRead sides.now.latencies.now sides.now.schedule.now.ops sides.now.schedule.now.rows sides.now.readings.now }
+        ensures { IfSome result (IsFact sides.now.latencies.now sides.now.block.now sides.now.schedule.now.ops
+            sides.now.schedule.now.rows) }
+    {
+        let k = self.k;
+        match self.what {
+            What::While { store } => under_way(sides, k, store),
+            What::ReadsBefore { place, late } => brings(sides, k, place, late),
+            What::ReadsOver { place, lost } => replaced(sides, k, place, lost),
+            What::Beside { other } => ordered(sides, k, other),
+            What::For { op } => stands_for(sides, k, op),
+            What::LikeNone => None,
+            What::See => match sides.issue(k) {
+                Some(issue) => Some(Fact::See { issue }),
+                None => None,
+            },
+        }
+    }
+}

@@ -1,0 +1,11 @@
+//! Why rows that somebody made aren't issued as their block asks for: facts of the rows.
+#![tactic(auto)]
+
+mod choice;
+mod claim;
+mod fact;
+mod reasons;
+mod sides;
+
+pub use fact::Fact;
+pub use reasons::{MOST_FACTS, Reasons, reasons_of};

@@ -1,0 +1,123 @@
+//! Why rows aren't issued as their block asks for.
+ghost use Rattle.std.specs.Prelude.{◌≡◌, ◌≤◌, length, IfOk, All};
+ghost use Rattle.iloc_sched.specs.Renaming.{without_nops as ops_of};
+ghost use Rattle.iloc_validation.specs.Lawfulness.{AreLeftOut, AreAdded};
+ghost use Rattle.iloc_reasons.specs.Facts.{IsFact};
+ghost use Rattle.iloc_reasons.specs.Reasons.{AreReasons};
+ghost use Rattle.iloc_reasons.specs.Steps.Sides.{AreRead};
+
+use crate::choice::{Choice, chosen};
+use crate::claim::Claim;
+use crate::fact::Fact;
+use crate::sides::Sides;
+use iloc_ops::{Block, NoMemory, Op};
+use iloc_timed::{Latencies, Schedule};
+use iloc_validation::{Added, LeftOut, givens, readings, without_counterpart, without_nops};
+use std::alloc::Global;
+
+/// The most facts that are listed.
+pub const MOST_FACTS: usize = 8;
+
+/// Why rows aren't issued as their block asks for.
+#[derive(Debug, Drop)]
+pub struct Reasons {
+    /// The operations of the block that have no counterpart.
+    pub left_out: Option<LeftOut>,
+    /// The operations of the rows that have none.
+    pub added: Option<Added>,
+    /// Facts of the rows, by row, at most `MOST_FACTS`.
+    pub facts: Vec<Fact>,
+    /// How many more were found.
+    pub more: usize,
+}
+
+/// Facts, and how many more there are.
+#[derive(Drop)]
+struct FirstFacts {
+    facts: Vec<Fact>,
+    more: usize,
+}
+
+/// The first facts of what is claimed.
+fn first_facts(alloc: Global, sides: &Sides, claims: &[Claim]) -> Result<FirstFacts, NoMemory>
+    requires { AreRead sides.now.latencies.now sides.now.schedule.now.ops sides.now.schedule.now.rows sides.now.readings.now }
+    ensures facts { IfOk result (λ listed. All (IsFact sides.now.latencies.now sides.now.block.now sides.now.schedule.now.ops
+        sides.now.schedule.now.rows) listed.facts.items) }
+    ensures few { IfOk result (λ listed. length listed.facts.items ≤ 8) }
+{
+    let mut facts = Vec::new(alloc);
+    let mut more: usize = 0;
+    for claim in claims {
+        if let Some(fact) = claim.fact(sides) {
+            if facts.len() < MOST_FACTS {
+                facts.push(fact)?;
+            } else {
+                more = more.saturating_add(1);
+            }
+        }
+    }
+    Ok(FirstFacts { facts, more })
+}
+
+/// The operations of the block that have no counterpart, named by this one, if it is short.
+fn left_out(alloc: Global, sides: &Sides, named: Option<usize>) -> Result<Option<LeftOut>, NoMemory>
+    ensures { IfOk result (AreLeftOut sides.now.block.now sides.now.schedule.now.ops) }
+{
+    match without_counterpart(alloc, sides.block, sides.schedule.ops(), named)? {
+        Some(it) => Ok(Some(LeftOut {
+            count: it.count,
+            op: sides.block[it.number],
+        })),
+        None => Ok(None),
+    }
+}
+
+/// The operations of the rows that have no counterpart, named by this one, if it is short.
+fn added(alloc: Global, sides: &Sides, named: Option<usize>) -> Result<Option<Added>, NoMemory>
+    requires { AreRead sides.now.latencies.now sides.now.schedule.now.ops sides.now.schedule.now.rows sides.now.readings.now }
+    ensures { IfOk result (AreAdded sides.now.block.now sides.now.schedule.now.ops sides.now.schedule.now.rows) }
+{
+    match without_counterpart(alloc, sides.schedule.ops(), sides.block, named)? {
+        Some(it) => Ok(Some(Added {
+            count: it.count,
+            issue: sides.issued(it.number),
+        })),
+        None => Ok(None),
+    }
+}
+
+/// Why rows that somebody made for a block aren't issued as it asks for: which operations are left out or added, and facts
+/// of the rows, by row. Which facts are listed is a choice that promises nothing; it names the operations at fault.
+///
+/// Promise: what is said to be left out or added is, and each line is a fact of the rows.
+pub fn reasons_of(
+    alloc: Global,
+    block: &Block,
+    theirs: &Schedule,
+    latencies: &Latencies,
+) -> Result<Reasons, NoMemory>
+    ensures { IfOk result (AreReasons latencies.now (ops_of block.now.ops) theirs.now.ops theirs.now.rows) }
+{
+    let ops = without_nops(alloc, block)?;
+    let givens = givens(alloc, &ops)?;
+    let readings = readings(alloc, theirs, latencies)?;
+    let sides = Sides {
+        block: &ops,
+        givens: &givens,
+        schedule: theirs,
+        readings: &readings,
+        latencies,
+    };
+    let Choice {
+        claims,
+        left_out: missing,
+        added: extra,
+    } = chosen(alloc, &sides)?;
+    let FirstFacts { facts, more } = first_facts(alloc, &sides, &claims)?;
+    Ok(Reasons {
+        left_out: left_out(alloc, &sides, missing)?,
+        added: added(alloc, &sides, extra)?,
+        facts,
+        more,
+    })
+}
