@@ -208,15 +208,16 @@ class Answers(Repository):
         self.assertEqual(self.ran("run", stdin=folder), (7, "build 1: run: \n", "cat: -: Is a directory\n"))
 
     def test_terminal(self):
-        reads = "ilocfarm: reading blocks from the terminal; Ctrl-D on a line of its own ends them\n"
-        for words, is_told in ((["run"], True), (["run", "--help"], False), (["-h"], False), ([], False),
-                               (["--version"], False), (["-V"], False), (["help", "run"], False)):
+        for words, told in ((["run"], "blocks"), (["check"], "blocks and rows"), (["check", "--task", "/t"], "rows"),
+                            (["explain", "--task=/t"], "rows"), (["run", "--help"], ""), (["check", "-h", "--task=/t"], ""), (["-h"], ""),
+                            ([], ""), (["--version"], ""), (["-V"], ""), (["help", "run"], "")):
             with self.subTest(words), terminal() as (screen, slave):
                 started = self.start(*words, stdin=slave)
                 os.write(screen.master, b"text\n\x04")
                 _, out, err = self.ended(started)
-                self.assertEqual(reads in err, is_told)
-                self.assertEqual(out == "unproved: run: text\n", is_told)
+                reads = f"ilocfarm: reading {told} from the terminal; Ctrl-D on a line of its own ends them\n"
+                self.assertEqual("".join(it for it in err.splitlines(True) if "reading" in it), reads if told else "")
+                self.assertEqual(out == f"unproved: {' '.join(words)}: text\n", bool(told))
         self.builds(1)
         with self.subTest("the program says it itself"), terminal() as (screen, slave):
             started = self.start("run", stdin=slave)
