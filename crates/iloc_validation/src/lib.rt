@@ -1,6 +1,7 @@
 //! Schedules by the book: whether rows that somebody made are a schedule of a block, whatever registers they name.
 #![tactic(auto)]
 
+mod backtracking;
 mod colours;
 mod label;
 mod lawfulness;

@@ -1,0 +1,54 @@
+//! The search for a pairing of the operations of rows with those of a block. Nothing is promised of what it finds,
+//! since each pairing is verified.
+//!
+//! The operations of a pair have one colour, and what they read is paired too. Once nothing more follows, the search
+//! looks for the first pair with a reader that has no partner, and tries the readers of the other one, first that at
+//! the same place in the order of colours; where none leads on, it takes its last choice back. Once there is no such
+//! reader, all pairs are kept, since parts that don't hang together and are alike may be exchanged, and it goes on with
+//! the next operation of the block.
+
+ghost use Rattle.std.specs.Prelude.{◌≡◌, length, IfOk, IfSome};
+
+mod graph;
+mod pairs;
+mod run;
+
+use self::graph::Graph;
+use self::run::Search;
+use crate::colours::Coloured;
+use crate::pairing::Pairing;
+use crate::verification::Sides;
+use iloc_ops::NoMemory;
+use std::alloc::Global;
+
+/// How many steps it takes for each operation before it gives up. Blocks that aren't made to slow it take about 10.
+const STEPS: usize = 1000;
+
+/// A pairing of the operations of rows with those of a block that have these colours, if one is found.
+pub(crate) fn found_pairing(
+    alloc: Global,
+    sides: &Sides,
+    colours: &Coloured,
+) -> Result<Option<Pairing>, NoMemory>
+    ensures origins { IfOk result (λ found. IfSome found (λ it.
+        length it.origin.items ≡ length sides.now.readings.now)) }
+    ensures partners { IfOk result (λ found. IfSome found (λ it.
+        length it.partner.items ≡ length sides.now.block.now)) }
+{
+    let mut reads = Vec::with_capacity(alloc, sides.readings.len())?;
+    for reading in sides.readings {
+        reads.push(reading.sources)?;
+    }
+    let block = Graph::of(alloc, sides.givens, &colours.here)?;
+    let rows = Graph::of(alloc, &reads, &colours.there)?;
+    let mut search = Search::new(alloc, &block, &rows)?;
+    if !search.run(STEPS.saturating_mul(sides.block.len()))? {
+        return Ok(None);
+    }
+    let found = search.into_pairing();
+    if found.origin.len() == sides.readings.len() && found.partner.len() == sides.block.len() {
+        Ok(Some(found))
+    } else {
+        Ok(None)
+    }
+}
