@@ -1,10 +1,17 @@
 """The examples in the README: each command that runs ./ilocfarm, and what is shown below it."""
 import os
+import re
 
 from harness.place import Place, shown_on
+
+PHONE = 44      # columns
 
 
 class Readme(Place):
     def test_examples(self):
         os.symlink("bin/ilocfarm", self.path("ilocfarm"))
         self.follows([it for it in shown_on("README.md") if "./ilocfarm" in it[0]])
+
+    def test_code_fits_a_phone(self):
+        code = re.findall(r"^    (.+)$", self.text("README.md"), re.MULTILINE)
+        self.expect("lines that are too long", ([it for it in code if len(it) > PHONE], bool(code)), ([], True))
