@@ -17,7 +17,7 @@ use iloc_ops::{Block, MAX_OPS, NoMemory, Op};
 use iloc_rows::{Proposal, Unread};
 use iloc_sched::Heuristic;
 use iloc_timed::{BuildFault, Latencies, MAX_ROWS, Row, Schedule, cycles_of};
-use iloc_validation::{Reason, own_rows};
+use iloc_validation::{Reason, own_rows_or_reason};
 use std::alloc::Global;
 
 /// What is found of the rows that are proposed for a block.
@@ -77,7 +77,7 @@ fn push_said(
         × IsSaidOf is_lawful heuristic latencies.now block.now.ops theirs.now.ops theirs.now.rows entry
         × (text.new.items ≡ text.old.items ++ entry)) }
 {
-    match own_rows(alloc, block, theirs, names, latencies)? {
+    match own_rows_or_reason(alloc, block, theirs, names, latencies)? {
         Ok(own) => {
             let (schedule, issued) = (&own.schedule, &own.issued);
             push_explanation(

@@ -4,7 +4,7 @@ use Rattle.iloc_ops.specs.declared.op.Op.{Op}
 use Rattle.iloc_meaning.specs.Trace.{op_at}
 use Rattle.iloc_meaning.proofs.Cases.{by_bool}
 use Rattle.iloc_validation.specs.ByTheBook.{label}
-use Rattle.iloc_validation.specs.Lawfulness.{are_alike, count_like}
+use Rattle.iloc_validation.specs.Counts.{are_alike, count_like}
 use Rattle.iloc_validation.proofs.AlikeOps.{alike_test}
 use Rattle.iloc_validation.proofs.CountsLike.{one_more, no_more}
 

@@ -11,7 +11,7 @@ use Rattle.iloc_validation.specs.contracts.label.LabelOrd.TheImpl as of_labels
 use Rattle.iloc_validation.specs.declared.label.Label.{Label}
 use Rattle.iloc_validation.specs.declared.reasons.unpaired.Unpaired.{Unpaired}
 use Rattle.iloc_validation.specs.ByTheBook.{label}
-use Rattle.iloc_validation.specs.Lawfulness.{are_alike, count_like}
+use Rattle.iloc_validation.specs.Counts.{are_alike, count_like}
 use Rattle.iloc_validation.specs.Steps.Counterparts.{first_like, SetsLike}
 use Rattle.iloc_validation.specs.Steps.Labels.{form, constant, labelled}
 use Rattle.iloc_validation.proofs.LabelNumbers.{label_test}

@@ -13,7 +13,8 @@ use Rattle.iloc_validation.specs.declared.lawfulness.Added.{Added}
 use Rattle.iloc_validation.specs.declared.lawfulness.Reason.{Reason}
 use Rattle.iloc_validation.specs.declared.lawfulness.Reason.TheVariants.{Counts}
 use Rattle.iloc_validation.specs.declared.reasons.counts.Lacking.{Lacking}
-use Rattle.iloc_validation.specs.Lawfulness.{lacking, issue_of, IsShort, AreLeftOut, AreAdded, IsReason}
+use Rattle.iloc_validation.specs.Counts.{lacking, IsShort}
+use Rattle.iloc_validation.specs.Lawfulness.{issue_of, AreLeftOut, AreAdded, IsReason}
 use Rattle.iloc_validation.specs.Steps.Counterparts.{AreCounterparts, IsLackingIn, AreLacking}
 use Rattle.iloc_validation.proofs.NthLike.{lacking_is, short_is}
 

@@ -30,3 +30,11 @@ pub mod ForwardColours
 pub mod BackwardColours
 pub mod PassedColours
 pub mod KeptColours
+pub mod UnderWayExcludes
+pub mod SameOps
+pub mod SameRows
+pub mod SlotNumbers
+pub mod StoresUnderWay
+pub mod PairedLengths
+pub mod Decided
+pub mod FirstColours

@@ -12,7 +12,7 @@ use Rattle.iloc_meaning.proofs.Cases.{by_bool}
 use Rattle.iloc_validation.specs.declared.reasons.counterparts.Chains.{Chains}
 use Rattle.iloc_validation.specs.declared.reasons.unpaired.Unpaired.{Unpaired}
 use Rattle.iloc_validation.specs.ByTheBook.{ArePaired}
-use Rattle.iloc_validation.specs.Lawfulness.{are_alike, count_like, lacks_counterpart, lacking, IsShort}
+use Rattle.iloc_validation.specs.Counts.{are_alike, count_like, lacks_counterpart, lacking, IsShort}
 use Rattle.iloc_validation.specs.Steps.Counterparts.{first_like, SetsLike, noted_at, IsNth, AreChained, IsCounterpart, AreCounterparts}
 use Rattle.iloc_validation.proofs.AlikeOps.{alike_test, alike_itself, alike_same, alike_back, count_same}
 use Rattle.iloc_validation.proofs.CountsLike.{counts_same, counted, one_more, no_more, one_counted, one_place}

@@ -13,7 +13,7 @@ use Rattle.iloc_sched.specs.Renaming.{numbering, renamed, without_nops}
 use Rattle.iloc_sched.proofs.Renamed.MentionedSources.{length-renamed_by}
 use Rattle.iloc_validation.specs.declared.pairing.Pairing.{Pairing}
 use Rattle.iloc_validation.specs.OwnRows.{renumber, AreOwnRows}
-use Rattle.iloc_validation.specs.Steps.Sides.{IsScheduleBy}
+use Rattle.iloc_validation.specs.Decision.{IsScheduleBy}
 use Rattle.iloc_validation.proofs.Outcomes.{own_lawful}
 
 module _ (lat : Latencies) (block ops : List Op) (rows : List Row) (pairing : Pairing)

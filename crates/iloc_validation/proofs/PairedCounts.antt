@@ -12,7 +12,8 @@ use Rattle.iloc_timed.specs.declared.row.Row.{Row}
 use Rattle.iloc_validation.specs.declared.lawfulness.LeftOut.{LeftOut}
 use Rattle.iloc_validation.specs.declared.lawfulness.Added.{Added}
 use Rattle.iloc_validation.specs.ByTheBook.{label, ArePaired}
-use Rattle.iloc_validation.specs.Lawfulness.{are_alike, count_like, lacking, CountsDiffer}
+use Rattle.iloc_validation.specs.Counts.{are_alike, count_like, lacking}
+use Rattle.iloc_validation.specs.Lawfulness.{CountsDiffer}
 use Rattle.iloc_validation.proofs.CountsLike.{counts_same}
 
 abbrev itself : Bool → Bool

@@ -21,6 +21,7 @@ use Rattle.iloc_sched.proofs.Renamed.OneMoreOperation.{map_same}
 use Rattle.iloc_validation.specs.ByTheBook.{in_order, issued_before, due, last_of, defining, arrived, read, label, issued_in, IssueTheSame, IsScheduleUnder}
 use Rattle.iloc_validation.specs.Laws.{OwnRowsAreByTheBook}
 use Rattle.iloc_validation.specs.OwnRows.{renumber}
+use Rattle.iloc_validation.specs.Steps.Numbers.{is_in, in_slot, number_in}
 use Rattle.iloc_validation.proofs.Issues.{numbers_from_issued}
 use Rattle.iloc_validation.proofs.Lawful.{lawful_by_the_book}
 use Rattle.iloc_validation.proofs.Renumbered.{length-renumber, row_at-map, cycle_same, units_same}
@@ -37,20 +38,7 @@ rows_same ops ops' (row ∷ rows) (row' ∷ rows') same (suc c) =
     let rest : map (issued_in ops) rows ≡ map (issued_in ops') rows' = cc in
     rows_same ops ops' rows rows' rest c
 
--- whether a number stands in a slot
-abbrev is_in : Option ℕ → ℕ → Bool
-is_in None k = false
-is_in (Some j) k = j == k
-
--- the number that stands in the other row where k stands in this one
-abbrev in_slot : Row → Row → ℕ → ℕ
-in_slot other row k = if is_in row.zero k then unwrap_or other.zero 0 else unwrap_or other.one 0
-
--- the number of the operation that the other rows issue where these issue k
-abbrev number_in : List Row → List Row → ℕ → ℕ
-number_in others rows k = in_slot (row_at others (issue_cycle rows k)) (row_at rows (issue_cycle rows k)) k
-
-slot_cases : (a b : Option ℕ) (k : ℕ) → In (option_to_list a ++ option_to_list b) k → (a ≡ Some k) ⊎ (b ≡ Some k)
+pub slot_cases : (a b : Option ℕ) (k : ℕ) → In (option_to_list a ++ option_to_list b) k → (a ≡ Some k) ⊎ (b ≡ Some k)
 slot_cases None None k there = absurd there
 slot_cases None (Some z) k (inl here) = inr (ap Some here)
 slot_cases None (Some z) k (inr rest) = absurd rest
@@ -59,27 +47,27 @@ slot_cases (Some o) None k (inr rest) = absurd rest
 slot_cases (Some o) (Some z) k (inr (inl here)) = inr (ap Some here)
 slot_cases (Some o) (Some z) k (inr (inr rest)) = absurd rest
 
-in_first : (a b : Option ℕ) (k : ℕ) → a ≡ Some k → In (option_to_list a ++ option_to_list b) k
+pub in_first : (a b : Option ℕ) (k : ℕ) → a ≡ Some k → In (option_to_list a ++ option_to_list b) k
 in_first a b k is = in_left (option_to_list a) (option_to_list b) k (rw is (inl refl))
 
-in_second : (a b : Option ℕ) (k : ℕ) → b ≡ Some k → In (option_to_list a ++ option_to_list b) k
+pub in_second : (a b : Option ℕ) (k : ℕ) → b ≡ Some k → In (option_to_list a ++ option_to_list b) k
 in_second a b k is = in_right (option_to_list a) (option_to_list b) k (rw is (inl refl))
 
 module _ (ops ops' : List Op) (rows rows' : List Row) (numbered : AreNumbered ops' rows')
     (same : IssueTheSame ops rows ops' rows') where
-  in_zero : (c k : ℕ) → (row_at rows' c).zero ≡ Some k → In (slots (row_at rows' c)) k
+  pub in_zero : (c k : ℕ) → (row_at rows' c).zero ≡ Some k → In (slots (row_at rows' c)) k
   in_zero c k is = in_second (row_at rows' c).one (row_at rows' c).zero k is
 
-  in_one : (c k : ℕ) → (row_at rows' c).one ≡ Some k → In (slots (row_at rows' c)) k
+  pub in_one : (c k : ℕ) → (row_at rows' c).one ≡ Some k → In (slots (row_at rows' c)) k
   in_one c k is = in_first (row_at rows' c).one (row_at rows' c).zero k is
 
   inside : (c k : ℕ) → In (slots (row_at rows' c)) k → k < length ops'
   inside c k there = numbered.in_range c k (contains_from (slots (row_at rows' c)) k there)
 
-  cycle_there : (c k : ℕ) → In (slots (row_at rows' c)) k → issue_cycle rows' k ≡ c
+  pub cycle_there : (c k : ℕ) → In (slots (row_at rows' c)) k → issue_cycle rows' k ≡ c
   cycle_there c k there = issued_there rows' c k (numbered.once k (inside c k there)) there
 
-  not_in_zero : (c k : ℕ) (z : Option ℕ) → (row_at rows' c).zero ≡ z → (row_at rows' c).one ≡ Some k → is_in z k ≡ false
+  pub not_in_zero : (c k : ℕ) (z : Option ℕ) → (row_at rows' c).zero ≡ z → (row_at rows' c).one ≡ Some k → is_in z k ≡ false
   not_in_zero c k None at one = refl
   not_in_zero c k (Some j) at one = ne_eqb j k (λ level.
       let twice : 2 ≤ count_in (row_at rows' c) k = count_in_twice (row_at rows' c) k one (at ∙ ap Some level) in
@@ -94,14 +82,14 @@ module _ (ops ops' : List Op) (rows rows' : List Row) (numbered : AreNumbered op
   slot_moved (Some k) None level f to = absurd cc
   slot_moved (Some k) (Some j) level f to = ap Some (sym (to k refl))
 
-  zero_moved : (c k : ℕ) → (row_at rows' c).zero ≡ Some k → number_in rows rows' k ≡ unwrap_or (row_at rows c).zero 0
+  pub zero_moved : (c k : ℕ) → (row_at rows' c).zero ≡ Some k → number_in rows rows' k ≡ unwrap_or (row_at rows c).zero 0
   zero_moved c k is =
       let at = cycle_there c k (in_zero c k is) in
       let here : is_in (row_at rows' c).zero k ≡ true = rw is (eq-eqb k k refl) in
       ap (λ n. in_slot (row_at rows n) (row_at rows' n) k) at
       ∙ ap (λ b. if b then unwrap_or (row_at rows c).zero 0 else unwrap_or (row_at rows c).one 0) here
 
-  one_moved : (c k : ℕ) → (row_at rows' c).one ≡ Some k → number_in rows rows' k ≡ unwrap_or (row_at rows c).one 0
+  pub one_moved : (c k : ℕ) → (row_at rows' c).one ≡ Some k → number_in rows rows' k ≡ unwrap_or (row_at rows c).one 0
   one_moved c k is =
       let at = cycle_there c k (in_one c k is) in
       let here : is_in (row_at rows' c).zero k ≡ false = not_in_zero c k (row_at rows' c).zero refl is in

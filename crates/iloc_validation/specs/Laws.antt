@@ -1,5 +1,5 @@
 -- What holds of rows by the book.
-use Rattle.std.specs.Prelude.{◌≡◌, ◌≤◌, List, ℤ, Option}
+use Rattle.std.specs.Prelude.{ℕ, ◌≡◌, ◌≢◌, ◌≤◌, ◌<◌, List, length, ℤ}
 use Rattle.iloc_ops.specs.declared.op.Op.{Op}
 use Rattle.iloc_meaning.specs.Outcome.{outcome}
 use Rattle.iloc_timed.specs.declared.latencies.Latencies.{Latencies}
@@ -9,12 +9,10 @@ use Rattle.iloc_timed.specs.Rows.{AreNumbered}
 use Rattle.iloc_timed.specs.Timed.{timed_outcome}
 use Rattle.iloc_sched.specs.Lawful.{IsLawful}
 use Rattle.iloc_sched.specs.Least.{least}
-use Rattle.iloc_validation.specs.declared.lawfulness.LeftOut.{LeftOut}
-use Rattle.iloc_validation.specs.declared.lawfulness.Added.{Added}
-use Rattle.iloc_validation.specs.declared.lawfulness.Reason.TheVariants.{Counts}
-use Rattle.iloc_validation.specs.declared.lawfulness.Lawfulness.TheVariants.{Unlawful}
+use Rattle.iloc_sched.specs.Renaming.{without_nops}
 use Rattle.iloc_validation.specs.ByTheBook.{IsByTheBook, IssueTheSame}
-use Rattle.iloc_validation.specs.Lawfulness.{IsLawfulness}
+use Rattle.iloc_validation.specs.Counts.{count_like}
+use Rattle.iloc_validation.specs.UnderWay.{IsUnderWay}
 
 -- on every memory they have the block's outcome
 abbrev pub ByTheBookKeepsTheOutcome : Type 0
@@ -39,6 +37,10 @@ OwnRowsAreByTheBook = (lat : Latencies) (block ops ops' : List Op) (rows rows' :
 
 -- rows of which labels don't count as the block's aren't by the book, in whatever order and whatever registers
 abbrev pub CountsThatDifferExcludeByTheBook : Type 0
-CountsThatDifferExcludeByTheBook = (lat : Latencies) (block ops : List Op) (rows : List Row)
-    → (left_out : Option LeftOut) (added : Option Added)
-    → IsLawfulness lat block ops rows (Unlawful (Counts left_out added)) → IsByTheBook lat block ops rows → ⊥
+CountsThatDifferExcludeByTheBook = (lat : Latencies) (block ops : List Op) (rows : List Row) (op : Op)
+    → count_like op ops ≢ count_like op (without_nops block) → IsByTheBook lat block ops rows → ⊥
+
+-- nor are rows that issue a load or an output while a store is under way
+abbrev pub WhatIsUnderWayExcludesByTheBook : Type 0
+WhatIsUnderWayExcludesByTheBook = (lat : Latencies) (block ops : List Op) (rows : List Row) (k s : ℕ) → k < length ops
+    → s < length ops → IsUnderWay lat ops rows k s → IsByTheBook lat block ops rows → ⊥

@@ -1,6 +1,8 @@
 pub mod ByTheBook
 pub mod Readings
 pub mod UnderWay
+pub mod Decision
+pub mod Counts
 pub mod Lawfulness
 pub mod OwnRows
 pub mod Laws

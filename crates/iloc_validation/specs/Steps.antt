@@ -11,3 +11,7 @@ pub mod Sides
 pub mod Counterparts
 pub mod Broken
 pub mod Colours
+pub mod Numbers
+pub mod Stores
+pub mod Decisions
+pub mod FirstColours

@@ -4,7 +4,7 @@ ghost use Rattle.std.specs.Prelude.{◌≡◌, ◌<◌, ◌↔◌, ◌%◌, ◌^
 ghost use Rattle.iloc_validation.specs.Steps.Colours.{mixed, ArePassed, AreColoured};
 
 mod issue_order;
-mod mixing;
+pub mod mixing;
 mod passes;
 
 use crate::colours::issue_order::IssueOrder;

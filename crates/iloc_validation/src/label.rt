@@ -1,7 +1,7 @@
 //! Operations without their registers.
 ghost use Rattle.std.specs.Prelude.{◌≡◌, ◌↔◌, IsTrue};
 ghost use Rattle.iloc_validation.specs.ByTheBook.{label};
-ghost use Rattle.iloc_validation.specs.Lawfulness.{count_like};
+ghost use Rattle.iloc_validation.specs.Counts.{count_like};
 
 use iloc_ops::Op;
 
@@ -9,9 +9,9 @@ use iloc_ops::Op;
 #[derive(Clone, Copy, Debug, PartialEq, Eq, PartialOrd, Ord)]
 pub(crate) struct Label {
     /// The number of its form.
-    form: u32,
+    pub form: u32,
     /// The constant in it, 0 where there is none.
-    constant: u32,
+    pub constant: u32,
 }
 
 impl Label {

@@ -1,7 +1,7 @@
 //! Laws of schedules by the book, as contracts of functions that do nothing.
 ghost use Rattle.iloc_validation.specs.Laws.{ByTheBookKeepsTheOutcome, ByTheBookTakesTheLeast};
 ghost use Rattle.iloc_validation.specs.Laws.{LawfulSchedulesAreByTheBook, OwnRowsAreByTheBook};
-ghost use Rattle.iloc_validation.specs.Laws.{CountsThatDifferExcludeByTheBook};
+ghost use Rattle.iloc_validation.specs.Laws.{CountsThatDifferExcludeByTheBook, WhatIsUnderWayExcludesByTheBook};
 
 /// Rows that are a schedule of a block by the book have the block's outcome, on every memory.
 ///
@@ -31,9 +31,17 @@ pub fn own_rows_are_by_the_book()
     ensures { OwnRowsAreByTheBook }
 {}
 
-/// Where operations of the block are left out, or others are added, no pairing makes the rows a schedule by the book.
+/// Where labels count otherwise than the block's, operations are left out or others are added, and no pairing makes the rows a
+/// schedule by the book.
 ///
 /// Promise: rows of which operations are left out or added aren't by the book.
 pub fn counts_that_differ_exclude_by_the_book()
     ensures { CountsThatDifferExcludeByTheBook }
+{}
+
+/// Where a load or an output is issued while a store is under way, no pairing does either.
+///
+/// Promise: rows that issue a load or an output while a store is under way aren't by the book.
+pub fn what_is_under_way_excludes_by_the_book()
+    ensures { WhatIsUnderWayExcludesByTheBook }
 {}

@@ -3,6 +3,7 @@
 
 mod backtracking;
 mod colours;
+mod decision;
 mod label;
 mod lawfulness;
 pub mod laws;
@@ -15,11 +16,13 @@ mod validation;
 mod verification;
 mod waits;
 
+pub use decision::{Decision, decide};
 pub use label::have_one_label;
 pub use lawfulness::{Added, Issue, Lawfulness, LeftOut, Reason};
+pub use pairing::Pairing;
 pub use reading::given::{givens, without_nops};
 pub use reading::sources::Sources;
 pub use reading::{Reading, readings};
 pub use reasons::counts::{Lacking, without_counterpart};
-pub use renumbering::{OwnRows, own_rows};
+pub use renumbering::{OwnRows, own_rows, own_rows_or_reason};
 pub use validation::validate;

@@ -6,9 +6,9 @@ use crate::reading::sources::at;
 use iloc_ops::NoMemory;
 use std::alloc::Global;
 
-/// Which operation of a block each of the rows is, and the other way round.
-#[derive(Drop)]
-pub(crate) struct Pairing {
+/// Which operation of a block, `nop`s left out, each of the rows is, and the other way round.
+#[derive(Debug, Drop)]
+pub struct Pairing {
     /// By operation of the rows that of the block.
     pub origin: Vec<usize>,
     /// By operation of the block that of the rows.

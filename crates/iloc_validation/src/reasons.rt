@@ -1,7 +1,8 @@
 //! Why rows aren't a schedule of a block by the book.
 ghost use Rattle.std.specs.Prelude.{◌≡◌, length, IfOk, MatchResult};
 ghost use Rattle.iloc_validation.specs.Lawfulness.{IsReason};
-ghost use Rattle.iloc_validation.specs.Steps.Sides.{AreSides, IsScheduleBy};
+ghost use Rattle.iloc_validation.specs.Decision.{IsScheduleBy};
+ghost use Rattle.iloc_validation.specs.Steps.Sides.{AreSides};
 
 mod broken;
 mod counterparts;

@@ -1,11 +1,14 @@
 //! Rows by the book in a block's own numbers.
 ghost use Rattle.std.specs.Prelude.{◌≡◌, map, option_map, slice_index, IfOk, MatchResult};
 ghost use Rattle.iloc_meaning.specs.Trace.{op_at};
+ghost use Rattle.iloc_timed.specs.declared.latencies.Latencies.{Latencies as Table};
 ghost use Rattle.iloc_sched.specs.Renaming.{renamed, without_nops};
+ghost use Rattle.iloc_validation.specs.Decision.{IsScheduleBy};
 ghost use Rattle.iloc_validation.specs.Lawfulness.{IsReason};
 ghost use Rattle.iloc_validation.specs.OwnRows.{renumber, AreOwnRows};
 
 use crate::lawfulness::Reason;
+use crate::pairing::Pairing;
 use crate::reading::sources::at;
 use crate::validation::paired;
 use iloc_ops::{Block, NoMemory, Op};
@@ -56,12 +59,38 @@ fn ops_with(alloc: Global, ops: &[Op], numbers: &[usize]) -> Result<Vec<Op>, NoM
     Ok(found)
 }
 
-/// Rows that somebody made for a block, in the block's own numbers, or why they aren't known to be a schedule of it by the book
-/// (`validate`). `names` are the block's operations as a schedule of ours renames them.
+/// Rows that somebody made for a block, in the block's own numbers, under a pairing that makes them a schedule of it
+/// (`decide`). `names` are the block's operations as a schedule of ours renames them.
+///
+/// Promise: the block's operations stand, renamed, in the slots of those that are issued for them.
+pub fn own_rows(
+    alloc: Global,
+    block: &Block,
+    theirs: &Schedule,
+    names: &[Op],
+    pairing: &Pairing,
+) -> Result<OwnRows, NoMemory>
+    requires names { names.now ≡ renamed block.now.ops }
+    requires right { (lat : Table) × IsScheduleBy lat (without_nops block.now.ops) theirs.now.ops theirs.now.rows pairing.now }
+    ensures { IfOk result (λ own. (lat : Table)
+        → IsScheduleBy lat (without_nops block.now.ops) theirs.now.ops theirs.now.rows pairing.now
+        → AreOwnRows lat block.now.ops theirs.now.ops theirs.now.rows own.schedule own.issued.items) }
+{
+    let issued = ops_with(alloc, theirs.ops(), &pairing.partner)?;
+    let rows = renumbered_rows(alloc, &pairing.origin, theirs.rows())?;
+    let ops = Vec::from_slice(alloc, names)?;
+    Ok(OwnRows {
+        schedule: Schedule::of_table(ops, rows),
+        issued,
+    })
+}
+
+/// The same of rows for which a pairing is looked for, or why they aren't known to be a schedule of the block by the book
+/// (`validate`).
 ///
 /// Promise: at `Ok` the rows are by the book; the block's operations stand, renamed, in the slots of those that are issued for
 /// them. Else the reason is true.
-pub fn own_rows(
+pub fn own_rows_or_reason(
     alloc: Global,
     block: &Block,
     schedule: &Schedule,
@@ -77,11 +106,6 @@ pub fn own_rows(
         Ok(pairing) => pairing,
         Err(reason) => return Ok(Err(reason)),
     };
-    let issued = ops_with(alloc, schedule.ops(), &pairing.partner)?;
-    let rows = renumbered_rows(alloc, &pairing.origin, schedule.rows())?;
-    let ops = Vec::from_slice(alloc, names)?;
-    Ok(Ok(OwnRows {
-        schedule: Schedule::of_table(ops, rows),
-        issued,
-    }))
+    let own = own_rows(alloc, block, schedule, names, &pairing)?;
+    Ok(Ok(own))
 }

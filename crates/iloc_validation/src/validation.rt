@@ -1,11 +1,12 @@
 //! Whether rows that somebody made are a schedule of a block by the book.
-ghost use Rattle.std.specs.Prelude.{◌≡◌, length, IfErr, IfNone, IfOk, IfSome, MatchResult};
+ghost use Rattle.std.specs.Prelude.{◌≡◌, IfErr, IfOk, MatchResult};
 ghost use Rattle.iloc_sched.specs.Lawful.{IsLawful};
 ghost use Rattle.iloc_sched.specs.Renaming.{without_nops as ops_of};
-ghost use Rattle.iloc_validation.specs.ByTheBook.{IsScheduleUnder};
 ghost use Rattle.iloc_validation.specs.Lawfulness.{IsLawfulness, IsReason};
-ghost use Rattle.iloc_validation.specs.Steps.Sides.{AreSides, IsScheduleBy};
+ghost use Rattle.iloc_validation.specs.Decision.{IsScheduleBy};
+ghost use Rattle.iloc_validation.specs.Steps.Sides.{AreSides};
 
+use crate::decision::in_order;
 use crate::lawfulness::{Lawfulness, Reason};
 use crate::pairing::Pairing;
 use crate::reading::given::{givens, without_nops};
@@ -16,31 +17,6 @@ use crate::verification::{Sides, is_schedule_under};
 use iloc_ops::{Block, NoMemory};
 use iloc_timed::{Latencies, Schedule};
 use std::alloc::Global;
-
-/// The pairing of each operation with the one of its number, where rows are a schedule of a block by the book under it.
-fn in_order(
-    alloc: Global,
-    sides: &Sides,
-    latencies: &Latencies,
-) -> Result<Option<Pairing>, NoMemory>
-    requires { AreSides latencies.now sides.now.block.now sides.now.givens.now sides.now.schedule.now
-        sides.now.readings.now }
-    ensures right { IfOk result (λ found. IfSome found (IsScheduleBy latencies.now sides.now.block.now
-        sides.now.schedule.now.ops sides.now.schedule.now.rows)) }
-    ensures own { IfOk result (λ found. IsScheduleUnder latencies.now sides.now.block.now
-        sides.now.schedule.now.ops sides.now.schedule.now.rows (λ k. k) (λ i. i)
-        → length sides.now.schedule.now.ops ≡ length sides.now.block.now → IfNone found ⊥) }
-{
-    if sides.block.len() != sides.readings.len() {
-        return Ok(None);
-    }
-    let pairing = Pairing::in_order(alloc, sides.block.len())?;
-    if is_schedule_under(alloc, sides, &pairing, latencies)? {
-        Ok(Some(pairing))
-    } else {
-        Ok(None)
-    }
-}
 
 /// A pairing that the search finds, under which rows are a schedule of a block by the book, or why it finds none.
 fn searched(

@@ -7,8 +7,8 @@ use Rattle.iloc_validation.specs.declared.reasons.unpaired.Unpaired.{Unpaired}
 use Rattle.iloc_validation.specs.declared.reasons.counterparts.Chains.{Chains}
 use Rattle.iloc_validation.specs.declared.reasons.counts.Lacking.{Lacking}
 use Rattle.iloc_validation.specs.contracts.label.LabelOrd.TheImpl as of_labels
-use Rattle.iloc_validation.specs.Lawfulness.{are_alike, count_like}
-pub use Rattle.iloc_validation.specs.Lawfulness.{AreLacking}
+use Rattle.iloc_validation.specs.Counts.{are_alike, count_like}
+pub use Rattle.iloc_validation.specs.Counts.{AreLacking}
 use Rattle.iloc_validation.specs.Steps.Labels.{labelled}
 
 -- the first operation that waits, of those like this one

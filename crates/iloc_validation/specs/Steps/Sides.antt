@@ -4,14 +4,12 @@ use Rattle.iloc_ops.specs.declared.op.Op.{Op}
 use Rattle.iloc_ops.specs.Registers.{used}
 use Rattle.iloc_meaning.specs.Trace.{op_at}
 use Rattle.iloc_timed.specs.declared.latencies.Latencies.{Latencies}
-use Rattle.iloc_timed.specs.declared.row.Row.{Row}
 use Rattle.iloc_timed.specs.Limits.{MAX_ROWS}
 use Rattle.iloc_timed.specs.Rows.{issue_cycle, IsTable}
 use Rattle.iloc_timed.specs.Schedule.{Table}
-use Rattle.iloc_validation.specs.declared.pairing.Pairing.{Pairing}
 use Rattle.iloc_validation.specs.declared.reading.Reading.{Reading}
 use Rattle.iloc_validation.specs.declared.reading.sources.Sources.{Sources}
-use Rattle.iloc_validation.specs.ByTheBook.{given, label, IsScheduleUnder}
+use Rattle.iloc_validation.specs.ByTheBook.{given, label}
 use Rattle.iloc_validation.specs.Steps.Sources.{sources_of, sources_at, by_numbers}
 use Rattle.iloc_validation.specs.Steps.Readings.{reading_at, reading_of}
 
@@ -38,8 +36,3 @@ pub record IsKept (block : List Op) (givens : List Sources) (ops : List Op) (rea
   pub reads : by_numbers (slice_index origin) (reading_at readings k).sources
       ≡ sources_at givens (slice_index origin k)
   pub in_time : slice_index waits (slice_index origin k) ≤ (reading_at readings k).cycle
-
--- under this pairing, of so many partners, the rows are a schedule of the block
-pub record IsScheduleBy (lat : Latencies) (block ops : List Op) (rows : List Row) (pairing : Pairing) : Type 0 where
-  pub size : length pairing.partner.items ≡ length block
-  pub under : IsScheduleUnder lat block ops rows (slice_index pairing.origin.items) (slice_index pairing.partner.items)

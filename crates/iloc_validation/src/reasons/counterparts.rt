@@ -1,7 +1,7 @@
 //! The counterparts of operations on the other side: the first of a label with the first of that label, and so on.
 ghost use Rattle.std.specs.Prelude.{◌≡◌, ◌+◌, ◌<◌, ℕ, length, slice_index, unwrap_or, IfOk, OnOk, IfSome, IfNone};
 ghost use Rattle.iloc_validation.specs.ByTheBook.{ArePaired};
-ghost use Rattle.iloc_validation.specs.Lawfulness.{lacking};
+ghost use Rattle.iloc_validation.specs.Counts.{lacking};
 ghost use Rattle.iloc_validation.specs.Steps.Counterparts.{first_like, SetsLike, noted_at, AreChained, AreCounterparts};
 
 use super::unpaired::Unpaired;

@@ -2,7 +2,8 @@
 ghost use Rattle.std.specs.Prelude.{◌≡◌, ◌<◌, None, length, IfOk, IfSome, IfNone};
 ghost use Rattle.iloc_meaning.specs.Trace.{op_at};
 ghost use Rattle.iloc_timed.specs.declared.latencies.Latencies.{Latencies as Table};
-ghost use Rattle.iloc_validation.specs.Lawfulness.{lacking, IsShort, AreLacking, AreLeftOut, AreAdded, IsReason};
+ghost use Rattle.iloc_validation.specs.Counts.{lacking, IsShort, AreLacking};
+ghost use Rattle.iloc_validation.specs.Lawfulness.{AreLeftOut, AreAdded, IsReason};
 ghost use Rattle.iloc_validation.specs.Steps.Counterparts.{AreCounterparts, IsLackingIn};
 ghost use Rattle.iloc_validation.specs.Steps.Sides.{HaveCycles};
 

@@ -1,5 +1,5 @@
 use Rattle.std.proofs.Common.{◌≡◌, ◌≤◌, take}
-use Rattle.iloc_validation.specs.Lawfulness.{count_like}
+use Rattle.iloc_validation.specs.Counts.{count_like}
 use Rattle.iloc_validation.proofs.label.count_like.Given as goal
 
 abbrev pub invariant-loop-other : goal.invariant-loop-other

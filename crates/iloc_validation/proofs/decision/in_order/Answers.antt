@@ -1,7 +1,7 @@
 use Rattle.std.proofs.Common.{◌≡◌, true, slice_index, sym, ◌∙◌, arith}
 use Rattle.std.proofs.lemmas.Bool.{true≢false}
 use Rattle.iloc_validation.proofs.InOrder.{under_same}
-use Rattle.iloc_validation.proofs.validation.in_order.Goals as goal
+use Rattle.iloc_validation.proofs.decision.in_order.Goals as goal
 
 pub returns-else-branch-clause-own : goal.returns-else-branch-clause-own
 returns-else-branch-clause-own c = λ under count.

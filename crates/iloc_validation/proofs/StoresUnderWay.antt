@@ -1,0 +1,136 @@
+-- What a row issues while a store is under way; for `is_under_way`.
+use Rattle.std.proofs.Common.{◌≡◌, ◌<◌, ◌≤◌, ℕ, ◌+◌, ◌⊎◌, ◌||◌, Bool, true, false, List, length, Option, Some, None, inl, inr, refl, sym, ap, ◌∙◌, arith}
+use Rattle.std.proofs.lemmas.Bool.{true≢false, false≢true}
+use Rattle.iloc_ops.specs.declared.op.Op.{Op}
+use Rattle.iloc_meaning.specs.Trace.{op_at}
+use Rattle.iloc_timed.specs.declared.kind.Kind.{Kind}
+use Rattle.iloc_timed.specs.declared.kind.Kind.TheVariants as K
+use Rattle.iloc_timed.specs.declared.latencies.Latencies.{Latencies}
+use Rattle.iloc_timed.specs.declared.row.Row.{Row}
+use Rattle.iloc_timed.specs.Kinds.{kind, is_store}
+use Rattle.iloc_timed.specs.Latency.{latency_of}
+use Rattle.iloc_timed.specs.Rows.{row_at, slots, issue_cycle, kind_in, is_some_kind, IsTable}
+use Rattle.iloc_sched.specs.Delays.{reads_stored}
+use Rattle.iloc_sched.specs.Steps.Members.{In}
+use Rattle.iloc_sched.proofs.Basics.Slots.{within, cycle_is}
+use Rattle.iloc_validation.specs.UnderWay.{IsUnderWay}
+use Rattle.iloc_validation.specs.Steps.Stores.{IsStoredUntil}
+use Rattle.iloc_validation.proofs.SameIssues.{in_first, in_second}
+
+is_of_store : (k : Kind) → is_store k ≡ true → k ≡ K.Store
+is_of_store K.Store is = refl
+is_of_store K.Load is = absurd (false≢true is)
+is_of_store K.Mult is = absurd (false≢true is)
+is_of_store K.Output is = absurd (false≢true is)
+is_of_store K.Other is = absurd (false≢true is)
+
+is_of_reader : (k : Kind) → reads_stored K.Store k ≡ true → (k ≡ K.Load) ⊎ (k ≡ K.Output)
+is_of_reader K.Load is = inl refl
+is_of_reader K.Output is = inr refl
+is_of_reader K.Store is = absurd (false≢true is)
+is_of_reader K.Mult is = absurd (false≢true is)
+is_of_reader K.Other is = absurd (false≢true is)
+
+or_true : (a b : Bool) → (a || b) ≡ true → (a ≡ true) ⊎ (b ≡ true)
+or_true true b is = inl refl
+or_true false b is = inr is
+
+-- what stands in a slot, of a kind that passes
+record Passes (test : Kind → Bool) (ops : List Op) (slot : Option ℕ) : Type 0 where
+  k : ℕ
+  there : slot ≡ Some k
+  passes : test (kind (op_at ops k)) ≡ true
+
+in_slot : (test : Kind → Bool) (ops : List Op) (slot : Option ℕ) → is_some_kind test (kind_in ops slot) ≡ true
+    → Passes test ops slot
+in_slot test ops None is = absurd (false≢true is)
+in_slot test ops (Some k) is = record { k = k; there = refl; passes = is }
+
+-- an operation of a row, of a kind that passes
+record IssuesOne (test : Kind → Bool) (ops : List Op) (rows : List Row) (c : ℕ) : Type 0 where
+  k : ℕ
+  within : k < length ops
+  at : issue_cycle rows k ≡ c
+  passes : test (kind (op_at ops k)) ≡ true
+
+module _ (lat : Latencies) (ops : List Op) (rows : List Row) (table : IsTable ops rows) (c : ℕ) where
+  issues_one : (test : Kind → Bool) → (is_some_kind test (kind_in ops (row_at rows c).zero) ≡ true)
+      ⊎ (is_some_kind test (kind_in ops (row_at rows c).one) ≡ true) → IssuesOne test ops rows c
+  issues_one test (inl zero) =
+      let it = in_slot test ops (row_at rows c).zero zero in
+      let there : In (slots (row_at rows c)) it.k = in_second (row_at rows c).one (row_at rows c).zero it.k it.there in
+      record {
+        k = it.k;
+        within = within ops rows table c it.k there;
+        at = cycle_is ops rows table c it.k there;
+        passes = it.passes;
+      }
+  issues_one test (inr one) =
+      let it = in_slot test ops (row_at rows c).one one in
+      let there : In (slots (row_at rows c)) it.k = in_first (row_at rows c).one (row_at rows c).zero it.k it.there in
+      record {
+        k = it.k;
+        within = within ops rows table c it.k there;
+        at = cycle_is ops rows table c it.k there;
+        passes = it.passes;
+      }
+
+  -- a row with a store
+  pub stored : (until : ℕ) → until ≡ c + lat.store → (is_some_kind is_store (kind_in ops (row_at rows c).zero) ≡ true)
+      ⊎ (is_some_kind is_store (kind_in ops (row_at rows c).one) ≡ true) → IsStoredUntil lat ops rows (c + 1) until
+  stored until is stores =
+      let it = issues_one is_store stores in
+      let at : issue_cycle rows it.k ≡ c = it.at in
+      record {
+        s = it.k;
+        within = it.within;
+        store = is_of_store (kind (op_at ops it.k)) it.passes;
+        begun = omega arith;
+        over = omega arith;
+      }
+
+  -- one without keeps what is under way
+  pub still_stored : (until : ℕ) → IsStoredUntil lat ops rows c until → IsStoredUntil lat ops rows (c + 1) until
+  still_stored until it = let begun : issue_cycle rows it.s < c = it.begun in record {
+    s = it.s;
+    within = it.within;
+    store = it.store;
+    begun = omega arith;
+    over = it.over;
+  }
+
+  -- what reads memory in a row is issued while that store is under way
+  pub reads_under_way : (until : ℕ) → c < until → IsStoredUntil lat ops rows (c + 1) until
+      → (is_some_kind (reads_stored K.Store) (kind_in ops (row_at rows c).zero) ≡ true)
+      ⊎ (is_some_kind (reads_stored K.Store) (kind_in ops (row_at rows c).one) ≡ true)
+      → (k : ℕ) × (s : ℕ) × (k < length ops) × (s < length ops) × IsUnderWay lat ops rows k s
+  reads_under_way until early it reads =
+      let one = issues_one (reads_stored K.Store) reads in
+      let at : issue_cycle rows one.k ≡ c = one.at in
+      let begun : issue_cycle rows it.s < c + 1 = it.begun in
+      let takes : latency_of lat (kind (op_at ops it.s)) ≡ lat.store = ap (latency_of lat) it.store in (
+        one.k,
+        it.s,
+        one.within,
+        it.within,
+        record {
+          store = it.store;
+          waits = is_of_reader (kind (op_at ops one.k)) one.passes;
+          begun = omega arith;
+          not_over = omega (arith, takes, it.over);
+        },
+      )
+
+  -- what is under way after a row
+  pub row_stored : (old new : ℕ) → (0 < old → IsStoredUntil lat ops rows c old) → ((new ≡ c + lat.store)
+      × ((is_some_kind is_store (kind_in ops (row_at rows c).zero)
+      || is_some_kind is_store (kind_in ops (row_at rows c).one)) ≡ true)) ⊎ (new ≡ old) → 0 < new
+      → IsStoredUntil lat ops rows (c + 1) new
+  row_stored old new before (inl (is, stores)) some = stored new is (or_true _ _ stores)
+  row_stored old new before (inr is) some = rw is (still_stored old (before (rw is at some)))
+
+  pub row_reads : (until : ℕ) → c < until → IsStoredUntil lat ops rows (c + 1) until
+      → (is_some_kind (reads_stored K.Store) (kind_in ops (row_at rows c).zero)
+      || is_some_kind (reads_stored K.Store) (kind_in ops (row_at rows c).one)) ≡ true
+      → (k : ℕ) × (s : ℕ) × (k < length ops) × (s < length ops) × IsUnderWay lat ops rows k s
+  row_reads until early it reads = reads_under_way until early it (or_true _ _ reads)

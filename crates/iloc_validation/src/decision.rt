@@ -1,0 +1,159 @@
+//! Whether rows that somebody made are a schedule of a block by the book.
+ghost use Rattle.std.specs.Prelude.{◌≡◌, true, length, IfNone, IfOk, IfSome};
+ghost use Rattle.iloc_sched.specs.Lawful.{IsLawful};
+ghost use Rattle.iloc_validation.specs.ByTheBook.{IsScheduleUnder, IssueTheSame};
+ghost use Rattle.iloc_validation.specs.Decision.{IsDecision, IsFoundLawful, IsScheduleBy};
+ghost use Rattle.iloc_validation.specs.Steps.Decisions.{IsDecisionOf, IsExcluded};
+ghost use Rattle.iloc_validation.specs.Steps.Sides.{AreSides};
+
+mod first_colours;
+mod ours;
+mod under_way;
+
+use self::first_colours::coloured;
+use self::ours::{issue_the_same, paired_by_slot};
+use self::under_way::is_under_way;
+use crate::backtracking::found_pairing;
+use crate::colours::Coloured;
+use crate::pairing::Pairing;
+use crate::reading::given::{givens, without_nops};
+use crate::reading::readings;
+use crate::verification::{Sides, is_schedule_under};
+use iloc_ops::{Block, NoMemory};
+use iloc_timed::{Latencies, Schedule};
+use std::alloc::Global;
+
+/// What is decided of rows that somebody made for a block.
+#[derive(Debug, Drop)]
+pub enum Decision {
+    /// They are a schedule of the block by the book, under this pairing.
+    Lawful(Pairing),
+    /// They aren't, under any pairing.
+    Unlawful,
+    /// Neither is known.
+    Undecided,
+}
+
+/// The pairing of each operation with the one of its number, where rows are a schedule of a block by the book under it.
+pub(crate) fn in_order(
+    alloc: Global,
+    sides: &Sides,
+    latencies: &Latencies,
+) -> Result<Option<Pairing>, NoMemory>
+    requires { AreSides latencies.now sides.now.block.now sides.now.givens.now sides.now.schedule.now
+        sides.now.readings.now }
+    ensures right { IfOk result (λ found. IfSome found (IsScheduleBy latencies.now sides.now.block.now
+        sides.now.schedule.now.ops sides.now.schedule.now.rows)) }
+    ensures own { IfOk result (λ found. IsScheduleUnder latencies.now sides.now.block.now
+        sides.now.schedule.now.ops sides.now.schedule.now.rows (λ k. k) (λ i. i)
+        → length sides.now.schedule.now.ops ≡ length sides.now.block.now → IfNone found ⊥) }
+{
+    if sides.block.len() != sides.readings.len() {
+        return Ok(None);
+    }
+    let pairing = Pairing::in_order(alloc, sides.block.len())?;
+    if is_schedule_under(alloc, sides, &pairing, latencies)? {
+        Ok(Some(pairing))
+    } else {
+        Ok(None)
+    }
+}
+
+/// Whether rows have another number of operations than a block, or issue one while a store is under way for which it has to
+/// wait: then no pairing makes them a schedule of it.
+fn is_excluded(sides: &Sides, latencies: &Latencies) -> bool
+    requires { AreSides latencies.now sides.now.block.now sides.now.givens.now sides.now.schedule.now
+        sides.now.readings.now }
+    ensures { result ≡ true → IsExcluded latencies.now sides.now.block.now sides.now.schedule.now.ops
+        sides.now.schedule.now.rows }
+{
+    if sides.block.len() != sides.readings.len() {
+        return true;
+    }
+    is_under_way(sides.schedule, latencies)
+}
+
+/// A pairing that the search finds, under which rows are a schedule of a block by the book.
+fn searched(
+    alloc: Global,
+    sides: &Sides,
+    colours: &Coloured,
+    latencies: &Latencies,
+) -> Result<Option<Pairing>, NoMemory>
+    requires { AreSides latencies.now sides.now.block.now sides.now.givens.now sides.now.schedule.now
+        sides.now.readings.now }
+    ensures { IfOk result (λ found. IfSome found (IsScheduleBy latencies.now sides.now.block.now
+        sides.now.schedule.now.ops sides.now.schedule.now.rows)) }
+{
+    let found = match found_pairing(alloc, sides, colours)? {
+        Some(found) => found,
+        None => return Ok(None),
+    };
+    if is_schedule_under(alloc, sides, &found, latencies)? {
+        Ok(Some(found))
+    } else {
+        Ok(None)
+    }
+}
+
+/// What is decided of rows under other pairings than that by number.
+fn decided(alloc: Global, sides: &Sides, latencies: &Latencies) -> Result<Decision, NoMemory>
+    requires { AreSides latencies.now sides.now.block.now sides.now.givens.now sides.now.schedule.now
+        sides.now.readings.now }
+    ensures { IfOk result (IsDecisionOf latencies.now sides.now.block.now sides.now.schedule.now.ops
+        sides.now.schedule.now.rows) }
+{
+    if is_excluded(sides, latencies) {
+        return Ok(Decision::Unlawful);
+    }
+    let colours = match coloured(alloc, sides)? {
+        Some(colours) => colours,
+        None => return Ok(Decision::Unlawful),
+    };
+    match searched(alloc, sides, &colours, latencies)? {
+        Some(pairing) => Ok(Decision::Lawful(pairing)),
+        None => Ok(Decision::Undecided),
+    }
+}
+
+/// Decides whether rows that somebody made are a schedule of a block by the book: whether their operations can be paired
+/// with the block's, one to one and whatever registers they name, so that each reads the results that it reads in the
+/// block and waits for what memory and outputs make it wait for (Cooper and Torczon, Engineering a Compiler, chapter on
+/// instruction scheduling). `ours` is a schedule of ours for the block.
+///
+/// Promise: rows that are found to be lawful are a schedule of the block by the book, under the pairing that is handed out;
+/// those that are found to be unlawful are none, under any pairing. What a schedule of ours issues is found to be lawful,
+/// whatever numbers its operations have.
+///
+/// Of some rows neither is found: of those whose operations are alike in too many ways for the search to try them all.
+pub fn decide(
+    alloc: Global,
+    block: &Block,
+    ours: &Schedule,
+    theirs: &Schedule,
+    latencies: &Latencies,
+) -> Result<Decision, NoMemory>
+    requires lawful { IsLawful latencies.now block.now.ops ours.now.ops ours.now.rows }
+    ensures right { IfOk result (IsDecision latencies.now block.now.ops theirs.now.ops theirs.now.rows) }
+    ensures own { IfOk result (λ decision. IssueTheSame ours.now.ops ours.now.rows theirs.now.ops theirs.now.rows
+        → IsFoundLawful decision) }
+    ensures lawful { IfOk result (λ decision. IsLawful latencies.now block.now.ops theirs.now.ops theirs.now.rows
+        → IsFoundLawful decision) }
+{
+    if issue_the_same(ours, theirs) {
+        return Ok(Decision::Lawful(paired_by_slot(alloc, ours, theirs)?));
+    }
+    let ops = without_nops(alloc, block)?;
+    let givens = givens(alloc, &ops)?;
+    let readings = readings(alloc, theirs, latencies)?;
+    let sides = Sides {
+        block: &ops,
+        givens: &givens,
+        schedule: theirs,
+        readings: &readings,
+    };
+    match in_order(alloc, &sides, latencies)? {
+        Some(pairing) => Ok(Decision::Lawful(pairing)),
+        None => decided(alloc, &sides, latencies),
+    }
+}
