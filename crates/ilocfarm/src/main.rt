@@ -1,7 +1,7 @@
 //! The program: a file of basic blocks on standard input, what comes of it on standard output.
 #![tactic(auto)]
 
-use iloc_args::parse_line;
+use iloc_args::{Request, Task, parse_line};
 use iloc_farm::{Texts, run_program};
 use std::env;
 use std::fs::{self, File};
@@ -26,29 +26,34 @@ impl<'a> Texts for Files<'a> {
     }
 }
 
-/// Said on a terminal, where nothing else shows that the program waits.
-const READS_TERMINAL: &str =
-    "ilocfarm: reading blocks from the terminal; Ctrl-D on a line of its own ends them";
-
-/// Whether the words ask for a command that reads blocks.
-fn asks_for_blocks(rt: &HostRuntime) -> bool {
-    let Ok(words) = env::args(rt) else {
-        return false;
-    };
-    let Ok(mut after) = Vec::with_capacity(rt.alloc(), words.len()) else {
-        return false;
-    };
+/// What the words ask for, if they make a request.
+fn request(rt: &HostRuntime) -> Option<Request> {
+    let words = env::args(rt).ok()?;
+    let mut after = Vec::with_capacity(rt.alloc(), words.len()).ok()?;
     for word in words.skip(1) {
-        if after.push(word).is_err() {
-            return false;
-        }
+        after.push(word).ok()?;
     }
-    parse_line(rt.alloc(), &after).is_ok()
+    parse_line(rt.alloc(), &after).ok()
+}
+
+/// What standard input has for a request.
+fn input_of(request: &Request) -> &'static str {
+    match request.task {
+        _ if request.task_file.is_some() => "rows",
+        Task::Check => "blocks and rows",
+        _ => "blocks",
+    }
 }
 
 fn main(rt: HostRuntime) -> ExitCode {
-    if rt.stdin().is_terminal() && asks_for_blocks(&rt) {
-        let _ = eprintln!(rt; "{READS_TERMINAL}");
+    if rt.stdin().is_terminal()
+        && let Some(request) = request(&rt)
+    {
+        // Nothing else shows on a terminal that the program waits.
+        let input = input_of(&request);
+        let _ = eprintln!(rt;
+            "ilocfarm: reading {input} from the terminal; Ctrl-D on a line of its own ends them"
+        );
     }
     let ending = run_program(
         &rt,
