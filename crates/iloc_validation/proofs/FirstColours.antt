@@ -1,11 +1,9 @@
 -- Every pairing keeps the first colours.
-use Rattle.std.proofs.Common.{◌≡◌, ◌<◌, ℕ, List, length, Option, Some, None, slice_index, refl, sym, ap, ap₂, ◌∙◌}
+use Rattle.std.proofs.Common.{◌≡◌, ℕ, List, Option, Some, None, refl, sym, ap, ap₂, ◌∙◌}
 use Rattle.std.specs.Prelude.{IfNone}
 use Rattle.iloc_ops.specs.declared.op.Op.{Op}
 use Rattle.iloc_ops.specs.declared.op.Op.TheVariants.{Nop}
-use Rattle.iloc_meaning.specs.Trace.{op_at}
 use Rattle.iloc_timed.specs.declared.latencies.Latencies.{Latencies}
-use Rattle.iloc_timed.specs.declared.row.Row.{Row}
 use Rattle.iloc_timed.specs.Schedule.{Table}
 use Rattle.iloc_validation.specs.declared.colours.Coloured.{Coloured}
 use Rattle.iloc_validation.specs.declared.reading.Reading.{Reading}
@@ -30,14 +28,6 @@ same_label_colour a b same =
     let forms : form a ≡ form b = sym (form-label a) ∙ ap form same ∙ form-label b in
     let constants : constant a ≡ constant b = sym (constant-label a) ∙ ap constant same ∙ constant-label b in
     ap₂ mixed forms constants
-
-pub labels_kept : (lat : Latencies) (block ops : List Op) (rows : List Row) (here there : List ℕ)
-    → ((i : ℕ) → i < length block → slice_index here i ≡ label_colour (op_at block i))
-    → ((k : ℕ) → k < length ops → slice_index there k ≡ label_colour (op_at ops k)) → AreKept lat block ops rows here there
-labels_kept lat block ops rows here there each each_there = λ origin partner under k inside.
-    each_there k inside
-    ∙ same_label_colour (op_at ops k) (op_at block (origin k)) (under.paired.labels k inside)
-    ∙ sym (each (origin k) (under.paired.there k inside))
 
 -- where there are no more colours, there is no pairing
 pub no_colours : (block : List Op) (givens : List Sources) (schedule : Table) (readings : List Reading) (here there : List ℕ)

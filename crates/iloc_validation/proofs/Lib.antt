@@ -33,8 +33,11 @@ pub mod KeptColours
 pub mod UnderWayExcludes
 pub mod SameOps
 pub mod SameRows
+pub mod NotedSlots
 pub mod SlotNumbers
 pub mod StoresUnderWay
 pub mod PairedLengths
 pub mod Decided
 pub mod FirstColours
+pub mod FewerNumbers
+pub mod PlacesKept

@@ -1,6 +1,5 @@
 -- Where operations are paired, there are as many on both sides.
-use Rattle.std.proofs.Common.{◌≡◌, ◌<◌, ◌≤◌, ℕ, zero, suc, ◌==◌, true, List, [], ◌∷◌, length, inl, inr, refl, arith, sym, ap, ◌∙◌, subst, eq-eqb}
-use Rattle.std.specs.List.{list_any}
+use Rattle.std.proofs.Common.{◌≡◌, ◌<◌, ◌≤◌, ℕ, zero, suc, ◌==◌, List, [], ◌∷◌, length, inl, inr, refl, arith, ap, subst, eq-eqb}
 use Rattle.std.proofs.lemmas.Bool.{cases_lt}
 use Rattle.std.proofs.lemmas.Map.Steps.{le-length_from_below}
 use Rattle.iloc_ops.specs.declared.op.Op.{Op}

@@ -1,6 +1,6 @@
 -- Rows that issue the same as others, with other numbers, are by the book where those are;
 -- `laws::own_rows_are_by_the_book`.
-use Rattle.std.proofs.Common.{◌≡◌, ℕ, zero, suc, ◌+◌, ◌<◌, ◌≤◌, ◌==◌, Bool, true, false, if◌then◌else◌, List, [], ◌∷◌, ◌++◌, map, fold, length, Option, Some, None, unwrap_or, option_map, option_to_list, inl, inr, ◌⊎◌, refl, ap, ap₂, sym, ◌∙◌, subst, arith, eq-eqb, ne_eqb}
+use Rattle.std.proofs.Common.{◌≡◌, ℕ, zero, suc, ◌+◌, ◌<◌, ◌≤◌, Bool, true, false, if◌then◌else◌, List, [], ◌∷◌, ◌++◌, map, fold, length, Option, Some, None, unwrap_or, option_map, option_to_list, inl, inr, ◌⊎◌, refl, ap, ap₂, sym, ◌∙◌, subst, arith, eq-eqb, ne_eqb}
 use Rattle.std.specs.Prelude.{filter, nat_lt, nat_le, IsTrue}
 use Rattle.std.proofs.lemmas.List.{ext_get_or, length-map, map-append}
 use Rattle.iloc_ops.specs.declared.op.Reg.{Reg}

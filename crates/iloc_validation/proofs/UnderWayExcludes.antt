@@ -1,5 +1,5 @@
 -- What is issued while a store is under way leaves no pairing.
-use Rattle.std.proofs.Common.{◌≡◌, ◌<◌, ◌≤◌, ℕ, ◌+◌, ◌⊎◌, List, length, inl, inr, refl, sym, ap, ◌∙◌, subst, arith}
+use Rattle.std.proofs.Common.{◌≡◌, ◌<◌, ◌≤◌, ℕ, ◌+◌, ◌⊎◌, List, length, inl, inr, refl, sym, ap, ◌∙◌, arith}
 use Rattle.std.proofs.lemmas.Bool.{cases_lt}
 use Rattle.iloc_ops.specs.declared.op.Op.{Op}
 use Rattle.iloc_meaning.specs.Trace.{op_at}
@@ -12,7 +12,7 @@ use Rattle.iloc_timed.specs.Latency.{latency, latency_of}
 use Rattle.iloc_timed.specs.Rows.{issue_cycle}
 use Rattle.iloc_sched.specs.Delays.{memory_delays}
 use Rattle.iloc_sched.specs.Steps.Members.{In}
-use Rattle.iloc_sched.proofs.Basics.Members.{contains_from, in_right}
+use Rattle.iloc_sched.proofs.Basics.Members.{contains_from}
 use Rattle.iloc_validation.specs.ByTheBook.{IsScheduleUnder}
 use Rattle.iloc_validation.specs.UnderWay.{IsUnderWay}
 use Rattle.iloc_validation.specs.Steps.Waits.{memory_by}
@@ -34,7 +34,7 @@ another_kind a store (inr out) = absurd (let no : Store ≡ Output = sym store �
 
 module _ (lat : Latencies) (block ops : List Op) (rows : List Row) (origin partner : ℕ → ℕ)
     (by : IsScheduleUnder lat block ops rows origin partner) where
-  kind_of : (k : ℕ) → k < length ops → kind (op_at ops k) ≡ kind (op_at block (origin k))
+  pub kind_of : (k : ℕ) → k < length ops → kind (op_at ops k) ≡ kind (op_at block (origin k))
   kind_of k here = same_kind (op_at ops k) (op_at block (origin k)) (by.paired.labels k here)
 
   -- what memory makes the origin of one wait for is waited for

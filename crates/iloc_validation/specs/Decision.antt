@@ -1,5 +1,5 @@
 -- What is decided of rows that somebody made for a block.
-use Rattle.std.specs.Prelude.{ℕ, ◌≡◌, List, length, slice_index}
+use Rattle.std.specs.Prelude.{◌≡◌, List, length, slice_index}
 use Rattle.iloc_ops.specs.declared.op.Op.{Op}
 use Rattle.iloc_timed.specs.declared.latencies.Latencies.{Latencies}
 use Rattle.iloc_timed.specs.declared.row.Row.{Row}

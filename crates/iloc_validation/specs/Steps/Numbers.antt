@@ -21,7 +21,11 @@ abbrev pub with_number : List ℕ → Option ℕ → ℕ → List ℕ
 with_number numbers None number = numbers
 with_number numbers (Some k) number = slice_set numbers k number
 
--- of each of so many operations that the rows before cycle c hold the number is noted that it has in the others
-pub record AreNumbersIn (count : ℕ) (others rows : List Row) (c : ℕ) (numbers : List ℕ) : Type 0 where
-  pub size : length numbers ≡ count
-  pub each : (k : ℕ) → k < count → issue_cycle rows k < c → slice_index numbers k ≡ number_in others rows k
+-- of each of so many operations that the rows before cycle c hold its value is noted
+pub record AreNotedBefore (count : ℕ) (value : ℕ → ℕ) (rows : List Row) (c : ℕ) (noted : List ℕ) : Type 0 where
+  pub size : length noted ≡ count
+  pub each : (k : ℕ) → k < count → issue_cycle rows k < c → slice_index noted k ≡ value k
+
+-- of each the number that it has in the others
+abbrev pub AreNumbersIn : ℕ → List Row → List Row → ℕ → List ℕ → Type 0
+AreNumbersIn count others rows c numbers = AreNotedBefore count (number_in others rows) rows c numbers

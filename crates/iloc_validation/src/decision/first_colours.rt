@@ -1,9 +1,9 @@
-//! The first colours of operations, which every pairing keeps.
-ghost use Rattle.std.specs.Prelude.{◌≡◌, ◌<◌, ℕ, length, slice_index, IfNone, IfOk, IfSome};
-ghost use Rattle.iloc_meaning.specs.Trace.{op_at};
+//! The first colours of operations: label, and place among stores and outputs. Every pairing keeps them.
+ghost use Rattle.std.specs.Prelude.{◌≡◌, ◌<◌, ℕ, length, slice_index, IfNone, IfOk, IfSome, OnOk};
 ghost use Rattle.iloc_timed.specs.declared.latencies.Latencies.{Latencies};
+ghost use Rattle.iloc_timed.specs.Rows.{IsTable};
 ghost use Rattle.iloc_validation.specs.Steps.Decisions.{IsExcluded};
-ghost use Rattle.iloc_validation.specs.Steps.FirstColours.{label_colour};
+ghost use Rattle.iloc_validation.specs.Steps.FirstColours.{label_colour, first_here, first_there};
 ghost use Rattle.iloc_validation.specs.Steps.Sides.{AreSides};
 
 use crate::colours::mixing::mix;
@@ -11,6 +11,7 @@ use crate::colours::{Coloured, kept_colours};
 use crate::label::Label;
 use crate::verification::Sides;
 use iloc_ops::{NoMemory, Op};
+use iloc_timed::{Kind, Schedule};
 use std::alloc::Global;
 
 /// The colour of the label of an operation.
@@ -21,15 +22,105 @@ fn label_colour(op: &Op) -> u64
     mix(u64::from(label.form), u64::from(label.constant))
 }
 
-/// By operation the colour of its label.
-fn label_colours(alloc: Global, ops: &[Op]) -> Result<Vec<u64>, NoMemory>
-    ensures size { IfOk result (λ colours. length colours.items ≡ length ops.now) }
-    ensures each { IfOk result (λ colours. (k : ℕ) → k < length ops.now
-        → slice_index colours.items k ≡ label_colour (op_at ops.now k)) }
+/// How many stores and outputs there are so far, modulo 2⁶⁴.
+#[derive(Clone, Copy, Debug)]
+pub(crate) struct Places {
+    stores: u64,
+    outputs: u64,
+}
+
+impl Places {
+    ghost use Rattle.std.specs.Prelude.{[], IfSome};
+    ghost use Rattle.iloc_validation.specs.Steps.FirstColours.{first_colour, colour_in, with_op, with_slot, ArePlaces};
+    ghost use Rattle.iloc_validation.specs.Steps.Numbers.{with_number};
+
+    /// Before the first operation.
+    fn none() -> Places
+        ensures stores { result.stores ≡ 0 }
+        ensures outputs { result.outputs ≡ 0 }
+    {
+        Places {
+            stores: 0,
+            outputs: 0,
+        }
+    }
+
+    /// The colour of the next operation: its label; of a load, a store or an output also how many stores are before it, and
+    /// of an output how many outputs.
+    fn colour(&self, op: &Op) -> u64
+        ensures { result ≡ first_colour self.now.stores self.now.outputs op.now }
+    {
+        let label = label_colour(op);
+        match Kind::of(op) {
+            Kind::Load | Kind::Store => mix(label, self.stores),
+            Kind::Output => mix(mix(label, self.stores), self.outputs),
+            Kind::Mult | Kind::Other => label,
+        }
+    }
+
+    /// Counts an operation.
+    fn note(&mut self, op: &Op)
+        ensures { self.new ≡ with_op op.now self.old }
+    {
+        match Kind::of(op) {
+            Kind::Store => self.stores = self.stores.wrapping_add(1),
+            Kind::Output => self.outputs = self.outputs.wrapping_add(1),
+            Kind::Load | Kind::Mult | Kind::Other => {}
+        }
+    }
+
+    /// Sets the colour of what stands in a slot.
+    fn colour_slot(&self, colours: &mut Vec<u64>, ops: &[Op], slot: Option<usize>)
+        requires known { IfSome slot (λ k. k < length ops.now) }
+        requires size { length colours.old.items ≡ length ops.now }
+        ensures { colours.new.items
+            ≡ with_number colours.old.items slot (colour_in ops.now self.now.stores self.now.outputs slot) }
+    {
+        if let Some(k) = slot {
+            colours[k] = self.colour(&ops[k]);
+        }
+    }
+
+    /// Counts what stands in a slot.
+    fn note_slot(&mut self, ops: &[Op], slot: Option<usize>)
+        requires known { IfSome slot (λ k. k < length ops.now) }
+        ensures { self.new ≡ with_slot ops.now slot self.old }
+    {
+        if let Some(k) = slot {
+            self.note(&ops[k]);
+        }
+    }
+}
+
+/// By operation of a block its first colour.
+fn first_here(alloc: Global, block: &[Op]) -> Result<Vec<u64>, NoMemory>
+    ensures size { IfOk result (λ colours. length colours.items ≡ length block.now) }
+    ensures each { IfOk result (λ colours. (i : ℕ) → i < length block.now
+        → slice_index colours.items i ≡ first_here block.now i) }
 {
-    let mut colours = Vec::with_capacity(alloc, ops.len())?;
-    for op in ops {
-        colours.push(label_colour(op))?;
+    let mut places = Places::none();
+    let mut colours = Vec::with_capacity(alloc, block.len())?;
+    for i in 0..block.len() {
+        colours.push(places.colour(&block[i]))?;
+        places.note(&block[i]);
+    }
+    Ok(colours)
+}
+
+/// By operation of rows its first colour.
+fn first_there(alloc: Global, schedule: &Schedule) -> Result<Vec<u64>, NoMemory>
+    ensures size { IfOk result (λ colours. length colours.items ≡ length schedule.now.ops) }
+    ensures each { IfOk result (λ colours. (k : ℕ) → k < length schedule.now.ops
+        → slice_index colours.items k ≡ first_there schedule.now.ops schedule.now.rows k) }
+{
+    let ops = schedule.ops();
+    let mut places = Places::none();
+    let mut colours = vec![in alloc; 0; ops.len()]?;
+    for row in schedule.rows() {
+        places.colour_slot(&mut colours, ops, row.zero);
+        places.colour_slot(&mut colours, ops, row.one);
+        places.note_slot(ops, row.zero);
+        places.note_slot(ops, row.one);
     }
     Ok(colours)
 }
@@ -43,7 +134,7 @@ pub(crate) fn coloured(alloc: Global, sides: &Sides) -> Result<Option<Coloured>,
         sides.now.schedule.now sides.now.readings.now → IfNone found (IsExcluded lat sides.now.block.now
         sides.now.schedule.now.ops sides.now.schedule.now.rows)) }
 {
-    let here = label_colours(alloc, sides.block)?;
-    let there = label_colours(alloc, sides.schedule.ops())?;
+    let here = first_here(alloc, sides.block)?;
+    let there = first_there(alloc, sides.schedule)?;
     kept_colours(alloc, sides, here, there)
 }

@@ -1,4 +1,4 @@
-use Rattle.std.proofs.Common.{sym, ◌∙◌, ◌≡◌, length, arith}
+use Rattle.std.proofs.Common.{◌≡◌, length, arith}
 use Rattle.iloc_validation.proofs.PairedLengths.{paired_lengths}
 use Rattle.iloc_validation.proofs.UnderWayExcludes.{none_under_way}
 use Rattle.iloc_validation.proofs.decision.is_excluded.Goals as goal

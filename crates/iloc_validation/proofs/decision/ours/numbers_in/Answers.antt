@@ -1,8 +1,10 @@
-use Rattle.std.proofs.Common.{refl, ap, ◌∙◌, ◌≡◌, ◌≤◌, length}
+use Rattle.std.proofs.Common.{refl, ap, ◌∙◌, ◌≤◌, length}
 use Rattle.iloc_timed.specs.Rows.{row_at}
 use Rattle.iloc_timed.proofs.Arrivals.{zero_known, one_known}
 use Rattle.iloc_validation.proofs.ReadingRows.{slot_known}
-use Rattle.iloc_validation.proofs.SlotNumbers.{length-with_number, row_numbered, all_numbered}
+use Rattle.iloc_validation.specs.Steps.Numbers.{number_in}
+use Rattle.iloc_validation.proofs.NotedSlots.{length-with_number, all_noted}
+use Rattle.iloc_validation.proofs.SlotNumbers.{row_numbered}
 use Rattle.iloc_validation.proofs.decision.ours.numbers_in.Goals as goal
 
 pub note-requires : goal.note-requires
@@ -35,5 +37,6 @@ loop-c-preserved c = record {
 pub returns-clause-each : goal.returns-clause-each
 returns-clause-each c = λ same.
     let past : length c.args.schedule.now.rows ≤ c.loop-c.c = rw c.rows-row-items.ensures.rows at c.loop-c-test.false in
-    all_numbered c.args.schedule.now.ops c.args.others.now.rows c.args.schedule.now.rows c.ops.ensures.table c.loop-c.c
-    c.loop-c.numbers.items past (c.loop-c.invariant.noted same)
+    all_noted c.args.schedule.now.ops c.args.schedule.now.rows c.ops.ensures.table
+    (number_in c.args.others.now.rows c.args.schedule.now.rows) c.loop-c.c c.loop-c.numbers.items past
+    (c.loop-c.invariant.noted same)

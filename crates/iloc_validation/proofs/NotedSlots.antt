@@ -1,0 +1,88 @@
+-- What is noted of operations row by row, at their numbers.
+use Rattle.std.proofs.Common.{rules, ◌≡◌, ◌<◌, ◌≤◌, ◌≢◌, ℕ, ◌+◌, List, length, Option, Some, None, arith, refl, sym, ap, ◌∙◌, ◌⊎◌, inl, inr, get_or-set_same, get_or-set_other, slice_index}
+use Rattle.std.proofs.lemmas.Bool.{cases_lt}
+use Rattle.iloc_ops.specs.declared.op.Op.{Op}
+use Rattle.iloc_timed.specs.declared.row.Row.{Row}
+use Rattle.iloc_timed.specs.Rows.{row_at, slots, issue_cycle, times_issued, IsTable}
+use Rattle.iloc_sched.specs.Steps.Members.{In}
+use Rattle.iloc_sched.proofs.Basics.Slots.{issued_within, stands_there, cycle_is, count_in, count_in_twice, count_in_within}
+use Rattle.iloc_validation.specs.Steps.Numbers.{with_number, AreNotedBefore}
+use Rattle.iloc_validation.proofs.SameIssues.{slot_cases, in_first, in_second}
+
+pub length-with_number : (numbers : List ℕ) (slot : Option ℕ) (n : ℕ) → length (with_number numbers slot n) ≡ length numbers
+length-with_number numbers None n = refl
+length-with_number numbers (Some k) n = search rules
+
+number_here : (numbers : List ℕ) (slot : Option ℕ) (n k : ℕ) → slot ≡ Some k → k < length numbers
+    → slice_index (with_number numbers slot n) k ≡ n
+number_here numbers None n k is within = absurd cc
+number_here numbers (Some j) n k is within =
+    let same : j ≡ k = cc in
+    rw same (get_or-set_same numbers k n 0 within)
+
+number_other : (numbers : List ℕ) (slot : Option ℕ) (n k : ℕ) → (slot ≡ Some k → ⊥)
+    → slice_index (with_number numbers slot n) k ≡ slice_index numbers k
+number_other numbers None n k other = refl
+number_other numbers (Some j) n k other =
+    let apart : k ≢ j = λ same. other (ap Some (sym same)) in
+    get_or-set_other numbers j k n 0 apart
+
+module _ (ops : List Op) (rows : List Row) (table : IsTable ops rows) (f : ℕ → ℕ) (c : ℕ) where
+  pub at_zero : (k : ℕ) → (row_at rows c).zero ≡ Some k → issue_cycle rows k ≡ c
+  at_zero k is = cycle_is ops rows table c k (in_second (row_at rows c).one (row_at rows c).zero k is)
+
+  pub at_one : (k : ℕ) → (row_at rows c).one ≡ Some k → issue_cycle rows k ≡ c
+  at_one k is = cycle_is ops rows table c k (in_first (row_at rows c).one (row_at rows c).zero k is)
+
+  stands : (k : ℕ) → k < length ops → issue_cycle rows k ≡ c
+      → ((row_at rows c).one ≡ Some k) ⊎ ((row_at rows c).zero ≡ Some k)
+  stands k here at =
+      let there : In (slots (row_at rows (issue_cycle rows k))) k = stands_there rows k (issued_within ops rows table k here) in
+      slot_cases (row_at rows c).one (row_at rows c).zero k (rw at at there)
+
+  apart_slots : (k : ℕ) → k < length ops → (row_at rows c).one ≡ Some k → (row_at rows c).zero ≡ Some k → ⊥
+  apart_slots k here one two =
+      let twice : 2 ≤ count_in (row_at rows c) k = count_in_twice (row_at rows c) k one two in
+      let most : count_in (row_at rows c) k ≤ times_issued rows k = count_in_within rows c k in
+      let once : times_issued rows k ≡ 1 = table.once k here in
+      omega arith
+
+  module _ (numbers : List ℕ) (so_far : AreNotedBefore (length ops) f rows c numbers) (first second : ℕ)
+      (first_is : (k : ℕ) → (row_at rows c).zero ≡ Some k → first ≡ f k)
+      (second_is : (k : ℕ) → (row_at rows c).one ≡ Some k → second ≡ f k) where
+    abbrev once : List ℕ
+    once = with_number numbers (row_at rows c).zero first
+
+    size : length numbers ≡ length ops
+    size = so_far.size
+
+    noted : (k : ℕ) → k < length ops → ((row_at rows c).one ≡ Some k) ⊎ ((row_at rows c).zero ≡ Some k)
+        → slice_index (with_number once (row_at rows c).one second) k ≡ f k
+    noted k here (inl there) =
+        let level : length once ≡ length numbers = length-with_number numbers (row_at rows c).zero first in
+        number_here once (row_at rows c).one second k there (omega (arith, size)) ∙ second_is k there
+    noted k here (inr there) =
+        number_other once (row_at rows c).one second k (λ one. apart_slots k here one there)
+        ∙ number_here numbers (row_at rows c).zero first k there (omega (arith, size))
+        ∙ first_is k there
+
+    pub one_row : AreNotedBefore (length ops) f rows (c + 1) (with_number once (row_at rows c).one second)
+    one_row = record {
+      size = length-with_number once (row_at rows c).one second ∙ length-with_number numbers (row_at rows c).zero first ∙ size;
+      each = λ k here before. elim (cases_lt (issue_cycle rows k) c) [
+        | inl earlier ↦
+            number_other once (row_at rows c).one second k
+            (λ is. let at : issue_cycle rows k ≡ c = at_one k is in omega arith)
+            ∙ number_other numbers (row_at rows c).zero first k
+            (λ is. let at : issue_cycle rows k ≡ c = at_zero k is in omega arith)
+            ∙ so_far.each k here earlier
+        | inr now ↦ let at : issue_cycle rows k ≡ c = omega arith in noted k here (stands k here at)
+      ];
+    }
+
+pub all_noted : (ops : List Op) (rows : List Row) → IsTable ops rows → (f : ℕ → ℕ) (n : ℕ) (numbers : List ℕ)
+    → length rows ≤ n → AreNotedBefore (length ops) f rows n numbers → (k : ℕ) → k < length ops
+    → slice_index numbers k ≡ f k
+all_noted ops rows table f n numbers past noted k here =
+    let issued : issue_cycle rows k < length rows = issued_within ops rows table k here in
+    noted.each k here (omega arith)

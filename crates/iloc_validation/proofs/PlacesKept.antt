@@ -1,0 +1,319 @@
+-- Every pairing keeps the places of loads, stores and outputs, and so the first colours.
+use Rattle.std.proofs.Common.{◌≡◌, ◌<◌, ◌≤◌, ℕ, suc, ◌+◌, ◌%◌, ◌^◌, ◌⊎◌, Bool, true, cond, if◌then◌else◌, List, [], ◌∷◌, ◌++◌, length, Option, Some, None, slice_index, inl, inr, refl, sym, ap, ap₂, ◌∙◌, subst, arith}
+use Rattle.std.specs.Prelude.{count_by, filter, option_to_list}
+use Rattle.std.proofs.lemmas.Bool.{cases_lt, false≢true}
+use Rattle.std.proofs.lemmas.List.{append-nil, append_assoc}
+use Rattle.std.proofs.lemmas.List.Sums.{length-filter}
+use Rattle.std.proofs.Math.Nat.{mod-add-mod}
+use Rattle.iloc_ops.specs.declared.op.Op.{Op}
+use Rattle.iloc_meaning.specs.Trace.{op_at}
+use Rattle.iloc_meaning.proofs.Cases.{by_bool}
+use Rattle.iloc_timed.specs.declared.kind.Kind.{Kind}
+use Rattle.iloc_timed.specs.declared.kind.Kind.TheVariants as K
+use Rattle.iloc_timed.specs.declared.latencies.Latencies.{Latencies}
+use Rattle.iloc_timed.specs.declared.row.Row.{Row}
+use Rattle.iloc_timed.specs.Kinds.{kind, is_store, is_output}
+use Rattle.iloc_timed.specs.Rows.{row_at, issue_cycle, IsTable}
+use Rattle.iloc_sched.specs.Steps.Members.{In}
+use Rattle.iloc_sched.proofs.Basics.Members.{in_filter, from_filter}
+use Rattle.iloc_sched.proofs.Basics.Ordered.{Ordered, ordered_filter}
+use Rattle.iloc_sched.proofs.Basics.Slots.{numbers_before, ComesLater, issued_in_order, issued_early, early_issued}
+use Rattle.iloc_validation.specs.declared.decision.first_colours.Places.{Places}
+use Rattle.iloc_validation.specs.ByTheBook.{issued_before, IsScheduleUnder}
+use Rattle.iloc_validation.specs.Steps.Colours.{mixed, AreKept}
+use Rattle.iloc_validation.specs.Steps.FirstColours.{label_colour, with_place, colour_in, counted, with_op, with_slot, count_of, ArePlaces, colour_behind, numbers_below, first_here, first_there}
+use Rattle.iloc_validation.specs.Steps.Numbers.{with_number, AreNotedBefore}
+use Rattle.iloc_validation.specs.Steps.Waits.{memory_by}
+use Rattle.iloc_validation.proofs.FewerNumbers.{Apart, fewer, below_from, in_below, below_apart, count_append, count_single, count_issued}
+use Rattle.iloc_validation.proofs.FirstColours.{same_label_colour}
+use Rattle.iloc_validation.proofs.NotedSlots.{at_zero, at_one, one_row}
+use Rattle.iloc_validation.proofs.UnderWayExcludes.{kind_of, waited}
+
+-- Counts as the code keeps them
+
+counted_more : (test : Kind → Bool) (ops : List Op) (ks : List ℕ) (k n : ℕ) → n ≡ count_of test ops ks % 2 ^ 64
+    → counted test (op_at ops k) n ≡ count_of test ops (ks ++ (k ∷ [])) % 2 ^ 64
+counted_more test ops ks k n is =
+    let split = count_append (λ j. test (kind (op_at ops j))) ks (k ∷ []) in
+    let single = count_single (λ j. test (kind (op_at ops j))) k in
+    by_bool (test (kind (op_at ops k)))
+    (λ t.
+    let one : cond {A = ℕ} (test (kind (op_at ops k))) 1 0 ≡ 1 = ap (λ b. cond {A = ℕ} b 1 0) t in
+    let more : count_of test ops (ks ++ (k ∷ [])) ≡ count_of test ops ks + 1 = omega (arith, split, single, one) in
+    ap (λ b. if b then (n + 1) % 2 ^ 64 else n) t
+    ∙ ap (λ m. (m + 1) % 2 ^ 64) is
+    ∙ mod-add-mod (count_of test ops ks) (2 ^ 64) 1
+    ∙ ap (λ m. m % 2 ^ 64) (sym more))
+    (λ t.
+    let none : cond {A = ℕ} (test (kind (op_at ops k))) 1 0 ≡ 0 = ap (λ b. cond {A = ℕ} b 1 0) t in
+    let same : count_of test ops (ks ++ (k ∷ [])) ≡ count_of test ops ks = omega (arith, split, single, none) in
+    ap (λ b. if b then (n + 1) % 2 ^ 64 else n) t ∙ is ∙ ap (λ m. m % 2 ^ 64) (sym same))
+
+pub places_op : (ops : List Op) (ks : List ℕ) (k : ℕ) (places : Places) → ArePlaces ops ks places
+    → ArePlaces ops (ks ++ (k ∷ [])) (with_op (op_at ops k) places)
+places_op ops ks k places are = record {
+  stores = counted_more is_store ops ks k places.stores are.stores;
+  outputs = counted_more is_output ops ks k places.outputs are.outputs;
+}
+
+places_slot : (ops : List Op) (ks : List ℕ) (slot : Option ℕ) (places : Places) → ArePlaces ops ks places
+    → ArePlaces ops (ks ++ option_to_list slot) (with_slot ops slot places)
+places_slot ops ks None places are = subst (λ ns. ArePlaces ops ns places) (sym (append-nil ks)) are
+places_slot ops ks (Some k) places are = places_op ops ks k places are
+
+pub places_row : (ops : List Op) (rows : List Row) (c n : ℕ) (places : Places) → n ≡ suc c
+    → ArePlaces ops (issued_before rows c) places
+    → ArePlaces ops (issued_before rows n) (with_slot ops (row_at rows c).one (with_slot ops (row_at rows c).zero places))
+places_row ops rows c n places is are =
+    let first : List ℕ = option_to_list (row_at rows c).zero in
+    let second : List ℕ = option_to_list (row_at rows c).one in
+    let once : ArePlaces ops (issued_before rows c ++ option_to_list (row_at rows c).zero)
+    (with_slot ops (row_at rows c).zero places) =
+    places_slot ops (issued_before rows c) (row_at rows c).zero places are in
+    let twice = places_slot ops (issued_before rows c ++ option_to_list (row_at rows c).zero) (row_at rows c).one
+    (with_slot ops (row_at rows c).zero places) once in
+    rw is (subst (λ ns. ArePlaces ops ns (with_slot ops (row_at rows c).one (with_slot ops (row_at rows c).zero places)))
+    (append_assoc (issued_before rows c) (option_to_list (row_at rows c).zero) (option_to_list (row_at rows c).one)) twice)
+
+-- the colours that a row is given
+pub slot_colour : (ops : List Op) (rows : List Row) (c : ℕ) (places : Places) (slot : Option ℕ)
+    → ArePlaces ops (issued_before rows c) places → (k : ℕ) → slot ≡ Some k → issue_cycle rows k ≡ c
+    → colour_in ops places.stores places.outputs slot ≡ first_there ops rows k
+slot_colour ops rows c places slot are k is at =
+    ap (colour_in ops places.stores places.outputs) is
+    ∙ ap₂ (λ s o. colour_in ops s o (Some k)) are.stores are.outputs
+    ∙ ap (λ n. colour_behind ops (issued_before rows n) k) (sym at)
+
+pub places_next : (ops : List Op) (i n : ℕ) (places next : Places) → n ≡ suc i → next ≡ with_op (op_at ops i) places
+    → ArePlaces ops (numbers_below i) places → ArePlaces ops (numbers_below n) next
+places_next ops i n places next is noted are = rw (is, noted) (places_op ops (numbers_below i) i places are)
+
+module _ (ops : List Op) (rows : List Row) (table : IsTable ops rows) (c : ℕ) (lent : List Op) (lent_rows : List Row)
+    (places : Places) (same : lent ≡ ops) (same_rows : lent_rows ≡ rows) (are : ArePlaces ops (issued_before rows c) places) where
+  pub row_placed : (once twice : Places) → once ≡ with_slot lent (row_at lent_rows c).zero places
+      → twice ≡ with_slot lent (row_at lent_rows c).one once → ArePlaces ops (issued_before rows (c + 1)) twice
+  row_placed once twice first second =
+      let both : twice ≡ with_slot ops (row_at rows c).one (with_slot ops (row_at rows c).zero places) =
+      rw (first, same, same_rows) at second in
+      rw both (places_row ops rows c (c + 1) places (omega arith) are)
+
+  pub row_coloured : (colours once twice : List ℕ)
+      → AreNotedBefore (length ops) (first_there ops rows) rows c colours
+      → once ≡ with_number colours (row_at lent_rows c).zero
+      (colour_in lent places.stores places.outputs (row_at lent_rows c).zero)
+      → twice ≡ with_number once (row_at lent_rows c).one
+      (colour_in lent places.stores places.outputs (row_at lent_rows c).one)
+      → AreNotedBefore (length ops) (first_there ops rows) rows (c + 1) twice
+  row_coloured colours once twice so_far first second =
+      let both : twice ≡ with_number (with_number colours (row_at rows c).zero
+      (colour_in ops places.stores places.outputs (row_at rows c).zero)) (row_at rows c).one
+      (colour_in ops places.stores places.outputs (row_at rows c).one) = rw (first, same, same_rows) at second in
+      rw both (one_row ops rows table (first_there ops rows) c colours so_far
+      (colour_in ops places.stores places.outputs (row_at rows c).zero)
+      (colour_in ops places.stores places.outputs (row_at rows c).one)
+      (λ k is. slot_colour ops rows c places (row_at rows c).zero are k is
+      (at_zero ops rows table (first_there ops rows) c k is))
+      (λ k is. slot_colour ops rows c places (row_at rows c).one are k is
+      (at_one ops rows table (first_there ops rows) c k is)))
+
+-- Places are kept
+
+-- of two operations of these kinds each waits for the other, whichever comes first
+record KeepOrder (lat : Latencies) (a b : Kind) : Type 0 where
+  ahead : ℕ
+  behind : ℕ
+  is_ahead : In (memory_by lat a b) ahead
+  is_behind : In (memory_by lat b a) behind
+  some : 1 ≤ ahead
+  some_too : 1 ≤ behind
+
+abbrev IsPlaced : Kind → Type 0
+IsPlaced a = (a ≡ K.Load) ⊎ ((a ≡ K.Store) ⊎ (a ≡ K.Output))
+
+is_of_store : (a : Kind) → is_store a ≡ true → a ≡ K.Store
+is_of_store K.Store is = refl
+is_of_store K.Load is = absurd (false≢true is)
+is_of_store K.Mult is = absurd (false≢true is)
+is_of_store K.Output is = absurd (false≢true is)
+is_of_store K.Other is = absurd (false≢true is)
+
+is_of_output : (a : Kind) → is_output a ≡ true → a ≡ K.Output
+is_of_output K.Output is = refl
+is_of_output K.Load is = absurd (false≢true is)
+is_of_output K.Mult is = absurd (false≢true is)
+is_of_output K.Store is = absurd (false≢true is)
+is_of_output K.Other is = absurd (false≢true is)
+
+store_load : (lat : Latencies) → KeepOrder lat K.Store K.Load
+store_load lat = record {
+  ahead = lat.store;
+  behind = 1;
+  is_ahead = inl refl;
+  is_behind = inl refl;
+  some = lat.some_store;
+  some_too = omega arith;
+}
+
+store_store : (lat : Latencies) → KeepOrder lat K.Store K.Store
+store_store lat = record {
+  ahead = 1;
+  behind = 1;
+  is_ahead = inl refl;
+  is_behind = inl refl;
+  some = omega arith;
+  some_too = omega arith;
+}
+
+store_output : (lat : Latencies) → KeepOrder lat K.Store K.Output
+store_output lat = record {
+  ahead = lat.store;
+  behind = 1;
+  is_ahead = inl refl;
+  is_behind = inl refl;
+  some = lat.some_store;
+  some_too = omega arith;
+}
+
+output_output : (lat : Latencies) → KeepOrder lat K.Output K.Output
+output_output lat = record {
+  ahead = 1;
+  behind = 1;
+  is_ahead = inl refl;
+  is_behind = inl refl;
+  some = omega arith;
+  some_too = omega arith;
+}
+
+stores_keep : (lat : Latencies) (a b : Kind) → is_store a ≡ true → IsPlaced b → KeepOrder lat a b
+stores_keep lat a b store (inl load) = rw (is_of_store a store, load) (store_load lat)
+stores_keep lat a b store (inr (inl other)) = rw (is_of_store a store, other) (store_store lat)
+stores_keep lat a b store (inr (inr out)) = rw (is_of_store a store, out) (store_output lat)
+
+outputs_keep : (lat : Latencies) (a b : Kind) → is_output a ≡ true → b ≡ K.Output → KeepOrder lat a b
+outputs_keep lat a b output out = rw (is_of_output a output, out) (output_output lat)
+
+apart_of : (rows : List Row) (ks : List ℕ) → Ordered (ComesLater rows) ks → Ordered Apart ks
+apart_of rows [] ordered = tt
+apart_of rows (k ∷ ks) ordered = ((λ j there. (ordered.0 j there).apart), apart_of rows ks ordered.1)
+
+module _ (lat : Latencies) (block ops : List Op) (rows : List Row) (origin partner : ℕ → ℕ)
+    (by : IsScheduleUnder lat block ops rows origin partner) where
+  one_origin : (j k : ℕ) → j < length ops → k < length ops → origin j ≡ origin k → j ≡ k
+  one_origin j k here there same = sym (by.paired.back j here) ∙ ap partner same ∙ by.paired.back k there
+
+  one_partner : (i j : ℕ) → i < length block → j < length block → partner i ≡ partner j → i ≡ j
+  one_partner i j here there same = sym (by.paired.back_too i here) ∙ ap origin same ∙ by.paired.back_too j there
+
+  module _ (j k : ℕ) (here : j < length ops) (there : k < length ops)
+      (keep : KeepOrder lat (kind (op_at ops j)) (kind (op_at ops k))) where
+    issued_first : origin j < origin k → issue_cycle rows j < issue_cycle rows k
+    issued_first before =
+        let over : issue_cycle rows j + keep.ahead ≤ issue_cycle rows k =
+        waited lat block ops rows origin partner by j k keep.ahead here there before keep.is_ahead in
+        let some : 1 ≤ keep.ahead = keep.some in
+        omega arith
+
+    stands_first : issue_cycle rows j < issue_cycle rows k → origin j < origin k
+    stands_first early = elim (cases_lt (origin j) (origin k)) [
+      | inl before ↦ before
+      | inr not_before ↦ elim (cases_lt (origin k) (origin j)) [
+        | inl after ↦
+            let over : issue_cycle rows k + keep.behind ≤ issue_cycle rows j =
+            waited lat block ops rows origin partner by k j keep.behind there here after keep.is_behind in
+            absurd (omega arith)
+        | inr not_after ↦
+            let level : origin j ≡ origin k = omega arith in
+            let cycles : issue_cycle rows j ≡ issue_cycle rows k = ap (issue_cycle rows) (one_origin j k here there level) in
+            absurd (omega arith)
+      ]
+    ]
+
+  module _ (test : Kind → Bool) (k : ℕ) (inside : k < length ops)
+      (keep : (j : ℕ) → test (kind (op_at ops j)) ≡ true → KeepOrder lat (kind (op_at ops j)) (kind (op_at ops k))) where
+    abbrev p : ℕ → Bool
+    p j = test (kind (op_at ops j))
+
+    abbrev q : ℕ → Bool
+    q i = test (kind (op_at block i))
+
+    abbrev c : ℕ
+    c = issue_cycle rows k
+
+    abbrev issued : List ℕ
+    issued = filter p (numbers_before rows c)
+
+    abbrev given : List ℕ
+    given = filter q (numbers_below (origin k))
+
+    same_test : (j : ℕ) → j < length ops → p j ≡ q (origin j)
+    same_test j here = ap test (kind_of lat block ops rows origin partner by j here)
+
+    issued_few : length issued ≤ length given
+    issued_few = fewer issued given origin (apart_of rows issued (ordered_filter (ComesLater rows) p (numbers_before rows c)
+        (issued_in_order ops rows by.table c)))
+        (λ j there.
+        let parts = from_filter p (numbers_before rows c) j there in
+        let at = issued_early ops rows by.table c j parts.0 in
+        in_filter q (numbers_below (origin k)) (origin j)
+        (in_below (origin k) (origin j) (stands_first j k at.0 inside (keep j parts.1) at.1))
+        (sym (same_test j at.0) ∙ parts.1))
+        (λ i j there there_too same. one_origin i j
+        (issued_early ops rows by.table c i (from_filter p (numbers_before rows c) i there).0).0
+        (issued_early ops rows by.table c j (from_filter p (numbers_before rows c) j there_too).0).0 same)
+
+    given_inside : (i : ℕ) → In given i → i < length block
+    given_inside i there =
+        let less : i < origin k = below_from (origin k) i (from_filter q (numbers_below (origin k)) i there).0 in
+        let most : origin k < length block = by.paired.there k inside in
+        omega arith
+
+    given_few : length given ≤ length issued
+    given_few = fewer given issued partner (ordered_filter Apart q (numbers_below (origin k)) (below_apart (origin k)))
+        (λ i there.
+        let parts = from_filter q (numbers_below (origin k)) i there in
+        let less : i < origin k = below_from (origin k) i parts.0 in
+        let here : i < length block = given_inside i there in
+        let below : partner i < length ops = by.paired.there_too i here in
+        let back : origin (partner i) ≡ i = by.paired.back_too i here in
+        let passes : p (partner i) ≡ true = same_test (partner i) below ∙ ap q back ∙ parts.1 in
+        in_filter p (numbers_before rows c) (partner i)
+        (early_issued ops rows by.table c (partner i) below
+        (issued_first (partner i) k below inside (keep (partner i) passes) (rw back less)))
+        passes)
+        (λ i j there there_too same. one_partner i j (given_inside i there) (given_inside j there_too) same)
+
+    count_kept : count_of test ops (issued_before rows c) ≡ count_of test block (numbers_below (origin k))
+    count_kept =
+        let here : length issued ≡ count_by p (numbers_before rows c) = length-filter p (numbers_before rows c) in
+        let there : length given ≡ count_by q (numbers_below (origin k)) = length-filter q (numbers_below (origin k)) in
+        let level : length issued ≡ length given = omega (arith, issued_few, given_few) in
+        count_issued p rows c ∙ sym here ∙ level ∙ there
+
+  same_place : (a : Kind) (colour s s' o o' : ℕ) → (IsPlaced a → s ≡ s') → (a ≡ K.Output → o ≡ o')
+      → with_place a colour s o ≡ with_place a colour s' o'
+  same_place K.Load colour s s' o o' stores outputs = ap (mixed colour) (stores (inl refl))
+  same_place K.Store colour s s' o o' stores outputs = ap (mixed colour) (stores (inr (inl refl)))
+  same_place K.Output colour s s' o o' stores outputs =
+      ap₂ (λ m n. mixed (mixed colour m) n) (stores (inr (inr refl))) (outputs refl)
+  same_place K.Mult colour s s' o o' stores outputs = refl
+  same_place K.Other colour s s' o o' stores outputs = refl
+
+  first_same : (k : ℕ) → k < length ops → first_there ops rows k ≡ first_here block (origin k)
+  first_same k inside =
+      same_place (kind (op_at ops k)) (label_colour (op_at ops k)) _ _ _ _
+      (λ placed. ap (λ n. n % 2 ^ 64) (count_kept is_store k inside (λ j store.
+      stores_keep lat (kind (op_at ops j)) (kind (op_at ops k)) store placed)))
+      (λ output. ap (λ n. n % 2 ^ 64) (count_kept is_output k inside (λ j is.
+      outputs_keep lat (kind (op_at ops j)) (kind (op_at ops k)) is output)))
+      ∙ ap₂ (λ a colour. with_place a colour (count_of is_store block (numbers_below (origin k)) % 2 ^ 64)
+      (count_of is_output block (numbers_below (origin k)) % 2 ^ 64))
+      (kind_of lat block ops rows origin partner by k inside)
+      (same_label_colour (op_at ops k) (op_at block (origin k)) (by.paired.labels k inside))
+
+pub first_kept : (lat : Latencies) (block ops : List Op) (rows : List Row) (here there : List ℕ)
+    → ((i : ℕ) → i < length block → slice_index here i ≡ first_here block i)
+    → ((k : ℕ) → k < length ops → slice_index there k ≡ first_there ops rows k) → AreKept lat block ops rows here there
+first_kept lat block ops rows here there each each_there = λ origin partner under k inside.
+    each_there k inside
+    ∙ first_same lat block ops rows origin partner under k inside
+    ∙ sym (each (origin k) (under.paired.there k inside))

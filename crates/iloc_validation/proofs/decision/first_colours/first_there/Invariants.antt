@@ -1,0 +1,12 @@
+use Rattle.std.proofs.Common.{length}
+use Rattle.iloc_validation.specs.ByTheBook.{issued_before}
+use Rattle.iloc_validation.specs.Steps.FirstColours.{ArePlaces, first_there}
+use Rattle.iloc_validation.specs.Steps.Numbers.{AreNotedBefore}
+use Rattle.iloc_validation.proofs.decision.first_colours.first_there.Given as goal
+
+abbrev pub invariant-loop-row : goal.invariant-loop-row
+invariant-loop-row l = record {
+  noted : AreNotedBefore (length l.schedule.ops) (first_there l.schedule.ops l.schedule.rows) l.schedule.rows l.row-index
+      l.colours.items;
+  places : ArePlaces l.schedule.ops (issued_before l.schedule.rows l.row-index) l.places;
+}
