@@ -1,20 +1,17 @@
 -- Facts of rows: each says of operations where they are issued and what they read, so that it is seen that the rows aren't
 -- issued as their block asks for.
-use Rattle.std.specs.Prelude.{ℕ, zero, suc, ◌≡◌, ◌≢◌, ◌<◌, ◌≤◌, ◌||◌, List, [], ◌∷◌, length, map, count_by, Option, Some, None, Contains, IsTrue}
-use Rattle.std.specs.List.{range_with_len}
+use Rattle.std.specs.Prelude.{ℕ, zero, suc, ◌≡◌, ◌≢◌, ◌<◌, ◌≤◌, ◌||◌, List, [], ◌∷◌, length, map, Option, Some, None, Contains, IsTrue}
 use Rattle.iloc_ops.specs.declared.op.Reg.{Reg}
 use Rattle.iloc_ops.specs.declared.op.Op.{Op}
 use Rattle.iloc_ops.specs.Registers.{used, defined}
 use Rattle.iloc_meaning.specs.Trace.{op_at}
 use Rattle.iloc_timed.specs.declared.latencies.Latencies.{Latencies}
 use Rattle.iloc_timed.specs.declared.row.Row.{Row}
-use Rattle.iloc_timed.specs.declared.kind.Kind.{Kind}
-use Rattle.iloc_timed.specs.declared.kind.Kind.TheVariants as K
-use Rattle.iloc_timed.specs.Kinds.{kind, is_store, is_output}
+use Rattle.iloc_timed.specs.Kinds.{kind}
 use Rattle.iloc_timed.specs.Rows.{issue_cycle}
 use Rattle.iloc_sched.specs.Delays.{keeps_order}
 use Rattle.iloc_validation.specs.declared.lawfulness.Issue.{Issue}
-use Rattle.iloc_validation.specs.ByTheBook.{due, issued_before, given, label, read}
+use Rattle.iloc_validation.specs.ByTheBook.{due, given, label, read}
 use Rattle.iloc_validation.specs.Lawfulness.{issue_of}
 use Rattle.iloc_validation.specs.UnderWay.{IsUnderWay}
 use Rattle.iloc_reasons.specs.declared.fact.Fact.{Fact}
@@ -83,22 +80,6 @@ pub record IsFor (block ops : List Op) (rows : List Row) (issue : Issue) (op : O
 
 -- Alike operations
 
--- how many of these operations are stores
-abbrev pub stores_among : List Op → List ℕ → ℕ
-stores_among ops ks = count_by (λ k. is_store (kind (op_at ops k))) ks
-
--- how many of these operations are outputs
-abbrev pub outputs_among : List Op → List ℕ → ℕ
-outputs_among ops ks = count_by (λ k. is_output (kind (op_at ops k))) ks
-
--- the place of an operation of this kind behind these: what of it memory and outputs fix, how many stores come before a
--- load, a store or an output, and how many outputs before an output
-abbrev pub place_behind : List Op → List ℕ → Kind → ℕ × ℕ
-place_behind ops ks K.Load = (stores_among ops ks, 0)
-place_behind ops ks K.Store = (stores_among ops ks, 0)
-place_behind ops ks K.Output = (stores_among ops ks, outputs_among ops ks)
-place_behind ops ks _ = (0, 0)
-
 -- both are the start of a register, or results of operations of which this holds
 abbrev pub AreSources : (ℕ → ℕ → Type 0) → Option ℕ → Option ℕ → Type 0
 AreSources Alike None None = Unit
@@ -112,12 +93,10 @@ AreAllSources Alike (s ∷ ss) (t ∷ ts) = AreSources Alike s t × AreAllSource
 AreAllSources Alike _ _ = ⊥
 
 -- Operation i of the block and operation k of the rows are alike to a depth: all are to depth 0, and to depth n + 1 those of
--- one label and one place whose sources are both the start, or alike to depth n.
+-- one label whose sources are both the start, or alike to depth n.
 abbrev pub AreAlike : Latencies → List Op → List Op → List Row → ℕ → ℕ → ℕ → Type 0
 AreAlike lat block ops rows zero i k = Unit
 AreAlike lat block ops rows (suc n) i k = (label (op_at block i) ≡ label (op_at ops k))
-    × (place_behind block (range_with_len 0 i) (kind (op_at block i))
-    ≡ place_behind ops (issued_before rows (issue_cycle rows k)) (kind (op_at ops k)))
     × AreAllSources (AreAlike lat block ops rows n) (map (given block i) (used (op_at block i)))
     (map (read lat ops rows (issue_cycle rows k)) (used (op_at ops k)))
 

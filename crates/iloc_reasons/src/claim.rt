@@ -4,10 +4,13 @@ ghost use Rattle.iloc_ops.specs.Registers.{used};
 ghost use Rattle.iloc_timed.specs.declared.kind.Kind.TheVariants as kinds;
 ghost use Rattle.iloc_sched.specs.Delays.{keeps_order};
 ghost use Rattle.iloc_reasons.specs.Facts.{IsFact, HasBeenThere};
+ghost use Rattle.iloc_reasons.specs.Steps.Likeness.{TellApart};
 ghost use Rattle.iloc_reasons.specs.Steps.Sides.{AreRead, source_at};
 
 use crate::fact::Fact;
+use crate::likeness::Terms;
 use crate::sides::Sides;
+use crate::terms::at;
 use iloc_ops::{Op, Reg, defines, uses};
 use iloc_timed::Kind;
 use iloc_validation::{Issue, Sources, have_one_label};
@@ -196,10 +199,27 @@ fn stands_for(sides: &Sides, k: usize, i: usize) -> Option<Fact>
     None
 }
 
+/// No operation of the block is like operation k.
+fn like_none(sides: &Sides, terms: &Terms, k: usize) -> Option<Fact>
+    requires read { AreRead sides.now.latencies.now sides.now.schedule.now.ops sides.now.schedule.now.rows sides.now.readings.now }
+    requires terms { TellApart sides.now.latencies.now sides.now.block.now sides.now.schedule.now.ops
+        sides.now.schedule.now.rows terms.now }
+    ensures { IfSome result (IsFact sides.now.latencies.now sides.now.block.now sides.now.schedule.now.ops
+        sides.now.schedule.now.rows) }
+{
+    let issue = sides.issue(k)?;
+    match terms.block.get(&at(&terms.rows, k)) {
+        None => Some(Fact::LikeNone { issue }),
+        Some(_) => None,
+    }
+}
+
 impl Claim {
     /// The fact that it claims, if it is one.
-    pub(crate) fn fact(self, sides: &Sides) -> Option<Fact>
-        requires { AreRead sides.now.latencies.now sides.now.schedule.now.ops sides.now.schedule.now.rows sides.now.readings.now }
+    pub(crate) fn fact(self, sides: &Sides, terms: &Terms) -> Option<Fact>
+        requires terms { TellApart sides.now.latencies.now sides.now.block.now sides.now.schedule.now.ops
+            sides.now.schedule.now.rows terms.now }
+        requires read { AreRead sides.now.latencies.now sides.now.schedule.now.ops sides.now.schedule.now.rows sides.now.readings.now }
         ensures { IfSome result (IsFact sides.now.latencies.now sides.now.block.now sides.now.schedule.now.ops
             sides.now.schedule.now.rows) }
     {
@@ -210,7 +230,7 @@ impl Claim {
             What::ReadsOver { place, lost } => replaced(sides, k, place, lost),
             What::Beside { other } => ordered(sides, k, other),
             What::For { op } => stands_for(sides, k, op),
-            What::LikeNone => None,
+            What::LikeNone => like_none(sides, terms, k),
             What::See => match sides.issue(k) {
                 Some(issue) => Some(Fact::See { issue }),
                 None => None,

@@ -4,8 +4,10 @@
 mod choice;
 mod claim;
 mod fact;
+mod likeness;
 mod reasons;
 mod sides;
+mod terms;
 
 pub use fact::Fact;
 pub use reasons::{MOST_FACTS, Reasons, reasons_of};

@@ -4,11 +4,13 @@ ghost use Rattle.iloc_sched.specs.Renaming.{without_nops as ops_of};
 ghost use Rattle.iloc_validation.specs.Lawfulness.{AreLeftOut, AreAdded};
 ghost use Rattle.iloc_reasons.specs.Facts.{IsFact};
 ghost use Rattle.iloc_reasons.specs.Reasons.{AreReasons};
+ghost use Rattle.iloc_reasons.specs.Steps.Likeness.{TellApart};
 ghost use Rattle.iloc_reasons.specs.Steps.Sides.{AreRead};
 
 use crate::choice::{Choice, chosen};
 use crate::claim::Claim;
 use crate::fact::Fact;
+use crate::likeness::{Terms, terms_of};
 use crate::sides::Sides;
 use iloc_ops::{Block, NoMemory, Op};
 use iloc_timed::{Latencies, Schedule};
@@ -39,8 +41,15 @@ struct FirstFacts {
 }
 
 /// The first facts of what is claimed.
-fn first_facts(alloc: Global, sides: &Sides, claims: &[Claim]) -> Result<FirstFacts, NoMemory>
-    requires { AreRead sides.now.latencies.now sides.now.schedule.now.ops sides.now.schedule.now.rows sides.now.readings.now }
+fn first_facts(
+    alloc: Global,
+    sides: &Sides,
+    terms: &Terms,
+    claims: &[Claim],
+) -> Result<FirstFacts, NoMemory>
+    requires terms { TellApart sides.now.latencies.now sides.now.block.now sides.now.schedule.now.ops
+        sides.now.schedule.now.rows terms.now }
+    requires read { AreRead sides.now.latencies.now sides.now.schedule.now.ops sides.now.schedule.now.rows sides.now.readings.now }
     ensures facts { IfOk result (λ listed. All (IsFact sides.now.latencies.now sides.now.block.now sides.now.schedule.now.ops
         sides.now.schedule.now.rows) listed.facts.items) }
     ensures few { IfOk result (λ listed. length listed.facts.items ≤ 8) }
@@ -48,7 +57,7 @@ fn first_facts(alloc: Global, sides: &Sides, claims: &[Claim]) -> Result<FirstFa
     let mut facts = Vec::new(alloc);
     let mut more: usize = 0;
     for claim in claims {
-        if let Some(fact) = claim.fact(sides) {
+        if let Some(fact) = claim.fact(sides, terms) {
             if facts.len() < MOST_FACTS {
                 facts.push(fact)?;
             } else {
@@ -108,12 +117,13 @@ pub fn reasons_of(
         readings: &readings,
         latencies,
     };
+    let terms = terms_of(alloc, &sides)?;
     let Choice {
         claims,
         left_out: missing,
         added: extra,
     } = chosen(alloc, &sides)?;
-    let FirstFacts { facts, more } = first_facts(alloc, &sides, &claims)?;
+    let FirstFacts { facts, more } = first_facts(alloc, &sides, &terms, &claims)?;
     Ok(Reasons {
         left_out: left_out(alloc, &sides, missing)?,
         added: added(alloc, &sides, extra)?,

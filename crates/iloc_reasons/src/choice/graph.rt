@@ -1,6 +1,6 @@
 //! The operations of a block or of rows, with numbers for what they compute and for who reads them.
 
-use super::mixing::{Values, label_number, mix};
+use crate::terms::{Values, at, label_number, mix};
 use iloc_ops::{NoMemory, Op};
 use iloc_timed::{Kind, Row};
 use iloc_validation::Sources;
@@ -62,11 +62,6 @@ pub(crate) fn put<T: Drop + Copy>(list: &mut Vec<T>, place: usize, value: T) {
     if place < list.len() {
         list[place] = value;
     }
-}
-
-/// A number at a place, or 0 where there is none.
-pub(crate) fn at(numbers: &[u64], place: usize) -> u64 {
-    numbers.get(place).copied().unwrap_or(0)
 }
 
 /// The places of operations in rows.

@@ -1,9 +1,9 @@
 //! What an operation may have been meant to read.
 
-use super::graph::{Graph, at};
-use super::mixing::{Values, value};
+use super::graph::Graph;
 use crate::claim::What;
 use crate::sides::Sides;
+use crate::terms::{Values, at, value};
 use iloc_ops::{NoMemory, Op, Reg, defines, uses};
 use iloc_validation::Sources;
 use std::alloc::Global;

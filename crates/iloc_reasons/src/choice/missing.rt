@@ -1,8 +1,8 @@
 //! The operations of a block that have no counterpart in rows, as long as nobody is found to be one.
 
-use super::graph::{at, put};
-use super::mixing::{Values, mix, one_if};
-use super::terms::{Side, has};
+use super::graph::put;
+use super::side::{Side, has};
+use crate::terms::{Values, at, mix, one_if};
 use iloc_ops::NoMemory;
 use iloc_validation::Sources;
 use std::alloc::Global;

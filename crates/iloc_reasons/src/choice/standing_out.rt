@@ -1,9 +1,9 @@
 //! Operations of rows that stand out though all compute what the block's do: others read them.
 
 use super::counts::Counts;
-use super::graph::{Graph, at, put};
-use super::mixing::mix;
-use super::terms::has;
+use super::graph::{Graph, put};
+use super::side::has;
+use crate::terms::mix;
 use iloc_ops::NoMemory;
 use iloc_validation::Sources;
 use std::alloc::Global;

@@ -1,13 +1,13 @@
 //! The operations of rows one after another, each with what it is meant to be.
 
 use super::Choice;
-use super::graph::{Place, at, put};
+use super::graph::{Place, put};
 use super::guesses::{Definers, Looking, Pick};
 use super::missing::{Missing, Wanted};
-use super::mixing::{Values, mix};
-use super::terms::{Side, has};
+use super::side::{Side, has};
 use crate::claim::{Claim, What};
 use crate::sides::Sides;
+use crate::terms::{Values, at, mix};
 use iloc_ops::NoMemory;
 use iloc_timed::{Kind, Row};
 use std::alloc::Global;

@@ -1,8 +1,8 @@
 //! Which operations of a block have no counterpart in rows, by what they compute.
 
 use super::counts::Counts;
-use super::graph::{Graph, at, put};
-use super::mixing::{Values, mix};
+use super::graph::{Graph, put};
+use crate::terms::{Values, at, mix};
 use iloc_ops::NoMemory;
 use iloc_timed::Kind;
 use std::alloc::Global;
