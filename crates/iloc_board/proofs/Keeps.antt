@@ -22,7 +22,7 @@ use Rattle.iloc_board.specs.Core.{Core, opening, worker_of, is_holding, found, m
 use Rattle.iloc_board.specs.Journal.{entries_of, state_of, seen, seen_in, noted}
 use Rattle.iloc_board.specs.Play.{final}
 use Rattle.iloc_board.specs.Collecting.{AllAnswered}
-use Rattle.iloc_board.specs.Steps.Rule.{TableState, root_seat, pass_seat, spent_seat, Tells, FitsPass, FitsRoot, Fits, IsKept, Sat, looks, tries, hands, makes, made_pass, gathers}
+use Rattle.iloc_board.specs.Steps.Rule.{TableState, root_seat, pass_seat, spent_seat, Tells, FitsPass, FitsRoot, Fits, IsKept, Sat, looks, tells_all, tries, hands, makes, made_pass, gathers}
 use Rattle.iloc_board.proofs.Runs.{played-snoc, final-snoc}
 use Rattle.iloc_board.proofs.Parts.{state_final, made-snoc, made_more, answered-snoc, none_yet, tells_here, tells_else, seen_in_low}
 
@@ -215,6 +215,34 @@ looks_kept count slots id m role free s k len at small =
       tt,
       adds_one count s k id v at role x refl r same (found_answers v.count n) (slice_set s.words 0 n) ws,
       (refl, low'),
+    )
+
+-- what is put where it stands leaves the list
+put_again : {A : Type 0} (l : List A) (i : ℕ) (a : A) → get_elem? l i ≡ some a → slice_set l i a ≡ l
+put_again [] i a e = refl
+put_again (x ∷ xs) zero a e = ap (λ y. y ∷ xs) (sym (some-injective x a e))
+put_again (x ∷ xs) (suc i) a e = ap (λ ys. x ∷ ys) (put_again xs i a e)
+
+read_again : (ws costs : List ℕ) (next : ℕ) → ws ≡ next ∷ costs → slice_set ws 0 (slice_index ws 0) ≡ ws
+read_again ws costs next e = let P : List ℕ → Type 0 = λ l. slice_set l 0 (slice_index l 0) ≡ l in subst P (sym e) refl
+
+-- a load of word 0 by the root
+pub tells_kept : (count slots id : ℕ) (m : Sat) → m.0.role ≡ Root
+    → Allows (IsKept count) slots id m 0 (λ n. n) (tells_all (step slots 0 0 0 none) m)
+tells_kept count slots id m role s k len at small =
+    let v : SeatView = m.0 in
+    let mine : FitsRoot count k.made k.steps s.views id v = (k.fits id v at).1 role in
+    let n : ℕ = slice_index s.words 0 in
+    let words : s.words ≡ slice_set s.words 0 n = sym (read_again s.words (final count k.steps).costs (final count k.steps).next k.words) in
+    let views : s.views ≡ slice_set s.views id v = sym (put_again s.views id v at) in
+    let P : List ℕ → Type 0 = λ ws. IsKept count record { words = ws; homes = s.homes; views = s.views } in
+    let Q : List SeatView → Type 0 = λ vs. IsKept count record { words = slice_set s.words 0 n; homes = s.homes; views = vs } in
+    let R : ℕ → Type 0 = λ c. IsKept c s in (
+      v,
+      keeps,
+      tt,
+      subst Q views (subst P words k),
+      (refl, s, subst R (sym mine.counts) k, id, at),
     )
 
 -- a compare and exchange of word 0

@@ -13,7 +13,7 @@ use Rattle.iloc_sched.proofs.Bounds.LeastBound.{least_bound}
 use Rattle.iloc_farm.specs.Commands.Compare.{IsComparedCycles, cycles_by, place}
 use Rattle.iloc_farm.specs.Listing.{cycles_of}
 use Rattle.iloc_farm.specs.Steps.Limits.{most_cycles}
-use Rattle.iloc_farm.specs.Steps.Listed.{IsCount}
+use Rattle.iloc_farm.specs.Schedules.{IsCount}
 use Rattle.iloc_farm.proofs.Schedules.{cycles_few_by}
 use Rattle.iloc_farm.specs.declared.commands.compare.ComparedCycles.{ComparedCycles}
 

@@ -4,10 +4,9 @@ use Rattle.std.specs.Prelude.{slice_get, MatchOption}
 use Rattle.std.specs.List.{flat_map}
 use Rattle.std.proofs.lemmas.List.Concat.{flat_map-cons}
 use Rattle.iloc_ops.specs.declared.file.Block.{Block}
-use Rattle.iloc_args.specs.declared.request.Request.{Request}
-use Rattle.iloc_farm.specs.Entries.{AreEntries, IsListingAfter, IsListingOf}
+use Rattle.iloc_farm.specs.Entries.{AreEntries, AreListed, IsListingAfter, IsListingOf}
 use Rattle.iloc_farm.specs.Listing.{entries}
-use Rattle.iloc_farm.specs.Steps.Listed.{AreListed, Grows, OfBlock, ToList}
+use Rattle.iloc_farm.specs.Steps.Listed.{Grows}
 
 module _ {F : Type 0} (lists : ℕ → Block → List ℕ → F → Type 0) where
   -- one block more
@@ -88,15 +87,6 @@ module _ {F : Type 0} (lists : ℕ → Block → List ℕ → F → Type 0) wher
       listed = each_listed 1 blocks made are.many are.each;
       whole = whole;
     }
-
--- what fits each of the jobs is listed of each block
-pub of_jobs : {E : Type 0} (lists : Request → ℕ → Block → E → Type 0) (jobs given : ToList) (made : List E)
-    → jobs ≡ given → length made ≡ length jobs.blocks
-    → ((i : ℕ) (e : E) → slice_get made i ≡ Some e → OfBlock (lists jobs.request) jobs.blocks i e)
-    → AreListed (lists given.request) given.blocks made
-of_jobs lists jobs given made same long each =
-    let P : ToList → Type 0 = λ j. AreListed (lists j.request) j.blocks made in
-    subst P same (record { many = long; each = each })
 
 -- Where two kinds of entries agree, so do their listings.
 module _ {F : Type 0} (lists lists' : ℕ → Block → List ℕ → F → Type 0)

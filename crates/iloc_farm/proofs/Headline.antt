@@ -7,8 +7,7 @@ use Rattle.iloc_timed.specs.declared.latencies.Latencies.{Latencies}
 use Rattle.iloc_timed.specs.Schedule.{Table}
 use Rattle.iloc_sched.specs.declared.ranking.heuristic.Heuristic.{Heuristic}
 use Rattle.iloc_sched.proofs.Outcome.LawfulOutcomes.{lawful_same_outcome}
-use Rattle.iloc_board.specs.Finished.{IsFinished}
-use Rattle.iloc_board.specs.Journal.{JournalView}
+use Rattle.iloc_board.specs.Finished.{IsDoneBy, ReceiptView}
 use Rattle.iloc_farm.specs.Headline.{Headline}
 use Rattle.iloc_farm.specs.Listing.{cycles_of}
 use Rattle.iloc_farm.specs.Schedules.{IsGreedyAs, IsScheduleOf}
@@ -20,15 +19,13 @@ module _ (heuristic : Heuristic) (lat : Latencies) (blocks : List Block) where
       let P : Option Block → Type 0 = λ b. IfSome b (λ (b : Block). IsGreedyAs heuristic lat b.ops s) in
       subst P at fits
 
-  pub headline : (workers : ℕ) (journals : List JournalView) (handed : List (ℕ × Table)) (schedules : List Table)
-      (cycles : List ℕ)
-      → IsFinished (length blocks) (IsScheduleOf heuristic lat blocks) (cycles_of lat) workers journals handed schedules
-      cycles
-      → Headline heuristic lat blocks workers journals handed schedules cycles
-  headline workers journals handed schedules cycles h = record {
-    history = h;
+  pub headline : (receipt : ReceiptView) (schedules : List Table)
+      → IsDoneBy (length blocks) (IsScheduleOf heuristic lat blocks) (cycles_of lat) receipt schedules
+      → Headline heuristic lat blocks receipt schedules
+  headline receipt schedules done = record {
+    history = done;
     each = λ i b s block at.
-        let greedy : IsGreedyAs heuristic lat b.ops s = greedy_of i b s block (h.in_order.each i s at).1 in
+        let greedy : IsGreedyAs heuristic lat b.ops s = greedy_of i b s block (done.1.in_order.each i s at).1 in
         record {
           lawful = greedy.lawful;
           same = λ memory. lawful_same_outcome lat b.ops s.ops s.rows memory greedy.lawful;

@@ -15,6 +15,7 @@ pub mod Headline
 pub mod HeldRows
 pub mod Listings
 pub mod Entries
+pub mod Receipts
 pub mod Comparisons
 pub mod Listers
 pub mod Unfolded

@@ -29,8 +29,9 @@ use Rattle.iloc_farm.specs.Commands.Simulate.{IsSimulateEntry}
 use Rattle.iloc_farm.specs.Laws.{AskAlike, SimulatingListsRuns}
 use Rattle.iloc_farm.specs.Listing.{block_head, cycles_of, entries, opening_as, outcome_entry, schedule_entry, schedule_lines, shown_entry, total_of_all}
 use Rattle.iloc_farm.specs.Run.{IsListingFor, Lists, ListsAs, ListsFile, ListsFor, ListsFrom}
-use Rattle.iloc_farm.specs.Schedules.{IsGreedyAs, IsTheGreedy}
-use Rattle.iloc_farm.specs.Steps.Listed.{Adds, AreListed, IsCount, ListsRead}
+use Rattle.iloc_farm.specs.Schedules.{IsCount, IsGreedyAs, IsTheGreedy}
+use Rattle.iloc_farm.specs.Entries.{AreListed, ListsRead}
+use Rattle.iloc_farm.specs.Steps.Listed.{Adds}
 use Rattle.iloc_farm.specs.declared.commands.Finding.TheVariants.{Passed}
 use Rattle.iloc_farm.specs.declared.commands.Listed.{Listed}
 use Rattle.iloc_farm.specs.declared.commands.compare.ComparedCycles.{ComparedCycles}

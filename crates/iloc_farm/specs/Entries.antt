@@ -1,6 +1,8 @@
 -- The listing of a file's blocks: an entry for each, and an ending.
-use Rattle.std.specs.Prelude.{◌≡◌, ℕ, ◌+◌, List, [], ◌∷◌, ◌++◌}
+use Rattle.std.specs.Prelude.{◌≡◌, ℕ, ◌+◌, List, [], ◌∷◌, ◌++◌, length, slice_get, MatchOption, Option, Some}
 use Rattle.iloc_ops.specs.declared.file.Block.{Block}
+use Rattle.iloc_text.specs.Files.{Denotes}
+use Rattle.iloc_text.specs.Streams.{ReadsText}
 
 -- `lists k b entry f` says that this is the entry of the block b with the number k, of which f is found
 module _ {F : Type 0} (lists : ℕ → Block → List ℕ → F → Type 0) where
@@ -25,3 +27,23 @@ module _ {F : Type 0} (lists : ℕ → Block → List ℕ → F → Type 0) wher
   -- without an opening
   abbrev pub IsListingOf : (List F → List ℕ) → List Block → List ℕ → Type 0
   IsListingOf ending blocks text = IsListingAfter [] ending blocks text
+
+-- the bytes that were read denote a file, of whose blocks the text is the listing
+pub record ListsRead (is_listing : List Block → List ℕ → Type 0) (old new : Option (List ℕ)) (text : List ℕ)
+    : Type 0 where
+  pub input : List ℕ
+  pub read : ReadsText old new input
+  pub blocks : List Block
+  pub denoted : Denotes input blocks
+  pub listed : is_listing blocks text
+
+-- `lists k b x` says that x is listed of the block b with the number k, counted from 1
+module _ {A : Type 0} (lists : ℕ → Block → A → Type 0) where
+  -- this is listed of block i; past the last block there is none
+  abbrev pub OfBlock : List Block → ℕ → A → Type 0
+  OfBlock blocks i x = MatchOption (slice_get blocks i) ⊥ (λ (b : Block). lists (i + 1) b x)
+
+  -- each of these is listed of its block
+  pub record AreListed (blocks : List Block) (all : List A) : Type 0 where
+    pub many : length all ≡ length blocks
+    pub each : (i : ℕ) (x : A) → slice_get all i ≡ Some x → OfBlock blocks i x

@@ -7,8 +7,7 @@ use Rattle.iloc_timed.specs.Schedule.{Table}
 use Rattle.iloc_timed.specs.Timed.{timed_outcome}
 use Rattle.iloc_sched.specs.declared.ranking.heuristic.Heuristic.{Heuristic}
 use Rattle.iloc_sched.specs.Lawful.{IsLawful}
-use Rattle.iloc_board.specs.Finished.{IsFinished}
-use Rattle.iloc_board.specs.Journal.{JournalView}
+use Rattle.iloc_board.specs.Finished.{IsDoneBy, ReceiptView}
 use Rattle.iloc_farm.specs.Listing.{cycles_of}
 use Rattle.iloc_farm.specs.Schedules.{IsScheduleOf}
 
@@ -18,15 +17,13 @@ pub record KeepsItsBlock (lat : Latencies) (b : Block) (s : Table) : Type 0 wher
   pub lawful : IsLawful lat b.ops s.ops s.rows
   pub same : (memory : List ℤ) → timed_outcome lat s.ops s.rows memory ≡ outcome b.ops memory
 
--- So many workers, with these journals, handed back these schedules of the blocks, each behind the number of its block.
--- In the order of the blocks they are these, with these cycles.
-pub record Headline (heuristic : Heuristic) (lat : Latencies) (blocks : List Block) (workers : ℕ) (journals : List JournalView)
-    (handed : List (ℕ × Table)) (schedules : List Table) (cycles : List ℕ) : Type 0 where
-  -- What the workers did is one legal history of a board of one thread. In it no block is taken twice or handed back
+-- What the workers of this receipt did with these blocks, of which these are the schedules.
+pub record Headline (heuristic : Heuristic) (lat : Latencies) (blocks : List Block) (receipt : ReceiptView)
+    (schedules : List Table) : Type 0 where
+  -- By their journals it is one legal history of a board of one thread. In it no block is taken twice or handed back
   -- twice, and at its end none waits and none is out. Each block has exactly one schedule, the one that is greedy by
   -- this heuristic, which was handed back for it at its cycles.
-  pub history : IsFinished (length blocks) (IsScheduleOf heuristic lat blocks) (cycles_of lat) workers journals handed schedules
-      cycles
+  pub history : IsDoneBy (length blocks) (IsScheduleOf heuristic lat blocks) (cycles_of lat) receipt schedules
   -- Each schedule keeps its block.
   pub each : (i : ℕ) (b : Block) (s : Table) → slice_get blocks i ≡ Some b → slice_get schedules i ≡ Some s
       → KeepsItsBlock lat b s

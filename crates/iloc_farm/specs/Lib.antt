@@ -10,3 +10,4 @@ pub mod Program
 pub mod Schedules
 pub mod Run
 pub mod Steps
+pub mod Work

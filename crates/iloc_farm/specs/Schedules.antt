@@ -11,6 +11,7 @@ use Rattle.iloc_sched.specs.declared.ranking.heuristic.Heuristic.{Heuristic}
 use Rattle.iloc_sched.specs.declared.ranking.heuristic.Heuristic.TheVariants.{Chain}
 use Rattle.iloc_sched.specs.Greedy.{IsGreedyBy}
 use Rattle.iloc_sched.specs.Heuristics.{priorities_by}
+use Rattle.iloc_farm.specs.Listing.{cycles_of}
 
 -- the schedule of the block is greedy by the priorities that this heuristic gives its operations
 abbrev pub IsGreedyAs : Heuristic → Latencies → List Op → Table → Type 0
@@ -36,6 +37,12 @@ IsScheduleOf heuristic lat blocks i s = IfSome (slice_get blocks i) (λ (b : Blo
 pub record IsTheGreedy (heuristic : Heuristic) (lat : Latencies) (b : Block) (s : Table) : Type 0 where
   pub greedy : IsGreedyAs heuristic lat b.ops s
   pub only : (t : Table) → IsGreedyAs heuristic lat b.ops t → t ≡ s
+
+-- these are the cycles of the block's schedule that is greedy by this heuristic
+pub record IsCount (heuristic : Heuristic) (lat : Latencies) (b : Block) (cycles : ℕ) : Type 0 where
+  pub schedule : Table
+  pub greedy : IsTheGreedy heuristic lat b schedule
+  pub counted : cycles ≡ cycles_of lat schedule
 
 -- no other list of schedules has that property
 abbrev pub AreTheOnlyGreedyAs : Heuristic → Latencies → List Block → List Table → Type 0

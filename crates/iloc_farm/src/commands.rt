@@ -2,6 +2,7 @@
 ghost use Rattle.std.specs.Prelude.{◌≡◌, IfErr, IfOk};
 ghost use Rattle.iloc_farm.specs.Fault.{finding_of, finding_of_text, status_of_finding};
 ghost use Rattle.iloc_farm.specs.Run.{ListsFrom};
+ghost use Rattle.iloc_farm.specs.Work.{HasReceipt};
 ghost use Rattle.iloc_farm.specs.Steps.OfInput.{EndsReading};
 
 mod check;
@@ -27,6 +28,7 @@ use counts::CountLister;
 use explain::explained;
 use graph::GraphLister;
 use iloc_args::{Request, Task};
+use iloc_board::Receipt;
 use lint::linted;
 use run::RunLister;
 use schedule::ScheduleLister;
@@ -101,46 +103,55 @@ impl Listed {
     }
 }
 
-/// What the request lists of what the reader gives and, where it names a file of blocks, of that text.
+/// What the request lists of what the reader gives and, where it names a file of blocks, of that text; and the receipt for the
+/// work of those who made its entries, if they were workers.
 pub(crate) fn list<H: Threads + Wait + Sync, T: Texts, R: Read>(
     rt: &H,
     alloc: Global,
     texts: &T,
     reader: &mut R,
     request: &Request,
-) -> Result<Listed, RunFault>
-    ensures ok { IfOk result (λ listed. ListsFrom (T.held texts.now) request.now
-        (R.remaining reader.old) (R.remaining reader.new) listed.finding listed.text) }
+) -> Result<(Listed, Option<Receipt>), RunFault>
+    ensures ok { IfOk result (λ r. ListsFrom (T.held texts.now) request.now
+        (R.remaining reader.old) (R.remaining reader.new) r.0.finding r.0.text) }
+    ensures work { IfOk result (λ r. HasReceipt request.now.task request.now
+        (R.remaining reader.old) (R.remaining reader.new) r.0.text r.1) }
     ensures err { IfErr result (EndsReading (T.held texts.now) request.now
         (R.remaining reader.old) (R.remaining reader.new)) }
 {
     match request.task {
         Task::Run => {
             let text = listed_as_read::<RunLister, R>(alloc, reader, request)?;
-            Ok(Listed::of_file(text))
+            Ok((Listed::of_file(text), None))
         }
         Task::Simulate => {
             let text = listed_as_read::<SimulateLister, R>(alloc, reader, request)?;
-            Ok(Listed::of_file(text))
+            Ok((Listed::of_file(text), None))
         }
         Task::Schedule => {
-            let text = listed_by_workers::<ScheduleLister, H, R>(rt, alloc, reader, request)?;
-            Ok(Listed::of_file(text))
+            let (text, receipt) = listed_by_workers::<ScheduleLister, H, R>(
+                rt, alloc, reader, request,
+            )?;
+            Ok((Listed::of_file(text), Some(receipt)))
         }
         Task::Counts => {
-            let text = listed_by_workers::<CountLister, H, R>(rt, alloc, reader, request)?;
-            Ok(Listed::of_file(text))
+            let (text, receipt) = listed_by_workers::<CountLister, H, R>(
+                rt, alloc, reader, request,
+            )?;
+            Ok((Listed::of_file(text), Some(receipt)))
         }
         Task::Compare => {
-            let text = listed_by_workers::<CompareLister, H, R>(rt, alloc, reader, request)?;
-            Ok(Listed::of_file(text))
+            let (text, receipt) = listed_by_workers::<CompareLister, H, R>(
+                rt, alloc, reader, request,
+            )?;
+            Ok((Listed::of_file(text), Some(receipt)))
         }
-        Task::Explain => explained(alloc, texts, reader, request),
+        Task::Explain => Ok((explained(alloc, texts, reader, request)?, None)),
         Task::Graph => {
             let text = listed_as_read::<GraphLister, R>(alloc, reader, request)?;
-            Ok(Listed::of_file(text))
+            Ok((Listed::of_file(text), None))
         }
-        Task::Check => checked(alloc, texts, reader, request),
-        Task::Lint => linted(alloc, reader, request),
+        Task::Check => Ok((checked(alloc, texts, reader, request)?, None)),
+        Task::Lint => Ok((linted(alloc, reader, request)?, None)),
     }
 }

@@ -1,13 +1,12 @@
 //! The farm: the blocks of a file, scheduled by several workers.
 ghost use Rattle.std.specs.Prelude.{◌≡◌, ◌≤◌, IfOk};
 ghost use Rattle.iloc_text.specs.Files.{AreWithinLimits};
-ghost use Rattle.iloc_board.specs.Collecting.{IsWhole};
 ghost use Rattle.iloc_farm.specs.Headline.{Headline};
 ghost use Rattle.iloc_farm.specs.Schedules.{AreGreedyAs, AreTheOnlyGreedyAs, KeepOutcomes};
 
 use crate::fault::FarmFault;
-use crate::workers::work_all;
-use iloc_board::{Board, Collected, Gate, Jobs, NoDesk, NoMemory, Root};
+use crate::workers::farm_out;
+use iloc_board::{Done, Gate, Jobs, NoDesk, NoMemory};
 use iloc_sched::{Heuristic, Scheduler};
 use iloc_text::{Block, IlocFile};
 use iloc_timed::{Latencies, MAX_ROWS, Schedule, cycles};
@@ -93,8 +92,8 @@ impl<'f> Jobs for BlockJobs<'f> {
 /// Schedules the blocks of a file by `workers` threads, which take them from one board.
 ///
 /// Promise: the answer is the schedule of each block that is greedy by the heuristic, in the order of the file, and no other
-/// list of schedules is. On every memory each schedule has its block's outcome. What the workers did, `work_all` and
-/// `collect_schedules` say.
+/// list of schedules is. On every memory each schedule has its block's outcome. What the workers did, `farm_out` and
+/// `schedules_of` say.
 ///
 /// # Errors
 ///
@@ -119,28 +118,22 @@ pub fn schedule_all<R: Threads + Wait + Sync, G: Gate + Sync>(
         KeepOutcomes latencies.now file.now.blocks schedules.items) }
 {
     let jobs = BlockJobs::new(file, latencies, heuristic);
-    let (board, mut root) = Board::new(alloc, &jobs, workers)?;
     let desks = vec![in alloc; NoDesk; workers as usize]?;
-    work_all(rt, alloc, &board, &mut root, desks, gate)?;
-    Ok(collect_schedules(board, root)?.answers)
+    Ok(schedules_of(farm_out(rt, alloc, &jobs, desks, gate)?))
 }
 
-/// Closes a board at which all blocks were scheduled: the schedules, each with its cycles, in the order of the file.
+/// The schedules that workers made, in the order of the file.
 ///
-/// Promise: what the workers did, by the journals that the root gathered, is one legal history of a board of one thread, in
-/// which each block is taken once and its schedule handed back once. The answer has just these schedules, at their cycles: each
-/// is the greedy one, keeps the rules of units and latencies, and has its block's outcome on every memory.
-pub fn collect_schedules<'j, 'f>(
-    board: Board<'j, BlockJobs<'f>>,
-    root: Root<'j, BlockJobs<'f>>,
-) -> Result<Collected<Schedule>, NoMemory>
-    requires own { root.board ≡ board }
-    requires whole { IsWhole root.made root.gathered }
-    ensures headline { let jobs = board.entry.jobs in IfOk result (λ c.
-        Headline jobs.heuristic jobs.latencies jobs.blocks root.entry.made root.entry.gathered root.entry.answers
-        c.answers.items c.costs.items) }
-    ensures greedy { let jobs = board.entry.jobs in IfOk result (λ c.
-        AreGreedyAs jobs.heuristic jobs.latencies jobs.blocks c.answers.items) }
+/// Promise: what the workers did, by the journals of the receipt, is one legal history of a board of one thread, in which each
+/// block is taken once and its schedule handed back once, at its cycles. These are the schedules that were handed back: each is
+/// the greedy one, keeps the rules of units and latencies, and has its block's outcome on every memory.
+pub fn schedules_of<'j, 'f>(done: Done<'j, BlockJobs<'f>>) -> Vec<Schedule>
+    ensures answers { result.items ≡ done.entry.answers }
+    ensures headline { let jobs = done.entry.jobs in
+        Headline jobs.heuristic jobs.latencies jobs.blocks done.entry.receipt result.items }
+    ensures greedy { let jobs = done.entry.jobs in
+        AreGreedyAs jobs.heuristic jobs.latencies jobs.blocks result.items }
 {
-    board.finish(root)
+    let (schedules, _) = done.into_parts();
+    schedules
 }

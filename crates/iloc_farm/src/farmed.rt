@@ -4,15 +4,16 @@ ghost use Rattle.iloc_ops.specs.Limits.{MAX_BLOCKS, MAX_OPS};
 ghost use Rattle.iloc_ops.specs.declared.file.Block.{Block as block_value};
 ghost use Rattle.iloc_args.specs.declared.request.Request.{Request as request_value};
 ghost use Rattle.iloc_text.specs.Files.{AreWithinLimits};
-ghost use Rattle.iloc_farm.specs.Steps.Listed.{AreListed, ListsRead};
+ghost use Rattle.iloc_farm.specs.Entries.{AreListed, OfBlock};
 ghost use Rattle.iloc_farm.specs.Steps.OfInput.{EndsFarm};
+ghost use Rattle.iloc_farm.specs.Work.{AreFarmed, ListsFarmed};
 
 use crate::fault::{FarmFault, RunFault};
 use crate::listing::text::Listing;
 use crate::reading::read_blocks;
-use crate::workers::work_all;
+use crate::workers::farm_out;
 use iloc_args::Request;
-use iloc_board::{AtDesk, Board, FreeGate, Jobs, NoMemory};
+use iloc_board::{AtDesk, FreeGate, Jobs, NoMemory, Receipt};
 use iloc_text::{Block, Blocks, NoMemory as NoText};
 use std::alloc::Global;
 use std::io::Read;
@@ -105,7 +106,7 @@ impl<'f, L: FarmedLister> ListedJobs<'f, L> {
 
 impl<'f, L: FarmedLister> Jobs for ListedJobs<'f, L> {
     ghost use Rattle.std.specs.Prelude.{length};
-    ghost use Rattle.iloc_farm.specs.Steps.Listed.{OfBlock};
+    ghost use Rattle.iloc_farm.specs.Entries.{OfBlock};
 
     type Answer = L::Answer;
 
@@ -148,39 +149,41 @@ fn desks<L: FarmedLister>(alloc: Global, request: &Request) -> Result<Vec<L>, No
     Ok(desks)
 }
 
-/// The answers for the blocks, which the request's workers make.
+/// The answers for the blocks, which the request's workers make, and the receipt for their work.
 fn answers_of<H: Threads + Wait + Sync, L: FarmedLister + Send + Sync>(
     rt: &H,
     alloc: Global,
     blocks: &[Block],
     request: &Request,
-) -> Result<Vec<L::Answer>, FarmFault>
+) -> Result<(Vec<L::Answer>, Receipt), FarmFault>
 where
     L::Answer: Send,
     requires { AreWithinLimits blocks.now }
-    ensures { IfOk result (λ all. AreListed (L.answers request.now) blocks.now all.items) }
+    ensures { IfOk result (λ done. AreFarmed (length blocks.now) (OfBlock (L.answers request.now) blocks.now) L.cycles_in
+        request.now.workers done.1 done.0.items) }
 {
     let jobs = ListedJobs::<L>::new(blocks, request);
-    let (board, mut root) = Board::new(alloc, &jobs, request.workers)?;
     let desks = desks::<L>(alloc, request)?;
-    work_all(rt, alloc, &board, &mut root, desks, &FreeGate)?;
-    Ok(board.finish(root)?.answers)
+    Ok(farm_out(rt, alloc, &jobs, desks, &FreeGate)?.into_parts())
 }
 
-/// The listing of the file that the reader gives, for whose blocks the request's workers make the answers.
+/// The listing of the file that the reader gives, for whose blocks the request's workers make the answers, and the receipt for
+/// their work.
 pub(crate) fn listed_by_workers<L: FarmedLister + Send + Sync, H: Threads + Wait + Sync, R: Read>(
     rt: &H,
     alloc: Global,
     reader: &mut R,
     request: &Request,
-) -> Result<Listing, RunFault>
+) -> Result<(Listing, Receipt), RunFault>
 where
     L::Answer: Send,
-    ensures ok { IfOk result
-        (ListsRead (L.lists request.now) (R.remaining reader.old) (R.remaining reader.new)) }
+    ensures ok { IfOk result (λ listed.
+        ListsFarmed (L.answers request.now) L.cycles_in (L.lists request.now) request.now.workers
+        (R.remaining reader.old) (R.remaining reader.new) listed.0 listed.1) }
     ensures err { IfErr result (EndsFarm (R.remaining reader.old) (R.remaining reader.new)) }
 {
     let blocks = read_blocks(rt, alloc, reader, request)?;
-    let answers = answers_of::<H, L>(rt, alloc, blocks.as_slice(), request)?;
-    Ok(L::listing(alloc, request, blocks, answers)?)
+    let (answers, receipt) = answers_of::<H, L>(rt, alloc, blocks.as_slice(), request)?;
+    let text = L::listing(alloc, request, blocks, answers)?;
+    Ok((text, receipt))
 }

@@ -15,10 +15,10 @@ mod texts;
 mod workers;
 
 pub use commands::Finding;
-pub use farm::{BlockJobs, collect_schedules, schedule_all};
+pub use farm::{BlockJobs, schedule_all, schedules_of};
 pub use fault::{FarmFault, RunFault, TaskFault, run_status};
-pub use listing::schedules_text;
 pub use listing::writing::WriteFailed;
-pub use program::{Ending, run, run_program};
+pub use listing::schedules_text;
+pub use program::{Ending, run, run_program, run_with_receipt};
 pub use texts::Texts;
-pub use workers::work_all;
+pub use workers::{farm_out, work_all};

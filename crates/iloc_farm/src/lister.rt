@@ -4,8 +4,8 @@ ghost use Rattle.iloc_ops.specs.Limits.{MAX_BLOCKS, MAX_OPS};
 ghost use Rattle.iloc_ops.specs.declared.file.Block.{Block as block_value};
 ghost use Rattle.iloc_args.specs.declared.request.Request.{Request as request_value};
 ghost use Rattle.iloc_farm.specs.Commands.Run.{initial_memory};
-ghost use Rattle.iloc_farm.specs.Entries.{IsListingOf};
-ghost use Rattle.iloc_farm.specs.Steps.Listed.{Adds, ListsRead};
+ghost use Rattle.iloc_farm.specs.Entries.{IsListingOf, ListsRead};
+ghost use Rattle.iloc_farm.specs.Steps.Listed.{Adds};
 ghost use Rattle.iloc_farm.specs.Steps.OfInput.{EndsFile};
 
 use crate::fault::RunFault;

@@ -5,6 +5,7 @@ ghost use Rattle.std.specs.Vec.Iter.{into_iter_items};
 ghost use Rattle.iloc_args.specs.Asked.{asked_in};
 ghost use Rattle.iloc_farm.specs.Program.{AskFor, Ends, IsDone, IsStopped, MakeNone, Says};
 ghost use Rattle.iloc_farm.specs.Program.{named_line, words_line};
+ghost use Rattle.iloc_farm.specs.Work.{HasReceipt};
 ghost use Rattle.iloc_farm.specs.Run.{EndsRun, ListsFrom};
 
 use crate::commands::{Finding, Listed, list};
@@ -13,6 +14,7 @@ use crate::listing::writing::{WriteFailed, write_text};
 use crate::texts::Texts;
 use arrayvec::ArrayString;
 use iloc_args::{LineFault, Request, line_status, parse_line};
+use iloc_board::Receipt;
 use std::alloc::{AllocError, Global};
 use std::env::Args;
 use std::fmt::{Display, Write as _};
@@ -92,8 +94,9 @@ impl From<WriteFailed> for Fault {
 /// Runs the program on its words, the first of which is its own name. An error in place of the words means that one of them
 /// isn't UTF-8, or that memory was refused. `texts` opens the file of blocks that they may name.
 ///
-/// Promise: the program does what its words ask for and ends with status 0, or 5 where a check failed. Or a fault stops it: then
-/// it says which on one line of `faults`, or in the parser's own words, and ends with that fault's status.
+/// Promise: the program does what its words ask for and ends with status 0, with 5 where what it judged or explained doesn't
+/// pass, or with 1 where the text that it searched for faults has some. Or a fault stops it: then it says which on one line of
+/// `faults`, or in the parser's own words, and ends with that fault's status.
 pub fn run_program<H: Threads + Wait + Sync, T: Texts, R: Read, W: Write, F: Write>(
     rt: &H,
     alloc: Global,
@@ -121,7 +124,34 @@ pub fn run_program<H: Threads + Wait + Sync, T: Texts, R: Read, W: Write, F: Wri
 
 /// Reads an input, writes what the request lists of it, and answers what was found. For `Check` the input is blocks with rows
 /// or, where the request names a file, rows for that file's blocks, which are read first; else it is a file, of which nothing
-/// is judged. For `Schedule` and `Counts` the request's workers are threads.
+/// is judged. For `Schedule`, `Counts` and `Compare` the request's workers are threads, and there is a receipt for their work.
+///
+/// Promise: at `Ok` the listing of just this input was written, whole. By the receipt, what workers did with the very blocks that
+/// were read is one legal history of a board of one thread, in which each block is taken once and what is listed of it handed
+/// back once. After `WriteFailed` a prefix of the listing was written, and after any other fault nothing. A fault of the text is
+/// the first that the text has; that no worker could be started is answered only where the text has none.
+pub fn run_with_receipt<H: Threads + Wait + Sync, T: Texts, R: Read, W: Write>(
+    rt: &H,
+    alloc: Global,
+    texts: &T,
+    reader: &mut R,
+    writer: &mut W,
+    request: &Request,
+) -> Result<(Finding, Option<Receipt>), RunFault>
+    ensures ok { IfOk result (λ done. (text : List ℕ) ×
+        ListsFrom (T.held texts.now) request.now (R.remaining reader.old) (R.remaining reader.new) done.0 text ×
+        HasReceipt request.now.task request.now (R.remaining reader.old) (R.remaining reader.new) text done.1 ×
+        Appends (W.contents writer.old) (W.contents writer.new) text) }
+    ensures err { IfErr result (EndsRun (T.held texts.now) request.now
+        (R.remaining reader.old) (R.remaining reader.new)
+        (W.contents writer.old) (W.contents writer.new)) }
+{
+    let (Listed { text, finding }, receipt) = list(rt, alloc, texts, reader, request)?;
+    text.write_to(writer)?;
+    Ok((finding, receipt))
+}
+
+/// Does what `run_with_receipt` does, and answers what was found.
 ///
 /// Promise: at `Ok` the listing of just this input was written, whole. After `WriteFailed` a prefix of it was, and after any other
 /// fault nothing. A fault of the text is the first that the text has; that no worker could be started is answered only where
@@ -141,8 +171,7 @@ pub fn run<H: Threads + Wait + Sync, T: Texts, R: Read, W: Write>(
         (R.remaining reader.old) (R.remaining reader.new)
         (W.contents writer.old) (W.contents writer.new)) }
 {
-    let Listed { text, finding } = list(rt, alloc, texts, reader, request)?;
-    text.write_to(writer)?;
+    let (finding, _) = run_with_receipt(rt, alloc, texts, reader, writer, request)?;
     Ok(finding)
 }
 
@@ -161,7 +190,10 @@ fn serve<H: Threads + Wait + Sync, T: Texts, R: Read, W: Write>(
         (W.contents writer.old) (W.contents writer.new)) }
 {
     match request_of(alloc, words) {
-        Ok(request) => Ok(run(rt, alloc, texts, reader, writer, &request)?),
+        Ok(request) => {
+            let (finding, _) = run_with_receipt(rt, alloc, texts, reader, writer, &request)?;
+            Ok(finding)
+        }
         Err(LineFault::Help(text)) => {
             write_text(writer, text.as_bytes())?;
             Ok(Finding::Passed)

@@ -1,15 +1,16 @@
 //! The workers of a board, each a thread.
-ghost use Rattle.std.specs.Prelude.{◌≡◌, ◌<◌, [], ◌∷◌, ◌++◌, length, IfErr, IfOk, OnOk, map};
+ghost use Rattle.std.specs.Prelude.{◌≡◌, ◌<◌, ◌^◌, [], ◌∷◌, ◌++◌, length, IfErr, IfOk, OnOk, map};
 ghost use Rattle.std.specs.List.{All, range_with_len};
 ghost use Rattle.iloc_board.specs.declared.board.state.State.TheVariants as about;
 ghost use Rattle.iloc_board.specs.Views.{state};
 ghost use Rattle.iloc_board.specs.Working.{IsDone};
 ghost use Rattle.iloc_board.specs.Collecting.{IsWhole, workers_of};
 ghost use Rattle.iloc_farm.specs.Fault.{EndsWork};
+ghost use Rattle.iloc_farm.specs.Work.{AreFarmed};
 
 use crate::crew::{Routine, crew};
 use crate::fault::FarmFault;
-use iloc_board::{AtDesk, Board, Gate, Jobs, NoMemory, Pass, Root, work_at};
+use iloc_board::{AtDesk, Board, Done, Gate, Jobs, NoMemory, Pass, Root, work_at};
 use std::alloc::Global;
 use std::sync::Wait;
 use std::thread::Threads;
@@ -47,6 +48,37 @@ impl<'s, 'a, J: AtDesk<D>, D: Drop, G: Gate> Routine for Shift<'s, 'a, J, D, G> 
         let done = work_at(board, &mut pass, gate, &mut desk);
         Worked { pass, done }
     }
+}
+
+/// Has these jobs done by as many workers as there are desks. The workers take the jobs from one board; each has a pass, one of
+/// these desks and a thread of its own.
+///
+/// Promise: what the workers did, by the journals of the receipt, is one legal history of a board of one thread, in which each
+/// job is taken once and handed back once. The answers are those that were handed back, in the order of the jobs. There is one
+/// journal of each worker, in order, and each worker was told that no job is left.
+///
+/// # Errors
+///
+/// `NoThread` where a thread could not be started, `NoMemory` where memory was refused. After either every thread that was
+/// started has ended.
+pub fn farm_out<'a, J: AtDesk<D> + Sync, D: Send + Drop, G: Gate + Sync, R: Threads + Wait + Sync>(
+    rt: &R,
+    alloc: Global,
+    jobs: &'a J,
+    desks: Vec<D>,
+    gate: &G,
+) -> Result<Done<'a, J>, FarmFault>
+where
+    J::Answer: Send,
+    requires some { 0 < length desks.items }
+    requires few { length desks.items < 2 ^ 32 }
+    ensures jobs { IfOk result (λ done. done.jobs ≡ jobs.now) }
+    ensures headline { IfOk result (λ done. AreFarmed (J.number jobs.now) (J.fits jobs.now) (J.price jobs.now)
+        (length desks.items) done.receipt done.answers) }
+{
+    let (board, mut root) = Board::new(alloc, jobs, desks.len() as u32)?;
+    work_all(rt, alloc, &board, &mut root, desks, gate)?;
+    Ok(board.done(root)?)
 }
 
 /// Has all jobs of a new board done by as many workers as its root may make: each has a pass, one of these desks and a thread

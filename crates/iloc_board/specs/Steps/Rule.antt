@@ -81,6 +81,10 @@ adds m x r = (pass_seat m.0.count (noted m.0.journal x r), m.1)
 abbrev pub looks : StepEffect
 looks st m n after = (after ≡ adds m (Look m.0.journal.worker) (found m.0.count n)) × (seen m.0.count m.0.journal ≤ n)
 
+-- a load of word 0 by the root: at that moment the rule held, with the root's seat as it was
+abbrev pub tells_all : StepEffect
+tells_all st m n after = (after ≡ m) × (s : TableState) × IsKept m.0.count s × (id : ℕ) × (get_elem? s.views id ≡ some m.0)
+
 -- a compare and exchange of word 0
 abbrev pub tries : StepEffect
 tries st m n after = (after ≡ adds m (Try m.0.journal.worker) (cond (n == st.first) (Took st.first) (missed m.0.count n))) × (seen m.0.count m.0.journal ≤ n)

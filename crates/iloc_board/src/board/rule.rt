@@ -1,5 +1,5 @@
-//! The rule of the board's table, and its five kinds of atomic steps.
-ghost use Rattle.iloc_board.specs.Steps.Rule.{IsKept, root_seat, spent_seat, looks, tries, hands, makes, made_pass, gathers};
+//! The rule of the board's table, and its six kinds of atomic steps.
+ghost use Rattle.iloc_board.specs.Steps.Rule.{IsKept, root_seat, spent_seat, looks, tells_all, tries, hands, makes, made_pass, gathers};
 ghost use Rattle.std.specs.Prelude.{[]};
 
 use crate::board::seat_view::SeatView;
@@ -19,6 +19,13 @@ pub struct Looking;
 
 impl Play<(), SeatView> for Looking {
     ghost then = { looks };
+}
+
+/// A root loads the next job, and is told of all steps.
+pub struct Telling;
+
+impl Play<(), SeatView> for Telling {
+    ghost then = { tells_all };
 }
 
 /// A pass exchanges the next job for the one after it.

@@ -12,7 +12,7 @@ use Rattle.iloc_args.specs.declared.request.Request.{Request}
 use Rattle.iloc_farm.specs.declared.commands.compare.ComparedCycles.{ComparedCycles}
 use Rattle.iloc_farm.specs.Entries.{IsListingAfter}
 use Rattle.iloc_farm.specs.Listing.{field, head_as, opening_as}
-use Rattle.iloc_farm.specs.Steps.Listed.{IsCount}
+use Rattle.iloc_farm.specs.Schedules.{IsCount}
 
 -- the heuristics, in the order in which they are listed
 abbrev pub heuristics : List Heuristic

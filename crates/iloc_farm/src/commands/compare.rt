@@ -3,7 +3,7 @@ ghost use Rattle.std.specs.Prelude.{◌≡◌, ◌≤◌, ◌<◌, ◌^◌, ◌+
 ghost use Rattle.std.specs.Option.{option_copied};
 ghost use Rattle.iloc_ops.specs.Limits.{MAX_BLOCKS, MAX_OPS};
 ghost use Rattle.iloc_farm.specs.Commands.Compare as compare;
-ghost use Rattle.iloc_farm.specs.Steps.Listed.{IsCount};
+ghost use Rattle.iloc_farm.specs.Schedules.{IsCount};
 ghost use Rattle.iloc_farm.specs.Steps.Tallies.{counted};
 
 use crate::farmed::FarmedLister;
@@ -246,7 +246,7 @@ impl CompareLister {
 impl FarmedLister for CompareLister {
     ghost use Rattle.iloc_sched.specs.declared.ranking.heuristic.Heuristic.TheVariants.{Chain};
     ghost use Rattle.iloc_farm.specs.Commands.Compare.{IsCompareListing, IsComparedCycles, cycles_by};
-    ghost use Rattle.iloc_farm.specs.Steps.Listed.{AreListed};
+    ghost use Rattle.iloc_farm.specs.Entries.{AreListed};
 
     type Answer = ComparedCycles;
 

@@ -38,7 +38,7 @@ impl FarmedLister for ScheduleLister {
     ghost use Rattle.iloc_farm.specs.Commands.Schedule.{IsScheduleEntry};
     ghost use Rattle.iloc_farm.specs.Entries.{IsListingOf};
     ghost use Rattle.iloc_farm.specs.Listing.{total_of_all};
-    ghost use Rattle.iloc_farm.specs.Steps.Listed.{AreListed};
+    ghost use Rattle.iloc_farm.specs.Entries.{AreListed};
 
     type Answer = ScheduleEntry;
 

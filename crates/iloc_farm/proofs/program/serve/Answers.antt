@@ -3,11 +3,11 @@ use Rattle.iloc_farm.proofs.Words.{is_help, made_err, run_stopped}
 use Rattle.iloc_farm.specs.declared.commands.Finding.TheVariants.{Passed}
 use Rattle.iloc_farm.proofs.program.serve.Goals as goal
 
-pub returns-in_err-run-in-Ok-clause-err : goal.returns-in_err-run-in-Ok-clause-err
-returns-in_err-run-in-Ok-clause-err g c =
+pub returns-in_err-finding-in-Ok-clause-err : goal.returns-in_err-finding-in-Ok-clause-err
+returns-in_err-finding-in-Ok-clause-err g c =
     made_err c.from_residual.result _ _ c.from_residual.ensures.1
-    (run_stopped _ _ c.in-Ok.request _ _ _ _ c.in_err-run-in-Ok.field-0.0 c.in-Ok.ensures.ok
-    c.in_err-run-in-Ok.ensures.err)
+    (run_stopped _ _ c.in-Ok.request _ _ _ _ c.in_err-finding-in-Ok.field-0.0 c.in-Ok.ensures.ok
+    c.in_err-finding-in-Ok.ensures.err)
 
 pub returns-in_err-write_text-in-Err-Help-clause-err : goal.returns-in_err-write_text-in-Err-Help-clause-err
 returns-in_err-write_text-in-Err-Help-clause-err g c =
@@ -22,11 +22,11 @@ returns-in_err-write_text-in-Err-Help-clause-err g c =
       written = c.in_err-write_text-in-Err-Help.ensures.err;
     })
 
-pub returns-in_ok-run-in-Ok-clause-ok : goal.returns-in_ok-run-in-Ok-clause-ok
-returns-in_ok-run-in-Ok-clause-ok g c = let done = c.in_ok-run-in-Ok.ensures.ok in record {
+pub returns-in_ok-finding-in-Ok-clause-ok : goal.returns-in_ok-finding-in-Ok-clause-ok
+returns-in_ok-finding-in-Ok-clause-ok g c = let done = c.in_ok-finding-in-Ok.ensures.ok in record {
   text = done.0;
   asked = inr (record { request = c.in-Ok.request; asked = c.in-Ok.ensures.ok; listed = done.1 });
-  written = done.2;
+  written = done.3;
 }
 
 pub returns-in_ok-write_text-in-Err-Help-clause-ok : goal.returns-in_ok-write_text-in-Err-Help-clause-ok
