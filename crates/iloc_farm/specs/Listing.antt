@@ -47,6 +47,10 @@ shown_entry k name words = block_head k name ++ codes "\n" ++ words_or_fault wor
 abbrev pub outcome_entry : ℕ → Option (List ℕ) → Outcome → List ℕ
 outcome_entry k name outcome = shown_entry k name (shown outcome)
 
+-- the listing of a file's blocks with their outcomes
+abbrev pub outcomes_listing : List Block → List Outcome → List ℕ
+outcomes_listing blocks outcomes = entries outcome_entry 1 blocks outcomes
+
 -- Schedules
 
 abbrev pub cycles_of : Latencies → Table → ℕ

@@ -18,7 +18,7 @@ pub use commands::Finding;
 pub use farm::{BlockJobs, schedule_all, schedules_of};
 pub use fault::{FarmFault, RunFault, TaskFault, run_status};
 pub use listing::writing::WriteFailed;
-pub use listing::schedules_text;
+pub use listing::{counts_text, outcomes_text, schedules_text};
 pub use program::{Ending, run, run_program, run_with_receipt};
 pub use texts::Texts;
 pub use workers::{farm_out, work_all};

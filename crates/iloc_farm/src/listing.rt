@@ -5,12 +5,15 @@ ghost use Rattle.std.specs.Option.{option_copied};
 ghost use Rattle.std.specs.List.{flat_map};
 ghost use Rattle.std.specs.Fmt.{decimal};
 ghost use Rattle.iloc_timed.specs.Spelling.{row_line};
+ghost use Rattle.iloc_farm.specs.Commands.Counts.{counts_listing};
 ghost use Rattle.iloc_farm.specs.Listing as listed;
 
 pub(crate) mod table;
 pub(crate) mod text;
 pub(crate) mod writing;
 
+use crate::listing::table::push_count;
+use iloc_meaning::Outcome;
 use iloc_text::{IlocFile, Name, NoMemory, Op, push_number, write_text};
 use iloc_timed::{Latencies, MAX_ROWS, Row, Schedule, cycles, push_row_line};
 use itoa::write_digits;
@@ -189,5 +192,50 @@ pub fn schedules_text(
         total += cycles;
     }
     push_total(&mut text, total)?;
+    Ok(text)
+}
+
+/// The listing of a file's blocks with the cycles of their schedules.
+///
+/// Promise: for each block the listing has a line with its number, its name and its cycles, as `counts` has it; at the end the
+/// cycles of all.
+pub fn counts_text(
+    alloc: Global,
+    file: &IlocFile,
+    latencies: &Latencies,
+    schedules: &[Schedule],
+) -> Result<Vec<u8>, NoMemory>
+    requires each { length schedules.now ≡ length file.now.blocks }
+    requires total { listed.total_cycles latencies.now schedules.now < 2 ^ 63 }
+    ensures { IfOk result (λ text. text.items ≡
+        counts_listing latencies.now file.now.blocks schedules.now) }
+{
+    let mut text = Vec::new(alloc);
+    let mut total = 0;
+    for (index, block) in file.blocks.as_slice().iter().enumerate() {
+        let cycles = cycles(&schedules[index], latencies);
+        push_count(&mut text, false, index + 1, block.name.as_ref(), cycles)?;
+        total += cycles;
+    }
+    push_total(&mut text, total)?;
+    Ok(text)
+}
+
+/// The listing of a file's blocks with their outcomes.
+///
+/// Promise: for each block the listing has its head and the words that it emits, or that it faults, as `run` has it.
+pub fn outcomes_text(
+    alloc: Global,
+    file: &IlocFile,
+    outcomes: &[Outcome],
+) -> Result<Vec<u8>, NoMemory>
+    requires { length outcomes.now ≡ length file.now.blocks }
+    ensures { IfOk result (λ text. text.items ≡ listed.outcomes_listing file.now.blocks outcomes.now) }
+{
+    let mut text = Vec::new(alloc);
+    for (index, block) in file.blocks.as_slice().iter().enumerate() {
+        let words = outcomes[index].outputs();
+        push_outcome(&mut text, index + 1, block.name.as_ref(), words)?;
+    }
     Ok(text)
 }

@@ -1,15 +1,24 @@
 -- `counts` lists how many cycles each block's schedule takes.
 use Rattle.std.specs.Prelude.{◌≡◌, ℕ, Bool, true, false, List, [], ◌++◌, Option, codes}
 use Rattle.iloc_ops.specs.declared.file.Block.{Block}
+use Rattle.iloc_timed.specs.declared.latencies.Latencies.{Latencies}
 use Rattle.iloc_timed.specs.Schedule.{Table}
 use Rattle.iloc_args.specs.declared.request.Request.{Request}
 use Rattle.iloc_farm.specs.Entries.{IsListingAfter}
-use Rattle.iloc_farm.specs.Listing.{field, cycles_of, head_as, opening_as, total_of_all}
+use Rattle.iloc_farm.specs.Listing.{field, cycles_of, entries, head_as, opening_as, total_line, total_of_all}
 use Rattle.iloc_farm.specs.Schedules.{IsTheGreedy}
 
 -- `block K NAME cycles C`, or `K,NAME,C` in a table
 abbrev pub count_line : Bool → ℕ → Option (List ℕ) → ℕ → List ℕ
 count_line csv k name cycles = head_as csv k name ++ field csv (codes "cycles") cycles ++ codes "\n"
+
+-- the line of a block with this schedule
+abbrev pub count_entry : Latencies → ℕ → Option (List ℕ) → Table → List ℕ
+count_entry lat k name s = count_line false k name (cycles_of lat s)
+
+-- the listing of a file's blocks with the cycles of their schedules, which is no table
+abbrev pub counts_listing : Latencies → List Block → List Table → List ℕ
+counts_listing lat blocks schedules = entries (count_entry lat) 1 blocks schedules ++ total_line lat schedules
 
 -- the entry of block k: the cycles of its schedule, greedy by what the request ranks by, which are found
 pub record IsCountEntry (request : Request) (k : ℕ) (b : Block) (entry : List ℕ) (cycles : ℕ) : Type 0 where

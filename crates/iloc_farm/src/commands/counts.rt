@@ -1,38 +1,19 @@
 //! `counts`: how many cycles blocks' schedules take.
 ghost use Rattle.std.specs.Prelude.{◌≡◌, ◌≤◌, ◌<◌, ◌^◌, ◌++◌, length, IfOk, OnOk};
-ghost use Rattle.std.specs.Option.{option_copied};
 ghost use Rattle.iloc_ops.specs.Limits.{MAX_BLOCKS};
-ghost use Rattle.iloc_farm.specs.Commands.Counts.{count_ending, count_line};
+ghost use Rattle.iloc_farm.specs.Commands.Counts.{count_ending};
 
 use crate::farmed::FarmedLister;
-use crate::listing::table::{push_head, push_opening};
+use crate::listing::table::{push_count, push_opening};
 use crate::listing::text::Listing;
-use crate::listing::{count_of, push_numbered, push_total_of};
+use crate::listing::{count_of, push_total_of};
 use iloc_args::Request;
 use iloc_sched::Scheduler;
-use iloc_text::{Block, Blocks, Name, NoMemory};
+use iloc_text::{Block, Blocks, NoMemory};
 use std::alloc::Global;
 
 /// What a table begins with.
 const HEADER: &[u8] = b"block,name,cycles\n";
-
-/// Appends the line of the block with this number, counted from 1, whose schedule takes so many cycles, or its row in a
-/// table.
-fn push_count(
-    text: &mut Vec<u8>,
-    csv: bool,
-    number: usize,
-    name: Option<&Name>,
-    cycles: u64,
-) -> Result<(), NoMemory>
-    requires { number < 2 ^ 63 }
-    ensures { OnOk result (text.new.items
-        ≡ text.old.items ++ count_line csv number (option_copied name.entry) cycles) }
-{
-    push_head(text, csv, number, name)?;
-    let label: &[u8] = if csv { b"," } else { b" cycles " };
-    push_numbered(text, label, cycles, b"\n")
-}
 
 /// Appends the line of these cycles together, but in a table.
 fn push_ending(text: &mut Vec<u8>, csv: bool, cycles: &[u32]) -> Result<(), NoMemory>
@@ -51,7 +32,8 @@ pub(crate) struct CountLister(Scheduler);
 
 impl FarmedLister for CountLister {
     ghost use Rattle.iloc_farm.specs.Commands.Counts.{IsCountListing};
-    ghost use Rattle.iloc_farm.specs.Steps.Listed.{AreListed, IsCount};
+    ghost use Rattle.iloc_farm.specs.Entries.{AreListed};
+    ghost use Rattle.iloc_farm.specs.Schedules.{IsCount};
 
     type Answer = u32;
 

@@ -1,6 +1,7 @@
 //! Lines that are rows of a table where one is asked for.
 ghost use Rattle.std.specs.Prelude.{◌≡◌, ◌<◌, ◌^◌, ◌++◌, OnOk};
 ghost use Rattle.std.specs.Option.{option_copied};
+ghost use Rattle.iloc_farm.specs.Commands.Counts.{count_line};
 ghost use Rattle.iloc_farm.specs.Listing as listed;
 
 use crate::listing::{push_block_head, push_numbered};
@@ -53,4 +54,22 @@ pub(crate) fn push_field(
         return push_numbered(text, b",", number, b"");
     }
     push_column(text, label, number)
+}
+
+/// Appends the line of the block with this number, counted from 1, whose schedule takes so many cycles, or its row in a
+/// table.
+pub(crate) fn push_count(
+    text: &mut Vec<u8>,
+    csv: bool,
+    number: usize,
+    name: Option<&Name>,
+    cycles: u64,
+) -> Result<(), NoMemory>
+    requires { number < 2 ^ 63 }
+    ensures { OnOk result (text.new.items
+        ≡ text.old.items ++ count_line csv number (option_copied name.entry) cycles) }
+{
+    push_head(text, csv, number, name)?;
+    let label: &[u8] = if csv { b"," } else { b" cycles " };
+    push_numbered(text, label, cycles, b"\n")
 }
