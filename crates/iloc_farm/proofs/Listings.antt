@@ -113,5 +113,5 @@ checks_ignore_workers r q alike takes held old new finding text lists =
     (as_alike held r q alike r.task r.task_file refl takes old new finding text lists))
 
 pub can_be_listed : GreedySchedulesCanBeListed
-can_be_listed lat blocks schedules limits greedy =
-    (greedy_long lat blocks schedules greedy, total_small lat blocks schedules greedy limits)
+can_be_listed heuristic lat blocks schedules limits greedy =
+    (greedy_long heuristic lat blocks schedules greedy, total_small heuristic lat blocks schedules greedy limits)

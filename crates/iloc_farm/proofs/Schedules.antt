@@ -107,14 +107,17 @@ pub cycles_few : (lat : Latencies) (block : List Op) (s : Table) → IsGreedy la
     → length block ≤ MAX_OPS → cycles_of lat s ≤ most_cycles
 cycles_few lat block s greedy short = cycles_few_by (priorities lat s.ops) lat block s greedy short
 
-pub total_few : (lat : Latencies) (blocks : List Block) (schedules : List Table) → AreGreedy lat blocks schedules
-    → AllByRecursion (λ b. length b.ops ≤ MAX_OPS) blocks → total_cycles lat schedules ≤ most_cycles * length blocks
-total_few lat [] [] greedy short = omega arith
-total_few lat [] (s ∷ schedules) greedy short = absurd greedy
-total_few lat (b ∷ blocks) [] greedy short = absurd greedy
-total_few lat (b ∷ blocks) (s ∷ schedules) greedy short =
-    let head : cycles_of lat s ≤ most_cycles = cycles_few lat b.ops s greedy.0 short.0 in
-    let tail : total_cycles lat schedules ≤ most_cycles * length blocks = total_few lat blocks schedules greedy.1 short.1 in
+pub total_few : (heuristic : Heuristic) (lat : Latencies) (blocks : List Block) (schedules : List Table)
+    → AreGreedyAs heuristic lat blocks schedules → AllByRecursion (λ b. length b.ops ≤ MAX_OPS) blocks
+    → total_cycles lat schedules ≤ most_cycles * length blocks
+total_few heuristic lat [] [] greedy short = omega arith
+total_few heuristic lat [] (s ∷ schedules) greedy short = absurd greedy
+total_few heuristic lat (b ∷ blocks) [] greedy short = absurd greedy
+total_few heuristic lat (b ∷ blocks) (s ∷ schedules) greedy short =
+    let head : cycles_of lat s ≤ most_cycles =
+    cycles_few_by (priorities_by heuristic lat s.ops) lat b.ops s greedy.0 short.0 in
+    let tail : total_cycles lat schedules ≤ most_cycles * length blocks =
+    total_few heuristic lat blocks schedules greedy.1 short.1 in
     rw (sum_by-cons (cycles_of lat) s schedules) (omega arith)
 
 -- any schedule ends within the longest latency behind its rows
@@ -145,20 +148,20 @@ are_greedy heuristic lat (b ∷ blocks) [] long each = absurd (omega arith)
 are_greedy heuristic lat (b ∷ blocks) (s ∷ schedules) long each =
     (each 0 s refl, are_greedy heuristic lat blocks schedules (omega arith) (λ i t at. each (suc i) t at))
 
-pub greedy_long : (lat : Latencies) (blocks : List Block) (schedules : List Table) → AreGreedy lat blocks schedules
-    → length schedules ≡ length blocks
-greedy_long lat [] [] greedy = refl
-greedy_long lat [] (s ∷ schedules) greedy = absurd greedy
-greedy_long lat (b ∷ blocks) [] greedy = absurd greedy
-greedy_long lat (b ∷ blocks) (s ∷ schedules) greedy = let rest : length schedules ≡ length blocks =
-    greedy_long lat blocks schedules greedy.1 in omega arith
+pub greedy_long : (heuristic : Heuristic) (lat : Latencies) (blocks : List Block) (schedules : List Table)
+    → AreGreedyAs heuristic lat blocks schedules → length schedules ≡ length blocks
+greedy_long heuristic lat [] [] greedy = refl
+greedy_long heuristic lat [] (s ∷ schedules) greedy = absurd greedy
+greedy_long heuristic lat (b ∷ blocks) [] greedy = absurd greedy
+greedy_long heuristic lat (b ∷ blocks) (s ∷ schedules) greedy =
+    let rest : length schedules ≡ length blocks = greedy_long heuristic lat blocks schedules greedy.1 in omega arith
 
 -- the total of a file's greedy schedules
-pub total_small : (lat : Latencies) (blocks : List Block) (schedules : List Table) → AreGreedy lat blocks schedules
-    → AreWithinLimits blocks → total_cycles lat schedules < 2 ^ 63
-total_small lat blocks schedules greedy limits =
+pub total_small : (heuristic : Heuristic) (lat : Latencies) (blocks : List Block) (schedules : List Table)
+    → AreGreedyAs heuristic lat blocks schedules → AreWithinLimits blocks → total_cycles lat schedules < 2 ^ 63
+total_small heuristic lat blocks schedules greedy limits =
     let few : total_cycles lat schedules ≤ most_cycles * length blocks =
-    total_few lat blocks schedules greedy limits.1 in
+    total_few heuristic lat blocks schedules greedy limits.1 in
     let most : length blocks ≤ MAX_BLOCKS = limits.0 in omega arith
 
 pub greedy_more : (lat : Latencies) (blocks : List Block) (schedules : List Table) (b : Block) (s : Table)

@@ -8,6 +8,7 @@ use Rattle.iloc_text.specs.Files.{AreWithinLimits, Denotes}
 use Rattle.iloc_text.specs.Streams.{ReadsText}
 use Rattle.iloc_timed.specs.declared.latencies.Latencies.{Latencies}
 use Rattle.iloc_timed.specs.Schedule.{Table}
+use Rattle.iloc_sched.specs.declared.ranking.heuristic.Heuristic.{Heuristic}
 use Rattle.iloc_rows.specs.declared.proposal.Proposal.{Proposal}
 use Rattle.iloc_judge.specs.Checked.{DoTheSame, MayPass}
 use Rattle.iloc_rows.specs.EitherSlot.{placed}
@@ -23,7 +24,7 @@ use Rattle.iloc_farm.specs.Commands.Check.{ListsChecked}
 use Rattle.iloc_farm.specs.Listing.{total_cycles}
 use Rattle.iloc_farm.specs.Program.{Args, AskFor, Ends}
 use Rattle.iloc_farm.specs.Run.{IsListing, IsListingFor, ListsFrom, takes_rows}
-use Rattle.iloc_farm.specs.Schedules.{AreGreedy}
+use Rattle.iloc_farm.specs.Schedules.{AreGreedyAs}
 
 -- the requests ask for the same, but maybe of other workers
 pub record AskAlike (r q : Request) : Type 0 where
@@ -111,9 +112,9 @@ HandInsDontChangeTheTask = (known : List ℕ) (old new old' new' : Option (List 
     (proposals proposals' : List Proposal) → ReadsApart (Some known) old new blocks proposals
     → ReadsApart (Some known) old' new' blocks' proposals' → blocks ≡ blocks'
 
--- The greedy schedules of blocks within the limits are as many as the blocks, and their cycles together are below 2^63,
--- as the listings of schedules want.
+-- By every heuristic, the greedy schedules of blocks within the limits are as many as the blocks, and their cycles together
+-- are below 2^63, as the listings of schedules want.
 abbrev pub GreedySchedulesCanBeListed : Type 0
-GreedySchedulesCanBeListed = (lat : Latencies) (blocks : List Block) (schedules : List Table)
-    → AreWithinLimits blocks → AreGreedy lat blocks schedules
+GreedySchedulesCanBeListed = (heuristic : Heuristic) (lat : Latencies) (blocks : List Block) (schedules : List Table)
+    → AreWithinLimits blocks → AreGreedyAs heuristic lat blocks schedules
     → (length schedules ≡ length blocks) × (total_cycles lat schedules < 2 ^ 63)

@@ -49,9 +49,10 @@ pub fn hand_ins_dont_change_the_task()
     ensures { HandInsDontChangeTheTask }
 {}
 
-/// `schedules_text` takes the greedy schedules of every file.
+/// `schedules_text` and `counts_text` take the greedy schedules of every file.
 ///
-/// Promise: of blocks within the limits there are as many greedy schedules as blocks, and their cycles together are below 2^63.
+/// Promise: by every heuristic, blocks within the limits have as many greedy schedules as they are, and the cycles of these
+/// together are below 2^63.
 pub fn greedy_schedules_can_be_listed()
     ensures { GreedySchedulesCanBeListed }
 {}
