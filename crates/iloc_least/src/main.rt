@@ -1,4 +1,4 @@
-//! Prints the least cycles that a lawful schedule of each block takes.
+//! Prints a bound for each block: no lawful schedule takes fewer cycles.
 #![tactic(auto)]
 
 use iloc_sched::least;
