@@ -1,0 +1,218 @@
+-- What is due at a cycle arrives.
+use Rattle.std.proofs.Common.{◌≡◌, ◌<◌, ℕ, ◌+◌, ◌-◌, ◌==◌, nat_lt, if◌then◌else◌, List, [], ◌∷◌, ◌++◌, map, Option, Some, None, option_to_list, IsTrue, ℤ, pos, arith, refl, sym, ap, ap₂, ◌∙◌, append-nil, subst}
+use Rattle.std.specs.Prelude.{fold, option_map}
+use Rattle.std.specs.List.{All}
+use Rattle.std.proofs.lemmas.Bool.{eqb-true, ltb-true}
+use Rattle.std.proofs.lemmas.List.Sums.{fold-append}
+use Rattle.std.proofs.lemmas.List.Concat.{flat_map-append}
+use Rattle.std.proofs.lemmas.List.Elements.{All-head, All-tail, All-filter}
+use Rattle.iloc_ops.specs.declared.op.Reg.{Reg}
+use Rattle.iloc_ops.specs.Registers.{defined}
+use Rattle.iloc_meaning.specs.declared.effect.Effect.{Effect}
+use Rattle.iloc_meaning.specs.declared.effect.Effect.TheVariants.{Faults, Gives, Writes, Emits, Nothing}
+use Rattle.iloc_meaning.specs.Address.{is_good}
+use Rattle.iloc_meaning.specs.Memory.{word_at}
+use Rattle.iloc_meaning.specs.Registers.{value_of}
+use Rattle.iloc_meaning.proofs.Cases.{by_bool}
+use Rattle.iloc_timed.specs.declared.latencies.Latencies.{Latencies}
+use Rattle.iloc_timed.specs.Latency.{latency}
+use Rattle.iloc_timed.specs.Timed.{Issued}
+use Rattle.iloc_timed.specs.Steps.Pending.{sent_by as pending_by, landed_in_register, landed_in_word}
+use Rattle.iloc_timed.specs.Steps.Wheel.{due_at as pending_at}
+use Rattle.iloc_timed.specs.Steps.Machine.{Lands, AllLand}
+use Rattle.iloc_timed.proofs.Landing.{register_more, word_more}
+use Rattle.iloc_timed.proofs.Following.{all_land_later}
+use Rattle.iloc_trace.specs.declared.event.Place.{Place}
+use Rattle.iloc_trace.specs.declared.event.Place.TheVariants.{Register, Word}
+use Rattle.iloc_trace.specs.declared.under_way.Arrival.{Arrival}
+use Rattle.iloc_trace.specs.declared.machine.Machine.{Machine}
+use Rattle.iloc_trace.specs.Places.{is_place, is_same, sent, target, target_of, value_in}
+use Rattle.iloc_trace.specs.Events.{Event, due_at, landed, write_of, writes}
+use Rattle.iloc_trace.specs.Listing.{trace_lines, write_line}
+use Rattle.iloc_trace.specs.Steps.Arrivals.{CanArrive, IsGood, arrival_line, arrival_lines, arrival_of, arrivals_of, arrived_in, due_later, due_now}
+use Rattle.iloc_trace.specs.Steps.Rows.{Follows, place_value}
+use Rattle.iloc_trace.proofs.OnTheirWay.{due_now_of_log, due_later_of_log}
+use Rattle.iloc_trace.proofs.Values.{value_then}
+
+-- what an effect sends changes a register as it does on the timed machine, and a word
+register_lands : (r : Reg) (due issued : ℕ) (d : Option Reg) (effect : Effect) (v : ℤ)
+    → fold (arrived_in (Register r)) v (option_to_list (option_map
+    (λ place. record { place = place; value = sent effect; due = due; issued = issued }) (target_of d effect)))
+    ≡ fold (landed_in_register r) v (option_to_list (pending_by d effect))
+register_lands r due issued d Faults v = refl
+register_lands r due issued None (Gives result) v = refl
+register_lands r due issued (Some s) (Gives result) v = refl
+register_lands r due issued d (Writes a w) v = refl
+register_lands r due issued d (Emits w) v = refl
+register_lands r due issued d Nothing v = refl
+
+word_lands : (a due issued : ℕ) (d : Option Reg) (effect : Effect) (v : ℤ)
+    → fold (arrived_in (Word a)) v (option_to_list (option_map
+    (λ place. record { place = place; value = sent effect; due = due; issued = issued }) (target_of d effect)))
+    ≡ fold (landed_in_word a) v (option_to_list (pending_by d effect))
+word_lands a due issued d Faults v = refl
+word_lands a due issued None (Gives result) v = refl
+word_lands a due issued (Some s) (Gives result) v = refl
+word_lands a due issued d (Writes b w) v = refl
+word_lands a due issued d (Emits w) v = refl
+word_lands a due issued d Nothing v = refl
+
+registers_land : (lat : Latencies) (c : ℕ) (r : Reg) (v : ℤ) (log : List Issued)
+    → fold (arrived_in (Register r)) v (arrivals_of lat (due_at c log)) ≡ fold (landed_in_register r) v (pending_at c log)
+registers_land lat c r v [] = refl
+registers_land lat c r v (e ∷ earlier) =
+    let piece : (x : ℤ) → fold (arrived_in (Register r)) x (arrivals_of lat (if e.due == c then e ∷ [] else []))
+    ≡ fold (landed_in_register r) x (if e.due == c then option_to_list (pending_by (defined e.executed.op) e.executed.effect) else []) =
+    λ x. by_bool (e.due == c)
+    (λ here. rw here (ap (fold (arrived_in (Register r)) x) (append-nil (option_to_list (arrival_of lat e)))
+    ∙ register_lands r e.due _ (defined e.executed.op) e.executed.effect x))
+    (λ apart. rw apart refl) in
+    ap (fold (arrived_in (Register r)) v)
+    (flat_map-append (λ (f : Issued). option_to_list (arrival_of lat f)) (due_at c earlier) _)
+    ∙ fold-append (arrived_in (Register r)) v (arrivals_of lat (due_at c earlier)) _
+    ∙ piece (fold (arrived_in (Register r)) v (arrivals_of lat (due_at c earlier)))
+    ∙ ap (λ x. fold (landed_in_register r) x (if e.due == c then option_to_list (pending_by (defined e.executed.op) e.executed.effect) else []))
+    (registers_land lat c r v earlier)
+    ∙ sym (fold-append (landed_in_register r) v (pending_at c earlier) _)
+
+words_land : (lat : Latencies) (c a : ℕ) (v : ℤ) (log : List Issued)
+    → fold (arrived_in (Word a)) v (arrivals_of lat (due_at c log)) ≡ fold (landed_in_word a) v (pending_at c log)
+words_land lat c a v [] = refl
+words_land lat c a v (e ∷ earlier) =
+    let piece : (x : ℤ) → fold (arrived_in (Word a)) x (arrivals_of lat (if e.due == c then e ∷ [] else []))
+    ≡ fold (landed_in_word a) x (if e.due == c then option_to_list (pending_by (defined e.executed.op) e.executed.effect) else []) =
+    λ x. by_bool (e.due == c)
+    (λ here. rw here (ap (fold (arrived_in (Word a)) x) (append-nil (option_to_list (arrival_of lat e)))
+    ∙ word_lands a e.due _ (defined e.executed.op) e.executed.effect x))
+    (λ apart. rw apart refl) in
+    ap (fold (arrived_in (Word a)) v)
+    (flat_map-append (λ (f : Issued). option_to_list (arrival_of lat f)) (due_at c earlier) _)
+    ∙ fold-append (arrived_in (Word a)) v (arrivals_of lat (due_at c earlier)) _
+    ∙ piece (fold (arrived_in (Word a)) v (arrivals_of lat (due_at c earlier)))
+    ∙ ap (λ x. fold (landed_in_word a) x (if e.due == c then option_to_list (pending_by (defined e.executed.op) e.executed.effect) else []))
+    (words_land lat c a v earlier)
+    ∙ sym (fold-append (landed_in_word a) v (pending_at c earlier) _)
+
+-- what is due at cycle c has arrived
+pub after_landing : (lat : Latencies) (memory : List ℤ) (c : ℕ) (log : List Issued) (m m' : Machine)
+    → Follows lat memory c log m
+    → ((r : Reg) → value_of m'.registers r
+    ≡ fold (arrived_in (Register r)) (value_of m.registers r) (due_now c m.under_way))
+    → ((a : ℕ) → IsTrue (is_good (pos a)) → word_at m'.memory.words a
+    ≡ fold (arrived_in (Word a)) (word_at m.memory.words a) (due_now c m.under_way))
+    → m'.under_way ≡ due_later c m.under_way → Follows lat memory (c + 1) log m'
+after_landing lat memory c log m m' follows register word under_way =
+    let due : due_now c m.under_way ≡ arrivals_of lat (due_at c log) =
+    ap (due_now c) follows.under_way ∙ due_now_of_log lat c log in
+    record {
+      registers = λ r.
+          register r
+          ∙ ap (fold (arrived_in (Register r)) (value_of m.registers r)) due
+          ∙ registers_land lat c r (value_of m.registers r) log
+          ∙ ap (λ v. fold (landed_in_register r) v (pending_at c log)) (follows.registers r)
+          ∙ sym (register_more r (c + 16) c log follows.all_land);
+      words = λ a good.
+          word a good
+          ∙ ap (fold (arrived_in (Word a)) (word_at m.memory.words a)) due
+          ∙ words_land lat c a (word_at m.memory.words a) log
+          ∙ ap (λ v. fold (landed_in_word a) v (pending_at c log)) (follows.words a good)
+          ∙ sym (word_more memory a (c + 16) c log follows.all_land);
+      under_way = under_way ∙ ap (due_later c) follows.under_way ∙ due_later_of_log lat c log;
+      all_land = all_land_later (c + 16) (c + 1 + 16) log (omega arith) follows.all_land;
+    }
+
+-- each is due at cycle c
+abbrev AllAt : ℕ → List Issued → Type 0
+AllAt c [] = Unit {0}
+AllAt c (e ∷ more) = (e.due ≡ c) × Lands e.executed × AllAt c more
+
+all_at_append : (c : ℕ) (first second : List Issued) → AllAt c first → AllAt c second → AllAt c (first ++ second)
+all_at_append c [] second all rest = rest
+all_at_append c (e ∷ first) second all rest = (all.0, all.1, all_at_append c first second all.2 rest)
+
+due_all_at : (n c : ℕ) (log : List Issued) → AllLand n log → AllAt c (due_at c log)
+due_all_at n c [] all = tt
+due_all_at n c (e ∷ earlier) all =
+    all_at_append c (due_at c earlier) (if e.due == c then e ∷ [] else []) (due_all_at n c earlier all.2)
+    (by_bool (e.due == c) (λ here. rw here (eqb-true e.due c here, all.1, tt)) (λ apart. rw apart tt))
+
+landed_below : (n c : ℕ) (log : List Issued) → AllLand n log → AllLand c (landed c log)
+landed_below n c [] all = tt
+landed_below n c (e ∷ earlier) all = by_bool (nat_lt e.due c)
+    (λ before. rw before (ltb-true e.due c before, all.1, landed_below n c earlier all.2))
+    (λ after. rw after (landed_below n c earlier all.2))
+
+-- the line of a result, if there is one, and those of the next ones
+written_step : (lat : Latencies) (memory : List ℤ) (c : ℕ) (there : List Issued) (e : Issued) (to : Option Place)
+    (value : Place → ℤ) (rest : List Event) (more : List Arrival) → e.due ≡ c
+    → ((place : Place) → value_in memory (e ∷ there) place
+    ≡ (if is_place place to then sent e.executed.effect else value_in memory there place))
+    → ((place : Place) → IsGood place → value place ≡ value_in memory there place)
+    → All CanArrive (option_to_list (option_map (λ place. record {
+      place = place;
+      value = sent e.executed.effect;
+      due = e.due;
+      issued = e.due - latency lat e.executed.op;
+    }) to) ++ more)
+    → ((next : Place → ℤ) → ((place : Place) → IsGood place → next place ≡ value_in memory (e ∷ there) place)
+    → All CanArrive more → trace_lines rest ≡ arrival_lines c next more)
+    → trace_lines (map (write_of lat memory c there e) (option_to_list to) ++ rest)
+    ≡ arrival_lines c value (option_to_list (option_map (λ place. record {
+      place = place;
+      value = sent e.executed.effect;
+      due = e.due;
+      issued = e.due - latency lat e.executed.op;
+    }) to) ++ more)
+written_step lat memory c there e None value rest more due newest same good next =
+    next value (λ place fine. same place fine ∙ sym (newest place)) good
+written_step lat memory c there e (Some to) value rest more due newest same good next =
+    let a : Arrival = record {
+      place = to;
+      value = sent e.executed.effect;
+      due = e.due;
+      issued = e.due - latency lat e.executed.op;
+    } in
+    let fine : IsGood to = All-head CanArrive a more good in
+    let was : value_in memory there to ≡ value to = sym (same to fine) in
+    let issued : c - latency lat e.executed.op ≡ e.due - latency lat e.executed.op =
+    ap (λ d. d - latency lat e.executed.op) (sym due) in
+    let others : trace_lines rest ≡ arrival_lines c (λ place. arrived_in place (value place) a) more =
+    next (λ place. arrived_in place (value place) a) (λ place there_good.
+    ap (λ v. if is_same place to then sent e.executed.effect else v) (same place there_good) ∙ sym (newest place))
+    (All-tail CanArrive a more good) in
+    ap₂ (λ w i. write_line (record { cycle = c; place = to; value = sent e.executed.effect; was = w; issued = i }) ++ trace_lines rest)
+    was issued
+    ∙ ap (λ l. arrival_line c a (value to) ++ l) others
+
+written : (lat : Latencies) (memory : List ℤ) (c : ℕ) (there due : List Issued) (value : Place → ℤ) → AllAt c due
+    → AllLand (c + 1) there → ((place : Place) → IsGood place → value place ≡ value_in memory there place)
+    → All CanArrive (arrivals_of lat due)
+    → trace_lines (writes lat memory c there due) ≡ arrival_lines c value (arrivals_of lat due)
+written lat memory c there [] value at below same good = refl
+written lat memory c there (e ∷ due) value at below same good =
+    let bound : e.due < c + 1 = omega (arith, at.0) in
+    let earlier : AllLand (e.due + 1) there = subst (λ n. AllLand (n + 1) there) (sym at.0) below in
+    written_step lat memory c there e (target e.executed) value (writes lat memory c (e ∷ there) due)
+    (arrivals_of lat due) at.0 (λ place. value_then memory e there place at.1 earlier) same good
+    (λ next there_same rest_good. written lat memory c (e ∷ there) due next at.2 (bound, at.1, below) there_same rest_good)
+
+value_shown : (lat : Latencies) (memory : List ℤ) (c : ℕ) (log : List Issued) (m : Machine) → Follows lat memory c log m
+    → (place : Place) → IsGood place → place_value m place ≡ value_in memory (landed c log) place
+value_shown lat memory c log m follows (Register r) good = follows.registers r
+value_shown lat memory c log m follows (Word a) good = follows.words a good
+
+-- the lines of what is due at cycle c
+pub landing_lines : (lat : Latencies) (memory : List ℤ) (c : ℕ) (log : List Issued) (m : Machine)
+    → Follows lat memory c log m → All CanArrive m.under_way
+    → arrival_lines c (place_value m) (due_now c m.under_way)
+    ≡ trace_lines (writes lat memory c (landed c log) (due_at c log))
+landing_lines lat memory c log m follows good =
+    let due : due_now c m.under_way ≡ arrivals_of lat (due_at c log) =
+    ap (due_now c) follows.under_way ∙ due_now_of_log lat c log in
+    let can : All CanArrive (arrivals_of lat (due_at c log)) =
+    subst (All CanArrive) due (All-filter (λ (a : Arrival). a.due == c) CanArrive m.under_way good) in
+    ap (arrival_lines c (place_value m)) due
+    ∙ sym (written lat memory c (landed c log) (due_at c log) (place_value m)
+    (due_all_at (c + 16) c log follows.all_land)
+    (all_land_later c (c + 1) (landed c log) (omega arith) (landed_below (c + 16) c log follows.all_land))
+    (value_shown lat memory c log m follows) can)

@@ -1,0 +1,9 @@
+pub mod Arriving
+pub mod OnTheirWay
+pub mod Values
+pub mod Landing
+pub mod Issuing
+pub mod RowsOn
+pub mod WholeRuns
+pub mod ReadOnTime
+pub mod Emitting

@@ -1,0 +1,246 @@
+-- A lawful schedule reads nothing for which a result is under way.
+use Rattle.std.proofs.Common.{◌≡◌, ◌<◌, ◌≤◌, ℕ, zero, suc, ◌+◌, ◌==◌, ◌&&◌, nat_lt, true, false, List, [], ◌∷◌, ◌++◌, length, map, Option, Some, None, IfSome, option_to_list, ℤ, arith, refl, inl, inr, sym, ap, subst}
+use Rattle.std.specs.Prelude.{Contains}
+use Rattle.std.specs.List.{All, flat_map, range_with_len}
+use Rattle.std.proofs.lemmas.Bool.{and_right, cases_lt, le-ltb}
+use Rattle.std.proofs.lemmas.List.Elements.{All-append, All-cons, All-contains_itself, All-map, All-nil, All-weaker}
+use Rattle.iloc_ops.specs.declared.op.Reg.{Reg}
+use Rattle.iloc_ops.specs.declared.op.Op.{Op}
+use Rattle.iloc_ops.specs.declared.op.Op.TheVariants.{Load, LoadAI, Output}
+use Rattle.iloc_ops.specs.Registers.{used, defined}
+use Rattle.iloc_meaning.specs.declared.effect.Effect.{Effect}
+use Rattle.iloc_meaning.specs.declared.effect.Effect.TheVariants.{Faults, Gives, Writes, Emits, Nothing}
+use Rattle.iloc_meaning.specs.Trace.{op_at, is_register, is_write_to}
+use Rattle.iloc_meaning.specs.Outcome.{has_fault}
+use Rattle.iloc_meaning.proofs.Cases.{by_bool}
+use Rattle.iloc_timed.specs.declared.kind.Kind.{Kind}
+use Rattle.iloc_timed.specs.declared.kind.Kind.TheVariants as K
+use Rattle.iloc_timed.specs.declared.latencies.Latencies.{Latencies}
+use Rattle.iloc_timed.specs.declared.row.Row.{Row}
+use Rattle.iloc_timed.specs.Kinds.{kind, is_store}
+use Rattle.iloc_timed.specs.Latency.{latency}
+use Rattle.iloc_timed.specs.Rows.{row_at, slots, issue_cycle, IsTable}
+use Rattle.iloc_timed.specs.Timed.{Issued, arrived, executed_in, issue, issued_before, register_in}
+use Rattle.iloc_timed.proofs.Issues.{holds_one, holds_zero}
+use Rattle.iloc_sched.specs.Renaming.{IsRenamed}
+use Rattle.iloc_sched.specs.Steps.Members.{In}
+use Rattle.iloc_sched.proofs.Basics.Members.{contains_from, in_from}
+use Rattle.iloc_sched.proofs.Basics.Registers.{is_register_same}
+use Rattle.iloc_sched.proofs.Basics.Slots.{cycle_is, from_holds, within}
+use Rattle.iloc_sched.proofs.DelayPairs.WaitedFor.{Waits, kept_in_order, read_then_store, stored_in_time, used_in_time}
+use Rattle.iloc_sched.proofs.Outcome.UsedEffects.{only_stores_write, reads_memory}
+use Rattle.iloc_sched.proofs.Renamed.RenamedBlocks.{renamed_is_renamed}
+use Rattle.iloc_trace.specs.declared.event.Place.{Place}
+use Rattle.iloc_trace.specs.declared.event.Place.TheVariants.{Register, Word}
+use Rattle.iloc_trace.specs.Places.{address_read, goes_to, is_place, once, places_read, target, target_of}
+use Rattle.iloc_trace.specs.Events.{due_at, events_at, in_slot, issue_of, issues, landed, next_due, read_of, write_of, writes}
+use Rattle.iloc_trace.specs.Laws.{IsOnTime, LawfulSchedulesReadOnTime, ReadsOnTime}
+
+-- what goes to a register is a result of what defines it, and what goes to a word is a write
+to_register : (r : Reg) (d : Option Reg) (effect : Effect) → is_place (Register r) (target_of d effect) ≡ true
+    → is_register r d ≡ true
+to_register r None Faults is = absurd cc
+to_register r None (Gives result) is = absurd cc
+to_register r (Some s) Faults is = absurd cc
+to_register r (Some s) (Gives result) is = is
+to_register r d (Writes a w) is = absurd cc
+to_register r d (Emits w) is = absurd cc
+to_register r d Nothing is = absurd cc
+
+to_word : (a : ℕ) (d : Option Reg) (effect : Effect) → is_place (Word a) (target_of d effect) ≡ true
+    → is_write_to a effect ≡ true
+to_word a d Faults is = absurd cc
+to_word a None (Gives result) is = absurd cc
+to_word a (Some s) (Gives result) is = absurd cc
+to_word a d (Writes b w) is = is
+to_word a d (Emits w) is = absurd cc
+to_word a d Nothing is = absurd cc
+
+no_store_reads : (k : Kind) → is_store k ≡ true → reads_memory k ≡ true → ⊥
+no_store_reads K.Store store reads = absurd cc
+no_store_reads K.Load store reads = absurd cc
+no_store_reads K.Output store reads = absurd cc
+no_store_reads K.Mult store reads = absurd cc
+no_store_reads K.Other store reads = absurd cc
+
+-- each register that is read is used
+used_once : (rs : List Reg) → All (In rs) (once rs)
+used_once [] = All-nil (In [])
+used_once (r ∷ []) = All-cons (In (r ∷ [])) r [] (inl refl) (All-nil _)
+used_once (r ∷ s ∷ []) = by_bool (r.0 == s.0)
+    (λ same. rw same (All-cons (In (r ∷ s ∷ [])) r [] (inl refl) (All-nil _)))
+    (λ other. rw other (All-cons (In (r ∷ s ∷ [])) r (s ∷ []) (inl refl)
+    (All-cons (In (r ∷ s ∷ [])) s [] (inr (inl refl)) (All-nil _))))
+used_once (r ∷ s ∷ t ∷ more) = All-weaker (Contains (r ∷ s ∷ t ∷ more)) (In (r ∷ s ∷ t ∷ more))
+    (λ x there. in_from (r ∷ s ∷ t ∷ more) x there) (r ∷ s ∷ t ∷ more) (All-contains_itself (r ∷ s ∷ t ∷ more))
+
+if_any : {P : Type 0} (o : Option ℕ) → P → IfSome o (λ a. P)
+if_any None p = tt
+if_any (Some a) p = p
+
+-- a word is read where memory is
+word_is_read : (op : Op) (reg : Reg → ℤ) → IfSome (address_read op reg) (λ a. reads_memory (kind op) ≡ true)
+word_is_read (Load addr dest) reg = if_any (address_read (Load addr dest) reg) refl
+word_is_read (LoadAI addr offset dest) reg = if_any (address_read (LoadAI addr offset dest) reg) refl
+word_is_read (Output addr) reg = if_any (address_read (Output addr) reg) refl
+word_is_read _ reg = tt
+
+-- nothing is due for a place that nothing of a row goes to
+none_in_row : (lat : Latencies) (memory : List ℤ) (ops : List Op) (c n : ℕ) (place : Place) (log : List Issued)
+    (numbers : List ℕ) (before : List Issued)
+    → ((i : ℕ) → In numbers i → (nat_lt c (n + latency lat (op_at ops i))
+    && goes_to place (issue lat memory n log (op_at ops i)).executed) ≡ false)
+    → next_due c place before ≡ None
+    → next_due c place (map (λ i. issue lat memory n log (op_at ops i)) numbers ++ before) ≡ None
+none_in_row lat memory ops c n place log [] before each none = none
+none_in_row lat memory ops c n place log (i ∷ numbers) before each none =
+    let skip = each i (inl refl) in
+    rw skip (none_in_row lat memory ops c n place log numbers before (λ k there. each k (inr there)) none)
+
+slot_of : (row : Row) (slot : Option ℕ) → ((i : ℕ) → slot ≡ Some i → In (slots row) i) → (i : ℕ)
+    → In (option_to_list slot) i → In (slots row) i
+slot_of row None held i there = absurd there
+slot_of row (Some j) held i (inl here) = held i (ap Some here)
+slot_of row (Some j) held i (inr there) = absurd there
+
+module _ (lat : Latencies) (memory : List ℤ) (ops : List Op) (rows : List Row) (renamed : IsRenamed ops)
+    (table : IsTable ops rows) (waits : Waits lat ops rows) where
+  register_in_time : (c n i j : ℕ) (r : Reg) (log : List Issued) → In (slots (row_at rows c)) j
+      → In (slots (row_at rows n)) i → In (used (op_at ops j)) r → (nat_lt c (n + latency lat (op_at ops i))
+      && goes_to (Register r) (issue lat memory n log (op_at ops i)).executed) ≡ false
+  register_in_time c n i j r log here there uses =
+      let e = issue lat memory n log (op_at ops i) in
+      by_bool (goes_to (Register r) e.executed)
+      (λ goes.
+      let defines : defined (op_at ops i) ≡ Some r =
+      is_register_same r (defined (op_at ops i)) (to_register r (defined (op_at ops i)) e.executed.effect goes) in
+      let before : i < j = renamed.defined_before j i r (contains_from (used (op_at ops j)) r uses) defines in
+      let known : j < length ops = within ops rows table c j here in
+      let over : issue_cycle rows i + latency lat (op_at ops i) ≤ issue_cycle rows j =
+      used_in_time lat ops rows waits j i r known before uses defines in
+      let at : issue_cycle rows i ≡ n = cycle_is ops rows table n i there in
+      let now : issue_cycle rows j ≡ c = cycle_is ops rows table c j here in
+      let late : nat_lt c (n + latency lat (op_at ops i)) ≡ false = le-ltb c (n + latency lat (op_at ops i)) (omega arith) in
+      rw late refl)
+      (λ elsewhere. rw elsewhere (and_right (nat_lt c (n + latency lat (op_at ops i))) false refl))
+
+  word_in_time : (c n i j a : ℕ) (log : List Issued) → In (slots (row_at rows c)) j → In (slots (row_at rows n)) i
+      → n ≤ c → reads_memory (kind (op_at ops j)) ≡ true → (nat_lt c (n + latency lat (op_at ops i))
+      && goes_to (Word a) (issue lat memory n log (op_at ops i)).executed) ≡ false
+  word_in_time c n i j a log here there early reads =
+      let e = issue lat memory n log (op_at ops i) in
+      by_bool (goes_to (Word a) e.executed)
+      (λ goes.
+      let store : is_store (kind (op_at ops i)) ≡ true =
+      only_stores_write (op_at ops i) _ _ a (to_word a (defined (op_at ops i)) e.executed.effect goes) in
+      let known : j < length ops = within ops rows table c j here in
+      let found : i < length ops = within ops rows table n i there in
+      let at : issue_cycle rows i ≡ n = cycle_is ops rows table n i there in
+      let now : issue_cycle rows j ≡ c = cycle_is ops rows table c j here in
+      elim (cases_lt i j) [
+        | inl before ↦
+            let over : issue_cycle rows i + latency lat (op_at ops i) ≤ issue_cycle rows j =
+            stored_in_time lat ops rows waits j i known before store reads in
+            let late : nat_lt c (n + latency lat (op_at ops i)) ≡ false = le-ltb c (n + latency lat (op_at ops i)) (omega arith) in
+            rw late refl
+        | inr from ↦ elim (cases_lt j i) [
+          | inl before ↦
+              let later : issue_cycle rows j < issue_cycle rows i =
+              kept_in_order lat ops rows waits j i found before (read_then_store _ _ reads store) in
+              absurd (omega arith)
+          | inr same ↦
+              let one : i ≡ j = omega arith in
+              absurd (no_store_reads (kind (op_at ops j)) (subst (λ k. is_store (kind (op_at ops k)) ≡ true) one store) reads)
+        ]
+      ])
+      (λ elsewhere. rw elsewhere (and_right (nat_lt c (n + latency lat (op_at ops i))) false refl))
+
+  -- nothing that was issued by cycle n is due for a register that is read then
+  register_free : (c n j : ℕ) (r : Reg) → In (slots (row_at rows c)) j → In (used (op_at ops j)) r
+      → next_due c (Register r) (issued_before lat memory ops rows n) ≡ None
+  register_free c zero j r here uses = refl
+  register_free c (suc n) j r here uses =
+      none_in_row lat memory ops c n (Register r) (issued_before lat memory ops rows n) (slots (row_at rows n))
+      (issued_before lat memory ops rows n)
+      (λ i there. register_in_time c n i j r (issued_before lat memory ops rows n) here there uses)
+      (register_free c n j r here uses)
+
+  word_free : (c n j a : ℕ) → In (slots (row_at rows c)) j → n ≤ c → reads_memory (kind (op_at ops j)) ≡ true
+      → next_due c (Word a) (issued_before lat memory ops rows n) ≡ None
+  word_free c zero j a here early reads = refl
+  word_free c (suc n) j a here early reads =
+      none_in_row lat memory ops c n (Word a) (issued_before lat memory ops rows n) (slots (row_at rows n))
+      (issued_before lat memory ops rows n)
+      (λ i there. word_in_time c n i j a (issued_before lat memory ops rows n) here there (omega arith) reads)
+      (word_free c n j a here (omega arith) reads)
+
+  word_read_on_time : (c j : ℕ) (log : List Issued) (a : Option ℕ) → IfSome a (λ b. reads_memory (kind (op_at ops j)) ≡ true)
+      → ((b : ℕ) → reads_memory (kind (op_at ops j)) ≡ true → next_due c (Word b) log ≡ None)
+      → All (λ place. IsOnTime (read_of memory c log place)) (map Word (option_to_list a))
+  word_read_on_time c j log None reads free = All-nil _
+  word_read_on_time c j log (Some a) reads free =
+      All-cons (λ place. IsOnTime (read_of memory c log place)) (Word a) [] (free a reads) (All-nil _)
+
+  -- what is issued in a slot reads nothing that is due later
+  slot_on_time : (c unit : ℕ) (slot beside : Option ℕ)
+      → ((i : ℕ) → slot ≡ Some i → In (slots (row_at rows c)) i)
+      → ((i : ℕ) → beside ≡ Some i → In (slots (row_at rows c)) i)
+      → All ReadsOnTime (map (issue_of memory c unit (issued_before lat memory ops rows c)
+      (in_slot lat memory ops c (issued_before lat memory ops rows c) beside))
+      (in_slot lat memory ops c (issued_before lat memory ops rows c) slot))
+  slot_on_time c unit None beside held other = All-nil ReadsOnTime
+  slot_on_time c unit (Some j) beside held other =
+      let log : List Issued = issued_before lat memory ops rows c in
+      let all : List Issued = in_slot lat memory ops c log beside ++ log in
+      let here : In (slots (row_at rows c)) j = held j refl in
+      let at_register : (r : Reg) → In (used (op_at ops j)) r → next_due c (Register r) all ≡ None =
+      λ r uses. none_in_row lat memory ops c c (Register r) log (option_to_list beside) log
+      (λ i there. register_in_time c c i j r log here (slot_of (row_at rows c) beside other i there) uses)
+      (register_free c c j r here uses) in
+      let at_word : (a : ℕ) → reads_memory (kind (op_at ops j)) ≡ true → next_due c (Word a) all ≡ None =
+      λ a reads. none_in_row lat memory ops c c (Word a) log (option_to_list beside) log
+      (λ i there. word_in_time c c i j a log here (slot_of (row_at rows c) beside other i there) (omega arith) reads)
+      (word_free c c j a here (omega arith) reads) in
+      let reg : Reg → ℤ = register_in (arrived c log) in
+      All-cons ReadsOnTime (issue_of memory c unit log (in_slot lat memory ops c log beside)
+      (issue lat memory c log (op_at ops j))) []
+      (All-map IsOnTime (read_of memory c all) (places_read (op_at ops j) reg)
+      (All-append (λ place. IsOnTime (read_of memory c all place)) (map Register (once (used (op_at ops j))))
+      (map Word (option_to_list (address_read (op_at ops j) reg)))
+      (All-map (λ place. IsOnTime (read_of memory c all place)) Register (once (used (op_at ops j)))
+      (All-weaker (In (used (op_at ops j))) (λ r. IsOnTime (read_of memory c all (Register r))) at_register
+      (once (used (op_at ops j))) (used_once (used (op_at ops j)))))
+      (word_read_on_time c j all (address_read (op_at ops j) reg) (word_is_read (op_at ops j) reg) at_word)))
+      (All-nil ReadsOnTime)
+
+  writes_on_time : (c : ℕ) (there due : List Issued) → All ReadsOnTime (writes lat memory c there due)
+  writes_on_time c there [] = All-nil ReadsOnTime
+  writes_on_time c there (e ∷ due) =
+      All-append ReadsOnTime (map (write_of lat memory c there e) (option_to_list (target e.executed)))
+      (writes lat memory c (e ∷ there) due)
+      (All-map ReadsOnTime (write_of lat memory c there e) (option_to_list (target e.executed)) (λ k d h. tt))
+      (writes_on_time c (e ∷ there) due)
+
+  cycle_on_time : (c : ℕ) → All ReadsOnTime (events_at lat memory ops rows c)
+  cycle_on_time c =
+      let log : List Issued = issued_before lat memory ops rows c in
+      let row : Row = row_at rows c in
+      let zero_held : (i : ℕ) → row.zero ≡ Some i → In (slots row) i = λ i is. from_holds row i (holds_zero row i is) in
+      let one_held : (i : ℕ) → row.one ≡ Some i → In (slots row) i = λ i is. from_holds row i (holds_one row i is) in
+      by_bool (has_fault (executed_in log))
+      (λ fault. rw fault (All-nil ReadsOnTime))
+      (λ fine. rw fine (All-append ReadsOnTime (writes lat memory c (landed c log) (due_at c log))
+      (issues memory c log (in_slot lat memory ops c log row.zero) (in_slot lat memory ops c log row.one))
+      (writes_on_time c (landed c log) (due_at c log))
+      (All-append ReadsOnTime _ _ (slot_on_time c 0 row.zero row.one zero_held one_held)
+      (slot_on_time c 1 row.one row.zero one_held zero_held))))
+
+  all_on_time : (cycles : List ℕ) → All ReadsOnTime (flat_map (events_at lat memory ops rows) cycles)
+  all_on_time [] = All-nil ReadsOnTime
+  all_on_time (c ∷ cycles) = All-append ReadsOnTime (events_at lat memory ops rows c)
+      (flat_map (events_at lat memory ops rows) cycles) (cycle_on_time c) (all_on_time cycles)
+
+pub lawful_reads_on_time : LawfulSchedulesReadOnTime
+lawful_reads_on_time lat memory block ops rows lawful =
+    all_on_time lat memory ops rows (subst IsRenamed (sym lawful.names) (renamed_is_renamed block)) lawful.table
+    lawful.waits (range_with_len 0 (length rows + 16))
