@@ -87,7 +87,7 @@ fn push_entry(
 /// Judges what is proposed for a block, beside our schedule of it, and appends what is listed of it after the block's head:
 /// the verdict with the cycles of the rows, ours and the least, and the lines that tell where the rows go wrong, if they do.
 /// In a table it is a row, with the cycles that are claimed and no lines below. Rows are compared with the block by outcomes,
-/// or by outputs and faults alone.
+/// or by outputs and faults alone. The more blocks are judged with this one, the fewer memories are made up for each.
 ///
 /// After a refusal a part of it may have been appended.
 ///
@@ -104,6 +104,7 @@ pub fn push_check(
     proposal: Proposal,
     latencies: &Latencies,
     memory: &Memory,
+    blocks: usize,
 ) -> Result<Checked, NoMemory>
     requires few { length block.now.ops ≤ MAX_OPS }
     requires in_range { AreInRange (length proposal.ops) proposal.rows }
@@ -127,6 +128,7 @@ pub fn push_check(
         their_rows,
         latencies,
         memory,
+        blocks,
     )?;
     let checked = Checked {
         is_lawful: is_lawful(&verdict),

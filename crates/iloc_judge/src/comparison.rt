@@ -6,6 +6,7 @@ ghost use Rattle.iloc_judge.specs.Comparison.{IsComparison};
 
 use crate::difference::Difference;
 use crate::judgement::TwoRuns;
+use crate::refutation::effort::Effort;
 use crate::refutation::probe::Probe;
 use crate::refutation::{Refutation, difference_on, refute};
 use crate::void::{Void, why_void};
@@ -34,7 +35,7 @@ pub enum Comparison {
 
 /// Compares what rows do with what their block does: by outcomes, or by outputs and faults alone. Our schedule of the block, which has its outcome on every memory, is
 /// what they are compared with. Where that doesn't show them the same, they are run on the memory handed in, and then on a
-/// few that are made up. That no difference was found doesn't mean that there is none: only `Comparison::Same` and
+/// few that are made up, fewer where this is one of many blocks. That no difference was found doesn't mean that there is none: only `Comparison::Same` and
 /// `Comparison::Prints` do.
 pub(crate) fn compared(
     alloc: Global,
@@ -44,6 +45,7 @@ pub(crate) fn compared(
     theirs: &Schedule,
     latencies: &Latencies,
     memory: &Memory,
+    blocks: usize,
 ) -> Result<Comparison, NoMemory>
     requires { (words : List ℤ) → timed_outcome latencies.now ours.now.ops ours.now.rows words
         ≡ outcome block.now.ops words }
@@ -71,8 +73,17 @@ pub(crate) fn compared(
     )? {
         return Ok(Comparison::Differs(difference));
     }
-    let clues = runs.clues(alloc)?;
-    match refute(alloc, outputs_alone, block, theirs, latencies, &clues)? {
+    let effort = Effort::on_one_of(blocks, block, theirs);
+    let clues = runs.clues(alloc, effort.span)?;
+    match refute(
+        alloc,
+        outputs_alone,
+        block,
+        theirs,
+        latencies,
+        &clues,
+        effort,
+    )? {
         Some(Refutation { probe, difference }) => Ok(Comparison::DiffersOn(probe, difference)),
         None => Ok(Comparison::Agrees),
     }

@@ -50,13 +50,14 @@ impl TwoRuns {
         )
     }
 
-    /// What the two runs mention.
-    pub(crate) fn clues(&self, alloc: Global) -> Result<Clues, NoMemory> {
+    /// What the two runs mention, for memories that span so many words.
+    pub(crate) fn clues(&self, alloc: Global, span: usize) -> Result<Clues, NoMemory> {
         Clues::of(
             alloc,
             &self.table,
             &self.one.addresses,
             &self.other.addresses,
+            span,
         )
     }
 }

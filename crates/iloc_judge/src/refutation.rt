@@ -5,12 +5,14 @@ ghost use Rattle.iloc_judge.specs.Memory.{memory_of};
 ghost use Rattle.iloc_judge.specs.Steps.Refuting.{DiffersAt};
 
 pub(crate) mod clues;
+pub(crate) mod effort;
 mod pattern;
 pub(crate) mod probe;
 mod shortening;
 
 use crate::difference::{Difference, first_difference};
 use clues::Clues;
+use effort::Effort;
 use iloc_meaning::{Memory, run_block};
 use iloc_ops::{Block, NoMemory};
 use iloc_timed::{Latencies, Schedule, run_schedule};
@@ -71,11 +73,12 @@ pub(crate) fn refute(
     schedule: &Schedule,
     latencies: &Latencies,
     clues: &Clues,
+    effort: Effort,
 ) -> Result<Option<Refutation>, NoMemory>
     ensures { IfOk result (λ found. IfSome found (λ it. DiffersAt outputs_alone latencies.now block.now.ops
         schedule.now.ops schedule.now.rows (memory_of it.probe) it.difference)) }
 {
-    for pattern in Pattern::ALL {
+    for pattern in Pattern::ALL.into_iter().take(effort.tries) {
         let probe = Probe::of(alloc, pattern, clues)?;
         if let Some(found) = refutation_on(
             alloc,
@@ -85,7 +88,15 @@ pub(crate) fn refute(
             latencies,
             probe,
         )? {
-            return Ok(Some(shortened(alloc, outputs_alone, block, schedule, latencies, found)?));
+            return Ok(Some(shortened(
+                alloc,
+                outputs_alone,
+                block,
+                schedule,
+                latencies,
+                found,
+                effort.reruns,
+            )?));
         }
     }
     Ok(None)

@@ -25,7 +25,8 @@ pub enum Verdict {
 }
 
 /// Judges somebody's operations and rows for a block, each operation in a slot of its own, beside our schedule of the block:
-/// by their outcomes, or by their outputs and faults alone.
+/// by their outcomes, or by their outputs and faults alone. The more blocks are judged with it, the fewer memories are made
+/// up for each.
 ///
 /// Promise: the verdict holds as it is stated, and rows that issue what our schedule issues are lawful.
 pub fn judge(
@@ -37,6 +38,7 @@ pub fn judge(
     rows: Vec<Row>,
     latencies: &Latencies,
     memory: &Memory,
+    blocks: usize,
 ) -> Result<Verdict, NoMemory>
     requires few { vec_len rows ≤ MAX_ROWS }
     requires in_range { AreInRange (length ops.items) rows.items }
@@ -66,6 +68,7 @@ pub fn judge(
                 &theirs,
                 latencies,
                 memory,
+                blocks,
             )?;
             Ok(Verdict::Unlawful(reason, found))
         }

@@ -55,7 +55,7 @@ fn submission_of(alloc: Global, input: Vec<u8>) -> Result<Submission, RowsFault>
 }
 
 /// Appends what is said of a proposal beside our schedule of the block: of its first row that can't be read, if there is one,
-/// and else of its rows.
+/// and else of its rows, which are those of one of so many blocks.
 fn push_judged(
     alloc: Global,
     text: &mut Vec<u8>,
@@ -67,6 +67,7 @@ fn push_judged(
     proposal: Proposal,
     latencies: &Latencies,
     memory: &Memory,
+    blocks: usize,
 ) -> Result<Checked, NoMemory>
     requires few { length block.now.ops ≤ MAX_OPS }
     requires in_range { AreInRange (length proposal.ops) proposal.rows }
@@ -83,7 +84,7 @@ fn push_judged(
         );
     }
     push_check(
-        alloc, text, csv, outputs, block, ours, least, proposal, latencies, memory,
+        alloc, text, csv, outputs, block, ours, least, proposal, latencies, memory, blocks,
     )
 }
 
@@ -103,6 +104,7 @@ fn checked_text(
     let csv = request.csv;
     let outputs = request.outputs;
     let latencies = &request.latencies;
+    let count = blocks.as_slice().len();
     let mut scheduler = Scheduler::new(alloc);
     let mut text = Vec::new(alloc);
     let mut totals = Totals::none();
@@ -114,7 +116,7 @@ fn checked_text(
         prove!(proposal.rows.as_slice().len() <= MAX_ROWS);
         push_head(&mut text, csv, totals.blocks + 1, block.name.as_ref())?;
         let checked = push_judged(
-            alloc, &mut text, csv, outputs, block, &ours, least, proposal, latencies, memory,
+            alloc, &mut text, csv, outputs, block, &ours, least, proposal, latencies, memory, count,
         )?;
         scheduler.take_back(ours);
         totals.add(&checked, request.lawful);

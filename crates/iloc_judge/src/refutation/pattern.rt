@@ -34,9 +34,9 @@ pub(crate) enum Pattern {
 /// An odd number, so that its multiples modulo 2^32 are distinct.
 const STRIDE: u32 = 0x9E37_79B9;
 
-/// The word at a place of a list that is repeated without end; of an empty one 0.
-fn in_turn(words: &[u32], place: u32) -> u32 {
-    let index = place as usize % words.len().max(1);
+/// The word with this number in a list that is repeated without end; of an empty one 0.
+fn in_turn(words: &[u32], number: u32) -> u32 {
+    let index = number as usize % words.len().max(1);
     words.get(index).copied().unwrap_or(0)
 }
 
@@ -56,26 +56,26 @@ impl Pattern {
         Pattern::OneBase,
     ];
 
-    /// The word at a place of a made-up memory, from 0, that starts at an address.
-    pub(crate) fn word(self, clues: &Clues, start: u32, place: u32) -> u32 {
-        let address = |place: u32| in_turn(&clues.addresses, place);
-        let constant = |place: u32| in_turn(&clues.constants, place);
-        let base = |place: u32| in_turn(&clues.bases, place);
-        let is_even = place % 2 == 0;
+    /// The word at a place of a made-up memory, which is so many of its places, from 0.
+    pub(crate) fn word(self, clues: &Clues, place: u32, number: u32) -> u32 {
+        let address = |number: u32| in_turn(&clues.addresses, number);
+        let constant = |number: u32| in_turn(&clues.constants, number);
+        let base = |number: u32| in_turn(&clues.bases, number);
+        let is_even = number % 2 == 0;
         match self {
-            Pattern::Small => place.wrapping_add(1),
-            Pattern::Large => place.wrapping_add(1).wrapping_mul(STRIDE),
-            Pattern::OwnAddresses => start.wrapping_add(place.wrapping_mul(4)),
-            Pattern::Addresses => address(place),
+            Pattern::Small => number.wrapping_add(1),
+            Pattern::Large => number.wrapping_add(1).wrapping_mul(STRIDE),
+            Pattern::OwnAddresses => place.wrapping_mul(4),
+            Pattern::Addresses => address(number),
             Pattern::OneAddress => address(0),
-            Pattern::Constants => constant(place),
-            Pattern::Bases => base(place.wrapping_add(1)),
-            Pattern::LaterBases => base(place.wrapping_add(2)),
-            Pattern::LaterAddresses => address(place.wrapping_add(3)),
+            Pattern::Constants => constant(number),
+            Pattern::Bases => base(number.wrapping_add(1)),
+            Pattern::LaterBases => base(number.wrapping_add(2)),
+            Pattern::LaterAddresses => address(number.wrapping_add(3)),
             Pattern::OneBase => address(0).wrapping_sub(in_turn(&clues.offsets, 1)),
-            Pattern::AddressesAndConstants if is_even => address(place / 2),
-            Pattern::ConstantsAndAddresses if !is_even => address(place / 2),
-            Pattern::AddressesAndConstants | Pattern::ConstantsAndAddresses => constant(place / 2),
+            Pattern::AddressesAndConstants if is_even => address(number / 2),
+            Pattern::ConstantsAndAddresses if !is_even => address(number / 2),
+            Pattern::AddressesAndConstants | Pattern::ConstantsAndAddresses => constant(number / 2),
         }
     }
 }

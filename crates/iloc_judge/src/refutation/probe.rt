@@ -20,36 +20,42 @@ pub struct Probe {
     ghost fits: { at + 4 * length words.items ≤ LAST_ADDRESS + 4 },
 }
 
-/// How many bits the place of a word of a made-up memory has.
-pub(crate) const PLACE_BITS: u32 = 6;
-
-/// How many words a made-up memory has at most.
-pub(crate) const MOST_WORDS: u32 = 64;
-
-/// Where a made-up memory starts if no address is known.
-const USUAL_START: u32 = 1_024;
-
 impl Probe {
-    /// The memory that a pattern makes of what two runs mention, from the lowest known address on.
+    /// The memory that a pattern makes of what two runs mention: words at their places, and 0 between them.
     pub(crate) fn of(alloc: Global, pattern: Pattern, clues: &Clues) -> Result<Probe, NoMemory> {
-        let lowest = clues.addresses.iter().copied().min();
-        let first = lowest.unwrap_or(USUAL_START) / 4 % WORDS as u32;
-        let at = 4 * first;
-        let mut words = Vec::with_capacity(alloc, MOST_WORDS as usize)?;
-        for place in 0..MOST_WORDS.min(WORDS as u32 - first) {
-            words.push(pattern.word(clues, at, place))?;
+        let first = clues.places.first().copied().unwrap_or(0) % WORDS as u32;
+        let last = clues.places.last().copied().unwrap_or(0);
+        let count = last.saturating_sub(first).min(WORDS as u32 - 1 - first) + 1;
+        let mut words = vec![in alloc; 0; count as usize]?;
+        for (number, place) in (0..u32::MAX).zip(&clues.places) {
+            if let Some(word) = words.get_mut(place.wrapping_sub(first) as usize) {
+                *word = pattern.word(clues, *place, number);
+            }
         }
-        Ok(Probe { at, words })
+        Ok(Probe {
+            at: 4 * first,
+            words,
+        })
     }
-    /// The same memory with 0 at the places of one part. A part has the places that differ in so many of their last bits
-    /// alone, and its number is their other bits.
-    pub(crate) fn without(&self, alloc: Global, part: usize, bits: u32) -> Result<Probe, NoMemory>
-        requires { bits < PLACE_BITS }
-    {
-        let mut words = Vec::with_capacity(alloc, self.words.len())?;
-        for place in 0..self.words.len() {
-            let is_in_it = place >> bits == part;
-            words.push(if is_in_it { 0 } else { self.words[place] })?;
+
+    /// Which of its words aren't 0.
+    pub(crate) fn used(&self, alloc: Global) -> Result<Vec<usize>, NoMemory> {
+        let mut used = Vec::new(alloc);
+        for (index, word) in self.words.iter().enumerate() {
+            if *word != 0 {
+                used.push(index)?;
+            }
+        }
+        Ok(used)
+    }
+
+    /// The same memory with 0 in place of these words.
+    pub(crate) fn without(&self, alloc: Global, indices: &[usize]) -> Result<Probe, NoMemory> {
+        let mut words = Vec::from_slice(alloc, &self.words)?;
+        for index in indices {
+            if let Some(word) = words.get_mut(*index) {
+                *word = 0;
+            }
         }
         Ok(Probe { at: self.at, words })
     }

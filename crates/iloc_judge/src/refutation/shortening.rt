@@ -3,25 +3,15 @@ ghost use Rattle.std.specs.Prelude.{◌<◌, IfOk};
 ghost use Rattle.iloc_judge.specs.Memory.{memory_of};
 ghost use Rattle.iloc_judge.specs.Steps.Refuting.{DiffersAt};
 
-use crate::refutation::probe::{MOST_WORDS, PLACE_BITS};
 use crate::refutation::{Refutation, refutation_on};
-use iloc_meaning::WORDS;
 use iloc_ops::{Block, NoMemory};
 use iloc_timed::{Latencies, Schedule};
 use std::alloc::Global;
 
-/// How many steps are taken at most to shorten one memory: some 3 ms.
-const MOST_STEPS: usize = 1_000_000;
+/// How often 64 words, the most that are made up, are halved down to single words.
+const HALVINGS: u32 = 6;
 
-/// How often a block and its rows may be run again. A run takes a step for each word of memory, which is copied and
-/// compared, for each operation of the block and for each row. So a short block is run 61 times at most.
-fn most_reruns(block: &Block, schedule: &Schedule) -> usize {
-    let lines = block.ops.len().saturating_add(schedule.rows().len());
-    MOST_STEPS / lines.saturating_add(WORDS)
-}
-
-/// Makes those words 0 without which there is a difference still: part by part, where the places of a part differ in so
-/// many of their last bits alone.
+/// Makes those of these words 0 without which there is a difference still, so many at a time.
 fn without_parts(
     alloc: Global,
     outputs_alone: bool,
@@ -29,18 +19,19 @@ fn without_parts(
     schedule: &Schedule,
     latencies: &Latencies,
     found: Refutation,
-    bits: u32,
+    used: &[usize],
+    at_a_time: usize,
     reruns: &mut usize,
 ) -> Result<Refutation, NoMemory>
-    requires few { bits < PLACE_BITS }
+    requires some { 0 < at_a_time }
     requires differs { DiffersAt outputs_alone latencies.now block.now.ops schedule.now.ops schedule.now.rows
         (memory_of found.probe) found.difference }
     ensures { IfOk result (λ it. DiffersAt outputs_alone latencies.now block.now.ops schedule.now.ops schedule.now.rows
         (memory_of it.probe) it.difference) }
 {
     let mut kept = found;
-    for part in 0..MOST_WORDS as usize >> bits {
-        let probe = kept.probe.without(alloc, part, bits)?;
+    for part in used.chunks(at_a_time) {
+        let probe = kept.probe.without(alloc, part)?;
         if *reruns == 0 || probe == kept.probe {
             continue;
         }
@@ -70,6 +61,7 @@ pub(crate) fn shortened(
     schedule: &Schedule,
     latencies: &Latencies,
     found: Refutation,
+    most_reruns: usize,
 ) -> Result<Refutation, NoMemory>
     requires { DiffersAt outputs_alone latencies.now block.now.ops schedule.now.ops schedule.now.rows
         (memory_of found.probe) found.difference }
@@ -77,8 +69,9 @@ pub(crate) fn shortened(
         (memory_of it.probe) it.difference) }
 {
     let mut kept = found;
-    let mut reruns = most_reruns(block, schedule);
-    for bits in (0..PLACE_BITS).rev() {
+    let mut reruns = most_reruns;
+    let used = kept.probe.used(alloc)?;
+    for bits in (0..HALVINGS).rev() {
         kept = without_parts(
             alloc,
             outputs_alone,
@@ -86,7 +79,8 @@ pub(crate) fn shortened(
             schedule,
             latencies,
             kept,
-            bits,
+            &used,
+            1 << bits,
             &mut reruns,
         )?;
     }
