@@ -93,7 +93,7 @@ class Listed:
     def note(self, line):
         """Keeps a line below a verdict that doesn't pass, if it is of a row."""
         if self.verdict not in PASSED and (found := WRONG_ROW.fullmatch(line)):
-            self.wrong.setdefault(int(found[1]) - 1, []).append(line)
+            self.wrong.setdefault(int(found[1]), []).append(line)
 
     def take(self, line):
         """Reads a line below the block's header, and says whether it is one."""

@@ -10,9 +10,9 @@ TWICE = "loadI 2 => r1\nloadI 4 => r2\nstore r1 => r2\n"
 # A block and rows that are exchanged, the first that has to be, and the cycles of both.
 EXCHANGED = {
     "one_operation": (SQUARE, "[ loadI 4 => r1 ]\n[ ; load r1 => r2 ]\n" + "[]\n" * 4 + "[ mult r2, r2 => r3 ; nop ]\n[]\n[]\n"
-                      "[ nop ; store r3 => r1 ]\n", "row 2: [ nop ; load r1 => r2 ]", 14),
+                      "[ nop ; store r3 => r1 ]\n", "row 1: [ nop ; load r1 => r2 ]", 14),
     "two_operations": (PRODUCT, "[ loadI 4 => r1 ]\n[ mult r1, r1 => r3 ; load r1 => r2 ]\n[]\n[]\n[ ; store r3 => r1 ]\n",
-                       "row 2: [ mult r1, r1 => r3 ; load r1 => r2 ]", 9),
+                       "row 1: [ mult r1, r1 => r3 ; load r1 => r2 ]", 9),
 }
 # Rows that break the rules of the units in either order are shown as they are written.
 LEFT = ["[ load r1 => r2 ; store r3 => r4 ]", "[ mult r1, r1 => r2 ; multI r1, 3 => r3 ]", "[ output 4 ; output 8 ]",
@@ -27,11 +27,11 @@ def either_cases():
         yield case(f"as_written/{name}", [], block + rows, f"block 1 - units {line}  {bad}\n{total}", NOT_SAME)
     # Each row can be issued as it is. In the first the result on unit 1 stays; exchanged, 1 would be stored.
     kept = TWICE + "[ loadI 1 => r1 ; loadI 2 => r1 ]\n[ loadI 4 => r2 ]\n[ store r1 => r2 ]\n"
-    yield case("kept", ["--either-slot"], kept, "block 1 - same cycles 7 ours 6 least 6\n  added 1: row 1: loadI 1 => r1\n"
+    yield case("kept", ["--either-slot"], kept, "block 1 - same cycles 7 ours 6 least 6\n  added 1: row 0: loadI 1 => r1\n"
                "total 7 ours 6 least 6\n", 0)
     for rows in LEFT:
         last = rows.rsplit("\n", 1)[-1]
-        yield units(rows, rows.count("\n") + 1, last)
+        yield units(rows, rows.count("\n"), last)
 
 
 def case(name, words, text, out, status):
@@ -39,7 +39,7 @@ def case(name, words, text, out, status):
 
 
 def units(rows, number, bad):
-    cycles = number - 1 + (3 if "mult" in bad else 1 if "output" in bad else 5)
+    cycles = number + (3 if "mult" in bad else 1 if "output" in bad else 5)
     out = f"block 1 - units cycles {cycles} ours 0 least 0\n  row {number}: {bad}\ntotal {cycles} ours 0 least 0\n"
     return case(f"left: {bad}", ["--either-slot"], f"nop\n{rows}\n", out, NOT_SAME)
 

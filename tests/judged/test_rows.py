@@ -150,7 +150,7 @@ LISTED = {
     "second_claim": ("output 4\n[ output 4 ; nop ]\ncycles 1\ncycles 0\n",
                      "block 1 - lawful cycles 1 ours 1 least 1 claimed 0"),
     "both_units": ("output 0\n[ output 0 ; loadI 4 => r1 ]\n",
-                   "block 1 - same cycles 1 ours 1 least 1\n  added 1: row 1: loadI 4 => r1"),
+                   "block 1 - same cycles 1 ours 1 least 1\n  added 1: row 0: loadI 4 => r1"),
     # Our own rows have both outputs on unit 0, and aren't the only ones that keep the delay between the two.
     "outputs_on_two_units": ("output 0\noutput 4\n[ output 0 ; nop ]\n[ nop ; output 4 ]\n",
                              "block 1 - lawful cycles 2 ours 2 least 2"),
@@ -166,41 +166,41 @@ LISTED = {
                       "block 1 - agrees cycles 1 ours 12 least 12\n  left out 3: loadI 4 => r1"),
     "outputs_on_both_units": ("output 4\noutput 8\n[ output 8 ; nop ]\n[ nop ; output 4 ]\n",
                               "block 1 - differs cycles 2 ours 2 least 2\n  output 1: 0 for 9\n"
-                              "  early by 2: row 1: output 8 for row 2: output 4"),
+                              "  early by 2: row 0: output 8 for row 1: output 4"),
     "output_missing": ("output 4\noutput 8\n[ output 4 ; nop ]\ncycles 2\n",
                        "block 1 - differs cycles 1 ours 2 least 2 claimed 2\n  output 2: none for 0\n"
                        "  left out 1: output 8"),
     "output_behind_the_last": ("output 8\n[ output 8 ; nop ]\n[ output 4 ; nop ]\n",
                                "block 1 - differs cycles 2 ours 1 least 1\n  output 2: 9 for none\n"
-                               "  added 1: row 2: output 4"),
+                               "  added 1: row 1: output 4"),
     "store_missing": ("loadI 12 => r1\nsubI r1, 16 => r2\nstore r2 => r1\n",
                       "block 1 - differs cycles 0 ours 7 least 7\n  word 12: 0 for -4\n"
                       "  left out 3: loadI 12 => r1"),
     "fault_beside_the_output": ("output 4\n[ output 4 ; loadI 5 => r1 ]\n[ load r1 => r1 ; nop ]\n",
                                 "block 1 - differs cycles 6 ours 1 least 1\n  fault\n"
-                                "  added 2: row 1: loadI 5 => r1"),
+                                "  added 2: row 0: loadI 5 => r1"),
     "fault_missing": ("output 5\n", "block 1 - void cycles 0 ours 1 least 1\n  the block faults: output 5\n"
                       "  left out 1: output 5"),
     # On the memory handed in both words are 0.
     "output_of_another_word": ("output 65532\n[ output 65528 ; nop ]\n",
                                "block 1 - differs cycles 1 ours 1 least 1\n  output 1: 0 for 2 with --at 65532 2\n"
-                               "  left out 1: output 65532\n  added 1: row 1: output 65528"),
+                               "  left out 1: output 65532\n  added 1: row 0: output 65528"),
     # Two addresses in one register, of which the second is there before the first is read.
     "address_overwritten": (TWO_ADDRESSES, "block 1 - differs cycles 10 ours 10 least 10\n  output 1: 0 for 7\n"
-                            "  reads r1: row 3: store r2 => r1 from row 2: loadI 1028 => r1 for row 1: loadI 1024 => r1"),
+                            "  reads r1: row 2: store r2 => r1 from row 1: loadI 1028 => r1 for row 0: loadI 1024 => r1"),
     "product_known": (PRODUCT + "[ loadI 42 => r1 ; loadI 1024 => r0 ]\n[ store r1 => r0 ]\n" + "[ ]\n" * 4 + "[ output 1024 ]\n",
-                      "block 1 - same cycles 7 ours 10 least 10\n  left out 3: loadI 6 => r1\n  added 1: row 1: loadI 42 => r1"),
+                      "block 1 - same cycles 7 ours 10 least 10\n  left out 3: loadI 6 => r1\n  added 1: row 0: loadI 42 => r1"),
     "register_at_first": ("add r1, r1 => r2\nloadI 4 => r1\nstore r2 => r1\n"
                           "[ loadI 4 => r1 ]\n[ add r1, r1 => r2 ]\n[ store r2 => r1 ]\n",
                           "block 1 - differs cycles 7 ours 6 least 6\n  word 4: 8 for 0\n"
-                          "  reads r1: row 2: add r1, r1 => r2 from row 1: loadI 4 => r1 for no row"),
+                          "  reads r1: row 1: add r1, r1 => r2 from row 0: loadI 4 => r1 for no row"),
     "register_of_nobody": ("loadI 4 => r1\nstore r1 => r1\n[ loadI 4 => r1 ]\n[ store r2 => r1 ]\n",
                            "block 1 - differs cycles 6 ours 6 least 6\n  word 4: 0 for 4\n"
-                           "  reads r2: row 2: store r2 => r1 from no row for row 1: loadI 4 => r1"),
+                           "  reads r2: row 1: store r2 => r1 from no row for row 0: loadI 4 => r1"),
     "load_on_unit_1": ("loadI 4 => r1\nload r1 => r2\n[ loadI 4 => r1 ; nop ]\n[ nop ; load r1 => r2 ]\n",
-                       "block 1 - units cycles 6 ours 6 least 6\n  row 2: [ nop ; load r1 => r2 ]"),
+                       "block 1 - units cycles 6 ours 6 least 6\n  row 1: [ nop ; load r1 => r2 ]"),
     "two_outputs_in_a_row": ("output 4\n[ output 4 ; output 8 ]\n[ mult r1, r1 => r2 ; nop ]\ncycles 1\n",
-                             "block 1 - units cycles 4 ours 1 least 1 claimed 1\n  row 1: [ output 4 ; output 8 ]"),
+                             "block 1 - units cycles 4 ours 1 least 1 claimed 1\n  row 0: [ output 4 ; output 8 ]"),
     # An operation alone is on its unit; one that is left out is a `nop`.
     "single_operations": ("loadI 4 => r1\nload r1 => r2\nmult r2, r2 => r3\nmultI r3, 1 => r4\nstore r4 => r1\n"
                           "[ loadI 4 => r1 ]\n[ load r1 => r2 ]\n" + "[ ]\n" * 4 + "[mult r2,r2=>r2]\n[]\n[ nop ]\n"
@@ -211,9 +211,9 @@ LISTED = {
                        "block 1 - lawful cycles 2 ours 1 least 1"),
     "empty_row_at_once": ("nop\n[]", "block 1 - lawful cycles 0 ours 0 least 0"),
     "product_before_a_semicolon": ("nop\n[ mult r1, r2 => r3 ; ]\n", "block 1 - units cycles 3 ours 0 least 0\n"
-                                                                      "  row 1: [ mult r1, r2 => r3 ; nop ]"),
+                                                                      "  row 0: [ mult r1, r2 => r3 ; nop ]"),
     "load_behind_a_semicolon": ("nop\n[ ; load r1 => r2 ]\n", "block 1 - units cycles 5 ours 0 least 0\n"
-                                                               "  row 1: [ nop ; load r1 => r2 ]"),
+                                                               "  row 0: [ nop ; load r1 => r2 ]"),
     "no_head": ("output 0\n[output 0;nop]\ncycles 9\ntotal 3", "block 1 - lawful cycles 1 ours 1 least 1 claimed 9"),
     "no_head_of_a_name": ("main:\noutput 0\n[output 0;nop]\ncycles 9\ntotal 3",
                           "block 1 main lawful cycles 1 ours 1 least 1 claimed 9"),
@@ -223,19 +223,19 @@ LISTED = {
                            "block 2 b lawful cycles 0 ours 0 least 0"),
     "blanks_and_comments": ("output 0\r\n block 1 -//\n\tcycles\t05 // claimed\r\n// \x00\xff\n\n [\toutput 00 ;nop\r]//\r\n"
                             "[nop;\rnop\t]\r\ncycles 1\n[ nop ; add r1,r02 =>r3 ]\n\n",
-                            "block 1 - same cycles 3 ours 1 least 1 claimed 1\n  added 1: row 3: add r1, r2 => r3"),
+                            "block 1 - same cycles 3 ours 1 least 1 claimed 1\n  added 1: row 2: add r1, r2 => r3"),
     "blanks_in_a_row_that_is_shown": ("nop\n [\tmult r1,r02 =>r3;nop\r]//\r\n",
-                                      "block 1 - units cycles 3 ours 0 least 0\n  row 1: [ mult r1, r2 => r3 ; nop ]"),
+                                      "block 1 - units cycles 3 ours 0 least 0\n  row 0: [ mult r1, r2 => r3 ; nop ]"),
     "row_of_another_block": ("A: output 4\nB: output 8\nblock 1 A\n[ output 4 ; nop ]\nblock 2 B\n[ output 4 ; nop ]\n",
                              "block 1 A lawful cycles 1 ours 1 least 1",
                              "block 2 B differs cycles 1 ours 1 least 1\n  output 1: 9 for 0\n"
-                             "  left out 1: output 8\n  added 1: row 1: output 4"),
+                             "  left out 1: output 8\n  added 1: row 0: output 4"),
     "blocks_passed_over": ("a:\nb:\nc:\nblock 2 b\n[ nop ; output 4 ]\n", "block 1 a lawful cycles 0 ours 0 least 0",
-                           "block 2 b void cycles 1 ours 0 least 0\n  the block shows nothing\n  added 1: row 1: output 4",
+                           "block 2 b void cycles 1 ours 0 least 0\n  the block shows nothing\n  added 1: row 0: output 4",
                            "block 3 c lawful cycles 0 ours 0 least 0"),
     "largest_numbers": ("a:\ncycles 2147483647\ntotal 2147483647\n[ output 2147483647 ; nop ]",
                         "block 1 a void cycles 1 ours 0 least 0 claimed 2147483647\n  the block shows nothing\n"
-                        "  added 1: row 1: output 2147483647"),
+                        "  added 1: row 0: output 2147483647"),
     "fault_left_out": (BIG_ADDRESS + "[ loadI 100000 => r0 ; nop ]\n[ output 100000 ; nop ]\n",
                        "block 1 - void cycles 2 ours 10 least 10\n  the block faults: store r3 => r0\n"
                        "  left out 4: loadI 6 => r1"),
@@ -293,9 +293,9 @@ TOO_LARGE_ROWS = {"[ output 2147483648 ; nop ]": "2147483648", "[ output 2147483
 UNREAD_FIRST = "a: output 4\nb: output 4\nblock 1 a\n"
 THEN_LAWFUL = "block 2 b\n[ output 4 ]\n"
 UNREAD_ROWS = {
-    "alone": ("[ output 4", 1, 0), "first": ("[ output 4\n[ output 4 ]", 1, 2), "last": ("[ output 4 ]\n\n// 9\n[ output 4", 2, 1),
-    "two": ("[ nop ]\n[ output 4 ]\ntotal 3\n[ output 4\n[ output", 3, 2),
-    "breaks_the_units": ("[ output 4\n[ output 4 ; output 4 ]", 1, 2), "too_large": ("[ output 4 ]\n[ output 2147483648 ]", 2, 1),
+    "alone": ("[ output 4", 0, 0), "first": ("[ output 4\n[ output 4 ]", 0, 2), "last": ("[ output 4 ]\n\n// 9\n[ output 4", 1, 1),
+    "two": ("[ nop ]\n[ output 4 ]\ntotal 3\n[ output 4\n[ output", 2, 2),
+    "breaks_the_units": ("[ output 4\n[ output 4 ; output 4 ]", 0, 2), "too_large": ("[ output 4 ]\n[ output 2147483648 ]", 1, 1),
 }
 # The last line of each is the third.
 NO_BLOCK = ["a:\nb:\n[ nop ; nop ]", "a:\nb:\ncycles 0", "a:\n[ nop ; nop ]\nblock 1 a", "a:\ncycles 0\nblock 1 a", "a:\nb:\nblock 0 a",
@@ -401,7 +401,7 @@ def judged_cases():
     yield judged("four_apart", LOADS_AND_STORES + spread(LOADS_AND_STORES, 4), "differs",
                  "output 1: 2 for 0 with --at 1032 2")
     yield judged("product_on_unit_0", SQUARE + spread(SQUARE, product_unit=0), "units",
-                 "row 13: [ mult r2, r2 => r3 ; nop ]")
+                 "row 12: [ mult r2, r2 => r3 ; nop ]")
     yield from (listed(f"listed_{name}", *it) for name, it in LISTED.items())
     yield Run("judged/our_rows_for_two_outputs", ["schedule"], b"output 0\noutput 4\n",
                b"block 1 -\n[ output 0 ; nop ]\n[ output 4 ; nop ]\ncycles 2\ntotal 2\n", b"", 0)
@@ -439,11 +439,11 @@ def unread_rows():
     """A row that can't be read costs its block, and no other."""
     for line, (wanted, found) in UNREAD.items():
         yield unread(repr(line), f"a:\noutput 0\ncycles 1\n{line}",
-                     f"block 1 a unread cycles 0 ours 1 least 1 claimed 1\n  row 1: expected {wanted}, found {found}\n"
+                     f"block 1 a unread cycles 0 ours 1 least 1 claimed 1\n  row 0: expected {wanted}, found {found}\n"
                      "total 0 ours 1 least 1\n")
     for line, found in TOO_LARGE_ROWS.items():
         yield unread(repr(line), f"a:\n{line}", "block 1 a unread cycles 0 ours 0 least 0\n"
-                     f"  row 1: expected a number up to 2147483647, found {found}\ntotal 0 ours 0 least 0\n")
+                     f"  row 0: expected a number up to 2147483647, found {found}\ntotal 0 ours 0 least 0\n")
     for name, (rows, row, cycles) in UNREAD_ROWS.items():
         found = "2147483648" if "2147483648" in rows else "end of line"
         wanted = "a number up to 2147483647" if "2147483648" in rows else "; or ]"
@@ -460,10 +460,10 @@ def at_the_limits():
     full = "a:\nb:\nblock 1 a\n" + "[ nop ; output 0 ]\n" * MOST_OPERATIONS
     many = f"line 10004: more than {MOST_OPERATIONS} operations in a block"
     a = (f"block 1 a void cycles {MOST_OPERATIONS} ours 0 least 0\n  the block shows nothing\n"
-         f"  added {MOST_OPERATIONS}: row 1: output 0")
+         f"  added {MOST_OPERATIONS}: row 0: output 0")
     yield listed("most_operations", full + "[ nop ; nop ]", a, "block 2 b lawful cycles 0 ours 0 least 0")
     yield listed("most_operations_of_one", full + "block 2 b\n[ output 0 ; output 0 ]", a,
-                 "block 2 b units cycles 1 ours 0 least 0\n  row 1: [ output 0 ; output 0 ]")
+                 "block 2 b units cycles 1 ours 0 least 0\n  row 0: [ output 0 ; output 0 ]")
     yield refused("one_operation_too_many", full + "[ output 0 ; nop ]", many)
     yield refused("two_operations_too_many", full + "[ output 0 ; output 0 ]", many)
     yield refused("too_many_in_the_second_block", full.replace("block 1 a", "block 2 b") + "[ output 0 ; nop ]", many)

@@ -117,7 +117,7 @@ class Reasons:
 
     def numbers(self, row, text):
         """The operations of this row that are written so."""
-        return [k for k, (cycle, op) in enumerate(self.issued) if cycle + 1 == int(row) and str(op) == text]
+        return [k for k, (cycle, op) in enumerate(self.issued) if cycle == int(row) and str(op) == text]
 
     def at(self, row, text):
         return [self.issued[k][1] for k in self.numbers(row, text)]

@@ -66,9 +66,9 @@ class Entry:
         self.cycles = cycles(block.rows, latencies)
         self.ours, self.least = explained("\n".join(map(str, block.ops)), tuple(latencies.items()))
         self.bad = bad_row(block.rows)
-        self.is_lawful = not self.bad and book.is_by_the_book(block.ops, block.rows, latencies)
+        self.is_lawful = self.bad is None and book.is_by_the_book(block.ops, block.rows, latencies)
         self.void = why_void(block.ops, start, outputs)
-        self.place = None if self.bad else self.differs_on(start, outputs)
+        self.place = None if self.bad is not None else self.differs_on(start, outputs)
 
     def numbers(self):
         claim = self.block.claim
@@ -81,8 +81,8 @@ class Entry:
 
     def settled(self):
         """Verdict and first line below, where the units, the book or the memory asked for decide; else None."""
-        if self.bad:
-            return "units", f"row {self.bad}: {row_text(self.block.rows[self.bad - 1])}"
+        if self.bad is not None:
+            return "units", f"row {self.bad}: {row_text(self.block.rows[self.bad])}"
         if self.is_lawful:
             return "lawful", None
         return ("void", self.void) if self.void else ("differs", self.place) if self.place else None
@@ -95,7 +95,7 @@ class Entry:
         verdict, below = got[3].decode(), [line[2:] for line in got[8].decode().splitlines()]
         if got[0].decode() != self.text(verdict, *below):
             yield f"{got[0]!r} in place of {self.text('..')!r}"
-        if self.block.unread or verdict == "unread":
+        if self.block.unread is not None or verdict == "unread":
             yield from self.wrong_row(got, verdict, below)
             return
         due, line = self.settled() or (None, None)
@@ -116,7 +116,7 @@ class Entry:
     def says_why(self, lines):
         """Whether lines say why the rows aren't by the book, all that has to be said. Nothing is said of rows that are, or that
         break the rules of the units."""
-        if self.bad or self.is_lawful:
+        if self.bad is not None or self.is_lawful:
             return not lines
         return book.Reasons(self.block.ops, self.block.rows, self.latencies).are(lines)
 

@@ -118,8 +118,8 @@ def keeps_units(row):
 
 
 def bad_row(rows):
-    """The first row that breaks the rules of the units, from 1, or None."""
-    return next((number for number, row in enumerate(rows, 1) if not keeps_units(row)), None)
+    """The first row that breaks the rules of the units, from 0, or None."""
+    return next((number for number, row in enumerate(rows) if not keeps_units(row)), None)
 
 
 def row_text(row):

@@ -40,7 +40,7 @@ class Block:
     rows: list = field(default_factory=list)
     issued: int = 0     # operations in the rows
     claim: int = None
-    unread: int = None  # the first row that can't be read, from 1
+    unread: int = None  # the first row that can't be read, from 0
 
 
 def operation_of(text):
@@ -153,7 +153,7 @@ class Reader:
         """A row that can't be read stands as an empty one."""
         block = self.current()
         block.rows.append([None, None])
-        block.unread = block.unread or len(block.rows)
+        block.unread = len(block.rows) - 1 if block.unread is None else block.unread
 
     def issue(self, row):
         block = self.current()

@@ -1,6 +1,6 @@
 -- Places can be counted: no more is emitted than is issued, and that in a row.
 use Rattle.std.proofs.Common.{◌≡◌, ◌<◌, ◌≤◌, Bool, ℕ, zero, suc, ◌+◌, ◌*◌, ◌^◌, List, [], ◌∷◌, length, length-append, Option, Some, None, option_to_list, arith, refl, ap, inl, inr}
-use Rattle.std.specs.Prelude.{ℤ, slice_get, map, option_map, IfSome}
+use Rattle.std.specs.Prelude.{ℤ, slice_get, map}
 use Rattle.std.proofs.lemmas.Bool.{cases_lt}
 use Rattle.std.proofs.lemmas.List.{length-map}
 use Rattle.std.proofs.lemmas.Option.{slice_get_past}
@@ -16,14 +16,8 @@ use Rattle.iloc_meaning.proofs.Cases.{by_bool}
 use Rattle.iloc_timed.specs.Limits.{MAX_ROWS}
 use Rattle.iloc_timed.specs.declared.latencies.Latencies.{Latencies}
 use Rattle.iloc_timed.specs.declared.row.Row.{Row}
-use Rattle.iloc_timed.specs.Rows.{holds, issue_cycle, row_at, slots}
+use Rattle.iloc_timed.specs.Rows.{row_at, slots}
 use Rattle.iloc_timed.specs.Timed.{Issued, issue, issued_before, executed_in, timed_outcome}
-use Rattle.iloc_validation.specs.ByTheBook.{given, read}
-use Rattle.iloc_validation.specs.Lawfulness.{IsReason, issue_of}
-use Rattle.iloc_validation.specs.declared.lawfulness.Issue.{Issue}
-use Rattle.iloc_validation.specs.declared.lawfulness.Reason.{Reason}
-use Rattle.iloc_validation.specs.declared.lawfulness.Reason.TheVariants.{Counts, Early, Reads}
-use Rattle.iloc_sched.specs.Renaming.{without_nops}
 use Rattle.iloc_judge.specs.declared.comparison.Comparison.{Comparison}
 use Rattle.iloc_judge.specs.declared.comparison.Comparison.TheVariants as of
 use Rattle.iloc_judge.specs.declared.difference.Difference.{Difference}
@@ -34,7 +28,7 @@ use Rattle.iloc_judge.specs.Comparison.{IsComparison}
 use Rattle.iloc_judge.specs.Difference.{IsDifference}
 use Rattle.iloc_judge.specs.Memory.{memory_of}
 use Rattle.iloc_judge.specs.Verdict.{IsVerdict}
-use Rattle.iloc_judge.specs.Steps.Counted.{IsCounted, CanBeCompared, CanBeTold, CanBeListed, IsNumbered}
+use Rattle.iloc_judge.specs.Steps.Counted.{IsCounted, CanBeCompared, CanBeListed}
 
 -- at most n words are emitted
 abbrev EmitsAtMost : ℕ → Outcome → Type 0
@@ -140,47 +134,10 @@ compared_listed outputs lat memory block ops rows (of.Differs difference) short 
 compared_listed outputs lat memory block ops rows (of.DiffersOn probe difference) short few is =
     difference_counted outputs lat block ops rows (memory_of probe) difference short few is.2
 
--- an operation is issued in one of the rows, or counted behind the last
-issue_within : (rows : List Row) (k : ℕ) → issue_cycle rows k ≤ length rows
-issue_within [] k = omega arith
-issue_within (row ∷ rows) k = by_bool (holds row k)
-    (λ t. rw t (omega arith))
-    (λ f. rw f (omega (arith, issue_within rows k)))
-
-issue_numbered : (ops : List Op) (rows : List Row) (k : ℕ) (issue : Issue) → length rows ≤ MAX_ROWS
-    → issue ≡ issue_of ops rows k → IsNumbered issue
-issue_numbered ops rows k issue few is =
-    let cycle : issue.cycle ≡ issue_cycle rows k = ap (λ (x : Issue). x.cycle) is in
-    omega (arith, issue_within rows k)
-
-if_numbered : (ops : List Op) (rows : List Row) (partner : ℕ → ℕ) (k : Option ℕ) (issue : Option Issue)
-    → length rows ≤ MAX_ROWS → issue ≡ option_map (λ i. issue_of ops rows (partner i)) k → IfSome issue IsNumbered
-if_numbered ops rows partner None issue few is = rw is tt
-if_numbered ops rows partner (Some k) issue few is =
-    rw is (issue_numbered ops rows (partner k) (issue_of ops rows (partner k)) few refl)
-
--- so can be told what is said of rows
-pub reason_listed : (lat : Latencies) (block ops : List Op) (rows : List Row) (reason : Reason) → length rows ≤ MAX_ROWS
-    → IsReason lat block ops rows reason → CanBeTold reason
-reason_listed lat block ops rows (Counts left_out None) few is = tt
-reason_listed lat block ops rows (Counts left_out (Some it)) few is =
-    issue_numbered ops rows is.there.1.0 it.issue few is.there.1.2
-reason_listed lat block ops rows (Early by issue needed) few is = (
-  issue_numbered ops rows (is.1 is.3.j) issue few is.3.issued,
-  issue_numbered ops rows (is.1 is.3.i) needed few is.3.awaited,
-)
-reason_listed lat block ops rows (Reads register issue from wanted) few is = (
-  issue_numbered ops rows is.3.k issue few is.3.issued,
-  if_numbered ops rows (λ k. k) (read lat ops rows (issue_cycle rows is.3.k) register) from few is.3.is_read,
-  if_numbered ops rows is.1 (given block (is.0 is.3.k) is.3.register_there) wanted few is.3.is_given,
-)
-
 pub verdict_listed : (outputs : Bool) (lat : Latencies) (memory : List ℤ) (block ops : List Op) (rows : List Row) (verdict : Verdict)
     → length block ≤ MAX_OPS → length rows ≤ MAX_ROWS → IsVerdict outputs lat block ops rows memory verdict
     → CanBeListed rows verdict
 verdict_listed outputs lat memory block ops rows (Units c) short few is = is.within
 verdict_listed outputs lat memory block ops rows Lawful short few is = tt
-verdict_listed outputs lat memory block ops rows (Unlawful reason found) short few is = (
-  reason_listed lat (without_nops block) ops rows reason few is.1,
-  compared_listed outputs lat memory block ops rows found short few is.2,
-)
+verdict_listed outputs lat memory block ops rows (Unlawful reason found) short few is =
+    compared_listed outputs lat memory block ops rows found short few is.2

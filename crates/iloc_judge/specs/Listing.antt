@@ -110,9 +110,9 @@ comparison_told (of.DiffersOn probe difference) = difference_told difference ++ 
 
 -- All of a verdict
 
--- `row N: [ X ; Y ]`, counted from 1
+-- `row N: [ X ; Y ]`, counted from 0 as cycles are
 abbrev pub bad_row : List Op → List Row → ℕ → List ℕ
-bad_row ops rows c = codes "  row " ++ decimal (c + 1) ++ codes ": " ++ row_line ops (row_at rows c)
+bad_row ops rows c = codes "  row " ++ decimal c ++ codes ": " ++ row_line ops (row_at rows c)
 
 -- what is said of these operations and rows below the line of the verdict: where it comes from, and why they aren't lawful
 abbrev pub detail : List Op → List Row → Verdict → List ℕ

@@ -13,9 +13,9 @@ use Rattle.iloc_validation.specs.declared.lawfulness.Reason.TheVariants.{Counts,
 abbrev pub numbered : List ℕ → ℕ → List ℕ
 numbered label n = label ++ decimal n ++ codes ": "
 
--- `row R: OP`, counted from 1
+-- `row R: OP`, counted from 0 as cycles are
 abbrev pub issue_told : Issue → List ℕ
-issue_told issue = numbered (codes "row ") (issue.cycle + 1) ++ spelling issue.op
+issue_told issue = numbered (codes "row ") issue.cycle ++ spelling issue.op
 
 abbrev pub issue_or_none : Option Issue → List ℕ
 issue_or_none None = codes "no row"

@@ -26,9 +26,9 @@ found_unread lat block ours proposal = record {
 abbrev pub in_one_line : List ℕ → List ℕ
 in_one_line words = filter (λ byte. not (byte == 10)) words
 
--- `row N: ` and some words, where rows count from 1
+-- `row N: ` and some words, where rows count from 0
 abbrev pub unread_told : ℕ → List ℕ → List ℕ
-unread_told row words = codes "  row " ++ decimal (row + 1) ++ codes ": " ++ in_one_line words ++ codes "\n"
+unread_told row words = codes "  row " ++ decimal row ++ codes ": " ++ in_one_line words ++ codes "\n"
 
 -- a row of a table, where one is asked for, and else the line of the verdict `unread` with one for the row below it
 abbrev pub unread_as : Bool → Checked → Option ℕ → ℕ → List ℕ → List ℕ

@@ -7,7 +7,6 @@ ghost use Rattle.iloc_sched.specs.Renaming.{renamed};
 ghost use Rattle.iloc_judge.specs.Listing.{bad_row};
 ghost use Rattle.iloc_judge.specs.Reasons.{reason_told};
 ghost use Rattle.iloc_judge.specs.RowsExplained.{not_lawful, IsRowsExplanation, IsSaidOf, HaveUnread};
-ghost use Rattle.iloc_judge.specs.Steps.Counted.{CanBeTold};
 
 use crate::checked::detail::push_bad_row;
 use crate::checked::reason::push_reason;
@@ -40,7 +39,6 @@ fn push_units(text: &mut Vec<u8>, ops: &[Op], rows: &[Row], row: usize) -> Resul
 
 /// Appends that rows aren't lawful, and why.
 fn push_why(text: &mut Vec<u8>, reason: &Reason) -> Result<(), NoMemory>
-    requires { CanBeTold reason.now }
     ensures { OnOk result (text.new.items ≡ text.old.items ++ not_lawful (reason_told reason.now)) }
 {
     text.extend_from_slice(b"  not lawful\n")?;

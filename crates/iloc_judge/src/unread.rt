@@ -29,7 +29,7 @@ fn push_told(text: &mut Vec<u8>, row: u32, words: &[u8]) -> Result<(), NoMemory>
     ensures { OnOk result (text.new.items ≡ text.old.items ++ unread_told row words.now) }
 {
     text.extend_from_slice(b"  row ")?;
-    push_number(text, u64::from(row) + 1)?;
+    push_number(text, u64::from(row))?;
     text.extend_from_slice(b": ")?;
     push_in_one_line(text, words)?;
     Ok(text.extend_from_slice(b"\n")?)

@@ -1,9 +1,6 @@
--- Which verdicts can be listed: outputs and rows are counted from 1.
-use Rattle.std.specs.Prelude.{◌+◌, ◌<◌, ◌^◌, List, length, IfSome}
+-- Which verdicts can be listed: outputs are counted from 1.
+use Rattle.std.specs.Prelude.{◌+◌, ◌<◌, ◌^◌, List, length}
 use Rattle.iloc_timed.specs.declared.row.Row.{Row}
-use Rattle.iloc_validation.specs.declared.lawfulness.Issue.{Issue}
-use Rattle.iloc_validation.specs.declared.lawfulness.Reason.{Reason}
-use Rattle.iloc_validation.specs.declared.lawfulness.Reason.TheVariants.{Counts, Early, Reads}
 use Rattle.iloc_judge.specs.declared.comparison.Comparison.{Comparison}
 use Rattle.iloc_judge.specs.declared.comparison.Comparison.TheVariants as of
 use Rattle.iloc_judge.specs.declared.difference.Difference.{Difference}
@@ -26,17 +23,8 @@ CanBeCompared of.Agrees = Unit {0}
 CanBeCompared (of.Differs difference) = IsCounted difference
 CanBeCompared (of.DiffersOn probe difference) = IsCounted difference
 
--- the number of its row fits 64 bits
-abbrev pub IsNumbered : Issue → Type 0
-IsNumbered issue = issue.cycle + 1 < 2 ^ 64
-
-abbrev pub CanBeTold : Reason → Type 0
-CanBeTold (Counts left_out added) = IfSome added (λ it. IsNumbered it.issue)
-CanBeTold (Early by issue needed) = IsNumbered issue × IsNumbered needed
-CanBeTold (Reads register issue from wanted) = IsNumbered issue × IfSome from IsNumbered × IfSome wanted IsNumbered
-
--- a bad row is one of the rows, and the numbers of an output and of the rows that are named fit
+-- a bad row is one of the rows, and the number of an output fits
 abbrev pub CanBeListed : List Row → Verdict → Type 0
 CanBeListed rows (Units c) = c < length rows
 CanBeListed rows Lawful = Unit {0}
-CanBeListed rows (Unlawful reason found) = CanBeTold reason × CanBeCompared found
+CanBeListed rows (Unlawful reason found) = CanBeCompared found

@@ -122,7 +122,7 @@ pub(crate) fn push_bad_row(
     ensures { OnOk result (text.new.items ≡ text.old.items ++ listed.bad_row ops.now rows.now row) }
 {
     text.extend_from_slice(b"  row ")?;
-    push_number(text, row as u64 + 1)?;
+    push_number(text, row as u64)?;
     text.extend_from_slice(b": ")?;
     push_row(text, ops, &rows[row])?;
     Ok(text.extend_from_slice(b"\n")?)

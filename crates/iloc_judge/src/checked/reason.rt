@@ -1,7 +1,6 @@
 //! The lines that say why rows aren't a schedule of their block by the book.
-ghost use Rattle.std.specs.Prelude.{◌≡◌, ◌++◌, IfSome, OnOk};
+ghost use Rattle.std.specs.Prelude.{◌≡◌, ◌++◌, OnOk};
 ghost use Rattle.iloc_judge.specs.Reasons as told;
-ghost use Rattle.iloc_judge.specs.Steps.Counted.{CanBeTold, IsNumbered};
 
 use iloc_ops::{NoMemory, Reg, push_number, push_op};
 use iloc_validation::{Added, Issue, LeftOut, Reason};
@@ -15,18 +14,16 @@ fn push_numbered(text: &mut Vec<u8>, label: &str, number: u64) -> Result<(), NoM
     Ok(text.extend_from_slice(b": ")?)
 }
 
-/// Appends `row R: OP`, with rows counted from 1.
+/// Appends `row R: OP`, with rows counted from 0.
 fn push_issue(text: &mut Vec<u8>, issue: Issue) -> Result<(), NoMemory>
-    requires { IsNumbered issue }
     ensures { OnOk result (text.new.items ≡ text.old.items ++ told.issue_told issue) }
 {
-    push_numbered(text, "row ", issue.cycle as u64 + 1)?;
+    push_numbered(text, "row ", issue.cycle as u64)?;
     push_op(text, &issue.op)
 }
 
 /// Appends the same, or `no row` where there is none.
 fn push_issue_or_none(text: &mut Vec<u8>, issue: Option<Issue>) -> Result<(), NoMemory>
-    requires { IfSome issue IsNumbered }
     ensures { OnOk result (text.new.items ≡ text.old.items ++ told.issue_or_none issue) }
 {
     match issue {
@@ -49,7 +46,6 @@ fn push_left_out(text: &mut Vec<u8>, left_out: Option<LeftOut>) -> Result<(), No
 
 /// Appends how many operations are added to the block's, and one of them, if there are any.
 fn push_added(text: &mut Vec<u8>, added: Option<Added>) -> Result<(), NoMemory>
-    requires { IfSome added (λ it. IsNumbered it.issue) }
     ensures { OnOk result (text.new.items ≡ text.old.items ++ told.added_told added) }
 {
     let Some(it) = added else {
@@ -62,8 +58,6 @@ fn push_added(text: &mut Vec<u8>, added: Option<Added>) -> Result<(), NoMemory>
 
 /// Appends that an operation comes so many cycles too early for another.
 fn push_early(text: &mut Vec<u8>, by: usize, issue: Issue, needed: Issue) -> Result<(), NoMemory>
-    requires issue { IsNumbered issue }
-    requires needed { IsNumbered needed }
     ensures { OnOk result (text.new.items ≡ text.old.items ++ told.early_told by issue needed) }
 {
     push_numbered(text, "  early by ", by as u64)?;
@@ -81,9 +75,6 @@ fn push_reads(
     from: Option<Issue>,
     wanted: Option<Issue>,
 ) -> Result<(), NoMemory>
-    requires issue { IsNumbered issue }
-    requires from { IfSome from IsNumbered }
-    requires wanted { IfSome wanted IsNumbered }
     ensures { OnOk result (text.new.items ≡ text.old.items ++ told.reads_told register issue from wanted) }
 {
     push_numbered(text, "  reads r", u64::from(register.0))?;
@@ -97,7 +88,6 @@ fn push_reads(
 
 /// Appends the lines that say why rows aren't a schedule of their block.
 pub(crate) fn push_reason(text: &mut Vec<u8>, reason: &Reason) -> Result<(), NoMemory>
-    requires { CanBeTold reason.now }
     ensures { OnOk result (text.new.items ≡ text.old.items ++ told.reason_told reason.now) }
 {
     match *reason {
