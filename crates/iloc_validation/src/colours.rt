@@ -102,7 +102,7 @@ fn by_number(alloc: Global, colours: &[u64], numbers: &[usize]) -> Result<Vec<u6
 }
 
 /// Colours that every pairing keeps, made of colours that it keeps and of what operations read and what reads them; or
-/// none, where they show that there is no pairing. They go by what is read to a depth of at least four uses, either way.
+/// none, where they show that there is no pairing. A pass reaches through all that is read, or all that reads, at once.
 pub(crate) fn kept_colours(
     alloc: Global,
     sides: &Sides,

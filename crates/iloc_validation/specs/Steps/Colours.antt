@@ -99,7 +99,7 @@ pub record ArePassedTo (here there : List Sources) (old new : Coloured) : Type 0
       → HaveColours (length there) to old.here.items old.there.items
       → HaveColours (length there) to new.here.items new.there.items
 
--- what is made of colours; there are none where no pairing keeps the old ones
+-- what is made of colours: new ones, or none, and then no pairing keeps the old ones
 abbrev pub ArePassed : List Sources → List Sources → Coloured → Option Coloured → Type 0
 ArePassed here there old None = AreBelow here → AreBelow there → (to from : ℕ → ℕ) → ReadAlike here there to from
     → HaveColours (length there) to old.here.items old.there.items → ⊥
@@ -136,4 +136,5 @@ abbrev pub AreColoured : List Op → List Sources → Table → List Reading →
 AreColoured block givens schedule readings here there None = (lat : Latencies)
     → AreSides lat block givens schedule readings → AreKept lat block schedule.ops schedule.rows here there
     → (origin partner : ℕ → ℕ) → IsScheduleUnder lat block schedule.ops schedule.rows origin partner → ⊥
-AreColoured block givens schedule readings here there (Some new) = AreColouredAs block givens schedule readings here there new
+AreColoured block givens schedule readings here there (Some new) =
+    AreColouredAs block givens schedule readings here there new

@@ -4,10 +4,10 @@ ghost use Rattle.iloc_validation.specs.Steps.Colours.{mixed, told, with_told};
 
 use crate::reading::sources::Sources;
 
-/// Mixed colours are below it, so that those of many operations can be added up.
+/// Mixed colours are below this prime, so sums of fewer than 2³³ don't wrap.
 const PRIME: u64 = (1 << 31) - 1;
 
-/// The colour of the start of a register.
+/// The colour of the start of a register, and of no operation but by chance.
 const START: u64 = 1 << 30;
 
 /// The colour that is made of two; its parts can't be exchanged, and it isn't linear, so sums of colours tell more than
@@ -43,7 +43,7 @@ pub(crate) fn with_told(colour: u64, colours: &[u64], sources: Sources) -> u64
     }
 }
 
-/// A sum to which each colour adds.
+/// The sum of these colours, each mixed once more, modulo 2⁶⁴.
 pub(crate) fn total(colours: &[u64]) -> u64
     ensures { result ≡ sum_by (λ c. mixed c 1) colours.now % 2 ^ 64 }
 {
