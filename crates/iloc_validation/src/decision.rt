@@ -6,7 +6,7 @@ ghost use Rattle.iloc_validation.specs.Decision.{IsDecision, IsFoundLawful, IsSc
 ghost use Rattle.iloc_validation.specs.Steps.Decisions.{IsDecisionOf, IsExcluded};
 ghost use Rattle.iloc_validation.specs.Steps.Sides.{AreSides};
 
-mod first_colours;
+pub mod first_colours;
 mod ours;
 mod under_way;
 
@@ -74,7 +74,7 @@ fn is_excluded(sides: &Sides, latencies: &Latencies) -> bool
 }
 
 /// A pairing that the search finds, under which rows are a schedule of a block by the book.
-fn searched(
+pub(crate) fn searched(
     alloc: Global,
     sides: &Sides,
     colours: &Coloured,

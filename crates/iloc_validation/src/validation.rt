@@ -1,12 +1,13 @@
 //! Whether rows that somebody made are a schedule of a block by the book.
-ghost use Rattle.std.specs.Prelude.{◌≡◌, IfErr, IfOk, MatchResult};
+ghost use Rattle.std.specs.Prelude.{◌≡◌, IfErr, IfOk, IfSome, MatchResult};
 ghost use Rattle.iloc_sched.specs.Lawful.{IsLawful};
 ghost use Rattle.iloc_sched.specs.Renaming.{without_nops as ops_of};
 ghost use Rattle.iloc_validation.specs.Lawfulness.{IsLawfulness, IsReason};
 ghost use Rattle.iloc_validation.specs.Decision.{IsScheduleBy};
 ghost use Rattle.iloc_validation.specs.Steps.Sides.{AreSides};
 
-use crate::decision::in_order;
+use crate::decision::first_colours::coloured;
+use crate::decision::{self, in_order};
 use crate::lawfulness::{Lawfulness, Reason};
 use crate::pairing::Pairing;
 use crate::reading::given::{givens, without_nops};
@@ -17,6 +18,23 @@ use crate::verification::{Sides, is_schedule_under};
 use iloc_ops::{Block, NoMemory};
 use iloc_timed::{Latencies, Schedule};
 use std::alloc::Global;
+
+/// A pairing of operations of one colour, under which rows are a schedule of a block by the book, if one is found.
+fn paired_by_colours(
+    alloc: Global,
+    sides: &Sides,
+    latencies: &Latencies,
+) -> Result<Option<Pairing>, NoMemory>
+    requires { AreSides latencies.now sides.now.block.now sides.now.givens.now sides.now.schedule.now
+        sides.now.readings.now }
+    ensures { IfOk result (λ found. IfSome found (IsScheduleBy latencies.now sides.now.block.now
+        sides.now.schedule.now.ops sides.now.schedule.now.rows)) }
+{
+    match coloured(alloc, sides)? {
+        Some(colours) => decision::searched(alloc, sides, &colours, latencies),
+        None => Ok(None),
+    }
+}
 
 /// A pairing that the search finds, under which rows are a schedule of a block by the book, or why it finds none.
 fn searched(
@@ -30,6 +48,9 @@ fn searched(
         (IsScheduleBy latencies.now sides.now.block.now sides.now.schedule.now.ops sides.now.schedule.now.rows)
         (IsReason latencies.now sides.now.block.now sides.now.schedule.now.ops sides.now.schedule.now.rows)) }
 {
+    if let Some(pairing) = paired_by_colours(alloc, sides, latencies)? {
+        return Ok(Ok(pairing));
+    }
     let found = found_pairing(alloc, sides)?;
     if is_schedule_under(alloc, sides, &found, latencies)? {
         return Ok(Ok(found));
