@@ -147,7 +147,8 @@ def size_checks():
     for name, make, start in judged_inputs():
         yield Check(f"sizes/check/{name}", begins_so, name, make, start)
     for name, (op, unit) in ALIKE.items():
-        yield Check(f"sizes/alike/{name}", judged_in_time, op, unit)
+        yield Check(f"sizes/alike/{name}", judged_in_time, op, *alike(op, unit))
+    yield Check("sizes/alike/loads of one address", judged_in_time, "loads of one address", *loads_of_one_address())
 
 
 def measured(name, words, path):
@@ -190,17 +191,22 @@ def alike(op, unit):
     return block.encode(), f"[ nop ; nop ]\n[ output 4 ; nop ]\n{rows}".encode()
 
 
-def judged_in_time(op, unit):
+def loads_of_one_address():
+    """A block that is full of them, and rows in other registers."""
+    numbers = range(MOST_OPERATIONS - 1)
+    block = b"A:\nloadI 4 => r0\n" + b"".join(b"load r0 => r%d\n" % (k % 9 + 1) for k in numbers)
+    return block, b"[ loadI 4 => r9 ; nop ]\n" + b"".join(b"[ load r9 => r%d ; nop ]\n" % (k % 8) for k in numbers)
+
+
+def judged_in_time(name, block, rows):
     """Operations that are all alike are paired with one another, in about the time of `simulate`."""
-    block, rows = alike(op, unit)
-    path = stored("given", block + rows)
-    got, wrong = measured(op, ["check"], path)
+    got, wrong = measured(name, ["check"], stored("given", block + rows))
     listed = front(got.output)
-    other, _ = measured(op, ["simulate"], stored("blocks", block))
+    other, _ = measured(name, ["simulate"], stored("blocks", block))
     if got.status != 0 or b" lawful " not in listed:
-        yield f"{op}: {listed[:100]!r}"
+        yield f"{name}: {listed[:100]!r}"
     if got.processor_ms > other.processor_ms + ALIKE_MS:
-        yield f"{op}: {got.processor_ms:.0f} ms, and simulate {other.processor_ms:.0f}"
+        yield f"{name}: {got.processor_ms:.0f} ms, and simulate {other.processor_ms:.0f}"
     yield from wrong
 
 

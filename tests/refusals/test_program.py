@@ -33,6 +33,9 @@ BAD = b"output 0\nadd r1 r2 => r3\n"
 ROWS = (b"block 1 A\n[ loadI 64 => r1 ; nop ]\n[ storeAI r1 => r1, 4 ; nop ]\nblock 2 B\n[ output 64 ; nop ]\n"
         b"[ nop ; output 0 ]\nblock 3 C\n[ output 2 ; output 2 ]\n"
         b"block 4 D\n[ output 8 ; nop ]\n[ loadI 8 => r3 ; nop ]\n")
+# Rows of sums of which each may be one of several of the block.
+ALIKE = (b"a: loadI 4 => r0\nloadI 4 => r1\nadd r0, r0 => r2\nadd r1, r1 => r3\nadd r0, r1 => r4\nblock 1 a\n"
+         b"[ loadI 4 => r0 ; loadI 4 => r1 ]\n[ add r0, r1 => r4 ; add r0, r0 => r2 ]\n[ add r1, r1 => r3 ; nop ]\n")
 NO_ROW = b"a: output 0\nblock 1 a\nnop nop\n"
 UNREAD = b"a: output 0\nblock 1 a\n[ nop nop ]\n"
 
@@ -109,6 +112,7 @@ def few_runs():
     yield from runs("5 blocks", SMALL, ROWS)
     yield Asked(["counts"], "a bad line", BAD)
     yield Asked(["lint"], "a bad line", BAD)
+    yield Asked(["check"], "alike operations", ALIKE)
     yield Asked(["check"], "a bad row", NO_ROW)
     yield Asked(["check"], "an unread row", UNREAD)
     yield Asked(["check", "--task", stored("bad.iloc", BAD)], "a bad task", ROWS)

@@ -1,0 +1,173 @@
+"""Blocks with many operations that are alike: our own rows are by the book, and other rows are where an exhaustive search finds
+a pairing."""
+import random
+import re
+
+from harness.program import TESTED, Run, ending, stored, told
+from harness.suite import Check, table
+from judged.labs import Given, scheduled
+from judged.students import WRONG, own_names, registers_reused
+from oracle import alike
+from oracle.judge import proposed
+from oracle.machine import bad_row, row_text
+from oracle.operations import text_of, words_for
+from oracle.pairings import has_pairing
+from oracle.scheduler import ORDERS, Schedule
+
+PASSED = 0
+OWN, ALL_OWN = 5000, 50_000
+TINY, ALL_TINY = 2000, 20_000
+MOST_TINY = 7
+AT_ONCE = 500           # blocks of a text
+ENTRY = re.compile(rb"block \d+ \S+ (\w+) cycles [^\n]*\n((?:  [^\n]*\n)*)")
+SHORT, LONG = {"load": 2, "store": 3, "mult": 1}, {"load": 16, "store": 7, "mult": 2}
+
+# Blocks, and rows by the book in which some operations may be any of several of the block.
+SUMS = "loadI 4 => r0\nloadI 4 => r1\nadd r0, r0 => r2\nadd r1, r1 => r3\nadd r0, r1 => r4\n"
+ROWS_OF_SUMS = "[ loadI 4 => r0 ; loadI 4 => r1 ]\n[ add r0, r1 => r4 ; add r0, r0 => r2 ]\n[ add r1, r1 => r3 ; ]\n"
+SEVEN_LOADS = """\
+load r0 => r7
+load r0 => r6
+add r6, r3 => r14
+load r0 => r5
+add r2, r5 => r8
+add r4, r2 => r12
+load r0 => r7
+load r0 => r5
+add r1, r1 => r9
+add r5, r7 => r10
+add r5, r4 => r13
+add r7, r6 => r11
+load r0 => r1
+load r0 => r1
+"""
+# Ours, with two targets renamed that nobody reads.
+ROWS_OF_LOADS = """\
+[ load r0 => r2 ; add r8, r6 => r40 ]
+[ load r0 => r5 ; add r12, r12 => r13 ]
+[ load r0 => r10 ; nop ]
+[ load r0 => r11 ; nop ]
+[ load r0 => r1 ; nop ]
+[ load r0 => r41 ; add r2, r3 => r4 ]
+[ load r0 => r18 ; add r6, r5 => r7 ]
+[ add r10, r2 => r16 ; nop ]
+[ add r11, r10 => r14 ; add r11, r8 => r15 ]
+"""
+UNUSED_SUMS = b"""\
+x:
+load r0 => r5
+load r0 => r4
+add r2, r4 => r3
+load r0 => r3
+add r2, r2 => r4
+load r0 => r1
+add r3, r5 => r1
+add r2, r3 => r1
+add r2, r3 => r3
+add r5, r5 => r5
+"""
+MILLION = 1_000_000
+
+
+def found_of(listing):
+    """Of each block its verdict, `undecided` where it isn't decided whether its rows are by the book."""
+    return ["undecided" if b"undecided" in below else verdict.decode() for verdict, below in ENTRY.findall(listing)]
+
+
+def parts(items, count):
+    return [items[k:k + count] for k in range(0, len(items), count)]
+
+
+def own_rows_pass(blocks, by, latencies=()):
+    """Of our schedules by this priority, by each command that judges rows."""
+    for some in parts(blocks, AT_ONCE):
+        task, words = text_of(some), words_for(dict(latencies))
+        rows, file = ending(["schedule", "--priority", by, *words], task)[1], stored("alike.iloc", task)
+        for asked in ([], ["--lawful"]):
+            end = ending(["check", *asked, *words, "--task", file], rows)
+            if end[0] != PASSED or found_of(end[1]) != ["lawful"] * len(some):
+                yield f"check {asked} {by} {words}: {unlawful(some, end[1]) or told(end)}"
+        end = ending(["explain", *words, "--task", file], rows)
+        if end[0] != PASSED or b"not lawful" in end[1] or end[1].count(b"\npath ") != len(some):
+            yield f"explain {by} {words}: {told(end)}"
+
+
+def unlawful(blocks, listing):
+    """The first block whose rows aren't said to be lawful."""
+    return next((f"{[*map(str, ops)]} {found}" for ops, found in zip(blocks, found_of(listing)) if found != "lawful"), None)
+
+
+def own_drawn():
+    chance = random.Random(64)
+    blocks = [alike.block(chance) for _ in range(OWN if TESTED.is_short else ALL_OWN)]
+    for number, some in enumerate(parts(blocks, len(blocks) // len(ORDERS) + 1)):
+        latencies = (SHORT, LONG, {})[number % 3]
+        yield from own_rows_pass(some, ORDERS[number], latencies)
+
+
+# Rows for a tiny block, which `labs` has with our schedule of it.
+
+def lawful(chance, given):
+    """In another order, and in other registers."""
+    ranks = [chance.random() for _ in given.ops]
+    given.rows = scheduled(given.ops, given.pairs, lambda j: ranks[j])
+    return chance.choice([own_names, registers_reused])(chance, given)
+
+
+def rewired(chance, given):
+    """Of operations that read something else."""
+    return lawful(chance, Given(Schedule(alike.rewired(chance, given.ops), given.latencies)))
+
+
+def wrong(chance, given):
+    """As students hand them in."""
+    given.rows = lawful(chance, given)
+    return chance.choice(WRONG)(chance, given) or given.rows
+
+
+def as_exhaustively():
+    chance, counts = random.Random(46), {}
+    for _ in range((TINY if TESTED.is_short else ALL_TINY) // AT_ONCE):
+        latencies = {name: chance.randint(1, 3) for name in SHORT}
+        blocks = [alike.block(chance, MOST_TINY) for _ in range(AT_ONCE)]
+        rows = [chance.choice([lawful, rewired, rewired, wrong])(chance, Given(Schedule(ops, latencies))) for ops in blocks]
+        text = text_of(blocks) + b"".join(proposed(k, f"B{k}", it) for k, it in enumerate(rows, 1))
+        found = found_of(ending(["check", *words_for(latencies)], text)[1])
+        if len(found) != len(blocks):
+            yield f"{len(found)} entries of {len(blocks)}"
+        for ops, theirs, got in zip(blocks, rows, found):
+            due = "units" if bad_row(theirs) is not None else "lawful" if has_pairing(ops, theirs, latencies) else "other"
+            said = got if got in ("units", "lawful", "undecided") else "other"
+            counts[due] = counts.get(due, 0) + 1
+            if said != due:
+                yield f"{[*map(str, ops)]} {[*map(row_text, theirs)]} {latencies}: {got} in place of {due}"
+    print(f"judged/alike/as_exhaustively: {counts}")
+
+
+def own_as_ours(block):
+    """Our own rows are explained, byte for byte, as our schedule is."""
+    due = ending(["explain"], block)
+    got = ending(["explain", "--task", stored("own.iloc", block)], ending(["schedule"], block)[1])
+    if got != due or due[0] != PASSED:
+        yield f"{told(got)} in place of {told(due)}"
+
+
+def lawful_rows(name, text, cycles, ours, *words):
+    """By `check` of a block with rows that take so many cycles, where ours and the least take as many as is said."""
+    listing = f"block 1 - lawful cycles {cycles} ours {ours} least {ours}\ntotal {cycles} ours {ours} least {ours}\n"
+    return Run(f"judged/alike/{name}", ["check", *words], text.encode(), listing.encode(), b"", PASSED)
+
+
+def alike_checks():
+    yield lawful_rows("sums_of_constants", SUMS + ROWS_OF_SUMS, 3, 3)
+    yield lawful_rows("sums_of_loads", SEVEN_LOADS + ROWS_OF_LOADS, 11, 11, "--lawful")
+    yield Check("judged/alike/unused_sums", own_as_ours, UNUSED_SUMS)
+    yield lawful_rows("behind_empty_rows", SUMS + "[ ]\n" * MILLION + ROWS_OF_SUMS, MILLION + 3, 3)
+    yield lawful_rows("behind_empty_lines", SUMS + "[ ]\n" + "\n" * MILLION + ROWS_OF_SUMS, 4, 3)
+    for by in ORDERS:
+        yield Check(f"judged/alike/sums/{by}", own_rows_pass, [*alike.sums()], by)
+    yield Check("judged/alike/own", own_drawn)
+    yield Check("judged/alike/as_exhaustively", as_exhaustively)
+
+
+load_tests = table(alike_checks)
