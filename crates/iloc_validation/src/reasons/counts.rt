@@ -66,13 +66,8 @@ fn unpaired_or(ops: &[Op], others: &[Op], found: &[usize], number: usize) -> usi
     ensures within { result < length ops.now }
     ensures short { IsShort (op_at ops.now result) ops.now others.now }
 {
-    if let Some(i) = found.iter().position(|k| *k >= others.len())
-        && i < ops.len()
-        && count_like(&ops[i], others) < count_like(&ops[i], ops)
-    {
-        return i;
-    }
-    number
+    let unpaired = found.iter().position(|k| *k >= others.len());
+    short_or(ops, others, unpaired, number)
 }
 
 /// The operations that have no counterpart among the others.
