@@ -8,6 +8,8 @@ mod asserted;
 #[cfg(test)]
 mod meaning;
 #[cfg(test)]
+mod reasons;
+#[cfg(test)]
 mod sched;
 #[cfg(test)]
 mod text;
