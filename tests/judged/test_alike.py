@@ -67,6 +67,7 @@ add r2, r3 => r3
 add r5, r5 => r5
 """
 MILLION = 1_000_000
+NOT_FOUND = {"void", "undecided"}     # of rows for a block that shows nothing
 
 
 def found_of(listing):
@@ -144,6 +145,22 @@ def as_exhaustively():
     print(f"judged/alike/as_exhaustively: {counts}")
 
 
+def graphs():
+    """Graphs written as code that nobody uses, of which each point has as many neighbours as any other, beside themselves and
+    beside other ones."""
+    chance = random.Random(8)
+    for points in (4, 8, 16, 30, 50):
+        drawn = [alike.regular(chance, points, 3) for _ in range(12)]
+        own_dues = {"lawful"} if points < 20 else {"lawful", *NOT_FOUND}
+        for theirs, dues in ((drawn, own_dues), (drawn[1:] + drawn[:1], NOT_FOUND)):
+            text = text_of([alike.graph(points, edges) for edges in drawn])
+            text += b"".join(proposed(k, f"B{k}", alike.shuffled(chance, points, edges)) for k, edges in enumerate(theirs, 1))
+            found = found_of(ending(["check"], text)[1])
+            print(f"judged/alike/graphs: {points} points: {({it: found.count(it) for it in found})}")
+            if len(found) != len(drawn) or not {*found} <= dues:
+                yield f"{points} points: {found}"
+
+
 def own_as_ours(block):
     """Our own rows are explained, byte for byte, as our schedule is."""
     due = ending(["explain"], block)
@@ -168,6 +185,7 @@ def alike_checks():
         yield Check(f"judged/alike/sums/{by}", own_rows_pass, [*alike.sums()], by)
     yield Check("judged/alike/own", own_drawn)
     yield Check("judged/alike/as_exhaustively", as_exhaustively)
+    yield Check("judged/alike/graphs", graphs)
 
 
 load_tests = table(alike_checks)

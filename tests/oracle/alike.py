@@ -28,3 +28,19 @@ def rewired(chance, ops):
     """The operations, of which some use and bring other registers."""
     registers, share = sorted({n for op in ops for n in (*op.used, *op.defined)}), chance.choice([0.1, 0.3, 1])
     return [op.with_numbers(lambda n, role: n if role == "c" or chance.random() > share else chance.choice(registers)) for op in ops]
+
+
+def regular(chance, points, ways):
+    """Of each of so many points to which others it leads, so that as many lead to each as from it."""
+    return [(a, b) for _ in range(ways) for a, b in enumerate(chance.sample(range(points), points))]
+
+
+def graph(points, edges):
+    """A graph written as code that nobody uses: a constant for each point, and a sum for each edge."""
+    return [*(Op("loadI", [4, k]) for k in range(points)), *(Op("add", [*it, points]) for it in edges)]
+
+
+def shuffled(chance, points, edges):
+    """Rows of the same, with other numbers and in another order."""
+    numbers, order = chance.sample(range(points), points), chance.sample(edges, len(edges))
+    return [[op, None] for op in graph(points, [(numbers[a], numbers[b]) for a, b in order])]
