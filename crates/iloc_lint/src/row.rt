@@ -115,9 +115,9 @@ fn stop_of(line: &[u8]) -> Stop<'_> {
     }
 }
 
-/// Promise: the words name something that is wanted and something that is found, as bytes are shown.
+/// What is wrong with a row that can't be read: what is wanted where its reading ends, and what is found there.
 ///
-/// They say what is wrong with a row that can't be read: what is wanted where its reading ends, and what is found there.
+/// Promise: this is `expected W, found F`, where F is as bytes are shown. Which W and which F, isn't promised.
 pub fn row_wording(alloc: Global, line: &[u8]) -> Result<Vec<u8>, NoMemory>
     ensures { IfOk result (λ words. IsRowWording words.items) }
 {
