@@ -169,8 +169,9 @@ class Charts(Place):
         self.expect("title", root.find(f"{SVG}title").text, "block 1: 14 cycles, at least 13")
         early = self.call("ilocfarm", "explain", "--task", task, given=given.replace(b"[ ]\n", b""))
         self.expect("rows that come early", self.call("charts/timeline", given=early[1]),
-                    (1, b"", b"charts/timeline: the rows of block 1 are not lawful: early by 3: row 3: add r1, r2 => r1 "
-                             b"for row 1: load r9 => r1\n"))
+                    (1, b"", b"charts/timeline: the rows of block 1 are not lawful: row 3: add r1, r2 => r1 reads r1, "
+                             b"which row 1: load r9 => r1 brings in row 6; row 3: add r1, r2 => r1 reads r2, "
+                             b"which row 2: loadAI r9, 4 => r2 brings in row 7\n"))
 
     def test_timeline_of_many(self):
         """Three hundred operations, each drawn once; the second block of two, for other latencies."""
@@ -200,7 +201,7 @@ class Charts(Place):
             marked = [group.find(f"{SVG}title").text for group in root.iter(f"{SVG}g")
                       if any(it.get("stroke") == WRONG_OUTLINE for it in group)]
             self.expect("wrong", marked, ["add r1, r2 => r3\nunit 0, issued at 6, arrives at 7\n"
-                                          "early by 1: row 6: add r1, r2 => r3 for row 2: loadAI r0, 4 => r2"])
+                                          "row 6: add r1, r2 => r3 reads r2, which row 2: loadAI r0, 4 => r2 brings in row 7"])
         root = self.picture("charts/timeline", given=b"[ ]\n[ multI r1, 2 => r2 ]\n[ ; output 4 ]\nblock 1 - units cycles 4 ours 4 least 4\n"
                             b"  row 2: [ nop ; output 4 ]\ntotal 4 ours 4 least 4\n")
         self.expect("rows of one operation", tooltips(root), ["multI r1, 2 => r2\nunit 1, issued at 1, arrives at 4",

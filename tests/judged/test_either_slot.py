@@ -28,7 +28,7 @@ def either_cases():
     # Each row can be issued as it is. In the first the result on unit 1 stays; exchanged, 1 would be stored.
     kept = TWICE + "[ loadI 1 => r1 ; loadI 2 => r1 ]\n[ loadI 4 => r2 ]\n[ store r1 => r2 ]\n"
     yield case("kept", ["--either-slot"], kept, "block 1 - same cycles 7 ours 6 least 6\n  added 1: row 0: loadI 1 => r1\n"
-               "total 7 ours 6 least 6\n", 0)
+               "  row 0: loadI 1 => r1 like none of the block\ntotal 7 ours 6 least 6\n", 0)
     for rows in LEFT:
         last = rows.rsplit("\n", 1)[-1]
         yield units(rows, rows.count("\n"), last)

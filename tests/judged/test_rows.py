@@ -3,6 +3,7 @@ from forms import USUAL
 from harness.program import Run, ending, told
 from harness.suite import Check, table
 from limits import MOST_BLOCKS, MOST_BYTES, MOST_OPERATIONS
+from oracle.book import MOST_FACTS
 from oracle.judge import ENTRY, NOT_SAME, entries_of, status_of, total
 from oracle.machine import row_text, words_from
 from oracle.reader import NO_SUCH_BLOCK, read
@@ -150,7 +151,8 @@ LISTED = {
     "second_claim": ("output 4\n[ output 4 ; nop ]\ncycles 1\ncycles 0\n",
                      "block 1 - lawful cycles 1 ours 1 least 1 claimed 0"),
     "both_units": ("output 0\n[ output 0 ; loadI 4 => r1 ]\n",
-                   "block 1 - same cycles 1 ours 1 least 1\n  added 1: row 0: loadI 4 => r1"),
+                   "block 1 - same cycles 1 ours 1 least 1\n  added 1: row 0: loadI 4 => r1\n"
+                   "  row 0: loadI 4 => r1 like none of the block"),
     # Our own rows have both outputs on unit 0, and aren't the only ones that keep the delay between the two.
     "outputs_on_two_units": ("output 0\noutput 4\n[ output 0 ; nop ]\n[ nop ; output 4 ]\n",
                              "block 1 - lawful cycles 2 ours 2 least 2"),
@@ -163,40 +165,46 @@ LISTED = {
     "nop": ("nop\ncycles 0\n", "block 1 - lawful cycles 0 ours 0 least 0"),
     # The word that is stored is there already.
     "word_put_back": ("loadI 4 => r1\nload r1 => r2\nstore r2 => r1\noutput 4\n[ output 4 ; nop ]\ncycles 1\n",
-                      "block 1 - agrees cycles 1 ours 12 least 12\n  left out 3: loadI 4 => r1"),
+                      "block 1 - agrees cycles 1 ours 12 least 12\n  left out 3: loadI 4 => r1\n  see row 0: output 4"),
     "outputs_on_both_units": ("output 4\noutput 8\n[ output 8 ; nop ]\n[ nop ; output 4 ]\n",
                               "block 1 - differs cycles 2 ours 2 least 2\n  output 1: 0 for 9\n"
-                              "  early by 2: row 0: output 8 for row 1: output 4"),
+                              "  row 0: output 8 before row 1: output 4\n  row 1: output 4 after row 0: output 8"),
     "output_missing": ("output 4\noutput 8\n[ output 4 ; nop ]\ncycles 2\n",
                        "block 1 - differs cycles 1 ours 2 least 2 claimed 2\n  output 2: none for 0\n"
                        "  left out 1: output 8"),
     "output_behind_the_last": ("output 8\n[ output 8 ; nop ]\n[ output 4 ; nop ]\n",
                                "block 1 - differs cycles 2 ours 1 least 1\n  output 2: 9 for none\n"
-                               "  added 1: row 1: output 4"),
+                               "  added 1: row 1: output 4\n"
+                               "  row 1: output 4 like none of the block"),
     "store_missing": ("loadI 12 => r1\nsubI r1, 16 => r2\nstore r2 => r1\n",
                       "block 1 - differs cycles 0 ours 7 least 7\n  word 12: 0 for -4\n"
                       "  left out 3: loadI 12 => r1"),
     "fault_beside_the_output": ("output 4\n[ output 4 ; loadI 5 => r1 ]\n[ load r1 => r1 ; nop ]\n",
                                 "block 1 - differs cycles 6 ours 1 least 1\n  fault\n"
-                                "  added 2: row 0: loadI 5 => r1"),
+                                "  added 2: row 0: loadI 5 => r1\n"
+                                "  row 0: loadI 5 => r1 like none of the block\n"
+                                "  row 1: load r1 => r1 like none of the block"),
     "fault_missing": ("output 5\n", "block 1 - void cycles 0 ours 1 least 1\n  the block faults: output 5\n"
                       "  left out 1: output 5"),
     # On the memory handed in both words are 0.
     "output_of_another_word": ("output 65532\n[ output 65528 ; nop ]\n",
                                "block 1 - differs cycles 1 ours 1 least 1\n  output 1: 0 for 2 with --at 65532 2\n"
-                               "  left out 1: output 65532\n  added 1: row 0: output 65528"),
+                               "  left out 1: output 65532\n  added 1: row 0: output 65528\n"
+                               "  row 0: output 65528 like none of the block"),
     # Two addresses in one register, of which the second is there before the first is read.
     "address_overwritten": (TWO_ADDRESSES, "block 1 - differs cycles 10 ours 10 least 10\n  output 1: 0 for 7\n"
-                            "  reads r1: row 2: store r2 => r1 from row 1: loadI 1028 => r1 for row 0: loadI 1024 => r1"),
+                            "  row 2: store r2 => r1 reads r1 of row 1: loadI 1028 => r1, no longer of row 0: loadI 1024 => r1"),
     "product_known": (PRODUCT + "[ loadI 42 => r1 ; loadI 1024 => r0 ]\n[ store r1 => r0 ]\n" + "[ ]\n" * 4 + "[ output 1024 ]\n",
-                      "block 1 - same cycles 7 ours 10 least 10\n  left out 3: loadI 6 => r1\n  added 1: row 0: loadI 42 => r1"),
+                      "block 1 - same cycles 7 ours 10 least 10\n  left out 3: loadI 6 => r1\n  added 1: row 0: loadI 42 => r1\n"
+                      "  row 0: loadI 42 => r1 like none of the block\n"
+                      "  row 1: store r1 => r0 for store r3 => r0"),
     "register_at_first": ("add r1, r1 => r2\nloadI 4 => r1\nstore r2 => r1\n"
                           "[ loadI 4 => r1 ]\n[ add r1, r1 => r2 ]\n[ store r2 => r1 ]\n",
                           "block 1 - differs cycles 7 ours 6 least 6\n  word 4: 8 for 0\n"
-                          "  reads r1: row 1: add r1, r1 => r2 from row 0: loadI 4 => r1 for no row"),
+                          "  row 1: add r1, r1 => r2 for add r1, r1 => r2"),
     "register_of_nobody": ("loadI 4 => r1\nstore r1 => r1\n[ loadI 4 => r1 ]\n[ store r2 => r1 ]\n",
                            "block 1 - differs cycles 6 ours 6 least 6\n  word 4: 0 for 4\n"
-                           "  reads r2: row 1: store r2 => r1 from no row for row 0: loadI 4 => r1"),
+                           "  row 1: store r2 => r1 for store r1 => r1"),
     "load_on_unit_1": ("loadI 4 => r1\nload r1 => r2\n[ loadI 4 => r1 ; nop ]\n[ nop ; load r1 => r2 ]\n",
                        "block 1 - units cycles 6 ours 6 least 6\n  row 1: [ nop ; load r1 => r2 ]"),
     "two_outputs_in_a_row": ("output 4\n[ output 4 ; output 8 ]\n[ mult r1, r1 => r2 ; nop ]\ncycles 1\n",
@@ -223,22 +231,26 @@ LISTED = {
                            "block 2 b lawful cycles 0 ours 0 least 0"),
     "blanks_and_comments": ("output 0\r\n block 1 -//\n\tcycles\t05 // claimed\r\n// \x00\xff\n\n [\toutput 00 ;nop\r]//\r\n"
                             "[nop;\rnop\t]\r\ncycles 1\n[ nop ; add r1,r02 =>r3 ]\n\n",
-                            "block 1 - same cycles 3 ours 1 least 1 claimed 1\n  added 1: row 2: add r1, r2 => r3"),
+                            "block 1 - same cycles 3 ours 1 least 1 claimed 1\n  added 1: row 2: add r1, r2 => r3\n"
+                            "  row 2: add r1, r2 => r3 like none of the block"),
     "blanks_in_a_row_that_is_shown": ("nop\n [\tmult r1,r02 =>r3;nop\r]//\r\n",
                                       "block 1 - units cycles 3 ours 0 least 0\n  row 0: [ mult r1, r2 => r3 ; nop ]"),
     "row_of_another_block": ("A: output 4\nB: output 8\nblock 1 A\n[ output 4 ; nop ]\nblock 2 B\n[ output 4 ; nop ]\n",
                              "block 1 A lawful cycles 1 ours 1 least 1",
                              "block 2 B differs cycles 1 ours 1 least 1\n  output 1: 9 for 0\n"
-                             "  left out 1: output 8\n  added 1: row 0: output 4"),
+                             "  left out 1: output 8\n  added 1: row 0: output 4\n"
+                             "  row 0: output 4 like none of the block"),
     "blocks_passed_over": ("a:\nb:\nc:\nblock 2 b\n[ nop ; output 4 ]\n", "block 1 a lawful cycles 0 ours 0 least 0",
-                           "block 2 b void cycles 1 ours 0 least 0\n  the block shows nothing\n  added 1: row 0: output 4",
+                           "block 2 b void cycles 1 ours 0 least 0\n  the block shows nothing\n  added 1: row 0: output 4\n"
+                           "  row 0: output 4 like none of the block",
                            "block 3 c lawful cycles 0 ours 0 least 0"),
     "largest_numbers": ("a:\ncycles 2147483647\ntotal 2147483647\n[ output 2147483647 ; nop ]",
                         "block 1 a void cycles 1 ours 0 least 0 claimed 2147483647\n  the block shows nothing\n"
-                        "  added 1: row 0: output 2147483647"),
+                        "  added 1: row 0: output 2147483647\n"
+                        "  row 0: output 2147483647 like none of the block"),
     "fault_left_out": (BIG_ADDRESS + "[ loadI 100000 => r0 ; nop ]\n[ output 100000 ; nop ]\n",
                        "block 1 - void cycles 2 ours 10 least 10\n  the block faults: store r3 => r0\n"
-                       "  left out 4: loadI 6 => r1"),
+                       "  left out 4: loadI 6 => r1\n  see row 1: output 100000"),
 }
 
 # Each is line 4, after a claim.
@@ -459,8 +471,9 @@ def unread_rows():
 def at_the_limits():
     full = "a:\nb:\nblock 1 a\n" + "[ nop ; output 0 ]\n" * MOST_OPERATIONS
     many = f"line 10004: more than {MOST_OPERATIONS} operations in a block"
+    like_none = "".join(f"  row {row}: output 0 like none of the block\n" for row in range(MOST_FACTS))
     a = (f"block 1 a void cycles {MOST_OPERATIONS} ours 0 least 0\n  the block shows nothing\n"
-         f"  added {MOST_OPERATIONS}: row 0: output 0")
+         f"  added {MOST_OPERATIONS}: row 0: output 0\n" + like_none + f"  and {MOST_OPERATIONS - MOST_FACTS} more")
     yield listed("most_operations", full + "[ nop ; nop ]", a, "block 2 b lawful cycles 0 ours 0 least 0")
     yield listed("most_operations_of_one", full + "block 2 b\n[ output 0 ; output 0 ]", a,
                  "block 2 b units cycles 1 ours 0 least 0\n  row 0: [ output 0 ; output 0 ]")

@@ -8,8 +8,6 @@ from oracle.scheduler import memory_delays
 
 ISSUE = r"row (\d+): ([^:]*)"
 COUNTS = re.compile(rf"(left out|added) (\d+): (?:{ISSUE}|([^:]*))")
-EARLY = re.compile(rf"early by (\d+): {ISSUE} for {ISSUE}")
-READS = re.compile(rf"reads r(\d+): {ISSUE} from (?:no row|{ISSUE}) for (?:no row|{ISSUE})")
 
 
 def label(op):
@@ -91,70 +89,95 @@ def lacking(ops, others):
 
 
 class Reasons:
-    """What may be said of rows that aren't by the book: whatever is true of some pairing by label."""
+    """What may be said of rows that aren't by the book: facts of them, each of which is looked up here."""
 
     def __init__(self, block, rows, latencies):
         self.ops = [op for op in block if op.opcode != "nop"]
         self.issued = [(cycle, op) for cycle, row in enumerate(rows) for op in row if op]
         self.given, self.read = [*sources_in_block(self.ops)], [*sources_in_rows(self.issued, latencies)]
-        self.latencies = latencies
+        self.due = [cycle + op.latency(latencies) for cycle, op in self.issued]
         self.left_out = lacking(self.ops, [op for _, op in self.issued])
         self.added = lacking([op for _, op in self.issued], self.ops)
 
     def are(self, lines):
-        """Whether these lines say why, all that has to be said."""
-        if not self.left_out and not self.added:
-            return len(lines) == 1 and (self.is_early(lines[0]) or self.reads(lines[0]))
+        """Whether these lines say so: what is left out and added first, then facts by row, eight of them before `and N more`."""
+        counts = [found for line in lines if (found := COUNTS.fullmatch(line))]
+        facts = lines[len(counts):]
         wanted = ["left out"] * bool(self.left_out) + ["added"] * bool(self.added)
-        found = [COUNTS.fullmatch(line) for line in lines]
-        return all(found) and [it[1] for it in found] == wanted and all(map(self.are_counted, found))
+        if [it[1] for it in counts] != wanted or not all(map(self.are_counted, counts)) or not lines:
+            return False
+        if facts and re.fullmatch(r"and [1-9]\d* more", facts[-1]):
+            facts.pop()
+            if len(facts) != MOST_FACTS:
+                return False
+        rows = [int(re.search(r"row (\d+)", line)[1]) for line in facts]
+        return len(facts) <= MOST_FACTS and rows == sorted(rows) and all(map(self.is_fact, facts))
 
     def are_counted(self, found):
         what, count, row, op, left_out = found.groups()
         lacking = self.left_out if what == "left out" else self.added
-        named = self.at(row, op) if what == "added" else [it for it in self.ops if str(it) == left_out]
+        named = [self.issued[k][1] for k in self.numbers(row, op)] if what == "added" else [it for it in self.ops if str(it) == left_out]
         return int(count) == lacking.total() and any(lacking[label(it)] for it in named)
 
     def numbers(self, row, text):
         """The operations of this row that are written so."""
         return [k for k, (cycle, op) in enumerate(self.issued) if cycle == int(row) and str(op) == text]
 
-    def at(self, row, text):
-        return [self.issued[k][1] for k in self.numbers(row, text)]
+    def is_fact(self, line):
+        for form, holds in FACTS.items():
+            if found := form.fullmatch(line):
+                row, op, *others = found.groups()
+                return any(holds(self, k, *others) for k in self.numbers(row, op))
+        return False
 
-    def origins(self, k):
-        """The operations of the block that operation k of the rows may be."""
-        return [j for j, op in enumerate(self.ops) if label(op) == label(self.issued[k][1])]
+    def is_under_way(self, k, row, op, until):
+        return any(self.issued[k][1].kind in ("load", "output") and self.issued[s][1].kind == "store"
+                   and int(row) <= self.issued[k][0] < self.due[s] == int(until) for s in self.numbers(row, op))
 
-    def delays(self, i, j):
-        uses = {self.ops[i].latency(self.latencies)} if i in self.given[j] else set()
-        return uses | (memory_delays(self.ops[i], self.ops[j], self.latencies) if i < j else set())
+    def brings(self, k, register, row, op, until):
+        return any(int(register) in self.issued[k][1].used and int(register) in self.issued[n][1].defined and n != k
+                   and int(row) <= self.issued[k][0] < self.due[n] == int(until) for n in self.numbers(row, op))
 
-    def is_early(self, line):
-        found = EARLY.fullmatch(line)
-        if not found:
-            return False
-        by, row, op, needed_row, needed_op = found.groups()
-        missing = int(by) + int(row) - int(needed_row)
-        return int(by) > 0 and any(missing in self.delays(i, j)
-                                   for k in self.numbers(row, op) for n in self.numbers(needed_row, needed_op) if n != k
-                                   for j in self.origins(k) for i in self.origins(n))
+    def replaces(self, k, register, row, op, lost_row, lost_op):
+        cycle, it = self.issued[k]
+        read = {i for used, i in zip(it.used, self.read[k]) if used == int(register)} & {*self.numbers(row, op)}
+        return any(lost_row is None or any(n != i and int(register) in self.issued[n][1].defined and self.due[n] <= cycle
+                                           for n in self.numbers(lost_row, lost_op)) for i in read)
 
-    def reads(self, line):
-        found = READS.fullmatch(line)
-        if not found:
-            return False
-        register, row, op, from_row, from_op, wanted_row, wanted_op = found.groups()
-        return any(self.reads_another(k, place, from_row and self.numbers(from_row, from_op),
-                                      wanted_row and self.numbers(wanted_row, wanted_op))
-                   for k in self.numbers(row, op)
-                   for place, used in enumerate(self.issued[k][1].used) if used == int(register))
+    def are_in_order(self, k, side, row, op):
+        return any({it.kind for it in (self.issued[k][1], self.issued[n][1])} in KEPT_IN_ORDER
+                   and (self.issued[k][0] < int(row) if side == "before" else self.issued[k][0] > int(row))
+                   for n in self.numbers(row, op))
 
-    def reads_another(self, k, place, read, wanted):
-        """Whether a use of operation k reads one of these, and may be a use that has to read another."""
-        if self.read[k][place] not in (read if read is not None else [None]):
-            return False
-        given = {self.given[j][place] for j in self.origins(k)}
-        if wanted is None:
-            return None in given and self.read[k][place] is not None
-        return any(i is not None and i in self.origins(n) for i in given for n in wanted if n != self.read[k][place])
+    def stands_for(self, k, op):
+        return any(str(it) == op and label(it) == label(self.issued[k][1]) for it in self.ops)
+
+    def is_like_none(self, k):
+        """Whether no operation of the block has its label and reads what it reads, and so on."""
+        here, there = terms(self.ops, self.given), terms([op for _, op in self.issued], self.read)
+        return there[k] not in here
+
+    def is_there(self, k):
+        return True
+
+
+def terms(ops, sources):
+    """A number for each operation that tells its label and the terms of what it reads."""
+    found = []
+    for op, read in zip(ops, sources):
+        found.append(NUMBERS.setdefault((label(op), tuple(None if i is None else found[i] for i in read)), len(NUMBERS)))
+    return found
+
+
+NUMBERS = {}
+MOST_FACTS = 8
+KEPT_IN_ORDER = ({"load", "store"}, {"store"}, {"output", "store"}, {"output"})
+FACTS = {re.compile(form.replace("ISSUE", r"row (\d+): ([^:]*?)")): holds for form, holds in {
+    r"ISSUE while ISSUE is under way to row (\d+)": Reasons.is_under_way,
+    r"ISSUE reads r(\d+), which ISSUE brings in row (\d+)": Reasons.brings,
+    r"ISSUE reads r(\d+) of ISSUE, no longer of (?:the start|ISSUE)": Reasons.replaces,
+    r"ISSUE (before|after) ISSUE": Reasons.are_in_order,
+    r"ISSUE for ([^:]*)": Reasons.stands_for,
+    r"ISSUE like none of the block": Reasons.is_like_none,
+    r"see ISSUE": Reasons.is_there,
+}.items()}

@@ -48,13 +48,13 @@ small_found lat block s p c theirs ours most greedy short few =
     let bound : least lat block ≤ cycles lat s.ops s.rows = least_bound lat block s.ops s.rows greedy.lawful in
     record { cycles = omega arith; ours = omega arith; least = omega arith }
 
-pub small_check : (u : Option Unread) (csv outputs : Bool) (lat : Latencies) (memory : List ℤ) (block : List Op)
-    (s : Table) (p : Proposal) (c : Checked) (entry : List ℕ) → IsSaid u csv outputs lat memory block s p c entry
+pub small_check : (u : Option Unread) (lawful csv outputs : Bool) (lat : Latencies) (memory : List ℤ) (block : List Op)
+    (s : Table) (p : Proposal) (c : Checked) (entry : List ℕ) → IsSaid u lawful csv outputs lat memory block s p c entry
     → IsGreedy lat block s.ops s.rows → length block ≤ MAX_OPS → length p.rows ≤ MAX_ROWS → IsSmall c
-small_check None csv outputs lat memory block s p c entry check greedy short few =
+small_check None lawful csv outputs lat memory block s p c entry check greedy short few =
     small_found lat block s p c (ap (λ (x : Checked). x.cycles) check.is_found)
     (ap (λ (x : Checked). x.ours) check.is_found) (ap (λ (x : Checked). x.least) check.is_found) greedy short few
-small_check (Some unread) csv outputs lat memory block s p c entry check greedy short few =
+small_check (Some unread) lawful csv outputs lat memory block s p c entry check greedy short few =
     small_found lat block s p c (ap (λ (x : Checked). x.cycles) check.is_found)
     (ap (λ (x : Checked). x.ours) check.is_found) (ap (λ (x : Checked). x.least) check.is_found) greedy short few
 
@@ -104,7 +104,7 @@ module _ (lawful csv outputs : Bool) (lat : Latencies) (memory : List ℤ) (bloc
     -- one block more
     pub one_checked : (b : Block) (s : Table) (c : Checked) (more entry : List ℕ) (sums : Totals)
         → totals.blocks < length blocks → b ≡ get_or blocks totals.blocks b
-        → IsGreedy lat b.ops s.ops s.rows → IsSaid p.unread csv outputs lat memory b.ops s p c entry → IsSmall c
+        → IsGreedy lat b.ops s.ops s.rows → IsSaid p.unread lawful csv outputs lat memory b.ops s p c entry → IsSmall c
         → more ≡ (text ++ head_as csv (totals.blocks + 1) b.name) ++ entry → sums ≡ with_checked lawful totals c
         → IsCheckedTo lawful csv outputs lat memory blocks proposals rest more sums
     one_checked b s c more entry sums within read greedy check small pushed added =
@@ -130,7 +130,7 @@ module _ (lawful csv outputs : Bool) (lat : Latencies) (memory : List ℤ) (bloc
               let P : List Block → List Table → Type 0 = λ bs ss. AreGreedy lat bs ss in
               rw (front, map-append (λ (x : Judged). x.ours) js (j ∷ []))
               (greedy_more lat (take (length js) blocks) (map (λ (x : Judged). x.ours) js) b s so_far.greedy greedy);
-          right = All-push (IsJudged csv outputs lat memory) js j so_far.right check;
+          right = All-push (IsJudged lawful csv outputs lat memory) js j so_far.right check;
           listed = pushed ∙ (append_assoc text (head_as csv (totals.blocks + 1) b.name) entry
               ∙ (ap₂ (λ xs n. xs ++ (head_as csv n b.name ++ entry)) so_far.listed
               (let same : totals.blocks + 1 ≡ 1 + length js = omega arith in same)
@@ -154,7 +154,7 @@ module _ (lawful csv outputs : Bool) (lat : Latencies) (memory : List ℤ) (bloc
     of_blocks = refl;
     of_proposals = all;
     greedy = tt;
-    right = All-nil (IsJudged csv outputs lat memory);
+    right = All-nil (IsJudged lawful csv outputs lat memory);
     listed = empty ∙ sym (append-nil (opening_as csv check_header));
   }
 
@@ -197,19 +197,19 @@ rest_passes false b is = absurd (cc)
 
 -- what holds of whatever passes
 abbrev HoldsOfPassed : (lawful csv outputs : Bool) → Latencies → List ℤ → (Block → Proposal → Type 0) → Type 0
-HoldsOfPassed lawful csv outputs lat memory P = (j : Judged) → IsJudged csv outputs lat memory j → passes lawful j.checked ≡ true
+HoldsOfPassed lawful csv outputs lat memory P = (j : Judged) → IsJudged lawful csv outputs lat memory j → passes lawful j.checked ≡ true
     → P j.block j.proposal
 
 of_each : (lawful csv outputs : Bool) (lat : Latencies) (memory : List ℤ) (P : Block → Proposal → Type 0)
     → HoldsOfPassed lawful csv outputs lat memory P → (js : List Judged) → list_all (λ j. passes lawful j.checked) js ≡ true
-    → All (IsJudged csv outputs lat memory) js → AllZip P (map (λ j. j.block) js) (map (λ j. j.proposal) js)
+    → All (IsJudged lawful csv outputs lat memory) js → AllZip P (map (λ j. j.block) js) (map (λ j. j.proposal) js)
 of_each lawful csv outputs lat memory P holds [] pass right = tt
 of_each lawful csv outputs lat memory P holds (j ∷ js) pass right = (
-  holds j (All-head (IsJudged csv outputs lat memory) j js right)
+  holds j (All-head (IsJudged lawful csv outputs lat memory) j js right)
       (first_passes (passes lawful j.checked) (list_all (λ (x : Judged). passes lawful x.checked) js) pass),
   of_each lawful csv outputs lat memory P holds js
       (rest_passes (passes lawful j.checked) (list_all (λ (x : Judged). passes lawful x.checked) js) pass)
-      (All-tail (IsJudged csv outputs lat memory) j js right),
+      (All-tail (IsJudged lawful csv outputs lat memory) j js right),
 )
 
 of_passed : (lawful csv outputs : Bool) (lat : Latencies) (memory : List ℤ) (P : Block → Proposal → Type 0)
@@ -224,22 +224,19 @@ of_passed lawful csv outputs lat memory P holds blocks proposals text lists =
 -- rows of which one can't be read never pass
 unread_fails : (lawful csv : Bool) (lat : Latencies) (block : List Op) (s : Table) (p : Proposal) (c : Checked)
     (entry : List ℕ) → IsUnread csv lat block s p c entry → passes lawful c ≡ true → ⊥
-unread_fails true csv lat block s p c entry said pass =
-    let not : c.is_lawful ≡ false = ap (λ (x : Checked). x.is_lawful) said.is_found in cc
-unread_fails false csv lat block s p c entry said pass =
-    let not : c.is_same ≡ false = ap (λ (x : Checked). x.is_same) said.is_found in cc
+unread_fails lawful csv lat block s p c entry said pass =
+    let fails : passes lawful c ≡ false = ap (passes lawful) said.is_found in cc
 
 said_keeps : (u : Option Unread) (lawful csv outputs : Bool) (lat : Latencies) (memory : List ℤ) (block : List Op) (s : Table)
-    (p : Proposal) (c : Checked) (entry : List ℕ) → IsSaid u csv outputs lat memory block s p c entry → passes lawful c ≡ true
+    (p : Proposal) (c : Checked) (entry : List ℕ) → IsSaid u lawful csv outputs lat memory block s p c entry → passes lawful c ≡ true
     → DoTheSame outputs lat block p.ops p.rows
 said_keeps None lawful csv outputs lat memory block s p c entry said pass =
-    same_rows_do_the_same csv outputs lat memory block s p c entry said
-    (passed_is_same csv outputs lat memory block s p c entry said lawful pass)
+    same_rows_do_the_same lawful csv outputs lat memory block s p c entry said (passed_is_same lawful c pass)
 said_keeps (Some unread) lawful csv outputs lat memory block s p c entry said pass =
     absurd (unread_fails lawful csv lat block s p c entry said pass)
 
 said_may : (u : Option Unread) (lawful csv outputs : Bool) (lat : Latencies) (memory : List ℤ) (block : List Op) (s : Table)
-    (p : Proposal) (c : Checked) (entry : List ℕ) → IsSaid u csv outputs lat memory block s p c entry → passes lawful c ≡ true
+    (p : Proposal) (c : Checked) (entry : List ℕ) → IsSaid u lawful csv outputs lat memory block s p c entry → passes lawful c ≡ true
     → MayPass lawful outputs lat memory block p.ops p.rows
 said_may None lawful csv outputs lat memory block s p c entry said pass =
     passed_rows_may_pass lawful csv outputs lat memory block s p c entry said pass

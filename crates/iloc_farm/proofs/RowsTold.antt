@@ -8,6 +8,7 @@ use Rattle.iloc_ops.specs.declared.file.Block.{Block}
 use Rattle.iloc_timed.specs.Limits.{MAX_ROWS}
 use Rattle.iloc_timed.specs.declared.latencies.Latencies.{Latencies}
 use Rattle.iloc_timed.specs.Cycles.{cycles}
+use Rattle.iloc_timed.specs.Schedule.{Table}
 use Rattle.iloc_rows.specs.declared.proposal.Proposal.{Proposal}
 use Rattle.iloc_sched.specs.declared.cycle.calendar.TheConstants.{LONGEST_DELAY}
 use Rattle.iloc_sched.specs.declared.ranking.heuristic.Heuristic.{Heuristic}
@@ -16,17 +17,19 @@ use Rattle.iloc_judge.specs.RowsExplained.{IsRowsExplanation}
 use Rattle.iloc_farm.specs.Commands.ExplainRows.{ExplainsRows, IsExplainedBlock, ExplainedBlock, explained_entries}
 use Rattle.iloc_farm.specs.Fault.{finding_of}
 use Rattle.iloc_farm.specs.Listing.{block_head, total_of}
+use Rattle.iloc_farm.specs.Schedules.{IsGreedyAs}
 use Rattle.iloc_farm.specs.Steps.Limits.{most_proposed_cycles}
 use Rattle.iloc_farm.specs.Steps.Telling.{IsToldTo, found_of, with_rows}
 use Rattle.iloc_farm.specs.declared.commands.explain_rows.Found.{Found}
 use Rattle.iloc_farm.proofs.Checks.{all_more, sum_more}
+use Rattle.iloc_farm.proofs.Listers.{the_greedy}
 use Rattle.iloc_farm.proofs.Proposed.{all_blocks, all_proposals, front_more, proposals_more}
 use Rattle.iloc_farm.proofs.Schedules.{cycles_within}
 
 -- the cycles of one proposal are few
-pub few_told : (heuristic : Heuristic) (lat : Latencies) (block : List Op) (p : Proposal) (one : ExplainedRows) (text : List ℕ)
-    → IsRowsExplanation heuristic lat block p one text → length p.rows ≤ MAX_ROWS → one.cycles ≤ most_proposed_cycles
-few_told heuristic lat block p one text is few =
+pub few_told : (heuristic : Heuristic) (lat : Latencies) (block : List Op) (s : Table) (p : Proposal) (one : ExplainedRows)
+    (text : List ℕ) → IsRowsExplanation heuristic lat block s p one text → length p.rows ≤ MAX_ROWS → one.cycles ≤ most_proposed_cycles
+few_told heuristic lat block s p one text is few =
     let counted : one.cycles ≡ cycles lat p.ops p.rows = is.counted in
     let within : cycles lat p.ops p.rows ≤ length p.rows + LONGEST_DELAY = cycles_within lat p.ops p.rows in
     omega arith
@@ -55,19 +58,19 @@ module _ (heuristic : Heuristic) (lat : Latencies) (blocks : List Block) (propos
   module _ (left rest : List Proposal) (p : Proposal) (text : List ℕ) (found : Found) (next : left ≡ p ∷ rest)
       (so_far : IsToldTo heuristic lat blocks proposals left text found) where
     -- one block more
-    pub one_told : (b : Block) (one : ExplainedRows) (more entry : List ℕ) (sums : Found)
-        → found.blocks < length blocks → b ≡ get_or blocks found.blocks b
-        → IsRowsExplanation heuristic lat b.ops p one entry → length p.rows ≤ MAX_ROWS
+    pub one_told : (b : Block) (s : Table) (one : ExplainedRows) (more entry : List ℕ) (sums : Found)
+        → found.blocks < length blocks → b ≡ get_or blocks found.blocks b → IsGreedyAs heuristic lat b.ops s
+        → IsRowsExplanation heuristic lat b.ops s p one entry → length p.rows ≤ MAX_ROWS
         → more ≡ ((text ++ block_head (found.blocks + 1) b.name) ++ codes "\n") ++ entry → sums ≡ with_rows found one
         → IsToldTo heuristic lat blocks proposals rest more sums
-    one_told b one more entry sums within read is short pushed added =
+    one_told b s one more entry sums within read greedy is short pushed added =
         let ts : List ExplainedBlock = so_far.told in
-        let t : ExplainedBlock = record { block = b; proposal = p; found = one; text = entry } in
+        let t : ExplainedBlock = record { block = b; ours = s; proposal = p; found = one; text = entry } in
         let count : found.blocks ≡ length ts = ap (λ (f : Found). f.blocks) so_far.sums in
         let front : take (length (ts ++ t ∷ [])) blocks ≡ take (length ts) blocks ++ b ∷ [] =
         front_more (λ (x : ExplainedBlock). x.proposal) blocks proposals ts t b found.blocks count within read in
         let few : found.cycles ≤ most_proposed_cycles * found.blocks = so_far.few in
-        let small : one.cycles ≤ most_proposed_cycles = few_told heuristic lat b.ops p one entry is short in
+        let small : one.cycles ≤ most_proposed_cycles = few_told heuristic lat b.ops s p one entry is short in
         let cycles : sums.cycles ≡ found.cycles + one.cycles = ap (λ (f : Found). f.cycles) added in
         let blocks_now : sums.blocks ≡ found.blocks + 1 = ap (λ (f : Found). f.blocks) added in
         record {
@@ -78,7 +81,8 @@ module _ (heuristic : Heuristic) (lat : Latencies) (blocks : List Block) (propos
               ∙ (ap (λ bs. bs ++ b ∷ []) so_far.of_blocks ∙ sym front);
           of_proposals = proposals_more (λ (x : ExplainedBlock). x.proposal) blocks proposals ts left rest p next
               so_far.of_proposals t refl;
-          right = All-push (IsExplainedBlock heuristic lat) ts t so_far.right is;
+          right = All-push (IsExplainedBlock heuristic lat) ts t so_far.right
+              (record { greedy = the_greedy heuristic lat b s greedy; right = is });
           listed = pushed ∙ (joined text (block_head (found.blocks + 1) b.name) (codes "\n") entry
               ∙ (ap₂ (λ xs n. xs ++ (block_head n b.name ++ codes "\n" ++ entry)) so_far.listed
               (let same : found.blocks + 1 ≡ 1 + length ts = omega arith in same)

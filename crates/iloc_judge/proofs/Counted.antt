@@ -23,7 +23,7 @@ use Rattle.iloc_judge.specs.declared.comparison.Comparison.TheVariants as of
 use Rattle.iloc_judge.specs.declared.difference.Difference.{Difference}
 use Rattle.iloc_judge.specs.declared.difference.Difference.TheVariants.{Output, Word, Fault, NoFault}
 use Rattle.iloc_judge.specs.declared.verdict.Verdict.{Verdict}
-use Rattle.iloc_judge.specs.declared.verdict.Verdict.TheVariants.{Units, Lawful, Unlawful}
+use Rattle.iloc_judge.specs.declared.verdict.Verdict.TheVariants.{Units, Lawful, Unlawful, Undecided}
 use Rattle.iloc_judge.specs.Comparison.{IsComparison}
 use Rattle.iloc_judge.specs.Difference.{IsDifference}
 use Rattle.iloc_judge.specs.Memory.{memory_of}
@@ -139,5 +139,7 @@ pub verdict_listed : (outputs : Bool) (lat : Latencies) (memory : List ℤ) (blo
     → CanBeListed rows verdict
 verdict_listed outputs lat memory block ops rows (Units c) short few is = is.within
 verdict_listed outputs lat memory block ops rows Lawful short few is = tt
-verdict_listed outputs lat memory block ops rows (Unlawful reason found) short few is =
-    compared_listed outputs lat memory block ops rows found short few is.2
+verdict_listed outputs lat memory block ops rows (Unlawful reasons found) short few is =
+    compared_listed outputs lat memory block ops rows found short few is.3
+verdict_listed outputs lat memory block ops rows (Undecided found) short few is =
+    compared_listed outputs lat memory block ops rows found short few is.1

@@ -1,54 +1,28 @@
--- Rows that issue the same cycle by cycle.
-use Rattle.std.proofs.Common.{◌≡◌, ◌<◌, ℕ, zero, suc, List, [], ◌∷◌, length, map, Option, Some, None, arith, refl, ap, ap₂}
-use Rattle.std.specs.Prelude.{slice_index_or}
-use Rattle.std.specs.Bool.{Decides}
-use Rattle.std.specs.Option.{option_eq}
+-- Rows that issue what a schedule of ours does keep the rules of the units.
+use Rattle.std.proofs.Common.{◌≡◌, ◌&&◌, true, false, ℕ, List, length}
 use Rattle.iloc_ops.specs.declared.op.Op.{Op}
-use Rattle.iloc_ops.specs.contracts.op.OpPartialEq.TheImpl as of_ops
-use Rattle.iloc_timed.specs.declared.row.Row.{Row}
-use Rattle.iloc_timed.specs.Rows.{row_at}
-use Rattle.iloc_timed.specs.Schedule.{AreInRange, AreOnce}
 use Rattle.iloc_timed.specs.declared.latencies.Latencies.{Latencies}
+use Rattle.iloc_timed.specs.declared.row.Row.{Row}
+use Rattle.iloc_timed.specs.Rows.{keeps_units, row_at, IsTable}
+use Rattle.iloc_timed.specs.Schedule.{in_range, AreInRange, AreOnce, IsFirstBadRow}
 use Rattle.iloc_timed.proofs.Standing.{numbered_from}
 use Rattle.iloc_sched.specs.Lawful.{IsLawful}
-use Rattle.iloc_validation.specs.ByTheBook.{issued_in, IsByTheBook, IssueTheSame}
+use Rattle.iloc_validation.specs.ByTheBook.{IsByTheBook, IssueTheSame}
 use Rattle.iloc_validation.proofs.SameIssues.{own_by_the_book}
-use Rattle.iloc_judge.proofs.SameLists.{op_same}
 
--- what stands in two slots is compared as what it is
-pub slot_same : (x y : Option Op) → Decides (option_eq of_ops.eq-value.it x y) (x ≡ y)
-slot_same None None = (λ same. refl, λ same. refl)
-slot_same None (Some b) = (λ same. absurd cc, λ same. absurd cc)
-slot_same (Some a) None = (λ same. absurd cc, λ same. absurd cc)
-slot_same (Some a) (Some b) = (
-  λ same. ap Some ((op_same a b).0 same),
-  λ same. let inner : a ≡ b = cc in (op_same a b).1 inner,
-)
+no_bad_row : (ops : List Op) (rows : List Row) (c : ℕ) → IsTable ops rows → AreInRange (length ops) rows
+    → IsFirstBadRow ops rows c → ⊥
+no_bad_row ops rows c table inside bad =
+    let first : in_range (length ops) (row_at rows c) ≡ true = inside c bad.within in
+    let second : keeps_units ops (row_at rows c) ≡ true = table.units c in
+    let third : (in_range (length ops) (row_at rows c) && keeps_units ops (row_at rows c)) ≡ false = bad.bad in
+    cc
 
-pub issue_each : (ops ops' : List Op) (rows rows' : List Row) → length rows ≡ length rows'
-    → ((c : ℕ) → c < length rows' → issued_in ops (row_at rows c) ≡ issued_in ops' (row_at rows' c))
-    → IssueTheSame ops rows ops' rows'
-issue_each ops ops' [] [] long each = refl
-issue_each ops ops' [] (row' ∷ rows') long each = absurd (omega arith)
-issue_each ops ops' (row ∷ rows) [] long each = absurd (omega arith)
-issue_each ops ops' (row ∷ rows) (row' ∷ rows') long each =
-    ap₂ (λ x xs. x ∷ xs) (each 0 (omega arith))
-    (issue_each ops ops' rows rows' (omega arith) (λ c within. each (suc c) (omega arith)))
-
--- also where the rows are looked up with whatever stands for what is past the end
-pub each_there : (ops ops' : List Op) (rows rows' : List Row) (c : ℕ) (none : Row) → c < length rows'
-    → IssueTheSame ops rows ops' rows'
-    → issued_in ops (slice_index_or rows c none) ≡ issued_in ops' (slice_index_or rows' c none)
-each_there ops ops' rows [] c none within same = absurd (omega arith)
-each_there ops ops' [] (row' ∷ rows') c none within same = absurd cc
-each_there ops ops' (row ∷ rows) (row' ∷ rows') zero none within same = cc
-each_there ops ops' (row ∷ rows) (row' ∷ rows') (suc c) none within same =
-    let rest : map (issued_in ops) rows ≡ map (issued_in ops') rows' = cc in
-    each_there ops ops' rows rows' c none (omega arith) rest
-
--- they are by the book where the others are a lawful schedule
-pub own_is_lawful : (lat : Latencies) (block ops ops' : List Op) (rows rows' : List Row) → IsLawful lat block ops rows
+-- ours is a lawful schedule of a block
+pub own_rows_keep_units : (lat : Latencies) (block ops ops' : List Op) (rows rows' : List Row) (c : ℕ) → IsLawful lat block ops rows
     → AreInRange (length ops') rows' → AreOnce (length ops') rows' → IssueTheSame ops rows ops' rows'
-    → IsByTheBook lat block ops' rows'
-own_is_lawful lat block ops ops' rows rows' lawful in_range once same =
-    own_by_the_book lat block ops ops' rows rows' lawful (numbered_from ops' rows' in_range once) same
+    → IsFirstBadRow ops' rows' c → ⊥
+own_rows_keep_units lat block ops ops' rows rows' c lawful inside once same bad =
+    let book : IsByTheBook lat block ops' rows' =
+    own_by_the_book lat block ops ops' rows rows' lawful (numbered_from ops' rows' inside once) same in
+    no_bad_row ops' rows' c book.2.table inside bad

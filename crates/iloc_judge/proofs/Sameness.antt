@@ -1,6 +1,7 @@
 -- Rows that are found to be the same do what the block does, and rows pass only if they may.
-use Rattle.std.proofs.Common.{◌≡◌, Bool, true, false, List, ℕ, sym, ap, ◌∙◌, inl, inr}
+use Rattle.std.proofs.Common.{◌≡◌, ◌⊎◌, Bool, true, false, List, ℕ, refl, sym, ap, ◌∙◌, inl, inr}
 use Rattle.std.specs.Prelude.{ℤ}
+use Rattle.std.proofs.lemmas.Bool.{true≢false}
 use Rattle.iloc_ops.specs.declared.op.Op.{Op}
 use Rattle.iloc_meaning.specs.declared.outcome.Outcome.{Outcome}
 use Rattle.iloc_meaning.specs.Outcome.{shown}
@@ -12,13 +13,17 @@ use Rattle.iloc_rows.specs.declared.proposal.Proposal.{Proposal}
 use Rattle.iloc_validation.specs.ByTheBook.{IsByTheBook}
 use Rattle.iloc_validation.proofs.Outcomes.{keeps_the_outcome}
 use Rattle.iloc_judge.specs.declared.comparison.Comparison.TheVariants as of
-use Rattle.iloc_judge.specs.Comparison.{AgreesOnAll}
+use Rattle.iloc_judge.specs.declared.comparison.Comparison.{Comparison}
+use Rattle.iloc_judge.specs.Comparison.{AgreesOnAll, IsComparison}
 use Rattle.iloc_judge.specs.Difference.{AreAlike}
 use Rattle.iloc_judge.specs.declared.verdict.Verdict.{Verdict}
-use Rattle.iloc_judge.specs.declared.verdict.Verdict.TheVariants.{Units, Lawful, Unlawful}
+use Rattle.iloc_judge.specs.declared.verdict.Verdict.TheVariants.{Units, Lawful, Unlawful, Undecided}
+use Rattle.iloc_judge.specs.declared.verdict.kind.VerdictKind.{VerdictKind}
+use Rattle.iloc_judge.specs.declared.verdict.kind.VerdictKind.TheVariants as kind
+use Rattle.iloc_judge.specs.Void.{CanBeJudged}
 use Rattle.iloc_judge.specs.Verdict.{IsVerdict}
 use Rattle.iloc_judge.specs.declared.checked.Checked.{Checked}
-use Rattle.iloc_judge.specs.Checked.{is_lawful, is_same, passes, DoTheSame, IsCheck, MayPass}
+use Rattle.iloc_judge.specs.Checked.{compared_kind, is_passing, kind_of, passes, DoTheSame, IsCheck, MayPass}
 use Rattle.iloc_judge.specs.Laws.{PassedRowsMayPass, SameRowsDoTheSame}
 
 -- equal outcomes are alike, whatever is compared
@@ -38,69 +43,75 @@ book_does_the_same outputs lat block ops rows book = record {
   agree = λ words fits. alike_of_equal outputs (keeps_the_outcome lat block ops rows words book);
 }
 
-same_is_right : (outputs : Bool) (lat : Latencies) (memory : List ℤ) (block ops : List Op) (rows : List Row) (verdict : Verdict)
-    → IsVerdict outputs lat block ops rows memory verdict → is_same verdict ≡ true → DoTheSame outputs lat block ops rows
-same_is_right outputs lat memory block ops rows (Units c) right same = absurd cc
-same_is_right outputs lat memory block ops rows Lawful right same = book_does_the_same outputs lat block ops rows right
-same_is_right outputs lat memory block ops rows (Unlawful reason (of.Void why)) right same = absurd cc
-same_is_right outputs lat memory block ops rows (Unlawful reason of.Same) right same =
-    record { table = right.0; agree = λ words fits. alike_of_equal outputs (right.2.1 words fits) }
-same_is_right outputs lat memory block ops rows (Unlawful reason of.Prints) right same =
-    prints_do_the_same outputs lat block ops rows right.0 right.2.1 right.2.2
-same_is_right outputs lat memory block ops rows (Unlawful reason of.Agrees) right same = absurd cc
-same_is_right outputs lat memory block ops rows (Unlawful reason (of.Differs difference)) right same = absurd cc
-same_is_right outputs lat memory block ops rows (Unlawful reason (of.DiffersOn probe difference)) right same = absurd cc
+-- where they are compared as the same, or print
+compared_same : (lawful outputs : Bool) (lat : Latencies) (memory : List ℤ) (block ops : List Op) (rows : List Row)
+    (found : Comparison) → IsTable ops rows → IsComparison outputs lat block ops rows memory found
+    → is_passing lawful (compared_kind found) ≡ true
+    → DoTheSame outputs lat block ops rows × CanBeJudged outputs block memory × (lawful ≡ false)
+compared_same lawful outputs lat memory block ops rows (of.Void why) table right pass = absurd cc
+compared_same true outputs lat memory block ops rows of.Same table right pass = absurd cc
+compared_same false outputs lat memory block ops rows of.Same table right pass = (
+  record { table = table; agree = λ words fits. alike_of_equal outputs (right.1 words fits) },
+  right.0,
+  refl,
+)
+compared_same true outputs lat memory block ops rows of.Prints table right pass = absurd cc
+compared_same false outputs lat memory block ops rows of.Prints table right pass =
+    (prints_do_the_same outputs lat block ops rows table right.1 right.2, right.0, refl)
+compared_same lawful outputs lat memory block ops rows of.Agrees table right pass = absurd cc
+compared_same lawful outputs lat memory block ops rows (of.Differs difference) table right pass = absurd cc
+compared_same lawful outputs lat memory block ops rows (of.DiffersOn probe difference) table right pass = absurd cc
 
-lawful_is_right : (outputs : Bool) (lat : Latencies) (memory : List ℤ) (block ops : List Op) (rows : List Row) (verdict : Verdict)
-    → IsVerdict outputs lat block ops rows memory verdict → is_lawful verdict ≡ true → IsByTheBook lat block ops rows
-lawful_is_right outputs lat memory block ops rows (Units c) right lawful = absurd cc
-lawful_is_right outputs lat memory block ops rows Lawful right lawful = right
-lawful_is_right outputs lat memory block ops rows (Unlawful reason found) right lawful = absurd cc
+-- what holds of rows that pass with this verdict
+abbrev PassesAs : (lawful outputs : Bool) → Latencies → List ℤ → List Op → List Op → List Row → Type 0
+PassesAs lawful outputs lat memory block ops rows = IsByTheBook lat block ops rows
+    ⊎ (DoTheSame outputs lat block ops rows × CanBeJudged outputs block memory × (lawful ≡ false))
 
--- rows that are called the same are by the book, or compared as the same
-may_pass : (outputs : Bool) (lat : Latencies) (memory : List ℤ) (block ops : List Op) (rows : List Row) (verdict : Verdict)
-    → IsVerdict outputs lat block ops rows memory verdict → is_same verdict ≡ true → MayPass false outputs lat memory block ops rows
-may_pass outputs lat memory block ops rows (Units c) right same = absurd cc
-may_pass outputs lat memory block ops rows Lawful right same = inl right
-may_pass outputs lat memory block ops rows (Unlawful reason (of.Void why)) right same = absurd cc
-may_pass outputs lat memory block ops rows (Unlawful reason of.Same) right same =
-    inr (record { table = right.0; agree = λ words fits. alike_of_equal outputs (right.2.1 words fits) }, right.2.0)
-may_pass outputs lat memory block ops rows (Unlawful reason of.Prints) right same =
-    inr (prints_do_the_same outputs lat block ops rows right.0 right.2.1 right.2.2, right.2.0)
-may_pass outputs lat memory block ops rows (Unlawful reason of.Agrees) right same = absurd cc
-may_pass outputs lat memory block ops rows (Unlawful reason (of.Differs difference)) right same = absurd cc
-may_pass outputs lat memory block ops rows (Unlawful reason (of.DiffersOn probe difference)) right same = absurd cc
+passes_as : (lawful asked outputs : Bool) (lat : Latencies) (memory : List ℤ) (block ops : List Op) (rows : List Row) (verdict : Verdict)
+    → IsVerdict outputs lat block ops rows memory verdict → is_passing lawful (kind_of asked verdict) ≡ true
+    → PassesAs lawful outputs lat memory block ops rows
+passes_as lawful asked outputs lat memory block ops rows (Units c) right pass = absurd cc
+passes_as lawful asked outputs lat memory block ops rows Lawful right pass = inl right
+passes_as lawful asked outputs lat memory block ops rows (Unlawful reasons found) right pass =
+    inr (compared_same lawful outputs lat memory block ops rows found right.0 right.3 pass)
+passes_as lawful true outputs lat memory block ops rows (Undecided found) right pass = absurd cc
+passes_as lawful false outputs lat memory block ops rows (Undecided found) right pass =
+    inr (compared_same lawful outputs lat memory block ops rows found right.0 right.1 pass)
 
-lawful_is_same : (verdict : Verdict) → is_lawful verdict ≡ true → is_same verdict ≡ true
-lawful_is_same (Units c) lawful = absurd cc
-lawful_is_same Lawful lawful = λ i. true
-lawful_is_same (Unlawful reason found) lawful = absurd cc
+does_the_same : (outputs : Bool) (lat : Latencies) (memory : List ℤ) (block ops : List Op) (rows : List Row) (lawful : Bool)
+    → PassesAs lawful outputs lat memory block ops rows → DoTheSame outputs lat block ops rows
+does_the_same outputs lat memory block ops rows lawful (inl book) = book_does_the_same outputs lat block ops rows book
+does_the_same outputs lat memory block ops rows lawful (inr same) = same.0
 
-module _ (csv outputs : Bool) (lat : Latencies) (memory : List ℤ) (block : List Op) (ours : Table) (proposal : Proposal)
-    (checked : Checked) (entry : List ℕ) (check : IsCheck csv outputs lat memory block ours proposal checked entry) where
-  said_same : checked.is_same ≡ true → is_same check.verdict ≡ true
-  said_same same = sym (ap (λ (c : Checked). c.is_same) check.is_found) ∙ same
+may_pass : (outputs : Bool) (lat : Latencies) (memory : List ℤ) (block ops : List Op) (rows : List Row) (lawful : Bool)
+    → PassesAs lawful outputs lat memory block ops rows → MayPass lawful outputs lat memory block ops rows
+may_pass outputs lat memory block ops rows true (inl book) = book
+may_pass outputs lat memory block ops rows true (inr same) = absurd (true≢false same.2)
+may_pass outputs lat memory block ops rows false (inl book) = inl book
+may_pass outputs lat memory block ops rows false (inr same) = inr (same.0, same.1)
 
-  said_lawful : checked.is_lawful ≡ true → is_lawful check.verdict ≡ true
-  said_lawful lawful = sym (ap (λ (c : Checked). c.is_lawful) check.is_found) ∙ lawful
+-- what passes where nothing but rows by the book does passes in any case
+passing_too : (lawful : Bool) (word : VerdictKind) → is_passing lawful word ≡ true → is_passing false word ≡ true
+passing_too true kind.Lawful pass = refl
+passing_too true _ pass = absurd cc
+passing_too false word pass = pass
 
-  pub passed_is_same : (lawful : Bool) → passes lawful checked ≡ true → checked.is_same ≡ true
-  passed_is_same true pass =
-      ap (λ (c : Checked). c.is_same) check.is_found ∙ lawful_is_same check.verdict (said_lawful pass)
-  passed_is_same false pass = pass
+pub passed_is_same : (lawful : Bool) (checked : Checked) → passes lawful checked ≡ true → passes false checked ≡ true
+passed_is_same lawful checked pass = passing_too lawful checked.kind pass
 
-  passed_may_pass : (lawful : Bool) → passes lawful checked ≡ true
-      → MayPass lawful outputs lat memory block proposal.ops proposal.rows
-  passed_may_pass true pass = lawful_is_right outputs lat memory block proposal.ops proposal.rows check.verdict check.right
-      (said_lawful pass)
-  passed_may_pass false pass = may_pass outputs lat memory block proposal.ops proposal.rows check.verdict check.right
-      (said_same pass)
+module _ (lawful csv outputs : Bool) (lat : Latencies) (memory : List ℤ) (block : List Op) (ours : Table) (proposal : Proposal)
+    (checked : Checked) (entry : List ℕ) (check : IsCheck lawful csv outputs lat memory block ours proposal checked entry) where
+  passed_as : (asked : Bool) → passes asked checked ≡ true
+      → PassesAs asked outputs lat memory block proposal.ops proposal.rows
+  passed_as asked pass = passes_as asked lawful outputs lat memory block proposal.ops proposal.rows check.verdict check.right
+      (sym (ap (passes asked) check.is_found) ∙ pass)
 
 pub same_rows_do_the_same : SameRowsDoTheSame
-same_rows_do_the_same csv outputs lat memory block ours proposal checked entry check same =
-    same_is_right outputs lat memory block proposal.ops proposal.rows check.verdict check.right
-    (said_same csv outputs lat memory block ours proposal checked entry check same)
+same_rows_do_the_same lawful csv outputs lat memory block ours proposal checked entry check pass =
+    does_the_same outputs lat memory block proposal.ops proposal.rows false
+    (passed_as lawful csv outputs lat memory block ours proposal checked entry check false pass)
 
 pub passed_rows_may_pass : PassedRowsMayPass
 passed_rows_may_pass lawful csv outputs lat memory block ours proposal checked entry check pass =
-    passed_may_pass csv outputs lat memory block ours proposal checked entry check lawful pass
+    may_pass outputs lat memory block proposal.ops proposal.rows lawful
+    (passed_as lawful csv outputs lat memory block ours proposal checked entry check lawful pass)

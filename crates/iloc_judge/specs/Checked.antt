@@ -1,5 +1,5 @@
 -- What is found of the rows that are proposed for a block.
-use Rattle.std.specs.Prelude.{ℕ, ℤ, ◌≡◌, ◌⊎◌, Bool, true, false, List}
+use Rattle.std.specs.Prelude.{ℕ, ℤ, ◌≡◌, ◌⊎◌, not, Bool, true, false, List}
 use Rattle.iloc_ops.specs.declared.op.Op.{Op}
 use Rattle.iloc_timed.specs.declared.latencies.Latencies.{Latencies}
 use Rattle.iloc_timed.specs.declared.row.Row.{Row}
@@ -9,33 +9,38 @@ use Rattle.iloc_timed.specs.Schedule.{Table}
 use Rattle.iloc_rows.specs.declared.proposal.Proposal.{Proposal}
 use Rattle.iloc_sched.specs.Least.{least}
 use Rattle.iloc_validation.specs.ByTheBook.{IsByTheBook, IssueTheSame}
-use Rattle.iloc_judge.specs.declared.comparison.Comparison.TheVariants.{Same, Prints}
+use Rattle.iloc_judge.specs.declared.comparison.Comparison.{Comparison}
+use Rattle.iloc_judge.specs.declared.comparison.Comparison.TheVariants as of
 use Rattle.iloc_judge.specs.declared.verdict.Verdict.{Verdict}
-use Rattle.iloc_judge.specs.declared.verdict.Verdict.TheVariants.{Lawful, Unlawful}
+use Rattle.iloc_judge.specs.declared.verdict.Verdict.TheVariants.{Units, Lawful, Unlawful, Undecided}
+use Rattle.iloc_judge.specs.declared.verdict.kind.VerdictKind.{VerdictKind}
+use Rattle.iloc_judge.specs.declared.verdict.kind.VerdictKind.TheVariants as kind
 use Rattle.iloc_judge.specs.Comparison.{AgreesOnAll}
 use Rattle.iloc_judge.specs.Verdict.{IsVerdict}
 use Rattle.iloc_judge.specs.Void.{CanBeJudged}
 use Rattle.iloc_judge.specs.declared.checked.Checked.{Checked}
 use Rattle.iloc_judge.specs.Listing.{entry_as}
 
--- whether the rows are by the book
-abbrev pub is_lawful : Verdict → Bool
-is_lawful Lawful = true
-is_lawful verdict = false
+abbrev pub compared_kind : Comparison → VerdictKind
+compared_kind (of.Void why) = kind.Void
+compared_kind of.Same = kind.Same
+compared_kind of.Prints = kind.Prints
+compared_kind of.Agrees = kind.Agrees
+compared_kind (of.Differs difference) = kind.Differs
+compared_kind (of.DiffersOn probe difference) = kind.Differs
 
--- whether on every memory they have the block's outcome or, where outputs alone are compared, show what the block shows:
--- they are by the book, or compared as the same, or print
-abbrev pub is_same : Verdict → Bool
-is_same Lawful = true
-is_same (Unlawful reason Same) = true
-is_same (Unlawful reason Prints) = true
-is_same verdict = false
+-- A verdict in a word. Where nothing but rows by the book passes, that this isn't decided comes before how they compare.
+abbrev pub kind_of : Bool → Verdict → VerdictKind
+kind_of lawful (Units c) = kind.Units
+kind_of lawful Lawful = kind.Lawful
+kind_of lawful (Unlawful reasons found) = compared_kind found
+kind_of true (Undecided found) = kind.Undecided
+kind_of false (Undecided found) = compared_kind found
 
--- what goes with a verdict: the cycles of what is proposed, those of our schedule, and the least
-abbrev pub found : Latencies → List Op → Table → Proposal → Verdict → Checked
-found lat block ours proposal verdict = record {
-  is_lawful = is_lawful verdict;
-  is_same = is_same verdict;
+-- what goes with a word: the cycles of what is proposed, those of our schedule, and the least
+abbrev pub found : VerdictKind → Latencies → List Op → Table → Proposal → Checked
+found word lat block ours proposal = record {
+  kind = word;
   cycles = cycles lat proposal.ops proposal.rows;
   ours = cycles lat ours.ops ours.rows;
   least = least lat block;
@@ -43,13 +48,13 @@ found lat block ours proposal verdict = record {
 
 -- Of what is proposed for a block this is found, and this entry listed, in a table or not, by a verdict that is right, of
 -- outcomes or of outputs alone. What our schedule issues is lawful.
-pub record IsCheck (csv outputs : Bool) (lat : Latencies) (memory : List ℤ) (block : List Op) (ours : Table) (proposal : Proposal)
-    (checked : Checked) (entry : List ℕ) : Type 0 where
+pub record IsCheck (lawful csv outputs : Bool) (lat : Latencies) (memory : List ℤ) (block : List Op) (ours : Table)
+    (proposal : Proposal) (checked : Checked) (entry : List ℕ) : Type 0 where
   pub verdict : Verdict
   pub right : IsVerdict outputs lat block proposal.ops proposal.rows memory verdict
   pub own : IssueTheSame ours.ops ours.rows proposal.ops proposal.rows → verdict ≡ Lawful
-  pub is_found : checked ≡ found lat block ours proposal verdict
-  pub listed : entry ≡ entry_as csv proposal verdict checked
+  pub is_found : checked ≡ found (kind_of lawful verdict) lat block ours proposal
+  pub listed : entry ≡ entry_as lawful csv proposal verdict checked
 
 -- the operations in these rows keep the rules of the units, and on every memory of 16,384 words of 32 bits they have the
 -- block's outcome or, where outputs alone are compared, show what the block shows
@@ -59,10 +64,15 @@ pub record DoTheSame (outputs : Bool) (lat : Latencies) (block ops : List Op) (r
 
 -- What passes
 
--- whether what is found of rows passes, where nothing but rows by the book does or where it needn't be by the book
+-- whether rows of this verdict pass, where nothing but rows by the book does or where others may
+abbrev pub is_passing : Bool → VerdictKind → Bool
+is_passing lawful kind.Lawful = true
+is_passing lawful kind.Same = not lawful
+is_passing lawful kind.Prints = not lawful
+is_passing lawful word = false
+
 abbrev pub passes : Bool → Checked → Bool
-passes true checked = checked.is_lawful
-passes false checked = checked.is_same
+passes lawful checked = is_passing lawful checked.kind
 
 -- What holds of rows that pass: they are by the book; or, where they needn't be, they do the same as the block on every
 -- memory, and on the one handed in that says something.

@@ -15,26 +15,26 @@ use Rattle.iloc_judge.specs.declared.difference.Difference.{Difference}
 use Rattle.iloc_judge.specs.declared.difference.Difference.TheVariants.{Output, Word, Fault, NoFault}
 use Rattle.iloc_judge.specs.declared.refutation.probe.Probe.{Probe}
 use Rattle.iloc_judge.specs.declared.verdict.Verdict.{Verdict}
-use Rattle.iloc_judge.specs.declared.verdict.Verdict.TheVariants.{Units, Lawful, Unlawful}
+use Rattle.iloc_judge.specs.declared.verdict.Verdict.TheVariants.{Units, Lawful, Unlawful, Undecided}
+use Rattle.iloc_judge.specs.declared.verdict.kind.VerdictKind.{VerdictKind}
+use Rattle.iloc_judge.specs.declared.verdict.kind.VerdictKind.TheVariants as kind
 use Rattle.iloc_judge.specs.declared.void.Void.{Void}
 use Rattle.iloc_judge.specs.declared.void.Void.TheVariants.{Faults, ShowsNothing}
 use Rattle.iloc_judge.specs.declared.checked.Checked.{Checked}
-use Rattle.iloc_judge.specs.Reasons.{reason_told}
+use Rattle.iloc_judge.specs.Reasons.{reasons_told}
 
 -- The line of the verdict
 
-abbrev pub comparison_word : Comparison → List ℕ
-comparison_word (of.Void why) = codes "void"
-comparison_word of.Same = codes "same"
-comparison_word of.Prints = codes "prints"
-comparison_word of.Agrees = codes "agrees"
-comparison_word (of.Differs difference) = codes "differs"
-comparison_word (of.DiffersOn probe difference) = codes "differs"
-
-abbrev pub verdict_word : Verdict → List ℕ
-verdict_word (Units c) = codes "units"
-verdict_word Lawful = codes "lawful"
-verdict_word (Unlawful reason found) = comparison_word found
+abbrev pub kind_word : VerdictKind → List ℕ
+kind_word kind.Unread = codes "unread"
+kind_word kind.Units = codes "units"
+kind_word kind.Lawful = codes "lawful"
+kind_word kind.Undecided = codes "undecided"
+kind_word kind.Void = codes "void"
+kind_word kind.Same = codes "same"
+kind_word kind.Prints = codes "prints"
+kind_word kind.Differs = codes "differs"
+kind_word kind.Agrees = codes "agrees"
 
 -- ` claimed X`, where a number of cycles is claimed and isn't this one
 abbrev pub wrong_claim : ℕ → Option ℕ → List ℕ
@@ -42,14 +42,10 @@ wrong_claim cycles None = []
 wrong_claim cycles (Some claim) = if claim == cycles then [] else column (codes "claimed") claim
 
 -- ` WORD cycles C ours O least L`, and where a claim is wrong ` claimed X`
-abbrev pub line_of : List ℕ → Checked → Option ℕ → List ℕ
-line_of word checked claimed =
-    codes " " ++ word ++ column (codes "cycles") checked.cycles ++ column (codes "ours") checked.ours
+abbrev pub line_of : Checked → Option ℕ → List ℕ
+line_of checked claimed =
+    codes " " ++ kind_word checked.kind ++ column (codes "cycles") checked.cycles ++ column (codes "ours") checked.ours
     ++ column (codes "least") checked.least ++ wrong_claim checked.cycles claimed ++ codes "\n"
-
--- the same with the word for a verdict
-abbrev pub verdict_line : Verdict → Checked → Option ℕ → List ℕ
-verdict_line verdict checked claimed = line_of (verdict_word verdict) checked claimed
 
 -- The row of a table
 
@@ -63,14 +59,10 @@ claim_value None = codes ","
 claim_value (Some claim) = value claim
 
 -- `,WORD,C,O,L,X`, where X is the claim
-abbrev pub row_of : List ℕ → Checked → Option ℕ → List ℕ
-row_of word checked claimed =
-    codes "," ++ word ++ value checked.cycles ++ value checked.ours ++ value checked.least
+abbrev pub row_of : Checked → Option ℕ → List ℕ
+row_of checked claimed =
+    codes "," ++ kind_word checked.kind ++ value checked.cycles ++ value checked.ours ++ value checked.least
     ++ claim_value claimed ++ codes "\n"
-
--- the same with the word for a verdict
-abbrev pub verdict_row : Verdict → Checked → Option ℕ → List ℕ
-verdict_row verdict checked claimed = row_of (verdict_word verdict) checked claimed
 
 -- The line of how rows compare with their block
 
@@ -114,15 +106,22 @@ comparison_told (of.DiffersOn probe difference) = difference_told difference ++ 
 abbrev pub bad_row : List Op → List Row → ℕ → List ℕ
 bad_row ops rows c = codes "  row " ++ decimal c ++ codes ": " ++ row_line ops (row_at rows c)
 
--- what is said of these operations and rows below the line of the verdict: where it comes from, and why they aren't lawful
-abbrev pub detail : List Op → List Row → Verdict → List ℕ
-detail ops rows (Units c) = bad_row ops rows c
-detail ops rows Lawful = []
-detail ops rows (Unlawful reason found) = comparison_told found ++ reason_told reason
+-- that it isn't decided whether rows are by the book, unless this is the verdict
+abbrev pub undecided_told : Bool → List ℕ
+undecided_told true = []
+undecided_told false = codes "  undecided\n"
+
+-- What is said of these operations and rows below the line of the verdict, where nothing but rows by the book passes or where
+-- others may: where it comes from, and why they aren't lawful.
+abbrev pub detail : Bool → List Op → List Row → Verdict → List ℕ
+detail lawful ops rows (Units c) = bad_row ops rows c
+detail lawful ops rows Lawful = []
+detail lawful ops rows (Unlawful reasons found) = comparison_told found ++ reasons_told reasons
+detail lawful ops rows (Undecided found) = comparison_told found ++ undecided_told lawful
 
 -- What is listed of a proposal: a row of a table, where one is asked for, and else the line of the verdict with what is said
 -- below it.
-abbrev pub entry_as : Bool → Proposal → Verdict → Checked → List ℕ
-entry_as true proposal verdict checked = verdict_row verdict checked proposal.claimed
-entry_as false proposal verdict checked =
-    verdict_line verdict checked proposal.claimed ++ detail proposal.ops proposal.rows verdict
+abbrev pub entry_as : (lawful csv : Bool) → Proposal → Verdict → Checked → List ℕ
+entry_as lawful true proposal verdict checked = row_of checked proposal.claimed
+entry_as lawful false proposal verdict checked =
+    line_of checked proposal.claimed ++ detail lawful proposal.ops proposal.rows verdict

@@ -1,13 +1,15 @@
 -- The lines that say why rows aren't a schedule of their block by the book.
-use Rattle.std.specs.Prelude.{ℕ, ◌+◌, List, [], ◌++◌, Option, Some, None, codes}
+use Rattle.std.specs.Prelude.{ℕ, ◌==◌, nat_lt, if◌then◌else◌, List, [], ◌++◌, Option, Some, None, codes}
+use Rattle.std.specs.List.{flat_map}
 use Rattle.std.specs.Fmt.{decimal}
 use Rattle.iloc_ops.specs.Spelling.{spelling}
 use Rattle.iloc_ops.specs.declared.op.Reg.{Reg}
 use Rattle.iloc_validation.specs.declared.lawfulness.Added.{Added}
 use Rattle.iloc_validation.specs.declared.lawfulness.Issue.{Issue}
 use Rattle.iloc_validation.specs.declared.lawfulness.LeftOut.{LeftOut}
-use Rattle.iloc_validation.specs.declared.lawfulness.Reason.{Reason}
-use Rattle.iloc_validation.specs.declared.lawfulness.Reason.TheVariants.{Counts, Early, Reads}
+use Rattle.iloc_reasons.specs.declared.fact.Fact.{Fact}
+use Rattle.iloc_reasons.specs.declared.fact.Fact.TheVariants.{UnderWay, Brings, Replaced, Order, For, LikeNone, See}
+use Rattle.iloc_reasons.specs.declared.reasons.Reasons.{Reasons}
 
 -- a label with its number
 abbrev pub numbered : List ℕ → ℕ → List ℕ
@@ -16,10 +18,6 @@ numbered label n = label ++ decimal n ++ codes ": "
 -- `row R: OP`, counted from 0 as cycles are
 abbrev pub issue_told : Issue → List ℕ
 issue_told issue = numbered (codes "row ") issue.cycle ++ spelling issue.op
-
-abbrev pub issue_or_none : Option Issue → List ℕ
-issue_or_none None = codes "no row"
-issue_or_none (Some issue) = issue_told issue
 
 -- `left out N: OP`, if some operations are
 abbrev pub left_out_told : Option LeftOut → List ℕ
@@ -31,18 +29,48 @@ abbrev pub added_told : Option Added → List ℕ
 added_told None = []
 added_told (Some it) = numbered (codes "  added ") it.count ++ issue_told it.issue ++ codes "\n"
 
--- `early by D: row R: OP for row Q: OP'`
-abbrev pub early_told : ℕ → Issue → Issue → List ℕ
-early_told by issue needed =
-    numbered (codes "  early by ") by ++ issue_told issue ++ codes " for " ++ issue_told needed ++ codes "\n"
+-- `row R: OP reads rX`
+abbrev pub reads_told : Issue → Reg → List ℕ
+reads_told issue register = issue_told issue ++ codes " reads r" ++ decimal register.0
 
--- `reads rX: row R: OP from row Q: OP' for row P: OP''`
-abbrev pub reads_told : Reg → Issue → Option Issue → Option Issue → List ℕ
-reads_told register issue from wanted =
-    numbered (codes "  reads r") register.0 ++ issue_told issue ++ codes " from " ++ issue_or_none from ++ codes " for "
-    ++ issue_or_none wanted ++ codes "\n"
+-- what a register had: the result of `row R: OP`, or what it had at the start
+abbrev pub lost_told : Option Issue → List ℕ
+lost_told None = codes "of the start"
+lost_told (Some issue) = codes "of " ++ issue_told issue
 
-abbrev pub reason_told : Reason → List ℕ
-reason_told (Counts left_out added) = left_out_told left_out ++ added_told added
-reason_told (Early by issue needed) = early_told by issue needed
-reason_told (Reads register issue from wanted) = reads_told register issue from wanted
+abbrev pub under_way_told : Issue → Issue → ℕ → List ℕ
+under_way_told issue store due =
+    issue_told issue ++ codes " while " ++ issue_told store ++ codes " is under way to row " ++ decimal due
+
+abbrev pub brings_told : Issue → Reg → Issue → ℕ → List ℕ
+brings_told issue register late due =
+    reads_told issue register ++ codes ", which " ++ issue_told late ++ codes " brings in row " ++ decimal due
+
+abbrev pub replaced_told : Issue → Reg → Issue → Option Issue → List ℕ
+replaced_told issue register from lost =
+    reads_told issue register ++ codes " of " ++ issue_told from ++ codes ", no longer " ++ lost_told lost
+
+abbrev pub both_told : Issue → List ℕ → Issue → List ℕ
+both_told issue word other = issue_told issue ++ word ++ issue_told other
+
+-- a fact, in the words of its line
+abbrev pub fact_words : Fact → List ℕ
+fact_words (UnderWay issue store due) = under_way_told issue store due
+fact_words (Brings issue register late due) = brings_told issue register late due
+fact_words (Replaced issue register from lost) = replaced_told issue register from lost
+fact_words (Order issue other) =
+    both_told issue (if nat_lt issue.cycle other.cycle then codes " before " else codes " after ") other
+fact_words (For issue op) = issue_told issue ++ codes " for " ++ spelling op
+fact_words (LikeNone issue) = issue_told issue ++ codes " like none of the block"
+fact_words (See issue) = codes "see " ++ issue_told issue
+
+abbrev pub fact_told : Fact → List ℕ
+fact_told fact = codes "  " ++ fact_words fact ++ codes "\n"
+
+-- `and N more`, if there are any
+abbrev pub more_told : ℕ → List ℕ
+more_told n = if n == 0 then [] else codes "  and " ++ decimal n ++ codes " more\n"
+
+abbrev pub reasons_told : Reasons → List ℕ
+reasons_told it =
+    left_out_told it.left_out ++ added_told it.added ++ flat_map fact_told it.facts.items ++ more_told it.more

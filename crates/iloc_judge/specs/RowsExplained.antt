@@ -10,13 +10,14 @@ use Rattle.iloc_rows.specs.declared.proposal.Proposal.{Proposal}
 use Rattle.iloc_rows.specs.declared.proposal.unread.Unread.{Unread}
 use Rattle.iloc_sched.specs.declared.ranking.heuristic.Heuristic.{Heuristic}
 use Rattle.iloc_sched.specs.Renaming.{without_nops}
-use Rattle.iloc_validation.specs.declared.lawfulness.Reason.{Reason}
-use Rattle.iloc_validation.specs.Lawfulness.{IsReason}
+use Rattle.iloc_validation.specs.ByTheBook.{IsByTheBook, IssueTheSame}
 use Rattle.iloc_validation.specs.OwnRows.{AreOwnRows}
 use Rattle.iloc_explain.specs.Listing.{IsExplanation}
+use Rattle.iloc_reasons.specs.declared.reasons.Reasons.{Reasons}
+use Rattle.iloc_reasons.specs.Reasons.{AreReasons}
 use Rattle.iloc_judge.specs.declared.explained.ExplainedRows.{ExplainedRows}
 use Rattle.iloc_judge.specs.Listing.{bad_row}
-use Rattle.iloc_judge.specs.Reasons.{reason_told}
+use Rattle.iloc_judge.specs.Reasons.{reasons_told}
 use Rattle.iloc_judge.specs.Unread.{unread_told}
 
 -- Rows by the book are explained by the block's own operations in their slots, beside which the lines show what is issued.
@@ -37,17 +38,24 @@ pub record BreakUnits (ops : List Op) (rows : List Row) (text : List ℕ) : Type
   pub first : IsFirstBadRow ops rows row
   pub listed : text ≡ not_lawful (bad_row ops rows row)
 
--- this is said of others that aren't known to be by the book: a reason that holds
-pub record HaveReason (lat : Latencies) (block ops : List Op) (rows : List Row) (text : List ℕ) : Type 0 where
-  pub reason : Reason
+-- this is said of others that aren't by the book: facts that hold
+pub record AreUnlawful (lat : Latencies) (block ops : List Op) (rows : List Row) (text : List ℕ) : Type 0 where
+  pub reasons : Reasons
   pub table : IsTable ops rows
-  pub holds : IsReason lat (without_nops block) ops rows reason
-  pub listed : text ≡ not_lawful (reason_told reason)
+  pub refuted : IsByTheBook lat block ops rows → ⊥
+  pub hold : AreReasons lat (without_nops block) ops rows reasons
+  pub listed : text ≡ not_lawful (reasons_told reasons)
+
+-- this is said of others of which neither is decided
+pub record AreUndecided (ops : List Op) (rows : List Row) (text : List ℕ) : Type 0 where
+  pub table : IsTable ops rows
+  pub listed : text ≡ codes "  undecided\n"
 
 -- what is said of rows: by the book, or not known to be
 abbrev pub IsSaidOf : Bool → Heuristic → Latencies → List Op → List Op → List Row → List ℕ → Type 0
 IsSaidOf true heuristic lat block ops rows text = AreExplainedBy heuristic lat block ops rows text
-IsSaidOf false heuristic lat block ops rows text = BreakUnits ops rows text ⊎ HaveReason lat block ops rows text
+IsSaidOf false heuristic lat block ops rows text =
+    BreakUnits ops rows text ⊎ (AreUnlawful lat block ops rows text ⊎ AreUndecided ops rows text)
 
 -- this is said of a row that can't be read: its number, and some words
 pub record HaveUnread (row : ℕ) (text : List ℕ) : Type 0 where
@@ -60,8 +68,10 @@ IsSaidOfAll None is_lawful heuristic lat block ops rows text = IsSaidOf is_lawfu
 IsSaidOfAll (Some unread) true heuristic lat block ops rows text = ⊥
 IsSaidOfAll (Some unread) false heuristic lat block ops rows text = HaveUnread unread.row text
 
--- Of what is proposed for a block this is found, and this text said.
-pub record IsRowsExplanation (heuristic : Heuristic) (lat : Latencies) (block : List Op) (proposal : Proposal)
+-- Of what is proposed for a block this is found, and this text said. Rows that issue what our schedule issues are lawful, if all
+-- of them can be read.
+pub record IsRowsExplanation (heuristic : Heuristic) (lat : Latencies) (block : List Op) (ours : Table) (proposal : Proposal)
     (found : ExplainedRows) (text : List ℕ) : Type 0 where
   pub said : IsSaidOfAll proposal.unread found.is_lawful heuristic lat block proposal.ops proposal.rows text
+  pub own : proposal.unread ≡ None → IssueTheSame ours.ops ours.rows proposal.ops proposal.rows → found.is_lawful ≡ true
   pub counted : found.cycles ≡ cycles lat proposal.ops proposal.rows

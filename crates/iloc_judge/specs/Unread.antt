@@ -4,23 +4,13 @@ use Rattle.std.specs.List.{filter}
 use Rattle.std.specs.Fmt.{decimal}
 use Rattle.iloc_ops.specs.declared.op.Op.{Op}
 use Rattle.iloc_timed.specs.declared.latencies.Latencies.{Latencies}
-use Rattle.iloc_timed.specs.Cycles.{cycles}
 use Rattle.iloc_timed.specs.Schedule.{Table}
 use Rattle.iloc_rows.specs.declared.proposal.Proposal.{Proposal}
 use Rattle.iloc_rows.specs.declared.proposal.unread.Unread.{Unread}
-use Rattle.iloc_sched.specs.Least.{least}
 use Rattle.iloc_judge.specs.declared.checked.Checked.{Checked}
+use Rattle.iloc_judge.specs.declared.verdict.kind.VerdictKind.TheVariants as kind
+use Rattle.iloc_judge.specs.Checked.{found}
 use Rattle.iloc_judge.specs.Listing.{line_of, row_of}
-
--- it never passes; its cycles are those of its rows, where what can't be read is empty
-abbrev pub found_unread : Latencies → List Op → Table → Proposal → Checked
-found_unread lat block ours proposal = record {
-  is_lawful = false;
-  is_same = false;
-  cycles = cycles lat proposal.ops proposal.rows;
-  ours = cycles lat ours.ops ours.rows;
-  least = least lat block;
-}
 
 -- the words without line ends
 abbrev pub in_one_line : List ℕ → List ℕ
@@ -32,15 +22,15 @@ unread_told row words = codes "  row " ++ decimal row ++ codes ": " ++ in_one_li
 
 -- a row of a table, where one is asked for, and else the line of the verdict `unread` with one for the row below it
 abbrev pub unread_as : Bool → Checked → Option ℕ → ℕ → List ℕ → List ℕ
-unread_as true checked claimed row words = row_of (codes "unread") checked claimed
-unread_as false checked claimed row words = line_of (codes "unread") checked claimed ++ unread_told row words
+unread_as true checked claimed row words = row_of checked claimed
+unread_as false checked claimed row words = line_of checked claimed ++ unread_told row words
 
--- this is the first row of what is proposed for a block that can't be read, this is found of it, and this entry listed, in a
--- table or not
+-- This is the first row of what is proposed for a block that can't be read, this is found of it, and this entry listed, in a
+-- table or not. Its cycles are those of its rows, where what can't be read is empty.
 pub record IsUnread (csv : Bool) (lat : Latencies) (block : List Op) (ours : Table) (proposal : Proposal)
     (checked : Checked) (entry : List ℕ) : Type 0 where
   pub unread : Unread
   pub first : proposal.unread ≡ Some unread
-  pub is_found : checked ≡ found_unread lat block ours proposal
+  pub is_found : checked ≡ found kind.Unread lat block ours proposal
   pub words : List ℕ
   pub listed : entry ≡ unread_as csv checked proposal.claimed unread.row words

@@ -5,19 +5,21 @@ use Rattle.iloc_timed.specs.declared.latencies.Latencies.{Latencies}
 use Rattle.iloc_timed.specs.declared.row.Row.{Row}
 use Rattle.iloc_timed.specs.Rows.{IsTable}
 use Rattle.iloc_timed.specs.Schedule.{IsFirstBadRow}
-use Rattle.iloc_validation.specs.declared.lawfulness.Lawfulness.TheVariants as finding
+use Rattle.iloc_sched.specs.Renaming.{without_nops}
 use Rattle.iloc_validation.specs.ByTheBook.{IsByTheBook}
-use Rattle.iloc_validation.specs.Lawfulness.{IsLawfulness}
+use Rattle.iloc_reasons.specs.Reasons.{AreReasons}
 use Rattle.iloc_judge.specs.declared.verdict.Verdict.{Verdict}
-use Rattle.iloc_judge.specs.declared.verdict.Verdict.TheVariants.{Units, Lawful, Unlawful}
+use Rattle.iloc_judge.specs.declared.verdict.Verdict.TheVariants.{Units, Lawful, Unlawful, Undecided}
 use Rattle.iloc_judge.specs.Comparison.{IsComparison}
 
 -- The verdict is right, of operations and rows for a block, with this memory handed in: the row is the first that breaks the
--- rules of the units; the rows are by the book; or this is why they aren't known to be, and how they compare, by outcomes or
--- by outputs alone.
+-- rules of the units; the rows are by the book; or they aren't, these facts hold of them, and so they compare, by outcomes or
+-- by outputs alone; or neither is decided, and so they compare.
 abbrev pub IsVerdict : Bool → Latencies → List Op → List Op → List Row → List ℤ → Verdict → Type 0
 IsVerdict outputs lat block ops rows memory (Units c) = IsFirstBadRow ops rows c
 IsVerdict outputs lat block ops rows memory Lawful = IsByTheBook lat block ops rows
-IsVerdict outputs lat block ops rows memory (Unlawful reason found) =
-    IsTable ops rows × IsLawfulness lat block ops rows (finding.Unlawful reason)
+IsVerdict outputs lat block ops rows memory (Unlawful reasons found) =
+    IsTable ops rows × (IsByTheBook lat block ops rows → ⊥) × AreReasons lat (without_nops block) ops rows reasons
     × IsComparison outputs lat block ops rows memory found
+IsVerdict outputs lat block ops rows memory (Undecided found) =
+    IsTable ops rows × IsComparison outputs lat block ops rows memory found

@@ -3,7 +3,7 @@ ghost use Rattle.std.specs.Prelude.{ℕ, ◌≡◌, ◌≤◌, ◌++◌, List, l
 ghost use Rattle.iloc_timed.specs.Schedule.{AreInRange, AreOnce};
 ghost use Rattle.iloc_sched.specs.Lawful.{IsLawful};
 ghost use Rattle.iloc_sched.specs.Least as bound;
-ghost use Rattle.iloc_judge.specs.Checked.{is_lawful, is_same, passes, IsCheck};
+ghost use Rattle.iloc_judge.specs.Checked.{compared_kind, kind_of, passes, IsCheck};
 ghost use Rattle.iloc_judge.specs.Listing.{entry_as};
 ghost use Rattle.iloc_judge.specs.Steps.Counted.{CanBeListed};
 
@@ -12,6 +12,7 @@ pub mod reason;
 pub(crate) mod verdict_line;
 
 use crate::comparison::Comparison;
+use crate::verdict::kind::VerdictKind;
 use crate::verdict::{Verdict, judge};
 use detail::push_detail;
 use iloc_meaning::Memory;
@@ -19,16 +20,13 @@ use iloc_ops::{Block, MAX_OPS, NoMemory};
 use iloc_rows::Proposal;
 use iloc_timed::{Latencies, Schedule, cycles, cycles_of};
 use std::alloc::Global;
-use verdict_line::{push_verdict_line, push_verdict_row};
+use verdict_line::{push_line, push_table_row};
 
 /// What is found of the rows that are proposed for a block.
 #[derive(Clone, Copy, Debug, PartialEq, Eq)]
 pub struct Checked {
-    /// Whether they are a schedule of the block by the book.
-    pub is_lawful: bool,
-    /// Whether they are known to have the block's outcome on every memory of 16,384 words of 32 bits or, where outputs alone
-    /// are compared, to fault where the block does and else to emit its words.
-    pub is_same: bool,
+    /// The verdict on them.
+    pub kind: VerdictKind,
     /// How many cycles they take.
     pub cycles: u64,
     /// How many cycles our schedule takes.
@@ -42,31 +40,46 @@ impl Checked {
     pub fn passes(&self, lawful: bool) -> bool
         ensures { result ≡ passes lawful self.now }
     {
-        if lawful { self.is_lawful } else { self.is_same }
+        match self.kind {
+            VerdictKind::Lawful => true,
+            VerdictKind::Same | VerdictKind::Prints => !lawful,
+            _ => false,
+        }
     }
 }
 
-/// Whether it is said that the rows are by the book.
-fn is_lawful(verdict: &Verdict) -> bool
-    ensures { result ≡ is_lawful verdict.now }
+/// The verdict of how rows compare with their block.
+fn compared_kind(comparison: &Comparison) -> VerdictKind
+    ensures { result ≡ compared_kind comparison.now }
 {
-    matches!(verdict, Verdict::Lawful)
+    match comparison {
+        Comparison::Void(_) => VerdictKind::Void,
+        Comparison::Same => VerdictKind::Same,
+        Comparison::Prints => VerdictKind::Prints,
+        Comparison::Agrees => VerdictKind::Agrees,
+        Comparison::Differs(_) | Comparison::DiffersOn(_, _) => VerdictKind::Differs,
+    }
 }
 
-/// Whether it is said that they do the same as the block on every memory.
-fn is_same(verdict: &Verdict) -> bool
-    ensures { result ≡ is_same verdict.now }
+/// The verdict in a word, where nothing but rows by the book passes or where others may.
+fn kind_of(lawful: bool, verdict: &Verdict) -> VerdictKind
+    ensures { result ≡ kind_of lawful verdict.now }
 {
-    matches!(
-        verdict,
-        Verdict::Lawful | Verdict::Unlawful(_, Comparison::Same | Comparison::Prints)
-    )
+    match verdict {
+        Verdict::Units(_) => VerdictKind::Units,
+        Verdict::Lawful => VerdictKind::Lawful,
+        Verdict::Undecided(_) if lawful => VerdictKind::Undecided,
+        Verdict::Unlawful(_, comparison) | Verdict::Undecided(comparison) => {
+            compared_kind(comparison)
+        }
+    }
 }
 
 /// Appends what is listed of a proposal with this verdict: the row of a table or, where none is asked for, a line and what is
 /// said below it.
 fn push_entry(
     text: &mut Vec<u8>,
+    lawful: bool,
     csv: bool,
     proposal: &Proposal,
     verdict: &Verdict,
@@ -74,28 +87,30 @@ fn push_entry(
 ) -> Result<(), NoMemory>
     requires { CanBeListed proposal.now.rows verdict.now }
     ensures { OnOk result (text.new.items
-        ≡ text.old.items ++ entry_as csv proposal.now verdict.now checked) }
+        ≡ text.old.items ++ entry_as lawful csv proposal.now verdict.now checked) }
 {
     if csv {
-        return push_verdict_row(text, verdict, checked, proposal.claimed);
+        return push_table_row(text, checked, proposal.claimed);
     }
-    push_verdict_line(text, verdict, checked, proposal.claimed)?;
+    push_line(text, checked, proposal.claimed)?;
     let rows = proposal.rows.as_slice();
-    push_detail(text, proposal.ops.as_slice(), rows, verdict)
+    push_detail(text, lawful, proposal.ops.as_slice(), rows, verdict)
 }
 
 /// Judges what is proposed for a block, beside our schedule of it, and appends what is listed of it after the block's head:
 /// the verdict with the cycles of the rows, ours and the least, and the lines that tell where the rows go wrong, if they do.
-/// In a table it is a row, with the cycles that are claimed and no lines below. Rows are compared with the block by outcomes,
-/// or by outputs and faults alone. The more blocks are judged with this one, the fewer memories are made up for each.
+/// In a table it is a row, with the cycles that are claimed and no lines below. `lawful` says that nothing but rows by the book
+/// passes. Rows are compared with the block by outcomes, or by outputs and faults alone. The more blocks are judged with this
+/// one, the fewer memories are made up for each.
 ///
 /// After a refusal a part of it may have been appended.
 ///
-/// Promise: what is listed is a verdict that holds as it is stated, with the cycles and with a reason, which holds too, for
-/// which the rows aren't by the book; and what our schedule issues is lawful.
+/// Promise: what is listed is a verdict that holds as it is stated, with the cycles and, of rows that aren't by the book, with
+/// facts, which hold too; and what our schedule issues is lawful.
 pub fn push_check(
     alloc: Global,
     text: &mut Vec<u8>,
+    lawful: bool,
     csv: bool,
     outputs_alone: bool,
     block: &Block,
@@ -112,7 +127,7 @@ pub fn push_check(
     requires lawful { IsLawful latencies.now block.now.ops ours.now.ops ours.now.rows }
     requires least { least ≡ bound.least latencies.now block.now.ops }
     ensures { IfOk result (λ checked. (entry : List ℕ)
-        × IsCheck csv outputs_alone latencies.now memory.now block.now.ops ours.now proposal checked entry
+        × IsCheck lawful csv outputs_alone latencies.now memory.now block.now.ops ours.now proposal checked entry
         × (text.new.items ≡ text.old.items ++ entry)) }
 {
     let ops = proposal.ops.as_slice();
@@ -131,12 +146,11 @@ pub fn push_check(
         blocks,
     )?;
     let checked = Checked {
-        is_lawful: is_lawful(&verdict),
-        is_same: is_same(&verdict),
+        kind: kind_of(lawful, &verdict),
         cycles: cycles_of(ops, rows, latencies),
         ours: cycles(ours, latencies),
         least,
     };
-    push_entry(text, csv, &proposal, &verdict, checked)?;
+    push_entry(text, lawful, csv, &proposal, &verdict, checked)?;
     Ok(checked)
 }

@@ -1,22 +1,24 @@
 //! Why the rows that are proposed for a block take their cycles.
-ghost use Rattle.std.specs.Prelude.{ℕ, ◌≡◌, ◌≤◌, ◌<◌, ◌++◌, List, length, IfOk, OnOk};
+ghost use Rattle.std.specs.Prelude.{ℕ, ◌≡◌, ◌≤◌, ◌<◌, ◌++◌, true, List, length, IfOk, OnOk};
 ghost use Rattle.iloc_timed.specs.Rows.{IsTable};
 ghost use Rattle.iloc_timed.specs.Schedule.{AreInRange, AreOnce};
 ghost use Rattle.iloc_sched.specs.Least as bound;
-ghost use Rattle.iloc_sched.specs.Renaming.{renamed};
+ghost use Rattle.iloc_sched.specs.Lawful.{IsLawful};
+ghost use Rattle.iloc_validation.specs.ByTheBook.{IssueTheSame};
 ghost use Rattle.iloc_judge.specs.Listing.{bad_row};
-ghost use Rattle.iloc_judge.specs.Reasons.{reason_told};
+ghost use Rattle.iloc_judge.specs.Reasons.{reasons_told};
 ghost use Rattle.iloc_judge.specs.RowsExplained.{not_lawful, IsRowsExplanation, IsSaidOf, HaveUnread};
 
 use crate::checked::detail::push_bad_row;
-use crate::checked::reason::push_reason;
+use crate::checked::reason::push_reasons;
 use crate::unread::push_unread_row;
 use iloc_explain::push_explanation;
 use iloc_ops::{Block, MAX_OPS, NoMemory, Op};
+use iloc_reasons::{Reasons, reasons_of};
 use iloc_rows::{Proposal, Unread};
 use iloc_sched::Heuristic;
 use iloc_timed::{BuildFault, Latencies, MAX_ROWS, Row, Schedule, cycles_of};
-use iloc_validation::{Reason, own_rows_or_reason};
+use iloc_validation::{Decision, decide, own_rows};
 use std::alloc::Global;
 
 /// What is found of the rows that are proposed for a block.
@@ -38,11 +40,11 @@ fn push_units(text: &mut Vec<u8>, ops: &[Op], rows: &[Row], row: usize) -> Resul
 }
 
 /// Appends that rows aren't lawful, and why.
-fn push_why(text: &mut Vec<u8>, reason: &Reason) -> Result<(), NoMemory>
-    ensures { OnOk result (text.new.items ≡ text.old.items ++ not_lawful (reason_told reason.now)) }
+fn push_why(text: &mut Vec<u8>, reasons: &Reasons) -> Result<(), NoMemory>
+    ensures { OnOk result (text.new.items ≡ text.old.items ++ not_lawful (reasons_told reasons.now)) }
 {
     text.extend_from_slice(b"  not lawful\n")?;
-    push_reason(text, reason)
+    push_reasons(text, reasons)
 }
 
 /// Appends that rows aren't lawful, and the first of them that can't be read.
@@ -54,49 +56,56 @@ fn push_unread_rows(alloc: Global, text: &mut Vec<u8>, unread: &Unread) -> Resul
     push_unread_row(alloc, text, unread)
 }
 
-/// Appends what is said of a schedule that somebody made for a block, whose operations are renamed so in ours, and answers whether
-/// it is by the book.
+/// Appends what is said of a schedule that somebody made for a block, beside ours, and answers whether it is by the book.
 fn push_said(
     alloc: Global,
     text: &mut Vec<u8>,
     block: &Block,
-    names: &[Op],
+    ours: &Schedule,
     least: u64,
     theirs: &Schedule,
     latencies: &Latencies,
     heuristic: Heuristic,
 ) -> Result<bool, NoMemory>
     requires few { length block.now.ops ≤ MAX_OPS }
-    requires names { names.now ≡ renamed block.now.ops }
+    requires lawful { IsLawful latencies.now block.now.ops ours.now.ops ours.now.rows }
     requires least { least ≡ bound.least latencies.now block.now.ops }
     requires table { IsTable theirs.now.ops theirs.now.rows }
     requires few_rows { length theirs.now.rows ≤ MAX_ROWS }
-    ensures { IfOk result (λ is_lawful. (entry : List ℕ)
+    ensures said { IfOk result (λ is_lawful. (entry : List ℕ)
         × IsSaidOf is_lawful heuristic latencies.now block.now.ops theirs.now.ops theirs.now.rows entry
         × (text.new.items ≡ text.old.items ++ entry)) }
+    ensures own { IfOk result (λ is_lawful.
+        IssueTheSame ours.now.ops ours.now.rows theirs.now.ops theirs.now.rows → is_lawful ≡ true) }
 {
-    match own_rows_or_reason(alloc, block, theirs, names, latencies)? {
-        Ok(own) => {
+    match decide(alloc, block, ours, theirs, latencies)? {
+        Decision::Lawful(pairing) => {
+            let own = own_rows(alloc, block, theirs, ours.ops(), &pairing)?;
             let (schedule, issued) = (&own.schedule, &own.issued);
             push_explanation(
                 alloc, text, block, schedule, issued, latencies, heuristic, least,
             )?;
             Ok(true)
         }
-        Err(reason) => {
-            push_why(text, &reason)?;
+        Decision::Unlawful => {
+            let reasons = reasons_of(alloc, block, theirs, latencies)?;
+            push_why(text, &reasons)?;
+            Ok(false)
+        }
+        Decision::Undecided => {
+            text.extend_from_slice(b"  undecided\n")?;
             Ok(false)
         }
     }
 }
 
-/// Appends what is said of rows that are proposed for a block, whose operations are renamed so in ours, and answers whether they
-/// are by the book.
+/// Appends what is said of rows that are proposed for a block, beside our schedule of it, and answers whether they are by the
+/// book.
 fn push_read_rows(
     alloc: Global,
     text: &mut Vec<u8>,
     block: &Block,
-    names: &[Op],
+    ours: &Schedule,
     least: u64,
     ops: &[Op],
     rows: &[Row],
@@ -104,20 +113,21 @@ fn push_read_rows(
     heuristic: Heuristic,
 ) -> Result<bool, NoMemory>
     requires few { length block.now.ops ≤ MAX_OPS }
-    requires names { names.now ≡ renamed block.now.ops }
+    requires lawful { IsLawful latencies.now block.now.ops ours.now.ops ours.now.rows }
     requires least { least ≡ bound.least latencies.now block.now.ops }
     requires in_range { AreInRange (length ops.now) rows.now }
     requires once { AreOnce (length ops.now) rows.now }
     requires few_rows { length rows.now ≤ MAX_ROWS }
-    ensures { IfOk result (λ is_lawful. (entry : List ℕ)
+    ensures said { IfOk result (λ is_lawful. (entry : List ℕ)
         × IsSaidOf is_lawful heuristic latencies.now block.now.ops ops.now rows.now entry
         × (text.new.items ≡ text.old.items ++ entry)) }
+    ensures own { IfOk result (λ is_lawful. IssueTheSame ours.now.ops ours.now.rows ops.now rows.now → is_lawful ≡ true) }
 {
     let their_ops = Vec::from_slice(alloc, ops)?;
     let their_rows = Vec::from_slice(alloc, rows)?;
     match Schedule::new(alloc, their_ops, their_rows) {
         Ok(theirs) => push_said(
-            alloc, text, block, names, least, &theirs, latencies, heuristic,
+            alloc, text, block, ours, least, &theirs, latencies, heuristic,
         ),
         Err(BuildFault::BadRow(row)) => {
             push_units(text, ops, rows, row)?;
@@ -128,28 +138,29 @@ fn push_read_rows(
     }
 }
 
-/// Appends what explains the rows that are proposed for a block, behind the block's head. Rows by the book are explained as the
-/// schedule of the block that they are, with each operation as the block has it and as it is issued; of others it is said that
-/// they aren't lawful, and why. `names` are the block's operations as a schedule of ours renames them.
+/// Appends what explains the rows that are proposed for a block, beside our schedule of it, behind the block's head. Rows by the
+/// book are explained as the schedule of the block that they are, with each operation as the block has it and as it is issued;
+/// of others it is said that they aren't lawful, and why, or that this isn't decided.
 ///
-/// Promise: what is appended explains the rows, which then are by the book, or says why they aren't known to be.
+/// Promise: what is appended explains the rows, which then are by the book, or tells facts of rows that aren't; and what our
+/// schedule issues is explained.
 pub fn push_rows_explanation(
     alloc: Global,
     text: &mut Vec<u8>,
     block: &Block,
-    names: &[Op],
+    ours: &Schedule,
     least: u64,
     proposal: &Proposal,
     latencies: &Latencies,
     heuristic: Heuristic,
 ) -> Result<ExplainedRows, NoMemory>
     requires few { length block.now.ops ≤ MAX_OPS }
-    requires names { names.now ≡ renamed block.now.ops }
+    requires lawful { IsLawful latencies.now block.now.ops ours.now.ops ours.now.rows }
     requires least { least ≡ bound.least latencies.now block.now.ops }
     requires in_range { AreInRange (length proposal.now.ops) proposal.now.rows }
     requires once { AreOnce (length proposal.now.ops) proposal.now.rows }
     ensures { IfOk result (λ found. (entry : List ℕ)
-        × IsRowsExplanation heuristic latencies.now block.now.ops proposal.now found entry
+        × IsRowsExplanation heuristic latencies.now block.now.ops ours.now proposal.now found entry
         × (text.new.items ≡ text.old.items ++ entry)) }
 {
     let ops = proposal.ops.as_slice();
@@ -161,7 +172,7 @@ pub fn push_rows_explanation(
             false
         }
         None => push_read_rows(
-            alloc, text, block, names, least, ops, rows, latencies, heuristic,
+            alloc, text, block, ours, least, ops, rows, latencies, heuristic,
         )?,
     };
     Ok(ExplainedRows { is_lawful, cycles })

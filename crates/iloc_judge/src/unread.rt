@@ -6,6 +6,7 @@ ghost use Rattle.iloc_judge.specs.Unread.{in_one_line, unread_told, IsUnread};
 
 use crate::checked::Checked;
 use crate::checked::verdict_line::{push_line, push_table_row};
+use crate::verdict::kind::VerdictKind;
 use iloc_lint::row_wording;
 use iloc_ops::{Block, NoMemory, push_number};
 use iloc_rows::{Proposal, Unread};
@@ -78,17 +79,16 @@ pub fn push_unread(
     let ops = proposal.ops.as_slice();
     let rows = proposal.rows.as_slice();
     let checked = Checked {
-        is_lawful: false,
-        is_same: false,
+        kind: VerdictKind::Unread,
         cycles: cycles_of(ops, rows, latencies),
         ours: cycles(ours, latencies),
         least,
     };
     if csv {
-        push_table_row(text, "unread", checked, proposal.claimed)?;
+        push_table_row(text, checked, proposal.claimed)?;
         return Ok(checked);
     }
-    push_line(text, "unread", checked, proposal.claimed)?;
+    push_line(text, checked, proposal.claimed)?;
     push_unread_row(alloc, text, unread)?;
     Ok(checked)
 }

@@ -5,23 +5,27 @@ ghost use Rattle.iloc_sched.specs.Lawful.{IsLawful};
 ghost use Rattle.iloc_validation.specs.ByTheBook.{IssueTheSame};
 ghost use Rattle.iloc_judge.specs.Verdict.{IsVerdict};
 
+pub mod kind;
+
 use crate::comparison::{Comparison, compared};
-use crate::own::issue_the_same;
 use iloc_meaning::Memory;
 use iloc_ops::{Block, NoMemory, Op};
+use iloc_reasons::{Reasons, reasons_of};
 use iloc_timed::{BuildFault, Latencies, MAX_ROWS, Row, Schedule};
-use iloc_validation::{Lawfulness, Reason, validate};
+use iloc_validation::{Decision, decide};
 use std::alloc::Global;
 
 /// What is said of somebody's rows for a block.
-#[derive(Debug, Drop, PartialEq, Eq)]
+#[derive(Debug, Drop)]
 pub enum Verdict {
     /// This row, from 0, is the first that breaks the rules of the units.
     Units(usize),
     /// The rows are a schedule of the block by the book.
     Lawful,
-    /// They aren't known to be one, for this reason, and what they do compares so with what the block does.
-    Unlawful(Reason, Comparison),
+    /// They are none, of which these facts tell, and what they do compares so with what the block does.
+    Unlawful(Reasons, Comparison),
+    /// It isn't decided whether they are one, and what they do compares so with what the block does.
+    Undecided(Comparison),
 }
 
 /// Judges somebody's operations and rows for a block, each operation in a slot of its own, beside our schedule of the block:
@@ -48,18 +52,16 @@ pub fn judge(
     ensures own { IfOk result (λ verdict.
         IssueTheSame ours.now.ops ours.now.rows ops.items rows.items → verdict ≡ Verdict.Lawful) }
 {
-    if issue_the_same(ours, &ops, &rows) {
-        return Ok(Verdict::Lawful);
-    }
     let theirs = match Schedule::new(alloc, ops, rows) {
         Ok(theirs) => theirs,
         Err(BuildFault::BadRow(row)) => return Ok(Verdict::Units(row)),
         Err(BuildFault::NotOnce(_)) => unreachable!(),
         Err(BuildFault::NoMemory) => return Err(NoMemory),
     };
-    match validate(alloc, block, &theirs, latencies)? {
-        Lawfulness::Lawful => Ok(Verdict::Lawful),
-        Lawfulness::Unlawful(reason) => {
+    match decide(alloc, block, ours, &theirs, latencies)? {
+        Decision::Lawful(_) => Ok(Verdict::Lawful),
+        Decision::Unlawful => {
+            let reasons = reasons_of(alloc, block, &theirs, latencies)?;
             let found = compared(
                 alloc,
                 outputs_alone,
@@ -70,7 +72,20 @@ pub fn judge(
                 memory,
                 blocks,
             )?;
-            Ok(Verdict::Unlawful(reason, found))
+            Ok(Verdict::Unlawful(reasons, found))
+        }
+        Decision::Undecided => {
+            let found = compared(
+                alloc,
+                outputs_alone,
+                block,
+                ours,
+                &theirs,
+                latencies,
+                memory,
+                blocks,
+            )?;
+            Ok(Verdict::Undecided(found))
         }
     }
 }

@@ -26,17 +26,17 @@ pub record Judged : Type 0 where
 
 -- What is found of a proposal, and said of it, in a table or not, of outcomes or of outputs alone, is right: where this row can't
 -- be read, that; else what is said of its rows.
-abbrev pub IsSaid : Option Unread → (csv outputs : Bool) → Latencies → List ℤ → List Op → Table → Proposal → Checked → List ℕ
+abbrev pub IsSaid : Option Unread → (lawful csv outputs : Bool) → Latencies → List ℤ → List Op → Table → Proposal → Checked → List ℕ
     → Type 0
-IsSaid None csv outputs lat memory block ours proposal checked text =
-    IsCheck csv outputs lat memory block ours proposal checked text
-IsSaid (Some unread) csv outputs lat memory block ours proposal checked text =
+IsSaid None lawful csv outputs lat memory block ours proposal checked text =
+    IsCheck lawful csv outputs lat memory block ours proposal checked text
+IsSaid (Some unread) lawful csv outputs lat memory block ours proposal checked text =
     IsUnread csv lat block ours proposal checked text
 
 -- so it is of the proposal that is judged
-abbrev pub IsJudged : (csv outputs : Bool) → Latencies → List ℤ → Judged → Type 0
-IsJudged csv outputs lat memory j =
-    IsSaid j.proposal.unread csv outputs lat memory j.block.ops j.ours j.proposal j.checked j.text
+abbrev pub IsJudged : (lawful csv outputs : Bool) → Latencies → List ℤ → Judged → Type 0
+IsJudged lawful csv outputs lat memory j =
+    IsSaid j.proposal.unread lawful csv outputs lat memory j.block.ops j.ours j.proposal j.checked j.text
 
 -- the head of each block and what is said of its proposal, numbered from k on
 abbrev pub judged_entries : Bool → ℕ → List Judged → List ℕ
@@ -68,6 +68,6 @@ pub record ListsChecked (lawful csv outputs : Bool) (lat : Latencies) (memory : 
   pub of_proposals : map (λ j. j.proposal) judged ≡ proposals
   pub greedy : AreGreedy lat blocks (map (λ j. j.ours) judged)
   pub only : AreTheOnlyGreedy lat blocks (map (λ j. j.ours) judged)
-  pub right : All (IsJudged csv outputs lat memory) judged
+  pub right : All (IsJudged lawful csv outputs lat memory) judged
   pub found : finding ≡ finding_of (list_all (λ j. passes lawful j.checked) judged)
   pub listed : text ≡ opening_as csv check_header ++ judged_entries csv 1 judged ++ check_ending csv judged

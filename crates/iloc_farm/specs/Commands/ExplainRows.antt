@@ -3,24 +3,28 @@ use Rattle.std.specs.Prelude.{ℕ, ◌+◌, ◌≡◌, List, [], ◌∷◌, ◌+
 use Rattle.std.specs.List.{All, list_all}
 use Rattle.iloc_ops.specs.declared.file.Block.{Block}
 use Rattle.iloc_timed.specs.declared.latencies.Latencies.{Latencies}
+use Rattle.iloc_timed.specs.Schedule.{Table}
 use Rattle.iloc_rows.specs.declared.proposal.Proposal.{Proposal}
 use Rattle.iloc_sched.specs.declared.ranking.heuristic.Heuristic.{Heuristic}
 use Rattle.iloc_judge.specs.declared.explained.ExplainedRows.{ExplainedRows}
 use Rattle.iloc_judge.specs.RowsExplained.{IsRowsExplanation}
 use Rattle.iloc_farm.specs.Fault.{finding_of}
 use Rattle.iloc_farm.specs.Listing.{block_head, total_of}
+use Rattle.iloc_farm.specs.Schedules.{IsTheGreedy}
 use Rattle.iloc_farm.specs.declared.commands.Finding.{Finding}
 
--- a block, what is proposed for it, what was found of that, and what is said of it
+-- a block, our schedule of it, what is proposed for it, what was found of that, and what is said of it
 pub record ExplainedBlock : Type 0 where
   pub block : Block
+  pub ours : Table
   pub proposal : Proposal
   pub found : ExplainedRows
   pub text : List ℕ
 
--- what is said of the proposal is right
-abbrev pub IsExplainedBlock : Heuristic → Latencies → ExplainedBlock → Type 0
-IsExplainedBlock heuristic lat t = IsRowsExplanation heuristic lat t.block.ops t.proposal t.found t.text
+-- our schedule is the greedy one, and what is said of the proposal beside it is right
+pub record IsExplainedBlock (heuristic : Heuristic) (lat : Latencies) (t : ExplainedBlock) : Type 0 where
+  pub greedy : IsTheGreedy heuristic lat t.block t.ours
+  pub right : IsRowsExplanation heuristic lat t.block.ops t.ours t.proposal t.found t.text
 
 -- the head of each block and what is said of its proposal, numbered from k on
 abbrev pub explained_entries : ℕ → List ExplainedBlock → List ℕ

@@ -61,5 +61,5 @@ pub record IsCheckedTo (lawful csv outputs : Bool) (lat : Latencies) (memory : L
   pub of_blocks : map (λ j. j.block) judged ≡ take (length judged) blocks
   pub of_proposals : map (λ j. j.proposal) judged ++ left ≡ proposals
   pub greedy : AreGreedy lat (take (length judged) blocks) (map (λ j. j.ours) judged)
-  pub right : All (IsJudged csv outputs lat memory) judged
+  pub right : All (IsJudged lawful csv outputs lat memory) judged
   pub listed : text ≡ opening_as csv check_header ++ judged_entries csv 1 judged

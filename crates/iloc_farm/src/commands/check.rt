@@ -59,6 +59,7 @@ fn submission_of(alloc: Global, input: Vec<u8>) -> Result<Submission, RowsFault>
 fn push_judged(
     alloc: Global,
     text: &mut Vec<u8>,
+    lawful: bool,
     csv: bool,
     outputs: bool,
     block: &Block,
@@ -75,7 +76,7 @@ fn push_judged(
     requires lawful { IsLawful latencies.now block.now.ops ours.now.ops ours.now.rows }
     requires least { least ≡ bound.least latencies.now block.now.ops }
     ensures { IfOk result (λ checked. (entry : List ℕ)
-        × IsSaid proposal.unread csv outputs latencies.now memory.now block.now.ops ours.now proposal checked entry
+        × IsSaid proposal.unread lawful csv outputs latencies.now memory.now block.now.ops ours.now proposal checked entry
         × (text.new.items ≡ text.old.items ++ entry)) }
 {
     if let Some(unread) = &proposal.unread {
@@ -84,7 +85,7 @@ fn push_judged(
         );
     }
     push_check(
-        alloc, text, csv, outputs, block, ours, least, proposal, latencies, memory, blocks,
+        alloc, text, lawful, csv, outputs, block, ours, least, proposal, latencies, memory, blocks,
     )
 }
 
@@ -101,8 +102,7 @@ fn checked_text(
         request.now.latencies memory.now submission.blocks submission.proposals found.finding found.text.items) }
 {
     let Submission { blocks, proposals } = submission;
-    let csv = request.csv;
-    let outputs = request.outputs;
+    let (lawful, csv, outputs) = (request.lawful, request.csv, request.outputs);
     let latencies = &request.latencies;
     let count = blocks.as_slice().len();
     let mut scheduler = Scheduler::new(alloc);
@@ -116,10 +116,11 @@ fn checked_text(
         prove!(proposal.rows.as_slice().len() <= MAX_ROWS);
         push_head(&mut text, csv, totals.blocks + 1, block.name.as_ref())?;
         let checked = push_judged(
-            alloc, &mut text, csv, outputs, block, &ours, least, proposal, latencies, memory, count,
+            alloc, &mut text, lawful, csv, outputs, block, &ours, least, proposal, latencies,
+            memory, count,
         )?;
         scheduler.take_back(ours);
-        totals.add(&checked, request.lawful);
+        totals.add(&checked, lawful);
     }
     totals.push_line(&mut text, csv)?;
     Ok(CheckedText {

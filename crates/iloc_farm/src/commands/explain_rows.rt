@@ -87,9 +87,8 @@ fn explained_text(
         prove!(proposal.rows.as_slice().len() <= MAX_ROWS);
         push_block_head(&mut text, found.blocks + 1, block.name.as_ref())?;
         text.push(b'\n')?;
-        let names = ours.ops();
         let one = push_rows_explanation(
-            alloc, &mut text, block, names, least, &proposal, latencies, priority,
+            alloc, &mut text, block, &ours, least, &proposal, latencies, priority,
         )?;
         scheduler.take_back(ours);
         found.add(one);

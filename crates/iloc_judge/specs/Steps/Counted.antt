@@ -6,7 +6,7 @@ use Rattle.iloc_judge.specs.declared.comparison.Comparison.TheVariants as of
 use Rattle.iloc_judge.specs.declared.difference.Difference.{Difference}
 use Rattle.iloc_judge.specs.declared.difference.Difference.TheVariants.{Output, Word, Fault, NoFault}
 use Rattle.iloc_judge.specs.declared.verdict.Verdict.{Verdict}
-use Rattle.iloc_judge.specs.declared.verdict.Verdict.TheVariants.{Units, Lawful, Unlawful}
+use Rattle.iloc_judge.specs.declared.verdict.Verdict.TheVariants.{Units, Lawful, Unlawful, Undecided}
 
 -- the number of an output fits 64 bits
 abbrev pub IsCounted : Difference → Type 0
@@ -27,4 +27,5 @@ CanBeCompared (of.DiffersOn probe difference) = IsCounted difference
 abbrev pub CanBeListed : List Row → Verdict → Type 0
 CanBeListed rows (Units c) = c < length rows
 CanBeListed rows Lawful = Unit {0}
-CanBeListed rows (Unlawful reason found) = CanBeCompared found
+CanBeListed rows (Unlawful reasons found) = CanBeCompared found
+CanBeListed rows (Undecided found) = CanBeCompared found

@@ -5,7 +5,7 @@ ghost use Rattle.std.specs.Fmt.{decimal};
 ghost use Rattle.iloc_judge.specs.Listing as listed;
 ghost use Rattle.iloc_judge.specs.Steps.Counted.{IsCounted, CanBeCompared, CanBeListed};
 
-use super::reason::push_reason;
+use super::reason::push_reasons;
 use crate::comparison::Comparison;
 use crate::difference::Difference;
 use crate::refutation::probe::Probe;
@@ -128,23 +128,38 @@ pub(crate) fn push_bad_row(
     Ok(text.extend_from_slice(b"\n")?)
 }
 
+/// Appends that it isn't decided whether rows are by the book, unless this is the verdict.
+fn push_undecided(text: &mut Vec<u8>, lawful: bool) -> Result<(), NoMemory>
+    ensures { OnOk result (text.new.items ≡ text.old.items ++ listed.undecided_told lawful) }
+{
+    if lawful {
+        return Ok(());
+    }
+    Ok(text.extend_from_slice(b"  undecided\n")?)
+}
+
 /// Appends what is said of these operations and rows below the line of their verdict.
 pub(crate) fn push_detail(
     text: &mut Vec<u8>,
+    lawful: bool,
     ops: &[Op],
     rows: &[Row],
     verdict: &Verdict,
 ) -> Result<(), NoMemory>
     requires { CanBeListed rows.now verdict.now }
     ensures { OnOk result (text.new.items
-        ≡ text.old.items ++ listed.detail ops.now rows.now verdict.now) }
+        ≡ text.old.items ++ listed.detail lawful ops.now rows.now verdict.now) }
 {
     match verdict {
         Verdict::Units(row) => push_bad_row(text, ops, rows, *row),
         Verdict::Lawful => Ok(()),
-        Verdict::Unlawful(reason, comparison) => {
+        Verdict::Unlawful(reasons, comparison) => {
             push_comparison(text, comparison)?;
-            push_reason(text, reason)
+            push_reasons(text, reasons)
+        }
+        Verdict::Undecided(comparison) => {
+            push_comparison(text, comparison)?;
+            push_undecided(text, lawful)
         }
     }
 }

@@ -1,9 +1,11 @@
 //! The lines that say why rows aren't a schedule of their block by the book.
 ghost use Rattle.std.specs.Prelude.{◌≡◌, ◌++◌, OnOk};
+ghost use Rattle.std.specs.List.{flat_map};
 ghost use Rattle.iloc_judge.specs.Reasons as told;
 
 use iloc_ops::{NoMemory, Reg, push_number, push_op};
-use iloc_validation::{Added, Issue, LeftOut, Reason};
+use iloc_reasons::{Fact, Reasons};
+use iloc_validation::{Added, Issue, LeftOut};
 
 /// Appends a label with its number.
 fn push_numbered(text: &mut Vec<u8>, label: &str, number: u64) -> Result<(), NoMemory>
@@ -20,16 +22,6 @@ fn push_issue(text: &mut Vec<u8>, issue: Issue) -> Result<(), NoMemory>
 {
     push_numbered(text, "row ", issue.cycle as u64)?;
     push_op(text, &issue.op)
-}
-
-/// Appends the same, or `no row` where there is none.
-fn push_issue_or_none(text: &mut Vec<u8>, issue: Option<Issue>) -> Result<(), NoMemory>
-    ensures { OnOk result (text.new.items ≡ text.old.items ++ told.issue_or_none issue) }
-{
-    match issue {
-        Some(issue) => push_issue(text, issue),
-        None => Ok(text.extend_from_slice(b"no row")?),
-    }
 }
 
 /// Appends how many operations of the block are left out, and one of them, if there are any.
@@ -56,51 +48,155 @@ fn push_added(text: &mut Vec<u8>, added: Option<Added>) -> Result<(), NoMemory>
     Ok(text.extend_from_slice(b"\n")?)
 }
 
-/// Appends that an operation comes so many cycles too early for another.
-fn push_early(text: &mut Vec<u8>, by: usize, issue: Issue, needed: Issue) -> Result<(), NoMemory>
-    ensures { OnOk result (text.new.items ≡ text.old.items ++ told.early_told by issue needed) }
+/// Appends that an operation reads a register.
+fn push_reads(text: &mut Vec<u8>, issue: Issue, register: Reg) -> Result<(), NoMemory>
+    ensures { OnOk result (text.new.items ≡ text.old.items ++ told.reads_told issue register) }
 {
-    push_numbered(text, "  early by ", by as u64)?;
     push_issue(text, issue)?;
-    text.extend_from_slice(b" for ")?;
-    push_issue(text, needed)?;
-    Ok(text.extend_from_slice(b"\n")?)
+    text.extend_from_slice(b" reads r")?;
+    push_number(text, register.0)
 }
 
-/// Appends that an operation reads in a register the result of one in place of that of another.
-fn push_reads(
-    text: &mut Vec<u8>,
-    register: Reg,
-    issue: Issue,
-    from: Option<Issue>,
-    wanted: Option<Issue>,
-) -> Result<(), NoMemory>
-    ensures { OnOk result (text.new.items ≡ text.old.items ++ told.reads_told register issue from wanted) }
+/// Appends what a register had: the result of an operation or, where there is none, what it had at the start.
+fn push_lost(text: &mut Vec<u8>, lost: Option<Issue>) -> Result<(), NoMemory>
+    ensures { OnOk result (text.new.items ≡ text.old.items ++ told.lost_told lost) }
 {
-    push_numbered(text, "  reads r", u64::from(register.0))?;
+    match lost {
+        Some(issue) => {
+            text.extend_from_slice(b"of ")?;
+            push_issue(text, issue)
+        }
+        None => Ok(text.extend_from_slice(b"of the start")?),
+    }
+}
+
+/// Appends that an operation is issued while a store is under way.
+fn push_under_way(
+    text: &mut Vec<u8>,
+    issue: Issue,
+    store: Issue,
+    due: usize,
+) -> Result<(), NoMemory>
+    ensures { OnOk result (text.new.items ≡ text.old.items ++ told.under_way_told issue store due) }
+{
     push_issue(text, issue)?;
-    text.extend_from_slice(b" from ")?;
-    push_issue_or_none(text, from)?;
-    text.extend_from_slice(b" for ")?;
-    push_issue_or_none(text, wanted)?;
-    Ok(text.extend_from_slice(b"\n")?)
+    text.extend_from_slice(b" while ")?;
+    push_issue(text, store)?;
+    text.extend_from_slice(b" is under way to row ")?;
+    push_number(text, due as u64)
+}
+
+/// Appends that an operation reads a register to which a result is under way.
+fn push_brings(
+    text: &mut Vec<u8>,
+    issue: Issue,
+    register: Reg,
+    late: Issue,
+    due: usize,
+) -> Result<(), NoMemory>
+    ensures { OnOk result (text.new.items ≡ text.old.items ++ told.brings_told issue register late due) }
+{
+    push_reads(text, issue, register)?;
+    text.extend_from_slice(b", which ")?;
+    push_issue(text, late)?;
+    text.extend_from_slice(b" brings in row ")?;
+    push_number(text, due as u64)
+}
+
+/// Appends that an operation reads in a register a result that came over what was there.
+fn push_replaced(
+    text: &mut Vec<u8>,
+    issue: Issue,
+    register: Reg,
+    from: Issue,
+    lost: Option<Issue>,
+) -> Result<(), NoMemory>
+    ensures { OnOk result (text.new.items ≡ text.old.items ++ told.replaced_told issue register from lost) }
+{
+    push_reads(text, issue, register)?;
+    text.extend_from_slice(b" of ")?;
+    push_issue(text, from)?;
+    text.extend_from_slice(b", no longer ")?;
+    push_lost(text, lost)
+}
+
+/// Appends two operations, with a word between them.
+fn push_both(text: &mut Vec<u8>, issue: Issue, word: &str, other: Issue) -> Result<(), NoMemory>
+    ensures { OnOk result (text.new.items ≡ text.old.items ++ told.both_told issue word.now other) }
+{
+    push_issue(text, issue)?;
+    text.extend_from_slice(word.as_bytes())?;
+    push_issue(text, other)
+}
+
+/// Appends a fact, without the line's end.
+fn push_fact_words(text: &mut Vec<u8>, fact: &Fact) -> Result<(), NoMemory>
+    ensures { OnOk result (text.new.items ≡ text.old.items ++ told.fact_words fact.now) }
+{
+    match *fact {
+        Fact::UnderWay { issue, store, due } => push_under_way(text, issue, store, due),
+        Fact::Brings {
+            issue,
+            register,
+            late,
+            due,
+        } => push_brings(text, issue, register, late, due),
+        Fact::Replaced {
+            issue,
+            register,
+            from,
+            lost,
+        } => push_replaced(text, issue, register, from, lost),
+        Fact::Order { issue, other } if issue.cycle < other.cycle => {
+            push_both(text, issue, " before ", other)
+        }
+        Fact::Order { issue, other } => push_both(text, issue, " after ", other),
+        Fact::For { issue, op } => {
+            push_issue(text, issue)?;
+            text.extend_from_slice(b" for ")?;
+            push_op(text, &op)
+        }
+        Fact::LikeNone { issue } => {
+            push_issue(text, issue)?;
+            Ok(text.extend_from_slice(b" like none of the block")?)
+        }
+        Fact::See { issue } => {
+            text.extend_from_slice(b"see ")?;
+            push_issue(text, issue)
+        }
+    }
+}
+
+/// Appends the line of each fact.
+fn push_facts(text: &mut Vec<u8>, facts: &[Fact]) -> Result<(), NoMemory>
+    ensures { OnOk result (text.new.items ≡ text.old.items ++ flat_map told.fact_told facts.now) }
+{
+    for fact in facts {
+        text.extend_from_slice(b"  ")?;
+        push_fact_words(text, fact)?;
+        text.extend_from_slice(b"\n")?;
+    }
+    Ok(())
+}
+
+/// Appends how many facts more there are, if there are any.
+fn push_more(text: &mut Vec<u8>, more: usize) -> Result<(), NoMemory>
+    ensures { OnOk result (text.new.items ≡ text.old.items ++ told.more_told more) }
+{
+    if more == 0 {
+        return Ok(());
+    }
+    text.extend_from_slice(b"  and ")?;
+    push_number(text, more as u64)?;
+    Ok(text.extend_from_slice(b" more\n")?)
 }
 
 /// Appends the lines that say why rows aren't a schedule of their block.
-pub(crate) fn push_reason(text: &mut Vec<u8>, reason: &Reason) -> Result<(), NoMemory>
-    ensures { OnOk result (text.new.items ≡ text.old.items ++ told.reason_told reason.now) }
+pub(crate) fn push_reasons(text: &mut Vec<u8>, reasons: &Reasons) -> Result<(), NoMemory>
+    ensures { OnOk result (text.new.items ≡ text.old.items ++ told.reasons_told reasons.now) }
 {
-    match *reason {
-        Reason::Counts { left_out, added } => {
-            push_left_out(text, left_out)?;
-            push_added(text, added)
-        }
-        Reason::Early { by, issue, needed } => push_early(text, by, issue, needed),
-        Reason::Reads {
-            register,
-            issue,
-            from,
-            wanted,
-        } => push_reads(text, register, issue, from, wanted),
-    }
+    push_left_out(text, reasons.left_out)?;
+    push_added(text, reasons.added)?;
+    push_facts(text, &reasons.facts)?;
+    push_more(text, reasons.more)
 }

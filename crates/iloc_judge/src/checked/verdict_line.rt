@@ -3,33 +3,7 @@ ghost use Rattle.std.specs.Prelude.{◌≡◌, ◌++◌, OnOk};
 ghost use Rattle.iloc_judge.specs.Listing as listed;
 
 use crate::checked::Checked;
-use crate::comparison::Comparison;
-use crate::verdict::Verdict;
 use iloc_ops::{NoMemory, push_column, push_number};
-
-/// The word for how rows compare with their block.
-fn comparison_word(comparison: &Comparison) -> &'static str
-    ensures { result.now ≡ listed.comparison_word comparison.now }
-{
-    match comparison {
-        Comparison::Void(_) => "void",
-        Comparison::Same => "same",
-        Comparison::Prints => "prints",
-        Comparison::Agrees => "agrees",
-        Comparison::Differs(_) | Comparison::DiffersOn(_, _) => "differs",
-    }
-}
-
-/// The word for a verdict.
-fn verdict_word(verdict: &Verdict) -> &'static str
-    ensures { result.now ≡ listed.verdict_word verdict.now }
-{
-    match verdict {
-        Verdict::Units(_) => "units",
-        Verdict::Lawful => "lawful",
-        Verdict::Unlawful(_, comparison) => comparison_word(comparison),
-    }
-}
 
 /// Appends ` claimed X` where a number of cycles is claimed and isn't this one.
 fn push_wrong_claim(text: &mut Vec<u8>, cycles: u64, claimed: Option<u32>) -> Result<(), NoMemory>
@@ -41,35 +15,21 @@ fn push_wrong_claim(text: &mut Vec<u8>, cycles: u64, claimed: Option<u32>) -> Re
     }
 }
 
-/// Appends the line with the word for a verdict, the numbers that go with it and the number of cycles that is claimed.
+/// Appends the line with the word for the verdict, the numbers that go with it and the number of cycles that is claimed.
 pub(crate) fn push_line(
     text: &mut Vec<u8>,
-    word: &str,
     checked: Checked,
     claimed: Option<u32>,
 ) -> Result<(), NoMemory>
-    ensures { OnOk result (text.new.items ≡ text.old.items ++ listed.line_of word.now checked claimed) }
+    ensures { OnOk result (text.new.items ≡ text.old.items ++ listed.line_of checked claimed) }
 {
     text.extend_from_slice(b" ")?;
-    text.extend_from_slice(word.as_bytes())?;
+    text.extend_from_slice(checked.kind.word().as_bytes())?;
     push_column(text, "cycles", checked.cycles)?;
     push_column(text, "ours", checked.ours)?;
     push_column(text, "least", checked.least)?;
     push_wrong_claim(text, checked.cycles, claimed)?;
     Ok(text.extend_from_slice(b"\n")?)
-}
-
-/// Appends the line of a verdict.
-pub(crate) fn push_verdict_line(
-    text: &mut Vec<u8>,
-    verdict: &Verdict,
-    checked: Checked,
-    claimed: Option<u32>,
-) -> Result<(), NoMemory>
-    ensures { OnOk result (text.new.items
-        ≡ text.old.items ++ listed.verdict_line verdict.now checked claimed) }
-{
-    push_line(text, verdict_word(verdict), checked, claimed)
 }
 
 /// Appends `,N`.
@@ -90,33 +50,19 @@ fn push_claim(text: &mut Vec<u8>, claimed: Option<u32>) -> Result<(), NoMemory>
     }
 }
 
-/// Appends the row of a table with the word for a verdict, the numbers that go with it and the number of cycles that is claimed.
+/// Appends the row of a table with the word for the verdict, the numbers that go with it and the number of cycles that is claimed.
 pub(crate) fn push_table_row(
     text: &mut Vec<u8>,
-    word: &str,
     checked: Checked,
     claimed: Option<u32>,
 ) -> Result<(), NoMemory>
-    ensures { OnOk result (text.new.items ≡ text.old.items ++ listed.row_of word.now checked claimed) }
+    ensures { OnOk result (text.new.items ≡ text.old.items ++ listed.row_of checked claimed) }
 {
     text.extend_from_slice(b",")?;
-    text.extend_from_slice(word.as_bytes())?;
+    text.extend_from_slice(checked.kind.word().as_bytes())?;
     push_value(text, checked.cycles)?;
     push_value(text, checked.ours)?;
     push_value(text, checked.least)?;
     push_claim(text, claimed)?;
     Ok(text.extend_from_slice(b"\n")?)
-}
-
-/// Appends the row of a table with a verdict.
-pub(crate) fn push_verdict_row(
-    text: &mut Vec<u8>,
-    verdict: &Verdict,
-    checked: Checked,
-    claimed: Option<u32>,
-) -> Result<(), NoMemory>
-    ensures { OnOk result (text.new.items
-        ≡ text.old.items ++ listed.verdict_row verdict.now checked claimed) }
-{
-    push_table_row(text, verdict_word(verdict), checked, claimed)
 }

@@ -35,21 +35,19 @@ returns c =
     let ops = c.in_ok-their_ops.ensures.items ∙ c.as_slice-ops.ensures in
     let rows = c.in_ok-their_rows.ensures.items ∙ c.as_slice-rows.ensures.rows in
     let checked : Checked = record {
-      is_lawful = c.is_lawful.result;
-      is_same = c.is_same.result;
+      kind = c.kind_of.result;
       cycles = c.cycles_of.result;
       ours = c.cycles.result;
       least = c.args.least;
     } in (
-      entry_as c.args.csv c.args.proposal c.in_ok-verdict.verdict checked,
+      entry_as c.args.lawful c.args.csv c.args.proposal c.in_ok-verdict.verdict checked,
       record {
         verdict = c.in_ok-verdict.verdict;
         right = rw (ops, rows) at c.in_ok-verdict.ensures.right;
         own = rw (ops, rows) at c.in_ok-verdict.ensures.own;
         is_found =
             rw (
-              c.is_lawful.ensures,
-              c.is_same.ensures,
+              c.kind_of.ensures,
               c.cycles_of.ensures,
               c.as_slice-ops.ensures,
               c.as_slice-rows.ensures.rows,

@@ -1,16 +1,29 @@
-use Rattle.std.proofs.Common.{inr, refl}
-use Rattle.iloc_judge.specs.Reasons.{reason_told}
+use Rattle.std.proofs.Common.{inl, inr, refl}
+use Rattle.iloc_judge.specs.Reasons.{reasons_told}
 use Rattle.iloc_judge.specs.RowsExplained.{not_lawful}
 use Rattle.iloc_judge.proofs.explained.push_said.Goals as goal
 
-pub returns-in_ok-push_why-in-Err : goal.returns-in_ok-push_why-in-Err
-returns-in_ok-push_why-in-Err c = (
-  not_lawful (reason_told c.in-Err.reason),
-  inr (record {
-    reason = c.in-Err.reason;
+pub own_rows-requires-clause-right : goal.own_rows-requires-clause-right
+own_rows-requires-clause-right c = (c.args.latencies.now, rw c.in-Lawful.is at c.in_ok-pairing.ensures.right)
+
+pub push_explanation-requires-clause-names : goal.push_explanation-requires-clause-names
+push_explanation-requires-clause-names c =
+    (c.in_ok-own-in-Lawful.ensures c.args.latencies.now (rw c.in-Lawful.is at c.in_ok-pairing.ensures.right)).names
+
+pub push_explanation-requires-clause-issued : goal.push_explanation-requires-clause-issued
+push_explanation-requires-clause-issued c =
+    rw c.deref.ensures.value
+    ((c.in_ok-own-in-Lawful.ensures c.args.latencies.now (rw c.in-Lawful.is at c.in_ok-pairing.ensures.right)).many)
+
+pub returns-in_ok-push_why-in-Unlawful-clause-said : goal.returns-in_ok-push_why-in-Unlawful-clause-said
+returns-in_ok-push_why-in-Unlawful-clause-said c = (
+  not_lawful (reasons_told c.in_ok-reasons-in-Unlawful.reasons),
+  inr (inl (record {
+    reasons = c.in_ok-reasons-in-Unlawful.reasons;
     table = c.requires.table;
-    holds = rw c.in-Err.is at c.in_ok-own.ensures;
+    refuted = rw c.in-Unlawful.is at c.in_ok-pairing.ensures.right;
+    hold = c.in_ok-reasons-in-Unlawful.ensures;
     listed = refl;
-  }),
-  c.in_ok-push_why-in-Err.ensures,
+  })),
+  c.in_ok-push_why-in-Unlawful.ensures,
 )

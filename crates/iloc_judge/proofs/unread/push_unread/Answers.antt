@@ -1,7 +1,7 @@
 use Rattle.std.proofs.Common.{◌++◌, refl, ap, ◌∙◌, false, append_assoc}
-use Rattle.std.specs.Prelude.{codes}
 use Rattle.iloc_timed.proofs.Standing.{numbered_from}
 use Rattle.iloc_judge.specs.declared.checked.Checked.{Checked}
+use Rattle.iloc_judge.specs.declared.verdict.kind.VerdictKind.TheVariants.{Unread}
 use Rattle.iloc_judge.specs.Listing.{line_of}
 use Rattle.iloc_judge.specs.Unread.{unread_as, unread_told}
 use Rattle.iloc_judge.proofs.unread.push_unread.Goals as goal
@@ -14,13 +14,12 @@ cycles_of-requires-clause-numbered c =
 pub returns : goal.returns
 returns c =
     let checked : Checked = record {
-      is_lawful = false;
-      is_same = false;
+      kind = Unread;
       cycles = c.cycles_of.result;
       ours = c.cycles.result;
       least = c.args.least;
     } in
-    let line = line_of (codes "unread") checked c.args.proposal.now.claimed in
+    let line = line_of checked c.args.proposal.now.claimed in
     let row = c.in_ok-push_unread_row.ensures in
     let told = unread_told c.args.unread.now.row row.0 in (
       unread_as false checked c.args.proposal.now.claimed c.args.unread.now.row row.0,

@@ -54,7 +54,7 @@ add-requires c =
     c.requires.short_blocks read in
     let listed = c.in_ok-checked.ensures in
     let small : IsSmall c.in_ok-checked.checked =
-    small_check c.in-Some.proposal.unread c.args.request.now.csv c.args.request.now.outputs c.args.request.now.latencies c.args.memory.now block.ops c.in_ok-ours.ours c.in-Some.proposal
+    small_check c.in-Some.proposal.unread c.args.request.now.lawful c.args.request.now.csv c.args.request.now.outputs c.args.request.now.latencies c.args.memory.now block.ops c.in_ok-ours.ours c.in-Some.proposal
     c.in_ok-checked.checked listed.0 listed.1 c.in_ok-ours.ensures.schedule.greedy
     short
     c.as_slice-in-loop-proposal-2.ensures.few in
@@ -78,7 +78,7 @@ loop-proposal-preserved c =
     c.requires.short_blocks read in
     let listed = c.in_ok-checked.ensures in
     let small : IsSmall c.in_ok-checked.checked =
-    small_check c.in-Some.proposal.unread c.args.request.now.csv c.args.request.now.outputs c.args.request.now.latencies c.args.memory.now block.ops c.in_ok-ours.ours c.in-Some.proposal
+    small_check c.in-Some.proposal.unread c.args.request.now.lawful c.args.request.now.csv c.args.request.now.outputs c.args.request.now.latencies c.args.memory.now block.ops c.in_ok-ours.ours c.in-Some.proposal
     c.in_ok-checked.checked listed.0 listed.1 c.in_ok-ours.ensures.schedule.greedy
     short
     c.as_slice-in-loop-proposal-2.ensures.few in

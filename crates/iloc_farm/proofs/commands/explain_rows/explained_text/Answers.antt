@@ -49,7 +49,7 @@ add-requires-clause-cycles c =
     let most : length c.args.submission.blocks ≤ MAX_BLOCKS = c.requires.few_blocks in
     let few : c.loop-proposal.found.cycles ≤ most_proposed_cycles * c.loop-proposal.found.blocks = c.loop-proposal.invariant.few in
     let small : c.in_ok-one.one.cycles ≤ most_proposed_cycles =
-    few_told c.args.request.now.priority c.args.request.now.latencies c.index-as_slice-found.result.ops c.in-Some.proposal
+    few_told c.args.request.now.priority c.args.request.now.latencies c.index-as_slice-found.result.ops c.in_ok-ours.ours c.in-Some.proposal
     c.in_ok-one.one c.in_ok-one.ensures.0 c.in_ok-one.ensures.1 c.as_slice-in-loop-proposal-2.ensures.few in
     omega arith
 
@@ -66,8 +66,8 @@ loop-proposal-preserved c =
     let listed = c.in_ok-one.ensures in
     one_told c.args.request.now.priority c.args.request.now.latencies c.args.submission.blocks c.args.submission.proposals
     c.loop-proposal.proposal-iterator.rest.items c.next.new.self.rest.items c.in-Some.proposal c.loop-proposal.text.items
-    c.loop-proposal.found c.in-Some.ensures.steps.0 c.loop-proposal.invariant block c.in_ok-one.one
-    c.push_rows_explanation.new.text.items listed.0 c.add.new.self within read listed.1
+    c.loop-proposal.found c.in-Some.ensures.steps.0 c.loop-proposal.invariant block c.in_ok-ours.ours c.in_ok-one.one
+    c.push_rows_explanation.new.text.items listed.0 c.add.new.self within read c.in_ok-ours.ensures.schedule.greedy listed.1
     c.as_slice-in-loop-proposal-2.ensures.few
     (listed.2 ∙ ap (λ xs. xs ++ listed.0) (c.in_ok-push.ensures.items
     ∙ ap (λ xs. xs ++ codes "\n") (c.in_ok-push_block_head.ensures
@@ -86,8 +86,8 @@ loop-proposal-preserved-in_ok-one c =
     let listed = c.in_ok-one.ensures in
     one_told c.args.request.now.priority c.args.request.now.latencies c.args.submission.blocks c.args.submission.proposals
     c.loop-proposal.proposal-iterator.rest.items c.next.new.self.rest.items c.in-Some.proposal c.loop-proposal.text.items
-    c.loop-proposal.found c.in-Some.ensures.steps.0 c.loop-proposal.invariant block c.in_ok-one.one
-    c.push_rows_explanation.new.text.items listed.0 c.add.new.self within read listed.1
+    c.loop-proposal.found c.in-Some.ensures.steps.0 c.loop-proposal.invariant block c.in_ok-ours.ours c.in_ok-one.one
+    c.push_rows_explanation.new.text.items listed.0 c.add.new.self within read c.in_ok-ours.ensures.schedule.greedy listed.1
     c.as_slice-in-loop-proposal-2.ensures.few
     (listed.2 ∙ ap (λ xs. xs ++ listed.0) (c.in_ok-push.ensures.items
     ∙ ap (λ xs. xs ++ codes "\n") (c.in_ok-push_block_head.ensures
@@ -103,3 +103,6 @@ returns c =
     subst P (sym c.of.ensures) (all_told c.args.request.now.priority c.args.request.now.latencies c.args.submission.blocks
     c.args.submission.proposals rest.items c.loop-proposal.text.items c.push_total.new.text.items c.loop-proposal.found
     none c.requires.as_many c.loop-proposal.invariant c.in_ok-push_total.ensures)
+
+pub push_rows_explanation-requires-clause-lawful : goal.push_rows_explanation-requires-clause-lawful
+push_rows_explanation-requires-clause-lawful c = c.in_ok-ours.ensures.schedule.greedy.lawful

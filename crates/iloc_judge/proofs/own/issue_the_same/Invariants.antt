@@ -1,8 +1,0 @@
-use Rattle.std.proofs.Common.{◌≡◌, ◌<◌, ℕ}
-use Rattle.iloc_timed.specs.Rows.{row_at}
-use Rattle.iloc_validation.specs.ByTheBook.{issued_in}
-use Rattle.iloc_judge.proofs.own.issue_the_same.Given as goal
-
-abbrev pub invariant-loop-c : goal.invariant-loop-c
-invariant-loop-c l =
-    (b : ℕ) → b < l.c → issued_in l.ours.ops (row_at l.ours.rows b) ≡ issued_in l.ops (row_at l.rows b)
