@@ -44,7 +44,8 @@ class Guide(Place):
         self.expect("mark", self.call("examples/class/mark", "class", "3", "4"), (0, (
             b"ann  9  lawful cycles 1 ours 1 least 1; lawful cycles 2 ours 1 least 1\n"
             b"bob  0  lawful cycles 1 ours 1 least 1; differs cycles 2 ours 1 least 1, output 1: 3 for 4, "
-            b"left out 1: output 1028, added 1: row 1: output 1024\n"
+            b"left out 1: output 1028, added 1: row 1: output 1024, "
+            b"row 1: output 1024 like none of the block\n"
             b"cid  0  ilocfarm: line 1: not understood\n"), b""))
 
     def test_marks_nothing_by_mistake(self):

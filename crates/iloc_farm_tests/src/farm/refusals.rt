@@ -165,16 +165,24 @@ const CHECKED: &[u8] = b"block 1 - void cycles 0 ours 1 least 1
   the block shows nothing
   left out 1: loadI 4 => r1
 block 2 B same cycles 1 ours 1 least 1 claimed 7
-  added 1: row 1: loadI 4 => r1
+  added 1: row 0: loadI 4 => r1
+  row 0: loadI 4 => r1 like none of the block
 block 3 C same cycles 15 ours 15 least 15
   left out 3: loadI 1024 => r1
-  added 4: row 1: loadI 1028 => r1
+  added 4: row 0: loadI 1028 => r1
+  row 0: loadI 1028 => r1 like none of the block
+  row 1: load r1 => r1 like none of the block
+  row 6: loadI 1032 => r2 like none of the block
+  row 6: mult r1, r1 => r1 for mult r2, r2 => r3
+  row 9: store r1 => r2 like none of the block
 block 4 D differs cycles 1 ours 15 least 15
   output 1: 0 for 81
   left out 4: loadI 1024 => r1
+  see row 0: output 1032
 block 5 a differs cycles 6 ours 6 least 6
   output 2: 0 for none
-  added 1: row 2: output 8
+  added 1: row 1: output 8
+  row 1: output 8 like none of the block
 block 6 b lawful cycles 0 ours 0 least 0
 block 7 c lawful cycles 0 ours 0 least 0 claimed 3
 total 23 ours 38 least 38
@@ -194,9 +202,9 @@ block 2 B
 ";
 
 const CHECKED_APART: &[u8] = b"block 1 A units cycles 1 ours 1 least 1
-  row 1: [ output 4 ; output 4 ]
+  row 0: [ output 4 ; output 4 ]
 block 2 B units cycles 5 ours 6 least 6
-  row 1: [ nop ; load r1 => r2 ]
+  row 0: [ nop ; load r1 => r2 ]
 total 6 ours 7 least 7
 ";
 
