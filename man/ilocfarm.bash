@@ -5,9 +5,10 @@ _ilocfarm() {
     case $COMP_CWORD,${COMP_WORDS[1]},${COMP_WORDS[COMP_CWORD - 1]} in
     *,--priority) words="chain slack descendants successors latency order" ;;
     *,[\<\>]*|*,--at|*,--load|*,--mult|*,--store|*,--task|*,--workers) return ;;
-    1,*) words="run simulate schedule counts compare explain check graph lint help --help --version" ;;
+    1,*) words="run simulate trace schedule counts compare explain check graph lint help --help --version" ;;
     *,run,*) words="--at --help" ;;
     *,simulate,*) words="--at --load --store --mult --priority --help" ;;
+    *,trace,*) words="--at --load --store --mult --priority --help" ;;
     *,schedule,*) words="--workers --load --store --mult --priority --help" ;;
     *,counts,*) words="--workers --load --store --mult --priority --csv --help" ;;
     *,compare,*) words="--workers --load --store --mult --csv --help" ;;
@@ -15,7 +16,7 @@ _ilocfarm() {
     *,check,*) words="--at --load --store --mult --task --either-slot --lawful --outputs --csv --help" ;;
     *,graph,*) words="--load --store --mult --help" ;;
     *,lint,*) words="--help" ;;
-    2,help,*) words="run simulate schedule counts compare explain check graph lint" ;;
+    2,help,*) words="run simulate trace schedule counts compare explain check graph lint" ;;
     *) return ;;
     esac
     mapfile -t COMPREPLY < <(compgen -W "$words" -- "${COMP_WORDS[COMP_CWORD]}")

@@ -3,6 +3,7 @@
 local -a commands=(
     'run:Run each block, one operation after the other'
     'simulate:Schedule each block, and run the schedule'
+    'trace:Schedule each block, run the schedule, and print what happens in each cycle'
     'schedule:Schedule each block, and print the schedule'
     'counts:Schedule each block, and print how many cycles the schedule takes'
     'compare:Schedule each block by each priority, and print the cycles beside their bound'
@@ -21,6 +22,13 @@ run) shift words; (( CURRENT-- ))
     _arguments '--at[Address of the first WORD, a multiple of 4 up to 65532 \[default\: 1024\]]:N:' \
         '--help[Print help]' ;;
 simulate) shift words; (( CURRENT-- ))
+    _arguments '--at[Address of the first WORD, a multiple of 4 up to 65532 \[default\: 1024\]]:N:' \
+        '--load[Cycles that load and loadAI take, 1 to 16 \[default\: 5\]]:N:' \
+        '--store[Cycles that store and storeAI take, 1 to 16 \[default\: 5\]]:N:' \
+        '--mult[Cycles that mult and multI take, 1 to 16 \[default\: 3\]]:N:' \
+        '--priority[What goes first\: chain, slack, descendants, successors, latency or order \[default\: chain\]]:N:(chain slack descendants successors latency order)' \
+        '--help[Print help]' ;;
+trace) shift words; (( CURRENT-- ))
     _arguments '--at[Address of the first WORD, a multiple of 4 up to 65532 \[default\: 1024\]]:N:' \
         '--load[Cycles that load and loadAI take, 1 to 16 \[default\: 5\]]:N:' \
         '--store[Cycles that store and storeAI take, 1 to 16 \[default\: 5\]]:N:' \

@@ -10,6 +10,7 @@ from oracle.machine import outcome, row_text, signed, words_from
 from oracle.operations import text_of, words_for
 from oracle.reader import read
 from oracle.scheduler import ORDERS, Schedule
+from oracle.trace import trace
 
 WORDS = [3, 4_294_967_295, 8, 70, 5, 1_000_000]
 ODD = {"load": 1, "store": 2, "mult": 16}
@@ -46,9 +47,10 @@ def listing(command, blocks, latencies, by="chain"):
         lines += {"explain": lambda: [head, *schedule.lines()], "counts": lambda: [f"{head} cycles {cycles}"],
                   "schedule": lambda: [head, *map(row_text, schedule.rows), f"cycles {cycles}"],
                   "graph": lambda: cluster(k, f"B{k}", schedule),
+                  "trace": lambda: [head, *trace(schedule.rows, latencies, words_from(0, WORDS))],
                   "run": lambda: [head, *outputs(ops)], "simulate": lambda: [head, *outputs(ops)]}[command]()
         total += cycles
-    ending = {"run": [], "simulate": [], "graph": ["}"]}.get(command, [f"total {total}"])
+    ending = {"run": [], "simulate": [], "trace": [], "graph": ["}"]}.get(command, [f"total {total}"])
     lines[:0] = [OPENING] if command == "graph" else []
     return "\n".join(map(str, [*lines, *ending, ""])).encode()
 
@@ -100,9 +102,9 @@ def drawn_cases():
 
 
 def made(name, blocks, latencies):
-    for command in (*COMMANDS, "graph"):
+    for command in (*COMMANDS, "graph", "trace"):
         words = [] if command == "run" else words_for(latencies)
-        words += ["--at", "0", *map(str, WORDS)] if command in ("run", "simulate") else []
+        words += ["--at", "0", *map(str, WORDS)] if command in ("run", "simulate", "trace") else []
         yield listed(f"drawn/{name}/{command}", text_of(blocks), listing(command, blocks, latencies), [command, *words])
     yield from by_orders(name, blocks, latencies)
 
@@ -118,8 +120,9 @@ def by_orders(name, blocks, latencies):
     for command in ("schedule", "counts", "explain"):
         yield listed(f"drawn/{name}/{command}_by_{by}", text, listing(command, blocks, latencies, by),
                      [command, "--priority", by, *words])
-    yield listed(f"drawn/{name}/simulate_by_{by}", text, listing("simulate", blocks, latencies, by),
-                 ["simulate", "--priority", by, *words, "--at", "0", *map(str, WORDS)])
+    for command in ("simulate", "trace"):
+        yield listed(f"drawn/{name}/{command}_by_{by}", text, listing(command, blocks, latencies, by),
+                     [command, "--priority", by, *words, "--at", "0", *map(str, WORDS)])
 
 
 def known(name, text, latencies, **told):

@@ -96,6 +96,7 @@ def middling_rows():
 def runs(name, given, rows):
     yield Asked(["run", "--at", "0", "5", "6"], name, given)
     yield Asked(["simulate"], name, given)
+    yield Asked(["trace"], name, given)
     yield Asked(["explain"], name, given)
     yield Asked(["graph"], name, given)
     yield Asked(["lint"], name, given)

@@ -8,7 +8,7 @@ use Rattle.clap.specs.Simple.{new_shape}
 use Rattle.iloc_meaning.specs.Address.{LAST_ADDRESS}
 use Rattle.iloc_timed.specs.Limits.{LONGEST_LATENCY}
 use Rattle.iloc_args.specs.declared.request.Task.{Task}
-use Rattle.iloc_args.specs.declared.request.Task.TheVariants.{Run, Simulate, Schedule, Counts, Compare, Explain, Check, Graph, Lint}
+use Rattle.iloc_args.specs.declared.request.Task.TheVariants.{Run, Simulate, Trace, Schedule, Counts, Compare, Explain, Check, Graph, Lint}
 
 -- `--NAME N`, a number within these bounds, and this one where it is not given
 abbrev pub number_rule : Text → Text → ℕ → ℕ → Rule
@@ -96,6 +96,14 @@ simulate_entry = record {
   rules = at_rule ∷ words_rule ∷ latency_rules ++ priority_rule ∷ [];
 }
 
+-- `trace [--at N] [WORD].. [--load N] [--store N] [--mult N] [--priority NAME]`
+abbrev pub trace_entry : Subcommand
+trace_entry = record {
+  name = codes "trace";
+  task = Trace;
+  rules = at_rule ∷ words_rule ∷ latency_rules ++ priority_rule ∷ [];
+}
+
 -- `schedule [--workers N] [--load N] [--store N] [--mult N] [--priority NAME]`
 abbrev pub schedule_entry : Subcommand
 schedule_entry = record {
@@ -150,6 +158,7 @@ abbrev pub entries : List Subcommand
 entries =
     run_entry
     ∷ simulate_entry
+    ∷ trace_entry
     ∷ schedule_entry
     ∷ counts_entry
     ∷ compare_entry

@@ -6,7 +6,7 @@ ghost use Rattle.iloc_args.specs.Command.{at_rule, check_entry, compare_entry, c
 ghost use Rattle.iloc_args.specs.Command.{farm_app, flag_rule, latency_rule, latency_rules, lawful_rule};
 ghost use Rattle.iloc_args.specs.Command.{outputs_rule, priority_rule, run_entry, schedule_entry, simulate_entry};
 ghost use Rattle.iloc_args.specs.Command.{graph_entry, lint_entry};
-ghost use Rattle.iloc_args.specs.Command.{task_rule, text_rule, top_shape, words_rule, workers_rule};
+ghost use Rattle.iloc_args.specs.Command.{task_rule, text_rule, top_shape, trace_entry, words_rule, workers_rule};
 ghost use Rattle.iloc_args.specs.Steps.Building.{AddsArgument, AddsRules, HasApp, HasRule, alone, app};
 ghost use Rattle.iloc_args.specs.Steps.Building.{memory_shape, option_rule, workers_shape};
 
@@ -306,6 +306,16 @@ fn simulate_command<'a>(alloc: Global) -> Result<Command<'a>, AllocError>
     with_arg(command, priority_arg(alloc))
 }
 
+/// `trace [--at N] [WORD]... [--load N] [--store N] [--mult N] [--priority NAME]`
+fn trace_command<'a>(alloc: Global) -> Result<Command<'a>, AllocError>
+    ensures { IfOk result (HasApp (app trace_entry)) }
+{
+    let about = "Schedule each block, run the schedule, and print what happens in each cycle";
+    let usage = "ilocfarm trace [OPTIONS] [WORD]... < BLOCKS";
+    let command = with_latencies(alloc, memory_command(alloc, "trace", about, usage));
+    with_arg(command, priority_arg(alloc))
+}
+
 /// `schedule [--workers N] [--load N] [--store N] [--mult N] [--priority NAME]`
 fn schedule_command<'a>(alloc: Global) -> Result<Command<'a>, AllocError>
     ensures { IfOk result (HasApp (app schedule_entry)) }
@@ -415,6 +425,7 @@ pub(crate) fn farm_command<'a>(alloc: Global) -> Result<Command<'a>, AllocError>
     let farm = top_command(alloc);
     let farm = with_command(farm, run_command(alloc));
     let farm = with_command(farm, simulate_command(alloc));
+    let farm = with_command(farm, trace_command(alloc));
     let farm = with_command(farm, schedule_command(alloc));
     let farm = with_command(farm, counts_command(alloc));
     let farm = with_command(farm, compare_command(alloc));

@@ -58,6 +58,7 @@ fn task_of(name: &str) -> Task
     match name {
         "run" => Task::Run,
         "simulate" => Task::Simulate,
+        "trace" => Task::Trace,
         "schedule" => Task::Schedule,
         "counts" => Task::Counts,
         "compare" => Task::Compare,

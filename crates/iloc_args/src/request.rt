@@ -13,6 +13,8 @@ pub enum Task {
     Run,
     /// Schedule it, and run the schedule.
     Simulate,
+    /// Schedule it, run the schedule, and list what happens.
+    Trace,
     /// Schedule it, and list the schedule.
     Schedule,
     /// Schedule it, and list how many cycles the schedule takes.

@@ -15,6 +15,8 @@ use Rattle.iloc_meaning.specs.Memory.{words_from}
 use Rattle.iloc_meaning.specs.Outcome.{outcome, shown}
 use Rattle.iloc_timed.specs.Timed.{timed_outcome}
 use Rattle.iloc_sched.proofs.Outcome.LawfulOutcomes.{lawful_same_outcome}
+use Rattle.iloc_trace.specs.Events.{events}
+use Rattle.iloc_trace.specs.Listing.{trace_lines}
 use Rattle.iloc_args.specs.declared.request.Request.{Request}
 use Rattle.iloc_args.specs.declared.request.Task.{Task}
 use Rattle.iloc_args.specs.declared.request.Task.TheVariants as task
@@ -26,6 +28,7 @@ use Rattle.iloc_farm.specs.Commands.Graph.{IsGraphEntry, drawing_end, opening_at
 use Rattle.iloc_farm.specs.Commands.Run.{IsRunEntry, initial_memory, no_ending}
 use Rattle.iloc_farm.specs.Commands.Schedule.{IsScheduleEntry}
 use Rattle.iloc_farm.specs.Commands.Simulate.{IsSimulateEntry}
+use Rattle.iloc_farm.specs.Commands.Trace.{IsTraceEntry}
 use Rattle.iloc_farm.specs.Laws.{AskAlike, SimulatingListsRuns}
 use Rattle.iloc_farm.specs.Listing.{block_head, cycles_of, entries, opening_as, outcome_entry, schedule_entry, schedule_lines, shown_entry, total_of_all}
 use Rattle.iloc_farm.specs.Run.{IsListingFor, Lists, ListsAs, ListsFile, ListsFor, ListsFrom}
@@ -84,6 +87,26 @@ module _ (request : Request) (k : ℕ) (b : Block) (text more : List ℕ) (name 
       };
       added = added ∙ ap₂ (λ n w. text ++ shown_entry k n w) named are;
     }
+
+    pub trace_listed : (head lined : List ℕ) (memory : List ℤ) → head ≡ text ++ block_head k name
+        → lined ≡ head ++ codes "\n" → memory ≡ initial_memory request
+        → more ≡ lined ++ trace_lines (events request.latencies memory s.ops s.rows)
+        → Adds (IsTraceEntry request k b) text more tt
+    trace_listed head lined memory opened ended starts added =
+        let lines : List ℕ = trace_lines (events request.latencies (initial_memory request) s.ops s.rows) in
+        record {
+          entry = block_head k b.name ++ codes "\n" ++ lines;
+          right = record {
+            schedule = s;
+            greedy = the_greedy request.priority request.latencies b s greedy;
+            listed = refl;
+          };
+          added = added
+              ∙ (ap (λ m. lined ++ trace_lines (events request.latencies m s.ops s.rows)) starts
+              ∙ (ap (λ xs. xs ++ lines) (ended ∙ ap (λ xs. xs ++ codes "\n") opened)
+              ∙ (ap (λ n. ((text ++ block_head k n) ++ codes "\n") ++ lines) named
+              ∙ parts_joined text (block_head k b.name) (codes "\n") lines)));
+        }
 
     module _ (cycles : ℕ) (counted : cycles ≡ cycles_of request.latencies s) where
       -- a text by itself is the entry
@@ -216,6 +239,18 @@ module _ (r q : Request) (alike : AskAlike r q) (k : ℕ) (b : Block) where
         cycles_same is.schedule is'.schedule c c' same is.counted is'.counted,
       )
 
+  trace_same : (e e' : List ℕ) (f f' : Unit {0}) → IsTraceEntry r k b e f → IsTraceEntry q k b e' f'
+      → (e ≡ e') × (f ≡ f')
+  trace_same e e' f f' is is' =
+      let same = same_schedule is.schedule is'.schedule is.greedy is'.greedy in
+      let entry : Latencies → List ℤ → Table → List ℕ = λ lat m s.
+      block_head k b.name ++ codes "\n" ++ trace_lines (events lat m s.ops s.rows) in (
+        is.listed
+            ∙ (ap (λ lat. entry lat (initial_memory r) is.schedule) alike.latencies
+            ∙ (ap₂ (λ m s. entry q.latencies m s) (one_memory r q alike) same ∙ sym is'.listed)),
+        refl,
+      )
+
   graph_same : (e e' : List ℕ) (f f' : Unit {0}) → IsGraphEntry r k b e f → IsGraphEntry q k b e' f'
       → (e ≡ e') × (f ≡ f')
   graph_same e e' f f' is is' =
@@ -231,6 +266,8 @@ of_one_task task.Run r q alike blocks text text' lists lists' =
 of_one_task task.Simulate r q alike blocks text text' lists lists' =
     one_listing (IsSimulateEntry r) (IsSimulateEntry q)
     (λ k b e e' f f' is is'. run_same r q alike k b e e' f f' is.plain is'.plain) no_ending blocks text text' lists lists'
+of_one_task task.Trace r q alike blocks text text' lists lists' =
+    one_listing (IsTraceEntry r) (IsTraceEntry q) (trace_same r q alike) no_ending blocks text text' lists lists'
 of_one_task task.Schedule r q alike blocks text text' lists lists' =
     one_listing (IsScheduleEntry r) (IsScheduleEntry q) (schedule_same r q alike) total_of_all blocks text text'
     lists lists'

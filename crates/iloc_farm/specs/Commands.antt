@@ -1,6 +1,7 @@
 -- What each command lists.
 pub mod Run
 pub mod Simulate
+pub mod Trace
 pub mod Schedule
 pub mod Counts
 pub mod Compare

@@ -31,6 +31,7 @@ use Rattle.iloc_farm.specs.Commands.Graph.{IsGraphEntry, drawing_end}
 use Rattle.iloc_farm.specs.Commands.Run.{IsRunEntry, initial_memory, no_ending}
 use Rattle.iloc_farm.specs.Commands.Schedule.{IsScheduleEntry}
 use Rattle.iloc_farm.specs.Commands.Simulate.{IsSimulateEntry}
+use Rattle.iloc_farm.specs.Commands.Trace.{IsTraceEntry}
 use Rattle.iloc_farm.specs.Device.{WritesFront}
 use Rattle.iloc_farm.specs.Entries.{IsListingOf}
 use Rattle.iloc_farm.specs.Listing.{total_of_all}
@@ -40,6 +41,7 @@ use Rattle.iloc_farm.specs.Listing.{total_of_all}
 abbrev pub IsListingFor : Task → Request → List Block → List ℕ → Type 0
 IsListingFor task.Run request blocks text = IsListingOf (IsRunEntry request) no_ending blocks text
 IsListingFor task.Simulate request blocks text = IsListingOf (IsSimulateEntry request) no_ending blocks text
+IsListingFor task.Trace request blocks text = IsListingOf (IsTraceEntry request) no_ending blocks text
 IsListingFor task.Schedule request blocks text = IsListingOf (IsScheduleEntry request) total_of_all blocks text
 IsListingFor task.Counts request blocks text = IsCountListing request blocks text
 IsListingFor task.Compare request blocks text = IsCompareListing request blocks text

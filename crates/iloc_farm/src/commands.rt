@@ -16,6 +16,7 @@ mod run;
 mod schedule;
 mod simulate;
 mod totals;
+mod trace;
 
 use crate::farmed::listed_by_workers;
 use crate::fault::RunFault;
@@ -37,6 +38,7 @@ use std::alloc::Global;
 use std::io::Read;
 use std::sync::Wait;
 use std::thread::Threads;
+use trace::TraceLister;
 
 /// What a run found out about the schedules that it judged.
 #[derive(Clone, Copy, Debug, Drop, PartialEq, Eq)]
@@ -126,6 +128,10 @@ pub(crate) fn list<H: Threads + Wait + Sync, T: Texts, R: Read>(
         }
         Task::Simulate => {
             let text = listed_as_read::<SimulateLister, R>(alloc, reader, request)?;
+            Ok((Listed::of_file(text), None))
+        }
+        Task::Trace => {
+            let text = listed_as_read::<TraceLister, R>(alloc, reader, request)?;
             Ok((Listed::of_file(text), None))
         }
         Task::Schedule => {

@@ -12,6 +12,7 @@ type Asked<'a> = (&'a [&'a str], Task, u32, u32, &'a [u32], (u32, u32, u32));
 const ASKED: &[Asked] = &[
     (&["run"], Task::Run, 2, 1024, &[], (5, 5, 3)),
     (&["simulate"], Task::Simulate, 2, 1024, &[], (5, 5, 3)),
+    (&["trace", "3"], Task::Trace, 2, 1024, &[3], (5, 5, 3)),
     (&["schedule"], Task::Schedule, 2, 1024, &[], (5, 5, 3)),
     (&["counts"], Task::Counts, 2, 1024, &[], (5, 5, 3)),
     (

@@ -16,6 +16,7 @@ pub unreachable-requires : goal.unreachable-requires
 unreachable-requires c =
     let run = apart (codes "run") c.args.name.now c.in_default.not-run in
     let simulate = apart (codes "simulate") c.args.name.now c.in_default.not-simulate in
+    let trace = apart (codes "trace") c.args.name.now c.in_default.not-trace in
     let schedule = apart (codes "schedule") c.args.name.now c.in_default.not-schedule in
     let counts = apart (codes "counts") c.args.name.now c.in_default.not-counts in
     let compare = apart (codes "compare") c.args.name.now c.in_default.not-compare in
@@ -23,4 +24,4 @@ unreachable-requires c =
     let check = apart (codes "check") c.args.name.now c.in_default.not-check in
     let graph = apart (codes "graph") c.args.name.now c.in_default.not-graph in
     let lint = apart (codes "lint") c.args.name.now c.in_default.not-lint in
-    false≢true (rw (run, simulate, schedule, counts, compare, explain, check, graph, lint) at c.requires)
+    false≢true (rw (run, simulate, trace, schedule, counts, compare, explain, check, graph, lint) at c.requires)

@@ -13,6 +13,11 @@ returns-in_ok-text-in-Simulate-clause-ok g c =
     file_listed _ task.Simulate _ _ _ _ c.of_file-in-Simulate.result c.in-Simulate.is (λ input file. file) (λ lists. lists) c.in_ok-text-in-Simulate.ensures.ok
     c.of_file-in-Simulate.ensures
 
+pub returns-in_ok-text-in-Trace-clause-ok : goal.returns-in_ok-text-in-Trace-clause-ok
+returns-in_ok-text-in-Trace-clause-ok g c =
+    file_listed _ task.Trace _ _ _ _ c.of_file-in-Trace.result c.in-Trace.is (λ input file. file) (λ lists. lists) c.in_ok-text-in-Trace.ensures.ok
+    c.of_file-in-Trace.ensures
+
 pub returns-in_ok-text-in-Schedule-clause-ok : goal.returns-in_ok-text-in-Schedule-clause-ok
 returns-in_ok-text-in-Schedule-clause-ok g c =
     file_listed _ task.Schedule _ _ _ _ c.of_file-in-Schedule.result c.in-Schedule.is (λ input file. file) (λ lists. lists) c.in_ok-text-in-Schedule.ensures.ok.read
@@ -53,6 +58,9 @@ returns-in_ok-text-in-Run-clause-work g c = not_farmed task.Run _ c.in-Run.is (�
 
 pub returns-in_ok-text-in-Simulate-clause-work : goal.returns-in_ok-text-in-Simulate-clause-work
 returns-in_ok-text-in-Simulate-clause-work g c = not_farmed task.Simulate _ c.in-Simulate.is (λ none. none)
+
+pub returns-in_ok-text-in-Trace-clause-work : goal.returns-in_ok-text-in-Trace-clause-work
+returns-in_ok-text-in-Trace-clause-work g c = not_farmed task.Trace _ c.in-Trace.is (λ none. none)
 
 pub returns-in_ok-text-in-Graph-clause-work : goal.returns-in_ok-text-in-Graph-clause-work
 returns-in_ok-text-in-Graph-clause-work g c = not_farmed task.Graph _ c.in-Graph.is (λ none. none)

@@ -1,0 +1,58 @@
+//! `trace`: what blocks' schedules do on the timed machine, cycle by cycle.
+use crate::lister::{Lister, initial_memory};
+use crate::listing::push_block_head;
+use iloc_args::Request;
+use iloc_sched::Scheduler;
+use iloc_text::{Block, NoMemory};
+use iloc_trace::Tracer;
+use std::alloc::Global;
+
+/// Runs each block's schedule, and lists what happens.
+#[derive(Drop)]
+pub(crate) struct TraceLister {
+    scheduler: Scheduler,
+    tracer: Tracer,
+}
+
+impl Lister for TraceLister {
+    ghost use Rattle.iloc_farm.specs.Commands.Run.{no_ending};
+    ghost use Rattle.iloc_farm.specs.Commands.Trace.{IsTraceEntry};
+
+    type Found = ();
+
+    ghost lists = { IsTraceEntry };
+
+    ghost ending = { no_ending };
+
+    ghost memory = { λ _ lister. lister.tracer };
+
+    fn new(alloc: Global, request: &Request) -> Result<TraceLister, NoMemory> {
+        let memory = initial_memory(alloc, request)?;
+        Ok(TraceLister {
+            scheduler: Scheduler::new(alloc),
+            tracer: Tracer::new(alloc, memory)?,
+        })
+    }
+
+    fn list(
+        &mut self,
+        _alloc: Global,
+        request: &Request,
+        number: usize,
+        block: &Block,
+        text: &mut Vec<u8>,
+    ) -> Result<(), NoMemory> {
+        let schedule = self
+            .scheduler
+            .lend_as(block, &request.latencies, request.priority)?;
+        push_block_head(text, number, block.name.as_ref())?;
+        text.push(b'\n')?;
+        self.tracer.push_trace(text, &schedule, &request.latencies)?;
+        self.scheduler.take_back(schedule);
+        Ok(())
+    }
+
+    fn push_ending(_text: &mut Vec<u8>, _found: &[()]) -> Result<(), NoMemory> {
+        Ok(())
+    }
+}
