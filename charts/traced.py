@@ -1,0 +1,114 @@
+"""Listings of `trace`, with those of `graph`, `explain` and `check` of the same blocks: what a page shows of each block."""
+import re
+
+import listing
+from forms import USUAL
+from listing import HEADER, PASSED, VERDICT, Listed, Operation
+from svg import Unread
+
+READ = r"(?:r\d+|word \d+) = -?\d+(?: until \d+)?"
+ISSUE = re.compile(rf"(issue|fault) (\d+) unit ([01]) ([A-Za-z]+(?: [r\d,=> ]+?)?)(?: (?:reads|emits) {READ}(?:, {READ})*)?")
+WRITE = re.compile(r"write (\d+) (r\d+|word \d+) = -?\d+ was -?\d+ from (\d+)")
+NODE = re.compile(r'        b(\d+)_(\d+) \[label="\d+: (.+?)\\npriority \d+".*')
+EDGE = re.compile(r'        b(\d+)_(\d+) -> b\1_(\d+) \[label="(\d+)"\];')
+DRAWN = re.compile(r"strict digraph blocks \{|    .*|\}")
+SAID = re.compile(r"  \S.*")
+RECENT = 64         # operations: more than are issued while a result is under way
+
+
+class Traced(Listed):
+    """A block with its trace and what other listings say of it."""
+
+    def __init__(self, number):
+        super().__init__(number, "-")
+        self.trace, self.source, self.edges, self.said, self.shown = [], {}, [], [], dict(USUAL)
+
+    def issue(self, line, kind, cycle, unit, spelling):
+        self.operations.append(Operation(spelling, int(cycle), int(unit)))
+        if kind == "fault":
+            self.wrong[int(cycle)] = [line]
+
+    def arrive(self, line, cycle, place, begun):
+        """A result that arrives shows how long its operation took."""
+        def sends(it):
+            return it.kind() == "store" if place.startswith("word") else it.spelling.endswith(f"=> {place}")
+
+        senders = [it for it in self.operations[-RECENT:] if it.cycle == int(begun) and sends(it)]
+        if not senders:
+            raise Unread(f"no operation before sends what arrives: {line}")
+        self.shown[senders[0].kind()] = int(cycle) - int(begun)
+
+    def step(self, line):
+        """Reads a line of the trace, and says whether it is one."""
+        issued, arrived = ISSUE.fullmatch(line), WRITE.fullmatch(line)
+        if issued:
+            self.issue(line, *issued.groups())
+        elif arrived:
+            self.arrive(line, *arrived.groups())
+        else:
+            return False
+        self.trace.append(line)
+        return True
+
+    def join(self, other):
+        """Takes what an explanation or a check says; rows that it explains otherwise stay as they are."""
+        self.name, self.least = other.name, other.least or self.least
+        self.verdict = other.verdict or self.verdict
+        if self.verdict not in PASSED:
+            self.wrong.update(other.wrong)
+        self.source.update((it.number, it.source) for it in other.operations)
+        explained = {(it.cycle, it.unit, it.spelling): it for it in other.operations}
+        known = [explained.get((it.cycle, it.unit, it.spelling)) for it in self.operations]
+        if all(known):
+            self.operations, self.chain, self.path = known, other.chain, other.path
+
+    def number_alike(self):
+        """Gives operations of rows the numbers of those in the block that are written alike, in the order of their issue."""
+        left = {}
+        for number, spelling in sorted(self.source.items(), reverse=True):
+            left.setdefault(spelling, []).append(number)
+        for it in self.operations:
+            if it.number < 0 and left.get(it.spelling):
+                it.number, it.source = left[it.spelling].pop(), it.spelling
+
+    def finish(self):
+        self.number_alike()
+        self.cycles = self.end(self.shown)
+
+    def last(self):
+        """The cycle after which nothing happens: of a fault, or in which the last result has arrived."""
+        kind, cycle, *_ = self.trace[-1].split()
+        return int(cycle) if kind == "fault" else self.cycles
+
+    def is_wrong(self):
+        return self.verdict not in PASSED
+
+
+def read_traces(lines):
+    """The blocks that are traced, by number; listings may follow one another."""
+    blocks, rest, block = {}, [], None      # the rest keeps its place, for its number
+    for line in lines:
+        rest.append("")
+        head, node, edge = HEADER.match(line), NODE.fullmatch(line), EDGE.fullmatch(line)
+        if head or node:
+            number = int((head or node)[1])
+            block = blocks.setdefault(number, Traced(number))
+            is_judged = VERDICT.fullmatch(line)
+        if node:
+            block.source[int(node[2])] = node[3]
+        elif edge:
+            block.edges.append(tuple(map(int, edge.groups()[1:])))
+        elif SAID.fullmatch(line) and block:
+            block.said.append(line.strip())
+            rest[-1] = line if is_judged else ""
+        elif not (block and block.step(line)) and not DRAWN.fullmatch(line):
+            rest[-1] = line
+    for it in listing.read_blocks(rest):
+        blocks[it.number].join(it)
+    found = [it for _, it in sorted(blocks.items()) if it.trace]
+    if not found:
+        why = [f"; block {it.number}: {said}" for it in blocks.values() for said in it.said[:1]]
+        raise Unread("there is no trace of a block" + "".join(why))
+    for it in found:
+        it.finish()
+    return found

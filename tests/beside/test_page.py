@@ -1,0 +1,265 @@
+"""Cases of charts/page in a browser: what each cycle shows beside the trace, keys, links, what a screen reader meets, narrow
+and printed; and pages of odd listings."""
+import random
+import re
+
+from harness.browser import Browser
+from harness.place import Place
+from harness.program import TESTED
+from oracle.drawn import lab_block
+from oracle.operations import text_of
+
+WRITE = re.compile(r"write (\d+) (r\d+|word \d+) = (-?\d+) was (-?\d+) from (\d+)")
+ISSUE = re.compile(r"(issue|fault) (\d+) unit (\d) (.+?)(?: (reads|emits) (.+))?")
+READ = re.compile(r"(r\d+|word \d+) = (-?\d+)(?: until (\d+))?")
+WRONG = '[stroke="#d6409f"]'
+CLASS = "examples/class/schedules"
+# What the timed machine does with Ben's rows, as LANGUAGE tells events, where memory from 1024 on holds 3 and 4.
+BEN = b"""block 1 both
+issue 0 unit 0 loadI 1024 => r0
+write 1 r0 = 1024 was 0 from 0
+issue 1 unit 0 loadAI r0, 0 => r1 reads r0 = 1024, word 1024 = 3
+issue 2 unit 0 loadAI r0, 4 => r2 reads r0 = 1024, word 1028 = 4
+write 6 r1 = 3 was 0 from 1
+issue 6 unit 0 add r1, r2 => r3 reads r1 = 3, r2 = 0 until 7
+write 7 r2 = 4 was 0 from 2
+write 7 r3 = 3 was 0 from 6
+issue 7 unit 0 storeAI r3 => r0, 8 reads r3 = 3, r0 = 1024
+issue 7 unit 1 sub r1, r2 => r4 reads r1 = 3, r2 = 4
+write 8 r4 = -1 was 0 from 7
+issue 8 unit 0 storeAI r4 => r0, 12 reads r4 = -1, r0 = 1024
+write 12 word 1032 = 3 was 0 from 7
+write 13 word 1036 = -1 was 0 from 8
+issue 13 unit 0 output 1032 emits word 1032 = 3
+issue 14 unit 0 output 1036 emits word 1036 = -1
+"""
+FAULTS = b"a: output 0\nb: loadI 2 => r1\nload r1 => r2\nc: loadI 4 => r1\nload r1 => r2\nadd r2, r2 => r3\n"
+
+
+def traced(lines, number=1):
+    """The lines of the trace of a block."""
+    at, found = 0, []
+    for line in lines:
+        at = int(line.split()[1]) if line.startswith("block ") else at
+        found += [line] if at == number and (WRITE.fullmatch(line) or ISSUE.fullmatch(line)) else []
+    return found
+
+
+def state_at(lines, cycle):
+    """By place its value after the results of the cycle have arrived: the first that the trace has, or what was written."""
+    first, values = {}, {}
+    for line in lines:
+        if it := WRITE.fullmatch(line):
+            first.setdefault(it[2], it[4])
+            values.update({it[2]: it[3]} if int(it[1]) <= cycle else {})
+        else:
+            for place, value, _ in READ.findall(ISSUE.fullmatch(line)[6] or ""):
+                first.setdefault(place, value)
+    return {**first, **values}
+
+
+class Page(Place):
+    @classmethod
+    def setUpClass(cls):
+        cls.browser = Browser()
+        cls.addClassCleanup(cls.browser.close)
+
+    def setUp(self):
+        super().setUp()
+        self.browser.size(1280, 1000)
+        self.browser.seen_on()
+        self.lines = []
+
+    def listings(self, *commands, given=b""):
+        """What these commands print of the same input, one after the other."""
+        return b"".join(self.call("ilocfarm", *command, given=given)[1] for command in commands)
+
+    def ben(self):
+        """The page's listings of Ben's rows."""
+        task = f"{CLASS}/task.iloc"
+        return (self.listings(("graph",), given=self.read(task)) + BEN
+                + self.listings(("check", "--task", task, "3", "4"), given=self.read(f"{CLASS}/ben.rows")))
+
+    def block(self, text, *options):
+        return self.listings(("explain", *options), ("graph", *options), ("trace", *options, "3", "4"), given=text)
+
+    def open(self, listing, fragment=""):
+        """Makes a page of a listing and opens it; nothing may go wrong there until the end of the case."""
+        status, page, err = self.call("charts/page", given=listing)
+        self.expect("page", (status, err), (0, b""))
+        self.write("page.html", page)
+        self.lines = listing.decode().splitlines()
+        self.browser.problems.clear()
+        self.browser.open(self.path("page.html"), fragment)
+        self.addCleanup(lambda: self.expect("problems", self.browser.problems, []))
+
+    def value(self, expression):
+        return self.browser.value(expression)
+
+    def said(self):
+        return self.value('document.querySelector("section:not([hidden]) output").textContent')
+
+    def texts(self, what):
+        return self.value(f'[...document.querySelectorAll("section:not([hidden]) {what}")].map(it => it.textContent)')
+
+    def marked(self, where, kind):
+        return sorted(self.value(f'[...document.querySelectorAll("{where}.{kind}")].map(it => it.dataset.op)'))
+
+    def shows(self, lines, cycle, last):
+        """Registers, words, results under way, emitted words, events, and what is marked in block, schedule and graph."""
+        now = [it for it in lines if int(it.split()[1]) == cycle]
+        self.expect("output", self.said(), f"cycle {cycle} of {last}")
+        self.expect("events", self.texts(".events li"), now or ["nothing arrives, and nothing is issued"])
+        state = state_at(lines, cycle)
+        for what, kind in (("registers", "r"), ("words", "word ")):
+            shown = dict(it.split(" = ") for it in self.texts(f".{what} li") if " = " in it)
+            wanted = {place.removeprefix("word "): it for place, it in state.items() if place.startswith(kind)}
+            self.expect(what, shown, {it: wanted.get(it) for it in shown})
+            self.expect(f"hidden {what}", [it for place, it in wanted.items() if place not in shown and it != "0"], [])
+        flights = [f"{it[2]} = {it[3]} at {it[1]}" for it in filter(None, map(WRITE.fullmatch, lines))
+                   if int(it[5]) <= cycle < int(it[1])]
+        self.expect("flights", sorted(self.texts(".flights li")), sorted(flights) or ["nothing"])
+        emitted = [it.split()[-1] for it in lines if int(it.split()[1]) <= cycle and " emits " in it]
+        self.expect("emitted", self.texts(".emitted li"), emitted or ["nothing"])
+        issued = sorted(f"{it[2]}.{it[3]}" for it in map(ISSUE.fullmatch, now) if it)
+        for where in (".source li", ".timeline g", ".graph g"):
+            if self.value(f'!!document.querySelector("{where}")'):
+                self.expect(where, self.marked(where, "issued"), issued)
+
+    def test_each_cycle(self):
+        """Of Ben's rows, and of our schedules of drawn blocks."""
+        chance = random.Random(7)
+        listings = [self.block(text_of([lab_block(chance)]), *options) for options in
+                    ((), ("--load", "2", "--store", "16"), ("--priority", "order", "--mult", "1"), ("--load", "1"))]
+        for listing in [self.ben(), *listings[:2 if TESTED.is_short else None]]:
+            self.open(listing)
+            lines = traced(self.lines)
+            last = int(self.value('document.querySelector("section").dataset.last'))
+            self.expect("last", last >= max(int(it.split()[1]) for it in lines), True)
+            for cycle in range(last + 1):
+                with self.subTest(lines[-1], cycle=cycle):
+                    self.shows(lines, cycle, last)
+                self.browser.key("ArrowRight")
+
+    def test_keys(self):
+        self.open(self.ben())
+        for key, times, cycle in (("ArrowLeft", 1, 0), ("ArrowRight", 6, 6), ("ArrowLeft", 2, 4), ("End", 1, 15),
+                                  ("ArrowRight", 1, 15), ("Home", 1, 0)):
+            self.browser.key(key, times)
+            self.expect(key, self.said(), f"cycle {cycle} of 15")
+        self.value('document.querySelector("input").focus()')
+        self.browser.key("ArrowRight", 3)
+        self.expect("at the slider, one step each", self.said(), "cycle 3 of 15")
+        self.expect("its words", self.value('document.querySelector("input").getAttribute("aria-valuetext")'), self.said())
+        self.value('document.querySelector(".timeline").focus()')
+        self.browser.key("ArrowRight")
+        self.expect("in a box that scrolls", self.said(), "cycle 3 of 15")
+
+    def test_tab(self):
+        """Each control is reached by the keyboard."""
+        self.open(self.block(self.read(f"{CLASS}/task.iloc")))
+        seen = []
+        for _ in range(8):
+            self.browser.key("Tab")
+            seen.append(self.value("document.activeElement.getAttribute('aria-label') || document.activeElement.textContent"))
+        self.expect("order", seen[:3], ["one cycle back", "cycle", "one cycle on"])
+        self.expect("the trace", "The trace" in seen, True)
+
+    def test_early_read(self):
+        """A row in what `check` says leads to its cycle, where reader, register and result are marked, and the delay."""
+        self.open(self.ben())
+        self.value('document.querySelector(".said a").click()')
+        self.value("new Promise(done => setTimeout(done, 50))")
+        self.expect("cycle", self.said(), "cycle 6 of 15")
+        self.expect("event", self.texts(".events .early"), ["r2 = 0 until 7"])
+        self.expect("register", self.texts(".cells .early"), ["r2 = 0"])
+        self.expect("reader", self.marked("[data-op]", "early"), ["6.0"] * 3)
+        self.expect("result", self.marked("[data-op]", "awaited"), ["2.0"] * 3)
+        self.expect("row", self.value(f"document.querySelectorAll('.timeline g rect{WRONG}').length"), 1)
+        self.expect("delay", self.value(f"document.querySelectorAll('.graph path{WRONG}').length"), 1)
+
+    def test_click(self):
+        self.open(self.ben())
+        self.value('document.querySelector(".timeline g:last-of-type rect")'
+                   '.dispatchEvent(new MouseEvent("click", {bubbles: true}))')
+        self.expect("cycle", self.said(), "cycle 14 of 15")
+
+    def test_blocks(self):
+        """One is shown, and has the keys; a fault is the last cycle."""
+        self.open(self.block(FAULTS))
+        shown = 'document.querySelector("section:not([hidden])").id'
+        self.expect("first", (self.value(shown), len(self.texts("h1"))), ("block-1", 1))
+        self.open(self.block(FAULTS), "#2.1")
+        self.expect("second", (self.value(shown), self.said()), ("block-2", "cycle 1 of 1"))
+        self.expect("fault", self.texts(".events .early"), ["fault 1 unit 0 load r0 => r1 reads r0 = 2"])
+        self.open(self.block(FAULTS), "#3.0")
+        self.browser.key("ArrowRight")
+        self.expect("third", (self.value(shown), self.said()), ("block-3", "cycle 1 of 7"))
+
+    def test_screen_reader(self):
+        self.open(self.ben(), "#1.6")
+        met = self.browser.tree()
+        title = "block 1 both: 15 cycles, at least 16, differs"
+        for it in (("group", "the schedule"), ("heading", title), ("slider", "cycle"), ("button", "one cycle on"),
+                   ("image", title), ("image", "dependence graph of block 1")):
+            self.expect(it, it in met, True)
+        self.expect("without a name", [it for it in met if it[0] in ("button", "slider", "link", "image") and not it[1]], [])
+
+    def test_narrow(self):
+        self.browser.size(400, 800)
+        for listing in (self.ben(), self.block(FAULTS)):
+            self.open(listing)
+            self.expect("width", self.value("document.documentElement.scrollWidth") <= 400, True)
+
+    def test_printed(self):
+        self.browser.seen_on("print", "dark")
+        self.open(self.block(FAULTS))
+        self.value('dispatchEvent(new Event("beforeprint"))')
+        for what, wanted in (("#block-3", "block"), ("#block-1 .now", "none")):
+            self.expect(what, self.value(f'getComputedStyle(document.querySelector("{what}")).display'), wanted)
+        self.expect("traces", self.value('[...document.querySelectorAll("details")].every(it => it.open)'), True)
+
+    def test_alone(self):
+        """Nothing is fetched, and a trace alone makes a page."""
+        for listing in (self.ben(), self.listings(("trace", "3", "4"), given=self.read(f"{CLASS}/task.iloc"))):
+            self.open(listing)
+            self.expect("links out", re.findall(r'(?:src|href)="(?!#)[^"]*|url\(|@import', self.text("page.html")), [])
+        self.browser.key("End")
+        self.expect("last", self.said(), "cycle 16 of 16")
+
+    def test_markup(self):
+        """Texts of a listing that was made for it are shown as they are, or refused: no element and no script comes of them."""
+        bad = "<img/src=x/onerror=document.title='had'></pre><script>document.title='had'</script>"
+        trace = ("issue 0 unit 0 add r1, r1 => r1 reads r1 = 3\nwrite 1 r1 = 6 was 3 from 0\n",
+                 f"  row 0: {bad}\n", f'        b1_0 [label="0: {bad}\\npriority 1"];\n')
+        self.open(f"block 1 {bad}\n{''.join(trace)}cycles 1 least 1\n".encode(), "#1.0")
+        self.expect("title", self.value("document.title"), "Blocks on the timed machine")
+        self.expect("made", self.value('document.querySelectorAll("img, script").length'), 1)
+        for where in (".said li", ".source li"):
+            self.expect(where, bad in self.texts(where)[0], True)
+        for line in (f"issue 0 unit 0 {bad}", f"issue 0 unit 0 nop reads {bad}", f"write 1 {bad} = 1 was 0 from 0"):
+            status, out, err = self.call("charts/page", given=f"block 1 -\nissue 0 unit 0 nop\n{line}\n".encode())
+            self.expect(line, (status, out, err.startswith(b"charts/page: line 3 is none of a listing")), (1, b"", True))
+
+    def test_odd_listings(self):
+        """Cut off, of two versions, none: refused with the reason, or joined as far as it goes."""
+        whole = self.ben()
+        trace = self.listings(("trace", "3", "4"), given=self.read(f"{CLASS}/task.iloc"))
+        for given, said in (
+                (b"", b"there is no trace of a block"),
+                (self.listings(("graph",), given=FAULTS), b"there is no trace of a block"),
+                (trace[:-3], b"line "), (trace.replace(b"issue 0", b"issue 5"), b"no operation before sends what arrives: ")):
+            status, out, err = self.call("charts/page", given=given)
+            self.expect(said, (status, out, err.startswith(b"charts/page: " + said)), (1, b"", True))
+        explained = self.listings(("explain", "--load", "9"), given=self.read(f"{CLASS}/task.iloc"))
+        self.open(whole + explained)
+        self.expect("chain", self.value("document.querySelectorAll('[stroke=\"#e5484d\"]').length"), 0)
+
+    def test_large(self):
+        """Ten thousand operations: the graph isn't drawn, and the page steps."""
+        text = b"".join(b"load r%d => r%d\n" % (k % 50, k % 50 + 1) for k in range(10_000))
+        self.open(self.block(text))
+        self.expect("graph", "Its graph isn't drawn: it has more than 60 operations." in self.texts(".panels > p"), True)
+        self.value("location.hash = '#1.4000'")
+        self.value("new Promise(done => setTimeout(done, 50))")
+        self.expect("cycle", self.said().split(" of ")[0], "cycle 4000")
