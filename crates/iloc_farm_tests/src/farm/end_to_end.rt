@@ -3,7 +3,8 @@ use super::sample::{GIVES_7, STORES_7, TWO_OUTPUTS};
 use crate::asked::asked;
 use crate::asserted::assert_list;
 use iloc_args::Request;
-use iloc_farm::{Finding, RunFault, WriteFailed, run, run_program};
+use iloc_farm::{Finding, RunFault, WriteFailed, run, run_program, run_with_receipt};
+use iloc_text::{MAX_INPUT, ReadFault};
 use std::alloc::Global;
 use std::env::Args;
 use std::io::ErrorKind;
@@ -91,6 +92,57 @@ fn reads_no_further_than_the_end(rt: HostRuntime) -> Result<(), Fail> {
         &request,
     )?;
     assert!(rt; reader.turns == 4);
+    Ok(())
+}
+
+#[test]
+fn reads_nothing_behind_one_byte_too_many(rt: HostRuntime) -> Result<(), Fail> {
+    let input = vec![in rt.alloc(); b'\n'; MAX_INPUT + 1]?;
+    for words in [&["run"] as &[&str], &["counts", "--workers", "3"]] {
+        let request = asked(rt.alloc(), words)?;
+        let mut reader = Source {
+            end: BROKEN,
+            ..giving(&input)
+        };
+        let mut writer = taking_all(rt.alloc());
+        let found = run(
+            &rt,
+            rt.alloc(),
+            &EMPTY_SHELF,
+            &mut reader,
+            &mut writer,
+            &request,
+        );
+        assert!(rt; found == Err(RunFault::Text(ReadFault::InputTooLong)));
+        assert!(rt; reader.bytes.is_empty() && writer.taken.is_empty());
+    }
+    Ok(())
+}
+
+/// A command, and whether there is a receipt for the work of those who list its file.
+const RECEIPTS: &[(&str, bool)] = &[
+    ("run", false),
+    ("schedule", true),
+    ("counts", true),
+    ("compare", true),
+    ("explain", false),
+];
+
+#[test]
+fn has_a_receipt_where_workers_list_a_file(rt: HostRuntime) -> Result<(), Fail> {
+    for (command, wanted) in RECEIPTS {
+        let request = asked(rt.alloc(), &[command])?;
+        let mut writer = taking_all(rt.alloc());
+        let (finding, receipt) = run_with_receipt(
+            &rt,
+            rt.alloc(),
+            &EMPTY_SHELF,
+            &mut giving(STORES_7),
+            &mut writer,
+            &request,
+        )?;
+        assert!(rt; (finding, receipt.is_some()) == (Finding::Passed, *wanted));
+    }
     Ok(())
 }
 

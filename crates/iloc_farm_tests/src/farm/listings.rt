@@ -1,7 +1,8 @@
 //! Listings of what is there already: to be run with each growth refused in turn.
 use super::sample::TWO_OUTPUTS;
 use crate::asserted::assert_list;
-use iloc_farm::schedules_text;
+use iloc_farm::{counts_text, outcomes_text, schedules_text};
+use iloc_meaning::{Memory, run_block};
 use iloc_text::{IlocFile, read_file};
 use iloc_timed::{Latencies, Row, Schedule, cycles};
 use std::alloc::Global;
@@ -28,13 +29,15 @@ const APART: [Row; 5] = [
     EMPTY,
 ];
 
-/// The listing of a file of one block with its schedule.
-fn listed(alloc: Global, file: &IlocFile, schedule: &Schedule) -> Result<Vec<u8>, Fail> {
+/// The listings of a file of one block with its schedule, and with the cycles of this.
+fn listed(alloc: Global, file: &IlocFile, schedule: &Schedule) -> Result<(Vec<u8>, Vec<u8>), Fail> {
     let usual = Latencies::usual();
     if file.blocks.as_slice().len() != 1 || cycles(schedule, &usual) > 1_000 {
         return Err(Fail::from("not one small block"));
     }
-    Ok(schedules_text(alloc, file, &usual, from_ref(schedule))?)
+    let schedules = from_ref(schedule);
+    let rows = schedules_text(alloc, file, &usual, schedules)?;
+    Ok((rows, counts_text(alloc, file, &usual, schedules)?))
 }
 
 /// The schedule with these rows of a file's first block.
@@ -52,11 +55,28 @@ cycles 3
 total 3
 ";
 
+const CYCLES: &[u8] = b"block 1 - cycles 3\ntotal 3\n";
+
 #[test]
 fn lists_schedules_up_to_their_last_operation(rt: HostRuntime) -> Result<(), Fail> {
     let alloc = rt.alloc();
     let file = read_file(alloc, TWO_OUTPUTS)?;
-    let rows = listed(alloc, &file, &apart(alloc, &file)?)?;
+    let (rows, counts) = listed(alloc, &file, &apart(alloc, &file)?)?;
     assert_list(&rt, &rows, ROWS);
+    assert_list(&rt, &counts, CYCLES);
+    Ok(())
+}
+
+#[test]
+fn lists_outcomes(rt: HostRuntime) -> Result<(), Fail> {
+    let alloc = rt.alloc();
+    let file = read_file(alloc, b"output 0\nodd: output 3\n")?;
+    let mut outcomes = Vec::new(alloc);
+    for block in file.blocks.as_slice() {
+        outcomes.push(run_block(alloc, block, Memory::zero(alloc)?)?)?;
+    }
+    assert!(rt; outcomes.len() == file.blocks.as_slice().len());
+    let text = outcomes_text(alloc, &file, &outcomes)?;
+    assert_list(&rt, &text, b"block 1 -\n0\nblock 2 odd\nfault\n");
     Ok(())
 }

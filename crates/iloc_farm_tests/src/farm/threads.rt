@@ -2,8 +2,8 @@
 ghost use Rattle.std.specs.Prelude.{◌<◌, ◌≤◌};
 
 use crate::asserted::assert_list;
-use iloc_board::{FreeGate, Gate};
-use iloc_farm::schedule_all;
+use iloc_board::{FreeGate, Gate, NoDesk};
+use iloc_farm::{BlockJobs, farm_out, schedule_all, schedules_of};
 use iloc_sched::Heuristic;
 use iloc_text::laws::files_are_within_limits;
 use iloc_text::{Op, Reg, read_file};
@@ -164,6 +164,17 @@ fn workers_take_a_block_each_at_once(rt: HostRuntime) -> Result<(), Fail> {
     for workers in 2..9 {
         assert_each_takes_one(&rt, workers)?;
     }
+    Ok(())
+}
+
+#[test]
+fn blocks_are_jobs_to_be_farmed_out(rt: HostRuntime) -> Result<(), Fail> {
+    files_are_within_limits();
+    let file = read_file(rt.alloc(), &stairs(rt.alloc(), 5)?)?;
+    let jobs = BlockJobs::new(&file, &Latencies::usual(), Heuristic::Slack);
+    let desks = vec![in rt.alloc(); NoDesk; 3]?;
+    let done = farm_out(&rt, rt.alloc(), &jobs, desks, &FreeGate)?;
+    assert_stairs(&rt, &schedules_of(done), 5);
     Ok(())
 }
 
