@@ -20,11 +20,8 @@ pub mod AlikeOps
 pub mod CountsLike
 pub mod NthLike
 pub mod PairedCounts
-pub mod WrongUses
-pub mod MostMissing
 pub mod CountReasons
 pub mod AlikeCounts
-pub mod BrokenDelays
 pub mod ColourSums
 pub mod ForwardColours
 pub mod BackwardColours
@@ -37,7 +34,6 @@ pub mod NotedSlots
 pub mod SlotNumbers
 pub mod StoresUnderWay
 pub mod PairedLengths
-pub mod Decided
 pub mod FirstColours
 pub mod FewerNumbers
 pub mod PlacesKept

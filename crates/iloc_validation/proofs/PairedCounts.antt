@@ -8,12 +8,8 @@ use Rattle.iloc_ops.specs.declared.op.Op.TheVariants.{Nop}
 use Rattle.iloc_ops.specs.contracts.op.OpPartialEq.TheImpl as of_ops
 use Rattle.iloc_meaning.specs.Trace.{op_at}
 use Rattle.iloc_meaning.proofs.Cases.{by_bool}
-use Rattle.iloc_timed.specs.declared.row.Row.{Row}
-use Rattle.iloc_validation.specs.declared.lawfulness.LeftOut.{LeftOut}
-use Rattle.iloc_validation.specs.declared.lawfulness.Added.{Added}
 use Rattle.iloc_validation.specs.ByTheBook.{label, ArePaired}
-use Rattle.iloc_validation.specs.Counts.{are_alike, count_like, lacking}
-use Rattle.iloc_validation.specs.Lawfulness.{CountsDiffer}
+use Rattle.iloc_validation.specs.Counts.{are_alike, count_like}
 use Rattle.iloc_validation.proofs.CountsLike.{counts_same}
 
 abbrev itself : Bool → Bool
@@ -88,17 +84,3 @@ module _ (block ops : List Op) (origin partner : ℕ → ℕ) (paired : ArePaire
       ))
       (λ j k here there same. sym (paired.back j here) ∙ ap partner same ∙ paired.back k there) in
       omega (arith, few, few_too, counted_tests ops, counted_tests block)
-
-no_sum : (m n : ℕ) → m ≡ 0 → n ≡ 0 → 0 < m + n → ⊥
-no_sum m n none none_too some = omega arith
-
-pub none_paired : (block ops : List Op) (rows : List Row) (left_out : Option LeftOut) (added : Option Added)
-    → CountsDiffer block ops rows left_out added → (origin partner : ℕ → ℕ) → ArePaired block ops origin partner → ⊥
-none_paired block ops rows None None differ origin partner paired =
-    no_sum (lacking block ops) (lacking ops block) differ.here differ.there differ.some
-none_paired block ops rows (Some it) added differ origin partner paired =
-    let short : count_like it.op ops < count_like it.op block = differ.here.2 in
-    omega (arith, paired_counts block ops origin partner paired it.op)
-none_paired block ops rows None (Some it) differ origin partner paired =
-    let short : count_like it.issue.op block < count_like it.issue.op ops = differ.there.2 in
-    omega (arith, paired_counts block ops origin partner paired it.issue.op)

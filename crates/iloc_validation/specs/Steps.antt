@@ -9,7 +9,6 @@ pub mod Waits
 pub mod Pairing
 pub mod Sides
 pub mod Counterparts
-pub mod Broken
 pub mod Colours
 pub mod Numbers
 pub mod Stores

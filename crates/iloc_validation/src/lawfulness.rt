@@ -1,6 +1,6 @@
-//! What is found of rows that somebody made for a block.
+//! Operations in rows, and those that are left out or added.
 
-use iloc_ops::{Op, Reg};
+use iloc_ops::Op;
 
 /// An operation in a row.
 #[derive(Clone, Copy, Debug, PartialEq, Eq)]
@@ -27,38 +27,4 @@ pub struct Added {
     pub count: usize,
     /// One of which the rows have too many.
     pub issue: Issue,
-}
-
-/// Why rows aren't a schedule of a block by the book.
-#[derive(Clone, Copy, Debug, PartialEq, Eq)]
-pub enum Reason {
-    /// Without their registers, the operations of the rows aren't those of the block: some are left out, or added, or
-    /// both.
-    Counts {
-        left_out: Option<LeftOut>,
-        added: Option<Added>,
-    },
-    /// An operation is issued `by` cycles before the one that it has to wait for lets it.
-    Early {
-        by: usize,
-        issue: Issue,
-        needed: Issue,
-    },
-    /// An operation reads in a register the result of one operation in place of another's; `None` where no result has
-    /// arrived, or where it has to read the register as it was at the start.
-    Reads {
-        register: Reg,
-        issue: Issue,
-        from: Option<Issue>,
-        wanted: Option<Issue>,
-    },
-}
-
-/// What is found of rows that somebody made for a block.
-#[derive(Clone, Copy, Debug, PartialEq, Eq)]
-pub enum Lawfulness {
-    /// They are a schedule of the block by the book.
-    Lawful,
-    /// They aren't known to be, for this reason.
-    Unlawful(Reason),
 }

@@ -1,16 +1,13 @@
 //! Rows by the book in a block's own numbers.
-ghost use Rattle.std.specs.Prelude.{◌≡◌, map, option_map, slice_index, IfOk, MatchResult};
+ghost use Rattle.std.specs.Prelude.{◌≡◌, map, option_map, slice_index, IfOk};
 ghost use Rattle.iloc_meaning.specs.Trace.{op_at};
 ghost use Rattle.iloc_timed.specs.declared.latencies.Latencies.{Latencies as Table};
 ghost use Rattle.iloc_sched.specs.Renaming.{renamed, without_nops};
 ghost use Rattle.iloc_validation.specs.Decision.{IsScheduleBy};
-ghost use Rattle.iloc_validation.specs.Lawfulness.{IsReason};
 ghost use Rattle.iloc_validation.specs.OwnRows.{renumber, AreOwnRows};
 
-use crate::lawfulness::Reason;
 use crate::pairing::Pairing;
 use crate::reading::sources::at;
-use crate::validation::paired;
 use iloc_ops::{Block, NoMemory, Op};
 use iloc_timed::{Latencies, Row, Schedule};
 use std::alloc::Global;
@@ -83,29 +80,4 @@ pub fn own_rows(
         schedule: Schedule::of_table(ops, rows),
         issued,
     })
-}
-
-/// The same of rows for which a pairing is looked for, or why they aren't known to be a schedule of the block by the book
-/// (`validate`).
-///
-/// Promise: at `Ok` the rows are by the book; the block's operations stand, renamed, in the slots of those that are issued for
-/// them. Else the reason is true.
-pub fn own_rows_or_reason(
-    alloc: Global,
-    block: &Block,
-    schedule: &Schedule,
-    names: &[Op],
-    latencies: &Latencies,
-) -> Result<Result<OwnRows, Reason>, NoMemory>
-    requires { names.now ≡ renamed block.now.ops }
-    ensures { IfOk result (λ found. MatchResult found
-        (λ own. AreOwnRows latencies.now block.now.ops schedule.now.ops schedule.now.rows own.schedule own.issued.items)
-        (IsReason latencies.now (without_nops block.now.ops) schedule.now.ops schedule.now.rows)) }
-{
-    let pairing = match paired(alloc, block, schedule, latencies)? {
-        Ok(pairing) => pairing,
-        Err(reason) => return Ok(Err(reason)),
-    };
-    let own = own_rows(alloc, block, schedule, names, &pairing)?;
-    Ok(Ok(own))
 }

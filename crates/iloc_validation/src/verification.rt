@@ -1,11 +1,10 @@
 //! Whether rows are a schedule of a block under a pairing of their operations.
-ghost use Rattle.std.specs.Prelude.{◌≡◌, ◌<◌, ◌↔◌, true, length, slice_index, IsTrue, IfOk};
-ghost use Rattle.iloc_validation.specs.ByTheBook.{ArePaired, IsScheduleUnder};
+ghost use Rattle.std.specs.Prelude.{◌≡◌, ◌<◌, ◌↔◌, length, slice_index, IsTrue, IfOk};
+ghost use Rattle.iloc_validation.specs.ByTheBook.{IsScheduleUnder};
 ghost use Rattle.iloc_validation.specs.Steps.Pairing.{LeadsBack};
 ghost use Rattle.iloc_validation.specs.Steps.Sides.{AreSides, IsKept};
 
 use crate::label::have_one_label;
-use crate::lawfulness::Issue;
 use crate::pairing::Pairing;
 use crate::reading::Reading;
 use crate::reading::sources::{Sources, are_same};
@@ -25,36 +24,6 @@ pub(crate) struct Sides<'a> {
     pub readings: &'a [Reading],
 }
 
-impl Sides<'_> {
-    ghost use Rattle.std.specs.Prelude.{◌≡◌, ◌<◌, length, IfSome, option_map};
-    ghost use Rattle.iloc_validation.specs.Lawfulness.{issue_of};
-    ghost use Rattle.iloc_validation.specs.Steps.Sides.{HaveCycles};
-
-    /// Operation k of the rows, with its cycle.
-    pub(crate) fn issue(&self, k: usize) -> Issue
-        requires cycles { HaveCycles self.now.schedule.now self.now.readings.now }
-        requires within { k < length self.now.schedule.now.ops }
-        ensures { result ≡ issue_of self.now.schedule.now.ops self.now.schedule.now.rows k }
-    {
-        Issue {
-            cycle: self.readings[k].cycle,
-            op: self.schedule.ops()[k],
-        }
-    }
-
-    /// The same, if there is an operation.
-    pub(crate) fn issue_of(&self, k: Option<usize>) -> Option<Issue>
-        requires cycles { HaveCycles self.now.schedule.now self.now.readings.now }
-        requires within { IfSome k (λ k. k < length self.now.schedule.now.ops) }
-        ensures { result ≡ option_map (issue_of self.now.schedule.now.ops self.now.schedule.now.rows) k }
-    {
-        match k {
-            Some(k) => Some(self.issue(k)),
-            None => None,
-        }
-    }
-}
-
 /// Whether operation k of the rows has the label of the one that it is paired with, reads what that one reads, and waits
 /// for what memory and outputs make it wait for.
 fn is_kept(sides: &Sides, pairing: &Pairing, waits: &[usize], k: usize) -> bool
@@ -72,25 +41,6 @@ fn is_kept(sides: &Sides, pairing: &Pairing, waits: &[usize], k: usize) -> bool
     have_one_label(&sides.schedule.ops()[k], &sides.block[i])
         && are_same(reading.sources.by_numbers(&pairing.origin), sides.givens[i])
         && waits[i] <= reading.cycle
-}
-
-/// Whether a pairing is one to one and by label.
-pub(crate) fn pairs_by_label(sides: &Sides, pairing: &Pairing) -> bool
-    requires origins { length pairing.now.origin.items ≡ length sides.now.schedule.now.ops }
-    requires partners { length pairing.now.partner.items ≡ length sides.now.block.now }
-    ensures { result ≡ true → ArePaired sides.now.block.now sides.now.schedule.now.ops
-        (slice_index pairing.now.origin.items) (slice_index pairing.now.partner.items) }
-{
-    if !pairing.is_one_to_one() {
-        return false;
-    }
-    let ops = sides.schedule.ops();
-    for (k, i) in pairing.origin.iter().enumerate() {
-        if !have_one_label(&ops[k], &sides.block[*i]) {
-            return false;
-        }
-    }
-    true
 }
 
 /// Whether rows are a schedule of a block by the book under this pairing.

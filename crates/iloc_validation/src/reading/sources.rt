@@ -31,7 +31,6 @@ pub enum Sources {
 }
 
 impl Sources {
-    ghost use Rattle.iloc_validation.specs.Steps.Broken.{source_at};
     ghost use Rattle.iloc_validation.specs.Steps.Sources.{by_numbers};
 
     /// They, at the places of two.
@@ -40,18 +39,6 @@ impl Sources {
             Sources::Nothing => [None, None],
             Sources::One(only) => [only, None],
             Sources::Two(left, right) => [left, right],
-        }
-    }
-
-    /// What is read at a place, left to right; `None` also where there is no use.
-    pub(crate) fn at(self, place: usize) -> Option<usize>
-        ensures { result ≡ source_at self place }
-    {
-        match (self, place) {
-            (Sources::One(only), 0) => only,
-            (Sources::Two(left, _), 0) => left,
-            (Sources::Two(_, right), 1) => right,
-            _ => None,
         }
     }
 

@@ -1,7 +1,0 @@
-use Rattle.std.proofs.Common.{◌<◌, ℕ}
-use Rattle.iloc_validation.specs.Steps.Sides.{IsKept}
-use Rattle.iloc_validation.proofs.reasons.broken.first_broken.Given as goal
-
-abbrev pub invariant-loop-k : goal.invariant-loop-k
-invariant-loop-k l = (j : ℕ) → j < l.k → IsKept l.sides.block.now l.sides.givens.now l.sides.schedule.now.ops
-    l.sides.readings.now l.waits.items l.pairing.origin.items j
