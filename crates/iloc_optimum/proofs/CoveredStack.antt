@@ -1,0 +1,85 @@
+-- The stack of windows covers what is within the first ones.
+use Rattle.std.proofs.Common.{◌≡◌, ℕ, ◌+◌, ◌<◌, ◌≤◌, List, [], ◌∷◌, ◌++◌, length, get_or, set, ◌⊎◌, inl, inr, Bool, true, false, not, refl, arith}
+use Rattle.std.proofs.lemmas.Bool.{cases_lt}
+use Rattle.std.specs.Prelude.{IsTrue}
+use Rattle.iloc_timed.specs.declared.kind.Kind.{Kind}
+use Rattle.iloc_sched.specs.declared.edges.Edge.{Edge}
+use Rattle.iloc_optimum.specs.declared.windows.Windows.{Windows}
+use Rattle.iloc_optimum.specs.Timing.{Within, IsTiming, AreSized}
+use Rattle.iloc_optimum.specs.Steps.Covered.{InOne, EachSized, IsCovered}
+use Rattle.iloc_optimum.proofs.NarrowerWindows.{raised, lowered}
+
+abbrev pub Keeps : Windows → (ℕ → ℕ) → Type 0
+Keeps w t = Within w.firsts.items w.lasts.items t
+
+-- issued by the first cycle, or after it
+pub split_keeps : (F L : List ℕ) (t : ℕ → ℕ) (i at next : ℕ) → i < length F → i < length L → at ≡ get_or F i 0 → next ≤ at + 1
+    → Within F L t → Within F (set L i at) t ⊎ Within (set F i next) L t
+split_keeps F L t i at next firsts lasts is most w = elim (cases_lt at (t i)) [
+  | inl later ↦ inr (raised F L t i next firsts (omega arith) w)
+  | inr now ↦ inl (lowered F L t i at lasts (omega arith) w)
+]
+
+one_of_front : (ws : List Windows) (w : Windows) (t : ℕ → ℕ) → InOne (ws ++ w ∷ []) t → InOne ws t ⊎ Keeps w t
+one_of_front [] w t (inl here) = inr here
+one_of_front [] w t (inr there) = absurd there
+one_of_front (v ∷ ws) w t (inl here) = inl (inl here)
+one_of_front (v ∷ ws) w t (inr there) = elim (one_of_front ws w t there) [ inl a ↦ inl (inr a) | inr b ↦ inr b ]
+
+in_front : (ws : List Windows) (w : Windows) (t : ℕ → ℕ) → InOne ws t → InOne (ws ++ w ∷ []) t
+in_front [] w t there = absurd there
+in_front (v ∷ ws) w t (inl here) = inl here
+in_front (v ∷ ws) w t (inr there) = inr (in_front ws w t there)
+
+in_last : (ws : List Windows) (w : Windows) (t : ℕ → ℕ) → Keeps w t → InOne (ws ++ w ∷ []) t
+in_last [] w t here = inl here
+in_last (v ∷ ws) w t here = inr (in_last ws w t here)
+
+sized_front : (kinds : List Kind) (ws : List Windows) (w : Windows) → EachSized kinds (ws ++ w ∷ []) → EachSized kinds ws
+sized_front kinds [] w all = tt
+sized_front kinds (v ∷ ws) w all = (all.0, sized_front kinds ws w all.1)
+
+pub sized_last : (kinds : List Kind) (ws : List Windows) (w : Windows) → EachSized kinds (ws ++ w ∷ []) → AreSized kinds w
+sized_last kinds [] w all = all.0
+sized_last kinds (v ∷ ws) w all = sized_last kinds ws w all.1
+
+sized_more : (kinds : List Kind) (ws : List Windows) (w : Windows) → EachSized kinds ws → AreSized kinds w
+    → EachSized kinds (ws ++ w ∷ [])
+sized_more kinds [] w all one = (one, tt)
+sized_more kinds (v ∷ ws) w all one = (all.0, sized_more kinds ws w all.1 one)
+
+-- the last windows are let go where no schedule is within them
+pub covered_without : (edges : List Edge) (kinds : List Kind) (root : Windows) (ws : List Windows) (w : Windows)
+    → ((t : ℕ → ℕ) → IsTiming edges kinds t → Keeps w t → ⊥) → IsCovered edges kinds root (ws ++ w ∷ [])
+    → IsCovered edges kinds root ws
+covered_without edges kinds root ws w none covered = record {
+  sized = sized_front kinds ws w covered.sized;
+  all = λ t timing within. elim (one_of_front ws w t (covered.all t timing within)) [
+    | inl there ↦ there
+    | inr last ↦ absurd (none t timing last)
+  ];
+}
+
+-- and two take their place where every schedule within them is within one of the two
+pub covered_by : (edges : List Edge) (kinds : List Kind) (root : Windows) (ws : List Windows) (w late early : Windows)
+    → ((t : ℕ → ℕ) → IsTiming edges kinds t → Keeps w t → Keeps early t ⊎ Keeps late t)
+    → AreSized kinds late → AreSized kinds early → IsCovered edges kinds root (ws ++ w ∷ [])
+    → IsCovered edges kinds root ((ws ++ late ∷ []) ++ early ∷ [])
+covered_by edges kinds root ws w late early two late_sized early_sized covered = record {
+  sized = sized_more kinds (ws ++ late ∷ []) early (sized_more kinds ws late (sized_front kinds ws w covered.sized) late_sized) early_sized;
+  all = λ t timing within. elim (one_of_front ws w t (covered.all t timing within)) [
+    | inl there ↦ in_front (ws ++ late ∷ []) early t (in_front ws late t there)
+    | inr last ↦ elim (two t timing last) [
+      | inl now ↦ in_last (ws ++ late ∷ []) early t now
+      | inr later ↦ in_front (ws ++ late ∷ []) early t (in_last ws late t later)
+    ]
+  ];
+}
+
+pub not_false : (b : Bool) → IsTrue b → b ≡ false → ⊥
+not_false true h e = cc
+not_false false h e = cc
+
+pub none_true : (b : Bool) → (IsTrue b → ⊥) → IsTrue (not b)
+none_true true h = absurd (h refl)
+none_true false h = refl

@@ -1,0 +1,138 @@
+-- The best schedule and the bound while they are improved: `Optimizer::optimize`.
+use Rattle.std.proofs.Common.{◌≡◌, ◌∙◌, ℕ, ◌+◌, ◌≤◌, List, length, map, sym, ap, ap₂, subst, ◌⊎◌, inl, inr, arith}
+use Rattle.iloc_ops.specs.declared.op.Op.{Op}
+use Rattle.iloc_meaning.specs.Trace.{op_at}
+use Rattle.iloc_timed.specs.declared.kind.Kind.{Kind}
+use Rattle.iloc_timed.specs.declared.latencies.Latencies.{Latencies}
+use Rattle.iloc_timed.specs.declared.row.Row.{Row}
+use Rattle.iloc_timed.specs.Cycles.{cycles}
+use Rattle.iloc_timed.specs.Kinds.{kind}
+use Rattle.iloc_timed.specs.Latency.{latency}
+use Rattle.iloc_timed.specs.Rows.{issue_cycle}
+use Rattle.iloc_timed.specs.Schedule.{Table}
+use Rattle.iloc_timed.proofs.WholeRuns.{short_latency}
+use Rattle.std.specs.List.{range_with_len}
+use Rattle.iloc_sched.specs.declared.cycle.calendar.TheConstants.{LONGEST_DELAY}
+use Rattle.iloc_sched.specs.declared.edges.Edge.{Edge}
+use Rattle.iloc_sched.specs.declared.ranking.heuristic.Heuristic.{Heuristic}
+use Rattle.iloc_sched.specs.declared.ranking.heuristic.Heuristic.TheVariants.{Chain, Slack, Descendants, Successors, Latency, Order}
+use Rattle.iloc_sched.specs.Heuristics.{priorities_by}
+use Rattle.iloc_sched.specs.Lawful.{IsLawful}
+use Rattle.iloc_sched.specs.Least.{least}
+use Rattle.iloc_sched.specs.Renaming.{renamed}
+use Rattle.iloc_sched.specs.Scheduled.{IsTheSchedule}
+use Rattle.iloc_sched.proofs.Basics.IssueCycles.{issue_cycle_within}
+use Rattle.iloc_sched.proofs.Basics.Maxima.{fold_max_reached}
+use Rattle.iloc_sched.proofs.Basics.Members.{from_map}
+use Rattle.iloc_sched.proofs.Bounds.LeastBound.{least_bound}
+use Rattle.iloc_sched.proofs.Outcome.LawfulOutcomes.{lawful_same_outcome}
+use Rattle.iloc_optimum.specs.declared.optimizer.Optimum.{Optimum}
+use Rattle.iloc_optimum.specs.declared.windows.Windows.{Windows}
+use Rattle.iloc_optimum.specs.Bound.{IsBound}
+use Rattle.iloc_optimum.specs.Laws.{AreDelayPairs, AreLeft}
+use Rattle.iloc_optimum.specs.Timing.{HasNone}
+use Rattle.iloc_optimum.proofs.LawfulTimings.{bound_raised}
+use Rattle.iloc_optimum.specs.Optimum.{cycles_of, IsAsShortAs, IsOptimumOf}
+use Rattle.iloc_optimum.specs.Steps.Improving.{IsShortened}
+
+-- any schedule ends within the longest latency after its rows
+pub cycles_within : (lat : Latencies) (ops : List Op) (rows : List Row) → cycles lat ops rows ≤ length rows + LONGEST_DELAY
+cycles_within lat ops rows = elim (fold_max_reached 0 (map ends (range_with_len 0 (length ops)))) [
+  | inl none ↦ let is : cycles lat ops rows ≡ 0 = none in omega arith
+  | inr there ↦
+      let found = from_map ends (range_with_len 0 (length ops)) (cycles lat ops rows) there in
+      let is : ends found.0 ≡ cycles lat ops rows = found.2 in
+      let issued : issue_cycle rows found.0 ≤ length rows = issue_cycle_within rows found.0 in
+      let short : latency lat (op_at ops found.0) ≤ LONGEST_DELAY = short_latency lat (kind (op_at ops found.0)) in
+      omega arith
+]
+  where
+    ends : ℕ → ℕ
+    ends i = issue_cycle rows i + latency lat (op_at ops i)
+
+-- the greedy schedule by a heuristic is as short as any
+as_short : (lat : Latencies) (block : List Op) (h : Heuristic) (s other : Table)
+    → IsTheSchedule (priorities_by h lat) lat block other → cycles_of lat s ≤ cycles_of lat other
+    → IsAsShortAs h lat block s
+as_short lat block h s other the few t greedy =
+    let same : (t.ops ≡ other.ops) × (t.rows ≡ other.rows) = the.only t.ops t.rows greedy in
+    let count : cycles_of lat t ≡ cycles_of lat other = ap₂ (λ os rs. cycles lat os rs) same.0 same.1 in
+    omega arith
+
+pub one_lawful : (lat : Latencies) (block : List Op) (old new other : Table) → IsLawful lat block other.ops other.rows
+    → (new ≡ old) ⊎ (new ≡ other) → IsLawful lat block old.ops old.rows → IsLawful lat block new.ops new.rows
+one_lawful lat block old new other lawful one was = elim one [
+  | inl same ↦ subst (λ (s : Table). IsLawful lat block s.ops s.rows) (sym same) was
+  | inr same ↦ subst (λ (s : Table). IsLawful lat block s.ops s.rows) (sym same) lawful
+]
+
+pub shortened : (lat : Latencies) (block : List Op) (h : Heuristic) (old new other : Table)
+    → IsTheSchedule (priorities_by h lat) lat block other → (new ≡ old) ⊎ (new ≡ other)
+    → cycles_of lat new ≤ cycles_of lat old → cycles_of lat new ≤ cycles_of lat other → IsShortened lat block h old new
+shortened lat block h old new other the one fewer few = record {
+  lawful = one_lawful lat block old new other the.greedy.lawful one;
+  fewer = fewer;
+  order = as_short lat block h new other the few;
+}
+
+pub best_of : (lat : Latencies) (block : List Op) (a b c d e f : Table) (bound : ℕ)
+    → IsTheSchedule (priorities_by Chain lat) lat block a
+    → IsShortened lat block Slack a b → IsShortened lat block Descendants b c → IsShortened lat block Successors c d
+    → IsShortened lat block Latency d e → IsShortened lat block Order e f → bound ≡ least lat block
+    → IsOptimumOf lat block (record { schedule = f; bound = bound })
+best_of lat block a b c d e f bound the slack descendants successors own order is =
+    let lawful : IsLawful lat block f.ops f.rows =
+    order.lawful (own.lawful (successors.lawful (descendants.lawful (slack.lawful the.greedy.lawful)))) in
+    record {
+      lawful = lawful;
+      outcome = λ memory. lawful_same_outcome lat block f.ops f.rows memory lawful;
+      orders = each;
+      bound = λ ops rows other. let low = least_bound lat block ops rows other in omega arith;
+      least = omega arith;
+    }
+  where
+    each : (h : Heuristic) → IsAsShortAs h lat block f
+    each Chain t greedy = let first = as_short lat block Chain a a the (omega arith) t greedy in
+        let one = slack.fewer in let two = descendants.fewer in let three = successors.fewer in let four = own.fewer in
+        let five = order.fewer in omega arith
+    each Slack t greedy = let first = slack.order t greedy in
+        let two = descendants.fewer in let three = successors.fewer in let four = own.fewer in
+        let five = order.fewer in omega arith
+    each Descendants t greedy = let first = descendants.order t greedy in
+        let three = successors.fewer in let four = own.fewer in let five = order.fewer in omega arith
+    each Successors t greedy = let first = successors.order t greedy in
+        let four = own.fewer in let five = order.fewer in omega arith
+    each Latency t greedy = let first = own.order t greedy in let five = order.fewer in omega arith
+    each Order t greedy = order.order t greedy
+
+-- where a search within the windows of a graph's operations found nothing
+pub refuted : (lat : Latencies) (block names : List Op) (limit : ℕ) (edges : List Edge) (kinds : List Kind) (w : Windows)
+    → names ≡ renamed block → kinds ≡ map kind names → AreDelayPairs lat names edges → AreLeft lat names limit w
+    → HasNone edges kinds w → IsBound lat block (limit + 1)
+refuted lat block names limit edges kinds w named kinds_are pairs left none =
+    bound_raised lat block limit edges w (subst (λ os. AreDelayPairs lat os edges) named pairs)
+    (subst (λ os. AreLeft lat os limit w) named left)
+    (subst (λ ks. HasNone edges ks w) (kinds_are ∙ ap (map kind) named) none)
+
+-- a shorter schedule
+pub with_schedule : (lat : Latencies) (block : List Op) (o : Optimum) (s : Table) → IsOptimumOf lat block o
+    → IsLawful lat block s.ops s.rows → cycles_of lat s ≤ cycles_of lat o.schedule
+    → IsOptimumOf lat block (record { schedule = s; bound = o.bound })
+with_schedule lat block o s was lawful fewer = record {
+  lawful = lawful;
+  outcome = λ memory. lawful_same_outcome lat block s.ops s.rows memory lawful;
+  orders = λ h t greedy. let short = was.orders h t greedy in omega arith;
+  bound = was.bound;
+  least = was.least;
+}
+
+-- a higher bound
+pub with_bound : (lat : Latencies) (block : List Op) (o : Optimum) (n : ℕ) → IsOptimumOf lat block o
+    → IsBound lat block n → o.bound ≤ n → IsOptimumOf lat block (record { schedule = o.schedule; bound = n })
+with_bound lat block o n was bound more = record {
+  lawful = was.lawful;
+  outcome = was.outcome;
+  orders = was.orders;
+  bound = bound;
+  least = (let low = was.least in omega arith);
+}

@@ -1,0 +1,6 @@
+mod NarrowerWindows
+mod FullCycles
+mod TakenCycles
+mod CoveredStack
+mod LawfulTimings
+mod Improvements

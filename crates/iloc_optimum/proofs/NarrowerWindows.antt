@@ -1,0 +1,52 @@
+-- A narrower window, where no operation is issued outside it.
+use Rattle.std.proofs.Common.{◌≡◌, ◌≢◌, ℕ, ◌+◌, ◌≤◌, ◌<◌, List, length, get_or, set, get_or-set_other, get_or-set_same, sym, subst, inl, inr, arith}
+use Rattle.std.specs.Prelude.{slice_index_or}
+use Rattle.std.proofs.lemmas.List.{length-set}
+use Rattle.std.proofs.lemmas.List.Elements.{All-get_or}
+use Rattle.std.proofs.lemmas.Bool.{cases_lt}
+use Rattle.iloc_sched.specs.declared.edges.Edge.{Edge}
+use Rattle.iloc_sched.specs.Steps.Views.{no_edge}
+use Rattle.iloc_optimum.specs.Timing.{Within, WaitsFor, LeadsBetween}
+
+pub raised : (firsts lasts : List ℕ) (t : ℕ → ℕ) (k v : ℕ) → k < length firsts → v ≤ t k → Within firsts lasts t
+    → Within (set firsts k v) lasts t
+raised firsts lasts t k v there low w = record {
+  from = λ i below. let under : i < length firsts = omega (arith, length-set firsts k v) in
+      elim (cases_lt i k) [
+        | inl less ↦ (let ne : i ≢ k = omega arith in rw get_or-set_other (w.from i under))
+        | inr more ↦ elim (cases_lt k i) [
+          | inl less ↦ (let ne : i ≢ k = omega arith in rw get_or-set_other (w.from i under))
+          | inr same ↦ (let e : i ≡ k = omega arith in
+              subst (λ j. get_or (set firsts k v) j 0 ≤ t j) (sym e) (rw get_or-set_same low))
+        ]
+      ];
+  to = w.to;
+}
+
+pub lowered : (firsts lasts : List ℕ) (t : ℕ → ℕ) (k v : ℕ) → k < length lasts → t k ≤ v → Within firsts lasts t
+    → Within firsts (set lasts k v) t
+lowered firsts lasts t k v there low w = record {
+  from = w.from;
+  to = λ i below. let under : i < length lasts = omega (arith, length-set lasts k v) in
+      elim (cases_lt i k) [
+        | inl less ↦ (let ne : i ≢ k = omega arith in rw get_or-set_other (w.to i under))
+        | inr more ↦ elim (cases_lt k i) [
+          | inl less ↦ (let ne : i ≢ k = omega arith in rw get_or-set_other (w.to i under))
+          | inr same ↦ (let e : i ≡ k = omega arith in
+              subst (λ j. t j ≤ get_or (set lasts k v) j 0) (sym e) (rw get_or-set_same low))
+        ]
+      ];
+}
+
+abbrev pub edge_at : List Edge → ℕ → Edge
+edge_at edges x = slice_index_or edges x no_edge
+
+pub waits_at : (edges : List Edge) (t : ℕ → ℕ) (x : ℕ) → x < length edges → WaitsFor edges t
+    → t (edge_at edges x).from + (edge_at edges x).delay ≤ t (edge_at edges x).to
+waits_at edges t x within waits =
+    All-get_or (λ (e : Edge). t e.from + e.delay ≤ t e.to) edges x no_edge within waits
+
+pub ends_at : (count : ℕ) (edges : List Edge) (x : ℕ) → x < length edges → LeadsBetween count edges
+    → ((edge_at edges x).from < count) × ((edge_at edges x).to < count)
+ends_at count edges x within there =
+    All-get_or (λ (e : Edge). (e.from < count) × (e.to < count)) edges x no_edge within there

@@ -1,0 +1,9 @@
+use Rattle.iloc_optimum.proofs.Improvements.{best_of}
+use Rattle.iloc_optimum.proofs.optimizer.best_of_orders.Goals as goal
+
+pub returns : goal.returns
+returns c =
+    best_of c.args.latencies.now c.args.block.now.ops c.in_ok-best.best c.try_order.new.best c.try_order-2.new.best
+    c.try_order-3.new.best c.try_order-4.new.best c.try_order-5.new.best c.in_ok-best.least c.in_ok-best.ensures.schedule
+    c.in_ok-try_order.ensures c.in_ok-try_order-2.ensures c.in_ok-try_order-3.ensures c.in_ok-try_order-4.ensures
+    c.in_ok-try_order-5.ensures c.in_ok-best.ensures.least

@@ -1,0 +1,7 @@
+use Rattle.std.proofs.Common.{◌≡◌, ℕ, length, List}
+use Rattle.iloc_optimum.specs.Timing.{Within, WaitsFor}
+use Rattle.iloc_optimum.proofs.waits.lower_lasts.Given as goal
+
+abbrev pub invariant-loop-x : goal.invariant-loop-x
+invariant-loop-x l = (length l.lasts.items ≡ length l.initial.lasts.items)
+    × ((firsts : List ℕ) (t : ℕ → ℕ) → WaitsFor l.edges t → Within firsts l.initial.lasts.items t → Within firsts l.lasts.items t)

@@ -1,0 +1,7 @@
+pub mod Bound
+pub mod Shares
+pub mod Timing
+pub mod Found
+pub mod Optimum
+pub mod Laws
+pub mod Steps

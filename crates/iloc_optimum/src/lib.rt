@@ -1,0 +1,21 @@
+//! The shortest schedule that is found for a block, and a bound that none is below, by branch and bound over time windows.
+//!
+//! A search narrows for each operation the window of cycles in which it can be issued, and splits a window where nothing more
+//! follows. Where no window is left, no lawful schedule is as short as was tried.
+#![tactic(auto)]
+
+mod choice;
+mod crowds;
+pub mod laws;
+mod narrowing;
+mod optimizer;
+mod proposal;
+mod search;
+mod share;
+mod waits;
+mod windows;
+
+pub use optimizer::{MOST_NODES, MOST_SEARCHED, Optimizer, Optimum};
+pub use search::{Found, search_windows};
+pub use share::Share;
+pub use windows::Windows;

@@ -1,0 +1,239 @@
+//! The best schedule of a block.
+ghost use Rattle.std.specs.Prelude.{◌≡◌, ◌≤◌, ◌<◌, ◌+◌, ◌-◌, ◌^◌, ◌⊎◌, length, map, replicate, IfOk, OnOk};
+ghost use Rattle.iloc_sched.specs.Least.{tails};
+ghost use Rattle.iloc_sched.specs.Renaming.{renamed};
+ghost use Rattle.iloc_optimum.specs.Optimum.{IsOptimumOf, cycles_of};
+ghost use Rattle.iloc_optimum.specs.Steps.Improving.{IsShortened};
+
+use crate::search::{Found, search_windows};
+use crate::windows::Windows;
+use iloc_ops::{Block, MAX_OPS, NoMemory};
+use iloc_sched::{Graph, Heuristic, Scheduler};
+use iloc_timed::{Latencies, MAX_ROWS, Schedule, cycles};
+use std::alloc::Global;
+use std::mem;
+
+/// Blocks with more operations aren't searched: a node of 500 operations takes a millisecond.
+pub const MOST_SEARCHED: usize = 300;
+
+/// More nodes count as so many, with which a search takes at most some 250 MB.
+pub const MOST_NODES: u32 = 100_000;
+
+/// The best schedule that was found for a block.
+#[derive(Debug, Drop)]
+pub struct Optimum {
+    pub schedule: Schedule,
+    /// No lawful schedule of the block takes fewer cycles.
+    pub bound: u64,
+}
+
+/// How many cycles a schedule takes, which 32 bits hold.
+fn count_of(schedule: &Schedule, latencies: &Latencies) -> u64
+    ensures value { result ≡ cycles_of latencies.now schedule.now }
+    ensures small { result < 2 ^ 32 }
+{
+    prove!(schedule.rows().len() <= MAX_ROWS);
+    cycles(schedule, latencies)
+}
+
+/// Puts the other schedule in the place of the best one if it takes fewer cycles. The scheduler takes back the buffers of the
+/// one that is left over.
+fn keep_shorter(
+    scheduler: &mut Scheduler,
+    latencies: &Latencies,
+    best: &mut Schedule,
+    mut other: Schedule,
+)
+    ensures one { (best.new ≡ best.old) ⊎ (best.new ≡ other) }
+    ensures fewer { cycles_of latencies.now best.new ≤ cycles_of latencies.now best.old }
+    ensures few { cycles_of latencies.now best.new ≤ cycles_of latencies.now other }
+{
+    if count_of(&other, latencies) < count_of(best, latencies) {
+        mem::swap(best, &mut other);
+    }
+    scheduler.take_back(other);
+}
+
+/// Puts the schedule that is greedy by a heuristic in the place of the best one if it takes fewer cycles.
+fn try_order(
+    scheduler: &mut Scheduler,
+    block: &Block,
+    latencies: &Latencies,
+    best: &mut Schedule,
+    heuristic: Heuristic,
+) -> Result<(), NoMemory>
+    requires { length block.now.ops ≤ MAX_OPS }
+    ensures { OnOk result (IsShortened latencies.now block.now.ops heuristic best.old best.new) }
+{
+    let other = scheduler.lend_as(block, latencies, heuristic)?;
+    keep_shorter(scheduler, latencies, best, other);
+    Ok(())
+}
+
+/// The shortest of the schedules that are greedy by a heuristic, with `least` for the bound.
+fn best_of_orders(
+    scheduler: &mut Scheduler,
+    block: &Block,
+    latencies: &Latencies,
+) -> Result<Optimum, NoMemory>
+    requires { length block.now.ops ≤ MAX_OPS }
+    ensures { IfOk result (IsOptimumOf latencies.now block.now.ops) }
+{
+    let (mut best, least) = scheduler.lend_with_least(block, latencies, Heuristic::Chain)?;
+    try_order(scheduler, block, latencies, &mut best, Heuristic::Slack)?;
+    try_order(
+        scheduler,
+        block,
+        latencies,
+        &mut best,
+        Heuristic::Descendants,
+    )?;
+    try_order(
+        scheduler,
+        block,
+        latencies,
+        &mut best,
+        Heuristic::Successors,
+    )?;
+    try_order(scheduler, block, latencies, &mut best, Heuristic::Latency)?;
+    try_order(scheduler, block, latencies, &mut best, Heuristic::Order)?;
+    Ok(Optimum {
+        schedule: best,
+        bound: least,
+    })
+}
+
+/// What each number leaves of the limit.
+fn rests_of(alloc: Global, numbers: &[u32], limit: u32) -> Result<Vec<u32>, NoMemory>
+    ensures { IfOk result (λ rests. rests.items ≡ map (λ n. limit - n) numbers.now) }
+{
+    let mut rests = Vec::new(alloc);
+    for number in numbers {
+        rests.push(limit.saturating_sub(*number))?;
+    }
+    Ok(rests)
+}
+
+/// The windows that so many cycles leave of a graph's operations.
+fn windows_within(alloc: Global, graph: &Graph, limit: u32) -> Result<Windows, NoMemory>
+    ensures firsts { IfOk result (λ w. w.firsts.items ≡ replicate (length graph.now.ops) 0) }
+    ensures lasts { IfOk result (λ w.
+        w.lasts.items ≡ map (λ tail. limit - tail) (tails graph.now.latencies graph.now.ops)) }
+{
+    let mut firsts = Vec::new(alloc);
+    firsts.resize(graph.ops().len(), 0)?;
+    let mut tails = Vec::new(alloc);
+    graph.tails(&mut tails)?;
+    let lasts = rests_of(alloc, &tails, limit)?;
+    Ok(Windows { firsts, lasts })
+}
+
+/// Finds the best schedules of blocks, one after another.
+#[derive(Drop)]
+pub struct Optimizer {
+    alloc: Global,
+    scheduler: Scheduler,
+}
+
+impl Optimizer {
+    /// An optimizer that has no memory yet.
+    pub fn new(alloc: Global) -> Optimizer {
+        Optimizer {
+            alloc,
+            scheduler: Scheduler::new(alloc),
+        }
+    }
+
+    /// The best schedule that is found for a block, and a bound on the cycles of its lawful schedules: the shortest of the
+    /// greedy schedules by each heuristic, or one that a search finds with so many nodes, at most `MOST_NODES`, for each
+    /// number of cycles that is tried. A block of more than `MOST_SEARCHED` operations isn't searched. After a refusal the
+    /// next block is scheduled as after any other.
+    ///
+    /// Promise: The schedule is lawful, with the block's outcome on every memory, and takes at most as many cycles as each
+    /// greedy one. No lawful schedule takes fewer cycles than the bound, which is at least that of `iloc_sched::least`.
+    pub fn optimize(
+        &mut self,
+        block: &Block,
+        latencies: &Latencies,
+        nodes: u32,
+    ) -> Result<Optimum, NoMemory>
+        requires { length block.now.ops ≤ MAX_OPS }
+        ensures { IfOk result (IsOptimumOf latencies.now block.now.ops) }
+    {
+        let mut optimum = best_of_orders(&mut self.scheduler, block, latencies)?;
+        if block.ops.len() <= MOST_SEARCHED {
+            self.search_upwards(block, latencies, &mut optimum, nodes.min(MOST_NODES))?;
+        }
+        Ok(optimum)
+    }
+
+    /// Takes back the buffers of a schedule, for the next block.
+    pub fn take_back(&mut self, schedule: Schedule) {
+        self.scheduler.take_back(schedule);
+    }
+
+    /// Improves what is known of a block by a search for each number of cycles from the bound up, until cycles of issue are
+    /// found or the best schedule's are reached.
+    fn search_upwards(
+        &mut self,
+        block: &Block,
+        latencies: &Latencies,
+        optimum: &mut Optimum,
+        nodes: u32,
+    ) -> Result<(), NoMemory>
+        requires short { length block.now.ops ≤ MAX_OPS }
+        requires known { IsOptimumOf latencies.now block.now.ops optimum.old }
+        ensures { OnOk result (IsOptimumOf latencies.now block.now.ops optimum.new) }
+    {
+        let count = count_of(&optimum.schedule, latencies);
+        if optimum.bound == count {
+            return Ok(());
+        }
+        let mut graph = Graph::new(self.alloc);
+        graph.refill(block, latencies)?;
+        for limit in optimum.bound..count {
+            let is_found = self.improve(block, &graph, optimum, limit as u32, nodes)?;
+            if is_found {
+                break;
+            }
+        }
+        Ok(())
+    }
+
+    /// Improves what is known of a block by a search for a schedule of at most so many cycles, and answers whether cycles of
+    /// issue were found.
+    fn improve(
+        &mut self,
+        block: &Block,
+        graph: &Graph,
+        optimum: &mut Optimum,
+        limit: u32,
+        nodes: u32,
+    ) -> Result<bool, NoMemory>
+        requires graph { graph.now.ops ≡ renamed block.now.ops }
+        requires known { IsOptimumOf graph.now.latencies block.now.ops optimum.old }
+        requires above { optimum.old.bound ≤ limit }
+        ensures known { OnOk result (IsOptimumOf graph.now.latencies block.now.ops optimum.new) }
+        ensures above { OnOk result (optimum.new.bound ≤ limit + 1) }
+    {
+        let windows = windows_within(self.alloc, graph, limit)?;
+        match search_windows(self.alloc, graph.edges(), graph.kinds(), windows, nodes)? {
+            Found::Nothing => {
+                optimum.bound = u64::from(limit) + 1;
+                Ok(false)
+            }
+            Found::Cycles(cycles) => {
+                let ranks = rests_of(self.alloc, &cycles, limit)?;
+                let schedule = self.scheduler.lend(graph, &ranks)?;
+                keep_shorter(
+                    &mut self.scheduler,
+                    graph.latencies(),
+                    &mut optimum.schedule,
+                    schedule,
+                );
+                Ok(true)
+            }
+            Found::Unknown => Ok(false),
+        }
+    }
+}
