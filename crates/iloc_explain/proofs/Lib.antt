@@ -9,7 +9,6 @@ pub mod Stretches
 pub mod Bindings
 pub mod PathWalks
 pub mod OnePath
-pub mod EarliestStarts
 pub mod Explaining
 pub mod Lines
 pub mod OneText

@@ -1,6 +1,5 @@
 -- The lines of operations, one after another.
-use Rattle.std.proofs.Common.{◌≡◌, ◌<◌, ◌≤◌, ℕ, not, ◌+◌, List, ◌∷◌, ◌++◌, length, drop, get_or, refl, sym, ap, ◌∙◌, append_assoc, add-one, drop-cons, arith}
-use Rattle.std.proofs.lemmas.List.Filters.{length-filter_both}
+use Rattle.std.proofs.Common.{◌≡◌, ◌<◌, ℕ, ◌+◌, List, ◌∷◌, ◌++◌, length, drop, get_or, refl, sym, ap, ◌∙◌, append_assoc, add-one, drop-cons}
 use Rattle.iloc_meaning.proofs.Cases.{by_bool}
 use Rattle.iloc_ops.specs.declared.op.Op.{Op}
 use Rattle.iloc_ops.specs.declared.op.Op.TheVariants.{Nop}
@@ -26,10 +25,6 @@ pub op_taken : (block : List Op) (i : ℕ) (d : Op) → i < length block → (ge
     → without_nops (drop i block) ≡ get_or block i d ∷ without_nops (drop (i + 1) block)
 op_taken block i d within other =
     ap without_nops (drop_first block i d within) ∙ kept (get_or block i d) (drop (i + 1) block) other
-
-pub nops_left_out : (block : List Op) → length (without_nops block) ≤ length block
-nops_left_out block =
-    omega (arith, length-filter_both (λ op. not (is_nop op)) (λ op. not (not (is_nop op))) (λ op. refl) block)
 
 -- one more line
 pub line_more : (text new all : List ℕ) (j : ℕ) (explained : List Explained) (left rest renamed : List Op)

@@ -10,7 +10,7 @@ use iloc_timed::Latencies;
 use std::alloc::Global;
 
 /// The first place of the greatest number.
-pub(crate) fn place_of_greatest(numbers: &[u64]) -> Option<usize>
+pub(crate) fn place_of_greatest(numbers: &[u32]) -> Option<usize>
     ensures { MatchOption result (numbers.now ≡ []) (IsPlaceOfGreatest numbers.now) }
 {
     if numbers.is_empty() {
@@ -26,7 +26,7 @@ pub(crate) fn place_of_greatest(numbers: &[u64]) -> Option<usize>
 }
 
 /// Whether a longest chain from operation i may go on with operation j.
-fn continues(ops: &[Op], latencies: &Latencies, priorities: &[u64], i: usize, j: usize) -> bool
+fn continues(ops: &[Op], latencies: &Latencies, priorities: &[u32], i: usize, j: usize) -> bool
     requires order { i < j }
     requires within { j < length ops.now }
     requires priorities { priorities.now ≡ all_priorities latencies.now ops.now }
@@ -34,7 +34,7 @@ fn continues(ops: &[Op], latencies: &Latencies, priorities: &[u64], i: usize, j:
 {
     let own = priorities[i];
     let next = priorities[j];
-    next <= own && has_delay(ops, latencies, i, j, own - next)
+    next <= own && has_delay(ops, latencies, i, j, u64::from(own - next))
 }
 
 /// A longest chain of delays of renamed operations, by their priorities: it starts with the first operation of the
@@ -46,7 +46,7 @@ pub fn longest_chain(
     alloc: Global,
     ops: &[Op],
     latencies: &Latencies,
-    priorities: &[u64],
+    priorities: &[u32],
 ) -> Result<Vec<usize>, NoMemory>
     requires { priorities.now ≡ all_priorities latencies.now ops.now }
     ensures chosen { IfOk result (λ chain. IsLongestChain latencies.now ops.now chain.items) }

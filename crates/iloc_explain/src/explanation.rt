@@ -70,9 +70,9 @@ pub fn explain(
     alloc: Global,
     schedule: &Schedule,
     latencies: &Latencies,
-    priorities: &[u64],
-    chains: &[u64],
-    starts: &[u64],
+    priorities: &[u32],
+    chains: &[u32],
+    starts: &[u32],
 ) -> Result<Vec<Explained>, NoMemory>
     requires ranked { length priorities.now ≡ length schedule.now.ops }
     requires chains { chains.now ≡ all_priorities latencies.now schedule.now.ops }
@@ -95,9 +95,9 @@ pub fn explain(
             unit: unit_of(rows[cycle], j),
             ready,
             after,
-            priority: priorities[j],
-            earliest: starts[j],
-            slack: slack_of(total, cycle, chains[j]),
+            priority: u64::from(priorities[j]),
+            earliest: u64::from(starts[j]),
+            slack: slack_of(total, cycle, u64::from(chains[j])),
             held: holder_of(schedule, j, cycle, ready),
         })?;
         latest.note(op, cycle as u64, cycle as u64 + latency(op, latencies))?;

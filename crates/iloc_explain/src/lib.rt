@@ -10,7 +10,6 @@ pub mod laws;
 mod listing;
 mod path;
 mod path_line;
-mod starts;
 mod waited;
 
 pub use chain::longest_chain;

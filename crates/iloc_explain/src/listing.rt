@@ -2,10 +2,8 @@
 ghost use Rattle.std.specs.Prelude.{◌≡◌, ◌++◌, ◌≤◌, List, ℕ, length, IfOk, OnOk, codes};
 ghost use Rattle.std.specs.List.{flat_map};
 ghost use Rattle.std.specs.Fmt.{decimal};
-ghost use Rattle.iloc_sched.specs.Heuristics.{priorities_by as all_priorities_by};
 ghost use Rattle.iloc_sched.specs.Least.{least as least_of_block};
-ghost use Rattle.iloc_sched.specs.Priority.{priorities as all_priorities};
-ghost use Rattle.iloc_sched.specs.Renaming.{renamed, without_nops, IsRenamed};
+ghost use Rattle.iloc_sched.specs.Renaming.{renamed, without_nops};
 ghost use Rattle.iloc_explain.specs.Listing as listed;
 ghost use Rattle.iloc_explain.specs.Listing.{IsExplanation};
 
@@ -14,9 +12,8 @@ use crate::explanation::{Explained, Unit, explain};
 use crate::holding::Holder;
 use crate::path::path_of;
 use crate::path_line::push_path;
-use crate::starts::starts;
 use iloc_ops::{Block, MAX_OPS, NoMemory, Op, push_column, push_number, push_op};
-use iloc_sched::{Heuristic, priorities, priorities_by};
+use iloc_sched::{Graph, Heuristic};
 use iloc_timed::{Latencies, Schedule, cycles};
 use std::alloc::Global;
 
@@ -153,25 +150,6 @@ fn push_cycles(text: &mut Vec<u8>, cycles: u64, least: u64) -> Result<(), NoMemo
     Ok(text.extend_from_slice(b"\n")?)
 }
 
-/// The priorities of renamed operations by a heuristic, where the longest chains from them are known.
-fn ranks(
-    alloc: Global,
-    ops: &[Op],
-    latencies: &Latencies,
-    heuristic: Heuristic,
-    chains: &[u64],
-) -> Result<Vec<u64>, NoMemory>
-    requires renamed { IsRenamed ops.now }
-    requires few { length ops.now ≤ MAX_OPS }
-    requires chains { chains.now ≡ all_priorities latencies.now ops.now }
-    ensures { IfOk result (λ ranks. ranks.items ≡ all_priorities_by heuristic latencies.now ops.now) }
-{
-    match heuristic {
-        Heuristic::Chain => Ok(Vec::from_slice(alloc, chains)?),
-        _ => priorities_by(alloc, ops, latencies, heuristic),
-    }
-}
-
 /// Appends what explains a schedule of a block, whose operations are the block's renamed ones, ranked by a heuristic: a
 /// line for each operation, the cycles with their lower bound (`least`), a longest chain of delays, and what binds in this
 /// schedule. The lines show each operation as it is `issued`.
@@ -195,13 +173,20 @@ pub fn push_explanation(
         × IsExplanation heuristic latencies.now block.now.ops schedule.now.ops schedule.now.rows issued.now entry
         × (text.new.items ≡ text.old.items ++ entry)) }
 {
-    let ops = schedule.ops();
-    let chains = priorities(alloc, ops, latencies)?;
-    let ranks = ranks(alloc, ops, latencies, heuristic, &chains)?;
-    let starts = starts(alloc, ops, latencies, &chains)?;
+    let mut graph = Graph::new(alloc);
+    graph.refill(block, latencies)?;
+    let mut chains = Vec::new(alloc);
+    graph.chains(&mut chains)?;
+    let mut starts = Vec::new(alloc);
+    graph.starts(&mut starts)?;
+    let mut ranks = Vec::new(alloc);
+    graph.rank(heuristic, &mut ranks)?;
     let explained = explain(alloc, schedule, latencies, &ranks, &chains, &starts)?;
     push_lines(text, block.ops.as_slice(), &explained, issued)?;
     push_cycles(text, cycles(schedule, latencies), least)?;
-    push_chain(text, &longest_chain(alloc, ops, latencies, &chains)?)?;
+    push_chain(
+        text,
+        &longest_chain(alloc, schedule.ops(), latencies, &chains)?,
+    )?;
     push_path(text, &path_of(alloc, schedule, latencies, &explained)?)
 }

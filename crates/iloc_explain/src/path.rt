@@ -103,7 +103,7 @@ fn arrivals(
     schedule: &Schedule,
     latencies: &Latencies,
     explained: &[Explained],
-) -> Result<Vec<u64>, NoMemory>
+) -> Result<Vec<u32>, NoMemory>
     requires { (prios : List ℕ) × AreExplained prios latencies.now schedule.now.ops schedule.now.rows explained.now }
     ensures { IfOk result (λ found. found.items
         ≡ map (λ i. issue_cycle schedule.now.rows i + latency_value latencies.now (op_at schedule.now.ops i))
@@ -114,7 +114,7 @@ fn arrivals(
     let _rows = schedule.rows();
     let mut found = Vec::new(alloc);
     for (i, op) in ops.iter().enumerate() {
-        found.push(explained[i].cycle as u64 + latency(op, latencies))?;
+        found.push(explained[i].cycle as u32 + latency(op, latencies) as u32)?;
     }
     Ok(found)
 }

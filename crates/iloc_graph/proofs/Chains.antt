@@ -8,7 +8,7 @@ use Rattle.iloc_sched.specs.Delays.{delays}
 use Rattle.iloc_sched.specs.Priority.{priority}
 use Rattle.iloc_sched.proofs.Basics.Maxima.{fold_max_each}
 use Rattle.iloc_sched.proofs.Basics.Members.{in_from}
-use Rattle.iloc_sched.proofs.Graph.FarPairs.{near_or_by_way}
+use Rattle.iloc_sched.proofs.KeptEdges.FarPairs.{near_or_by_way}
 use Rattle.iloc_sched.proofs.PriorityValues.Longest.{is_priority}
 use Rattle.iloc_explain.specs.Chain.{Continues, IsChainFrom, IsNext}
 use Rattle.iloc_graph.specs.Laws.{ChainsRunAlongNearestPairs, RunsAlong}

@@ -7,7 +7,7 @@ use Rattle.std.proofs.Common.{eqb}
 use Rattle.std.proofs.lemmas.List.Sorted.{Contains-permutation, IsPermutation-sym}
 use Rattle.std.proofs.lemmas.List.Kept.{Contains-dedup_nat, Contains-from_dedup}
 use Rattle.std.proofs.lemmas.Map.Keys.{IsStrictlyIncreasing-dedup}
-use Rattle.iloc_graph.specs.Steps.Preceding.{IsInOrder}
+use Rattle.iloc_graph.specs.Steps.InOrder.{IsInOrder}
 
 pub in_order : (listed sorted kept : List ℕ) → IsPermutation listed sorted → IsSorted nat_cmp sorted
     → kept ≡ dedup eqb sorted → IsInOrder listed kept

@@ -1,10 +1,9 @@
 pub mod Lists
-pub mod Noted
 pub mod InOrder
-pub mod Sources
 pub mod Longest
 pub mod Pairs
 pub mod Waiting
+pub mod Sources
 pub mod Chains
 pub mod Lines
 pub mod OneText

@@ -1,6 +1,6 @@
 -- Members of joined lists, and rising lists; for the other proofs.
-use Rattle.std.proofs.Common.{◌≡◌, ℕ, ◌<◌, suc, Bool, false, List, [], ◌∷◌, length, get_or, Option, Some, None, inl, inr, refl, ap, sym, subst, arith}
-use Rattle.std.specs.Prelude.{Contains, option_to_list}
+use Rattle.std.proofs.Common.{◌≡◌, ℕ, ◌<◌, suc, Bool, false, List, [], ◌∷◌, length, get_or, inl, inr, refl, sym, subst, arith}
+use Rattle.std.specs.Prelude.{Contains}
 use Rattle.std.specs.List.{AllPairs, flat_map, list_any}
 use Rattle.iloc_sched.specs.Steps.Members.{In}
 use Rattle.iloc_sched.proofs.Basics.Members.{contains_from, in_left, in_right, from_append}
@@ -23,14 +23,6 @@ from_flat_map f (x ∷ xs) y there = elim (from_append (f x) (flat_map f xs) y t
 pub any_none : {X : Type 0} (p : X → Bool) (xs : List X) → ((x : X) → In xs x → p x ≡ false) → list_any p xs ≡ false
 any_none p [] none = refl
 any_none p (x ∷ xs) none = rw (none x (inl refl)) (any_none p xs (λ y there. none y (inr there)))
-
-pub from_option : (o : Option ℕ) (i : ℕ) → In (option_to_list o) i → o ≡ Some i
-from_option None i there = absurd there
-from_option (Some x) i (inl here) = ap Some here
-from_option (Some x) i (inr none) = absurd none
-
-pub in_option : (o : Option ℕ) (i : ℕ) → o ≡ Some i → In (option_to_list o) i
-in_option o i is = subst (λ p. In (option_to_list p) i) (sym is) (inl refl)
 
 pub rises_from : (xs : List ℕ) → AllPairs (λ x y. x < y) xs → Rises xs
 rises_from [] pairs = tt

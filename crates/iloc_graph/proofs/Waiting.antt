@@ -1,10 +1,11 @@
 -- Rows that wait for the nearest pairs wait for all delays, and the other way round.
-use Rattle.std.proofs.Common.{◌≡◌, ℕ, zero, suc, ◌+◌, ◌-◌, ◌<◌, ◌≤◌, not, true, false, List, length, inl, inr, ap, subst, arith}
+use Rattle.std.proofs.Common.{◌≡◌, ℕ, zero, suc, ◌+◌, ◌-◌, ◌<◌, ◌≤◌, not, Bool, true, false, List, length, inl, inr, refl, sym, ◌∙◌, ap, subst, arith}
 use Rattle.std.specs.Prelude.{Contains}
 use Rattle.std.specs.List.{range_with_len}
-use Rattle.std.proofs.lemmas.Bool.{and_from, and_parts, not_from_false, or_cases, or_left, or_right}
+use Rattle.std.proofs.lemmas.Bool.{and_from, and_parts, false≢true, not-true, not_from_false, or_cases, or_left, or_right}
 use Rattle.iloc_ops.specs.declared.op.Op.{Op}
 use Rattle.iloc_meaning.specs.Trace.{op_at}
+use Rattle.iloc_meaning.proofs.Cases.{by_bool}
 use Rattle.iloc_timed.specs.declared.latencies.Latencies.{Latencies}
 use Rattle.iloc_timed.specs.declared.row.Row.{Row}
 use Rattle.iloc_timed.specs.Kinds.{kind}
@@ -13,13 +14,13 @@ use Rattle.iloc_timed.specs.Rows.{issue_cycle}
 use Rattle.iloc_sched.specs.declared.edges.delay_pairs.Pair.{Pair}
 use Rattle.iloc_sched.specs.Delays.{IsDelayPair, delays, keeps_order, memory_delays, reads_stored, uses_result, when}
 use Rattle.iloc_sched.specs.Steps.Members.{In}
-use Rattle.iloc_sched.specs.Steps.Near.{IsNear}
+use Rattle.iloc_sched.specs.Near.{IsNear, takes_over}
 use Rattle.iloc_sched.proofs.Basics.Maxima.{fold_max_each, fold_max_reached}
-use Rattle.iloc_sched.proofs.Basics.Members.{contains_from, from_append, from_filter, from_map, from_range, in_filter, in_from, in_left, in_map, in_range_from, in_right}
+use Rattle.iloc_sched.proofs.Basics.Members.{any_at, contains_from, from_append, from_filter, from_map, from_range, in_filter, in_from, in_left, in_map, in_range_from, in_right}
 use Rattle.iloc_sched.proofs.DelayPairs.DelayBounds.{delay_at_least, from_when, in_when}
-use Rattle.iloc_sched.proofs.Graph.FarPairs.{near_or_by_way}
+use Rattle.iloc_sched.proofs.KeptEdges.FarPairs.{near_or_by_way}
 use Rattle.iloc_graph.specs.Laws.{NearestPairsImplyAll, WaitsForNearest}
-use Rattle.iloc_graph.specs.Nearest.{is_nearest, is_ordered, is_taken_over, longest_delay, nearest_pairs, nearest_to, pair_of, sources, takes_over}
+use Rattle.iloc_graph.specs.Nearest.{is_nearest, is_ordered, is_taken_over, longest_delay, nearest_pairs, nearest_to, pair_of, sources}
 use Rattle.iloc_graph.proofs.Lists.{any_none, from_flat_map, in_flat_map}
 
 -- a delay by memory or outputs is between operations of which one comes after the other
@@ -32,34 +33,49 @@ ordered lat i j d there = elim (from_append (when (reads_stored (kind i) (kind j
           (from_when (keeps_order (kind i) (kind j)) 1 d keeps).0
     ]
 
--- the first of nearest operations delays the second
-delayed : (lat : Latencies) (ops : List Op) (i j : ℕ) → is_nearest ops j i ≡ true
-    → (d : ℕ) × In (delays lat (op_at ops i) (op_at ops j)) d
-delayed lat ops i j is =
-    let a = op_at ops i in
-    let b = op_at ops j in
-    elim (or_cases (uses_result a b) _ is) [
-      | inl result ↦ (
-        latency lat a,
-        in_left (when (uses_result a b) (latency lat a)) (memory_delays lat a b) (latency lat a)
-            (in_when (uses_result a b) (latency lat a) result),
-      )
-      | inr memory ↦ elim (or_cases (reads_stored (kind a) (kind b)) (keeps_order (kind a) (kind b))
-          (and_parts (is_ordered a b) (not (is_taken_over ops i j)) memory).0) [
-            | inl reads ↦ (
-              latency lat a,
-              in_right (when (uses_result a b) (latency lat a)) (memory_delays lat a b) (latency lat a)
-                  (in_left (when (reads_stored (kind a) (kind b)) (latency lat a)) (when (keeps_order (kind a) (kind b)) 1)
-                  (latency lat a) (in_when (reads_stored (kind a) (kind b)) (latency lat a) reads)),
-            )
-            | inr keeps ↦ (
-              1,
-              in_right (when (uses_result a b) (latency lat a)) (memory_delays lat a b) 1
-                  (in_right (when (reads_stored (kind a) (kind b)) (latency lat a)) (when (keeps_order (kind a) (kind b)) 1) 1
-                  (in_when (keeps_order (kind a) (kind b)) 1 keeps)),
-            )
-          ]
-    ]
+not_true : (b : Bool) → (b ≡ true → ⊥) → b ≡ false
+not_true b not = by_bool b (λ t. absurd (not t)) (λ f. f)
+
+module _ (lat : Latencies) (ops : List Op) (i j : ℕ) where
+  abbrev a : Op
+  a = op_at ops i
+
+  abbrev b : Op
+  b = op_at ops j
+
+  by_memory : is_taken_over ops i j ≡ false → (d : ℕ) → In (memory_delays lat a b) d
+      → (e : ℕ) × In (delays lat a b) e × IsNear lat ops i j e
+  by_memory free d there = (
+    d,
+    in_right (when (uses_result a b) (latency lat a)) (memory_delays lat a b) d there,
+    inr (
+      contains_from (memory_delays lat a b) d there,
+      λ k after before. not_true (takes_over a (op_at ops k)) (λ t. false≢true (sym free
+          ∙ any_at (λ m. takes_over a (op_at ops m)) (range_with_len (i + 1) (j - (i + 1))) k
+          (in_range_from (i + 1) (j - (i + 1)) k (omega arith) (omega arith)) t)),
+    ),
+  )
+
+  -- the first of nearest operations delays the second, and near
+  pub delayed : is_nearest ops j i ≡ true → (d : ℕ) × In (delays lat a b) d × IsNear lat ops i j d
+  delayed is = elim (or_cases (uses_result a b) _ is) [
+    | inl result ↦ (
+      latency lat a,
+      in_left (when (uses_result a b) (latency lat a)) (memory_delays lat a b) (latency lat a)
+          (in_when (uses_result a b) (latency lat a) result),
+      inl (result, refl),
+    )
+    | inr memory ↦
+        let both = and_parts (is_ordered a b) (not (is_taken_over ops i j)) memory in
+        elim (or_cases (reads_stored (kind a) (kind b)) (keeps_order (kind a) (kind b)) both.0) [
+          | inl reads ↦ by_memory (not-true (is_taken_over ops i j) both.1) (latency lat a)
+              (in_left (when (reads_stored (kind a) (kind b)) (latency lat a)) (when (keeps_order (kind a) (kind b)) 1)
+              (latency lat a) (in_when (reads_stored (kind a) (kind b)) (latency lat a) reads))
+          | inr keeps ↦ by_memory (not-true (is_taken_over ops i j) both.1) 1
+              (in_right (when (reads_stored (kind a) (kind b)) (latency lat a)) (when (keeps_order (kind a) (kind b)) 1) 1
+              (in_when (keeps_order (kind a) (kind b)) 1 keeps))
+        ]
+  ]
 
 -- the longest delay is one of them, where there is one
 longest_is : (lat : Latencies) (i j : Op) (d : ℕ) → In (delays lat i j) d

@@ -1,16 +1,13 @@
 -- The delay pairs that no others imply: every other goes by way of an operation between.
-use Rattle.std.specs.Prelude.{ℕ, ◌+◌, ◌-◌, max, ◌||◌, ◌&&◌, not, Bool, if◌then◌else◌, List, map, filter, fold, length}
+use Rattle.std.specs.Prelude.{ℕ, ◌+◌, ◌-◌, max, ◌||◌, ◌&&◌, not, Bool, List, map, filter, fold, length}
 use Rattle.std.specs.List.{flat_map, list_any, range_with_len}
 use Rattle.iloc_ops.specs.declared.op.Op.{Op}
 use Rattle.iloc_meaning.specs.Trace.{op_at}
 use Rattle.iloc_timed.specs.declared.latencies.Latencies.{Latencies}
-use Rattle.iloc_timed.specs.Kinds.{kind, is_store, is_output}
+use Rattle.iloc_timed.specs.Kinds.{kind}
 use Rattle.iloc_sched.specs.declared.edges.delay_pairs.Pair.{Pair}
 use Rattle.iloc_sched.specs.Delays.{uses_result, reads_stored, keeps_order, delays}
-
--- whether k takes the place of i for what comes later: an output that of an output, a store that of any other
-abbrev pub takes_over : Op → Op → Bool
-takes_over i k = if is_output (kind i) then is_output (kind k) else is_store (kind k)
+use Rattle.iloc_sched.specs.Near.{takes_over}
 
 -- whether an operation between i and j takes the place of i
 abbrev pub is_taken_over : List Op → ℕ → ℕ → Bool

@@ -1,2 +1,2 @@
 -- What the code keeps from step to step: no contract of a public function names it.
-pub mod Preceding
+pub mod InOrder

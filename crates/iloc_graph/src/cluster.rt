@@ -10,7 +10,7 @@ ghost use Rattle.iloc_graph.specs.Listing.{IsCluster};
 use crate::nearest::nearest_pairs;
 use iloc_explain::longest_chain;
 use iloc_ops::{Block, MAX_OPS, Name, NoMemory, Op, push_number, push_op};
-use iloc_sched::{Pair, priorities, rename};
+use iloc_sched::{Graph, Pair};
 use iloc_timed::{Kind, Latencies};
 use std::alloc::Global;
 
@@ -137,7 +137,7 @@ fn push_operations(
     text: &mut Vec<u8>,
     number: usize,
     block: &[Op],
-    priorities: &[u64],
+    priorities: &[u32],
 ) -> Result<(), NoMemory>
     requires { length (without_nops block.now) ≡ length priorities.now }
     ensures { OnOk result (text.new.items ≡ text.old.items
@@ -148,7 +148,7 @@ fn push_operations(
         match op {
             Op::Nop => {}
             _ => {
-                push_operation(text, number, i, op, priorities[i])?;
+                push_operation(text, number, i, op, u64::from(priorities[i]))?;
                 i += 1;
             }
         }
@@ -243,12 +243,14 @@ pub fn push_cluster(
         × IsCluster latencies.now number block.now.name block.now.ops cluster
         × (text.new.items ≡ text.old.items ++ cluster)) }
 {
-    let ops = rename(alloc, block)?;
-    let priorities = priorities(alloc, &ops, latencies)?;
-    let pairs = nearest_pairs(alloc, &ops, latencies)?;
-    let chain = longest_chain(alloc, &ops, latencies, &priorities)?;
+    let mut graph = Graph::new(alloc);
+    graph.refill(block, latencies)?;
+    let mut chains = Vec::new(alloc);
+    graph.chains(&mut chains)?;
+    let pairs = nearest_pairs(alloc, &graph)?;
+    let chain = longest_chain(alloc, graph.ops(), graph.latencies(), &chains)?;
     push_head(text, number, block.name.as_ref())?;
-    push_operations(text, number, block.ops.as_slice(), &priorities)?;
+    push_operations(text, number, block.ops.as_slice(), &chains)?;
     push_edges(text, number, &pairs)?;
     push_chain(text, number, &chain)?;
     Ok(text.extend_from_slice(b"    }\n")?)

@@ -4,7 +4,5 @@
 mod cluster;
 pub mod laws;
 mod nearest;
-mod preceding;
 
 pub use cluster::{push_closing, push_cluster, push_opening};
-pub use nearest::nearest_pairs;

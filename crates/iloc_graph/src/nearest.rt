@@ -1,14 +1,26 @@
 //! The delay pairs that no others imply.
 ghost use Rattle.std.specs.Prelude.{ℕ, ◌≡◌, ◌++◌, ◌<◌, length, map, slice_index, IfOk, OnOk};
-ghost use Rattle.iloc_sched.specs.Renaming.{IsRenamed};
 ghost use Rattle.iloc_graph.specs.Nearest as near;
 ghost use Rattle.iloc_graph.specs.Nearest.{pair_of};
 
-use crate::preceding::Preceding;
 use iloc_ops::{NoMemory, Op};
-use iloc_sched::{Pair, delays};
+use iloc_sched::{Graph, Pair, delays};
 use iloc_timed::Latencies;
 use std::alloc::Global;
+
+/// The operations from which nearest pairs lead to operation j, by rising number.
+fn sources(alloc: Global, graph: &Graph, j: usize) -> Result<Vec<usize>, NoMemory>
+    requires { j < length graph.now.ops }
+    ensures { IfOk result (λ found. found.items ≡ near.sources graph.now.ops j) }
+{
+    let mut found = Vec::new(alloc);
+    for edge in graph.edges_into(j) {
+        found.push(edge.from as usize)?;
+    }
+    found.sort_unstable();
+    found.dedup();
+    Ok(found)
+}
 
 /// The longest delay that the first operation puts on the second, 0 where there is none.
 fn longest_delay(first: &Op, second: &Op, latencies: &Latencies) -> u64
@@ -44,26 +56,20 @@ fn push_pairs(
     Ok(())
 }
 
-/// The delay pairs of renamed operations that no others imply, in order of the later operation, then of the earlier one:
+/// The delay pairs of a graph's operations that no others imply, in order of the later operation, then of the earlier one:
 /// from each result to its uses, from a store to the loads and outputs after it and to the next store, from a load to the
 /// next store, and from an output to the next output and to the stores up to it. Of two operations it has the longest
 /// delay alone. It takes time of order n log n in the number of operations.
 ///
 /// Promise: The pairs are just the nearest ones, each once, in that order.
-pub fn nearest_pairs(
-    alloc: Global,
-    ops: &[Op],
-    latencies: &Latencies,
-) -> Result<Vec<Pair>, NoMemory>
-    requires { IsRenamed ops.now }
-    ensures { IfOk result (λ pairs. pairs.items ≡ near.nearest_pairs latencies.now ops.now) }
+pub(crate) fn nearest_pairs(alloc: Global, graph: &Graph) -> Result<Vec<Pair>, NoMemory>
+    ensures { IfOk result (λ pairs. pairs.items ≡ near.nearest_pairs graph.now.latencies graph.now.ops) }
 {
-    let mut lasts = Preceding::new(alloc);
+    let ops = graph.ops();
     let mut pairs = Vec::new(alloc);
-    for (second, op) in ops.iter().enumerate() {
-        let sources = lasts.sources(alloc, op)?;
-        push_pairs(&mut pairs, ops, latencies, &sources, second)?;
-        lasts.note(op, second)?;
+    for second in 0..ops.len() {
+        let sources = sources(alloc, graph, second)?;
+        push_pairs(&mut pairs, ops, graph.latencies(), &sources, second)?;
     }
     Ok(pairs)
 }

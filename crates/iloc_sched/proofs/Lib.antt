@@ -1,7 +1,7 @@
 pub mod Basics
 pub mod Renamed
 pub mod DelayPairs
-pub mod Graph
+pub mod KeptEdges
 pub mod Walking
 pub mod PriorityValues
 pub mod Choice

@@ -1,10 +1,12 @@
 pub mod Renaming
 pub mod Delays
+pub mod Near
 pub mod Pairs
 pub mod Priority
 pub mod Starts
 pub mod Lawful
 pub mod Greedy
+pub mod GraphOf
 pub mod Heuristics
 pub mod Scheduled
 pub mod Least

@@ -2,7 +2,6 @@
 pub mod Choosing
 pub mod Longest
 pub mod Members
-pub mod Near
 pub mod Graph
 pub mod Progress
 pub mod Calendar
@@ -18,6 +17,7 @@ pub mod Dependents
 pub mod Successors
 pub mod Queued
 pub mod SoFar
+pub mod SoundGraph
 pub mod Opening
 pub mod ByRegister
 pub mod Registers

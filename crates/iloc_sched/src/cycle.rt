@@ -8,15 +8,16 @@ ghost use Rattle.iloc_sched.specs.Steps.Views.{issued_list};
 pub mod calendar;
 pub mod candidate;
 pub mod class;
+pub mod plan;
 pub mod queue;
 pub mod queues;
 pub mod waiting;
 
 use crate::cycle::calendar::LONGEST_DELAY;
 use crate::cycle::class::Class;
+use crate::cycle::plan::Plan;
 use crate::cycle::queues::{Choice, Queues};
 use crate::cycle::waiting::Waiting;
-use crate::plan::Plan;
 use iloc_ops::NoMemory;
 use iloc_timed::Row;
 
@@ -81,7 +82,7 @@ impl Waiting {
         ensures issues { IssuesAny plan.now self.old self.new queues.old queues.new cycle result }
     {
         let choice = queues.take(beside)?;
-        self.issue(&plan.edges, choice.candidate.number as usize, cycle);
+        self.issue(&plan.tables.edges, choice.candidate.number as usize, cycle);
         Some(choice)
     }
 

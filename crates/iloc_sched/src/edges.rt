@@ -34,7 +34,7 @@ pub struct Edge {
     pub to: u32,
     pub delay: u32,
     /// The edge before this one out of the same operation.
-    pub previous: Option<u32>,
+    pub(crate) previous: Option<u32>,
 }
 
 /// The kept edges of a block, those into an operation side by side.
@@ -57,11 +57,11 @@ impl Edges {
     ghost use Rattle.iloc_sched.specs.Steps.Registers.{listed};
     ghost use Rattle.iloc_sched.specs.Steps.PartialGraph.{HasCapacity, IsPartialGraph, KeepsFrame, KeepsCapacity, Grows, AddsFrom, CoversUse, CoversUses, CoversMemory};
     ghost use Rattle.iloc_sched.specs.Steps.Successors.{leads_into};
-    ghost use Rattle.iloc_sched.specs.Steps.Views.{edge_at, graph_of};
+    ghost use Rattle.iloc_sched.specs.Steps.Views.{edge_at, graph_of, IsEmptied};
 
     /// No operation and no edge.
     pub fn new(alloc: Global) -> Edges
-        ensures { length result.heads.items ≡ 0 }
+        ensures { IsEmptied result }
     {
         Edges {
             edges: Vec::new(alloc),
@@ -84,6 +84,13 @@ impl Edges {
         self.edges.len()
     }
 
+    /// The edges.
+    pub fn as_slice(&self) -> &[Edge]
+        ensures { result.now ≡ self.now.edges.items }
+    {
+        self.edges.as_slice()
+    }
+
     /// Edge x.
     pub fn get(&self, x: usize) -> Edge
         requires { x < length self.now.edges.items }
@@ -94,10 +101,9 @@ impl Edges {
 
     /// The first edge into operation j, or the place where it would be; at their number the number of all edges.
     pub fn start(&self, j: usize) -> u32
-        requires { j < length self.now.starts.items }
         ensures { result ≡ (graph_of self.now).start j }
     {
-        self.starts[j]
+        self.starts.get(j).copied().unwrap_or(0)
     }
 
     /// The last edge out of operation i.
@@ -117,6 +123,15 @@ impl Edges {
             Some(x) => self.edges[x as usize].to == j,
             None => false,
         }
+    }
+
+    /// No operation and no edge.
+    pub fn forget(&mut self)
+        ensures { IsEmptied self.new }
+    {
+        self.edges.clear();
+        self.starts.clear();
+        self.heads.clear();
     }
 
     /// No edge between so many operations.
@@ -347,8 +362,7 @@ impl Edges {
         requires renamed { IsRenamed operations.now.ops.now }
         requires kinds { operations.now.kinds.now ≡ map kind operations.now.ops.now }
         requires own { operations.now.latencies.now ≡ map (latency latencies.now) operations.now.ops.now }
-        ensures graph { OnOk result (IsGraphOf latencies.now operations.now.ops.now (graph_of self.new)) }
-        ensures starts { OnOk result (length self.new.starts.items ≡ length self.new.heads.items + 1) }
+        ensures { OnOk result (IsGraphOf latencies.now operations.now.ops.now (graph_of self.new)) }
     {
         self.clear(operations.ops.len())?;
         lasts.clear(registers);

@@ -6,17 +6,21 @@
 mod by_register;
 mod cycle;
 mod edges;
+mod graph;
 mod kinds;
 pub mod laws;
+mod lender;
 mod lower_bound;
-mod plan;
 mod ranking;
 mod registers;
 mod renaming;
 mod scheduler;
+mod tables;
 
 pub use cycle::calendar::LONGEST_DELAY;
+pub use edges::Edge;
 pub use edges::delay_pairs::{Pair, delays, pairs};
+pub use graph::Graph;
 pub use lower_bound::least;
 pub use ranking::heuristic::Heuristic;
 pub use ranking::{priorities, priorities_by};

@@ -1,5 +1,5 @@
 //! The priorities of renamed operations, by each heuristic.
-ghost use Rattle.std.specs.Prelude.{◌≡◌, ◌≤◌, length, IfOk, OnOk};
+ghost use Rattle.std.specs.Prelude.{◌≡◌, ◌≤◌, length, IfOk};
 ghost use Rattle.iloc_sched.specs.Priority.{priorities};
 ghost use Rattle.iloc_sched.specs.Heuristics.{priorities_by};
 ghost use Rattle.iloc_sched.specs.Renaming.{IsRenamed};
@@ -10,44 +10,12 @@ pub mod priority;
 pub mod slack;
 pub mod successors;
 
-use crate::edges::Edges;
 use crate::edges::lasts::Lasts;
-use crate::kinds::{Operations, fill_kinds};
-use crate::ranking::heuristic::{Heuristic, rank_by};
-use crate::ranking::priority::fill_latencies;
+use crate::ranking::heuristic::{Heuristic, fill_ranks};
+use crate::tables::Tables;
 use iloc_ops::{MAX_OPS, NoMemory, Op};
 use iloc_timed::Latencies;
 use std::alloc::Global;
-
-/// Fills a list with the priorities of renamed operations.
-fn fill_priorities(
-    prios: &mut Vec<u32>,
-    alloc: Global,
-    ops: &[Op],
-    latencies: &Latencies,
-    heuristic: Heuristic,
-) -> Result<(), NoMemory>
-    requires renamed { IsRenamed ops.now }
-    requires few { length ops.now ≤ MAX_OPS }
-    ensures { OnOk result (prios.new.items ≡ priorities_by heuristic latencies.now ops.now) }
-{
-    let mut kinds = Vec::new(alloc);
-    fill_kinds(&mut kinds, ops)?;
-    fill_latencies(prios, &kinds, latencies)?;
-    let operations = Operations {
-        ops,
-        kinds: &kinds,
-        latencies: prios,
-    };
-    let mut edges = Edges::new(alloc);
-    edges.fill(
-        &mut Lasts::new(alloc),
-        &operations,
-        3 * ops.len(),
-        latencies,
-    )?;
-    rank_by(heuristic, alloc, prios, &kinds, &edges)
-}
 
 /// By operation its priority by a heuristic: of ready operations the one of the highest goes first, and of equals the one
 /// of the lowest number.
@@ -66,8 +34,10 @@ pub fn priorities_by(
     requires few { length ops.now ≤ MAX_OPS }
     ensures { IfOk result (λ prios. prios.items ≡ priorities_by heuristic latencies.now ops.now) }
 {
+    let mut tables = Tables::new(alloc);
+    tables.open_renamed(&mut Lasts::new(alloc), ops, latencies)?;
     let mut found = Vec::new(alloc);
-    fill_priorities(&mut found, alloc, ops, latencies, heuristic)?;
+    fill_ranks(&mut found, heuristic, alloc, &tables)?;
     let mut prios = Vec::new(alloc);
     prios.reserve(found.len())?;
     for prio in found.as_slice() {

@@ -11,7 +11,7 @@ use Rattle.iloc_timed.specs.Rows.{is_some_kind, kind_in}
 use Rattle.iloc_sched.specs.Greedy.{ready, first_of_all, may_stand_beside, on_units, chosen_with, chosen}
 use Rattle.iloc_sched.specs.declared.cycle.candidate.Candidate.{Candidate}
 use Rattle.iloc_sched.specs.declared.cycle.class.Class.{Class}
-use Rattle.iloc_sched.specs.declared.plan.Plan.{Plan}
+use Rattle.iloc_sched.specs.declared.cycle.plan.Plan.{Plan}
 use Rattle.iloc_sched.specs.declared.cycle.queues.Queues.{Queues}
 use Rattle.iloc_sched.specs.declared.cycle.queues.Choice.{Choice}
 use Rattle.iloc_sched.specs.declared.cycle.waiting.Waiting.{Waiting}
@@ -100,64 +100,64 @@ row_zero a b = record { zero = Some a.candidate.number; one = number_of b }
 
 module _ (p : Plan) (w : Waiting) (q : Queues) (rows : List Row) (plan : IsPlan p)
     (under : IsUnderWay p w q (length rows + 1))
-    (matches : MatchesRows (length p.ops.items) rows (progress_of w).issued)
-    (each : IsChosenSoFar p.priorities.items p.latencies p.ops.items rows) where
+    (matches : MatchesRows (length p.tables.now.ops.items) rows (progress_of w).issued)
+    (each : IsChosenSoFar p.ranks.now p.tables.now.latencies p.tables.now.ops.items rows) where
   -- who is ready stands in the queue of its class
-  ready_queued : (j : ℕ) → In (ready p.latencies p.ops.items rows (length rows)) j
-      → In (candidates q (class_at p.ops.items j)) (candidate_at p.priorities.items j)
-  ready_queued j held = under.queued.has j (when_ready p.latencies p.ops.items (graph_of p.edges) (progress_of w) rows
+  ready_queued : (j : ℕ) → In (ready p.tables.now.latencies p.tables.now.ops.items rows (length rows)) j
+      → In (candidates q (class_at p.tables.now.ops.items j)) (candidate_at p.ranks.now j)
+  ready_queued j held = under.queued.has j (when_ready p.tables.now.latencies p.tables.now.ops.items (graph_of p.tables.now.edges) (progress_of w) rows
       plan.graph under.waits matches j held)
 
   -- who stands in a queue is ready
   queued_ready : (k : Class) (c : Candidate) → In (candidates q k) c
-      → In (ready p.latencies p.ops.items rows (length rows)) c.number
-  queued_ready k c held = ready_when p.latencies p.ops.items (graph_of p.edges) (progress_of w) rows plan.graph
-      under.waits matches p.priorities.items each c.number (under.queued.only k c held).0
+      → In (ready p.tables.now.latencies p.tables.now.ops.items rows (length rows)) c.number
+  queued_ready k c held = ready_when p.tables.now.latencies p.tables.now.ops.items (graph_of p.tables.now.edges) (progress_of w) rows plan.graph
+      under.waits matches p.ranks.now each c.number (under.queued.only k c held).0
 
-  pub chosen_none : IsBest q None None → first_of_all p.priorities.items
-      (ready p.latencies p.ops.items rows (length rows)) ≡ None
-  chosen_none none = first_none p.priorities.items (ready p.latencies p.ops.items rows (length rows))
-      (λ j held. none (class_at p.ops.items j) (candidate_at p.priorities.items j) (refl, ready_queued j held))
+  pub chosen_none : IsBest q None None → first_of_all p.ranks.now
+      (ready p.tables.now.latencies p.tables.now.ops.items rows (length rows)) ≡ None
+  chosen_none none = first_none p.ranks.now (ready p.tables.now.latencies p.tables.now.ops.items rows (length rows))
+      (λ j held. none (class_at p.tables.now.ops.items j) (candidate_at p.ranks.now j) (refl, ready_queued j held))
 
   pub chosen_first : (a : Choice) → IsBest q None (Some a)
-      → first_of_all p.priorities.items (ready p.latencies p.ops.items rows (length rows))
+      → first_of_all p.ranks.now (ready p.tables.now.latencies p.tables.now.ops.items rows (length rows))
       ≡ Some a.candidate.number
   chosen_first a best =
-      let is : a.candidate ≡ candidate_at p.priorities.items a.candidate.number =
+      let is : a.candidate ≡ candidate_at p.ranks.now a.candidate.number =
       (under.queued.only a.class a.candidate best.0.1).2 in
-      first_is p.priorities.items (ready p.latencies p.ops.items rows (length rows))
+      first_is p.ranks.now (ready p.tables.now.latencies p.tables.now.ops.items rows (length rows))
       a.candidate.number
-      (ready_rises p.latencies p.ops.items rows (length rows))
+      (ready_rises p.tables.now.latencies p.tables.now.ops.items rows (length rows))
       (queued_ready a.class a.candidate best.0.1)
       (λ j held.
-      subst (λ c. IsFirst c (candidate_at p.priorities.items j)) is
-      (best.1 (class_at p.ops.items j) (candidate_at p.priorities.items j) (refl, ready_queued j held)))
+      subst (λ c. IsFirst c (candidate_at p.ranks.now j)) is
+      (best.1 (class_at p.tables.now.ops.items j) (candidate_at p.ranks.now j) (refl, ready_queued j held)))
 
   module _ (q1 : Queues) (a : Choice) (held_a : In (candidates q a.class) a.candidate) (takes : Takes q q1 a) where
-    class_a : class_at p.ops.items a.candidate.number ≡ a.class
+    class_a : class_at p.tables.now.ops.items a.candidate.number ≡ a.class
     class_a = (under.queued.only a.class a.candidate held_a).1
 
     abbrev beside : ℕ → Bool
-    beside b = not (a.candidate.number == b) && may_stand_beside (kind (op_at p.ops.items a.candidate.number))
-        (kind (op_at p.ops.items b))
+    beside b = not (a.candidate.number == b) && may_stand_beside (kind (op_at p.tables.now.ops.items a.candidate.number))
+        (kind (op_at p.tables.now.ops.items b))
 
-    open_beside : (j : ℕ) → may_stand_beside (kind (op_at p.ops.items a.candidate.number))
-        (kind (op_at p.ops.items j)) ≡ not (excludes a.class (class_at p.ops.items j))
-    open_beside j = beside_by_class (kind (op_at p.ops.items a.candidate.number)) (kind (op_at p.ops.items j))
-        ∙ ap (λ k. not (excludes k (class_at p.ops.items j))) class_a
+    open_beside : (j : ℕ) → may_stand_beside (kind (op_at p.tables.now.ops.items a.candidate.number))
+        (kind (op_at p.tables.now.ops.items j)) ≡ not (excludes a.class (class_at p.tables.now.ops.items j))
+    open_beside j = beside_by_class (kind (op_at p.tables.now.ops.items a.candidate.number)) (kind (op_at p.tables.now.ops.items j))
+        ∙ ap (λ k. not (excludes k (class_at p.tables.now.ops.items j))) class_a
 
     -- who is ready and can go beside a stands open in the queues that are left
-    left_open : (j : ℕ) → In (filter beside (ready p.latencies p.ops.items rows (length rows))) j
-        → (excludes a.class (class_at p.ops.items j) ≡ false)
-        × In (candidates q1 (class_at p.ops.items j)) (candidate_at p.priorities.items j)
+    left_open : (j : ℕ) → In (filter beside (ready p.tables.now.latencies p.tables.now.ops.items rows (length rows))) j
+        → (excludes a.class (class_at p.tables.now.ops.items j) ≡ false)
+        × In (candidates q1 (class_at p.tables.now.ops.items j)) (candidate_at p.ranks.now j)
     left_open j held =
-        let found : In (ready p.latencies p.ops.items rows (length rows)) j × (beside j ≡ true) =
-        from_filter beside (ready p.latencies p.ops.items rows (length rows)) j held in
+        let found : In (ready p.tables.now.latencies p.tables.now.ops.items rows (length rows)) j × (beside j ≡ true) =
+        from_filter beside (ready p.tables.now.latencies p.tables.now.ops.items rows (length rows)) j held in
         let tests : (not (a.candidate.number == j) ≡ true)
-        × (may_stand_beside (kind (op_at p.ops.items a.candidate.number)) (kind (op_at p.ops.items j)) ≡ true) =
+        × (may_stand_beside (kind (op_at p.tables.now.ops.items a.candidate.number)) (kind (op_at p.tables.now.ops.items j)) ≡ true) =
         from_both _ _ found.1 in (
-          open_alone (excludes a.class (class_at p.ops.items j)) (sym (open_beside j) ∙ tests.1),
-          takes.stays (class_at p.ops.items j) (candidate_at p.priorities.items j) (ready_queued j found.0)
+          open_alone (excludes a.class (class_at p.tables.now.ops.items j)) (sym (open_beside j) ∙ tests.1),
+          takes.stays (class_at p.tables.now.ops.items j) (candidate_at p.ranks.now j) (ready_queued j found.0)
               (λ _ same. let equal : (a.candidate.number == j) ≡ true = grind (arith, nat_tests) in
               let other : not (a.candidate.number == j) ≡ true = tests.0 in
               not_equal (a.candidate.number == j) equal other),
@@ -165,52 +165,52 @@ module _ (p : Plan) (w : Waiting) (q : Queues) (rows : List Row) (plan : IsPlan 
 
     -- who stands open in them is ready and can go beside a
     open_left : (k : Class) (c : Candidate) → excludes a.class k ≡ false → In (candidates q1 k) c
-        → In (filter beside (ready p.latencies p.ops.items rows (length rows))) c.number
+        → In (filter beside (ready p.tables.now.latencies p.tables.now.ops.items rows (length rows))) c.number
     open_left k c free held =
         let old : In (candidates q k) c × (k ≡ a.class → c.number ≡ a.candidate.number → ⊥) = takes.was k c held in
-        let class_c : class_at p.ops.items c.number ≡ k = (under.queued.only k c old.0).1 in
+        let class_c : class_at p.tables.now.ops.items c.number ≡ k = (under.queued.only k c old.0).1 in
         let apart : a.candidate.number ≢ c.number =
-        (λ same. old.1 (sym class_c ∙ ap (λ n. class_at p.ops.items n) (sym same) ∙ class_a) (sym same)) in
-        in_filter beside (ready p.latencies p.ops.items rows (length rows)) c.number (queued_ready k c old.0)
+        (λ same. old.1 (sym class_c ∙ ap (λ n. class_at p.tables.now.ops.items n) (sym same) ∙ class_a) (sym same)) in
+        in_filter beside (ready p.tables.now.latencies p.tables.now.ops.items rows (length rows)) c.number (queued_ready k c old.0)
         (both_true _ _ (apart_numbers a.candidate.number c.number apart)
         (open_beside c.number ∙ ap (λ l. not (excludes a.class l)) class_c ∙ ap not free))
 
     pub chosen_second : (b : Option Choice) → IsBest q1 (Some a.class) b
-        → first_of_all p.priorities.items
-        (filter beside (ready p.latencies p.ops.items rows (length rows))) ≡ number_of b
-    chosen_second None none = first_none p.priorities.items
-        (filter beside (ready p.latencies p.ops.items rows (length rows)))
-        (λ j held. none (class_at p.ops.items j) (candidate_at p.priorities.items j) (left_open j held))
+        → first_of_all p.ranks.now
+        (filter beside (ready p.tables.now.latencies p.tables.now.ops.items rows (length rows))) ≡ number_of b
+    chosen_second None none = first_none p.ranks.now
+        (filter beside (ready p.tables.now.latencies p.tables.now.ops.items rows (length rows)))
+        (λ j held. none (class_at p.tables.now.ops.items j) (candidate_at p.ranks.now j) (left_open j held))
     chosen_second (Some b) best =
-        let is : b.candidate ≡ candidate_at p.priorities.items b.candidate.number =
+        let is : b.candidate ≡ candidate_at p.ranks.now b.candidate.number =
         (under.queued.only b.class b.candidate (takes.was b.class b.candidate best.0.1).0).2 in
-        first_is p.priorities.items (filter beside (ready p.latencies p.ops.items rows (length rows)))
+        first_is p.ranks.now (filter beside (ready p.tables.now.latencies p.tables.now.ops.items rows (length rows)))
         b.candidate.number
-        (ordered_filter (λ (x y : ℕ). x < y) beside (ready p.latencies p.ops.items rows (length rows))
-        (ready_rises p.latencies p.ops.items rows (length rows)))
+        (ordered_filter (λ (x y : ℕ). x < y) beside (ready p.tables.now.latencies p.tables.now.ops.items rows (length rows))
+        (ready_rises p.tables.now.latencies p.tables.now.ops.items rows (length rows)))
         (open_left b.class b.candidate best.0.0 best.0.1)
         (λ j held.
-        subst (λ c. IsFirst c (candidate_at p.priorities.items j)) is
-        (best.1 (class_at p.ops.items j) (candidate_at p.priorities.items j) (left_open j held)))
+        subst (λ c. IsFirst c (candidate_at p.ranks.now j)) is
+        (best.1 (class_at p.tables.now.ops.items j) (candidate_at p.ranks.now j) (left_open j held)))
 
     memory_beside : (b : Option Choice) → IsBest q1 (Some a.class) b
-        → is_some_kind is_memory (kind_in p.ops.items (number_of b)) ≡ is_memory_choice b
+        → is_some_kind is_memory (kind_in p.tables.now.ops.items (number_of b)) ≡ is_memory_choice b
     memory_beside None none = refl
-    memory_beside (Some b) best = memory_by_class (kind (op_at p.ops.items b.candidate.number))
+    memory_beside (Some b) best = memory_by_class (kind (op_at p.tables.now.ops.items b.candidate.number))
         ∙ ap is_memory_class (under.queued.only b.class b.candidate (takes.was b.class b.candidate best.0.1).0).1
 
     pub chosen_row : (b : Option Choice) → IsBest q None (Some a) → IsBest q1 (Some a.class) b
-        → row_with a b ≡ chosen p.ops.items p.priorities.items
-        (ready p.latencies p.ops.items rows (length rows))
+        → row_with a b ≡ chosen p.tables.now.ops.items p.ranks.now
+        (ready p.tables.now.latencies p.tables.now.ops.items rows (length rows))
     chosen_row b first second =
-        let product : is_mult (kind (op_at p.ops.items a.candidate.number)) ≡ is_product_class a.class =
-        mult_by_class (kind (op_at p.ops.items a.candidate.number)) ∙ ap is_product_class class_a in
-        let row : on_units p.ops.items a.candidate.number (number_of b) ≡ row_with a b =
-        ap (λ t. if t || is_some_kind is_memory (kind_in p.ops.items (number_of b)) then row_one a b else row_zero a b)
+        let product : is_mult (kind (op_at p.tables.now.ops.items a.candidate.number)) ≡ is_product_class a.class =
+        mult_by_class (kind (op_at p.tables.now.ops.items a.candidate.number)) ∙ ap is_product_class class_a in
+        let row : on_units p.tables.now.ops.items a.candidate.number (number_of b) ≡ row_with a b =
+        ap (λ t. if t || is_some_kind is_memory (kind_in p.tables.now.ops.items (number_of b)) then row_one a b else row_zero a b)
         product
         ∙ ap (λ t. if is_product_class a.class || t then row_one a b else row_zero a b) (memory_beside b second) in
         sym
-        (ap (chosen_with p.ops.items p.priorities.items
-        (ready p.latencies p.ops.items rows (length rows))) (chosen_first a first)
-        ∙ ap (on_units p.ops.items a.candidate.number) (chosen_second b second)
+        (ap (chosen_with p.tables.now.ops.items p.ranks.now
+        (ready p.tables.now.latencies p.tables.now.ops.items rows (length rows))) (chosen_first a first)
+        ∙ ap (on_units p.tables.now.ops.items a.candidate.number) (chosen_second b second)
         ∙ row)

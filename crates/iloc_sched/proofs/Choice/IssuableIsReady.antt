@@ -8,7 +8,7 @@ use Rattle.iloc_sched.specs.Delays.{IsDelayPair}
 use Rattle.iloc_sched.specs.Greedy.{ready}
 use Rattle.iloc_sched.specs.Steps.Choosing.{IsChosenSoFar}
 use Rattle.iloc_sched.specs.Steps.Members.{In}
-use Rattle.iloc_sched.specs.Steps.Near.{IsNear}
+use Rattle.iloc_sched.specs.Near.{IsNear}
 use Rattle.iloc_sched.specs.Steps.Graph.{Graph, IsGraphOf}
 use Rattle.iloc_sched.specs.Steps.Progress.{Progress, Waits, CanIssue, MatchesRows, count_from}
 use Rattle.iloc_sched.proofs.Choice.Ready.{IsReady, ready_means, ready_from}
@@ -17,7 +17,7 @@ use Rattle.iloc_sched.proofs.Choice.ChosenRows.{chosen_in}
 use Rattle.iloc_sched.proofs.Basics.Cases.{by_lt, none_of}
 use Rattle.iloc_sched.proofs.Walking.EdgeWalk.{within_count}
 use Rattle.iloc_sched.proofs.Walking.UnmetEdges.{count_none, count_some}
-use Rattle.iloc_sched.proofs.Graph.FarPairs.{near_is_over}
+use Rattle.iloc_sched.proofs.KeptEdges.FarPairs.{near_is_over}
 
 -- what was issued had waited for its delays
 pub waited : (prios : List ℕ) (lat : Latencies) (ops : List Op) (rows : List Row) → IsChosenSoFar prios lat ops rows → (i h d : ℕ)

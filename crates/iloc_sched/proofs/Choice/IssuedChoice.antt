@@ -4,7 +4,7 @@ use Rattle.std.proofs.lemmas.List.{get_or-set_same, get_or-set_other, append-nil
 use Rattle.std.specs.Global.{Vec}
 use Rattle.iloc_sched.specs.declared.cycle.candidate.Candidate.{Candidate}
 use Rattle.iloc_sched.specs.declared.cycle.class.Class.{Class}
-use Rattle.iloc_sched.specs.declared.plan.Plan.{Plan}
+use Rattle.iloc_sched.specs.declared.cycle.plan.Plan.{Plan}
 use Rattle.iloc_sched.specs.declared.cycle.queues.Queues.{Queues}
 use Rattle.iloc_sched.specs.declared.cycle.queues.Choice.{Choice}
 use Rattle.iloc_sched.specs.declared.cycle.waiting.OperationState.{OperationState}
@@ -30,23 +30,23 @@ pub issued_other : (xs ys : List (Option ℕ)) (n c k : ℕ) → ys ≡ set xs n
     → get_or ys k None ≡ get_or xs k None
 issued_other xs ys n c k is apart = ap (λ zs. get_or zs k None) is ∙ get_or-set_other xs n k (Some c) None apart
 
-pub issues_choice : (p : Plan) (w w' : Waiting) (q q' : Queues) (c : ℕ) (choice : Choice) → IsGraph (graph_of p.edges)
+pub issues_choice : (p : Plan) (w w' : Waiting) (q q' : Queues) (c : ℕ) (choice : Choice) → IsGraph (graph_of p.tables.now.edges)
     → IsUnderWay p w q (c + 1) → In (candidates q choice.class) choice.candidate → Takes q q' choice
-    → Waits (graph_of p.edges) (progress_of w') (c + 1) 0 None
+    → Waits (graph_of p.tables.now.edges) (progress_of w') (c + 1) 0 None
     → (issued_list w') ≡ set (issued_list w) choice.candidate.number (Some c)
-    → KeepsPlaces (progress_of w) (progress_of w') → IsSized p.edges w'
+    → KeepsPlaces (progress_of w) (progress_of w') → IsSized p.tables.now.edges w'
     → Issues p w w' q q' c choice
 issues_choice p w w' q q' c choice is under held takes waits' issued keeps sized' =
-    let can : CanIssue (graph_of p.edges) (progress_of w) (c + 1) choice.candidate.number =
+    let can : CanIssue (graph_of p.tables.now.edges) (progress_of w) (c + 1) choice.candidate.number =
     (under.queued.only choice.class choice.candidate held).0 in
-    let size : length (issued_list w) ≡ length p.edges.heads.items = issued_size p.edges w under.sized in
-    let among : choice.candidate.number < length p.edges.heads.items = can.there in
+    let size : length (issued_list w) ≡ length p.tables.now.edges.heads.items = issued_size p.tables.now.edges w under.sized in
+    let among : choice.candidate.number < length p.tables.now.edges.heads.items = can.there in
     let below : choice.candidate.number < length (issued_list w) = omega arith in
     record {
       under_way = record {
         sized = sized';
         waits = waits';
-        queued = queued_after p.ops.items p.priorities.items (graph_of p.edges) (progress_of w) (progress_of w') c q q'
+        queued = queued_after p.tables.now.ops.items p.ranks.now (graph_of p.tables.now.edges) (progress_of w) (progress_of w') c q q'
             choice is under.waits waits'
             (issued_at (issued_list w) (issued_list w') choice.candidate.number c issued below)
             (λ k apart. issued_other (issued_list w) (issued_list w') choice.candidate.number c k issued apart)
@@ -65,13 +65,13 @@ module _ (p : Plan) (w w1 : Waiting) (q q1 : Queues) (c : ℕ) (plan : IsPlan p)
   still_due j held = subst (λ js. In js j) (sym so_far.bucket)
       (in_right so_far.done ((progress_of w1).bucket (c % 32)) j held)
 
-  pub due_there : (j : ℕ) → In ((progress_of w1).bucket (c % 32)) j → j < length p.edges.heads.items
+  pub due_there : (j : ℕ) → In ((progress_of w1).bucket (c % 32)) j → j < length p.tables.now.edges.heads.items
   due_there j held = (under.waits.only (c % 32) j (omega arith) (still_due j held)).0
 
   pub due_linked : (j : ℕ) → In ((progress_of w1).bucket (c % 32)) j → j < length w1.calendar.behind.items
   due_linked j held =
-      let there : j < length p.edges.heads.items = due_there j held in
-      let links : length p.edges.heads.items ≤ length w.calendar.behind.items = under.sized.links in
+      let there : j < length p.tables.now.edges.heads.items = due_there j held in
+      let links : length p.tables.now.edges.heads.items ≤ length w.calendar.behind.items = under.sized.links in
       let same : length w1.calendar.behind.items ≡ length w.calendar.behind.items = so_far.links in
       omega arith
 
@@ -80,12 +80,12 @@ module _ (p : Plan) (w w1 : Waiting) (q q1 : Queues) (c : ℕ) (plan : IsPlan p)
       first_due : In ((progress_of w1).bucket (c % 32)) j
       first_due = subst (λ js. In js j) (sym taken) (inl refl)
 
-      pub taken_there : j < length p.ops.items
+      pub taken_there : j < length p.tables.now.ops.items
       taken_there = subst (λ n. j < n) plan.graph.size (due_there j first_due)
 
       pub taken_new : (k : Class) → HasNone (candidates q1 k) j
       taken_new k d held same = elim (so_far.admits.was k d held) [
-        | inl old ↦ due_is_new p.ops.items p.priorities.items (graph_of p.edges) (progress_of w) c q
+        | inl old ↦ due_is_new p.tables.now.ops.items p.ranks.now (graph_of p.tables.now.edges) (progress_of w) c q
             plan.graph.is_graph under.waits under.queued j k (still_due j first_due) d old same
         | inr come ↦ split_apart so_far.done j ((progress_of w2).bucket (c % 32))
             (subst AreApart (so_far.bucket ∙ ap (λ js. so_far.done ++ js) taken)
@@ -96,13 +96,13 @@ module _ (p : Plan) (w w1 : Waiting) (q q1 : Queues) (c : ℕ) (plan : IsPlan p)
       pub releasing_more : (q2 : Queues) (k : Class) (d : Candidate)
           → ((b : ℕ) → b < 32 → b ≢ c % 32 → (progress_of w2).bucket b ≡ (progress_of w1).bucket b)
           → w2.states ≡ w1.states → length w2.calendar.behind.items ≡ length w1.calendar.behind.items
-          → k ≡ class_at p.ops.items j → d ≡ candidate_at p.priorities.items j → AddsTo q1 q2 k d
+          → k ≡ class_at p.tables.now.ops.items j → d ≡ candidate_at p.ranks.now j → AddsTo q1 q2 k d
           → IsReleasing p w w2 q q2 c
       releasing_more q2 k d others states links class candidate adds = record {
         done = so_far.done ++ j ∷ [];
         bucket = so_far.bucket ∙ ap (λ js. so_far.done ++ js) taken
             ∙ sym (append_assoc so_far.done (j ∷ []) ((progress_of w2).bucket (c % 32)));
-        admits = admits_more p.ops.items p.priorities.items q q1 q2 so_far.done j k d so_far.admits class candidate adds;
+        admits = admits_more p.tables.now.ops.items p.ranks.now q q1 q2 so_far.done j k d so_far.admits class candidate adds;
         others = λ b small apart. others b small apart ∙ so_far.others b small apart;
         states = states ∙ so_far.states;
         links = links ∙ so_far.links;
@@ -116,17 +116,16 @@ released p w w' q q' c plan under so_far empty =
     so_far.bucket ∙ ap (λ js. so_far.done ++ js) empty ∙ append-nil so_far.done in
     record {
       sized = record {
-        starts = under.sized.starts;
         states = ap (λ (states : Vec OperationState). length states.items) so_far.states ∙ under.sized.states;
         links = omega (arith, so_far.links, under.sized.links);
       };
       waits = subst (λ (states : Vec OperationState).
-          Waits (graph_of p.edges) (progress_with states.items (bucket_of w'.calendar)) (c + 1) 0 None) (sym so_far.states)
-          (empties (graph_of p.edges) (progress_of w) c (bucket_of w'.calendar) plan.graph.is_graph under.waits empty
+          Waits (graph_of p.tables.now.edges) (progress_with states.items (bucket_of w'.calendar)) (c + 1) 0 None) (sym so_far.states)
+          (empties (graph_of p.tables.now.edges) (progress_of w) c (bucket_of w'.calendar) plan.graph.is_graph under.waits empty
           so_far.others);
-      queued = subst (λ (states : Vec OperationState). IsQueued p.ops.items p.priorities.items (graph_of p.edges)
+      queued = subst (λ (states : Vec OperationState). IsQueued p.tables.now.ops.items p.ranks.now (graph_of p.tables.now.edges)
           (progress_with states.items (bucket_of w'.calendar)) (c + 1) q') (sym so_far.states)
-          (queued_with_due p.ops.items p.priorities.items (graph_of p.edges) (progress_of w) c q plan.graph.is_graph
+          (queued_with_due p.tables.now.ops.items p.ranks.now (graph_of p.tables.now.edges) (progress_of w) c q plan.graph.is_graph
           under.waits under.queued q' (bucket_of w'.calendar)
-          (subst (λ js. Admits p.ops.items p.priorities.items q q' js) (sym all) so_far.admits));
+          (subst (λ js. Admits p.tables.now.ops.items p.ranks.now q q' js) (sym all) so_far.admits));
     }

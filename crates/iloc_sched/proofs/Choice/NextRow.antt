@@ -10,7 +10,7 @@ use Rattle.iloc_timed.specs.declared.row.Row.{Row}
 use Rattle.iloc_timed.specs.Rows.{empty_row, row_at, slots, issue_cycle, holds}
 use Rattle.iloc_sched.specs.Renaming.{renamed}
 use Rattle.iloc_sched.specs.Greedy.{ready, chosen_with, IsGreedyBy}
-use Rattle.iloc_sched.specs.declared.plan.Plan.{Plan}
+use Rattle.iloc_sched.specs.declared.cycle.plan.Plan.{Plan}
 use Rattle.iloc_sched.specs.declared.cycle.queues.Queues.{Queues}
 use Rattle.iloc_sched.specs.declared.cycle.queues.Choice.{Choice}
 use Rattle.iloc_sched.specs.declared.cycle.waiting.Waiting.{Waiting}
@@ -98,17 +98,17 @@ pub so_far_none : (p : Plan) (w w1 w2 : Waiting) (q q1 q2 : Queues) (rows rows' 
     → IsSoFar p w2 q2 rows'
 so_far_none p w w1 w2 q q1 q2 rows rows' row plan so_far same under best issues is_row is_rows =
     let size : length (rows ++ empty_row ∷ []) ≡ length rows + 1 = length-append rows (empty_row ∷ []) in
-    let matches : MatchesRows (length p.ops.items) rows (progress_of w1).issued =
-    subst (λ xs. MatchesRows (length p.ops.items) rows (λ j. get_or xs j None))
+    let matches : MatchesRows (length p.tables.now.ops.items) rows (progress_of w1).issued =
+    subst (λ xs. MatchesRows (length p.tables.now.ops.items) rows (λ j. get_or xs j None))
     (sym same) so_far.matches in
     let is : rows ++ empty_row ∷ [] ≡ rows' = ap (λ r. rows ++ r ∷ []) (sym is_row) ∙ sym is_rows in
     subst (λ rs. IsSoFar p w2 q2 rs) is (record {
       under_way = subst (λ n. IsUnderWay p w2 q2 n) (sym size) issues.0;
-      matches = matches_more (length p.ops.items) rows empty_row (progress_of w1).issued (progress_of w2).issued matches
+      matches = matches_more (length p.tables.now.ops.items) rows empty_row (progress_of w1).issued (progress_of w2).issued matches
           (λ j stands. absurd stands) (λ j misses. ap (λ xs. get_or xs j None) issues.1);
-      each = chosen_more p.priorities.items p.latencies p.ops.items rows empty_row so_far.each
-          (sym (ap (chosen_with p.ops.items p.priorities.items
-          (ready p.latencies p.ops.items rows (length rows)))
+      each = chosen_more p.ranks.now p.tables.now.latencies p.tables.now.ops.items rows empty_row so_far.each
+          (sym (ap (chosen_with p.tables.now.ops.items p.ranks.now
+          (ready p.tables.now.latencies p.tables.now.ops.items rows (length rows)))
           (chosen_none p w1 q1 rows plan under matches so_far.each best)));
     })
 
@@ -210,21 +210,21 @@ so_far_row p w w1 w2 w3 q q1 q2 q3 rows rows' row a b plan so_far same under bes
     is_rows =
     let made : Row = row_with a b in
     let size : length (rows ++ row_with a b ∷ []) ≡ length rows + 1 = length-append rows (row_with a b ∷ []) in
-    let matches : MatchesRows (length p.ops.items) rows (progress_of w1).issued =
-    subst (λ xs. MatchesRows (length p.ops.items) rows (λ j. get_or xs j None))
+    let matches : MatchesRows (length p.tables.now.ops.items) rows (progress_of w1).issued =
+    subst (λ xs. MatchesRows (length p.tables.now.ops.items) rows (λ j. get_or xs j None))
     (sym same) so_far.matches in
     let is : rows ++ row_with a b ∷ [] ≡ rows' = ap (λ r. rows ++ r ∷ []) (sym is_row) ∙ sym is_rows in
     subst (λ rs. IsSoFar p w3 q3 rs) is (record {
       under_way = subst (λ n. IsUnderWay p w3 q3 n) (sym size)
           (under_way_after p w1 w2 w3 q1 q2 q3 (length rows) a issues_a b issues_b);
-      matches = matches_more (length p.ops.items) rows (row_with a b) (progress_of w1).issued (progress_of w3).issued
+      matches = matches_more (length p.tables.now.ops.items) rows (row_with a b) (progress_of w1).issued (progress_of w3).issued
           matches
           (λ j stands. now_issued p w1 w2 w3 q1 q2 q3 (length rows) a issues_a b issues_b j (from_row a b j stands))
           (λ j misses. others_kept p w1 w2 w3 q1 q2 q3 (length rows) a issues_a b issues_b j
           (λ e. misses (subst (λ k. In (slots (row_with a b)) k) (sym e) (in_first a b)))
           (λ x some e. misses (subst (λ k. In (slots (row_with a b)) k) (sym e)
           (subst (λ o. In (slots (row_with a o)) x.candidate.number) (sym some) (in_second a x)))));
-      each = chosen_more p.priorities.items p.latencies p.ops.items rows (row_with a b) so_far.each
+      each = chosen_more p.ranks.now p.tables.now.latencies p.tables.now.ops.items rows (row_with a b) so_far.each
           (chosen_row p w1 q1 rows plan under matches so_far.each q2 a best_a.0.1 issues_a.takes b best_a best_b);
     })
 
@@ -283,13 +283,13 @@ few_rows p w q rows plan so_far some =
     let found : (j : ℕ) × (j < length (issued_list w)) × (get_or (issued_list w) j None ≡ None) =
     one_waits (issued_list w) some in
     let below : found.0 < length (issued_list w) = found.1 in
-    let table : length (issued_list w) ≡ length p.edges.heads.items = issued_size p.edges w so_far.under_way.sized in
-    let size : length p.edges.heads.items ≡ length p.ops.items = plan.graph.size in
-    let short : length p.edges.heads.items ≤ 10000 = p.edges.short in
-    let bound : length rows ≤ sum_by (latency p.latencies) p.ops.items =
-    rows_bound p.priorities.items p.latencies p.ops.items rows found.0 so_far.each (omega arith)
+    let table : length (issued_list w) ≡ length p.tables.now.edges.heads.items = issued_size p.tables.now.edges w so_far.under_way.sized in
+    let size : length p.tables.now.edges.heads.items ≡ length p.tables.now.ops.items = plan.graph.size in
+    let short : length p.tables.now.edges.heads.items ≤ 10000 = p.tables.now.edges.short in
+    let bound : length rows ≤ sum_by (latency p.tables.now.latencies) p.tables.now.ops.items =
+    rows_bound p.ranks.now p.tables.now.latencies p.tables.now.ops.items rows found.0 so_far.each (omega arith)
     (so_far.matches.waiting found.0 (omega arith) found.2) in
-    let sum : sum_by (latency p.latencies) p.ops.items ≤ length p.ops.items * 16 = short_sum p.latencies p.ops.items in
+    let sum : sum_by (latency p.tables.now.latencies) p.tables.now.ops.items ≤ length p.tables.now.ops.items * 16 = short_sum p.tables.now.latencies p.tables.now.ops.items in
     omega arith
 
 waits_count : (xs : List (Option ℕ)) (j : ℕ) → j < length xs → get_or xs j None ≡ None → 1 ≤ count_by is_none xs
@@ -308,12 +308,12 @@ none_waits xs none j below = by_option (get_or xs j None)
 -- none waits, so the rows are the greedy schedule
 pub greedy_at_end : (p : Plan) (w : Waiting) (q : Queues) (rows : List Row) (block : List Op) → IsPlan p
     → IsSoFar p w q rows → waiting_count w ≡ 0
-    → ((c : ℕ) → length rows ≡ c + 1 → slots (row_at rows c) ≡ [] → ⊥) → p.ops.items ≡ renamed block
-    → IsGreedyBy p.priorities.items p.latencies block p.ops.items rows
+    → ((c : ℕ) → length rows ≡ c + 1 → slots (row_at rows c) ≡ [] → ⊥) → p.tables.now.ops.items ≡ renamed block
+    → IsGreedyBy p.ranks.now p.tables.now.latencies block p.tables.now.ops.items rows
 greedy_at_end p w q rows block plan so_far none last is =
-    let table : length (issued_list w) ≡ length p.edges.heads.items = issued_size p.edges w so_far.under_way.sized in
-    let size : length p.edges.heads.items ≡ length p.ops.items = plan.graph.size in
-    chosen_is_greedy p.priorities.items p.latencies block p.ops.items rows is so_far.each
+    let table : length (issued_list w) ≡ length p.tables.now.edges.heads.items = issued_size p.tables.now.edges w so_far.under_way.sized in
+    let size : length p.tables.now.edges.heads.items ≡ length p.tables.now.ops.items = plan.graph.size in
+    chosen_is_greedy p.ranks.now p.tables.now.latencies block p.tables.now.ops.items rows is so_far.each
     (λ i below.
     let found : (t : ℕ) × (get_or (issued_list w) i None ≡ Some t) = none_waits (issued_list w) none i (omega arith) in
     let at : (issue_cycle rows i ≡ found.0) × (found.0 < length rows) = so_far.matches.done i found.0 below found.1 in

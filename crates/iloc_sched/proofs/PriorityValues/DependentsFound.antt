@@ -15,7 +15,7 @@ use Rattle.iloc_sched.specs.Steps.Graph.{Graph, IsGraphOf}
 use Rattle.iloc_sched.specs.Steps.Dependents.{Reaches, IsMarked, AreMarked}
 use Rattle.iloc_sched.proofs.PriorityValues.Dependents.{by_pair, first_pair}
 use Rattle.iloc_sched.proofs.Basics.Cases.{by_eq}
-use Rattle.iloc_sched.proofs.Graph.FarPairs.{near_or_by_way}
+use Rattle.iloc_sched.proofs.KeptEdges.FarPairs.{near_or_by_way}
 
 in_left_set : (a b i : ℕ) → bit_at a i ≡ 1 → bit_at (bit_or a b) i ≡ 1
 in_left_set a b i is =

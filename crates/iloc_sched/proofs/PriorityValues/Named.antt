@@ -1,4 +1,4 @@
--- The priorities of the heuristics as lists: one for each operation; for `Plan::fill`.
+-- The priorities of the heuristics as lists: one for each operation; for `fill_ranks`.
 use Rattle.std.proofs.Common.{◌≡◌, List, length}
 use Rattle.std.proofs.lemmas.List.{length-map}
 use Rattle.std.proofs.lemmas.List.FromFn.{length-map-range_with_len}

@@ -11,7 +11,7 @@ use Rattle.iloc_sched.specs.Priority.{priorities, priority}
 use Rattle.iloc_sched.specs.Steps.Graph.{Graph, IsGraphOf, IsRaised}
 use Rattle.iloc_sched.proofs.PriorityValues.Longest.{is_priority, length-priorities}
 use Rattle.iloc_sched.proofs.Basics.Cases.{by_eq}
-use Rattle.iloc_sched.proofs.Graph.FarPairs.{near_or_by_way}
+use Rattle.iloc_sched.proofs.KeptEdges.FarPairs.{near_or_by_way}
 use Rattle.iloc_sched.proofs.PriorityValues.Small.{priority_most}
 
 -- two lists with the same numbers are one

@@ -10,7 +10,7 @@ use Rattle.iloc_sched.specs.Steps.Graph.{Graph, IsGraphOf}
 use Rattle.iloc_sched.specs.Steps.Starts.{IsStarted}
 use Rattle.iloc_sched.proofs.PriorityValues.Starts.{is_start, length-starts, start_most}
 use Rattle.iloc_sched.proofs.PriorityValues.Raised.{same_numbers, size_kept, still_upper, one_over}
-use Rattle.iloc_sched.proofs.Graph.FarPairs.{near_or_by_way}
+use Rattle.iloc_sched.proofs.KeptEdges.FarPairs.{near_or_by_way}
 
 module _ (lat : Latencies) (ops : List Op) (graph : Graph) (is : IsGraphOf lat ops graph) where
   pub started_none : (own : List ℕ) → own ≡ replicate graph.ops 0 → IsStarted lat ops graph own 0

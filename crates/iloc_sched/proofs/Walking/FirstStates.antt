@@ -5,7 +5,7 @@ use Rattle.std.proofs.lemmas.List.{length-map, length-replicate, replicate_more}
 use Rattle.std.proofs.lemmas.List.FromFn.{get_or-map-range_with_len, map-range_with_len_more}
 use Rattle.std.specs.List.{range_with_len}
 use Rattle.iloc_sched.specs.declared.edges.Edges.{Edges}
-use Rattle.iloc_sched.specs.declared.plan.Plan.{Plan}
+use Rattle.iloc_sched.specs.declared.cycle.plan.Plan.{Plan}
 use Rattle.iloc_sched.specs.declared.cycle.queues.Queues.{Queues}
 use Rattle.iloc_sched.specs.declared.cycle.class.Class.{Class}
 use Rattle.iloc_sched.specs.declared.cycle.waiting.OperationState.{OperationState}
@@ -58,7 +58,7 @@ abbrev edges_into : Graph → ℕ → ℕ
 edges_into graph j = graph.start (j + 1) - graph.start j
 
 -- the states of one more operation
-module _ (e : Edges) (w v : Waiting) (n : ℕ) (state : OperationState) (below : n < length e.starts.items)
+module _ (e : Edges) (w v : Waiting) (n : ℕ) (state : OperationState)
     (so_far : IsOpening e w n) (states : v.states.items ≡ w.states.items ++ state ∷ []) (fresh : state.issued ≡ None)
     (unmet : state.wait.unmet ≡ (graph_of e).start (n + 1) - (graph_of e).start n) (soon : state.wait.earliest ≡ 0) where
   issued_more : issued_list v ≡ replicate (n + 1) not_issued
@@ -139,17 +139,16 @@ module _ (e : Edges) (w : Waiting) (is : IsGraph (graph_of e)) (made : IsOpening
       (λ j. ap (λ xs. get_or xs j 0) made.earliest ∙ read_replicate (length e.heads.items) 0 j)
       made.roots made.others
 
-  pub all_sized : length e.starts.items ≡ length e.heads.items + 1 → IsSized e w
-  all_sized starts = record {
-    starts = starts;
+  pub all_sized : IsSized e w
+  all_sized = record {
     states = sym (length-map w.states.items (λ (s : OperationState). s.issued)) ∙ ap (length {A = Option ℕ}) made.issued
         ∙ length-replicate (length e.heads.items) not_issued;
     links = made.links;
   }
 
 -- no row yet
-pub so_far_opened : (p : Plan) (w : Waiting) (q : Queues) → Waits (graph_of p.edges) (progress_of w) 0 0 None
-    → IsSized p.edges w → ((j : ℕ) → (progress_of w).issued j ≡ None) → ((k : Class) → candidates q k ≡ [])
+pub so_far_opened : (p : Plan) (w : Waiting) (q : Queues) → Waits (graph_of p.tables.now.edges) (progress_of w) 0 0 None
+    → IsSized p.tables.now.edges w → ((j : ℕ) → (progress_of w).issued j ≡ None) → ((k : Class) → candidates q k ≡ [])
     → IsSoFar p w q []
 so_far_opened p w q waits sized none empty = record {
   under_way = record {

@@ -1,26 +1,26 @@
--- What holds of a plan to which operations are added.
+-- What holds of tables to which operations are added.
 use Rattle.std.specs.Prelude.{ℕ, ◌+◌, ◌*◌, ◌≡◌, ◌≤◌, length, map, vec_capacity}
 use Rattle.iloc_timed.specs.Kinds.{kind}
 use Rattle.iloc_timed.specs.Latency.{latency}
 use Rattle.iloc_sched.specs.declared.edges.lasts.Lasts.{Lasts}
-use Rattle.iloc_sched.specs.declared.plan.Plan.{Plan}
+use Rattle.iloc_sched.specs.declared.tables.Tables.{Tables}
 use Rattle.iloc_sched.specs.Steps.Lasts.{IsLasts}
 use Rattle.iloc_sched.specs.Steps.PartialGraph.{HasCapacity, IsPartialGraph}
 use Rattle.iloc_sched.specs.Steps.Views.{graph_of}
 
--- the plan has the kinds of its operations, their latencies for priorities, and the edges between them, and what
+-- the tables have the kinds of their operations, their latencies, and the edges between them, and what
 -- stands last is known
-pub record IsFilling (p : Plan) (lasts : Lasts) : Type 0 where
-  pub kinds : p.kinds.items ≡ map kind p.ops.items
-  pub own : p.priorities.items ≡ map (latency p.latencies) p.ops.items
-  pub partial : IsPartialGraph p.latencies p.ops.items (graph_of p.edges) (length p.ops.items)
-  pub known : IsLasts p.ops.items lasts (length p.ops.items)
-  pub starts : length p.edges.starts.items ≡ length p.ops.items + 1
-  pub count : length p.edges.edges.items + length lasts.loads.items ≤ 5 * length p.ops.items
+pub record IsFilling (t : Tables) (lasts : Lasts) : Type 0 where
+  pub kinds : t.kinds.items ≡ map kind t.ops.items
+  pub own : t.own.items ≡ map (latency t.latencies) t.ops.items
+  pub partial : IsPartialGraph t.latencies t.ops.items (graph_of t.edges) (length t.ops.items)
+  pub known : IsLasts t.ops.items lasts (length t.ops.items)
+  pub starts : length t.edges.starts.items ≡ length t.ops.items + 1
+  pub count : length t.edges.edges.items + length lasts.loads.items ≤ 5 * length t.ops.items
 
 -- there is capacity for n operations
-pub record CanHold (p : Plan) (n : ℕ) : Type 0 where
-  pub ops : n ≤ vec_capacity p.ops
-  pub kinds : n ≤ vec_capacity p.kinds
-  pub priorities : n ≤ vec_capacity p.priorities
-  pub edges : HasCapacity p.edges n
+pub record CanHold (t : Tables) (n : ℕ) : Type 0 where
+  pub ops : n ≤ vec_capacity t.ops
+  pub kinds : n ≤ vec_capacity t.kinds
+  pub own : n ≤ vec_capacity t.own
+  pub edges : HasCapacity t.edges n

@@ -7,7 +7,7 @@ use Rattle.iloc_timed.specs.Latency.{latency}
 use Rattle.iloc_sched.specs.Delays.{IsDelayPair}
 use Rattle.iloc_sched.specs.Priority.{priority}
 use Rattle.iloc_sched.specs.declared.cycle.calendar.TheConstants.{LONGEST_DELAY}
-use Rattle.iloc_sched.specs.Steps.Near.{IsNear}
+use Rattle.iloc_sched.specs.Near.{IsNear}
 
 -- edges by number: those into operation j are the ones from `start j` up to `start (j + 1)`; of those out of
 -- operation i the last is `head i`, and the one before edge x is `previous x`
@@ -36,11 +36,12 @@ pub record IsGraph (graph : Graph) : Type 0 where
   pub heads : (i : ℕ) → i < graph.ops → IsLast (λ x. graph.from x ≡ i) graph.count (graph.head i)
   pub previous_edges : (x : ℕ) → x < graph.count → IsLast (λ y. graph.from y ≡ graph.from x) x (graph.previous x)
 
--- each edge is a delay pair, and each near pair has its edge
+-- each edge is a delay pair, and near, and each near pair has its edge
 pub record IsGraphOf (lat : Latencies) (ops : List Op) (graph : Graph) : Type 0 where
   pub is_graph : IsGraph graph
   pub size : graph.ops ≡ length ops
   pub sound : (x : ℕ) → x < graph.count → IsDelayPair lat ops (graph.from x) (graph.to x) (graph.delay x)
+  pub near : (x : ℕ) → x < graph.count → IsNear lat ops (graph.from x) (graph.to x) (graph.delay x)
   pub all : (i j d : ℕ) → IsDelayPair lat ops i j d → IsNear lat ops i j d → (x : ℕ) × (x < graph.count) × (graph.to x ≡ j) × (graph.from x ≡ i) × (d ≤ graph.delay x)
 
 -- the numbers are the latencies of operations between which these edges are kept

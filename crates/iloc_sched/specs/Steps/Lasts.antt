@@ -20,13 +20,17 @@ pub record NotesDefiner (op : Op) (old new : ByRegister) (j : ℕ) : Type 0 wher
   pub changed : (r : Reg) → defined op ≡ Some r → number_at new r.0 ≡ Some j
   pub others : (r : Reg) → (defined op ≡ Some r → ⊥) → number_at new r.0 ≡ number_at old r.0
 
+-- no store is between i and j
+abbrev pub NoStoreBetween : List Op → ℕ → ℕ → Type 0
+NoStoreBetween ops i j = (k : ℕ) → i < k → k < j → is_store (kind (op_at ops k)) ≡ false
+
 -- what stands last before operation j
 pub record IsLasts (ops : List Op) (lasts : Lasts) (j : ℕ) : Type 0 where
   pub definers : (r : Reg) → IsLast (λ i. defined (op_at ops i) ≡ Some r) j (number_at lasts.definers r.0)
   pub store : IsLast (λ i. is_store (kind (op_at ops i)) ≡ true) j lasts.store
   pub output : IsLast (λ i. is_output (kind (op_at ops i)) ≡ true) j lasts.output
-  pub loads : (i : ℕ) → In lasts.loads.items i → (i < j) × (is_load (kind (op_at ops i)) ≡ true)
-  pub all_loads : (i : ℕ) → i < j → is_load (kind (op_at ops i)) ≡ true → ((k : ℕ) → i < k → k < j → is_store (kind (op_at ops k)) ≡ false) → In lasts.loads.items i
+  pub loads : (i : ℕ) → In lasts.loads.items i → (i < j) × (is_load (kind (op_at ops i)) ≡ true) × NoStoreBetween ops i j
+  pub all_loads : (i : ℕ) → i < j → is_load (kind (op_at ops i)) ≡ true → NoStoreBetween ops i j → In lasts.loads.items i
 
 -- operation j of these is the next, and their kinds and what stands last before it are known
 pub record IsNext (ops : List Op) (kinds : List Kind) (lasts : Lasts) (j : ℕ) : Type 0 where

@@ -8,7 +8,7 @@ use Rattle.iloc_timed.specs.declared.latencies.Latencies.{Latencies}
 use Rattle.iloc_timed.specs.Latency.{latency}
 use Rattle.iloc_sched.specs.declared.edges.Edges.{Edges}
 use Rattle.iloc_sched.specs.Delays.{memory_delays, IsDelayPair}
-use Rattle.iloc_sched.specs.Steps.Near.{IsNear, NoneBetween}
+use Rattle.iloc_sched.specs.Near.{IsNear, IsNearPair, NoneBetween}
 use Rattle.iloc_sched.specs.Steps.Graph.{Graph, IsLast}
 
 -- the edges into the operations before j are all there, and some of those into j
@@ -19,7 +19,7 @@ pub record IsPartialGraph (lat : Latencies) (ops : List Op) (graph : Graph) (j :
   pub into : (b x : ℕ) → b < j → graph.start b ≤ x → x < graph.start (b + 1) → graph.to x ≡ b
   pub into_last : (x : ℕ) → graph.start j ≤ x → x < graph.count → graph.to x ≡ j
   pub to_there : (x : ℕ) → x < graph.start j → (graph.to x < j) × (graph.start (graph.to x) ≤ x) × (x < graph.start (graph.to x + 1))
-  pub sound : (x : ℕ) → x < graph.count → IsDelayPair lat ops (graph.from x) (graph.to x) (graph.delay x)
+  pub sound : (x : ℕ) → x < graph.count → IsNearPair lat ops (graph.from x) (graph.to x) (graph.delay x)
   pub heads : (i : ℕ) → i < graph.ops → IsLast (λ x. graph.from x ≡ i) graph.count (graph.head i)
   pub previous_edges : (x : ℕ) → x < graph.count → IsLast (λ y. graph.from y ≡ graph.from x) x (graph.previous x)
   pub all : (i b d : ℕ) → b < j → IsDelayPair lat ops i b d → IsNear lat ops i b d → (x : ℕ) × (x < graph.start j) × (graph.to x ≡ b) × (graph.from x ≡ i) × (d ≤ graph.delay x)
@@ -74,7 +74,7 @@ pub record Grows (lat : Latencies) (ops : List Op) (graph graph' : Graph) (j : �
 -- edges into j with delay d are added, from each operation of which P holds
 abbrev pub AddsFrom : (ℕ → Type 0) → Graph → Graph → ℕ → ℕ → Type 0
 AddsFrom P graph graph' j d =
-    (lat : Latencies) (ops : List Op) → IsPartialGraph lat ops graph j → ((i : ℕ) → P i → IsDelayPair lat ops i j d)
+    (lat : Latencies) (ops : List Op) → IsPartialGraph lat ops graph j → ((i : ℕ) → P i → IsNearPair lat ops i j d)
     → Grows lat ops graph graph' j × ((i : ℕ) → P i → HasEdge graph' j i d)
 
 -- a use of register r has its edge

@@ -6,7 +6,7 @@ use Rattle.iloc_timed.specs.declared.row.Row.{Row}
 use Rattle.iloc_timed.specs.Kinds.{kind}
 use Rattle.iloc_sched.specs.declared.cycle.candidate.Candidate.{Candidate}
 use Rattle.iloc_sched.specs.declared.cycle.class.Class.{Class}
-use Rattle.iloc_sched.specs.declared.plan.Plan.{Plan}
+use Rattle.iloc_sched.specs.declared.cycle.plan.Plan.{Plan}
 use Rattle.iloc_sched.specs.declared.cycle.queues.Queues.{Queues}
 use Rattle.iloc_sched.specs.declared.cycle.queues.Choice.{Choice}
 use Rattle.iloc_sched.specs.declared.cycle.waiting.Waiting.{Waiting}
@@ -25,10 +25,9 @@ class_at ops i = class_of (kind (op_at ops i))
 
 -- a plan has the kinds and the edges of its operations, and a priority for each
 pub record IsPlan (p : Plan) : Type 0 where
-  pub kinds : p.kinds.items ≡ map kind p.ops.items
-  pub graph : IsGraphOf p.latencies p.ops.items (graph_of p.edges)
-  pub priorities : length p.priorities.items ≡ length p.ops.items
-  pub starts : length p.edges.starts.items ≡ length p.edges.heads.items + 1
+  pub kinds : p.tables.now.kinds.items ≡ map kind p.tables.now.ops.items
+  pub graph : IsGraphOf p.tables.now.latencies p.tables.now.ops.items (graph_of p.tables.now.edges)
+  pub priorities : length p.ranks.now ≡ length p.tables.now.ops.items
 
 -- the queues have just what can be issued, by class
 pub record IsQueued (ops : List Op) (prios : List ℕ) (graph : Graph) (w : Progress) (f : ℕ) (q : Queues) : Type 0 where
@@ -45,22 +44,22 @@ pub record Admits (ops : List Op) (prios : List ℕ) (q q' : Queues) (js : List 
 pub record IsReleasing (p : Plan) (w w' : Waiting) (q q' : Queues) (c : ℕ) : Type 0 where
   pub done : List ℕ
   pub bucket : (progress_of w).bucket (c % 32) ≡ done ++ (progress_of w').bucket (c % 32)
-  pub admits : Admits p.ops.items p.priorities.items q q' done
+  pub admits : Admits p.tables.now.ops.items p.ranks.now q q' done
   pub others : (b : ℕ) → b < 32 → b ≢ c % 32 → (progress_of w').bucket b ≡ (progress_of w).bucket b
   pub states : w'.states ≡ w.states
   pub links : length w'.calendar.behind.items ≡ length w.calendar.behind.items
 
 -- what holds before cycle f, once what becomes ready before it is in the queues
 pub record IsUnderWay (p : Plan) (w : Waiting) (q : Queues) (f : ℕ) : Type 0 where
-  pub sized : IsSized p.edges w
-  pub waits : Waits (graph_of p.edges) (progress_of w) f 0 None
-  pub queued : IsQueued p.ops.items p.priorities.items (graph_of p.edges) (progress_of w) f q
+  pub sized : IsSized p.tables.now.edges w
+  pub waits : Waits (graph_of p.tables.now.edges) (progress_of w) f 0 None
+  pub queued : IsQueued p.tables.now.ops.items p.ranks.now (graph_of p.tables.now.edges) (progress_of w) f q
 
 -- what holds between two cycles
 pub record IsSoFar (p : Plan) (w : Waiting) (q : Queues) (rows : List Row) : Type 0 where
   pub under_way : IsUnderWay p w q (length rows)
-  pub matches : MatchesRows (length p.ops.items) rows (progress_of w).issued
-  pub each : IsChosenSoFar p.priorities.items p.latencies p.ops.items rows
+  pub matches : MatchesRows (length p.tables.now.ops.items) rows (progress_of w).issued
+  pub each : IsChosenSoFar p.ranks.now p.tables.now.latencies p.tables.now.ops.items rows
 
 -- the choice was taken, and issued at cycle c
 pub record Issues (p : Plan) (w w' : Waiting) (q q' : Queues) (c : ℕ) (choice : Choice) : Type 0 where

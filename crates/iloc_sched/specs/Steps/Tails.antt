@@ -1,17 +1,15 @@
 -- What pins the tails down without a recursion, and what holds while they are found.
-use Rattle.std.specs.Prelude.{ℕ, suc, ◌+◌, ◌≡◌, ◌<◌, ◌≤◌, ◌⊎◌, max, if◌then◌else◌, List, length, map, fold, slice_index, drop}
+use Rattle.std.specs.Prelude.{ℕ, suc, ◌+◌, ◌≡◌, ◌<◌, ◌≤◌, ◌⊎◌, max, if◌then◌else◌, List, length, fold, slice_index, drop}
 use Rattle.iloc_ops.specs.declared.op.Op.{Op}
 use Rattle.iloc_meaning.specs.Trace.{op_at}
 use Rattle.iloc_timed.specs.declared.kind.Kind.{Kind}
 use Rattle.iloc_timed.specs.declared.latencies.Latencies.{Latencies}
-use Rattle.iloc_timed.specs.Kinds.{kind, is_store}
+use Rattle.iloc_timed.specs.Kinds.{is_store}
 use Rattle.iloc_timed.specs.Latency.{latency}
 use Rattle.iloc_sched.specs.Delays.{IsDelayPair}
 use Rattle.iloc_sched.specs.Priority.{reaches}
 use Rattle.iloc_sched.specs.Least.{needed, load_tails, behind, tails, tail}
-use Rattle.iloc_sched.specs.declared.edges.Edges.{Edges}
-use Rattle.iloc_sched.specs.Steps.Graph.{Graph, IsGraphOf}
-use Rattle.iloc_sched.specs.Steps.Views.{graph_of}
+use Rattle.iloc_sched.specs.Steps.Graph.{Graph}
 
 -- the tails of the loads from operation i on
 abbrev pub loads_from : Latencies → List Op → ℕ → List ℕ
@@ -43,10 +41,3 @@ pub record IsTailed (lat : Latencies) (ops : List Op) (graph : Graph) (found : L
   pub own : (i : ℕ) → i < j → i < length ops → latency lat (op_at ops i) ≤ slice_index found i
   pub upper : (i : ℕ) → i < j → i < length ops → slice_index found i ≤ chain_tail lat ops i
   pub over : (y : ℕ) → x ≤ y → y < graph.count → graph.delay y + tail lat ops (graph.to y) ≤ slice_index found (graph.from y)
-
--- these are the kinds of operations between which these edges are kept
-pub record AreKept (lat : Latencies) (kinds : List Kind) (edges : Edges) : Type 0 where
-  pub ops : List Op
-  pub kept : IsGraphOf lat ops (graph_of edges)
-  pub kinds_are : kinds ≡ map kind ops
-  pub starts : length edges.starts.items ≡ length edges.heads.items + 1

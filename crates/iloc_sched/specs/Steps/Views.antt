@@ -1,5 +1,5 @@
 -- The scheduler's tables as functions of numbers.
-use Rattle.std.specs.Prelude.{ℕ, ◌+◌, ◌≡◌, ◌≤◌, List, length, map, slice_index, slice_index_or, Option, None}
+use Rattle.std.specs.Prelude.{ℕ, ◌≡◌, ◌≤◌, List, length, map, slice_index, slice_index_or, Option, None}
 use Rattle.iloc_sched.specs.declared.edges.Edge.{Edge}
 use Rattle.iloc_sched.specs.declared.edges.Edges.{Edges}
 use Rattle.iloc_sched.specs.declared.cycle.waiting.OperationState.{OperationState}
@@ -25,6 +25,12 @@ graph_of e = record {
   head = λ i. slice_index_or e.heads.items i None;
   previous = λ x. (edge_at e x).previous;
 }
+
+-- no operation and no edge
+pub record IsEmptied (e : Edges) : Type 0 where
+  pub edges : length e.edges.items ≡ 0
+  pub starts : length e.starts.items ≡ 0
+  pub heads : length e.heads.items ≡ 0
 
 abbrev pub issued_in : List OperationState → List (Option ℕ)
 issued_in states = map (λ (s : OperationState). s.issued) states
@@ -58,6 +64,5 @@ progress_of w = progress_with w.states.items (bucket_of w.calendar)
 
 -- the tables are as long as the operations need them
 pub record IsSized (e : Edges) (w : Waiting) : Type 0 where
-  pub starts : length e.starts.items ≡ length e.heads.items + 1
   pub states : length w.states.items ≡ length e.heads.items
   pub links : length e.heads.items ≤ length w.calendar.behind.items

@@ -56,7 +56,6 @@ impl Waiting {
     /// Nothing is issued: each operation waits for all edges into it, and who has none becomes ready at once.
     pub fn open(&mut self, edges: &Edges) -> Result<(), NoMemory>
         requires graph { IsGraph (graph_of edges.now) }
-        requires starts { length edges.now.starts.items ≡ length edges.now.heads.items + 1 }
         ensures waits { OnOk result (Waits (graph_of edges.now) (progress_of self.new) 0 0 None) }
         ensures sized { OnOk result (IsSized edges.now self.new) }
         ensures none { OnOk result ((j : ℕ) → (progress_of self.new).issued j ≡ None) }

@@ -1,16 +1,12 @@
 //! How many operations depend on each.
-ghost use Rattle.std.specs.Prelude.{ℕ, ◌≡◌, ◌≤◌, ◌<◌, ◌+◌, ◌*◌, ◌^◌, List, length, map, slice_index, replicate, count_ones, OnOk};
+ghost use Rattle.std.specs.Prelude.{ℕ, ◌≡◌, ◌≤◌, ◌<◌, ◌+◌, ◌^◌, length, map, slice_index, replicate, count_ones, OnOk};
 ghost use Rattle.std.specs.Int.{bit_at};
 ghost use Rattle.std.specs.List.{range_with_len};
-ghost use Rattle.iloc_ops.specs.declared.op.Op.{Op};
-ghost use Rattle.iloc_timed.specs.declared.latencies.Latencies.{Latencies};
-ghost use Rattle.iloc_timed.specs.Latency.{latency};
 ghost use Rattle.iloc_sched.specs.Heuristics.{descendants};
 ghost use Rattle.iloc_sched.specs.Steps.Dependents.{AreMarked};
-ghost use Rattle.iloc_sched.specs.Steps.Graph.{IsGraphOf, AreLatencies};
-ghost use Rattle.iloc_sched.specs.Steps.Views.{graph_of};
+ghost use Rattle.iloc_sched.specs.Steps.SoundGraph.{IsSound};
 
-use crate::edges::Edges;
+use crate::tables::Tables;
 use iloc_ops::NoMemory;
 use std::alloc::Global;
 
@@ -27,13 +23,12 @@ fn own(to: u32, base: u32) -> u64
 }
 
 /// Finds for each operation which of the 64 from `base` on depend on it.
-fn mark(masks: &mut Vec<u64>, edges: &Edges, base: u32)
-    requires graph { (lat : Latencies) × (ops : List Op) × IsGraphOf lat ops (graph_of edges.now) }
-    requires zeros { masks.old.items ≡ replicate (length edges.now.heads.items) 0 }
-    ensures marked { (lat : Latencies) (ops : List Op) → IsGraphOf lat ops (graph_of edges.now)
-        → AreMarked lat ops base masks.new.items }
-    ensures size { length masks.new.items ≡ length edges.now.heads.items }
+fn mark(masks: &mut Vec<u64>, tables: &Tables, base: u32)
+    requires sound { IsSound tables.now }
+    requires zeros { masks.old.items ≡ replicate (length tables.now.edges.heads.items) 0 }
+    ensures { AreMarked tables.now.latencies tables.now.ops.items base masks.new.items }
 {
+    let edges = &tables.edges;
     for x in (0..edges.edge_count()).rev() {
         let edge = edges.get(x);
         let behind = masks[edge.to as usize] | own(edge.to, base);
@@ -55,27 +50,26 @@ fn add_counts(counts: &mut Vec<u32>, masks: &[u64])
     }
 }
 
-/// Turns the latencies of operations into the numbers of those that depend on them: 64 operations at a time are followed
-/// along all edges, so that it takes time in n * n / 64 and memory in n.
+/// Fills a list with how many operations depend on each: 64 operations at a time are followed along all edges, so that it
+/// takes time in n * n / 64 and memory in n.
 pub(crate) fn count_descendants(
+    found: &mut Vec<u32>,
     alloc: Global,
-    prios: &mut Vec<u32>,
-    edges: &Edges,
+    tables: &Tables,
 ) -> Result<(), NoMemory>
-    requires { AreLatencies (graph_of edges.now) prios.old.items }
-    ensures { OnOk result ((lat : Latencies) (ops : List Op) → IsGraphOf lat ops (graph_of edges.now)
-        → prios.old.items ≡ map (latency lat) ops
-        → prios.new.items ≡ map (descendants lat ops) (range_with_len 0 (length ops))) }
+    requires { IsSound tables.now }
+    ensures { OnOk result (found.new.items
+        ≡ map (descendants tables.now.latencies tables.now.ops.items) (range_with_len 0 (length tables.now.ops.items))) }
 {
-    let count = edges.op_count();
-    prios.clear();
-    prios.resize(count, 0)?;
+    let count = tables.edges.op_count();
+    found.clear();
+    found.resize(count, 0)?;
     let mut masks = Vec::new(alloc);
     for chunk in 0..count.div_ceil(64) {
         masks.clear();
         masks.resize(count, 0)?;
-        mark(&mut masks, edges, 64 * chunk as u32);
-        add_counts(prios, &masks);
+        mark(&mut masks, tables, 64 * chunk as u32);
+        add_counts(found, &masks);
     }
     Ok(())
 }

@@ -1,20 +1,14 @@
 //! By what the ready operations are ranked.
-ghost use Rattle.std.specs.Prelude.{◌≡◌, ◌+◌, List, length, map, replicate, OnOk};
-ghost use Rattle.iloc_ops.specs.declared.op.Op.{Op};
-ghost use Rattle.iloc_timed.specs.declared.latencies.Latencies.{Latencies};
-ghost use Rattle.iloc_timed.specs.Kinds.{kind};
-ghost use Rattle.iloc_timed.specs.Latency.{latency};
+ghost use Rattle.std.specs.Prelude.{◌≡◌, replicate, OnOk};
 ghost use Rattle.iloc_sched.specs.Heuristics.{priorities_by};
-ghost use Rattle.iloc_sched.specs.Steps.Graph.{IsGraphOf, AreLatencies};
-ghost use Rattle.iloc_sched.specs.Steps.Views.{graph_of};
+ghost use Rattle.iloc_sched.specs.Steps.SoundGraph.{IsSound};
 
-use crate::edges::Edges;
 use crate::ranking::descendants::count_descendants;
-use crate::ranking::priority::raise_priorities;
-use crate::ranking::slack::raise_to_through;
+use crate::ranking::priority::{copy_latencies, fill_chains};
+use crate::ranking::slack::fill_through;
 use crate::ranking::successors::count_successors;
+use crate::tables::Tables;
 use iloc_ops::NoMemory;
-use iloc_timed::Kind;
 use std::alloc::Global;
 
 /// By what the ready operations are ranked: the one of which it is most goes first, and of equals the one of lower number.
@@ -34,42 +28,37 @@ pub enum Heuristic {
     Order,
 }
 
-/// Leaves zeros in place of numbers.
-fn set_to_zero(prios: &mut Vec<u32>) -> Result<(), NoMemory>
-    ensures { OnOk result (prios.new.items ≡ replicate (length prios.old.items) 0) }
+/// Fills a list with so many zeros.
+fn fill_zeros(found: &mut Vec<u32>, count: usize) -> Result<(), NoMemory>
+    ensures { OnOk result (found.new.items ≡ replicate count 0) }
 {
-    let count = prios.len();
-    prios.clear();
-    prios.resize(count, 0)?;
+    found.clear();
+    found.resize(count, 0)?;
     Ok(())
 }
 
-/// Turns the latencies of operations of these kinds into their priorities by a heuristic.
+/// Fills a list with the priorities of operations by a heuristic.
 #[inline(always)]
-pub(crate) fn rank_by(
+pub(crate) fn fill_ranks(
+    found: &mut Vec<u32>,
     heuristic: Heuristic,
     alloc: Global,
-    prios: &mut Vec<u32>,
-    kinds: &[Kind],
-    edges: &Edges,
+    tables: &Tables,
 ) -> Result<(), NoMemory>
-    requires own { AreLatencies (graph_of edges.now) prios.old.items }
-    requires kinds { (lat : Latencies) × (ops : List Op) × IsGraphOf lat ops (graph_of edges.now) × (kinds.now ≡ map kind ops) }
-    requires starts { length edges.now.starts.items ≡ length edges.now.heads.items + 1 }
-    ensures { OnOk result ((lat : Latencies) (ops : List Op) → IsGraphOf lat ops (graph_of edges.now)
-        → kinds.now ≡ map kind ops → prios.old.items ≡ map (latency lat) ops
-        → prios.new.items ≡ priorities_by heuristic lat ops) }
+    requires { IsSound tables.now }
+    ensures { OnOk result
+        (found.new.items ≡ priorities_by heuristic tables.now.latencies tables.now.ops.items) }
 {
     match heuristic {
-        Heuristic::Chain => raise_priorities(prios, edges),
-        Heuristic::Slack => raise_to_through(alloc, prios, edges)?,
-        Heuristic::Descendants => count_descendants(alloc, prios, edges)?,
+        Heuristic::Chain => fill_chains(found, tables),
+        Heuristic::Slack => fill_through(found, alloc, tables),
+        Heuristic::Descendants => count_descendants(found, alloc, tables),
         Heuristic::Successors => {
-            set_to_zero(prios)?;
-            count_successors(prios, kinds, edges);
+            fill_zeros(found, tables.edges.op_count())?;
+            count_successors(found, &tables.kinds, &tables.edges);
+            Ok(())
         }
-        Heuristic::Latency => {}
-        Heuristic::Order => set_to_zero(prios)?,
+        Heuristic::Latency => copy_latencies(found, tables),
+        Heuristic::Order => fill_zeros(found, tables.ops.len()),
     }
-    Ok(())
 }

@@ -1,13 +1,10 @@
 //! The longest chains of delays from operations.
-ghost use Rattle.std.specs.Prelude.{◌≡◌, List, map, OnOk};
-ghost use Rattle.iloc_ops.specs.declared.op.Op.{Op};
-ghost use Rattle.iloc_timed.specs.declared.latencies.Latencies.{Latencies};
+ghost use Rattle.std.specs.Prelude.{◌≡◌, map, OnOk};
 ghost use Rattle.iloc_timed.specs.Latency.{latency, latency_of};
 ghost use Rattle.iloc_sched.specs.Priority.{priorities};
-ghost use Rattle.iloc_sched.specs.Steps.Graph.{IsGraphOf, AreLatencies};
-ghost use Rattle.iloc_sched.specs.Steps.Views.{graph_of};
+ghost use Rattle.iloc_sched.specs.Steps.SoundGraph.{IsSound};
 
-use crate::edges::Edges;
+use crate::tables::Tables;
 use iloc_ops::NoMemory;
 use iloc_timed::{Kind, Latencies};
 
@@ -27,18 +24,29 @@ pub(crate) fn fill_latencies(
     Ok(())
 }
 
-/// Raises the latencies of operations to their priorities by the kept edges: an operation's is final once the edges out
-/// of it are gone through, which all lie after those into it.
-#[inline(always)]
-pub(crate) fn raise_priorities(prios: &mut Vec<u32>, edges: &Edges)
-    requires { AreLatencies (graph_of edges.now) prios.old.items }
-    ensures { (lat : Latencies) (ops : List Op) → IsGraphOf lat ops (graph_of edges.now)
-        → prios.old.items ≡ map (latency lat) ops → prios.new.items ≡ priorities lat ops }
+/// Fills a list with the latency of each operation of a graph.
+pub(crate) fn copy_latencies(found: &mut Vec<u32>, tables: &Tables) -> Result<(), NoMemory>
+    requires { IsSound tables.now }
+    ensures { OnOk result (found.new.items ≡ map (latency tables.now.latencies) tables.now.ops.items) }
 {
+    found.clear();
+    Ok(found.extend_from_slice(&tables.own)?)
+}
+
+/// Fills a list with the longest chain from each operation: its latency at first, raised by the kept edges. It is final
+/// once the edges out of the operation are gone through, which all lie after those into it.
+#[inline(always)]
+pub(crate) fn fill_chains(found: &mut Vec<u32>, tables: &Tables) -> Result<(), NoMemory>
+    requires { IsSound tables.now }
+    ensures { OnOk result (found.new.items ≡ priorities tables.now.latencies tables.now.ops.items) }
+{
+    copy_latencies(found, tables)?;
+    let edges = &tables.edges;
     for x in (0..edges.edge_count()).rev() {
         let edge = edges.get(x);
-        let through = edge.delay + prios[edge.to as usize];
+        let through = edge.delay + found[edge.to as usize];
         let source = edge.from as usize;
-        prios[source] = prios[source].max(through);
+        found[source] = found[source].max(through);
     }
+    Ok(())
 }

@@ -1,16 +1,12 @@
 //! The longest chain of delays through each operation: what is left to the longest of all is the operation's slack.
-ghost use Rattle.std.specs.Prelude.{ℕ, ◌≡◌, ◌≤◌, ◌<◌, ◌+◌, ◌*◌, ◌^◌, List, length, map, slice_index, replicate, OnOk, IfOk};
+ghost use Rattle.std.specs.Prelude.{ℕ, ◌≡◌, ◌<◌, ◌+◌, ◌^◌, length, map, slice_index, OnOk};
 ghost use Rattle.std.specs.List.{range_with_len};
-ghost use Rattle.iloc_ops.specs.declared.op.Op.{Op};
-ghost use Rattle.iloc_timed.specs.declared.latencies.Latencies.{Latencies};
-ghost use Rattle.iloc_timed.specs.Latency.{latency};
 ghost use Rattle.iloc_sched.specs.Heuristics.{through};
-ghost use Rattle.iloc_sched.specs.Steps.Graph.{IsGraphOf, AreLatencies};
-ghost use Rattle.iloc_sched.specs.Steps.Views.{graph_of};
+ghost use Rattle.iloc_sched.specs.Steps.SoundGraph.{IsSound};
 
-use crate::edges::Edges;
-use crate::lower_bound::starts::raise_starts;
-use crate::ranking::priority::raise_priorities;
+use crate::lower_bound::starts::fill_starts;
+use crate::ranking::priority::fill_chains;
+use crate::tables::Tables;
 use iloc_ops::NoMemory;
 use std::alloc::Global;
 
@@ -28,21 +24,19 @@ fn add_each(sums: &mut Vec<u32>, others: &[u32])
     }
 }
 
-/// Turns the latencies of operations into the lengths of the longest chains of delays through them.
-pub(crate) fn raise_to_through(
+/// Fills a list with the longest chain through each operation: its start and the longest chain from it together.
+pub(crate) fn fill_through(
+    found: &mut Vec<u32>,
     alloc: Global,
-    prios: &mut Vec<u32>,
-    edges: &Edges,
+    tables: &Tables,
 ) -> Result<(), NoMemory>
-    requires { AreLatencies (graph_of edges.now) prios.old.items }
-    ensures { OnOk result ((lat : Latencies) (ops : List Op) → IsGraphOf lat ops (graph_of edges.now)
-        → prios.old.items ≡ map (latency lat) ops
-        → prios.new.items ≡ map (through lat ops) (range_with_len 0 (length ops))) }
+    requires { IsSound tables.now }
+    ensures { OnOk result (found.new.items
+        ≡ map (through tables.now.latencies tables.now.ops.items) (range_with_len 0 (length tables.now.ops.items))) }
 {
     let mut starts = Vec::new(alloc);
-    starts.resize(edges.op_count(), 0)?;
-    raise_starts(&mut starts, edges);
-    raise_priorities(prios, edges);
-    add_each(prios, &starts);
+    fill_starts(&mut starts, tables)?;
+    fill_chains(found, tables)?;
+    add_each(found, &starts);
     Ok(())
 }

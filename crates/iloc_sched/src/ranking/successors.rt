@@ -38,7 +38,6 @@ fn adds_one(kinds: &[Kind], edges: &Edges, x: usize) -> bool
 /// Counts the edges into operation j, each source once.
 fn count_uses(found: &mut Vec<u32>, kinds: &[Kind], edges: &Edges, j: usize)
     requires there { j < length edges.now.heads.items }
-    requires starts { length edges.now.starts.items ≡ length edges.now.heads.items + 1 }
     requires kept { (lat : Latencies) × (ops : List Op) × IsGraphOf lat ops (graph_of edges.now) × (kinds.now ≡ map kind ops) }
     requires size { length found.old.items ≡ length edges.now.heads.items }
     requires small { (i : ℕ) → slice_index found.old.items i ≤ 2 * MAX_OPS }
@@ -58,7 +57,6 @@ fn count_uses(found: &mut Vec<u32>, kinds: &[Kind], edges: &Edges, j: usize)
 /// Turns zeros into the numbers of operations that wait for each directly, in one pass from the last operation: those that
 /// wait by their kinds are counted by kind, the others by the edges.
 pub(crate) fn count_successors(found: &mut Vec<u32>, kinds: &[Kind], edges: &Edges)
-    requires starts { length edges.now.starts.items ≡ length edges.now.heads.items + 1 }
     requires kept { (lat : Latencies) × (ops : List Op) × IsGraphOf lat ops (graph_of edges.now) × (kinds.now ≡ map kind ops) }
     requires zeros { found.old.items ≡ replicate (length edges.now.heads.items) 0 }
     ensures { (lat : Latencies) (ops : List Op) → IsGraphOf lat ops (graph_of edges.now) → kinds.now ≡ map kind ops

@@ -1,4 +1,4 @@
-use Rattle.std.proofs.Common.{◌≡◌, ◌<◌, ◌≤◌, length, ap, arith, refl}
+use Rattle.std.proofs.Common.{◌≡◌, ◌<◌, ◌≤◌, length, ap, arith, ◌∙◌}
 use Rattle.std.specs.Prelude.{slice_index}
 use Rattle.iloc_sched.specs.declared.cycle.calendar.TheConstants.{LONGEST_DELAY}
 use Rattle.iloc_sched.proofs.PriorityValues.Longest.{length-priorities}
@@ -85,6 +85,6 @@ loop-j-preserved c =
     (is_explained c.args.priorities.now c.args.latencies.now c.args.schedule.now.ops c.ops-ops.result.now c.args.schedule.now.rows c.loop-j.j
     c.loop-j.latest _ _ _ c.loop-j.invariant.latest_ones known c.ops-ops.ensures.ops at
     (ap (λ rows. row_at rows c.index-cycle.result.now) c.rows-rows.ensures.rows) c.unit_of.ensures c.ready-ready.ensures
-    c.in_ok-after.ensures refl (ap (λ starts. slice_index starts c.loop-j.j) c.requires.starts)
-    (rw (c.cycles-total.ensures, at, c.requires.chains) at c.slack_of.ensures) c.holder_of.ensures)
+    c.in_ok-after.ensures c.from.ensures (c.from-in-loop-j.ensures ∙ ap (λ starts. slice_index starts c.loop-j.j) c.requires.starts)
+    (rw (c.cycles-total.ensures, at, c.from-in-loop-j-2.ensures, c.requires.chains) at c.slack_of.ensures) c.holder_of.ensures)
     c.in_ok-push.ensures.items

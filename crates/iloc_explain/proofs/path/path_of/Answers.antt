@@ -11,6 +11,13 @@ bounds-ops-last c =
     last_to_arrive _ _ _ c.deref.result.now c.in-Some.last (c.deref.ensures.value ∙ c.in_ok-arrivals.ensures) c.in-Some.ensures in
     rw c.ops-ops.ensures.ops last.known
 
+pub offset_bounds-ops-last : goal.offset_bounds-ops-last
+offset_bounds-ops-last c =
+    let last : IsLastToArrive c.args.latencies.now c.args.schedule.now.ops c.args.schedule.now.rows c.in-Some.last =
+    last_to_arrive _ _ _ c.deref.result.now c.in-Some.last (c.deref.ensures.value ∙ c.in_ok-arrivals.ensures) c.in-Some.ensures in
+    let within : c.in-Some.last < length c.ops-ops.result.now = rw c.ops-ops.ensures.ops last.known in
+    omega arith
+
 pub offset_bounds-explained-last : goal.offset_bounds-explained-last
 offset_bounds-explained-last c =
     let last : IsLastToArrive c.args.latencies.now c.args.schedule.now.ops c.args.schedule.now.rows c.in-Some.last =

@@ -12,36 +12,36 @@ use Rattle.iloc_graph.proofs.cluster.push_cluster.Goals as goal
 
 pub push_operations-requires : goal.push_operations-requires
 push_operations-requires c =
-    rw (c.as_slice.ensures, c.deref-5.ensures.value, c.in_ok-priorities.ensures, c.deref.ensures.value, c.in_ok-ops.ensures.renamed, length-priorities, length-renamed_by)
+    rw (c.as_slice.ensures, c.deref-2.ensures.value, c.in_ok-chains.ensures, c.in_ok-refill.ensures.graph, length-priorities, length-renamed_by)
     refl
 
 pub returns : goal.returns
-returns c = (
-  head_lines c.args.number c.args.block.now.name
-      ++ node_lines c.args.number 0 (without_nops c.args.block.now.ops) (priorities c.args.latencies.now (renamed c.args.block.now.ops))
-      ++ flat_map (edge_line c.args.number) (nearest_pairs c.args.latencies.now (renamed c.args.block.now.ops))
-      ++ chain_lines c.args.number c.in_ok-chain.chain.items ++ codes "    }\n",
-  record {
-    chain = c.in_ok-chain.chain.items;
-    longest = rw (c.deref-3.ensures.value, c.in_ok-ops.ensures.renamed) at c.in_ok-chain.ensures.chosen;
-    listed = refl;
-  },
-  c.in_ok-extend_from_slice.ensures.items
-      ∙ rw (
-        c.in_ok-push_chain.ensures,
-        c.in_ok-push_edges.ensures,
-        c.in_ok-push_operations.ensures,
-        c.in_ok-push_head.ensures,
-        c.as_ref.ensures.value,
-        c.as_slice.ensures,
-        c.deref-5.ensures.value,
-        c.deref-6.ensures.value,
-        c.deref-7.ensures.value,
-        c.in_ok-priorities.ensures,
-        c.in_ok-pairs.ensures,
-        c.deref.ensures.value,
-        c.deref-2.ensures.value,
-        c.in_ok-ops.ensures.renamed,
-      )
-      (cluster_joined c.args.text.now.items _ _ _ _ _),
-)
+returns c =
+    let lat = c.args.latencies.now in
+    let block = c.args.block.now.ops in (
+      head_lines c.args.number c.args.block.now.name
+          ++ node_lines c.args.number 0 (without_nops block) (priorities lat (renamed block))
+          ++ flat_map (edge_line c.args.number) (nearest_pairs lat (renamed block))
+          ++ chain_lines c.args.number c.in_ok-chain.chain.items ++ codes "    }\n",
+      record {
+        chain = c.in_ok-chain.chain.items;
+        longest = rw (c.ops.ensures.ops, c.latencies.ensures, c.in_ok-refill.ensures.graph) at c.in_ok-chain.ensures.chosen;
+        listed = refl;
+      },
+      c.in_ok-extend_from_slice.ensures.items
+          ∙ rw (
+            c.in_ok-push_chain.ensures,
+            c.in_ok-push_edges.ensures,
+            c.in_ok-push_operations.ensures,
+            c.in_ok-push_head.ensures,
+            c.as_ref.ensures.value,
+            c.as_slice.ensures,
+            c.deref-2.ensures.value,
+            c.deref-3.ensures.value,
+            c.deref-4.ensures.value,
+            c.in_ok-chains.ensures,
+            c.in_ok-pairs.ensures,
+            c.in_ok-refill.ensures.graph,
+          )
+          (cluster_joined c.args.text.now.items _ _ _ _ _),
+    )

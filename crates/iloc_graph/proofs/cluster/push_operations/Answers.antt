@@ -18,7 +18,7 @@ loop-op-preserved c = elim c.match-op.branch [
       let known : c.loop-op.i < length c.args.priorities.now = omega arith in (
         rw (w.text-is, w.i-is)
             (line_more c.loop-op.text.items _ _ c.args.number c.loop-op.i _ _ c.args.priorities.now _ 0 known taken
-            c.loop-op.invariant.0 w.in_ok-push_operation-in_default.ensures),
+            c.loop-op.invariant.0 (rw w.from.ensures at w.in_ok-push_operation-in_default.ensures)),
         rw w.i-is (omega arith),
       )
 ]

@@ -1,4 +1,4 @@
-use Rattle.iloc_sched.proofs.Graph.AddedEdges.{adds_one}
+use Rattle.iloc_sched.proofs.KeptEdges.AddedEdges.{adds_one}
 use Rattle.iloc_sched.proofs.edges.Edges.add.Goals as goal
 use Rattle.std.proofs.Common.{None, arith}
 use Rattle.std.proofs.lemmas.List.{get_or_read}

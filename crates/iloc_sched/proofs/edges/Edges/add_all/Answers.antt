@@ -2,9 +2,9 @@ use Rattle.std.proofs.Common.{ℕ, ◌≡◌, ◌+◌, length, get_or, ◌∙◌
 use Rattle.std.specs.Global.{Vec}
 use Rattle.iloc_sched.specs.Steps.PartialGraph.{CoversUses}
 use Rattle.iloc_sched.specs.Steps.Views.{graph_of}
-use Rattle.iloc_sched.proofs.Graph.PartialGraphs.{closed}
-use Rattle.iloc_sched.proofs.Graph.NearPairs.{near_is_covered}
-use Rattle.iloc_sched.proofs.Graph.AddedEdges.{use_covered, starts_pushed}
+use Rattle.iloc_sched.proofs.KeptEdges.PartialGraphs.{closed}
+use Rattle.iloc_sched.proofs.KeptEdges.NearPairs.{near_is_covered}
+use Rattle.iloc_sched.proofs.KeptEdges.AddedEdges.{use_covered, starts_pushed}
 use Rattle.iloc_sched.proofs.edges.Edges.add_all.Goals as goal
 
 pub returns-clause-partial : goal.returns-clause-partial

@@ -4,7 +4,7 @@ use Rattle.iloc_sched.specs.Steps.Members.{In}
 use Rattle.iloc_sched.specs.Steps.PartialGraph.{AddsFrom}
 use Rattle.iloc_sched.specs.Steps.Views.{graph_of}
 use Rattle.iloc_sched.proofs.Basics.Members.{in_at}
-use Rattle.iloc_sched.proofs.Graph.AddedEdges.{adds_more}
+use Rattle.iloc_sched.proofs.KeptEdges.AddedEdges.{adds_more}
 use Rattle.iloc_sched.proofs.edges.Edges.add_each.Goals as goal
 
 pub add-requires-clause-there : goal.add-requires-clause-there

@@ -1,5 +1,5 @@
 use Rattle.iloc_sched.specs.Steps.Views.{graph_of}
-use Rattle.iloc_sched.proofs.Graph.AddedEdges.{adds_some}
+use Rattle.iloc_sched.proofs.KeptEdges.AddedEdges.{adds_some}
 use Rattle.iloc_sched.proofs.edges.Edges.add_from.Goals as goal
 
 pub returns-in-Some-clause-adds : goal.returns-in-Some-clause-adds

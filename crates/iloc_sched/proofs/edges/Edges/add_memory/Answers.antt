@@ -3,8 +3,8 @@ use Rattle.iloc_timed.specs.declared.kind.Kind.TheVariants as K
 use Rattle.iloc_sched.specs.Steps.Members.{In}
 use Rattle.iloc_sched.specs.Steps.PartialGraph.{AddsFrom}
 use Rattle.iloc_sched.specs.Steps.Views.{graph_of}
-use Rattle.iloc_sched.proofs.Graph.ListedKinds.{kind_read}
-use Rattle.iloc_sched.proofs.Graph.AddedEdges.{memory_load, memory_output, memory_store}
+use Rattle.iloc_sched.proofs.KeptEdges.ListedKinds.{kind_read}
+use Rattle.iloc_sched.proofs.KeptEdges.AddedEdges.{memory_load, memory_output, memory_store}
 use Rattle.iloc_sched.proofs.edges.Edges.add_memory.Goals as goal
 
 pub returns-in-Load-clause-grows : goal.returns-in-Load-clause-grows

@@ -4,9 +4,9 @@ use Rattle.iloc_timed.specs.Latency.{latency}
 use Rattle.iloc_sched.specs.Steps.ByRegister.{number_at}
 use Rattle.iloc_sched.specs.Steps.PartialGraph.{Grows, CoversUse}
 use Rattle.iloc_sched.specs.Steps.Views.{graph_of}
-use Rattle.iloc_sched.proofs.Graph.ListedKinds.{latency_listed}
-use Rattle.iloc_sched.proofs.Graph.NearPairs.{definer_there}
-use Rattle.iloc_sched.proofs.Graph.AddedEdges.{adds_use}
+use Rattle.iloc_sched.proofs.KeptEdges.ListedKinds.{latency_listed}
+use Rattle.iloc_sched.proofs.KeptEdges.NearPairs.{definer_there}
+use Rattle.iloc_sched.proofs.KeptEdges.AddedEdges.{adds_use}
 use Rattle.iloc_sched.proofs.edges.Edges.add_use.Goals as goal
 
 both : (c : goal.After-add) → Grows c.args.latencies.now c.args.operations.now.ops.now (graph_of c.args.self.now)

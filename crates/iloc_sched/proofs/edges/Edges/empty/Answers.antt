@@ -1,6 +1,6 @@
 use Rattle.std.proofs.Common.{sym, subst}
 use Rattle.iloc_sched.specs.Steps.PartialGraph.{IsPartialGraph}
-use Rattle.iloc_sched.proofs.Graph.AddedEdges.{tables_graph}
+use Rattle.iloc_sched.proofs.KeptEdges.AddedEdges.{tables_graph}
 use Rattle.iloc_sched.proofs.edges.Edges.empty.Goals as goal
 
 pub returns-clause-partial : goal.returns-clause-partial

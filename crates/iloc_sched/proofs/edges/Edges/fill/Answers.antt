@@ -1,7 +1,7 @@
 use Rattle.std.proofs.Common.{◌≡◌, length, refl, subst, arith}
 use Rattle.iloc_sched.specs.Steps.PartialGraph.{IsPartialGraph}
 use Rattle.iloc_sched.specs.Steps.Views.{graph_of}
-use Rattle.iloc_sched.proofs.Graph.PartialGraphs.{kept_at_end}
+use Rattle.iloc_sched.proofs.KeptEdges.PartialGraphs.{kept_at_end}
 use Rattle.iloc_sched.proofs.edges.Edges.fill.Goals as goal
 
 pub loop-j-init : goal.loop-j-init
@@ -19,8 +19,8 @@ loop-j-init c =
       count = omega (arith, c.in_ok-clear.ensures.edges, c.clear-2.ensures.loads);
     }
 
-pub returns-clause-graph : goal.returns-clause-graph
-returns-clause-graph c =
+pub returns : goal.returns
+returns c =
     let at_end : c.loop-j.j ≡ length c.args.operations.now.ops.now = omega arith in
     kept_at_end c.args.latencies.now c.args.operations.now.ops.now (graph_of c.loop-j.self)
     (subst (λ n. IsPartialGraph c.args.latencies.now c.args.operations.now.ops.now (graph_of c.loop-j.self) n) at_end

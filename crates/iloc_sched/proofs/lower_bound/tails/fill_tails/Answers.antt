@@ -1,12 +1,12 @@
 use Rattle.std.proofs.Common.{◌≡◌, ◌∙◌, ◌+◌, ◌-◌, ◌*◌, ◌≤◌, ◌<◌, ◌∷◌, ◌++◌, [], ℕ, List, length, map, drop, set, get_or, refl, sym, ap, subst, arith}
-use Rattle.std.proofs.lemmas.List.{get_or_read, get_or_default, length-map, length-set, drop_all}
+use Rattle.std.proofs.lemmas.List.{get_or_read, get_or_default, length-map, drop_all}
 use Rattle.iloc_ops.specs.declared.op.Op.{Op}
 use Rattle.iloc_meaning.specs.Trace.{op_at}
 use Rattle.iloc_timed.specs.declared.kind.Kind.{Kind}
 use Rattle.iloc_timed.specs.declared.kind.Kind.TheVariants.{Other}
 use Rattle.iloc_timed.specs.declared.latencies.Latencies.{Latencies}
 use Rattle.iloc_timed.specs.Kinds.{kind, is_load}
-use Rattle.iloc_timed.specs.Latency.{latency_of}
+use Rattle.iloc_timed.specs.Latency.{latency}
 use Rattle.iloc_sched.specs.Delays.{when}
 use Rattle.iloc_sched.specs.Least.{needed, load_tails, tails, tail}
 use Rattle.iloc_sched.specs.declared.lower_bound.packing.Packing.{Packing}
@@ -15,7 +15,7 @@ use Rattle.iloc_sched.specs.Steps.Packing.{IsPacking}
 use Rattle.iloc_sched.specs.Steps.Shares.{kind_at}
 use Rattle.iloc_sched.specs.Steps.Tails.{loads_from, chain_tail, tail_by, IsTailed}
 use Rattle.iloc_sched.specs.Steps.Views.{graph_of}
-use Rattle.iloc_sched.proofs.Graph.ListedKinds.{kind_listed, latencies_by_kinds}
+use Rattle.iloc_sched.proofs.KeptEdges.ListedKinds.{kind_listed}
 use Rattle.iloc_sched.proofs.PriorityValues.Tails.{loads_reach, tail_by_store, load_kept}
 use Rattle.iloc_sched.proofs.PriorityValues.TailsFound.{tailed_none, tailed_small, tailed_all, chain_found, tail_found}
 use Rattle.iloc_sched.proofs.lower_bound.tails.fill_tails.Goals as goal
@@ -51,48 +51,49 @@ module _ (lat : Latencies) (ops : List Op) (kinds : List Kind) (graph : Graph) (
 
 pub loop-j-init : goal.loop-j-init
 loop-j-init c =
-    let lat : Latencies = c.args.latencies.now in
-    let graph : Graph = graph_of c.args.edges.now in
-    let kinds : List Kind = c.args.kinds.now in
-    let own : c.fill_latencies.new.own.items ≡ map (latency_of lat) kinds = c.in_ok-fill_latencies.ensures in
-    let size : length c.fill_latencies.new.own.items ≡ length kinds = ap length own ∙ length-map kinds (latency_of lat) in
+    let p = c.args.tables.now in
+    let lat : Latencies = p.latencies in
+    let graph : Graph = graph_of p.edges in
+    let kinds : List Kind = p.kinds.items in
+    let ops : List Op = p.ops.items in
+    let kept = c.requires.graph in
+    let are = c.requires.kinds in
+    let ops_size : graph.ops ≡ length ops = kept.size in
+    let kinds_size : length kinds ≡ length ops = ap length are ∙ length-map ops kind in
+    let own : c.extend_from_slice.new.self.items ≡ map (latency lat) ops =
+    c.in_ok-extend_from_slice.ensures.items ∙ (ap (λ xs. xs ++ c.deref.result.now) c.clear.ensures.items
+    ∙ (c.deref.ensures.value ∙ c.requires.own)) in
     let all : c.op_count-j.result ≡ graph.ops = c.op_count-j.ensures in
-    let kinds_size : length kinds ≡ length c.requires.ops =
-    ap length c.requires.kinds_are ∙ length-map c.requires.ops kind in
-    let ops_size : graph.ops ≡ length c.requires.ops = c.requires.kept.size in
     record {
-      size = omega arith;
       space = omega (arith, c.in_ok-loads.ensures.size);
-      tailed = λ ops kept are. subst (λ n. IsTailed lat ops graph c.fill_latencies.new.own.items n (graph.start n))
-          (sym all)
-          (tailed_none lat ops graph kept c.fill_latencies.new.own.items
-          (own ∙ ap (map (latency_of lat)) are ∙ latencies_by_kinds lat ops));
-      packed = λ ops kept are.
-          let its_size : graph.ops ≡ length ops = kept.size in
-          subst (λ xs. IsPacking xs c.in_ok-loads.loads) (none_packed lat ops c.op_count-j.result (omega arith))
+      tailed = subst (λ n. IsTailed lat ops graph c.extend_from_slice.new.self.items n (graph.start n))
+          (sym all) (tailed_none lat ops graph kept c.extend_from_slice.new.self.items own);
+      packed = subst (λ xs. IsPacking xs c.in_ok-loads.loads) (none_packed lat ops c.op_count-j.result (omega arith))
           c.in_ok-loads.ensures.empty;
     }
 
 pub tail_of-tail-requires-clause-packed : goal.tail_of-tail-requires-clause-packed
 tail_of-tail-requires-clause-packed c =
-    let lat : Latencies = c.args.latencies.now in
-    let graph : Graph = graph_of c.args.edges.now in
-    let kinds : List Kind = c.args.kinds.now in
+    let p = c.args.tables.now in
+    let lat : Latencies = p.latencies in
+    let graph : Graph = graph_of p.edges in
+    let kinds : List Kind = p.kinds.items in
+    let ops : List Op = p.ops.items in
+    let kept = c.requires.graph in
+    let are = c.requires.kinds in
+    let ops_size : graph.ops ≡ length ops = kept.size in
+    let kinds_size : length kinds ≡ length ops = ap length are ∙ length-map ops kind in
     let found : List ℕ = c.loop-j.found.items in
     let j : ℕ = c.loop-j.j - 1 in
     let back : c.loop-j.j ≡ j + 1 = omega arith in
-    let ops : List Op = c.requires.ops in
-    let kept = c.requires.kept in
-    let are = c.requires.kinds_are in
-    let ops_size : graph.ops ≡ length ops = kept.size in
-    let kinds_size : length kinds ≡ length ops = ap length are ∙ length-map ops kind in
-    let tailed : IsTailed lat ops graph found (j + 1) (graph.start (j + 1)) =
-    subst (λ n. IsTailed lat ops graph found n (graph.start n)) back (c.loop-j.invariant.tailed ops kept are) in
-    let size : length found ≡ length ops = tailed.size in
-    let packed : IsPacking (loads_from lat ops (j + 1)) c.loop-j.loads =
-    subst (λ n. IsPacking (loads_from lat ops n) c.loop-j.loads) back (c.loop-j.invariant.packed ops kept are) in
+    let size : length found ≡ length ops = c.loop-j.invariant.tailed.size in
+    let within : j < length kinds = omega arith in
     let chain_is : c.index-chain.result.now ≡ get_or found j 0 =
     get_or_read found j c.index-chain.result.now (omega arith) c.index-chain.ensures 0 in
+    let tailed : IsTailed lat ops graph found (j + 1) (graph.start (j + 1)) =
+    subst (λ n. IsTailed lat ops graph found n (graph.start n)) back c.loop-j.invariant.tailed in
+    let packed : IsPacking (loads_from lat ops (j + 1)) c.loop-j.loads =
+    subst (λ n. IsPacking (loads_from lat ops n) c.loop-j.loads) back c.loop-j.invariant.packed in
     let small : get_or found j 0 ≤ 16 * length ops =
     tailed_small lat ops graph kept found (j + 1) (graph.start (j + 1)) j tailed (omega arith) in
     let reach = loads_reach lat ops (j + 1) c.index-chain.result.now (omega arith) in
@@ -103,12 +104,18 @@ tail_of-tail-requires-clause-packed c =
 
 pub tail_of-tail-requires-clause-small : goal.tail_of-tail-requires-clause-small
 tail_of-tail-requires-clause-small c =
-    let kinds_size : length c.args.kinds.now ≡ length c.requires.ops =
-    ap length c.requires.kinds_are ∙ length-map c.requires.ops kind in
-    let ops_size : length c.args.edges.now.heads.items ≡ length c.requires.ops = c.requires.kept.size in
-    let few : length c.args.edges.now.heads.items ≤ 10000 = c.args.edges.now.short in
+    let p = c.args.tables.now in
+    let lat : Latencies = p.latencies in
+    let graph : Graph = graph_of p.edges in
+    let kinds : List Kind = p.kinds.items in
+    let ops : List Op = p.ops.items in
+    let kept = c.requires.graph in
+    let are = c.requires.kinds in
+    let ops_size : graph.ops ≡ length ops = kept.size in
+    let kinds_size : length kinds ≡ length ops = ap length are ∙ length-map ops kind in
+    let few : length p.edges.heads.items ≤ 10000 = p.edges.short in
     let space = c.loop-j.invariant.space in
-    let short = c.args.latencies.now.short_store in
+    let short = p.latencies.short_store in
     omega arith
 
 -- the numbers once operation j - 1 has its tail
@@ -130,73 +137,62 @@ settled lat ops kinds graph kept are found j chain t k loads some within tailed 
 
 pub raise_sources-requires-clause-tailed : goal.raise_sources-requires-clause-tailed
 raise_sources-requires-clause-tailed c =
-    let lat : Latencies = c.args.latencies.now in
-    let graph : Graph = graph_of c.args.edges.now in
-    let kinds : List Kind = c.args.kinds.now in
-    let ops : List Op = c.requires.ops in
-    let kept = c.requires.kept in
-    let are = c.requires.kinds_are in
+    let p = c.args.tables.now in
+    let lat : Latencies = p.latencies in
+    let graph : Graph = graph_of p.edges in
+    let kinds : List Kind = p.kinds.items in
+    let ops : List Op = p.ops.items in
+    let kept = c.requires.graph in
+    let are = c.requires.kinds in
     let ops_size : graph.ops ≡ length ops = kept.size in
     let kinds_size : length kinds ≡ length ops = ap length are ∙ length-map ops kind in
-    let tailed : IsTailed lat ops graph c.loop-j.found.items c.loop-j.j (graph.start c.loop-j.j) =
-    c.loop-j.invariant.tailed ops kept are in
-    let size : length c.loop-j.found.items ≡ length ops = tailed.size in
-    let within : c.loop-j.j - 1 < length kinds = omega arith in
-    let chain_is : c.index-chain.result.now ≡ get_or c.loop-j.found.items (c.loop-j.j - 1) 0 =
-    get_or_read c.loop-j.found.items (c.loop-j.j - 1) c.index-chain.result.now (omega arith) c.index-chain.ensures 0 in (
-      lat,
-      ops,
-      kept,
-      settled lat ops kinds graph kept are c.loop-j.found.items c.loop-j.j c.index-chain.result.now
-          c.tail_of-tail.result _ c.loop-j.loads (omega arith) (omega arith) tailed (c.loop-j.invariant.packed ops kept are)
-          chain_is (get_or_default kinds (c.loop-j.j - 1) _ Other within) c.tail_of-tail.ensures.tail,
-    )
-
-pub loop-j-preserved : goal.loop-j-preserved
-loop-j-preserved c =
-    let lat : Latencies = c.args.latencies.now in
-    let graph : Graph = graph_of c.args.edges.now in
-    let kinds : List Kind = c.args.kinds.now in
     let found : List ℕ = c.loop-j.found.items in
     let j : ℕ = c.loop-j.j - 1 in
     let back : c.loop-j.j ≡ j + 1 = omega arith in
+    let size : length found ≡ length ops = c.loop-j.invariant.tailed.size in
+    let within : j < length kinds = omega arith in
+    let chain_is : c.index-chain.result.now ≡ get_or found j 0 =
+    get_or_read found j c.index-chain.result.now (omega arith) c.index-chain.ensures 0 in
+    settled lat ops kinds graph kept are found c.loop-j.j c.index-chain.result.now
+    c.tail_of-tail.result _ c.loop-j.loads (omega arith) (omega arith) c.loop-j.invariant.tailed c.loop-j.invariant.packed
+    chain_is (c.index.ensures ∙ get_or_default kinds j _ Other within) c.tail_of-tail.ensures.tail
+
+pub loop-j-preserved : goal.loop-j-preserved
+loop-j-preserved c =
+    let p = c.args.tables.now in
+    let lat : Latencies = p.latencies in
+    let graph : Graph = graph_of p.edges in
+    let kinds : List Kind = p.kinds.items in
+    let ops : List Op = p.ops.items in
+    let kept = c.requires.graph in
+    let are = c.requires.kinds in
+    let ops_size : graph.ops ≡ length ops = kept.size in
+    let kinds_size : length kinds ≡ length ops = ap length are ∙ length-map ops kind in
+    let found : List ℕ = c.loop-j.found.items in
+    let j : ℕ = c.loop-j.j - 1 in
+    let back : c.loop-j.j ≡ j + 1 = omega arith in
+    let size : length found ≡ length ops = c.loop-j.invariant.tailed.size in
+    let within : j < length kinds = omega arith in
+    let chain_is : c.index-chain.result.now ≡ get_or found j 0 =
+    get_or_read found j c.index-chain.result.now (omega arith) c.index-chain.ensures 0 in
+    let tailed : IsTailed lat ops graph found (j + 1) (graph.start (j + 1)) =
+    subst (λ n. IsTailed lat ops graph found n (graph.start n)) back c.loop-j.invariant.tailed in
+    let packed : IsPacking (loads_from lat ops (j + 1)) c.loop-j.loads =
+    subst (λ n. IsPacking (loads_from lat ops n) c.loop-j.loads) back c.loop-j.invariant.packed in
     record {
-      size = c.raise_sources.ensures.size ∙ length-set found j c.tail_of-tail.result ∙ c.loop-j.invariant.size;
       space = c.tail_of-tail.ensures.size ∙ c.loop-j.invariant.space;
-      tailed = λ ops kept are.
-          let ops_size : graph.ops ≡ length ops = kept.size in
-          let kinds_size : length kinds ≡ length ops = ap length are ∙ length-map ops kind in
-          let tailed : IsTailed lat ops graph found c.loop-j.j (graph.start c.loop-j.j) =
-          c.loop-j.invariant.tailed ops kept are in
-          let size : length found ≡ length ops = tailed.size in
-          let within : j < length kinds = omega arith in
-          let chain_is : c.index-chain.result.now ≡ get_or found j 0 =
-          get_or_read found j c.index-chain.result.now (omega arith) c.index-chain.ensures 0 in
-          c.raise_sources.ensures.tailed lat ops kept
-          (settled lat ops kinds graph kept are found c.loop-j.j c.index-chain.result.now c.tail_of-tail.result _
-          c.loop-j.loads (omega arith) (omega arith) tailed (c.loop-j.invariant.packed ops kept are) chain_is
-          (get_or_default kinds j _ Other within) c.tail_of-tail.ensures.tail);
-      packed = λ ops kept are.
-          let ops_size : graph.ops ≡ length ops = kept.size in
-          let kinds_size : length kinds ≡ length ops = ap length are ∙ length-map ops kind in
-          let tailed : IsTailed lat ops graph found (j + 1) (graph.start (j + 1)) =
-          subst (λ n. IsTailed lat ops graph found n (graph.start n)) back (c.loop-j.invariant.tailed ops kept are) in
-          let size : length found ≡ length ops = tailed.size in
-          let packed : IsPacking (loads_from lat ops (j + 1)) c.loop-j.loads =
-          subst (λ n. IsPacking (loads_from lat ops n) c.loop-j.loads) back (c.loop-j.invariant.packed ops kept are) in
-          let chain_is : c.index-chain.result.now ≡ get_or found j 0 =
-          get_or_read found j c.index-chain.result.now (omega arith) c.index-chain.ensures 0 in
-          let within : j < length kinds = omega arith in
-          subst (λ xs. IsPacking xs c.tail_of-tail.new.loads)
+      tailed = c.raise_sources.ensures;
+      packed = subst (λ xs. IsPacking xs c.tail_of-tail.new.loads)
           (loads_are lat ops kinds graph kept are found j c.index-chain.result.now _ tailed
-          (omega arith) chain_is (get_or_default kinds j _ Other within))
+          (omega arith) chain_is (c.index.ensures ∙ get_or_default kinds j _ Other within))
           (c.tail_of-tail.ensures.packed (loads_from lat ops (j + 1)) packed);
     }
 
 pub returns : goal.returns
-returns c = λ ops kept are.
+returns c =
+    let p = c.args.tables.now in
+    let graph : Graph = graph_of p.edges in
     let end : c.loop-j.j ≡ 0 = omega arith in
-    tailed_all c.args.latencies.now ops (graph_of c.args.edges.now) kept c.loop-j.found.items
-    ((graph_of c.args.edges.now).start c.loop-j.j)
-    (subst (λ n. IsTailed c.args.latencies.now ops (graph_of c.args.edges.now) c.loop-j.found.items n
-    ((graph_of c.args.edges.now).start c.loop-j.j)) end (c.loop-j.invariant.tailed ops kept are))
+    tailed_all p.latencies p.ops.items graph c.requires.graph c.loop-j.found.items (graph.start c.loop-j.j)
+    (subst (λ n. IsTailed p.latencies p.ops.items graph c.loop-j.found.items n (graph.start c.loop-j.j)) end
+    c.loop-j.invariant.tailed)

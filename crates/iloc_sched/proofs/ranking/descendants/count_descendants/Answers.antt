@@ -12,36 +12,37 @@ use Rattle.iloc_sched.proofs.ranking.descendants.count_descendants.Goals as goal
 
 pub add_counts-requires-clause-small : goal.add_counts-requires-clause-small
 add_counts-requires-clause-small c = λ i below.
-    let from = c.requires in
-    let heads : length c.args.edges.now.heads.items ≡ length from.ops = from.kept.size in
-    let few : length c.args.edges.now.heads.items ≤ 10000 = c.args.edges.now.short in
-    let marked : length c.deref.result.now ≡ length c.args.edges.now.heads.items =
-    ap length c.deref.ensures.value ∙ c.mark.ensures.size in
-    let count : get_or c.loop-chunk.prios.items i 0
-    ≡ count_by (depends_on from.lat from.ops i) (range_with_len 0 (64 * c.loop-chunk.chunk)) =
-    c.loop-chunk.invariant.counted from.lat from.ops from.kept i (omega arith) in
-    let most : count_by (depends_on from.lat from.ops i) (range_with_len 0 (64 * c.loop-chunk.chunk))
+    let t = c.args.tables.now in
+    let lat = t.latencies in
+    let ops = t.ops.items in
+    let heads : length t.edges.heads.items ≡ length ops = c.requires.graph.size in
+    let few : length t.edges.heads.items ≤ 10000 = t.edges.short in
+    let marked : length c.deref.result.now ≡ length ops = ap length c.deref.ensures.value ∙ c.mark.ensures.size in
+    let count : get_or c.loop-chunk.found.items i 0
+    ≡ count_by (depends_on lat ops i) (range_with_len 0 (64 * c.loop-chunk.chunk)) =
+    c.loop-chunk.invariant.counted i (omega arith) in
+    let most : count_by (depends_on lat ops i) (range_with_len 0 (64 * c.loop-chunk.chunk))
     ≤ length (range_with_len 0 (64 * c.loop-chunk.chunk)) =
-    count_by-le-length (depends_on from.lat from.ops i) (range_with_len 0 (64 * c.loop-chunk.chunk)) in
+    count_by-le-length (depends_on lat ops i) (range_with_len 0 (64 * c.loop-chunk.chunk)) in
     let size : length (range_with_len 0 (64 * c.loop-chunk.chunk)) ≡ 64 * c.loop-chunk.chunk =
     length-range_with_len 0 (64 * c.loop-chunk.chunk) in
     omega arith
 
 pub loop-chunk-preserved : goal.loop-chunk-preserved
 loop-chunk-preserved c =
+    let lat = c.args.tables.now.latencies in
+    let ops = c.args.tables.now.ops.items in
     let marks : List ℕ = c.deref.result.now in
     let base : ℕ = 64 * c.loop-chunk.chunk in
     record {
       size = c.add_counts.ensures.size ∙ c.loop-chunk.invariant.size;
-      counted = λ lat ops kept i within.
-          let heads : length c.args.edges.now.heads.items ≡ length ops = kept.size in
-          let marked_size : length marks ≡ length c.args.edges.now.heads.items =
-          ap length c.deref.ensures.value ∙ c.mark.ensures.size in
+      counted = λ i within.
           let marked : AreMarked lat ops base marks =
-          subst (λ ms. AreMarked lat ops base ms) (sym c.deref.ensures.value) (c.mark.ensures.marked lat ops kept) in
+          subst (λ ms. AreMarked lat ops base ms) (sym c.deref.ensures.value) c.mark.ensures in
+          let marked_size : length marks ≡ length ops = marked.size in
           let each = c.add_counts.ensures.each i (omega arith) in
-          let old : get_or c.loop-chunk.prios.items i 0 ≡ count_by (depends_on lat ops i) (range_with_len 0 base) =
-          c.loop-chunk.invariant.counted lat ops kept i within in
+          let old : get_or c.loop-chunk.found.items i 0 ≡ count_by (depends_on lat ops i) (range_with_len 0 base) =
+          c.loop-chunk.invariant.counted i within in
           let more : count_by (depends_on lat ops i) (range_with_len 0 base) + count_ones (get_or marks i 0)
           ≡ count_by (depends_on lat ops i) (range_with_len 0 (base + 64)) =
           counted_more lat ops base i marks marked within each.0 in
@@ -51,8 +52,10 @@ loop-chunk-preserved c =
     }
 
 pub returns : goal.returns
-returns c = λ lat ops kept own.
-    let heads : length c.args.edges.now.heads.items ≡ length ops = kept.size in
+returns c =
+    let lat = c.args.tables.now.latencies in
+    let ops = c.args.tables.now.ops.items in
+    let heads : length c.args.tables.now.edges.heads.items ≡ length ops = c.requires.graph.size in
     let goal_size : length (map (descendants lat ops) (range_with_len 0 (length ops))) ≡ length ops =
     length-map-range_with_len (descendants lat ops) 0 (length ops) in
     let chunks : c.div_ceil-chunk-end.result ≡ c.op_count-count.result / 64 + min 1 (c.op_count-count.result % 64) =
@@ -60,11 +63,11 @@ returns c = λ lat ops kept own.
     let enough : c.op_count-count.result
     ≤ (c.op_count-count.result / 64 + min 1 (c.op_count-count.result % 64)) * 64 =
     (div_ceil_times c.op_count-count.result 64 (omega arith)).0 in
-    let count : c.op_count-count.result ≡ length c.args.edges.now.heads.items = c.op_count-count.ensures in
+    let count : c.op_count-count.result ≡ length c.args.tables.now.edges.heads.items = c.op_count-count.ensures in
     let end : c.div_ceil-chunk-end.result ≤ c.loop-chunk.chunk = omega arith in
-    same_numbers c.loop-chunk.prios.items (map (descendants lat ops) (range_with_len 0 (length ops)))
-    (c.loop-chunk.invariant.size ∙ kept.size ∙ sym goal_size)
+    same_numbers c.loop-chunk.found.items (map (descendants lat ops) (range_with_len 0 (length ops)))
+    (c.loop-chunk.invariant.size ∙ sym goal_size)
     (λ i below.
-    c.loop-chunk.invariant.counted lat ops kept i (omega arith)
+    c.loop-chunk.invariant.counted i (omega arith)
     ∙ counted_all lat ops i (64 * c.loop-chunk.chunk) (omega arith)
     ∙ sym (get_or-map-range_with_len (descendants lat ops) 0 (length ops) i i 0 (omega arith) (omega arith)))

@@ -9,7 +9,7 @@ use Rattle.iloc_sched.specs.Steps.Graph.{Graph}
 use Rattle.iloc_sched.specs.Steps.Successors.{waiting_for, AreCounted, AreNoted}
 use Rattle.iloc_sched.specs.Steps.Views.{graph_of}
 use Rattle.iloc_sched.proofs.Basics.Cases.{by_eq}
-use Rattle.iloc_sched.proofs.Graph.ListedKinds.{kind_listed}
+use Rattle.iloc_sched.proofs.KeptEdges.ListedKinds.{kind_listed}
 use Rattle.iloc_sched.proofs.PriorityValues.Successors.{none_counted, one_counted, all_counted, none_noted, one_noted, noted_few, waiting_few, counted_few}
 use Rattle.iloc_sched.proofs.ranking.successors.count_successors.Goals as goal
 

@@ -17,7 +17,6 @@ loop-at-init c =
       keeps = places_as_before c.args.self.now c.mark.new.self c.mark.ensures.unmet
           c.mark.ensures.earliest;
       sized = record {
-        starts = c.requires.sized.starts;
         states = c.mark.ensures.size ∙ c.requires.sized.states;
         links = subst (λ (calendar : Calendar). length c.args.edges.now.heads.items ≤ length calendar.behind.items)
             (sym c.mark.ensures.calendar) c.requires.sized.links;

@@ -31,7 +31,7 @@ loop-j-preserved c =
     ap (λ n. n - c.loop-j.place) c.start-end.ensures ∙ ap (λ n. (graph_of e).start (c.loop-j.j + 1) - n) at in
     let v : Waiting = record { states = c.push_reserved.new.self; calendar = c.put_if.new.self } in
     record {
-      opening = opening_more e c.loop-j.self v c.loop-j.j state (omega arith) c.loop-j.invariant.opening
+      opening = opening_more e c.loop-j.self v c.loop-j.j state c.loop-j.invariant.opening
           c.push_reserved.ensures.items refl unmet refl (nat_eq c.loop-j.place c.start-end.result)
           c.put_if.ensures.put c.put_if.ensures.others c.put_if.ensures.space
           (λ is. let same : c.loop-j.place ≡ c.start-end.result = grind (arith, nat_tests) in sym at ∙ same ∙ c.start-end.ensures)
@@ -54,4 +54,4 @@ returns-clause-sized c =
     let e = c.args.edges.now in
     let at_end : c.loop-j.j ≡ length e.heads.items = omega (arith, c.op_count-count.ensures) in
     all_sized e c.loop-j.self c.requires.graph
-    (subst (λ n. IsOpening e c.loop-j.self n) at_end c.loop-j.invariant.opening) c.requires.starts
+    (subst (λ n. IsOpening e c.loop-j.self n) at_end c.loop-j.invariant.opening)

@@ -22,20 +22,20 @@ class_of-class-requires c = record {
 pub candidate-candidate-requires : goal.candidate-candidate-requires
 candidate-candidate-requires c =
     let p = c.args.plan.now in
-    let there : c.in-Some.j < length p.ops.items =
+    let there : c.in-Some.j < length p.tables.now.ops.items =
     taken_there p c.args.self.now c.loop-j.self c.args.queues.now c.loop-j.queues c.args.cycle
     c.requires.plan c.requires.under_way c.loop-j.invariant c.take.new.self c.in-Some.j c.in-Some.ensures.taken in
-    let size : length p.priorities.items ≡ length p.ops.items = c.requires.plan.priorities in
+    let size : length p.ranks.now ≡ length p.tables.now.ops.items = c.requires.plan.priorities in
     omega arith
 
 pub insert-requires : goal.insert-requires
 insert-requires c =
     let p = c.args.plan.now in
-    let there : c.in-Some.j < length p.ops.items =
+    let there : c.in-Some.j < length p.tables.now.ops.items =
     taken_there p c.args.self.now c.loop-j.self c.args.queues.now c.loop-j.queues c.args.cycle
     c.requires.plan c.requires.under_way c.loop-j.invariant c.take.new.self c.in-Some.j c.in-Some.ensures.taken in
-    let size : length p.edges.heads.items ≡ length p.ops.items = c.requires.plan.graph.size in
-    let few : length p.edges.heads.items ≤ 10000 = p.edges.short in
+    let size : length p.tables.now.edges.heads.items ≡ length p.tables.now.ops.items = c.requires.plan.graph.size in
+    let few : length p.tables.now.edges.heads.items ≤ 10000 = p.tables.now.edges.short in
     let is : c.candidate-candidate.result.number ≡ c.in-Some.j =
     ap (λ (d : Candidate). d.number) c.candidate-candidate.ensures in
     record {

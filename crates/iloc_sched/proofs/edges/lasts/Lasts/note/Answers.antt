@@ -5,8 +5,8 @@ use Rattle.iloc_timed.specs.declared.kind.Kind.{Kind}
 use Rattle.iloc_timed.specs.declared.kind.Kind.TheVariants as K
 use Rattle.iloc_sched.specs.declared.edges.lasts.Lasts.{Lasts}
 use Rattle.iloc_sched.specs.Steps.Lasts.{NotesKind}
-use Rattle.iloc_sched.proofs.Graph.ListedKinds.{kind_listed}
-use Rattle.iloc_sched.proofs.Graph.LastsNoted.{noted_in_turn}
+use Rattle.iloc_sched.proofs.KeptEdges.ListedKinds.{kind_listed}
+use Rattle.iloc_sched.proofs.KeptEdges.LastsNoted.{noted_in_turn}
 use Rattle.iloc_sched.proofs.edges.lasts.Lasts.note.Goals as goal
 
 pub returns-clause-lasts : goal.returns-clause-lasts

@@ -1,0 +1,6 @@
+use Rattle.std.specs.Prelude.{◌≡◌, map, take}
+use Rattle.iloc_sched.specs.declared.edges.Edge.{Edge}
+use Rattle.iloc_graph.proofs.nearest.sources.Given as goal
+
+abbrev pub invariant-loop-edge : goal.invariant-loop-edge
+invariant-loop-edge l = l.found.items ≡ map (λ (e : Edge). e.from) (take l.edge-index l.edge-items)

@@ -1,0 +1,89 @@
+-- The edges into an operation are side by side; for `Graph::edges_into`.
+use Rattle.std.proofs.Common.{◌≡◌, ℕ, ◌+◌, ◌-◌, ◌<◌, ◌≤◌, min, List, length, take, drop, get_or, sym, ◌∙◌, ap, subst, arith}
+use Rattle.std.specs.Prelude.{All, Any}
+use Rattle.std.proofs.lemmas.List.{get_or-drop, get_or-take, get_or_default, length-drop, length-take}
+use Rattle.iloc_ops.specs.declared.op.Op.{Op}
+use Rattle.iloc_timed.specs.declared.latencies.Latencies.{Latencies}
+use Rattle.iloc_sched.specs.Delays.{IsDelayPair}
+use Rattle.iloc_sched.specs.Near.{IsNearPair}
+use Rattle.iloc_sched.specs.declared.edges.Edge.{Edge}
+use Rattle.iloc_sched.specs.declared.edges.Edges.{Edges}
+use Rattle.iloc_sched.specs.Steps.Graph.{Graph, IsGraphOf}
+use Rattle.iloc_sched.specs.Steps.Views.{edge_at, graph_of, no_edge}
+
+module _ (lat : Latencies) (ops : List Op) (e : Edges) (kept : IsGraphOf lat ops (graph_of e)) (j : ℕ)
+    (there : j < length ops) where
+  abbrev graph : Graph
+  graph = graph_of e
+
+  abbrev first : ℕ
+  first = graph.start j
+
+  abbrev count : ℕ
+  count = graph.start (j + 1) - graph.start j
+
+  abbrev into : List Edge
+  into = take count (drop first e.edges.items)
+
+  bounds : (graph.start j ≤ graph.start (j + 1)) × (graph.start (j + 1) ≤ length e.edges.items)
+  bounds =
+      let size : graph.ops ≡ length ops = kept.size in
+      let last : graph.start graph.ops ≡ graph.count = kept.is_graph.last in
+      let most : graph.start (j + 1) ≤ graph.start graph.ops =
+      kept.is_graph.rises (j + 1) graph.ops (omega arith) (omega arith) in
+      (kept.is_graph.rises j (j + 1) (omega arith) (omega arith), omega arith)
+
+  size : length into ≡ count
+  size =
+      let up = bounds.0 in
+      let most = bounds.1 in
+      let taken : length into ≡ min count (length (drop first e.edges.items)) =
+      length-take count (drop first e.edges.items) in
+      let left : length (drop first e.edges.items) ≡ length e.edges.items - first = length-drop first e.edges.items in
+      omega arith
+
+  read : (k : ℕ) (d : Edge) → k < count → get_or into k d ≡ edge_at e (first + k)
+  read k d below =
+      let up = bounds.0 in
+      let most = bounds.1 in
+      get_or-take count (drop first e.edges.items) k d below
+      ∙ (get_or-drop first e.edges.items k d ∙ get_or_default e.edges.items (first + k) d no_edge (omega arith))
+
+  abbrev IsInto : Edge → Type 0
+  IsInto edge = (edge.to ≡ j) × IsNearPair lat ops edge.from j edge.delay
+
+  pub each_into : All IsInto into
+  each_into k d within =
+      let up = bounds.0 in
+      let most = bounds.1 in
+      let below : k < count = subst (λ n. k < n) size within in
+      let x : ℕ = first + k in
+      let counted : x < graph.count = omega arith in
+      let inside : j < graph.ops = subst (λ n. j < n) (sym kept.size) there in
+      let to_is : graph.to x ≡ j = kept.is_graph.into j x inside (omega arith) (omega arith) in
+      let pair : IsDelayPair lat ops (graph.from x) (graph.to x) (graph.delay x) = kept.sound x counted in
+      let near : IsNearPair lat ops (graph.from x) (graph.to x) (graph.delay x) = record {
+        order = pair.order;
+        within = pair.within;
+        delay = pair.delay;
+        near = kept.near x counted;
+      } in
+      subst IsInto (sym (read k d below))
+      (to_is, subst (λ t. IsNearPair lat ops (graph.from x) t (graph.delay x)) to_is near)
+
+  pub all_into : (i d : ℕ) → IsNearPair lat ops i j d → Any (λ (edge : Edge). (edge.from ≡ i) × (d ≤ edge.delay)) into
+  all_into i d near =
+      let up = bounds.0 in
+      let found = kept.all i j d (record { order = near.order; within = near.within; delay = near.delay }) near.near in
+      let x : ℕ = found.0 in
+      let at = kept.is_graph.to_there x found.1 in
+      let after : first ≤ x = subst (λ t. graph.start t ≤ x) found.2 at.1 in
+      let before : x < graph.start (j + 1) = subst (λ t. x < graph.start (t + 1)) found.2 at.2 in
+      let k : ℕ = x - first in
+      let here : first + k ≡ x = omega arith in (
+        k,
+        edge_at e x,
+        subst (λ n. k < n) (sym size) (omega arith),
+        read k (edge_at e x) (omega arith) ∙ ap (edge_at e) here,
+        (found.3, found.4),
+      )

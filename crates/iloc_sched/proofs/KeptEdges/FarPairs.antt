@@ -1,0 +1,140 @@
+-- A delay pair that isn't near goes by way of an operation between; for `priorities` and `schedule` (`greedy`).
+use Rattle.std.proofs.Common.{◌≡◌, ℕ, zero, suc, ◌+◌, ◌<◌, ◌≤◌, Bool, true, false, if◌then◌else◌, List, length, ◌⊎◌, inl, inr, refl, sym, ap, ◌∙◌, arith}
+use Rattle.iloc_ops.specs.declared.op.Op.{Op}
+use Rattle.iloc_meaning.specs.Trace.{op_at}
+use Rattle.iloc_timed.specs.declared.kind.Kind.{Kind}
+use Rattle.iloc_timed.specs.declared.kind.Kind.TheVariants as K
+use Rattle.iloc_timed.specs.declared.latencies.Latencies.{Latencies}
+use Rattle.iloc_timed.specs.Kinds.{kind, is_output, is_store}
+use Rattle.iloc_timed.specs.Latency.{latency}
+use Rattle.iloc_sched.specs.Delays.{uses_result, when, memory_delays, IsDelayPair}
+use Rattle.iloc_sched.specs.Steps.Members.{In}
+use Rattle.iloc_sched.specs.Near.{takes_over, IsNear}
+use Rattle.std.proofs.lemmas.Bool.{cases_lt}
+use Rattle.iloc_sched.proofs.Basics.Members.{contains_from, in_from, in_right, from_append}
+use Rattle.iloc_sched.proofs.DelayPairs.DelayBounds.{delay_at_least, kind_delays}
+use Rattle.iloc_meaning.proofs.Cases.{by_bool}
+use Rattle.iloc_sched.proofs.Basics.Cases.{by_eq}
+
+-- b delays c by nearly d
+abbrev Follows : Latencies → Kind → Kind → ℕ → Type 0
+Follows lat b c d = (e : ℕ) × In (kind_delays lat b c) e × (d ≤ 1 + e)
+
+over_output : (lat : Latencies) (c : Kind) (d : ℕ) → In (kind_delays lat K.Output c) d → Follows lat K.Output c d
+over_output lat K.Store d (inl is) = (1, inl refl, omega arith)
+over_output lat K.Store d (inr none) = absurd none
+over_output lat K.Output d (inl is) = (1, inl refl, omega arith)
+over_output lat K.Output d (inr none) = absurd none
+over_output lat _ d held = absurd held
+
+over_store : (lat : Latencies) (c : Kind) (d : ℕ) → In (kind_delays lat K.Store c) d → Follows lat K.Store c d
+over_store lat K.Load d (inl is) = (d, inl is, omega arith)
+over_store lat K.Load d (inr none) = absurd none
+over_store lat K.Store d (inl is) = (d, inl is, omega arith)
+over_store lat K.Store d (inr none) = absurd none
+over_store lat K.Output d (inl is) = (d, inl is, omega arith)
+over_store lat K.Output d (inr none) = absurd none
+over_store lat _ d held = absurd held
+
+over_load : (lat : Latencies) (c : Kind) (d : ℕ) → In (kind_delays lat K.Load c) d → Follows lat K.Store c d
+over_load lat K.Store d (inl is) = (1, inl refl, omega arith)
+over_load lat K.Store d (inr none) = absurd none
+over_load lat _ d held = absurd held
+
+-- b takes the place of a, so what a delays is delayed by way of b
+by_way : (lat : Latencies) (a b c : Kind) (d : ℕ) → (if is_output a then is_output b else is_store b) ≡ true
+    → In (kind_delays lat a c) d → In (kind_delays lat a b) 1 × Follows lat b c d
+by_way lat K.Output K.Output c d takes held = (inl refl, over_output lat c d held)
+by_way lat K.Load K.Store c d takes held = (inl refl, over_load lat c d held)
+by_way lat K.Store K.Store c d takes held = (inl refl, over_store lat c d held)
+by_way lat K.Mult K.Store c d takes held = absurd held
+by_way lat K.Other K.Store c d takes held = absurd held
+by_way lat _ _ c d takes held = cc
+
+-- one between that passes, or none
+passes_between : (test : ℕ → Bool) (a b : ℕ) → ((k : ℕ) × (a < k) × (k < b) × (test k ≡ true))
+    ⊎ ((k : ℕ) → a < k → k < b → test k ≡ false)
+passes_between test a zero = inr (λ k after before. absurd (omega arith))
+passes_between test a (suc b) = elim (passes_between test a b) [
+  | inl found ↦ inl (found.0, found.1, let below : found.0 < b = found.2 in omega arith, found.3)
+  | inr none ↦ by_bool (test b)
+      (λ passes. elim (cases_lt a b) [
+        | inl after ↦ inl (b, after, omega arith, passes)
+        | inr early ↦
+            inr (λ k after before. absurd (omega arith))
+      ])
+      (λ fails. inr (λ k after before. by_eq k b (λ same. ap test same ∙ fails) (λ apart. none k after (omega arith))))
+]
+
+pub record GoesBy (lat : Latencies) (ops : List Op) (i j d : ℕ) : Type 0 where
+  pub way : ℕ
+  pub first_delay : ℕ
+  pub second_delay : ℕ
+  pub first : IsDelayPair lat ops i way first_delay
+  pub second : IsDelayPair lat ops way j second_delay
+  pub enough : d ≤ first_delay + second_delay
+
+in_when : (b : Bool) (x d : ℕ) → In (when b x) d → (b ≡ true) × (d ≡ x)
+in_when true x d (inl is) = (refl, sym is)
+in_when true x d (inr none) = absurd none
+in_when false x d held = absurd held
+
+goes_by : (lat : Latencies) (ops : List Op) (i j k d : ℕ) → i < k → k < j → j < length ops
+    → takes_over (op_at ops i) (op_at ops k) ≡ true → In (memory_delays lat (op_at ops i) (op_at ops j)) d
+    → GoesBy lat ops i j d
+goes_by lat ops i j k d after before within takes held =
+    let way : In (kind_delays lat (kind (op_at ops i)) (kind (op_at ops k))) 1
+    × Follows lat (kind (op_at ops k)) (kind (op_at ops j)) d =
+    by_way lat (kind (op_at ops i)) (kind (op_at ops k)) (kind (op_at ops j)) d takes held in
+    let rest : Follows lat (kind (op_at ops k)) (kind (op_at ops j)) d = way.1 in
+    record {
+      way = k;
+      first_delay = 1;
+      second_delay = rest.0;
+      first = record {
+        order = after;
+        within = omega arith;
+        delay = contains_from _ _ (in_right
+            (when (uses_result (op_at ops i) (op_at ops k)) (latency lat (op_at ops i))) _ 1 way.0);
+      };
+      second = record {
+        order = before;
+        within = within;
+        delay = contains_from _ _ (in_right
+            (when (uses_result (op_at ops k) (op_at ops j)) (latency lat (op_at ops k))) _ rest.0 rest.1);
+      };
+      enough = rest.2;
+    }
+
+pub near_or_by_way : (lat : Latencies) (ops : List Op) (i j d : ℕ) → IsDelayPair lat ops i j d → IsNear lat ops i j d
+    ⊎ GoesBy lat ops i j d
+near_or_by_way lat ops i j d pair =
+    elim (from_append (when (uses_result (op_at ops i) (op_at ops j)) (latency lat (op_at ops i)))
+    (memory_delays lat (op_at ops i) (op_at ops j)) d (in_from _ _ pair.delay)) [
+      | inl result ↦ inl (inl (in_when _ _ _ result))
+      | inr memory ↦ elim (passes_between (λ k. takes_over (op_at ops i) (op_at ops k)) i j) [
+        | inl found ↦ inr (goes_by lat ops i j found.0 d found.1 found.2 pair.within found.3 memory)
+        | inr none ↦ inl (inr (contains_from _ _ memory, none))
+      ]
+    ]
+
+module _ (lat : Latencies) (ops : List Op) (t : ℕ → ℕ) (c j : ℕ)
+    (waited : (i h d : ℕ) → IsDelayPair lat ops i h d → t h < c → t i + d ≤ t h)
+    (near : (i d : ℕ) → IsDelayPair lat ops i j d → IsNear lat ops i j d → t i + d ≤ c) where
+  over_within : (n i d : ℕ) → j ≤ i + n → IsDelayPair lat ops i j d → t i + d ≤ c
+  over_within zero i d few pair = let order : i < j = pair.order in absurd (omega arith)
+  over_within (suc n) i d few pair = elim (near_or_by_way lat ops i j d pair) [
+    | inl is ↦ near i d pair is
+    | inr by ↦
+        let order : i < by.way = by.first.order in
+        let rest : t by.way + by.second_delay ≤ c = over_within n by.way by.second_delay (omega arith) by.second in
+        let long : 1 ≤ by.second_delay = delay_at_least lat (op_at ops by.way) (op_at ops j) by.second_delay
+        by.second.delay in
+        let start : t i + by.first_delay ≤ t by.way = waited i by.way by.first_delay by.first (omega arith) in
+        let enough : d ≤ by.first_delay + by.second_delay = by.enough in
+        omega arith
+  ]
+
+  -- where all that was issued had waited for its delays, near pairs alone say what is over at cycle c
+  pub near_is_over : (i d : ℕ) → IsDelayPair lat ops i j d → t i + d ≤ c
+  near_is_over i d pair = over_within j i d (omega arith) pair

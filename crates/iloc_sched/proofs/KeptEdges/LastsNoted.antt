@@ -1,0 +1,180 @@
+-- What stands last before the next operation, once one more is noted; for `Lasts::note`.
+use Rattle.std.proofs.Common.{◌≡◌, ℕ, ◌+◌, ◌<◌, ◌≤◌, Bool, true, false, List, [], ◌∷◌, ◌++◌, length, Option, Some, inl, inr, refl, sym, ◌∙◌, ap, subst, arith}
+use Rattle.std.proofs.lemmas.Bool.{false≢true}
+use Rattle.std.proofs.lemmas.List.{length-append}
+use Rattle.iloc_ops.specs.declared.op.Reg.{Reg}
+use Rattle.iloc_ops.specs.declared.op.Op.{Op}
+use Rattle.iloc_ops.specs.Registers.{defined}
+use Rattle.iloc_meaning.specs.Trace.{op_at, is_register}
+use Rattle.iloc_timed.specs.declared.kind.Kind.{Kind}
+use Rattle.iloc_timed.specs.declared.kind.Kind.TheVariants as K
+use Rattle.iloc_timed.specs.Kinds.{kind, is_load, is_store, is_output}
+use Rattle.iloc_sched.specs.declared.by_register.ByRegister.{ByRegister}
+use Rattle.iloc_sched.specs.Steps.ByRegister.{number_at}
+use Rattle.iloc_sched.specs.declared.edges.lasts.Lasts.{Lasts}
+use Rattle.iloc_sched.specs.Steps.Members.{In}
+use Rattle.iloc_sched.specs.Steps.Graph.{IsLast}
+use Rattle.iloc_sched.specs.Steps.Lasts.{NotesDefiner, NotesKind, IsLasts, NoStoreBetween, loads_before}
+use Rattle.iloc_sched.proofs.Basics.Registers.{is_register_same, is_register_from}
+use Rattle.iloc_meaning.proofs.Cases.{by_bool}
+use Rattle.iloc_sched.proofs.Basics.Cases.{by_eq}
+use Rattle.iloc_sched.proofs.Basics.Members.{in_left, in_right, from_append}
+use Rattle.iloc_sched.proofs.Basics.LastOnes.{last_here, last_before}
+
+pub definers_noted : (ops : List Op) (j : ℕ) (old new : ByRegister)
+    → ((r : Reg) → IsLast (λ i. defined (op_at ops i) ≡ Some r) j (number_at old r.0))
+    → NotesDefiner (op_at ops j) old new j → (r : Reg)
+    → IsLast (λ i. defined (op_at ops i) ≡ Some r) (j + 1) (number_at new r.0)
+definers_noted ops j old new is notes r =
+    by_bool (is_register r (defined (op_at ops j)))
+    (λ test.
+    let here : defined (op_at ops j) ≡ Some r = is_register_same r (defined (op_at ops j)) test in
+    subst (λ o. IsLast (λ i. defined (op_at ops i) ≡ Some r) (j + 1) o) (sym (notes.changed r here))
+    (last_here (λ i. defined (op_at ops i) ≡ Some r) j here))
+    (λ test.
+    let not : defined (op_at ops j) ≡ Some r → ⊥ =
+    λ here. false≢true (sym test ∙ is_register_from r (defined (op_at ops j)) here) in
+    subst (λ o. IsLast (λ i. defined (op_at ops i) ≡ Some r) (j + 1) o) (sym (notes.others r not))
+    (last_before (λ i. defined (op_at ops i) ≡ Some r) j (number_at old r.0) not (is r)))
+
+module _ (ops : List Op) (j : ℕ) (old new : Lasts) (is : IsLasts ops old j) (k : Kind) (kind_is : kind (op_at ops j)
+    ≡ k) where
+  not_here : (test : Kind → Bool) → test k ≡ false → test (kind (op_at ops j)) ≡ true → ⊥
+  not_here test fails here = false≢true (sym fails ∙ sym (ap test kind_is) ∙ here)
+
+  here : (test : Kind → Bool) → test k ≡ true → test (kind (op_at ops j)) ≡ true
+  here test holds = ap test kind_is ∙ holds
+
+  abbrev Last : (Kind → Bool) → ℕ → Option ℕ → Type 0
+  Last test n o = IsLast (λ i. test (kind (op_at ops i)) ≡ true) n o
+
+  stays : (test : Kind → Bool) (o o' : Option ℕ) → Last test j o → test k ≡ false → o' ≡ o → Last test (j + 1) o'
+  stays test o o' last fails same = subst (λ v. Last test (j + 1) v) (sym same)
+      (last_before (λ i. test (kind (op_at ops i)) ≡ true) j o (not_here test fails) last)
+
+  comes : (test : Kind → Bool) (o' : Option ℕ) → test k ≡ true → o' ≡ Some j → Last test (j + 1) o'
+  comes test o' holds same = subst (λ v. Last test (j + 1) v) (sym same)
+      (last_here (λ i. test (kind (op_at ops i)) ≡ true) j (here test holds))
+
+  abbrev Loads : List ℕ → Type 0
+  Loads items = (i : ℕ) → In items i → (i < j + 1) × (is_load (kind (op_at ops i)) ≡ true) × NoStoreBetween ops i (j + 1)
+
+  abbrev AllLoads : List ℕ → Type 0
+  AllLoads items = (i : ℕ) → i < j + 1 → is_load (kind (op_at ops i)) ≡ true
+      → NoStoreBetween ops i (j + 1) → In items i
+
+  still_none : (i : ℕ) → is_store k ≡ false → NoStoreBetween ops i j → NoStoreBetween ops i (j + 1)
+  still_none i no_store none m after below = by_eq m j
+      (λ same. ap (λ n. is_store (kind (op_at ops n))) same ∙ (ap is_store kind_is ∙ no_store))
+      (λ apart. none m after (omega arith))
+
+  loads_stay : is_store k ≡ false → Loads old.loads.items
+  loads_stay no_store i held =
+      let h = is.loads i held in
+      let below : i < j = h.0 in
+      (omega arith, h.1, still_none i no_store h.2)
+
+  earlier_load : (i : ℕ) → i < j → is_load (kind (op_at ops i)) ≡ true → NoStoreBetween ops i (j + 1)
+      → In old.loads.items i
+  earlier_load i below load none = is.all_loads i below load (λ m after before. none m after (omega arith))
+
+  all_loads_stay : is_load k ≡ false → AllLoads old.loads.items
+  all_loads_stay fails i below load none =
+      by_eq i j
+      (λ same. absurd (not_here is_load fails (subst (λ m. is_load (kind (op_at ops m)) ≡ true) same load)))
+      (λ apart. earlier_load i (omega arith) load none)
+
+  loads_more : is_load k ≡ true → is_store k ≡ false → Loads (old.loads.items ++ j ∷ [])
+  loads_more holds no_store i held =
+      elim (from_append old.loads.items (j ∷ []) i held) [
+        | inl front ↦ loads_stay no_store i front
+        | inr back ↦ elim back [
+          | inl same ↦ let at : j ≡ i = same in (
+            omega arith,
+            subst (λ m. is_load (kind (op_at ops m)) ≡ true) same (here is_load holds),
+            λ m after below. absurd (omega arith),
+          )
+          | inr none ↦ absurd none
+        ]
+      ]
+
+  all_loads_more : AllLoads (old.loads.items ++ j ∷ [])
+  all_loads_more i below load none =
+      by_eq i j
+      (λ same. in_right old.loads.items (j ∷ []) i (inl (sym same)))
+      (λ apart. in_left old.loads.items (j ∷ []) i (earlier_load i (omega arith) load none))
+
+  all_loads_gone : is_store k ≡ true → is_load k ≡ false → AllLoads []
+  all_loads_gone store fails i below load none =
+      by_eq i j
+      (λ same. not_here is_load fails (subst (λ m. is_load (kind (op_at ops m)) ≡ true) same load))
+      (λ apart. false≢true (sym (none j (omega arith) (omega arith)) ∙ here is_store store))
+
+  noted_as : NotesDefiner (op_at ops j) old.definers new.definers j → Last is_store (j + 1) new.store
+      → Last is_output (j + 1) new.output → (items : List ℕ) → new.loads.items ≡ items → Loads items → AllLoads items
+      → IsLasts ops new (j + 1)
+  noted_as definers store output items same loads all = record {
+    definers = definers_noted ops j old.definers new.definers is.definers definers;
+    store = store;
+    output = output;
+    loads = subst Loads (sym same) loads;
+    all_loads = subst AllLoads (sym same) all;
+  }
+
+  -- neither a load nor a store
+  noted_apart : NotesDefiner (op_at ops j) old.definers new.definers j → is_store k ≡ false → is_load k ≡ false
+      → new.store ≡ old.store → Last is_output (j + 1) new.output → new.loads.items ≡ old.loads.items
+      → IsLasts ops new (j + 1)
+  noted_apart definers no_store no_load same output loads =
+      noted_as definers (stays is_store old.store new.store is.store no_store same) output old.loads.items loads
+      (loads_stay no_store)
+      (all_loads_stay no_load)
+
+noted_by : (k : Kind) (ops : List Op) (j : ℕ) (old new : Lasts) → IsLasts ops old j → kind (op_at ops j) ≡ k
+    → NotesDefiner (op_at ops j) old.definers new.definers j → NotesKind k old new j → IsLasts ops new (j + 1)
+noted_by K.Load ops j old new is kind_is definers notes =
+    noted_as ops j old new is K.Load kind_is definers
+    (stays ops j old new is K.Load kind_is is_store old.store new.store is.store refl notes.0)
+    (stays ops j old new is K.Load kind_is is_output old.output new.output is.output refl notes.1)
+    (old.loads.items ++ j ∷ []) notes.2 (loads_more ops j old new is K.Load kind_is refl refl)
+    (all_loads_more ops j old new is K.Load kind_is)
+noted_by K.Store ops j old new is kind_is definers notes =
+    noted_as ops j old new is K.Store kind_is definers
+    (comes ops j old new is K.Store kind_is is_store new.store refl notes.0)
+    (stays ops j old new is K.Store kind_is is_output old.output new.output is.output refl notes.1) [] notes.2
+    (λ i held. absurd held) (all_loads_gone ops j old new is K.Store kind_is refl refl)
+noted_by K.Output ops j old new is kind_is definers notes =
+    noted_apart ops j old new is K.Output kind_is definers refl refl notes.0
+    (comes ops j old new is K.Output kind_is is_output new.output refl notes.1) notes.2
+noted_by _ ops j old new is kind_is definers notes =
+    noted_apart ops j old new is _ kind_is definers refl refl notes.0
+    (stays ops j old new is _ kind_is is_output old.output new.output is.output refl notes.1) notes.2
+
+pub noted : (ops : List Op) (j : ℕ) (old new : Lasts) → IsLasts ops old j
+    → NotesDefiner (op_at ops j) old.definers new.definers j → NotesKind (kind (op_at ops j)) old new j
+    → IsLasts ops new (j + 1)
+noted ops j old new is definers notes = noted_by (kind (op_at ops j)) ops j old new is refl definers notes
+
+same_kind : (k : Kind) (old new : Lasts) (d : ByRegister) (j : ℕ) → NotesKind k (record old { definers = d }) new j
+    → NotesKind k old new j
+same_kind K.Load old new d j notes = notes
+same_kind _ old new d j notes = notes
+
+-- first what it defines is noted, then its kind
+pub noted_in_turn : (ops : List Op) (j : ℕ) (old new : Lasts) (d : ByRegister) (op : Op) (k : Kind) → IsLasts ops old j
+    → op ≡ op_at ops j → k ≡ kind op → NotesDefiner op old.definers d j → new.definers ≡ d
+    → NotesKind k (record old { definers = d }) new j → IsLasts ops new (j + 1)
+noted_in_turn ops j old new d op k is op_is kind_is definers same notes =
+    noted ops j old new is
+    (subst (λ f. NotesDefiner (op_at ops j) old.definers f j) (sym same)
+    (subst (λ o. NotesDefiner o old.definers d j) op_is definers))
+    (subst (λ q. NotesKind q old new j) (kind_is ∙ ap kind op_is) (same_kind k old new d j notes))
+
+-- the loads since the last store are one more at most, and at a store they are gone
+pub loads_noted : (k : Kind) (j : ℕ) (old new : Lasts) → NotesKind k old new j
+    → length new.loads.items + loads_before k old ≤ length old.loads.items + 1
+loads_noted K.Load j old new notes = let size : length new.loads.items ≡ length (old.loads.items ++ j ∷ []) =
+    ap (length {A = ℕ}) notes.2 in omega (arith, length-append old.loads.items (j ∷ []))
+loads_noted K.Store j old new notes = let size : length new.loads.items ≡ 0 = ap (length {A = ℕ}) notes.2 in omega arith
+loads_noted _ j old new notes = let size : length new.loads.items ≡ length old.loads.items =
+    ap (length {A = ℕ}) notes.2 in omega arith

@@ -1,0 +1,184 @@
+-- What is known of the edges between some operations holds once there is one operation more; for `Tables::push`.
+use Rattle.std.proofs.Common.{◌≡◌, ℕ, ◌+◌, ◌<◌, List, [], ◌∷◌, ◌++◌, length, map, get_or, Option, Some, None, inl, inr, sym, ◌∙◌, ap, subst, arith}
+use Rattle.std.proofs.lemmas.List.{length-append, map-append}
+use Rattle.std.proofs.Math.ListN.{get_or-append}
+use Rattle.std.proofs.Math.Seq.{get_or-append_seam}
+use Rattle.std.specs.Global.{Vec}
+use Rattle.iloc_ops.specs.declared.op.Op.{Op}
+use Rattle.iloc_ops.specs.Registers.{defined}
+use Rattle.iloc_meaning.specs.Trace.{op_at}
+use Rattle.iloc_timed.specs.declared.latencies.Latencies.{Latencies}
+use Rattle.iloc_timed.specs.Kinds.{kind, is_load, is_store, is_output}
+use Rattle.iloc_timed.specs.Latency.{latency}
+use Rattle.iloc_sched.specs.Delays.{uses_result, memory_delays, delays, IsDelayPair}
+use Rattle.iloc_timed.specs.declared.kind.Kind.{Kind}
+use Rattle.iloc_sched.specs.Renaming.{IsRenamed}
+use Rattle.iloc_sched.specs.declared.edges.Edge.{Edge}
+use Rattle.iloc_sched.specs.declared.edges.Edges.{Edges}
+use Rattle.iloc_sched.specs.declared.edges.lasts.Lasts.{Lasts}
+use Rattle.iloc_sched.specs.Near.{IsNear, IsNearPair, takes_over}
+use Rattle.iloc_sched.specs.Steps.Graph.{Graph, IsLast}
+use Rattle.iloc_sched.specs.Steps.Lasts.{IsLasts, IsNext}
+use Rattle.iloc_sched.specs.Steps.PartialGraph.{IsPartialGraph}
+use Rattle.iloc_sched.specs.Steps.Views.{graph_of}
+use Rattle.iloc_sched.proofs.Basics.Cases.{by_eq}
+use Rattle.iloc_sched.proofs.Basics.LastOnes.{last_same}
+use Rattle.iloc_sched.proofs.KeptEdges.AddedEdges.{tables_graph}
+use Rattle.iloc_sched.proofs.Renamed.OneMoreOperation.{op_at_kept}
+use Rattle.std.specs.Prelude.{true, false, Contains, IsTrue}
+
+module _ (ops : List Op) (op : Op) where
+  on : (P : Op → Type 0) (k : ℕ) → k < length ops → P (op_at ops k) → P (op_at (ops ++ op ∷ []) k)
+  on P k below held = subst P (sym (op_at_kept ops op k below)) held
+
+  back : (P : Op → Type 0) (k : ℕ) → k < length ops → P (op_at (ops ++ op ∷ []) k) → P (op_at ops k)
+  back P k below held = subst P (op_at_kept ops op k below) held
+
+  pub size_more : length (ops ++ op ∷ []) ≡ length ops + 1
+  size_more = length-append ops (op ∷ [])
+
+  near_on : (lat : Latencies) (i j d : ℕ) → i < j → j < length ops → IsNear lat ops i j d
+      → IsNear lat (ops ++ op ∷ []) i j d
+  near_on lat i j d order within near = elim near [
+    | inl through ↦ inl (
+      on (λ o. IsTrue (uses_result o (op_at (ops ++ op ∷ []) j))) i (omega arith)
+          (on (λ o. IsTrue (uses_result (op_at ops i) o)) j within through.0),
+      on (λ o. d ≡ latency lat o) i (omega arith) through.1,
+    )
+    | inr memory ↦ inr (
+      on (λ o. Contains (memory_delays lat o (op_at (ops ++ op ∷ []) j)) d) i (omega arith)
+          (on (λ o. Contains (memory_delays lat (op_at ops i) o) d) j within memory.0),
+      λ k after before. on (λ o. takes_over o (op_at (ops ++ op ∷ []) k) ≡ false) i (omega arith)
+          (on (λ o. takes_over (op_at ops i) o ≡ false) k (omega arith) (memory.1 k after before)),
+    )
+  ]
+
+  pair_on : (lat : Latencies) (i j d : ℕ) → IsNearPair lat ops i j d → IsNearPair lat (ops ++ op ∷ []) i j d
+  pair_on lat i j d pair =
+      let order : i < j = pair.order in
+      let within : j < length ops = pair.within in
+      record {
+        order = pair.order;
+        within = omega (arith, size_more);
+        delay = on (λ o. Contains (delays lat o (op_at (ops ++ op ∷ []) j)) d) i (omega arith)
+            (on (λ o. Contains (delays lat (op_at ops i) o) d) j within pair.delay);
+        near = near_on lat i j d pair.order pair.within pair.near;
+      }
+
+  pair_back : (lat : Latencies) (i j d : ℕ) → j < length ops → IsDelayPair lat (ops ++ op ∷ []) i j d
+      → IsDelayPair lat ops i j d
+  pair_back lat i j d within pair =
+      let order : i < j = pair.order in
+      record {
+        order = pair.order;
+        within = within;
+        delay = back (λ o. Contains (delays lat o (op_at ops j)) d) i (omega arith)
+            (back (λ o. Contains (delays lat (op_at (ops ++ op ∷ []) i) o) d) j within pair.delay);
+      }
+
+  near_back : (lat : Latencies) (i j d : ℕ) → i < j → j < length ops → IsNear lat (ops ++ op ∷ []) i j d
+      → IsNear lat ops i j d
+  near_back lat i j d order within near = elim near [
+    | inl through ↦ inl (
+      back (λ o. IsTrue (uses_result o (op_at ops j))) i (omega arith)
+          (back (λ o. IsTrue (uses_result (op_at (ops ++ op ∷ []) i) o)) j within through.0),
+      back (λ o. d ≡ latency lat o) i (omega arith) through.1,
+    )
+    | inr memory ↦ inr (
+      back (λ o. Contains (memory_delays lat o (op_at ops j)) d) i (omega arith)
+          (back (λ o. Contains (memory_delays lat (op_at (ops ++ op ∷ []) i) o) d) j within memory.0),
+      λ k after before. back (λ o. takes_over o (op_at ops k) ≡ false) i (omega arith)
+          (back (λ o. takes_over (op_at (ops ++ op ∷ []) i) o ≡ false) k (omega arith) (memory.1 k after before)),
+    )
+  ]
+
+  -- the graph with one operation more, which has no edge
+  pub partial_next : (lat : Latencies) (graph : Graph) (n : ℕ) (head' : ℕ → Option ℕ)
+      → IsPartialGraph lat ops graph (length ops) → n ≡ graph.ops + 1
+      → ((i : ℕ) → i < graph.ops → head' i ≡ graph.head i) → head' graph.ops ≡ None
+      → IsPartialGraph lat (ops ++ op ∷ []) (record graph { ops = n; head = head' }) (length ops)
+  partial_next lat graph n head' is size kept none = record {
+    size = size ∙ ap (λ m. m + 1) is.size ∙ sym size_more;
+    rises = is.rises;
+    top = is.top;
+    into = is.into;
+    into_last = is.into_last;
+    to_there = is.to_there;
+    sound = λ x there. pair_on lat (graph.from x) (graph.to x) (graph.delay x) (is.sound x there);
+    heads = λ i below. by_eq i graph.ops
+        (λ same. subst (λ o. IsLast (λ x. graph.from x ≡ i) graph.count o) (sym (ap head' same ∙ none))
+        (λ x there from.
+        let order : graph.from x < graph.to x = (is.sound x there).order in
+        let within : graph.to x < length ops = (is.sound x there).within in
+        let all : graph.ops ≡ length ops = is.size in
+        absurd (omega arith)))
+        (λ apart.
+        let before : i < graph.ops = omega arith in
+        subst (λ o. IsLast (λ x. graph.from x ≡ i) graph.count o) (sym (kept i before)) (is.heads i before));
+    previous_edges = is.previous_edges;
+    all = λ i b d below pair near. is.all i b d below (pair_back lat i b d below pair)
+        (near_back lat i b d pair.order below near);
+  }
+
+  -- the same stands last
+  pub lasts_next : (lasts : Lasts) → IsLasts ops lasts (length ops) → IsLasts (ops ++ op ∷ []) lasts (length ops)
+  lasts_next lasts is = record {
+    definers = λ r. last_same (λ i. defined (op_at ops i) ≡ Some r) (λ i. defined (op_at (ops ++ op ∷ []) i) ≡ Some r)
+        (length ops) _ (on (λ o. defined o ≡ Some r)) (back (λ o. defined o ≡ Some r)) (is.definers r);
+    store = last_same (λ i. is_store (kind (op_at ops i)) ≡ true) (λ i. is_store (kind (op_at (ops ++ op ∷ []) i)) ≡ true)
+        (length ops) _ (on (λ o. is_store (kind o) ≡ true)) (back (λ o. is_store (kind o) ≡ true)) is.store;
+    output = last_same (λ i. is_output (kind (op_at ops i)) ≡ true)
+        (λ i. is_output (kind (op_at (ops ++ op ∷ []) i)) ≡ true)
+        (length ops) _ (on (λ o. is_output (kind o) ≡ true)) (back (λ o. is_output (kind o) ≡ true)) is.output;
+    loads = λ i held. let h = is.loads i held in (
+      h.0,
+      on (λ o. is_load (kind o) ≡ true) i h.0 h.1,
+      λ k after before. on (λ o. is_store (kind o) ≡ false) k before (h.2 k after before),
+    );
+    all_loads = λ i below load none. is.all_loads i below (back (λ o. is_load (kind o) ≡ true) i below load)
+        (λ k after before. back (λ o. is_store (kind o) ≡ false) k before (none k after before));
+  }
+
+  pub kinds_more : (kinds kinds' : List Kind) (ops' : List Op) → ops' ≡ ops ++ op ∷ []
+      → kinds' ≡ kinds ++ kind op ∷ [] → kinds ≡ map kind ops → kinds' ≡ map kind ops'
+  kinds_more kinds kinds' ops' ops_is kinds_is kinds_were =
+      kinds_is ∙ ap (λ ks. ks ++ kind op ∷ []) kinds_were ∙ sym (map-append kind ops (op ∷ []))
+      ∙ ap (map kind) (sym ops_is)
+
+  pub latencies_more : (lat : Latencies) (own own' : List ℕ) (ops' : List Op) → ops' ≡ ops ++ op ∷ []
+      → own' ≡ own ++ latency lat op ∷ [] → own ≡ map (latency lat) ops → own' ≡ map (latency lat) ops'
+  latencies_more lat own own' ops' ops_is own_is own_was =
+      own_is ∙ ap (λ ns. ns ++ latency lat op ∷ []) own_was ∙ sym (map-append (latency lat) ops (op ∷ []))
+      ∙ ap (map (latency lat)) (sym ops_is)
+
+  -- it is the next
+  pub is_next : (kinds kinds' : List Kind) (lasts : Lasts) (j : ℕ) (ops' : List Op) → ops' ≡ ops ++ op ∷ []
+      → kinds' ≡ kinds ++ kind op ∷ [] → kinds ≡ map kind ops → j ≡ length ops → IsRenamed (ops ++ op ∷ [])
+      → length ops < 10000 → IsLasts ops lasts (length ops) → IsNext ops' kinds' lasts j
+  is_next kinds kinds' lasts j ops' ops_is kinds_is kinds_were at renamed few known =
+      subst (λ xs. IsNext xs kinds' lasts j) (sym ops_is)
+      (subst (λ n. IsNext (ops ++ op ∷ []) kinds' lasts n) (sym at) (record {
+        kinds_known = kinds_is ∙ ap (λ ks. ks ++ kind op ∷ []) kinds_were ∙ sym (map-append kind ops (op ∷ []));
+        renamed = renamed;
+        few = omega (arith, size_more);
+        there = omega (arith, size_more);
+        known = lasts_next lasts known;
+      }))
+
+  -- the same of the tables
+  pub partial_grown : (lat : Latencies) (e e' : Edges) (j : ℕ) (ops' : List Op) → ops' ≡ ops ++ op ∷ [] → j ≡ length ops
+      → e'.edges ≡ e.edges → e'.starts ≡ e.starts → e'.heads.items ≡ e.heads.items ++ None ∷ []
+      → IsPartialGraph lat ops (graph_of e) (length ops) → IsPartialGraph lat ops' (graph_of e') j
+  partial_grown lat e e' j ops' ops_is at edges starts heads is =
+      let size : length e'.heads.items ≡ length e.heads.items + 1 =
+      ap length heads ∙ length-append e.heads.items (None ∷ []) in
+      let next : IsPartialGraph lat (ops ++ op ∷ []) (tables_graph e.edges.items e.starts.items e'.heads.items) (length ops) =
+      partial_next lat (graph_of e) (length e'.heads.items) (λ i. get_or e'.heads.items i None) is size
+      (λ i below. ap (λ xs. get_or xs i None) heads ∙ get_or-append e.heads.items (None ∷ []) None i below)
+      (ap (λ xs. get_or xs (length e.heads.items) None) heads ∙ get_or-append_seam e.heads.items None [] None) in
+      subst (λ xs. IsPartialGraph lat xs (graph_of e') j) (sym ops_is)
+      (subst (λ n. IsPartialGraph lat (ops ++ op ∷ []) (graph_of e') n) (sym at)
+      (subst (λ (v : Vec Edge). IsPartialGraph lat (ops ++ op ∷ []) (tables_graph v.items e'.starts.items e'.heads.items) (length ops))
+      (sym edges)
+      (subst (λ (v : Vec ℕ). IsPartialGraph lat (ops ++ op ∷ []) (tables_graph e.edges.items v.items e'.heads.items) (length ops))
+      (sym starts) next)))

@@ -1,0 +1,302 @@
+-- The kept edges grow edge by edge and operation by operation; for `Edges::fill`.
+use Rattle.std.proofs.Common.{◌≡◌, ℕ, ◌+◌, ◌<◌, ◌≤◌, List, length, sym, ◌∙◌, ap, subst, arith}
+use Rattle.iloc_ops.specs.declared.op.Op.{Op}
+use Rattle.iloc_meaning.specs.Trace.{op_at}
+use Rattle.iloc_timed.specs.declared.latencies.Latencies.{Latencies}
+use Rattle.iloc_timed.specs.Kinds.{kind}
+use Rattle.iloc_timed.specs.Latency.{latency}
+use Rattle.iloc_sched.specs.Delays.{IsDelayPair}
+use Rattle.iloc_sched.specs.Near.{IsNear, IsNearPair}
+use Rattle.iloc_sched.specs.Steps.Graph.{Graph, IsLast, IsGraphOf}
+use Rattle.iloc_sched.specs.Steps.PartialGraph.{IsPartialGraph, HasEdge, HasOneMore, Grows}
+use Rattle.iloc_sched.proofs.DelayPairs.DelayBounds.{delay_at_least, delay_at_most}
+use Rattle.iloc_sched.proofs.Basics.Cases.{by_eq, by_lt}
+use Rattle.iloc_sched.proofs.Basics.LastOnes.{last_same, last_here, last_before}
+use Rattle.iloc_timed.proofs.WholeRuns.{short_latency}
+
+pair_along : (lat : Latencies) (ops : List Op) (i i' j j' d d' : ℕ) → i' ≡ i → j' ≡ j → d' ≡ d
+    → IsNearPair lat ops i j d → IsNearPair lat ops i' j' d'
+pair_along lat ops i i' j j' d d' i_is j_is d_is pair =
+    subst (λ x. IsNearPair lat ops x j' d') (sym i_is)
+    (subst (λ x. IsNearPair lat ops i x d') (sym j_is) (subst (λ x. IsNearPair lat ops i j x) (sym d_is) pair))
+
+-- one edge more
+module _ (lat : Latencies) (ops : List Op) (graph graph' : Graph) (i j d : ℕ) (is : IsPartialGraph lat ops graph j)
+    (pair : IsNearPair lat ops i j d) (more : HasOneMore graph graph' i j d) where
+  earlier_there : (x : ℕ) → x < graph.start j → x < graph.count
+  earlier_there x before = let top : graph.start j ≤ graph.count = is.top in omega arith
+
+  last_place : (x : ℕ) → x < graph'.count → graph.count ≤ x → x ≡ graph.count
+  last_place x there after = let size : graph'.count ≡ graph.count + 1 = more.count in omega arith
+
+  head_more : (k : ℕ) → k < graph.ops → IsLast (λ x. graph'.from x ≡ k) (graph.count + 1) (graph'.head k)
+  head_more k below =
+      by_eq k i
+      (λ same.
+      subst (λ o. IsLast (λ x. graph'.from x ≡ k) (graph.count + 1) o) (sym (ap graph'.head same ∙ more.head))
+      (last_here (λ x. graph'.from x ≡ k) graph.count (more.last_from ∙ sym same)))
+      (λ apart.
+      subst (λ o. IsLast (λ x. graph'.from x ≡ k) (graph.count + 1) o) (sym (more.heads k apart))
+      (last_before (λ x. graph'.from x ≡ k) graph.count (graph.head k)
+      (λ here. apart (sym here ∙ more.last_from))
+      (last_same (λ x. graph.from x ≡ k) (λ x. graph'.from x ≡ k) graph.count (graph.head k)
+      (λ x there here. more.from x there ∙ here) (λ x there here. sym (more.from x there) ∙ here) (is.heads k below))))
+
+  previous_more : (x : ℕ) → x < graph'.count → IsLast (λ y. graph'.from y ≡ graph'.from x) x (graph'.previous x)
+  previous_more x there =
+      by_lt x graph.count
+      (λ before.
+      subst (λ o. IsLast (λ y. graph'.from y ≡ graph'.from x) x o) (sym (more.previous x before))
+      (last_same (λ y. graph.from y ≡ graph.from x) (λ y. graph'.from y ≡ graph'.from x) x (graph.previous x)
+      (λ y below here. more.from y (omega arith) ∙ here ∙ sym (more.from x before))
+      (λ y below here. sym (more.from y (omega arith)) ∙ here ∙ more.from x before)
+      (is.previous_edges x before)))
+      (λ after.
+      subst (λ z. IsLast (λ y. graph'.from y ≡ graph'.from z) z (graph'.previous z)) (sym (last_place x there after))
+      (subst (λ o. IsLast (λ y. graph'.from y ≡ graph'.from graph.count) graph.count o) (sym more.last_previous)
+      (last_same (λ y. graph.from y ≡ i) (λ y. graph'.from y ≡ graph'.from graph.count) graph.count (graph.head i)
+      (λ y below here. more.from y below ∙ here ∙ sym more.last_from)
+      (λ y below here. sym (more.from y below) ∙ here ∙ more.last_from)
+      (is.heads i source_there))))
+    where
+      source_there : i < graph.ops
+      source_there =
+          let order : i < j = pair.order in
+          let within : j < length ops = pair.within in
+          let size : graph.ops ≡ length ops = is.size in
+          omega arith
+
+  pub partial_more : IsPartialGraph lat ops graph' j
+  partial_more = record {
+    size = more.ops ∙ is.size;
+    rises = λ a b order most.
+        let before : graph.start a ≤ graph.start b = is.rises a b order most in
+        let first : graph'.start a ≡ graph.start a = more.start a in
+        let second : graph'.start b ≡ graph.start b = more.start b in
+        omega arith;
+    top =
+        let before : graph.start j ≤ graph.count = is.top in
+        let first : graph'.start j ≡ graph.start j = more.start j in
+        let size : graph'.count ≡ graph.count + 1 = more.count in
+        omega arith;
+    into = λ b x below from_start to_end.
+        let first : graph'.start b ≡ graph.start b = more.start b in
+        let end : graph'.start (b + 1) ≡ graph.start (b + 1) = more.start (b + 1) in
+        let most : graph.start (b + 1) ≤ graph.start j = is.rises (b + 1) j (omega arith) (omega arith) in
+        more.to x (earlier_there x (omega arith)) ∙ is.into b x below (omega arith) (omega arith);
+    into_last = λ x from_start there.
+        let first : graph'.start j ≡ graph.start j = more.start j in
+        by_lt x graph.count
+        (λ before. more.to x before ∙ is.into_last x (omega arith) before)
+        (λ after. ap graph'.to (last_place x there after) ∙ more.last_to);
+    to_there = λ x before.
+        let first : graph'.start j ≡ graph.start j = more.start j in
+        let early : x < graph.start j = omega arith in
+        let same : graph'.to x ≡ graph.to x = more.to x (earlier_there x early) in
+        let old : (graph.to x < j) × (graph.start (graph.to x) ≤ x) × (x < graph.start (graph.to x + 1)) =
+        is.to_there x early in
+        let begin : graph'.start (graph'.to x) ≡ graph.start (graph.to x) = more.start (graph'.to x)
+        ∙ ap graph.start same in
+        let end : graph'.start (graph'.to x + 1) ≡ graph.start (graph.to x + 1) = more.start (graph'.to x + 1)
+        ∙ ap (λ t. graph.start (t + 1)) same in
+        let below : graph.to x < j = old.0 in
+        let after : graph.start (graph.to x) ≤ x = old.1 in
+        let until : x < graph.start (graph.to x + 1) = old.2 in
+        (omega arith, omega arith, omega arith);
+    sound = λ x there.
+        by_lt x graph.count
+        (λ before. pair_along lat ops _ _ _ _ _ _ (more.from x before) (more.to x before) (more.delay x before)
+        (is.sound x before))
+        (λ after.
+        subst (λ z. IsNearPair lat ops (graph'.from z) (graph'.to z) (graph'.delay z)) (sym (last_place x there after))
+        (pair_along lat ops _ _ _ _ _ _ more.last_from more.last_to more.last_delay pair));
+    heads = λ k below.
+        subst (λ n. IsLast (λ x. graph'.from x ≡ k) n (graph'.head k)) (sym more.count)
+        (head_more k (subst (λ n. k < n) more.ops below));
+    previous_edges = previous_more;
+    all = λ a b e below delays near.
+        let found = is.all a b e below delays near in
+        let first : graph'.start j ≡ graph.start j = more.start j in
+        let early : found.0 < graph.start j = found.1 in
+        let there : found.0 < graph.count = earlier_there found.0 early in (
+          found.0,
+          omega arith,
+          more.to found.0 there ∙ found.2,
+          more.from found.0 there ∙ found.3,
+          subst (λ n. e ≤ n) (sym (more.delay found.0 there)) found.4,
+        );
+  }
+
+  edges_stay : (a e : ℕ) → HasEdge graph j a e → HasEdge graph' j a e
+  edges_stay a e edge =
+      let there : edge.place < graph.count = edge.there in
+      let first : graph'.start j ≡ graph.start j = more.start j in
+      let size : graph'.count ≡ graph.count + 1 = more.count in
+      let after : graph.start j ≤ edge.place = edge.after in
+      record {
+        place = edge.place;
+        after = omega arith;
+        there = omega arith;
+        source = more.from edge.place there ∙ edge.source;
+        long = subst (λ n. e ≤ n) (sym (more.delay edge.place there)) edge.long;
+      }
+
+  pub grows_by_one : Grows lat ops graph graph' j
+  grows_by_one = record { partial = partial_more; keeps = edges_stay }
+
+  pub has_new : HasEdge graph' j i d
+  has_new =
+      let first : graph'.start j ≡ graph.start j = more.start j in
+      let size : graph'.count ≡ graph.count + 1 = more.count in
+      let top : graph.start j ≤ graph.count = is.top in
+      let same : graph'.delay graph.count ≡ d = more.last_delay in
+      record {
+        place = graph.count;
+        after = omega arith;
+        there = omega arith;
+        source = more.last_from;
+        long = omega arith;
+      }
+
+pub grows_then : (lat : Latencies) (ops : List Op) (a b c : Graph) (j : ℕ) → Grows lat ops a b j → Grows lat ops b c j
+    → Grows lat ops a c j
+grows_then lat ops a b c j first second = record {
+  partial = second.partial;
+  keeps = λ i d edge.
+      second.keeps i d (first.keeps i d edge);
+}
+
+-- the edges into j are all there, and those into the next operation begin behind them
+module _ (lat : Latencies) (ops : List Op) (graph : Graph) (j : ℕ) (is : IsPartialGraph lat ops graph j)
+    (near : (i d : ℕ) → IsDelayPair lat ops i j d → IsNear lat ops i j d → HasEdge graph j i d)
+    (start' : ℕ → ℕ) (starts : (b : ℕ) → b ≤ j → start' b ≡ graph.start b) (end : start' (j + 1) ≡ graph.count) where
+  below_end : (b : ℕ) → b ≤ j → graph.start b ≤ graph.count
+  below_end b most =
+      let up : graph.start b ≤ graph.start j = is.rises b j most (omega arith) in
+      let top : graph.start j ≤ graph.count = is.top in
+      omega arith
+
+  rises_more : (a b : ℕ) → a ≤ b → b ≤ j + 1 → start' a ≤ start' b
+  rises_more a b order most =
+      by_eq b (j + 1)
+      (λ at_end.
+      let b_end : start' b ≡ graph.count = ap start' at_end ∙ end in
+      by_eq a (j + 1)
+      (λ same. let a_end : start' a ≡ graph.count = ap start' same ∙ end in omega arith)
+      (λ apart.
+      let before : start' a ≡ graph.start a = starts a (omega arith) in
+      let least : graph.start a ≤ graph.count = below_end a (omega arith) in
+      omega arith))
+      (λ apart.
+      let first : start' a ≡ graph.start a = starts a (omega arith) in
+      let second : start' b ≡ graph.start b = starts b (omega arith) in
+      let up : graph.start a ≤ graph.start b = is.rises a b order (omega arith) in
+      omega arith)
+
+  into_more : (b x : ℕ) → b < j + 1 → start' b ≤ x → x < start' (b + 1) → graph.to x ≡ b
+  into_more b x below from_start to_end =
+      let first : start' b ≡ graph.start b = starts b (omega arith) in
+      by_eq b j
+      (λ same.
+      let there : start' (b + 1) ≡ graph.count = ap (λ k. start' (k + 1)) same ∙ end in
+      let begin : graph.start b ≡ graph.start j = ap graph.start same in
+      is.into_last x (omega arith) (omega arith) ∙ sym same)
+      (λ apart.
+      let second : start' (b + 1) ≡ graph.start (b + 1) = starts (b + 1) (omega arith) in
+      is.into b x (omega arith) (omega arith) (omega arith))
+
+  to_there_more : (x : ℕ) → x < start' (j + 1) → (graph.to x < j + 1) × (start' (graph.to x) ≤ x)
+      × (x < start' (graph.to x + 1))
+  to_there_more x there =
+      by_lt x (graph.start j)
+      (λ before.
+      let old : (graph.to x < j) × (graph.start (graph.to x) ≤ x) × (x < graph.start (graph.to x + 1)) =
+      is.to_there x before in
+      let below : graph.to x < j = old.0 in
+      let after : graph.start (graph.to x) ≤ x = old.1 in
+      let until : x < graph.start (graph.to x + 1) = old.2 in
+      let first : start' (graph.to x) ≡ graph.start (graph.to x) = starts (graph.to x) (omega arith) in
+      let second : start' (graph.to x + 1) ≡ graph.start (graph.to x + 1) = starts (graph.to x + 1) (omega arith) in
+      (omega arith, omega arith, omega arith))
+      (λ late.
+      let same : graph.to x ≡ j = is.into_last x late (omega arith) in
+      let first : start' (graph.to x) ≡ graph.start j = ap start' same ∙ starts j (omega arith) in
+      let second : start' (graph.to x + 1) ≡ graph.count = ap (λ k. start' (k + 1)) same ∙ end in
+      (omega arith, omega arith, omega arith))
+
+  all_more : (i b d : ℕ) → b < j + 1 → IsDelayPair lat ops i b d → IsNear lat ops i b d → (x : ℕ) × (x < start' (j + 1))
+      × (graph.to x ≡ b) × (graph.from x ≡ i) × (d ≤ graph.delay x)
+  all_more i b d below pair is_near =
+      by_eq b j
+      (λ same.
+      let edge : HasEdge graph j i d = near i d (subst (λ k. IsDelayPair lat ops i k d) same pair)
+      (subst (λ k. IsNear lat ops i k d) same is_near) in
+      let there : edge.place < graph.count = edge.there in
+      (edge.place, omega arith, is.into_last edge.place edge.after there ∙ sym same, edge.source, edge.long))
+      (λ apart.
+      let old = is.all i b d (omega arith) pair is_near in
+      let early : old.0 < graph.start j = old.1 in
+      let top : graph.start j ≤ graph.count = is.top in
+      (old.0, omega arith, old.2, old.3, old.4))
+
+  pub closed : IsPartialGraph lat ops (record graph { start = start' }) (j + 1)
+  closed = record {
+    size = is.size;
+    rises = rises_more;
+    top = omega arith;
+    into = into_more;
+    into_last = λ x from_start there. absurd (omega arith);
+    to_there = to_there_more;
+    sound = is.sound;
+    heads = is.heads;
+    previous_edges = is.previous_edges;
+    all = all_more;
+  }
+
+module _ (lat : Latencies) (ops : List Op) (graph : Graph) (is : IsPartialGraph lat ops graph (length ops)) where
+  none_behind : (x : ℕ) → graph.start (length ops) ≤ x → x < graph.count → ⊥
+  none_behind x after there =
+      let within : graph.to x < length ops = (is.sound x there).within in
+      let same : graph.to x ≡ length ops = is.into_last x after there in
+      omega arith
+
+  at_end : graph.start (length ops) ≡ graph.count
+  at_end =
+      by_lt (graph.start (length ops)) graph.count
+      (λ before. absurd (none_behind (graph.start (length ops)) (omega arith) before))
+      (λ after. let top : graph.start (length ops) ≤ graph.count = is.top in omega arith)
+
+  -- all operations have their edges
+  pub kept_at_end : IsGraphOf lat ops graph
+  kept_at_end = record {
+    is_graph = record {
+      rises = λ i j order most. is.rises i j order (subst (λ n. j ≤ n) is.size most);
+      last = ap graph.start is.size ∙ at_end;
+      into = λ j x below. is.into j x (subst (λ n. j < n) is.size below);
+      to_there = λ x there.
+          let h : (graph.to x < length ops) × (graph.start (graph.to x) ≤ x) × (x < graph.start (graph.to x + 1)) =
+          is.to_there x (subst (λ n. x < n) (sym at_end) there) in
+          (subst (λ n. graph.to x < n) (sym is.size) h.0, h.1, h.2);
+      earlier = λ x there. (is.sound x there).order;
+      delays = λ x there.
+          let pair : IsNearPair lat ops (graph.from x) (graph.to x) (graph.delay x) = is.sound x there in
+          let most : graph.delay x ≤ latency lat (op_at ops (graph.from x)) =
+          delay_at_most lat (op_at ops (graph.from x)) (op_at ops (graph.to x)) (graph.delay x) pair.delay in
+          let short : latency lat (op_at ops (graph.from x)) ≤ 16 = short_latency lat (kind (op_at ops (graph.from x))) in (
+            delay_at_least lat (op_at ops (graph.from x)) (op_at ops (graph.to x)) (graph.delay x) pair.delay,
+            omega arith,
+          );
+      heads = is.heads;
+      previous_edges = is.previous_edges;
+    };
+    size = is.size;
+    sound = λ x there. let pair = is.sound x there in record {
+      order = pair.order;
+      within = pair.within;
+      delay = pair.delay;
+    };
+    near = λ x there. (is.sound x there).near;
+    all = λ i j d pair near.
+        let h = is.all i j d pair.within pair near in
+        (h.0, subst (λ n. h.0 < n) at_end h.1, h.2, h.3, h.4);
+  }

@@ -1,0 +1,19 @@
+use Rattle.std.proofs.Common.{subst, sym}
+use Rattle.std.specs.Prelude.{All}
+use Rattle.std.proofs.lemmas.List.Elements.{All-from_get_or}
+use Rattle.iloc_sched.specs.declared.edges.Edge.{Edge}
+use Rattle.iloc_sched.specs.Delays.{IsDelayPair}
+use Rattle.iloc_sched.specs.GraphOf.{GraphOf}
+use Rattle.iloc_sched.specs.Steps.Graph.{IsGraphOf}
+use Rattle.iloc_sched.specs.Steps.Views.{graph_of, no_edge}
+use Rattle.iloc_sched.proofs.graph.Graph.edges.Goals as goal
+
+pub returns : goal.returns
+returns c =
+    let v = c.args.self.now in
+    let e = c.self.inside.tables.edges in
+    let kept : IsGraphOf v.latencies v.ops (graph_of e) =
+    subst (λ (g : GraphOf). IsGraphOf g.latencies g.ops (graph_of e)) c.self.view_is c.self.invariant.sound.graph in
+    subst (All (λ (edge : Edge). IsDelayPair v.latencies v.ops edge.from edge.to edge.delay)) (sym c.as_slice.ensures)
+    (All-from_get_or (λ (edge : Edge). IsDelayPair v.latencies v.ops edge.from edge.to edge.delay) e.edges.items no_edge
+    kept.sound)

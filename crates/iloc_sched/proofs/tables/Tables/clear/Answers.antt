@@ -1,0 +1,24 @@
+use Rattle.std.proofs.Common.{◌≡◌, [], length, map, sym, ◌∙◌, ap, subst, arith}
+use Rattle.iloc_timed.specs.Kinds.{kind}
+use Rattle.iloc_timed.specs.Latency.{latency}
+use Rattle.iloc_sched.specs.Steps.Lasts.{IsLasts}
+use Rattle.iloc_sched.specs.Steps.PartialGraph.{IsPartialGraph}
+use Rattle.iloc_sched.specs.Steps.Views.{graph_of}
+use Rattle.iloc_sched.proofs.tables.Tables.clear.Goals as goal
+
+pub returns-clause-filling : goal.returns-clause-filling
+returns-clause-filling c =
+    let ops : c.reserve.new.self.items ≡ [] = c.in_ok-reserve.ensures.items ∙ c.clear.ensures.items in
+    let kinds : c.reserve-2.new.self.items ≡ [] = c.in_ok-reserve-2.ensures.items ∙ c.clear-2.ensures.items in
+    let own : c.reserve-3.new.self.items ≡ [] = c.in_ok-reserve-3.ensures.items ∙ c.clear-3.ensures.items in
+    let none : length c.reserve.new.self.items ≡ 0 = ap length ops in
+    record {
+      kinds = kinds ∙ ap (map kind) (sym ops);
+      own = own ∙ ap (map (latency c.args.self.now.latencies)) (sym ops);
+      partial = subst (λ n. IsPartialGraph c.args.self.now.latencies c.reserve.new.self.items (graph_of c.empty.new.self) n)
+          (sym none) (c.in_ok-empty.ensures.partial c.args.self.now.latencies c.reserve.new.self.items none);
+      known = subst (λ n. IsLasts c.reserve.new.self.items c.clear-4.new.self n) (sym none)
+          (c.clear-4.ensures.lasts c.reserve.new.self.items);
+      starts = omega (arith, c.in_ok-empty.ensures.starts);
+      count = omega (arith, c.in_ok-empty.ensures.edges, c.clear-4.ensures.loads);
+    }

@@ -1,0 +1,9 @@
+-- What a dependence graph is the graph of.
+use Rattle.std.specs.Prelude.{List}
+use Rattle.iloc_ops.specs.declared.op.Op.{Op}
+use Rattle.iloc_timed.specs.declared.latencies.Latencies.{Latencies}
+
+-- renamed operations, and how long they take
+pub record GraphOf : Type 0 where
+  pub ops : List Op
+  pub latencies : Latencies

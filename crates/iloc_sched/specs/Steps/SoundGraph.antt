@@ -1,0 +1,21 @@
+-- What always holds of the tables of a dependence graph.
+use Rattle.std.specs.Prelude.{◌≡◌, List, map}
+use Rattle.iloc_ops.specs.declared.op.Op.{Op}
+use Rattle.iloc_timed.specs.Kinds.{kind}
+use Rattle.iloc_timed.specs.Latency.{latency}
+use Rattle.iloc_sched.specs.Renaming.{renamed}
+use Rattle.iloc_sched.specs.declared.tables.Tables.{Tables}
+use Rattle.iloc_sched.specs.Steps.Graph.{IsGraphOf}
+use Rattle.iloc_sched.specs.Steps.Views.{graph_of}
+
+-- they have the kinds of their operations, their latencies, and the edges between them
+pub record IsSound (t : Tables) : Type 0 where
+  pub kinds : t.kinds.items ≡ map kind t.ops.items
+  pub own : t.own.items ≡ map (latency t.latencies) t.ops.items
+  pub graph : IsGraphOf t.latencies t.ops.items (graph_of t.edges)
+
+-- and the operations are those of a block
+pub record IsOfBlock (t : Tables) : Type 0 where
+  pub sound : IsSound t
+  pub block : List Op
+  pub named : t.ops.items ≡ renamed block

@@ -1,0 +1,173 @@
+//! The dependence graph of a block.
+ghost use Rattle.std.specs.Prelude.{ℕ, ◌≡◌, ◌≤◌, ◌<◌, ◌+◌, List, [], length, map, All, Any, IfErr, IfOk, OnOk};
+ghost use Rattle.iloc_ops.specs.declared.op.Op.{Op};
+ghost use Rattle.iloc_timed.specs.Kinds.{kind};
+ghost use Rattle.iloc_sched.specs.Delays.{IsDelayPair};
+ghost use Rattle.iloc_sched.specs.GraphOf.{GraphOf};
+ghost use Rattle.iloc_sched.specs.Heuristics.{priorities_by};
+ghost use Rattle.iloc_sched.specs.Least.{tails, least_of};
+ghost use Rattle.iloc_sched.specs.Near.{IsNearPair};
+ghost use Rattle.iloc_sched.specs.Priority.{priorities};
+ghost use Rattle.iloc_sched.specs.Renaming.{renamed};
+ghost use Rattle.iloc_sched.specs.Starts.{starts};
+ghost use Rattle.iloc_sched.specs.declared.edges.Edge.{Edge as edge_value};
+ghost use Rattle.iloc_sched.specs.Steps.SoundGraph.{IsSound};
+
+use crate::edges::Edge;
+use crate::edges::lasts::Lasts;
+use crate::lower_bound::least_by;
+use crate::lower_bound::starts::fill_starts;
+use crate::lower_bound::tails::fill_tails;
+use crate::ranking::heuristic::{Heuristic, fill_ranks};
+use crate::ranking::priority::fill_chains;
+use crate::renaming::Names;
+use crate::tables::Tables;
+use iloc_ops::{Block, MAX_OPS, NoMemory, Op};
+use iloc_timed::{Kind, Latencies};
+use std::alloc::Global;
+use std::marker::Model;
+
+/// The dependence graph of a block: its renamed operations, their latencies, and the delay pairs that are kept as edges,
+/// from which every other follows. Its buffers are kept from block to block.
+#[derive(Drop)]
+pub struct Graph {
+    alloc: Global,
+    names: Names,
+    lasts: Lasts,
+    tables: Tables,
+}
+
+impl Model for Graph {
+    ghost use Rattle.iloc_sched.specs.GraphOf.{GraphOf};
+
+    ghost Value = { GraphOf };
+
+    ghost use Rattle.iloc_sched.specs.Steps.SoundGraph.{IsOfBlock};
+
+    ghost view = { λ g. record { ops = g.tables.ops.items; latencies = g.tables.latencies } };
+
+    ghost invariant = { λ g. IsOfBlock g.tables };
+}
+
+impl Graph {
+    /// The graph of a block without operations.
+    pub fn new(alloc: Global) -> Graph
+        ensures { result.ops ≡ [] }
+    {
+        Graph {
+            alloc,
+            names: Names::new(alloc),
+            lasts: Lasts::new(alloc),
+            tables: Tables::new(alloc),
+        }
+    }
+
+    /// Becomes the graph of a block, of at most `MAX_OPS` operations. After a refusal it is that of a block without any.
+    pub fn refill(&mut self, block: &Block, latencies: &Latencies) -> Result<(), NoMemory>
+        requires { length block.now.ops ≤ MAX_OPS }
+        ensures graph { OnOk result (self.new ≡ record { ops = renamed block.now.ops; latencies = latencies.now }) }
+        ensures empty { IfErr result (λ _. self.new.ops ≡ []) }
+    {
+        match self
+            .tables
+            .open(&mut self.names, &mut self.lasts, block, latencies)
+        {
+            Ok(()) => Ok(()),
+            Err(refusal) => {
+                self.tables.forget();
+                Err(refusal)
+            }
+        }
+    }
+
+    /// The renamed operations, at most `MAX_OPS`.
+    pub fn ops(&self) -> &[Op]
+        ensures ops { result.now ≡ self.now.ops }
+        ensures few { length self.now.ops ≤ MAX_OPS }
+    {
+        self.tables.ops.as_slice()
+    }
+
+    /// The latencies.
+    pub fn latencies(&self) -> &Latencies
+        ensures { result.now ≡ self.now.latencies }
+    {
+        &self.tables.latencies
+    }
+
+    /// By operation its kind.
+    pub fn kinds(&self) -> &[Kind]
+        ensures kinds { result.now ≡ map kind self.now.ops }
+        ensures few { length self.now.ops ≤ MAX_OPS }
+    {
+        self.tables.kinds.as_slice()
+    }
+
+    /// The kept edges, those into an operation side by side and before those into later ones.
+    ///
+    /// Promise: Each is a delay pair of the operations.
+    pub fn edges(&self) -> &[Edge]
+        ensures { All (λ (e : edge_value). IsDelayPair self.now.latencies self.now.ops e.from e.to e.delay) result.now }
+    {
+        self.tables.edges.as_slice()
+    }
+
+    /// The kept edges into operation j.
+    ///
+    /// Promise: Each is a near pair, and each near pair has an edge that is at least as long.
+    pub fn edges_into(&self, j: usize) -> &[Edge]
+        requires { j < length self.now.ops }
+        ensures each { All (λ (e : edge_value). (e.to ≡ j)
+            × IsNearPair self.now.latencies self.now.ops e.from j e.delay) result.now }
+        ensures all { (i d : ℕ) → IsNearPair self.now.latencies self.now.ops i j d
+            → Any (λ (e : edge_value). (e.from ≡ i) × (d ≤ e.delay)) result.now }
+    {
+        let edges = &self.tables.edges;
+        &edges.as_slice()[edges.start(j) as usize..edges.start(j + 1) as usize]
+    }
+
+    /// Fills a list with the longest chain of delays from each operation, up to the end of the block.
+    pub fn chains(&self, found: &mut Vec<u32>) -> Result<(), NoMemory>
+        ensures { OnOk result (found.new.items ≡ priorities self.now.latencies self.now.ops) }
+    {
+        fill_chains(found, &self.tables)
+    }
+
+    /// Fills a list with the longest chain of delays to each operation: the first cycle at which it can be issued.
+    pub fn starts(&self, found: &mut Vec<u32>) -> Result<(), NoMemory>
+        ensures { OnOk result (found.new.items ≡ starts self.now.latencies self.now.ops) }
+    {
+        fill_starts(found, &self.tables)
+    }
+
+    /// Fills a list with the tails of the operations: how many cycles are left at least from the issue of each.
+    pub fn tails(&self, found: &mut Vec<u32>) -> Result<(), NoMemory>
+        ensures { OnOk result (found.new.items ≡ tails self.now.latencies self.now.ops) }
+    {
+        fill_tails(found, self.alloc, &self.tables)
+    }
+
+    /// A lower bound on the cycles of the block's lawful schedules, as `least` gives it.
+    pub fn least(&self) -> Result<u64, NoMemory>
+        ensures { IfOk result (λ n. n ≡ least_of self.now.latencies self.now.ops) }
+    {
+        least_by(self.alloc, self)
+    }
+
+    /// Fills a list with the priorities of the operations by a heuristic.
+    #[inline(always)]
+    pub fn rank(&self, heuristic: Heuristic, found: &mut Vec<u32>) -> Result<(), NoMemory>
+        ensures { OnOk result (found.new.items ≡ priorities_by heuristic self.now.latencies self.now.ops) }
+    {
+        fill_ranks(found, heuristic, self.alloc, &self.tables)
+    }
+
+    /// The tables.
+    pub(crate) fn tables(&self) -> &Tables
+        ensures sound { IsSound result.now }
+        ensures named { (block : List Op) × (result.now.ops.items ≡ renamed block) }
+        ensures graph { self.now ≡ record { ops = result.now.ops.items; latencies = result.now.latencies } }
+    {
+        &self.tables
+    }
+}

@@ -1,0 +1,184 @@
+//! The tables of a dependence graph.
+ghost use Rattle.std.specs.Prelude.{ℕ, ◌≡◌, ◌+◌, ◌<◌, ◌≤◌, [], ◌∷◌, ◌++◌, length, OnOk};
+ghost use Rattle.iloc_sched.specs.Renaming.{renamed, IsRenamed};
+
+use crate::edges::Edges;
+use crate::edges::lasts::Lasts;
+use crate::kinds::{Operations, fill_kinds};
+use crate::ranking::priority::fill_latencies;
+use crate::registers::OperandRegisters;
+use crate::renaming::{Names, is_nop};
+use iloc_ops::{Block, MAX_OPS, NoMemory, Op};
+use iloc_timed::{Kind, Latencies};
+use std::alloc::Global;
+
+/// Renamed operations, with their kinds and latencies and the edges between them.
+#[derive(Debug, Drop)]
+pub struct Tables {
+    pub ops: Vec<Op>,
+    pub kinds: Vec<Kind>,
+    pub latencies: Latencies,
+    pub edges: Edges,
+    /// By operation its latency.
+    pub own: Vec<u32>,
+}
+
+impl Tables {
+    ghost use Rattle.iloc_sched.specs.Steps.Filling.{CanHold, IsFilling};
+    ghost use Rattle.iloc_sched.specs.Steps.Registers.{AreRegistersOf};
+    ghost use Rattle.iloc_sched.specs.Steps.SoundGraph.{IsSound};
+    ghost use Rattle.iloc_sched.specs.Steps.Views.{IsEmptied};
+
+    /// The tables of no operation.
+    pub fn new(alloc: Global) -> Tables
+        ensures ops { result.ops.items ≡ [] }
+        ensures kinds { result.kinds.items ≡ [] }
+        ensures own { result.own.items ≡ [] }
+        ensures edges { IsEmptied result.edges }
+    {
+        Tables {
+            ops: Vec::new(alloc),
+            kinds: Vec::new(alloc),
+            latencies: Latencies::usual(),
+            edges: Edges::new(alloc),
+            own: Vec::new(alloc),
+        }
+    }
+
+    /// No operation.
+    pub fn forget(&mut self)
+        ensures ops { self.new.ops.items ≡ [] }
+        ensures kinds { self.new.kinds.items ≡ [] }
+        ensures own { self.new.own.items ≡ [] }
+        ensures edges { IsEmptied self.new.edges }
+    {
+        self.ops.clear();
+        self.kinds.clear();
+        self.own.clear();
+        self.edges.forget();
+    }
+
+    /// No operation, with capacity for `count` and the edges between them. Where each push tests whether it has to grow, `counts`
+    /// takes 3 to 4 % more processor time on blocks of some ten operations and of a hundred.
+    fn clear(&mut self, lasts: &mut Lasts, count: usize) -> Result<(), NoMemory>
+        requires { count ≤ MAX_OPS }
+        ensures filling { OnOk result (IsFilling self.new lasts.new) }
+        ensures ops { OnOk result (self.new.ops.items ≡ []) }
+        ensures latencies { self.new.latencies ≡ self.old.latencies }
+        ensures capacity { OnOk result (CanHold self.new count) }
+    {
+        self.ops.clear();
+        self.ops.reserve(count)?;
+        self.kinds.clear();
+        self.kinds.reserve(count)?;
+        self.own.clear();
+        self.own.reserve(count)?;
+        self.edges.empty(count)?;
+        lasts.clear(3 * count);
+        Ok(())
+    }
+
+    /// Adds an operation, the next of renamed ones, with the edges into it.
+    #[inline(always)]
+    fn push(
+        &mut self,
+        lasts: &mut Lasts,
+        op: Op,
+        registers: OperandRegisters,
+    ) -> Result<(), NoMemory>
+        requires filling { IsFilling self.old lasts.old }
+        requires registers { AreRegistersOf op registers }
+        requires renamed { IsRenamed (self.old.ops.items ++ op ∷ []) }
+        requires few { length self.old.ops.items < MAX_OPS }
+        requires capacity { CanHold self.old (length self.old.ops.items + 1) }
+        ensures filling { OnOk result (IsFilling self.new lasts.new) }
+        ensures ops { OnOk result (self.new.ops.items ≡ self.old.ops.items ++ op ∷ []) }
+        ensures latencies { self.new.latencies ≡ self.old.latencies }
+        ensures capacity { (n : ℕ) → CanHold self.old n → CanHold self.new n }
+    {
+        let j = self.ops.len();
+        let kind = Kind::of(&op);
+        self.ops.push_reserved(op);
+        self.kinds.push_reserved(kind);
+        self.own.push_reserved(self.latencies.of(kind));
+        self.edges.grow();
+        let operations = Operations {
+            ops: &self.ops,
+            kinds: &self.kinds,
+            latencies: &self.own,
+        };
+        self.edges
+            .add_all(&operations, &self.latencies, lasts, registers.uses, j);
+        lasts.note(&operations, registers.defines, j)?;
+        Ok(())
+    }
+
+    /// Takes the operations of a block. Each is renamed and gets the edges into it at once: the branch on its kind is
+    /// seldom predicted, so it is taken once. With a loop for each `counts` takes 5 to 9 % more processor time.
+    fn gather(
+        &mut self,
+        names: &mut Names,
+        lasts: &mut Lasts,
+        block: &Block,
+    ) -> Result<(), NoMemory>
+        requires { length block.now.ops ≤ MAX_OPS }
+        ensures sound { OnOk result (IsSound self.new) }
+        ensures ops { OnOk result (self.new.ops.items ≡ renamed block.now.ops) }
+        ensures latencies { OnOk result (self.new.latencies ≡ self.old.latencies) }
+    {
+        self.clear(lasts, block.ops.len())?;
+        names.clear(block.ops.len());
+        for op in block.ops.as_slice() {
+            if !is_nop(op) {
+                let (renamed, registers) = names.rename(op)?;
+                self.push(lasts, renamed, registers)?;
+            }
+        }
+        Ok(())
+    }
+
+    /// Takes the operations of a block, as `gather` does, for these latencies.
+    pub fn open(
+        &mut self,
+        names: &mut Names,
+        lasts: &mut Lasts,
+        block: &Block,
+        latencies: &Latencies,
+    ) -> Result<(), NoMemory>
+        requires { length block.now.ops ≤ MAX_OPS }
+        ensures sound { OnOk result (IsSound self.new) }
+        ensures latencies { OnOk result (self.new.latencies ≡ latencies.now) }
+        ensures ops { OnOk result (self.new.ops.items ≡ renamed block.now.ops) }
+    {
+        self.latencies = *latencies;
+        self.gather(names, lasts, block)
+    }
+
+    /// Takes renamed operations, as `open` does.
+    pub fn open_renamed(
+        &mut self,
+        lasts: &mut Lasts,
+        ops: &[Op],
+        latencies: &Latencies,
+    ) -> Result<(), NoMemory>
+        requires renamed { IsRenamed ops.now }
+        requires few { length ops.now ≤ MAX_OPS }
+        ensures sound { OnOk result (IsSound self.new) }
+        ensures latencies { OnOk result (self.new.latencies ≡ latencies.now) }
+        ensures ops { OnOk result (self.new.ops.items ≡ ops.now) }
+    {
+        self.latencies = *latencies;
+        self.ops.clear();
+        self.ops.extend_from_slice(ops)?;
+        fill_kinds(&mut self.kinds, ops)?;
+        fill_latencies(&mut self.own, &self.kinds, latencies)?;
+        let operations = Operations {
+            ops,
+            kinds: &self.kinds,
+            latencies: &self.own,
+        };
+        self.edges
+            .fill(lasts, &operations, 3 * ops.len(), latencies)?;
+        Ok(())
+    }
+}
