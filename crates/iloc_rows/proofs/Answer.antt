@@ -12,7 +12,7 @@ use Rattle.iloc_text.proofs.Answer.{lines_are_of, one_answer}
 use Rattle.iloc_text.proofs.ScheduleLines.Says.{one_said}
 use Rattle.iloc_rows.specs.declared.fault.RowsFault.{RowsFault}
 use Rattle.iloc_rows.specs.declared.fault.RowsFault.TheVariants.{Read, NoBlocks, NoSuchBlock}
-use Rattle.iloc_rows.specs.declared.proposal.Proposal.{Proposal}
+use Rattle.iloc_rows.specs.declared.proposal.Proposed.{Proposed}
 use Rattle.iloc_rows.specs.Told.{Told, Tells, OpensRow}
 use Rattle.iloc_rows.specs.Told.Told.{read, unread}
 use Rattle.iloc_rows.specs.Proposing.{is_of_block, op_count, proposals_of, Fits, AllFit}
@@ -318,7 +318,7 @@ one_refusal input fault fault' h k = by (refusal_is input fault h) (refusal_is i
     by (inr (inr (inr a))) (inr (inr (inl b))) = absurd (none_or_rows input fault b.1 a)
     by (inr (inr (inr a))) (inr (inr (inr b))) = same_rows input fault fault' a b
 
-one_submission : (input : List ℕ) (blocks blocks' : List Block) (proposals proposals' : List Proposal)
+one_submission : (input : List ℕ) (blocks blocks' : List Block) (proposals proposals' : List Proposed)
     → Denotes input blocks proposals → Denotes input blocks' proposals' → (blocks ≡ blocks') × (proposals ≡ proposals')
 one_submission input blocks blocks' proposals proposals' h k =
     let parts = same_split input h.before h.after k.before k.after h.are_lines k.are_lines h.ends k.ends in
@@ -328,7 +328,7 @@ one_submission input blocks blocks' proposals proposals' h k =
     (subst (λ ls. TellAll ls h.propose.told) parts.1 h.propose.tell) k.propose.tell in
     (same, h.propose.are ∙ ap₂ (λ bs ss. proposals_of (length bs) ss) same told ∙ sym k.propose.are)
 
-denoted_or_refused : (input : List ℕ) (blocks : List Block) (proposals : List Proposal) (fault : RowsFault)
+denoted_or_refused : (input : List ℕ) (blocks : List Block) (proposals : List Proposed) (fault : RowsFault)
     → Denotes input blocks proposals → IsRefused input fault → ⊥
 denoted_or_refused input blocks proposals fault h k = by (refusal_is input fault k)
   where

@@ -1,6 +1,7 @@
 -- Exchanging the operations of rows keeps the limits.
-use Rattle.std.proofs.Common.{◌≡◌, ◌∙◌, ℕ, zero, suc, ◌≤◌, nat_lt, ◌==◌, ◌&&◌, not, Bool, true, false, cond, List, [], ◌∷◌, length, map, count_by, option_to_list, refl, sym, arith}
+use Rattle.std.proofs.Common.{◌≡◌, ◌∙◌, ℕ, zero, suc, ◌≤◌, ◌<◌, nat_lt, Option, Some, None, ◌==◌, ◌&&◌, not, Bool, true, false, cond, List, [], ◌∷◌, length, map, count_by, option_to_list, refl, sym, arith}
 use Rattle.std.specs.List.{AllByRecursion, list_all}
+use Rattle.std.specs.Prelude.{MatchOption, IsTrue, IsFalse}
 use Rattle.std.proofs.lemmas.List.{length-map}
 use Rattle.std.proofs.lemmas.List.Folds.{list_all-append}
 use Rattle.std.proofs.lemmas.List.Sums.{sum_by-cons}
@@ -8,9 +9,12 @@ use Rattle.iloc_ops.specs.Limits.{MAX_OPS}
 use Rattle.iloc_ops.specs.declared.op.Op.{Op}
 use Rattle.iloc_timed.specs.declared.row.Row.{Row}
 use Rattle.iloc_timed.specs.Rows.{slots, times_issued, keeps_units}
-use Rattle.iloc_timed.specs.Schedule.{AreOnce, AreInRange, in_range}
-use Rattle.iloc_rows.specs.declared.proposal.Proposal.{Proposal}
-use Rattle.iloc_rows.specs.EitherSlot.{exchanged, in_either_slot, with_either_slot}
+use Rattle.iloc_timed.specs.Rows.{IsTable, row_at}
+use Rattle.iloc_timed.specs.Schedule.{AreOnce, AreInRange, IsFirstBadRow, in_range}
+use Rattle.iloc_timed.proofs.Standing.{table_from}
+use Rattle.iloc_rows.specs.declared.proposal.Proposed.{Proposed}
+use Rattle.iloc_rows.specs.Proposing.{IsNumbered}
+use Rattle.iloc_rows.specs.EitherSlot.{AllKeepUnits, IsFirstThatBreaks, exchanged, in_either_slot, with_either_slot}
 use Rattle.iloc_rows.specs.Laws.{PlacedRowsAreWithinLimits}
 use Rattle.iloc_rows.proofs.Slots.{two_slots}
 
@@ -62,11 +66,11 @@ either_issued i ops (row ∷ rows) = omega (
   either_issued i ops rows,
 )
 
-either_once : (p : Proposal) → AreOnce (length p.ops) p.rows
+pub either_once : (p : Proposed) → AreOnce (length p.ops) p.rows
     → AreOnce (length (with_either_slot p).ops) (with_either_slot p).rows
 either_once p once i below = either_issued i p.ops p.rows ∙ once i below
 
-rows_in_range : (count : ℕ) (ops : List Op) (rows : List Row) → AreInRange count rows
+pub rows_in_range : (count : ℕ) (ops : List Op) (rows : List Row) → AreInRange count rows
     → AreInRange count (map (in_either_slot ops) rows)
 rows_in_range count ops [] h c below = absurd (omega arith)
 rows_in_range count ops (row ∷ rows) h zero below = either_in_range count ops row ∙ h 0 (omega arith)
@@ -75,7 +79,7 @@ rows_in_range count ops (row ∷ rows) h (suc c) below =
 
 -- Proposals
 
-all-map : (P Q : Proposal → Type 0) (ps : List Proposal) → ((p : Proposal) → P p → Q (with_either_slot p))
+all-map : (P Q : Proposed → Type 0) (ps : List Proposed) → ((p : Proposed) → P p → Q (with_either_slot p))
     → AllByRecursion P ps → AllByRecursion Q (map with_either_slot ps)
 all-map P Q [] step h = tt
 all-map P Q (p ∷ ps) step h = (step p h.0, all-map P Q ps step h.1)
@@ -91,4 +95,31 @@ placed_within true blocks proposals w = record {
   once = all-map (λ p. AreOnce (length p.ops) p.rows) (λ p. AreOnce (length p.ops) p.rows) proposals either_once w.once;
   in_range = all-map (λ p. AreInRange (length p.ops) p.rows) (λ p. AreInRange (length p.ops) p.rows) proposals
       (λ p h. rows_in_range (length p.ops) p.ops p.rows h) w.in_range;
+}
+
+-- The first row that breaks the rules of the units
+
+both : (a b : Bool) → a ≡ true → b ≡ true → (a && b) ≡ true
+both true b first second = second
+both false b first second = absurd cc
+
+second_fails : (a b : Bool) → b ≡ false → (a && b) ≡ false
+second_fails true b fails = fails
+second_fails false b fails = refl
+
+-- rows whose numbers are operations' are a table unless one breaks the rules of the units
+pub bad_row_of : (p : Proposed) (found : Option ℕ) → IsNumbered p
+    → MatchOption found (AllKeepUnits p.ops p.rows) (IsFirstThatBreaks p.ops p.rows)
+    → MatchOption found (IsTable p.ops p.rows) (IsFirstBadRow p.ops p.rows)
+bad_row_of p None numbered keep =
+    table_from p.ops p.rows
+    (λ c within. both (in_range (length p.ops) (row_at p.rows c)) (keeps_units p.ops (row_at p.rows c)) (numbered.0 c within) (keep c within))
+    numbered.1
+bad_row_of p (Some c) numbered first = record {
+  within = first.within;
+  bad = second_fails (in_range (length p.ops) (row_at p.rows c)) (keeps_units p.ops (row_at p.rows c)) first.bad;
+  others = λ b below.
+      let inside : b < length p.rows = omega (arith, first.within) in
+      both (in_range (length p.ops) (row_at p.rows b)) (keeps_units p.ops (row_at p.rows b)) (numbered.0 b inside)
+      (first.others b below);
 }

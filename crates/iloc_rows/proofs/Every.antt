@@ -20,7 +20,7 @@ use Rattle.iloc_text.proofs.ScheduleLines.Says.{said_bad, said_good, said_large}
 use Rattle.iloc_text.proofs.Splitting.{lines_are}
 use Rattle.iloc_rows.specs.declared.fault.RowsFault.{RowsFault}
 use Rattle.iloc_rows.specs.declared.fault.RowsFault.TheVariants.{Read, NoBlocks, NoSuchBlock}
-use Rattle.iloc_rows.specs.declared.proposal.Proposal.{Proposal}
+use Rattle.iloc_rows.specs.declared.proposal.Proposed.{Proposed}
 use Rattle.iloc_rows.specs.Told.{Told, OpensRow, Tells}
 use Rattle.iloc_rows.specs.Told.Told.{read, unread}
 use Rattle.iloc_rows.specs.Proposing.{proposals_of, is_of_block, op_count, Fits, AllFit}
@@ -130,13 +130,13 @@ judged blocks told line n = by (schedule_line_at line) refl (opens_or_not line)
 
 -- All of them
 
-abbrev Proposed : List Block → ℕ → List (List ℕ) → Type 0
-Proposed blocks n lines = ((proposals : List Proposal) × Propose blocks lines proposals)
+abbrev ProposedOrNot : List Block → ℕ → List (List ℕ) → Type 0
+ProposedOrNot blocks n lines = ((proposals : List Proposed) × Propose blocks lines proposals)
     ⊎ ((fault : RowsFault) × HaveFirstFault blocks n lines fault)
 
 -- where the lines before tell this, and it fits
 from_here : (blocks : List Block) (n : ℕ) (all before lines : List (List ℕ)) (told : List Told)
-    → all ≡ before ++ lines → TellAll before told → AllFit blocks [] told → Proposed blocks n all
+    → all ≡ before ++ lines → TellAll before told → AllFit blocks [] told → ProposedOrNot blocks n all
 from_here blocks n all before [] told whole tell fit = inl (
   proposals_of (length blocks) told,
   record {
@@ -147,7 +147,7 @@ from_here blocks n all before [] told whole tell fit = inl (
   },
 )
 from_here blocks n all before (line ∷ lines) told whole tell fit =
-    elim (judged blocks told line (n + length before + 1)) as (λ _. Proposed blocks n all) [
+    elim (judged blocks told line (n + length before + 1)) as (λ _. ProposedOrNot blocks n all) [
       | inl bad ↦ inr (
         bad.0,
         record {
@@ -170,7 +170,7 @@ from_here blocks n all before (line ∷ lines) told whole tell fit =
 -- Texts
 
 abbrev Answered : List ℕ → Type 0
-Answered input = ((blocks : List Block) × (proposals : List Proposal) × Denotes input blocks proposals)
+Answered input = ((blocks : List Block) × (proposals : List Proposed) × Denotes input blocks proposals)
     ⊎ ((fault : RowsFault) × IsRefused input fault)
 
 by_rows : (input : List ℕ) → length input ≤ MAX_INPUT → (c : AreCut (lines_of input)) (blocks : List Block)

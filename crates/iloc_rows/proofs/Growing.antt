@@ -10,7 +10,7 @@ use Rattle.iloc_text.specs.ScheduleLines.Said.{nothing, row, head, cycles, total
 use Rattle.iloc_timed.specs.Limits.{MAX_ROWS}
 use Rattle.iloc_rows.specs.declared.fault.RowsFault.{RowsFault}
 use Rattle.iloc_rows.specs.declared.fault.RowsFault.TheVariants.{Read, NoBlocks, NoSuchBlock}
-use Rattle.iloc_rows.specs.declared.proposal.Proposal.{Proposal}
+use Rattle.iloc_rows.specs.declared.proposal.Proposed.{Proposed}
 use Rattle.iloc_rows.specs.declared.proposing.Proposing.{Proposing}
 use Rattle.iloc_rows.specs.Told.{Told}
 use Rattle.iloc_rows.specs.Told.Told.{read, unread}
@@ -139,7 +139,7 @@ row_adds one two n new (Err (NoSuchBlock k)) h r = (r.0, nowhere h r.1)
 -- Claims, and rows that can't be read
 
 -- a line of its block alone, without operations, by which what is proposed becomes another
-record IsChange (s : Told) (change : Proposal → Proposal) : Type 0 where
+record IsChange (s : Told) (change : Proposed → Proposed) : Type 0 where
   turns : head_number s ≡ None
   proposes : proposes s ≡ true
   here : (ss : List Told) (k : ℕ) → block_of (ss ++ s ∷ []) ≡ k → proposal_of (ss ++ s ∷ []) k ≡ change (proposal_of ss k)
@@ -147,7 +147,7 @@ record IsChange (s : Told) (change : Proposal → Proposal) : Type 0 where
   fits : (blocks : List Block) (ss : List Told)
       → is_of_block blocks ss s ≡ (nat_lt 0 (last_block ss) || (length blocks == 1))
 
-change_grows : (blocks : List Block) (ss : List Told) (s : Told) (change : Proposal → Proposal) (i : ℕ)
+change_grows : (blocks : List Block) (ss : List Told) (s : Told) (change : Proposed → Proposed) (i : ℕ)
     → IsChange s change → IsAt blocks ss i
     → proposals_of (length blocks) (ss ++ s ∷ [])
     ≡ set (proposals_of (length blocks) ss) i (change (at_place (proposals_of (length blocks) ss) i))
@@ -158,7 +158,7 @@ change_grows blocks ss s change i c a =
     (c.here ss (1 + i) here ∙ ap change (sym (at-proposals (length blocks) ss i a.within)))
     (λ k ne. proposal-else ss s k (λ e. ne (sym e ∙ here)))
 
-change_adds : {blocks : List Block} {ss : List Told} {old : Proposing} (s : Told) (change : Proposal → Proposal) (n : ℕ)
+change_adds : {blocks : List Block} {ss : List Told} {old : Proposing} (s : Told) (change : Proposed → Proposed) (n : ℕ)
     (new : Proposing) (result : Result (Unit {0}) RowsFault)
     → IsChange s change → HasProposed blocks ss old → Becomes old change n new result → Adds blocks ss s n new result
 change_adds {blocks} {ss} {old} s change n new (Ok done) c h r =
@@ -256,7 +256,7 @@ total_adds {blocks} {ss} {old} t n h = (
 pub rows_few : {blocks : List Block} {ss : List Told} {old : Proposing} → HasProposed blocks ss old
     → length ss < MAX_ROWS → (i : ℕ) → length (at_place old.proposals.items i).rows < MAX_ROWS
 rows_few {blocks} {ss} {old} h few i =
-    let P : List Proposal → Type 0 = λ ps. length (at_place ps i).rows < MAX_ROWS in
+    let P : List Proposed → Type 0 = λ ps. length (at_place ps i).rows < MAX_ROWS in
     subst P (sym h.proposals) (elim (split i (length blocks)) [
       | inl lt ↦ (let same = ap (λ p. length p.rows) (at-proposals (length blocks) ss i lt) in
           omega (arith, proposal-short ss (1 + i)))

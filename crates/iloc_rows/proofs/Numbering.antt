@@ -7,7 +7,7 @@ use Rattle.iloc_ops.specs.declared.op.Op.{Op}
 use Rattle.iloc_ops.specs.declared.op.Op.TheVariants.{Nop}
 use Rattle.iloc_text.specs.ScheduleLines.Said.{nothing, row, head, cycles, total}
 use Rattle.iloc_timed.specs.declared.row.Row.{Row}
-use Rattle.iloc_rows.specs.declared.proposal.Proposal.{Proposal}
+use Rattle.iloc_rows.specs.declared.proposal.Proposed.{Proposed}
 use Rattle.iloc_rows.specs.Told.{Told}
 use Rattle.iloc_rows.specs.Told.Told.{read, unread}
 use Rattle.iloc_rows.specs.Proposing.{block_of, row_in, unread_in, cycles_in, rows_of, unread_of, claims_of, first_unread, filled, ops_in, slot, numbered, last_of, proposal_of, proposals_of}
@@ -63,7 +63,7 @@ as_many k ts = picked-alike unread_in row_in k ts each
     each (unread text) = refl
 
 -- a proposal by its rows, which of them can't be read, and its claims
-abbrev made : List (Op × Op) → List (Option (List ℕ)) → List ℕ → Proposal
+abbrev made : List (Op × Op) → List (Option (List ℕ)) → List ℕ → Proposed
 made rows texts claims =
     record { ops = ops_in rows; rows = numbered 0 rows; claimed = last_of claims; unread = first_unread 0 texts }
 

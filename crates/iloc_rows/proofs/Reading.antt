@@ -13,7 +13,7 @@ use Rattle.iloc_timed.specs.Limits.{MAX_ROWS}
 use Rattle.iloc_rows.specs.declared.fault.RowsFault.{RowsFault}
 use Rattle.iloc_rows.specs.declared.fault.RowsFault.TheVariants.{Read, NoBlocks, NoSuchBlock}
 use Rattle.iloc_rows.specs.declared.blocks_end.CutText.{CutText}
-use Rattle.iloc_rows.specs.declared.proposal.Proposal.{Proposal}
+use Rattle.iloc_rows.specs.declared.proposal.Proposed.{Proposed}
 use Rattle.iloc_rows.specs.declared.proposing.Proposing.{Proposing}
 use Rattle.iloc_rows.specs.Told.{Told, Tells}
 use Rattle.iloc_rows.specs.Proposing.{proposals_of, Fits, AllFit}
@@ -152,7 +152,7 @@ cut_number {input} {cut} a =
     omega (arith, a.count, lines_few input, ap length a.lines, length-append a.before (lines_left cut.rows))
 
 pub denoted : {input : List ℕ} {cut : CutText} (a : IsCutOf input cut) (blocks : List Block)
-    (proposals : List Proposal) → length input ≤ MAX_INPUT → files.Denotes cut.blocks.now blocks → 0 < length blocks
+    (proposals : List Proposed) → length input ≤ MAX_INPUT → files.Denotes cut.blocks.now blocks → 0 < length blocks
     → Propose blocks (lines_left cut.rows) proposals → Denotes input blocks proposals
 denoted {input} {cut} a blocks proposals short file some propose = record {
   short = short;
@@ -242,7 +242,7 @@ no_blocks {input} {cut} a blocks short file none = record {
 
 -- Rows apart from their blocks
 
-pub proposed_apart : (blocks : List Block) (input : List ℕ) (proposals : List Proposal) → length input ≤ MAX_INPUT
+pub proposed_apart : (blocks : List Block) (input : List ℕ) (proposals : List Proposed) → length input ≤ MAX_INPUT
     → Propose blocks (lines_of input) proposals → ProposeApart blocks input proposals
 proposed_apart blocks input proposals short propose =
     record { short = short; lines = lines_of input; are_lines = lines_are input; propose = propose }

@@ -9,10 +9,10 @@ use Rattle.iloc_ops.specs.declared.file.Block.{Block}
 use Rattle.iloc_text.specs.ScheduleLines.Said.{nothing, row, head, cycles, total}
 use Rattle.iloc_text.specs.Files as files
 use Rattle.iloc_text.proofs.Within.{files_within}
-use Rattle.iloc_rows.specs.declared.proposal.Proposal.{Proposal}
+use Rattle.iloc_rows.specs.declared.proposal.Proposed.{Proposed}
 use Rattle.iloc_rows.specs.Told.{Told}
 use Rattle.iloc_rows.specs.Told.Told.{read, unread}
-use Rattle.iloc_rows.specs.Proposing.{block_of, row_in, rows_of, ops_in, proposal_of, proposals_of, Fits, AllFit}
+use Rattle.iloc_rows.specs.Proposing.{IsNumbered, block_of, row_in, rows_of, ops_in, proposal_of, proposals_of, Fits, AllFit}
 use Rattle.iloc_rows.specs.Laws.{AreWithinLimits, SubmissionsApartAreWithinLimits, SubmissionsAreWithinLimits}
 use Rattle.iloc_rows.specs.Submissions.{Propose}
 use Rattle.iloc_rows.proofs.Picking.{picked-nothing, picked-here, picked-else, picked-none}
@@ -73,13 +73,21 @@ all-map P f [] h = tt
 all-map P f (x ∷ xs) h = (h x, all-map P f xs h)
 
 -- what holds of what any block is proposed holds of all that is proposed
-all_proposed : (P : Proposal → Type 0) (count : ℕ) (ss : List Told) (proposals : List Proposal)
+all_proposed : (P : Proposed → Type 0) (count : ℕ) (ss : List Told) (proposals : List Proposed)
     → proposals ≡ proposals_of count ss → ((k : ℕ) → P (proposal_of ss k)) → AllByRecursion P proposals
 all_proposed P count ss proposals e h =
     subst (AllByRecursion P) (sym e) (all-map P (proposal_of ss) (range_with_len 1 count) h)
 
+-- each number in the rows that lines propose is an operation's, and each operation is in one slot
+pub proposed_numbered : (blocks : List Block) (lines : List (List ℕ)) (proposals : List Proposed)
+    → Propose blocks lines proposals → AllByRecursion IsNumbered proposals
+proposed_numbered blocks lines proposals propose =
+    let told = propose.told in
+    all_proposed IsNumbered (length blocks) told proposals propose.are
+    (λ k. (numbered_in_range (rows_of k told), numbered_once (rows_of k told)))
+
 -- what lines propose for the blocks of a file is within the limits
-proposals_within : (text : List ℕ) (blocks : List Block) (lines : List (List ℕ)) (proposals : List Proposal)
+proposals_within : (text : List ℕ) (blocks : List Block) (lines : List (List ℕ)) (proposals : List Proposed)
     → files.Denotes text blocks → Propose blocks lines proposals → AreWithinLimits blocks proposals
 proposals_within text blocks lines proposals file propose =
     let few = files_within text blocks file in

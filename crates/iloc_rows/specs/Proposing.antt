@@ -8,8 +8,9 @@ use Rattle.iloc_ops.specs.declared.op.Op.{Op}
 use Rattle.iloc_ops.specs.declared.op.Op.TheVariants.{Nop}
 use Rattle.iloc_ops.specs.declared.file.Block.{Block}
 use Rattle.iloc_text.specs.ScheduleLines.Said.{nothing, row, head, cycles, total}
+use Rattle.iloc_timed.specs.Schedule.{AreInRange, AreOnce}
 use Rattle.iloc_timed.specs.declared.row.Row.{Row}
-use Rattle.iloc_rows.specs.declared.proposal.Proposal.{Proposal}
+use Rattle.iloc_rows.specs.declared.proposal.Proposed.{Proposed}
 use Rattle.iloc_rows.specs.declared.proposal.unread.Unread.{Unread}
 use Rattle.iloc_rows.specs.Told.{Told}
 use Rattle.iloc_rows.specs.Told.Told.{read, unread}
@@ -138,7 +139,7 @@ first_unread n (None ∷ rows) = first_unread (n + 1) rows
 first_unread n (Some text ∷ rows) = Some record { row = n; text = text }
 
 -- what the lines propose for block k
-abbrev pub proposal_of : List Told → ℕ → Proposal
+abbrev pub proposal_of : List Told → ℕ → Proposed
 proposal_of lines k = record {
   ops = ops_in (rows_of k lines);
   rows = numbered 0 (rows_of k lines);
@@ -147,8 +148,12 @@ proposal_of lines k = record {
 }
 
 -- what they propose for so many blocks
-abbrev pub proposals_of : ℕ → List Told → List Proposal
+abbrev pub proposals_of : ℕ → List Told → List Proposed
 proposals_of count lines = map (proposal_of lines) (range_with_len 1 count)
+
+-- each number in the rows is that of an operation, and each operation is in exactly one slot
+abbrev pub IsNumbered : Proposed → Type 0
+IsNumbered p = AreInRange (length p.ops) p.rows × AreOnce (length p.ops) p.rows
 
 -- Which lines fit the blocks
 

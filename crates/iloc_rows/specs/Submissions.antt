@@ -10,7 +10,7 @@ use Rattle.iloc_text.specs.Files.{AreLines}
 use Rattle.iloc_text.specs.ScheduleLines.{SaysSomething, SaysSomethingWidely, IsScheduleLine}
 use Rattle.iloc_rows.specs.declared.fault.RowsFault.{RowsFault}
 use Rattle.iloc_rows.specs.declared.fault.RowsFault.TheVariants.{Read, NoBlocks, NoSuchBlock}
-use Rattle.iloc_rows.specs.declared.proposal.Proposal.{Proposal}
+use Rattle.iloc_rows.specs.declared.proposal.Proposed.{Proposed}
 use Rattle.iloc_rows.specs.Told.{Told, OpensRow, Tells}
 use Rattle.iloc_rows.specs.Proposing.{proposals_of, is_of_block, op_count, AllFit}
 
@@ -33,14 +33,14 @@ pub record BlocksEnd (before after : List (List ℕ)) : Type 0 where
 -- What is proposed
 
 -- the lines propose these schedules for the blocks
-pub record Propose (blocks : List Block) (lines : List (List ℕ)) (proposals : List Proposal) : Type 0 where
+pub record Propose (blocks : List Block) (lines : List (List ℕ)) (proposals : List Proposed) : Type 0 where
   pub told : List Told
   pub tell : TellAll lines told
   pub fit : AllFit blocks [] told
   pub are : proposals ≡ proposals_of (length blocks) told
 
 -- the bytes denote the blocks and what is proposed for them
-pub record Denotes (input : List ℕ) (blocks : List Block) (proposals : List Proposal) : Type 0 where
+pub record Denotes (input : List ℕ) (blocks : List Block) (proposals : List Proposed) : Type 0 where
   pub short : length input ≤ MAX_INPUT
   pub before : List (List ℕ)
   pub after : List (List ℕ)
@@ -51,7 +51,7 @@ pub record Denotes (input : List ℕ) (blocks : List Block) (proposals : List Pr
   pub propose : Propose blocks after proposals
 
 -- the bytes, which name no blocks, denote what is proposed for these
-pub record ProposeApart (blocks : List Block) (input : List ℕ) (proposals : List Proposal) : Type 0 where
+pub record ProposeApart (blocks : List Block) (input : List ℕ) (proposals : List Proposed) : Type 0 where
   pub short : length input ≤ MAX_INPUT
   pub lines : List (List ℕ)
   pub are_lines : AreLines input lines
@@ -63,7 +63,7 @@ pub record IsTask (input : List ℕ) (blocks : List Block) : Type 0 where
   pub some : 0 < length blocks
 
 -- two texts, a task and apart from it somebody's rows, denote the task's blocks and what is proposed for them
-pub record DenoteApart (text input : List ℕ) (blocks : List Block) (proposals : List Proposal) : Type 0 where
+pub record DenoteApart (text input : List ℕ) (blocks : List Block) (proposals : List Proposed) : Type 0 where
   pub task : IsTask text blocks
   pub rows : ProposeApart blocks input proposals
 

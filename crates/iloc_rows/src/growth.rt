@@ -8,10 +8,10 @@ ghost use Rattle.iloc_rows.specs.Proposing.{is_empty, filled, slot, is_same_name
 ghost use Rattle.iloc_rows.specs.Steps.Growth.{none_proposed, with_row, with_cycles, with_unread, or_this, place, at_place, HasProposed, Adds, Becomes, RowAdds, Turns};
 
 use crate::fault::RowsFault;
-use crate::proposal::{Proposal, RowText, Rows, Unread};
+use crate::proposal::{Proposed, RowOps, RowText, Rows, Unread};
 use crate::proposing::Proposing;
 use crate::told::ToldLine;
-use iloc_text::{Block, MAX_OPS, Name, NoMemory, Op, Ops, ReadFault, ScheduleLine};
+use iloc_text::{Block, MAX_OPS, Name, NoMemory, Op, ReadFault, ScheduleLine};
 use iloc_timed::{MAX_ROWS, Row};
 use std::alloc::Global;
 
@@ -44,13 +44,13 @@ fn is_named(blocks: &[Block], number: u32, name: Option<&[u8]>) -> bool
     }
 }
 
-impl Proposal {
+impl Proposed {
     /// Nothing is proposed.
-    fn none(alloc: Global) -> Proposal
+    fn none(alloc: Global) -> Proposed
         ensures { result ≡ none_proposed }
     {
-        Proposal {
-            ops: Ops::new(Vec::new(alloc)),
+        Proposed {
+            ops: RowOps::none(alloc),
             rows: Rows::none(alloc),
             claimed: None,
             unread: None,
@@ -65,7 +65,7 @@ impl Proposal {
         if is_empty(&op) {
             return Ok(None);
         }
-        let place = self.ops.len();
+        let place = self.ops.as_slice().len();
         self.ops.push(op)?;
         Ok(Some(place))
     }
@@ -118,7 +118,7 @@ impl Proposing {
     {
         let mut proposals = Vec::with_capacity(alloc, count)?;
         for _ in 0..count {
-            proposals.push(Proposal::none(alloc))?;
+            proposals.push(Proposed::none(alloc))?;
         }
         Ok(Proposing { proposals, last: 0 })
     }
@@ -180,7 +180,7 @@ impl Proposing {
             return Err(RowsFault::NoSuchBlock(number));
         };
         self.push_row(i, zero, one)?;
-        if self.proposals[i].ops.len() > MAX_OPS {
+        if self.proposals[i].ops.as_slice().len() > MAX_OPS {
             return Err(RowsFault::Read(ReadFault::TooManyOperations(number)));
         }
         self.last = self.last.max(1);

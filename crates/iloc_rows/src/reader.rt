@@ -50,7 +50,7 @@ fn read_proposals(
         proposing.add(alloc, blocks, line, number)?;
         rest = after;
     }
-    Ok(Proposals::new(proposing.proposals))
+    Ok(Proposals::of(alloc, proposing.proposals)?)
 }
 
 /// Reads blocks of ILOC, followed by schedule lines.

@@ -9,7 +9,7 @@ use Rattle.iloc_ops.specs.declared.op.Op.TheVariants.{Load, LoadI, Store, Add, S
 use Rattle.iloc_ops.specs.contracts.op.OpPartialEq.TheImpl as of_ops
 use Rattle.iloc_validation.specs.contracts.label.LabelOrd.TheImpl as of_labels
 use Rattle.iloc_validation.specs.declared.label.Label.{Label}
-use Rattle.iloc_validation.specs.declared.reasons.unpaired.Unpaired.{Unpaired}
+use Rattle.iloc_validation.specs.declared.counterparts.unpaired.Unpaired.{Unpaired}
 use Rattle.iloc_validation.specs.ByTheBook.{label}
 use Rattle.iloc_validation.specs.Counts.{are_alike, count_like}
 use Rattle.iloc_validation.specs.Steps.Counterparts.{first_like, SetsLike}

@@ -2,7 +2,7 @@
 use Rattle.std.proofs.Common.{◌≡◌, ◌<◌, ℕ, List, length, Option, Some, None, sym, ◌∙◌, arith}
 use Rattle.iloc_ops.specs.declared.op.Op.{Op}
 use Rattle.iloc_meaning.specs.Trace.{op_at}
-use Rattle.iloc_validation.specs.declared.reasons.counts.Lacking.{Lacking}
+use Rattle.iloc_validation.specs.declared.counterparts.lacking.Lacking.{Lacking}
 use Rattle.iloc_validation.specs.Counts.{lacking, IsShort}
 use Rattle.iloc_validation.specs.Steps.Counterparts.{AreCounterparts, IsLackingIn, AreLacking}
 use Rattle.iloc_validation.proofs.NthLike.{lacking_is, short_is}

@@ -1,8 +1,7 @@
 -- Every pairing keeps the first colours.
-use Rattle.std.proofs.Common.{◌≡◌, ℕ, List, Option, Some, None, refl, sym, ap, ap₂, ◌∙◌}
+use Rattle.std.proofs.Common.{◌≡◌, ℕ, List, Option, Some, None, ap₂}
 use Rattle.std.specs.Prelude.{IfNone}
 use Rattle.iloc_ops.specs.declared.op.Op.{Op}
-use Rattle.iloc_ops.specs.declared.op.Op.TheVariants.{Nop}
 use Rattle.iloc_timed.specs.declared.latencies.Latencies.{Latencies}
 use Rattle.iloc_timed.specs.Schedule.{Table}
 use Rattle.iloc_validation.specs.declared.colours.Coloured.{Coloured}
@@ -12,22 +11,11 @@ use Rattle.iloc_validation.specs.ByTheBook.{label}
 use Rattle.iloc_validation.specs.Steps.Colours.{mixed, AreKept, AreColoured}
 use Rattle.iloc_validation.specs.Steps.Decisions.{IsExcluded}
 use Rattle.iloc_validation.specs.Steps.FirstColours.{label_colour}
-use Rattle.iloc_validation.specs.Steps.Labels.{form, constant}
 use Rattle.iloc_validation.specs.Steps.Sides.{AreSides}
-
-form-label : (op : Op) → form (label op) ≡ form op
-form-label Nop = refl
-form-label _ = refl
-
-constant-label : (op : Op) → constant (label op) ≡ constant op
-constant-label Nop = refl
-constant-label _ = refl
+use Rattle.iloc_validation.proofs.LabelNumbers.{same_form, same_constant}
 
 pub same_label_colour : (a b : Op) → label a ≡ label b → label_colour a ≡ label_colour b
-same_label_colour a b same =
-    let forms : form a ≡ form b = sym (form-label a) ∙ ap form same ∙ form-label b in
-    let constants : constant a ≡ constant b = sym (constant-label a) ∙ ap constant same ∙ constant-label b in
-    ap₂ mixed forms constants
+same_label_colour a b same = ap₂ mixed (same_form a b same) (same_constant a b same)
 
 -- where there are no more colours, there is no pairing
 pub no_colours : (block : List Op) (givens : List Sources) (schedule : Table) (readings : List Reading) (here there : List ℕ)

@@ -44,6 +44,12 @@ constant-label : (op : Op) → constant (label op) ≡ constant op
 constant-label Nop = refl
 constant-label _ = refl
 
+pub same_form : (a b : Op) → label a ≡ label b → form a ≡ form b
+same_form a b same = sym (form-label a) ∙ ap form same ∙ form-label b
+
+pub same_constant : (a b : Op) → label a ≡ label b → constant a ≡ constant b
+same_constant a b same = sym (constant-label a) ∙ ap constant same ∙ constant-label b
+
 pub label_test : (test : Bool) (a b : Op) → test ≡ ((form a == form b) && (constant a == constant b))
     → IsTrue test ↔ (label a ≡ label b)
 label_test test a b is = (
@@ -53,7 +59,6 @@ label_test test a b is = (
       ∙ ap₂ labelled (eqb-true (form a) (form b) both.0) (eqb-true (constant a) (constant b) both.1)
       ∙ labelled_is b,
   λ same.
-      let forms : form a ≡ form b = sym (form-label a) ∙ ap form same ∙ form-label b in
-      let constants : constant a ≡ constant b = sym (constant-label a) ∙ ap constant same ∙ constant-label b in
-      is ∙ ap₂ (λ x y. x && y) (eq-eqb (form a) (form b) forms) (eq-eqb (constant a) (constant b) constants),
+      is ∙ ap₂ (λ x y. x && y) (eq-eqb (form a) (form b) (same_form a b same))
+      (eq-eqb (constant a) (constant b) (same_constant a b same)),
 )

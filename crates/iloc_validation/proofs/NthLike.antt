@@ -9,8 +9,8 @@ use Rattle.std.proofs.lemmas.List.FromFn.{length-range_with_len, get_or-range_wi
 use Rattle.iloc_ops.specs.declared.op.Op.{Op}
 use Rattle.iloc_meaning.specs.Trace.{op_at}
 use Rattle.iloc_meaning.proofs.Cases.{by_bool}
-use Rattle.iloc_validation.specs.declared.reasons.counterparts.Chains.{Chains}
-use Rattle.iloc_validation.specs.declared.reasons.unpaired.Unpaired.{Unpaired}
+use Rattle.iloc_validation.specs.declared.counterparts.chains.Chains.{Chains}
+use Rattle.iloc_validation.specs.declared.counterparts.unpaired.Unpaired.{Unpaired}
 use Rattle.iloc_validation.specs.ByTheBook.{ArePaired}
 use Rattle.iloc_validation.specs.Counts.{are_alike, count_like, lacks_counterpart, lacking, IsShort}
 use Rattle.iloc_validation.specs.Steps.Counterparts.{first_like, SetsLike, noted_at, IsNth, AreChained, IsCounterpart, AreCounterparts}

@@ -27,6 +27,7 @@ use Rattle.iloc_validation.specs.Steps.Waits.{memory_by}
 use Rattle.iloc_validation.proofs.FewerNumbers.{Apart, fewer, below_from, in_below, below_apart, count_append, count_single, count_issued}
 use Rattle.iloc_validation.proofs.FirstColours.{same_label_colour}
 use Rattle.iloc_validation.proofs.NotedSlots.{at_zero, at_one, one_row}
+use Rattle.iloc_validation.proofs.StoresUnderWay.{is_of_store}
 use Rattle.iloc_validation.proofs.UnderWayExcludes.{kind_of, waited}
 
 -- Counts as the code keeps them
@@ -129,13 +130,6 @@ record KeepOrder (lat : Latencies) (a b : Kind) : Type 0 where
 
 abbrev IsPlaced : Kind → Type 0
 IsPlaced a = (a ≡ K.Load) ⊎ ((a ≡ K.Store) ⊎ (a ≡ K.Output))
-
-is_of_store : (a : Kind) → is_store a ≡ true → a ≡ K.Store
-is_of_store K.Store is = refl
-is_of_store K.Load is = absurd (false≢true is)
-is_of_store K.Mult is = absurd (false≢true is)
-is_of_store K.Output is = absurd (false≢true is)
-is_of_store K.Other is = absurd (false≢true is)
 
 is_of_output : (a : Kind) → is_output a ≡ true → a ≡ K.Output
 is_of_output K.Output is = refl

@@ -17,7 +17,7 @@ use Rattle.iloc_validation.specs.UnderWay.{IsUnderWay}
 use Rattle.iloc_validation.specs.Steps.Stores.{IsStoredUntil}
 use Rattle.iloc_validation.proofs.SameIssues.{in_first, in_second}
 
-is_of_store : (k : Kind) → is_store k ≡ true → k ≡ K.Store
+pub is_of_store : (k : Kind) → is_store k ≡ true → k ≡ K.Store
 is_of_store K.Store is = refl
 is_of_store K.Load is = absurd (false≢true is)
 is_of_store K.Mult is = absurd (false≢true is)

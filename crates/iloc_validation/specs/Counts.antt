@@ -4,7 +4,7 @@ use Rattle.std.specs.List.{range_with_len}
 use Rattle.iloc_ops.specs.declared.op.Op.{Op}
 use Rattle.iloc_ops.specs.contracts.op.OpPartialEq.TheImpl as of_ops
 use Rattle.iloc_meaning.specs.Trace.{op_at}
-use Rattle.iloc_validation.specs.declared.reasons.counts.Lacking.{Lacking}
+use Rattle.iloc_validation.specs.declared.counterparts.lacking.Lacking.{Lacking}
 use Rattle.iloc_validation.specs.ByTheBook.{label}
 
 -- whether two operations differ in registers alone

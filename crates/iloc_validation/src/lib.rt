@@ -3,17 +3,18 @@
 
 mod backtracking;
 mod colours;
+mod counterparts;
 mod decision;
 mod label;
 mod lawfulness;
 pub mod laws;
 mod pairing;
 mod reading;
-mod reasons;
 mod renumbering;
 mod verification;
 mod waits;
 
+pub use counterparts::lacking::{Lacking, without_counterpart};
 pub use decision::{Decision, decide};
 pub use label::have_one_label;
 pub use lawfulness::{Added, Issue, LeftOut};
@@ -21,5 +22,4 @@ pub use pairing::Pairing;
 pub use reading::given::{givens, without_nops};
 pub use reading::sources::Sources;
 pub use reading::{Reading, readings};
-pub use reasons::counts::{Lacking, without_counterpart};
 pub use renumbering::{OwnRows, own_rows};

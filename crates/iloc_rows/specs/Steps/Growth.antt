@@ -6,18 +6,18 @@ use Rattle.iloc_ops.specs.declared.file.Block.{Block}
 use Rattle.iloc_text.specs.declared.fault.ReadFault.TheVariants.{InputTooLong, BadLine, NumberTooLarge, TooManyBlocks, TooManyOperations, NoMemory}
 use Rattle.iloc_rows.specs.declared.fault.RowsFault.{RowsFault}
 use Rattle.iloc_rows.specs.declared.fault.RowsFault.TheVariants.{Read, NoBlocks, NoSuchBlock}
-use Rattle.iloc_rows.specs.declared.proposal.Proposal.{Proposal}
+use Rattle.iloc_rows.specs.declared.proposal.Proposed.{Proposed}
 use Rattle.iloc_rows.specs.declared.proposal.unread.Unread.{Unread}
 use Rattle.iloc_rows.specs.declared.proposing.Proposing.{Proposing}
 use Rattle.iloc_rows.specs.Told.{Told}
 use Rattle.iloc_rows.specs.Proposing.{last_block, filled, slot, is_named, proposals_of, is_of_block, op_count, Fits}
 
 -- nothing is proposed
-abbrev pub none_proposed : Proposal
+abbrev pub none_proposed : Proposed
 none_proposed = record { ops = []; rows = []; claimed = None; unread = None }
 
 -- one more row is proposed
-abbrev pub with_row : Proposal → Op → Op → Proposal
+abbrev pub with_row : Proposed → Op → Op → Proposed
 with_row p zero one = record {
   ops = p.ops ++ (filled zero ++ filled one);
   rows = p.rows ++ record { zero = slot (length p.ops) zero; one = slot (length p.ops + length (filled zero)) one } ∷ [];
@@ -31,7 +31,7 @@ or_this None u = Some u
 or_this (Some first) u = Some first
 
 -- one more row is proposed that can't be read
-abbrev pub with_unread : Proposal → List ℕ → Proposal
+abbrev pub with_unread : Proposed → List ℕ → Proposed
 with_unread p text = record {
   ops = p.ops;
   rows = p.rows ++ record { zero = None; one = None } ∷ [];
@@ -40,14 +40,14 @@ with_unread p text = record {
 }
 
 -- so many cycles are claimed
-abbrev pub with_cycles : Proposal → ℕ → Proposal
+abbrev pub with_cycles : Proposed → ℕ → Proposed
 with_cycles p c = record { ops = p.ops; rows = p.rows; claimed = Some c; unread = p.unread }
 
 -- the place of the block of which rows are, if there is one, by the number of the last block and the count of blocks
 abbrev pub place : ℕ → ℕ → Option ℕ
 place last count = if nat_lt 0 last then Some (last - 1) else (if count == 1 then Some 0 else None)
 
-abbrev pub at_place : List Proposal → ℕ → Proposal
+abbrev pub at_place : List Proposed → ℕ → Proposed
 at_place proposals i = slice_index_or proposals i none_proposed
 
 -- what the lines say has been proposed
@@ -87,7 +87,7 @@ RowAdds old zero one number new (Err (NoSuchBlock n)) =
     (n ≡ number) × (place old.last (length old.proposals.items) ≡ None)
 
 -- so does a line without operations by which the proposal becomes another: a number of cycles, or a row that can't be read
-abbrev pub Becomes : Proposing → (Proposal → Proposal) → ℕ → Proposing → Result (Unit {0}) RowsFault → Type 0
+abbrev pub Becomes : Proposing → (Proposed → Proposed) → ℕ → Proposing → Result (Unit {0}) RowsFault → Type 0
 Becomes old change number new (Ok done) =
     (i : ℕ) × (place old.last (length old.proposals.items) ≡ Some i)
     × (new.proposals.items ≡ slice_set old.proposals.items i (change (at_place old.proposals.items i)))

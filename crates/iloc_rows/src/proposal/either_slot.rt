@@ -1,9 +1,9 @@
 //! Rows whose operations may be in either slot.
-ghost use Rattle.std.specs.Prelude.{◌≡◌, map};
+ghost use Rattle.std.specs.Prelude.{◌≡◌, map, MatchOption};
 ghost use Rattle.iloc_timed.specs.Rows.{keeps_units, kind_in};
-ghost use Rattle.iloc_rows.specs.EitherSlot.{in_either_slot, placed, with_either_slot};
+ghost use Rattle.iloc_rows.specs.EitherSlot.{AllKeepUnits, IsFirstThatBreaks, in_either_slot, placed, with_either_slot};
 
-use super::{Proposal, Proposals, Rows};
+use super::{Proposal, Proposals, Proposed, Rows};
 use iloc_text::Op;
 use iloc_timed::{Kind, Row};
 
@@ -15,8 +15,8 @@ fn kind_in(ops: &[Op], slot: Option<usize>) -> Option<Kind>
 }
 
 /// Whether the row keeps the rules of the units.
-fn keeps_units(ops: &[Op], row: Row) -> bool
-    ensures { result ≡ keeps_units ops.now row }
+fn keeps_units(ops: &[Op], row: &Row) -> bool
+    ensures { result ≡ keeps_units ops.now row.now }
 {
     let zero = kind_in(ops, row.zero);
     let one = kind_in(ops, row.one);
@@ -24,6 +24,13 @@ fn keeps_units(ops: &[Op], row: Row) -> bool
     !zero.is_some_and(Kind::needs_one)
         && !one.is_some_and(Kind::needs_zero)
         && !(stands_alone(zero) && stands_alone(one))
+}
+
+/// The first row that breaks the rules of the units.
+pub fn first_that_breaks(ops: &[Op], rows: &[Row]) -> Option<usize>
+    ensures { MatchOption result (AllKeepUnits ops.now rows.now) (IsFirstThatBreaks ops.now rows.now) }
+{
+    rows.iter().position(|row| !keeps_units(ops, row))
 }
 
 /// The row, exchanged if it breaks the rules of the units as it is, and keeps them so.
@@ -34,7 +41,7 @@ fn in_either_slot(ops: &[Op], row: Row) -> Row
         zero: row.one,
         one: row.zero,
     };
-    if !keeps_units(ops, row) && keeps_units(ops, exchanged) {
+    if !keeps_units(ops, &row) && keeps_units(ops, &exchanged) {
         exchanged
     } else {
         row
@@ -57,7 +64,8 @@ impl Proposal {
     fn use_either_slot(&mut self)
         ensures { self.new ≡ with_either_slot self.old }
     {
-        self.rows.use_either_slot(self.ops.as_slice());
+        let Proposed { ops, rows, .. } = &mut self.proposed;
+        rows.use_either_slot(ops.as_slice());
     }
 }
 

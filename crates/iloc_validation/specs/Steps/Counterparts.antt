@@ -3,9 +3,9 @@ use Rattle.std.specs.Prelude.{ℕ, ◌+◌, ◌≡◌, ◌<◌, ◌≤◌, if◌
 use Rattle.std.specs.BTreeMap.{get}
 use Rattle.iloc_ops.specs.declared.op.Op.{Op}
 use Rattle.iloc_meaning.specs.Trace.{op_at}
-use Rattle.iloc_validation.specs.declared.reasons.unpaired.Unpaired.{Unpaired}
-use Rattle.iloc_validation.specs.declared.reasons.counterparts.Chains.{Chains}
-use Rattle.iloc_validation.specs.declared.reasons.counts.Lacking.{Lacking}
+use Rattle.iloc_validation.specs.declared.counterparts.unpaired.Unpaired.{Unpaired}
+use Rattle.iloc_validation.specs.declared.counterparts.chains.Chains.{Chains}
+use Rattle.iloc_validation.specs.declared.counterparts.lacking.Lacking.{Lacking}
 use Rattle.iloc_validation.specs.contracts.label.LabelOrd.TheImpl as of_labels
 use Rattle.iloc_validation.specs.Counts.{are_alike, count_like}
 pub use Rattle.iloc_validation.specs.Counts.{AreLacking}

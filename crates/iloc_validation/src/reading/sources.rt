@@ -20,7 +20,7 @@ pub(crate) fn put(numbers: &mut Vec<usize>, place: usize, number: usize) {
 
 /// The operations whose results an operation reads in its registers, left to right; `None` for a register as it was at
 /// the start.
-#[derive(Clone, Copy, Debug, PartialEq, Eq, PartialOrd, Ord)]
+#[derive(Clone, Copy, Debug, PartialEq, Eq)]
 pub enum Sources {
     /// It has no register to read.
     Nothing,

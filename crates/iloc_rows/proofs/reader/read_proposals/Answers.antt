@@ -7,6 +7,7 @@ use Rattle.iloc_text.specs.Lines.{lines_left}
 use Rattle.iloc_rows.specs.declared.fault.RowsFault.TheVariants.{Read}
 use Rattle.iloc_rows.specs.Submissions.{Propose, HaveFirstFault}
 use Rattle.iloc_rows.proofs.Reading.{Progress, progress_begins, progress_step, progress_number, progress_room, progress_ends, fault_here, added_faulty, err_is}
+use Rattle.iloc_rows.proofs.Within.{proposed_numbered}
 use Rattle.iloc_rows.proofs.reader.read_proposals.Goals as goal
 
 pub loop-rest-init : goal.loop-rest-init
@@ -64,8 +65,14 @@ pub loop-rest-smaller : goal.loop-rest-smaller
 loop-rest-smaller c =
     omega (arith, ap length c.split_line.ensures, ap (λ rest. length (lines_left rest)) c.in-Some.is)
 
+pub of-requires : goal.of-requires
+of-requires c =
+    let here : Progress c.args.blocks.now c.args.lines (lines_left c.args.rows) c.loop-rest.proposing
+    c.loop-rest.number None = rw c.in_default.is at c.loop-rest.invariant in
+    proposed_numbered c.args.blocks.now (lines_left c.args.rows) _ (progress_ends here)
+
 pub returns-clause-ok : goal.returns-clause-ok
 returns-clause-ok c =
     let here : Progress c.args.blocks.now c.args.lines (lines_left c.args.rows) c.loop-rest.proposing
     c.loop-rest.number None = rw c.in_default.is at c.loop-rest.invariant in
-    subst (Propose c.args.blocks.now (lines_left c.args.rows)) (sym c.new.ensures) (progress_ends here)
+    subst (Propose c.args.blocks.now (lines_left c.args.rows)) (sym c.in_ok-of.ensures) (progress_ends here)

@@ -3,7 +3,7 @@ use Rattle.std.specs.BTreeMap.{get}
 use Rattle.iloc_validation.specs.contracts.label.LabelOrd.TheImpl as of_labels
 use Rattle.iloc_validation.specs.Steps.Labels.{labelled}
 use Rattle.iloc_validation.proofs.AlikeOps.{key_from}
-use Rattle.iloc_validation.proofs.reasons.unpaired.Unpaired.first.Goals as goal
+use Rattle.iloc_validation.proofs.counterparts.unpaired.Unpaired.first.Goals as goal
 
 pub returns : goal.returns
 returns c =

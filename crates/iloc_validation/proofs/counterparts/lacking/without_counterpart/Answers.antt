@@ -1,5 +1,5 @@
 use Rattle.iloc_validation.proofs.CountReasons.{none_lacking, lacking_within, lacking_short, some_lacking}
-use Rattle.iloc_validation.proofs.reasons.counts.without_counterpart.Goals as goal
+use Rattle.iloc_validation.proofs.counterparts.lacking.without_counterpart.Goals as goal
 
 pub short_or-number-requires-clause-within : goal.short_or-number-requires-clause-within
 short_or-number-requires-clause-within c =

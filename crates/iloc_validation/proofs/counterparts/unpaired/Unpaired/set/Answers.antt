@@ -1,7 +1,7 @@
 use Rattle.std.proofs.Common.{Some, None, subst, sym}
 use Rattle.iloc_validation.specs.Steps.Counterparts.{SetsLike}
 use Rattle.iloc_validation.proofs.AlikeOps.{key_from, sets_like}
-use Rattle.iloc_validation.proofs.reasons.unpaired.Unpaired.set.Goals as goal
+use Rattle.iloc_validation.proofs.counterparts.unpaired.Unpaired.set.Goals as goal
 
 pub returns-in_ok-insert-in-Some : goal.returns-in_ok-insert-in-Some
 returns-in_ok-insert-in-Some c =

@@ -4,7 +4,7 @@ ghost use Rattle.iloc_meaning.specs.Trace.{op_at};
 ghost use Rattle.iloc_validation.specs.Counts.{lacking, IsShort, AreLacking};
 ghost use Rattle.iloc_validation.specs.Steps.Counterparts.{IsLackingIn};
 
-use super::counterparts::counterparts_among;
+use super::chains::counterparts_among;
 use crate::label::count_like;
 use iloc_ops::{NoMemory, Op};
 use std::alloc::Global;

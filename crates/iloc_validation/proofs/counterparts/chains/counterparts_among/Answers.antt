@@ -7,7 +7,7 @@ use Rattle.iloc_meaning.specs.Trace.{op_at}
 use Rattle.iloc_validation.specs.Steps.Counterparts.{first_like, noted_at, SetsLike, IsCounterpart}
 use Rattle.iloc_validation.proofs.GivenSources.{push_more}
 use Rattle.iloc_validation.proofs.NthLike.{taken}
-use Rattle.iloc_validation.proofs.reasons.counterparts.counterparts_among.Goals as goal
+use Rattle.iloc_validation.proofs.counterparts.chains.counterparts_among.Goals as goal
 
 pub loop-op-init : goal.loop-op-init
 loop-op-init c = record {

@@ -1,5 +1,5 @@
 //! Operations that have no counterpart on the other side.
 
-mod counterparts;
-pub mod counts;
+mod chains;
+pub mod lacking;
 mod unpaired;

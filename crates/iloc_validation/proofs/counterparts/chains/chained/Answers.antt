@@ -1,6 +1,6 @@
 use Rattle.std.proofs.Common.{rules, ◌≡◌, length, arith}
 use Rattle.iloc_validation.proofs.NthLike.{none_chained, chained_at}
-use Rattle.iloc_validation.proofs.reasons.counterparts.chained.Goals as goal
+use Rattle.iloc_validation.proofs.counterparts.chains.chained.Goals as goal
 
 pub loop-place-init : goal.loop-place-init
 loop-place-init c = λ k here.

@@ -1,7 +1,7 @@
 use Rattle.std.proofs.Common.{◌≤◌, take}
 use Rattle.std.specs.Prelude.{IfSome}
 use Rattle.iloc_validation.specs.Steps.Counterparts.{IsLackingIn}
-use Rattle.iloc_validation.proofs.reasons.counts.first_lacking.Given as goal
+use Rattle.iloc_validation.proofs.counterparts.lacking.first_lacking.Given as goal
 
 abbrev pub invariant-loop-number : goal.invariant-loop-number
 invariant-loop-number l = record {

@@ -3,7 +3,7 @@ use Rattle.iloc_ops.specs.declared.op.Op.{Op}
 use Rattle.iloc_meaning.specs.Trace.{op_at}
 use Rattle.iloc_validation.specs.Counts.{count_like}
 use Rattle.iloc_validation.specs.Steps.Counterparts.{first_like, noted_at, IsNth, IsCounterpart}
-use Rattle.iloc_validation.proofs.reasons.counterparts.counterparts_among.Given as goal
+use Rattle.iloc_validation.proofs.counterparts.chains.counterparts_among.Given as goal
 
 abbrev pub invariant-loop-op : goal.invariant-loop-op
 invariant-loop-op l = record {

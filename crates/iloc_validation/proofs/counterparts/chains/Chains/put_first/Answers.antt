@@ -5,7 +5,7 @@ use Rattle.iloc_ops.specs.declared.op.Op.TheVariants.{Nop}
 use Rattle.iloc_meaning.specs.Trace.{op_at}
 use Rattle.iloc_validation.specs.Steps.Counterparts.{first_like, SetsLike}
 use Rattle.iloc_validation.proofs.NthLike.{put_first_chained}
-use Rattle.iloc_validation.proofs.reasons.counterparts.Chains.put_first.Goals as goal
+use Rattle.iloc_validation.proofs.counterparts.chains.Chains.put_first.Goals as goal
 
 pub returns : goal.returns
 returns c =
