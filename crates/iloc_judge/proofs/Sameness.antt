@@ -9,7 +9,7 @@ use Rattle.iloc_timed.specs.declared.latencies.Latencies.{Latencies}
 use Rattle.iloc_timed.specs.declared.row.Row.{Row}
 use Rattle.iloc_timed.specs.Rows.{IsTable}
 use Rattle.iloc_timed.specs.Schedule.{Table}
-use Rattle.iloc_rows.specs.declared.proposal.Proposal.{Proposal}
+use Rattle.iloc_rows.specs.declared.proposal.Proposed.{Proposed}
 use Rattle.iloc_validation.specs.ByTheBook.{IsByTheBook}
 use Rattle.iloc_validation.proofs.Outcomes.{keeps_the_outcome}
 use Rattle.iloc_judge.specs.declared.comparison.Comparison.TheVariants as of
@@ -99,7 +99,7 @@ passing_too false word pass = pass
 pub passed_is_same : (lawful : Bool) (checked : Checked) → passes lawful checked ≡ true → passes false checked ≡ true
 passed_is_same lawful checked pass = passing_too lawful checked.kind pass
 
-module _ (lawful csv outputs : Bool) (lat : Latencies) (memory : List ℤ) (block : List Op) (ours : Table) (proposal : Proposal)
+module _ (lawful csv outputs : Bool) (lat : Latencies) (memory : List ℤ) (block : List Op) (ours : Table) (proposal : Proposed)
     (checked : Checked) (entry : List ℕ) (check : IsCheck lawful csv outputs lat memory block ours proposal checked entry) where
   passed_as : (asked : Bool) → passes asked checked ≡ true
       → PassesAs asked outputs lat memory block proposal.ops proposal.rows

@@ -6,7 +6,7 @@ use Rattle.iloc_timed.specs.declared.row.Row.{Row}
 use Rattle.iloc_timed.specs.Cycles.{cycles}
 use Rattle.iloc_timed.specs.Rows.{IsTable}
 use Rattle.iloc_timed.specs.Schedule.{Table}
-use Rattle.iloc_rows.specs.declared.proposal.Proposal.{Proposal}
+use Rattle.iloc_rows.specs.declared.proposal.Proposed.{Proposed}
 use Rattle.iloc_sched.specs.Least.{least}
 use Rattle.iloc_validation.specs.ByTheBook.{IsByTheBook, IssueTheSame}
 use Rattle.iloc_judge.specs.declared.comparison.Comparison.{Comparison}
@@ -38,7 +38,7 @@ kind_of true (Undecided found) = kind.Undecided
 kind_of false (Undecided found) = compared_kind found
 
 -- what goes with a word: the cycles of what is proposed, those of our schedule, and the least
-abbrev pub found : VerdictKind → Latencies → List Op → Table → Proposal → Checked
+abbrev pub found : VerdictKind → Latencies → List Op → Table → Proposed → Checked
 found word lat block ours proposal = record {
   kind = word;
   cycles = cycles lat proposal.ops proposal.rows;
@@ -49,12 +49,12 @@ found word lat block ours proposal = record {
 -- Of what is proposed for a block this is found, and this entry listed, in a table or not, by a verdict that is right, of
 -- outcomes or of outputs alone. What our schedule issues is lawful.
 pub record IsCheck (lawful csv outputs : Bool) (lat : Latencies) (memory : List ℤ) (block : List Op) (ours : Table)
-    (proposal : Proposal) (checked : Checked) (entry : List ℕ) : Type 0 where
+    (proposal : Proposed) (checked : Checked) (entry : List ℕ) : Type 0 where
   pub verdict : Verdict
   pub right : IsVerdict outputs lat block proposal.ops proposal.rows memory verdict
   pub own : IssueTheSame ours.ops ours.rows proposal.ops proposal.rows → verdict ≡ Lawful
   pub is_found : checked ≡ found (kind_of lawful verdict) lat block ours proposal
-  pub listed : entry ≡ entry_as lawful csv proposal verdict checked
+  pub listed : entry ≡ entry_as lawful csv proposal.claimed proposal.ops proposal.rows verdict checked
 
 -- the operations in these rows keep the rules of the units, and on every memory of 16,384 words of 32 bits they have the
 -- block's outcome or, where outputs alone are compared, show what the block shows

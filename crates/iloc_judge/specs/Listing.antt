@@ -8,7 +8,6 @@ use Rattle.iloc_ops.specs.Spelling.{spelling}
 use Rattle.iloc_timed.specs.declared.row.Row.{Row}
 use Rattle.iloc_timed.specs.Rows.{row_at}
 use Rattle.iloc_timed.specs.Spelling.{row_line}
-use Rattle.iloc_rows.specs.declared.proposal.Proposal.{Proposal}
 use Rattle.iloc_judge.specs.declared.comparison.Comparison.{Comparison}
 use Rattle.iloc_judge.specs.declared.comparison.Comparison.TheVariants as of
 use Rattle.iloc_judge.specs.declared.difference.Difference.{Difference}
@@ -119,9 +118,8 @@ detail lawful ops rows Lawful = []
 detail lawful ops rows (Unlawful reasons found) = comparison_told found ++ reasons_told reasons
 detail lawful ops rows (Undecided found) = comparison_told found ++ undecided_told lawful
 
--- What is listed of a proposal: a row of a table, where one is asked for, and else the line of the verdict with what is said
+-- What is listed of operations and rows, for which these cycles are claimed: a row of a table, where one is asked for, and else the line of the verdict with what is said
 -- below it.
-abbrev pub entry_as : (lawful csv : Bool) → Proposal → Verdict → Checked → List ℕ
-entry_as lawful true proposal verdict checked = row_of checked proposal.claimed
-entry_as lawful false proposal verdict checked =
-    line_of checked proposal.claimed ++ detail lawful proposal.ops proposal.rows verdict
+abbrev pub entry_as : (lawful csv : Bool) → Option ℕ → List Op → List Row → Verdict → Checked → List ℕ
+entry_as lawful true claimed ops rows verdict checked = row_of checked claimed
+entry_as lawful false claimed ops rows verdict checked = line_of checked claimed ++ detail lawful ops rows verdict

@@ -8,7 +8,7 @@ use Rattle.iloc_validation.specs.declared.lawfulness.Added.{Added}
 use Rattle.iloc_validation.specs.declared.lawfulness.Issue.{Issue}
 use Rattle.iloc_validation.specs.declared.lawfulness.LeftOut.{LeftOut}
 use Rattle.iloc_reasons.specs.declared.fact.Fact.{Fact}
-use Rattle.iloc_reasons.specs.declared.fact.Fact.TheVariants.{UnderWay, Brings, Replaced, Order, For, LikeNone, See}
+use Rattle.iloc_reasons.specs.declared.fact.Fact.TheVariants.{UnderWay, Brings, Replaced, NeverRead, Order, For, LikeNone, See}
 use Rattle.iloc_reasons.specs.declared.reasons.Reasons.{Reasons}
 
 -- a label with its number
@@ -58,6 +58,7 @@ abbrev pub fact_words : Fact → List ℕ
 fact_words (UnderWay issue store due) = under_way_told issue store due
 fact_words (Brings issue register late due) = brings_told issue register late due
 fact_words (Replaced issue register from lost) = replaced_told issue register from lost
+fact_words (NeverRead issue) = issue_told issue ++ codes ", whose result is never read"
 fact_words (Order issue other) =
     both_told issue (if nat_lt issue.cycle other.cycle then codes " before " else codes " after ") other
 fact_words (For issue op) = issue_told issue ++ codes " for " ++ spelling op

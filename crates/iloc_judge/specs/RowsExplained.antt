@@ -6,7 +6,7 @@ use Rattle.iloc_timed.specs.declared.row.Row.{Row}
 use Rattle.iloc_timed.specs.Cycles.{cycles}
 use Rattle.iloc_timed.specs.Rows.{IsTable}
 use Rattle.iloc_timed.specs.Schedule.{Table, IsFirstBadRow}
-use Rattle.iloc_rows.specs.declared.proposal.Proposal.{Proposal}
+use Rattle.iloc_rows.specs.declared.proposal.Proposed.{Proposed}
 use Rattle.iloc_rows.specs.declared.proposal.unread.Unread.{Unread}
 use Rattle.iloc_sched.specs.declared.ranking.heuristic.Heuristic.{Heuristic}
 use Rattle.iloc_sched.specs.Renaming.{without_nops}
@@ -70,7 +70,7 @@ IsSaidOfAll (Some unread) false heuristic lat block ops rows text = HaveUnread u
 
 -- Of what is proposed for a block this is found, and this text said. Rows that issue what our schedule issues are lawful, if all
 -- of them can be read.
-pub record IsRowsExplanation (heuristic : Heuristic) (lat : Latencies) (block : List Op) (ours : Table) (proposal : Proposal)
+pub record IsRowsExplanation (heuristic : Heuristic) (lat : Latencies) (block : List Op) (ours : Table) (proposal : Proposed)
     (found : ExplainedRows) (text : List ℕ) : Type 0 where
   pub said : IsSaidOfAll proposal.unread found.is_lawful heuristic lat block proposal.ops proposal.rows text
   pub own : proposal.unread ≡ None → IssueTheSame ours.ops ours.rows proposal.ops proposal.rows → found.is_lawful ≡ true

@@ -5,7 +5,7 @@ use Rattle.std.specs.Fmt.{decimal}
 use Rattle.iloc_ops.specs.declared.op.Op.{Op}
 use Rattle.iloc_timed.specs.declared.latencies.Latencies.{Latencies}
 use Rattle.iloc_timed.specs.Schedule.{Table}
-use Rattle.iloc_rows.specs.declared.proposal.Proposal.{Proposal}
+use Rattle.iloc_rows.specs.declared.proposal.Proposed.{Proposed}
 use Rattle.iloc_rows.specs.declared.proposal.unread.Unread.{Unread}
 use Rattle.iloc_judge.specs.declared.checked.Checked.{Checked}
 use Rattle.iloc_judge.specs.declared.verdict.kind.VerdictKind.TheVariants as kind
@@ -27,7 +27,7 @@ unread_as false checked claimed row words = line_of checked claimed ++ unread_to
 
 -- This is the first row of what is proposed for a block that can't be read, this is found of it, and this entry listed, in a
 -- table or not. Its cycles are those of its rows, where what can't be read is empty.
-pub record IsUnread (csv : Bool) (lat : Latencies) (block : List Op) (ours : Table) (proposal : Proposal)
+pub record IsUnread (csv : Bool) (lat : Latencies) (block : List Op) (ours : Table) (proposal : Proposed)
     (checked : Checked) (entry : List ℕ) : Type 0 where
   pub unread : Unread
   pub first : proposal.unread ≡ Some unread

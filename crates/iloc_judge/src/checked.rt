@@ -1,8 +1,6 @@
 //! What is found of the rows that are proposed for a block.
-ghost use Rattle.std.specs.Prelude.{ℕ, ◌≡◌, ◌≤◌, ◌++◌, List, length, IfOk, OnOk};
-ghost use Rattle.iloc_timed.specs.Schedule.{AreInRange, AreOnce};
-ghost use Rattle.iloc_sched.specs.Lawful.{IsLawful};
-ghost use Rattle.iloc_sched.specs.Least as bound;
+ghost use Rattle.std.specs.Prelude.{ℕ, ◌≡◌, ◌++◌, List, IfOk, OnOk};
+ghost use Rattle.iloc_timed.specs.Schedule.{IsFirstBadRow};
 ghost use Rattle.iloc_judge.specs.Checked.{compared_kind, kind_of, passes, IsCheck};
 ghost use Rattle.iloc_judge.specs.Listing.{entry_as};
 ghost use Rattle.iloc_judge.specs.Steps.Counted.{CanBeListed};
@@ -12,13 +10,13 @@ pub mod reason;
 pub(crate) mod verdict_line;
 
 use crate::comparison::Comparison;
+use crate::task::{Judging, Task};
 use crate::verdict::kind::VerdictKind;
 use crate::verdict::{Verdict, judge};
 use detail::push_detail;
-use iloc_meaning::Memory;
-use iloc_ops::{Block, MAX_OPS, NoMemory};
+use iloc_ops::{NoMemory, Op};
 use iloc_rows::Proposal;
-use iloc_timed::{Latencies, Schedule, cycles, cycles_of};
+use iloc_timed::{Row, cycles, cycles_of};
 use std::alloc::Global;
 use verdict_line::{push_line, push_table_row};
 
@@ -75,33 +73,65 @@ fn kind_of(lawful: bool, verdict: &Verdict) -> VerdictKind
     }
 }
 
-/// Appends what is listed of a proposal with this verdict: the row of a table or, where none is asked for, a line and what is
-/// said below it.
+/// Appends what is listed of operations and rows with this verdict: the row of a table or, where none is asked for, a line and
+/// what is said below it.
 fn push_entry(
     text: &mut Vec<u8>,
-    lawful: bool,
-    csv: bool,
-    proposal: &Proposal,
+    judging: &Judging<'_>,
+    claimed: Option<u32>,
+    ops: &[Op],
+    rows: &[Row],
     verdict: &Verdict,
     checked: Checked,
 ) -> Result<(), NoMemory>
-    requires { CanBeListed proposal.now.rows verdict.now }
-    ensures { OnOk result (text.new.items
-        ≡ text.old.items ++ entry_as lawful csv proposal.now verdict.now checked) }
+    requires { CanBeListed rows.now verdict.now }
+    ensures { OnOk result (text.new.items ≡ text.old.items
+        ++ entry_as judging.now.lawful judging.now.csv claimed ops.now rows.now verdict.now checked) }
 {
-    if csv {
-        return push_table_row(text, checked, proposal.claimed);
+    if judging.csv {
+        return push_table_row(text, checked, claimed);
     }
-    push_line(text, checked, proposal.claimed)?;
-    let rows = proposal.rows.as_slice();
-    push_detail(text, lawful, proposal.ops.as_slice(), rows, verdict)
+    push_line(text, checked, claimed)?;
+    push_detail(text, judging.lawful, ops, rows, verdict)
+}
+
+/// Appends what is listed of a proposal of which this row is the first that breaks the rules of the units.
+fn push_units(
+    text: &mut Vec<u8>,
+    judging: &Judging<'_>,
+    task: &Task<'_>,
+    proposal: &Proposal,
+    row: usize,
+) -> Result<Checked, NoMemory>
+    requires { IsFirstBadRow proposal.now.ops proposal.now.rows row }
+    ensures { IfOk result (λ checked. (entry : List ℕ)
+        × IsCheck judging.now.lawful judging.now.csv judging.now.outputs_alone task.now.latencies.now judging.now.memory.now
+        task.now.block.now.ops task.now.ours.now proposal.now checked entry
+        × (text.new.items ≡ text.old.items ++ entry)) }
+{
+    let (ops, rows) = (proposal.ops(), proposal.rows());
+    let checked = Checked {
+        kind: VerdictKind::Units,
+        cycles: cycles_of(ops, rows, task.latencies),
+        ours: cycles(task.ours, task.latencies),
+        least: task.least,
+    };
+    let verdict = Verdict::Units(row);
+    push_entry(
+        text,
+        judging,
+        proposal.claimed(),
+        ops,
+        rows,
+        &verdict,
+        checked,
+    )?;
+    Ok(checked)
 }
 
 /// Judges what is proposed for a block, beside our schedule of it, and appends what is listed of it after the block's head:
 /// the verdict with the cycles of the rows, ours and the least, and the lines that tell where the rows go wrong, if they do.
-/// In a table it is a row, with the cycles that are claimed and no lines below. `lawful` says that nothing but rows by the book
-/// passes. Rows are compared with the block by outcomes, or by outputs and faults alone. The more blocks are judged with this
-/// one, the fewer memories are made up for each.
+/// In a table it is a row, with the cycles that are claimed and no lines below.
 ///
 /// After a refusal a part of it may have been appended.
 ///
@@ -110,47 +140,28 @@ fn push_entry(
 pub fn push_check(
     alloc: Global,
     text: &mut Vec<u8>,
-    lawful: bool,
-    csv: bool,
-    outputs_alone: bool,
-    block: &Block,
-    ours: &Schedule,
-    least: u64,
+    judging: &Judging<'_>,
+    task: &Task<'_>,
     proposal: Proposal,
-    latencies: &Latencies,
-    memory: &Memory,
-    blocks: usize,
 ) -> Result<Checked, NoMemory>
-    requires few { length block.now.ops ≤ MAX_OPS }
-    requires in_range { AreInRange (length proposal.ops) proposal.rows }
-    requires once { AreOnce (length proposal.ops) proposal.rows }
-    requires lawful { IsLawful latencies.now block.now.ops ours.now.ops ours.now.rows }
-    requires least { least ≡ bound.least latencies.now block.now.ops }
     ensures { IfOk result (λ checked. (entry : List ℕ)
-        × IsCheck lawful csv outputs_alone latencies.now memory.now block.now.ops ours.now proposal checked entry
+        × IsCheck judging.now.lawful judging.now.csv judging.now.outputs_alone task.now.latencies.now judging.now.memory.now
+        task.now.block.now.ops task.now.ours.now proposal checked entry
         × (text.new.items ≡ text.old.items ++ entry)) }
 {
-    let ops = proposal.ops.as_slice();
-    let rows = proposal.rows.as_slice();
-    let their_ops = Vec::from_slice(alloc, ops)?;
-    let their_rows = Vec::from_slice(alloc, rows)?;
-    let verdict = judge(
-        alloc,
-        outputs_alone,
-        block,
-        ours,
-        their_ops,
-        their_rows,
-        latencies,
-        memory,
-        blocks,
-    )?;
+    if let Some(row) = proposal.bad_row() {
+        return push_units(text, judging, task, &proposal, row);
+    }
+    let claimed = proposal.claimed();
+    let theirs = proposal.into_schedule();
+    let (ops, rows) = (theirs.ops(), theirs.rows());
+    let verdict = judge(alloc, judging, task, &theirs)?;
     let checked = Checked {
-        kind: kind_of(lawful, &verdict),
-        cycles: cycles_of(ops, rows, latencies),
-        ours: cycles(ours, latencies),
-        least,
+        kind: kind_of(judging.lawful, &verdict),
+        cycles: cycles(&theirs, task.latencies),
+        ours: cycles(task.ours, task.latencies),
+        least: task.least,
     };
-    push_entry(text, lawful, csv, &proposal, &verdict, checked)?;
+    push_entry(text, judging, claimed, ops, rows, &verdict, checked)?;
     Ok(checked)
 }

@@ -1,7 +1,5 @@
 //! How what rows do compares with what their block does.
-ghost use Rattle.std.specs.Prelude.{◌≡◌, List, ℤ, IfOk};
-ghost use Rattle.iloc_meaning.specs.Outcome.{outcome};
-ghost use Rattle.iloc_timed.specs.Timed.{timed_outcome};
+ghost use Rattle.std.specs.Prelude.{IfOk};
 ghost use Rattle.iloc_judge.specs.Comparison.{IsComparison};
 
 use crate::difference::Difference;
@@ -9,10 +7,10 @@ use crate::judgement::TwoRuns;
 use crate::refutation::effort::Effort;
 use crate::refutation::probe::Probe;
 use crate::refutation::{Refutation, difference_on, refute};
+use crate::task::{Judging, Task};
 use crate::void::{Void, why_void};
-use iloc_meaning::Memory;
-use iloc_ops::{Block, NoMemory};
-use iloc_timed::{Latencies, Schedule};
+use iloc_ops::NoMemory;
+use iloc_timed::Schedule;
 use std::alloc::Global;
 
 /// How what rows do compares with what their block does.
@@ -33,25 +31,21 @@ pub enum Comparison {
     DiffersOn(Probe, Difference),
 }
 
-/// Compares what rows do with what their block does: by outcomes, or by outputs and faults alone. Our schedule of the block, which has its outcome on every memory, is
-/// what they are compared with. Where that doesn't show them the same, they are run on the memory handed in, and then on a
+/// Compares what a schedule does with what its block does. Ours, which has the block's outcome on every memory, is what it is
+/// compared with. Where that doesn't show them the same, they are run on the memory handed in, and then on a
 /// few that are made up, fewer where this is one of many blocks. That no difference was found doesn't mean that there is none: only `Comparison::Same` and
 /// `Comparison::Prints` do.
 pub(crate) fn compared(
     alloc: Global,
-    outputs_alone: bool,
-    block: &Block,
-    ours: &Schedule,
+    judging: &Judging<'_>,
+    task: &Task<'_>,
     theirs: &Schedule,
-    latencies: &Latencies,
-    memory: &Memory,
-    blocks: usize,
 ) -> Result<Comparison, NoMemory>
-    requires { (words : List ℤ) → timed_outcome latencies.now ours.now.ops ours.now.rows words
-        ≡ outcome block.now.ops words }
-    ensures { IfOk result
-        (IsComparison outputs_alone latencies.now block.now.ops theirs.now.ops theirs.now.rows memory.now) }
+    ensures { IfOk result (IsComparison judging.now.outputs_alone task.now.latencies.now task.now.block.now.ops
+        theirs.now.ops theirs.now.rows judging.now.memory.now) }
 {
+    let (outputs_alone, memory, blocks) = (judging.outputs_alone, judging.memory, judging.blocks);
+    let (block, ours, latencies) = (task.block, task.ours, task.latencies);
     if let Some(why) = why_void(alloc, outputs_alone, block, memory)? {
         return Ok(Comparison::Void(why));
     }

@@ -1,9 +1,6 @@
 //! Why the rows that are proposed for a block take their cycles.
 ghost use Rattle.std.specs.Prelude.{ℕ, ◌≡◌, ◌≤◌, ◌<◌, ◌++◌, true, List, length, IfOk, OnOk};
 ghost use Rattle.iloc_timed.specs.Rows.{IsTable};
-ghost use Rattle.iloc_timed.specs.Schedule.{AreInRange, AreOnce};
-ghost use Rattle.iloc_sched.specs.Least as bound;
-ghost use Rattle.iloc_sched.specs.Lawful.{IsLawful};
 ghost use Rattle.iloc_validation.specs.ByTheBook.{IssueTheSame};
 ghost use Rattle.iloc_judge.specs.Listing.{bad_row};
 ghost use Rattle.iloc_judge.specs.Reasons.{reasons_told};
@@ -11,13 +8,14 @@ ghost use Rattle.iloc_judge.specs.RowsExplained.{not_lawful, IsRowsExplanation, 
 
 use crate::checked::detail::push_bad_row;
 use crate::checked::reason::push_reasons;
+use crate::task::Task;
 use crate::unread::push_unread_row;
 use iloc_explain::push_explanation;
-use iloc_ops::{Block, MAX_OPS, NoMemory, Op};
+use iloc_ops::{NoMemory, Op};
 use iloc_reasons::{Reasons, reasons_of};
 use iloc_rows::{Proposal, Unread};
 use iloc_sched::Heuristic;
-use iloc_timed::{BuildFault, Latencies, MAX_ROWS, Row, Schedule, cycles_of};
+use iloc_timed::{MAX_ROWS, Row, Schedule, cycles_of};
 use iloc_validation::{Decision, decide, own_rows};
 use std::alloc::Global;
 
@@ -60,30 +58,25 @@ fn push_unread_rows(alloc: Global, text: &mut Vec<u8>, unread: &Unread) -> Resul
 fn push_said(
     alloc: Global,
     text: &mut Vec<u8>,
-    block: &Block,
-    ours: &Schedule,
-    least: u64,
+    task: &Task<'_>,
     theirs: &Schedule,
-    latencies: &Latencies,
     heuristic: Heuristic,
 ) -> Result<bool, NoMemory>
-    requires few { length block.now.ops ≤ MAX_OPS }
-    requires lawful { IsLawful latencies.now block.now.ops ours.now.ops ours.now.rows }
-    requires least { least ≡ bound.least latencies.now block.now.ops }
     requires table { IsTable theirs.now.ops theirs.now.rows }
     requires few_rows { length theirs.now.rows ≤ MAX_ROWS }
     ensures said { IfOk result (λ is_lawful. (entry : List ℕ)
-        × IsSaidOf is_lawful heuristic latencies.now block.now.ops theirs.now.ops theirs.now.rows entry
+        × IsSaidOf is_lawful heuristic task.now.latencies.now task.now.block.now.ops theirs.now.ops theirs.now.rows entry
         × (text.new.items ≡ text.old.items ++ entry)) }
     ensures own { IfOk result (λ is_lawful.
-        IssueTheSame ours.now.ops ours.now.rows theirs.now.ops theirs.now.rows → is_lawful ≡ true) }
+        IssueTheSame task.now.ours.now.ops task.now.ours.now.rows theirs.now.ops theirs.now.rows → is_lawful ≡ true) }
 {
-    match decide(alloc, block, ours, theirs, latencies)? {
+    let (block, latencies) = (task.block, task.latencies);
+    match decide(alloc, block, task.ours, theirs, latencies)? {
         Decision::Lawful(pairing) => {
-            let own = own_rows(alloc, block, theirs, ours.ops(), &pairing)?;
+            let own = own_rows(alloc, block, theirs, task.ours.ops(), &pairing)?;
             let (schedule, issued) = (&own.schedule, &own.issued);
             push_explanation(
-                alloc, text, block, schedule, issued, latencies, heuristic, least,
+                alloc, text, block, schedule, issued, latencies, heuristic, task.least,
             )?;
             Ok(true)
         }
@@ -99,46 +92,31 @@ fn push_said(
     }
 }
 
-/// Appends what is said of rows that are proposed for a block, beside our schedule of it, and answers whether they are by the
-/// book.
+/// Appends what is said of a proposal whose rows can all be read, beside our schedule of the block, and answers whether it is by
+/// the book.
 fn push_read_rows(
     alloc: Global,
     text: &mut Vec<u8>,
-    block: &Block,
-    ours: &Schedule,
-    least: u64,
-    ops: &[Op],
-    rows: &[Row],
-    latencies: &Latencies,
+    task: &Task<'_>,
+    proposal: Proposal,
     heuristic: Heuristic,
 ) -> Result<bool, NoMemory>
-    requires few { length block.now.ops ≤ MAX_OPS }
-    requires lawful { IsLawful latencies.now block.now.ops ours.now.ops ours.now.rows }
-    requires least { least ≡ bound.least latencies.now block.now.ops }
-    requires in_range { AreInRange (length ops.now) rows.now }
-    requires once { AreOnce (length ops.now) rows.now }
-    requires few_rows { length rows.now ≤ MAX_ROWS }
     ensures said { IfOk result (λ is_lawful. (entry : List ℕ)
-        × IsSaidOf is_lawful heuristic latencies.now block.now.ops ops.now rows.now entry
+        × IsSaidOf is_lawful heuristic task.now.latencies.now task.now.block.now.ops proposal.ops proposal.rows entry
         × (text.new.items ≡ text.old.items ++ entry)) }
-    ensures own { IfOk result (λ is_lawful. IssueTheSame ours.now.ops ours.now.rows ops.now rows.now → is_lawful ≡ true) }
+    ensures own { IfOk result (λ is_lawful.
+        IssueTheSame task.now.ours.now.ops task.now.ours.now.rows proposal.ops proposal.rows → is_lawful ≡ true) }
 {
-    let their_ops = Vec::from_slice(alloc, ops)?;
-    let their_rows = Vec::from_slice(alloc, rows)?;
-    match Schedule::new(alloc, their_ops, their_rows) {
-        Ok(theirs) => push_said(
-            alloc, text, block, ours, least, &theirs, latencies, heuristic,
-        ),
-        Err(BuildFault::BadRow(row)) => {
-            push_units(text, ops, rows, row)?;
-            Ok(false)
-        }
-        Err(BuildFault::NotOnce(_)) => unreachable!(),
-        Err(BuildFault::NoMemory) => Err(NoMemory),
+    if let Some(row) = proposal.bad_row() {
+        push_units(text, proposal.ops(), proposal.rows(), row)?;
+        return Ok(false);
     }
+    let theirs = proposal.into_schedule();
+    prove!(theirs.rows().len() <= MAX_ROWS);
+    push_said(alloc, text, task, &theirs, heuristic)
 }
 
-/// Appends what explains the rows that are proposed for a block, beside our schedule of it, behind the block's head. Rows by the
+/// Appends what explains the rows that are proposed for a block, beside our schedule of it, after the block's head. Rows by the
 /// book are explained as the schedule of the block that they are, with each operation as the block has it and as it is issued;
 /// of others it is said that they aren't lawful, and why, or that this isn't decided.
 ///
@@ -147,33 +125,23 @@ fn push_read_rows(
 pub fn push_rows_explanation(
     alloc: Global,
     text: &mut Vec<u8>,
-    block: &Block,
-    ours: &Schedule,
-    least: u64,
-    proposal: &Proposal,
-    latencies: &Latencies,
+    task: &Task<'_>,
+    proposal: Proposal,
     heuristic: Heuristic,
 ) -> Result<ExplainedRows, NoMemory>
-    requires few { length block.now.ops ≤ MAX_OPS }
-    requires lawful { IsLawful latencies.now block.now.ops ours.now.ops ours.now.rows }
-    requires least { least ≡ bound.least latencies.now block.now.ops }
-    requires in_range { AreInRange (length proposal.now.ops) proposal.now.rows }
-    requires once { AreOnce (length proposal.now.ops) proposal.now.rows }
     ensures { IfOk result (λ found. (entry : List ℕ)
-        × IsRowsExplanation heuristic latencies.now block.now.ops ours.now proposal.now found entry
+        × IsRowsExplanation heuristic task.now.latencies.now task.now.block.now.ops task.now.ours.now proposal found entry
         × (text.new.items ≡ text.old.items ++ entry)) }
 {
-    let ops = proposal.ops.as_slice();
-    let rows = proposal.rows.as_slice();
-    let cycles = cycles_of(ops, rows, latencies);
-    let is_lawful = match &proposal.unread {
-        Some(unread) => {
-            push_unread_rows(alloc, text, unread)?;
-            false
-        }
-        None => push_read_rows(
-            alloc, text, block, ours, least, ops, rows, latencies, heuristic,
-        )?,
-    };
+    let (ops, rows) = (proposal.ops(), proposal.rows());
+    let cycles = cycles_of(ops, rows, task.latencies);
+    if let Some(unread) = proposal.unread() {
+        push_unread_rows(alloc, text, unread)?;
+        return Ok(ExplainedRows {
+            is_lawful: false,
+            cycles,
+        });
+    }
+    let is_lawful = push_read_rows(alloc, text, task, proposal, heuristic)?;
     Ok(ExplainedRows { is_lawful, cycles })
 }

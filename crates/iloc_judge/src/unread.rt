@@ -1,16 +1,15 @@
 //! What is listed of rows of which one can't be read.
-ghost use Rattle.std.specs.Prelude.{ℕ, ◌≡◌, ◌++◌, List, Some, length, IfOk, OnOk};
-ghost use Rattle.iloc_timed.specs.Schedule.{AreInRange, AreOnce};
-ghost use Rattle.iloc_sched.specs.Least as bound;
+ghost use Rattle.std.specs.Prelude.{ℕ, ◌≡◌, ◌++◌, List, Some, IfOk, OnOk};
 ghost use Rattle.iloc_judge.specs.Unread.{in_one_line, unread_told, IsUnread};
 
 use crate::checked::Checked;
 use crate::checked::verdict_line::{push_line, push_table_row};
+use crate::task::Task;
 use crate::verdict::kind::VerdictKind;
 use iloc_lint::row_wording;
-use iloc_ops::{Block, NoMemory, push_number};
+use iloc_ops::{NoMemory, push_number};
 use iloc_rows::{Proposal, Unread};
-use iloc_timed::{Latencies, Schedule, cycles, cycles_of};
+use iloc_timed::{cycles, cycles_of};
 use std::alloc::Global;
 
 /// Appends words without line ends.
@@ -36,12 +35,8 @@ fn push_told(text: &mut Vec<u8>, row: u32, words: &[u8]) -> Result<(), NoMemory>
     Ok(text.extend_from_slice(b"\n")?)
 }
 
-/// Appends the line of a row that can't be read, with words for what is wrong with it.
-pub(crate) fn push_unread_row(
-    alloc: Global,
-    text: &mut Vec<u8>,
-    unread: &Unread,
-) -> Result<(), NoMemory>
+/// Promise: appends the line of a row that can't be read, with words for what is wrong with it, which aren't promised.
+pub fn push_unread_row(alloc: Global, text: &mut Vec<u8>, unread: &Unread) -> Result<(), NoMemory>
     ensures { OnOk result ((words : List ℕ)
         × (text.new.items ≡ text.old.items ++ unread_told unread.now.row words)) }
 {
@@ -61,34 +56,27 @@ pub fn push_unread(
     alloc: Global,
     text: &mut Vec<u8>,
     csv: bool,
-    block: &Block,
-    ours: &Schedule,
-    least: u64,
+    task: &Task<'_>,
     proposal: &Proposal,
     unread: &Unread,
-    latencies: &Latencies,
 ) -> Result<Checked, NoMemory>
-    requires in_range { AreInRange (length proposal.now.ops) proposal.now.rows }
-    requires once { AreOnce (length proposal.now.ops) proposal.now.rows }
     requires first { proposal.now.unread ≡ Some unread.now }
-    requires least { least ≡ bound.least latencies.now block.now.ops }
     ensures { IfOk result (λ checked. (entry : List ℕ)
-        × IsUnread csv latencies.now block.now.ops ours.now proposal.now checked entry
+        × IsUnread csv task.now.latencies.now task.now.block.now.ops task.now.ours.now proposal.now checked entry
         × (text.new.items ≡ text.old.items ++ entry)) }
 {
-    let ops = proposal.ops.as_slice();
-    let rows = proposal.rows.as_slice();
+    let (ops, rows, claimed) = (proposal.ops(), proposal.rows(), proposal.claimed());
     let checked = Checked {
         kind: VerdictKind::Unread,
-        cycles: cycles_of(ops, rows, latencies),
-        ours: cycles(ours, latencies),
-        least,
+        cycles: cycles_of(ops, rows, task.latencies),
+        ours: cycles(task.ours, task.latencies),
+        least: task.least,
     };
     if csv {
-        push_table_row(text, checked, proposal.claimed)?;
+        push_table_row(text, checked, claimed)?;
         return Ok(checked);
     }
-    push_line(text, checked, proposal.claimed)?;
+    push_line(text, checked, claimed)?;
     push_unread_row(alloc, text, unread)?;
     Ok(checked)
 }

@@ -1,17 +1,16 @@
 //! What is said of somebody's rows for a block.
-ghost use Rattle.std.specs.Prelude.{◌≡◌, ◌≤◌, length, vec_len, IfOk};
-ghost use Rattle.iloc_timed.specs.Schedule.{AreInRange, AreOnce};
-ghost use Rattle.iloc_sched.specs.Lawful.{IsLawful};
+ghost use Rattle.std.specs.Prelude.{◌≡◌, ◌≤◌, length, IfOk};
+ghost use Rattle.iloc_timed.specs.Rows.{IsTable};
 ghost use Rattle.iloc_validation.specs.ByTheBook.{IssueTheSame};
 ghost use Rattle.iloc_judge.specs.Verdict.{IsVerdict};
 
 pub mod kind;
 
 use crate::comparison::{Comparison, compared};
-use iloc_meaning::Memory;
-use iloc_ops::{Block, NoMemory, Op};
+use crate::task::{Judging, Task};
+use iloc_ops::NoMemory;
 use iloc_reasons::{Reasons, reasons_of};
-use iloc_timed::{BuildFault, Latencies, MAX_ROWS, Row, Schedule};
+use iloc_timed::{MAX_ROWS, Schedule};
 use iloc_validation::{Decision, decide};
 use std::alloc::Global;
 
@@ -28,64 +27,30 @@ pub enum Verdict {
     Undecided(Comparison),
 }
 
-/// Judges somebody's operations and rows for a block, each operation in a slot of its own, beside our schedule of the block:
-/// by their outcomes, or by their outputs and faults alone. The more blocks are judged with it, the fewer memories are made
-/// up for each.
+/// Judges somebody's schedule beside ours.
 ///
-/// Promise: the verdict holds as it is stated, and rows that issue what our schedule issues are lawful.
+/// Promise: the verdict holds as it is stated, and a schedule that issues what ours issues is lawful.
 pub fn judge(
     alloc: Global,
-    outputs_alone: bool,
-    block: &Block,
-    ours: &Schedule,
-    ops: Vec<Op>,
-    rows: Vec<Row>,
-    latencies: &Latencies,
-    memory: &Memory,
-    blocks: usize,
+    judging: &Judging<'_>,
+    task: &Task<'_>,
+    theirs: &Schedule,
 ) -> Result<Verdict, NoMemory>
-    requires few { vec_len rows ≤ MAX_ROWS }
-    requires in_range { AreInRange (length ops.items) rows.items }
-    requires once { AreOnce (length ops.items) rows.items }
-    requires lawful { IsLawful latencies.now block.now.ops ours.now.ops ours.now.rows }
-    ensures right { IfOk result (IsVerdict outputs_alone latencies.now block.now.ops ops.items rows.items memory.now) }
+    requires few { length theirs.now.rows ≤ MAX_ROWS }
+    requires table { IsTable theirs.now.ops theirs.now.rows }
+    ensures right { IfOk result (IsVerdict judging.now.outputs_alone task.now.latencies.now task.now.block.now.ops
+        theirs.now.ops theirs.now.rows judging.now.memory.now) }
     ensures own { IfOk result (λ verdict.
-        IssueTheSame ours.now.ops ours.now.rows ops.items rows.items → verdict ≡ Verdict.Lawful) }
+        IssueTheSame task.now.ours.now.ops task.now.ours.now.rows theirs.now.ops theirs.now.rows
+        → verdict ≡ Verdict.Lawful) }
 {
-    let theirs = match Schedule::new(alloc, ops, rows) {
-        Ok(theirs) => theirs,
-        Err(BuildFault::BadRow(row)) => return Ok(Verdict::Units(row)),
-        Err(BuildFault::NotOnce(_)) => unreachable!(),
-        Err(BuildFault::NoMemory) => return Err(NoMemory),
-    };
-    match decide(alloc, block, ours, &theirs, latencies)? {
+    match decide(alloc, task.block, task.ours, theirs, task.latencies)? {
         Decision::Lawful(_) => Ok(Verdict::Lawful),
         Decision::Unlawful => {
-            let reasons = reasons_of(alloc, block, &theirs, latencies)?;
-            let found = compared(
-                alloc,
-                outputs_alone,
-                block,
-                ours,
-                &theirs,
-                latencies,
-                memory,
-                blocks,
-            )?;
+            let reasons = reasons_of(alloc, task.block, theirs, task.latencies)?;
+            let found = compared(alloc, judging, task, theirs)?;
             Ok(Verdict::Unlawful(reasons, found))
         }
-        Decision::Undecided => {
-            let found = compared(
-                alloc,
-                outputs_alone,
-                block,
-                ours,
-                &theirs,
-                latencies,
-                memory,
-                blocks,
-            )?;
-            Ok(Verdict::Undecided(found))
-        }
+        Decision::Undecided => Ok(Verdict::Undecided(compared(alloc, judging, task, theirs)?)),
     }
 }

@@ -1,3 +1,4 @@
+pub mod Begins
 pub mod Counted
 pub mod OneLine
 pub mod Judged

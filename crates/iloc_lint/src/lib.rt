@@ -15,7 +15,5 @@ mod row;
 mod shown;
 mod wording;
 
-pub use faults::{Linted, lint};
 pub use listing::{Report, report_of};
-pub use refused::{Refusals, Refused};
 pub use row::row_wording;

@@ -1,6 +1,6 @@
 //! What is wrong with a row of a schedule that can't be read, in words.
-ghost use Rattle.std.specs.Prelude.{IfOk};
-ghost use Rattle.iloc_lint.specs.Row.{IsRowWording};
+ghost use Rattle.std.specs.Prelude.{ℕ, ◌<◌, ◌≤◌, IfErr, IfOk, drop, length};
+ghost use Rattle.iloc_lint.specs.Row.{IsLeft, IsNext, IsRowWording};
 
 use crate::place::{Part, blanks_at, part_at, parts_of, word_at};
 use crate::shown::push_shown;
@@ -20,21 +20,33 @@ struct Stop<'a> {
 }
 
 /// What follows the blanks at the front.
-fn after_blanks(bytes: &[u8]) -> &[u8] {
+fn after_blanks(bytes: &[u8]) -> &[u8]
+    ensures { IsLeft bytes.now result.now }
+{
     &bytes[blanks_at(bytes)..]
 }
 
-/// The word, sign or byte that comes after any blanks.
-fn found_at(bytes: &[u8]) -> &[u8] {
-    let rest = after_blanks(bytes);
-    let count = word_at(rest);
-    match rest {
-        [] => b"end of line",
-        [b'=', b'>', ..] => b"=>",
-        [b'/', b'/', ..] => b"//",
-        _ if count == 0 => &rest[..1],
-        _ => &rest[..count.min(MOST_SHOWN)],
+/// How many bytes of the word, sign or byte at the front are shown.
+fn shown_at(bytes: &[u8]) -> usize
+    requires { 0 < length bytes.now }
+    ensures some { 0 < result }
+    ensures within { result ≤ length bytes.now }
+{
+    match bytes {
+        [b'=', b'>', ..] | [b'/', b'/', ..] => 2,
+        _ => word_at(bytes).max(1).min(MOST_SHOWN),
     }
+}
+
+/// The word, sign or byte that comes after any blanks.
+fn found_at(bytes: &[u8]) -> &[u8]
+    ensures { (at : ℕ) × IsNext (drop at bytes.now) result.now }
+{
+    let rest = after_blanks(bytes);
+    if rest.is_empty() {
+        return b"end of line";
+    }
+    &rest[..shown_at(rest)]
 }
 
 /// Whether the word is written as this part, so that only its number can be too large.
@@ -59,7 +71,10 @@ fn wanted(opcode: Opcode, part: Part, word: &[u8]) -> &'static [u8] {
 }
 
 /// What follows the operands of an operation, or where they stop.
-fn operands_at(opcode: Opcode, bytes: &[u8]) -> Result<&[u8], Stop<'_>> {
+fn operands_at(opcode: Opcode, bytes: &[u8]) -> Result<&[u8], Stop<'_>>
+    ensures ok { IfOk result (λ rest. IsLeft bytes.now rest.now) }
+    ensures err { IfErr result (λ stop. IsLeft bytes.now stop.rest.now) }
+{
     let mut rest = bytes;
     for part in parts_of(opcode) {
         let (count, whole) = part_at(*part, rest);
@@ -73,7 +88,10 @@ fn operands_at(opcode: Opcode, bytes: &[u8]) -> Result<&[u8], Stop<'_>> {
 }
 
 /// What follows a slot, or where it stops.
-fn slot_at(bytes: &[u8]) -> Result<&[u8], Stop<'_>> {
+fn slot_at(bytes: &[u8]) -> Result<&[u8], Stop<'_>>
+    ensures ok { IfOk result (λ rest. IsLeft bytes.now rest.now) }
+    ensures err { IfErr result (λ stop. IsLeft bytes.now stop.rest.now) }
+{
     let rest = after_blanks(bytes);
     if let [b';' | b']', ..] = rest {
         return Ok(rest);
@@ -88,13 +106,26 @@ fn slot_at(bytes: &[u8]) -> Result<&[u8], Stop<'_>> {
     Ok(after_blanks(operands_at(opcode, &rest[count..])?))
 }
 
+/// What follows a second slot, if there is one, and what is wanted there; or where the slot stops.
+fn second_at(bytes: &[u8]) -> Result<(&'static [u8], &[u8]), Stop<'_>>
+    ensures ok { IfOk result (λ it. IsLeft bytes.now it.1.now) }
+    ensures err { IfErr result (λ stop. IsLeft bytes.now stop.rest.now) }
+{
+    match bytes {
+        [b';', second @ ..] => match slot_at(second) {
+            Ok(rest) => Ok((b"]".as_slice(), rest)),
+            Err(stop) => Err(stop),
+        },
+        _ => Ok((b"; or ]".as_slice(), bytes)),
+    }
+}
+
 /// What follows the two slots of a row or its one, and what ends it, or where they stop.
-fn slots_at(bytes: &[u8]) -> Result<&[u8], Stop<'_>> {
-    let first = slot_at(bytes)?;
-    let (wanted, rest) = match first {
-        [b';', second @ ..] => (b"]".as_slice(), slot_at(second)?),
-        _ => (b"; or ]".as_slice(), first),
-    };
+fn slots_at(bytes: &[u8]) -> Result<&[u8], Stop<'_>>
+    ensures ok { IfOk result (λ rest. IsLeft bytes.now rest.now) }
+    ensures err { IfErr result (λ stop. IsLeft bytes.now stop.rest.now) }
+{
+    let (wanted, rest) = second_at(slot_at(bytes)?)?;
     match rest {
         [b']', after @ ..] => Ok(after),
         _ => Err(Stop { wanted, rest }),
@@ -102,7 +133,9 @@ fn slots_at(bytes: &[u8]) -> Result<&[u8], Stop<'_>> {
 }
 
 /// Where a row stops.
-fn stop_of(line: &[u8]) -> Stop<'_> {
+fn stop_of(line: &[u8]) -> Stop<'_>
+    ensures { IsLeft line.now result.rest.now }
+{
     match after_blanks(line) {
         [b'[', slots @ ..] => match slots_at(slots) {
             Ok(rest) => Stop {
@@ -117,9 +150,10 @@ fn stop_of(line: &[u8]) -> Stop<'_> {
 
 /// What is wrong with a row that can't be read: what is wanted where its reading ends, and what is found there.
 ///
-/// Promise: this is `expected W, found F`, where F is as bytes are shown. Which W and which F, isn't promised.
+/// Promise: this is `expected W, found F`, where F begins what is left of the line at some place, as bytes are shown, or is `end
+/// of line` where nothing is left. Which W and which place, isn't promised.
 pub fn row_wording(alloc: Global, line: &[u8]) -> Result<Vec<u8>, NoMemory>
-    ensures { IfOk result (λ words. IsRowWording words.items) }
+    ensures { IfOk result (λ words. IsRowWording line.now words.items) }
 {
     let stop = stop_of(line);
     let mut what = Vec::new(alloc);

@@ -15,7 +15,7 @@ use Rattle.iloc_validation.specs.ByTheBook.{due, given, label, read}
 use Rattle.iloc_validation.specs.Lawfulness.{issue_of}
 use Rattle.iloc_validation.specs.UnderWay.{IsUnderWay}
 use Rattle.iloc_reasons.specs.declared.fact.Fact.{Fact}
-use Rattle.iloc_reasons.specs.declared.fact.Fact.TheVariants.{UnderWay, Brings, Replaced, Order, For, LikeNone, See}
+use Rattle.iloc_reasons.specs.declared.fact.Fact.TheVariants.{UnderWay, Brings, Replaced, NeverRead, Order, For, LikeNone, See}
 
 -- operation k of the rows, in its row
 pub record IsIssued (ops : List Op) (rows : List Row) (k : ℕ) (issue : Issue) : Type 0 where
@@ -61,6 +61,15 @@ pub record IsReplaced (lat : Latencies) (ops : List Op) (rows : List Row) (issue
   pub reads : read lat ops rows issue.cycle register ≡ Some j
   pub there : IsIssued ops rows j from
   pub before : HasBeenThere lat ops rows issue.cycle register j lost
+
+-- no operation reads the result of one that defines a register
+pub record IsNeverRead (lat : Latencies) (ops : List Op) (rows : List Row) (issue : Issue) : Type 0 where
+  pub j : ℕ
+  pub here : IsIssued ops rows j issue
+  pub register : Reg
+  pub defines : defined issue.op ≡ Some register
+  pub by_none : (k : ℕ) → k < length ops → (r : Reg) → Contains (used (op_at ops k)) r
+      → read lat ops rows (issue_cycle rows k) r ≢ Some j
 
 -- two operations of which memory or outputs fix the order are issued in different rows
 pub record IsOrdered (ops : List Op) (rows : List Row) (issue other : Issue) : Type 0 where
@@ -113,6 +122,7 @@ abbrev pub IsFact : Latencies → List Op → List Op → List Row → Fact → 
 IsFact lat block ops rows (UnderWay issue store due) = IsWhileUnderWay lat ops rows issue store due
 IsFact lat block ops rows (Brings issue register late due) = IsBroughtLater lat ops rows issue register late due
 IsFact lat block ops rows (Replaced issue register from lost) = IsReplaced lat ops rows issue register from lost
+IsFact lat block ops rows (NeverRead issue) = IsNeverRead lat ops rows issue
 IsFact lat block ops rows (Order issue other) = IsOrdered ops rows issue other
 IsFact lat block ops rows (For issue op) = IsFor block ops rows issue op
 IsFact lat block ops rows (LikeNone issue) = IsLikeNone lat block ops rows issue

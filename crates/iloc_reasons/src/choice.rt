@@ -10,6 +10,7 @@ mod guesses;
 mod missing;
 mod side;
 mod standing_out;
+mod strays;
 mod walk;
 
 use self::counts::Counts;
@@ -18,12 +19,14 @@ use self::guesses::Definers;
 use self::missing::Missing;
 use self::side::{Counterparts, Side, effects};
 use self::standing_out::odd;
+use self::strays::Strays;
 use self::walk::Walk;
 use crate::claim::{Claim, What};
 use crate::sides::Sides;
 use iloc_ops::NoMemory;
 use iloc_timed::{Kind, Row};
 use std::alloc::Global;
+use std::collections::BTreeMap;
 
 /// What is claimed of rows.
 #[derive(Drop)]
@@ -90,6 +93,7 @@ fn begun<'a>(
     block: &'a Side<'a>,
     rows: &'a Side<'a>,
     counterparts: &'a Counterparts,
+    read: &'a BTreeMap<usize, usize>,
 ) -> Result<Walk<'a>, NoMemory> {
     let short = short(alloc, &block.graph, &rows.graph)?;
     Ok(Walk {
@@ -101,6 +105,7 @@ fn begun<'a>(
         missing: Missing::of(alloc, block, short, &counterparts.block)?,
         definers: Definers::none(alloc, rows.terms.len())?,
         meant: Vec::from_slice(alloc, &rows.terms)?,
+        strays: Strays::none(alloc, &rows.graph, &counterparts.rows, read)?,
         store: None,
         stores: issued(alloc, &rows.graph, Kind::Store)?,
         outputs: issued(alloc, &rows.graph, Kind::Output)?,
@@ -110,7 +115,11 @@ fn begun<'a>(
 }
 
 /// What is claimed of rows.
-pub(crate) fn chosen(alloc: Global, sides: &Sides) -> Result<Choice, NoMemory> {
+pub(crate) fn chosen(
+    alloc: Global,
+    sides: &Sides,
+    read: &BTreeMap<usize, usize>,
+) -> Result<Choice, NoMemory> {
     let in_order = one_by_one(alloc, sides.block.len())?;
     let givens = Vec::from_slice(alloc, sides.givens)?;
     let here = Graph::of(alloc, sides.block, &in_order, givens)?;
@@ -119,11 +128,11 @@ pub(crate) fn chosen(alloc: Global, sides: &Sides) -> Result<Choice, NoMemory> {
     let block = Side::of(alloc, here, places_count)?;
     let rows = Side::of(alloc, there, places_count)?;
     let counterparts = Counterparts::of(alloc, &block, &rows)?;
-    let mut walk = begun(alloc, sides, &block, &rows, &counterparts)?;
+    let mut walk = begun(alloc, sides, &block, &rows, &counterparts, read)?;
     for row in sides.schedule.rows() {
         walk.pass(row)?;
     }
-    let mut choice = walk.into_choice();
+    let mut choice = walk.into_choice()?;
     if choice.claims.is_empty() {
         for k in odd(alloc, &block.graph, &rows.graph)? {
             choice.claims.push(Claim { k, what: What::See })?;

@@ -5,7 +5,7 @@ ghost use Rattle.iloc_timed.specs.declared.kind.Kind.TheVariants as kinds;
 ghost use Rattle.iloc_sched.specs.Delays.{keeps_order};
 ghost use Rattle.iloc_reasons.specs.Facts.{IsFact, HasBeenThere};
 ghost use Rattle.iloc_reasons.specs.Steps.Likeness.{TellApart};
-ghost use Rattle.iloc_reasons.specs.Steps.Sides.{AreRead, source_at};
+ghost use Rattle.iloc_reasons.specs.Steps.Sides.{AreNoted, AreRead, source_at};
 
 use crate::fact::Fact;
 use crate::likeness::Terms;
@@ -14,6 +14,7 @@ use crate::terms::at;
 use iloc_ops::{Op, Reg, defines, uses};
 use iloc_timed::Kind;
 use iloc_validation::{Issue, Sources, have_one_label};
+use std::collections::BTreeMap;
 
 /// What may be a fact of operation k of rows.
 #[derive(Clone, Copy, Debug, PartialEq, Eq)]
@@ -31,6 +32,8 @@ pub(crate) enum What {
     ReadsBefore { place: usize, late: usize },
     /// It reads at this place what came over this result, or over the start of the register.
     ReadsOver { place: usize, lost: Option<usize> },
+    /// Its result is never read.
+    NeverRead,
     /// It is on the wrong side of this one.
     Beside { other: usize },
     /// It stands for this one of the block.
@@ -67,7 +70,7 @@ fn register_at(op: &Op, place: usize) -> Option<Reg>
 }
 
 /// What is read at a place, left to right.
-fn source_at(sources: Sources, place: usize) -> Option<usize>
+pub(crate) fn source_at(sources: Sources, place: usize) -> Option<usize>
     ensures { result ≡ source_at sources place }
 {
     match (sources, place) {
@@ -169,6 +172,21 @@ fn replaced(sides: &Sides, k: usize, place: usize, lost: Option<usize>) -> Optio
     })
 }
 
+/// No operation reads the result of operation j.
+fn never_read(sides: &Sides, read: &BTreeMap<usize, usize>, j: usize) -> Option<Fact>
+    requires readings { AreRead sides.now.latencies.now sides.now.schedule.now.ops sides.now.schedule.now.rows sides.now.readings.now }
+    requires noted { AreNoted sides.now.readings.now read.now }
+    ensures { IfSome result (IsFact sides.now.latencies.now sides.now.block.now sides.now.schedule.now.ops
+        sides.now.schedule.now.rows) }
+{
+    let issue = sides.issue(j)?;
+    defines(&issue.op)?;
+    if read.get(&j).is_some() {
+        return None;
+    }
+    Some(Fact::NeverRead { issue })
+}
+
 /// Memory or outputs fix in which order operation k and another one come.
 fn ordered(sides: &Sides, k: usize, other: usize) -> Option<Fact>
     requires { AreRead sides.now.latencies.now sides.now.schedule.now.ops sides.now.schedule.now.rows sides.now.readings.now }
@@ -216,10 +234,16 @@ fn like_none(sides: &Sides, terms: &Terms, k: usize) -> Option<Fact>
 
 impl Claim {
     /// The fact that it claims, if it is one.
-    pub(crate) fn fact(self, sides: &Sides, terms: &Terms) -> Option<Fact>
+    pub(crate) fn fact(
+        self,
+        sides: &Sides,
+        terms: &Terms,
+        read: &BTreeMap<usize, usize>,
+    ) -> Option<Fact>
         requires terms { TellApart sides.now.latencies.now sides.now.block.now sides.now.schedule.now.ops
             sides.now.schedule.now.rows terms.now }
-        requires read { AreRead sides.now.latencies.now sides.now.schedule.now.ops sides.now.schedule.now.rows sides.now.readings.now }
+        requires readings { AreRead sides.now.latencies.now sides.now.schedule.now.ops sides.now.schedule.now.rows sides.now.readings.now }
+        requires noted { AreNoted sides.now.readings.now read.now }
         ensures { IfSome result (IsFact sides.now.latencies.now sides.now.block.now sides.now.schedule.now.ops
             sides.now.schedule.now.rows) }
     {
@@ -228,6 +252,7 @@ impl Claim {
             What::While { store } => under_way(sides, k, store),
             What::ReadsBefore { place, late } => brings(sides, k, place, late),
             What::ReadsOver { place, lost } => replaced(sides, k, place, lost),
+            What::NeverRead => never_read(sides, read, k),
             What::Beside { other } => ordered(sides, k, other),
             What::For { op } => stands_for(sides, k, op),
             What::LikeNone => like_none(sides, terms, k),

@@ -27,6 +27,10 @@ pub enum Fact {
         from: Issue,
         lost: Option<Issue>,
     },
+    /// No operation reads the result of one that defines a register.
+    NeverRead {
+        issue: Issue,
+    },
     /// An operation is issued before or after another one that memory or outputs keep in order with it.
     Order {
         issue: Issue,

@@ -5,6 +5,7 @@ mod choice;
 mod claim;
 mod fact;
 mod likeness;
+mod read;
 mod reasons;
 mod sides;
 mod terms;

@@ -5,17 +5,19 @@ ghost use Rattle.iloc_validation.specs.Lawfulness.{AreLeftOut, AreAdded};
 ghost use Rattle.iloc_reasons.specs.Facts.{IsFact};
 ghost use Rattle.iloc_reasons.specs.Reasons.{AreReasons};
 ghost use Rattle.iloc_reasons.specs.Steps.Likeness.{TellApart};
-ghost use Rattle.iloc_reasons.specs.Steps.Sides.{AreRead};
+ghost use Rattle.iloc_reasons.specs.Steps.Sides.{AreNoted, AreRead};
 
 use crate::choice::{Choice, chosen};
 use crate::claim::Claim;
 use crate::fact::Fact;
 use crate::likeness::{Terms, terms_of};
+use crate::read::read_by_some;
 use crate::sides::Sides;
 use iloc_ops::{Block, NoMemory, Op};
 use iloc_timed::{Latencies, Schedule};
 use iloc_validation::{Added, LeftOut, givens, readings, without_counterpart, without_nops};
 use std::alloc::Global;
+use std::collections::BTreeMap;
 
 /// The most facts that are listed.
 pub const MOST_FACTS: usize = 8;
@@ -45,11 +47,13 @@ fn first_facts(
     alloc: Global,
     sides: &Sides,
     terms: &Terms,
+    read: &BTreeMap<usize, usize>,
     claims: &[Claim],
 ) -> Result<FirstFacts, NoMemory>
     requires terms { TellApart sides.now.latencies.now sides.now.block.now sides.now.schedule.now.ops
         sides.now.schedule.now.rows terms.now }
-    requires read { AreRead sides.now.latencies.now sides.now.schedule.now.ops sides.now.schedule.now.rows sides.now.readings.now }
+    requires readings { AreRead sides.now.latencies.now sides.now.schedule.now.ops sides.now.schedule.now.rows sides.now.readings.now }
+    requires noted { AreNoted sides.now.readings.now read.now }
     ensures facts { IfOk result (λ listed. All (IsFact sides.now.latencies.now sides.now.block.now sides.now.schedule.now.ops
         sides.now.schedule.now.rows) listed.facts.items) }
     ensures few { IfOk result (λ listed. length listed.facts.items ≤ 8) }
@@ -57,7 +61,7 @@ fn first_facts(
     let mut facts = Vec::new(alloc);
     let mut more: usize = 0;
     for claim in claims {
-        if let Some(fact) = claim.fact(sides, terms) {
+        if let Some(fact) = claim.fact(sides, terms, read) {
             if facts.len() < MOST_FACTS {
                 facts.push(fact)?;
             } else {
@@ -118,12 +122,13 @@ pub fn reasons_of(
         latencies,
     };
     let terms = terms_of(alloc, &sides)?;
+    let read = read_by_some(alloc, &readings)?;
     let Choice {
         claims,
         left_out: missing,
         added: extra,
-    } = chosen(alloc, &sides)?;
-    let FirstFacts { facts, more } = first_facts(alloc, &sides, &terms, &claims)?;
+    } = chosen(alloc, &sides, &read)?;
+    let FirstFacts { facts, more } = first_facts(alloc, &sides, &terms, &read, &claims)?;
     Ok(Reasons {
         left_out: left_out(alloc, &sides, missing)?,
         added: added(alloc, &sides, extra)?,

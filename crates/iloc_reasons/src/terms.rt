@@ -99,6 +99,16 @@ impl Values {
         }
     }
 
+    /// The number at a place, left to right.
+    pub(crate) fn at(self, place: usize) -> Option<u64> {
+        match (self, place) {
+            (Values::One(only), 0) => Some(only),
+            (Values::Two(left, _), 0) => Some(left),
+            (Values::Two(_, right), 1) => Some(right),
+            _ => None,
+        }
+    }
+
     /// At how many places they differ from others.
     pub(crate) fn differing(self, others: Values) -> u32 {
         match (self, others) {

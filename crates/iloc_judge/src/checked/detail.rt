@@ -111,8 +111,8 @@ fn push_comparison(text: &mut Vec<u8>, comparison: &Comparison) -> Result<(), No
     Ok(text.extend_from_slice(b"\n")?)
 }
 
-/// Appends the line of a row that breaks the rules of the units.
-pub(crate) fn push_bad_row(
+/// Promise: appends the line of this row, as one that breaks the rules of the units.
+pub fn push_bad_row(
     text: &mut Vec<u8>,
     ops: &[Op],
     rows: &[Row],

@@ -147,6 +147,10 @@ fn push_fact_words(text: &mut Vec<u8>, fact: &Fact) -> Result<(), NoMemory>
             from,
             lost,
         } => push_replaced(text, issue, register, from, lost),
+        Fact::NeverRead { issue } => {
+            push_issue(text, issue)?;
+            Ok(text.extend_from_slice(b", whose result is never read")?)
+        }
         Fact::Order { issue, other } if issue.cycle < other.cycle => {
             push_both(text, issue, " before ", other)
         }

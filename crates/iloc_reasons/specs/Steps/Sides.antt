@@ -1,5 +1,7 @@
 -- A block and rows for it, with what their operations read.
-use Rattle.std.specs.Prelude.{ℕ, zero, suc, ◌≡◌, ◌<◌, List, length, Option, None}
+use Rattle.std.specs.Prelude.{ℕ, zero, suc, ◌≡◌, ◌≢◌, ◌<◌, List, length, Option, None, IfSome}
+use Rattle.std.specs.BTreeMap.{BTreeMap, get}
+use Rattle.std.specs.Ordering.{nat_cmp}
 use Rattle.iloc_ops.specs.declared.op.Op.{Op}
 use Rattle.iloc_ops.specs.Registers.{used}
 use Rattle.iloc_meaning.specs.Trace.{op_at}
@@ -33,3 +35,12 @@ source_at (One only) zero = only
 source_at (Two left right) zero = left
 source_at (Two left right) (suc zero) = right
 source_at _ place = None
+
+-- what is read is among these
+abbrev pub IsNoted : BTreeMap ℕ ℕ → Option ℕ → Type 0
+IsNoted noted source = IfSome source (λ j. get nat_cmp noted j ≢ None)
+
+-- all that operations read is
+abbrev pub AreNoted : List Reading → BTreeMap ℕ ℕ → Type 0
+AreNoted readings noted = (k : ℕ) → k < length readings
+    → IsNoted noted (source_at (reading_at readings k).sources 0) × IsNoted noted (source_at (reading_at readings k).sources 1)

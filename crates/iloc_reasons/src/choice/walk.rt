@@ -5,10 +5,11 @@ use super::graph::{Place, put};
 use super::guesses::{Definers, Looking, Pick};
 use super::missing::{Missing, Wanted};
 use super::side::{Side, has};
-use crate::claim::{Claim, What};
+use super::strays::Strays;
+use crate::claim::{Claim, What, source_at};
 use crate::sides::Sides;
 use crate::terms::{Values, at, mix};
-use iloc_ops::NoMemory;
+use iloc_ops::{NoMemory, uses};
 use iloc_timed::{Kind, Row};
 use std::alloc::Global;
 
@@ -41,6 +42,7 @@ pub(crate) struct Walk<'a> {
     pub definers: Definers,
     /// By operation of the rows what it is meant to bring.
     pub meant: Vec<u64>,
+    pub strays: Strays<'a>,
     /// The store that was issued last.
     pub store: Option<usize>,
     /// The stores and the outputs of the rows, as they are issued.
@@ -84,6 +86,7 @@ impl Walk<'_> {
             if let Some(k) = slot {
                 self.wait(k)?;
                 self.step(k)?;
+                self.strays.note(k, at(&self.meant, k))?;
             }
         }
         Ok(())
@@ -126,7 +129,9 @@ impl Walk<'_> {
         }
         match self.counterpart(k, values)? {
             Some(i) => {
-                self.claim(k, What::For { op: i })?;
+                if !self.strayed(k, values, i)? {
+                    self.claim(k, What::For { op: i })?;
+                }
                 self.take(k, i);
             }
             None => {
@@ -155,6 +160,35 @@ impl Walk<'_> {
             readers: at(&self.rows.readers, k),
         };
         self.missing.nearest(self.block, &wanted)
+    }
+
+    /// Whether results that are never read are all that operation k reads otherwise than operation i of the block; then it is
+    /// said of these.
+    fn strayed(&mut self, k: usize, values: Values, i: usize) -> Result<bool, NoMemory> {
+        let theirs = Values::of(&self.block.terms, self.block.graph.sources(i));
+        let mut found = [None, None];
+        for place in 0..2 {
+            if theirs.at(place) != values.at(place) {
+                found[place] = self.unread_instead(k, place, i);
+                if found[place].is_none() {
+                    return Ok(false);
+                }
+            }
+        }
+        for unread in found {
+            if let Some(u) = unread {
+                self.claim(u, What::NeverRead)?;
+            }
+        }
+        Ok(found != [None, None])
+    }
+
+    /// The operation whose result operation k was to read at a place if it is operation i of the block, and that is never read.
+    fn unread_instead(&self, k: usize, place: usize, i: usize) -> Option<usize> {
+        let op = self.sides.schedule.ops().get(k)?;
+        let register = uses(op).get(place).copied()?;
+        let source = source_at(self.block.graph.sources(i), place)?;
+        self.strays.instead(register, at(&self.block.terms, source))
     }
 
     /// The cheapest change that makes operation k one that is missing.
@@ -244,12 +278,33 @@ impl Walk<'_> {
         self.stores.get(place).copied()
     }
 
+    /// What was claimed, by row, each once.
+    fn by_row(&self) -> Result<Vec<Claim>, NoMemory> {
+        let mut order = Vec::with_capacity(self.alloc, self.claims.len())?;
+        for (place, claim) in self.claims.iter().enumerate() {
+            let cycle = self.sides.cycles(claim.k).map_or(0, |cycles| cycles.0);
+            order.push((cycle, claim.k, place))?;
+        }
+        order.sort_unstable();
+        let mut claims: Vec<Claim> = Vec::with_capacity(self.alloc, order.len())?;
+        for (_, _, place) in &order {
+            if let Some(claim) = self.claims.get(*place)
+                && claims.last() != Some(claim)
+            {
+                claims.push(*claim)?;
+            }
+        }
+        Ok(claims)
+    }
+
     /// What was claimed; of those that are missing the first that is short is named.
-    pub(crate) fn into_choice(self) -> Choice {
+    pub(crate) fn into_choice(self) -> Result<Choice, NoMemory> {
+        let claims = self.by_row()?;
         let Walk {
             alloc: _,
             sides: _,
             block: _,
+            strays: _,
             rows: _,
             counterparts: _,
             missing,
@@ -258,13 +313,13 @@ impl Walk<'_> {
             store: _,
             stores: _,
             outputs: _,
-            claims,
+            claims: _,
             unlike,
         } = self;
-        Choice {
+        Ok(Choice {
             claims,
             left_out: missing.first_short(),
             added: unlike,
-        }
+        })
     }
 }

@@ -1,60 +1,37 @@
-use Rattle.std.proofs.Common.{◌∙◌, refl}
-use Rattle.iloc_timed.proofs.Standing.{numbered_from}
+use Rattle.std.proofs.Common.{refl}
 use Rattle.iloc_judge.specs.declared.checked.Checked.{Checked}
 use Rattle.iloc_judge.specs.Listing.{entry_as}
 use Rattle.iloc_judge.proofs.Counted.{verdict_listed}
 use Rattle.iloc_judge.proofs.checked.push_check.Goals as goal
 
-pub judge-requires-clause-in_range : goal.judge-requires-clause-in_range
-judge-requires-clause-in_range c =
-    let ops = c.in_ok-their_ops.ensures.items ∙ c.as_slice-ops.ensures in
-    let rows = c.in_ok-their_rows.ensures.items ∙ c.as_slice-rows.ensures.rows in
-    rw (ops, rows) c.requires.in_range
-
-pub judge-requires-clause-once : goal.judge-requires-clause-once
-judge-requires-clause-once c =
-    let ops = c.in_ok-their_ops.ensures.items ∙ c.as_slice-ops.ensures in
-    let rows = c.in_ok-their_rows.ensures.items ∙ c.as_slice-rows.ensures.rows in
-    rw (ops, rows) c.requires.once
-
-pub cycles_of-requires-clause-numbered : goal.cycles_of-requires-clause-numbered
-cycles_of-requires-clause-numbered c =
-    rw (c.as_slice-ops.ensures, c.as_slice-rows.ensures.rows)
-    (numbered_from c.args.proposal.ops c.args.proposal.rows c.requires.in_range c.requires.once)
-
 pub push_entry-requires : goal.push_entry-requires
 push_entry-requires c =
-    let ops = c.in_ok-their_ops.ensures.items ∙ c.as_slice-ops.ensures in
-    let rows = c.in_ok-their_rows.ensures.items ∙ c.as_slice-rows.ensures.rows in
-    verdict_listed c.args.outputs_alone c.args.latencies.now c.args.memory.now c.args.block.now.ops
-    c.args.proposal.ops c.args.proposal.rows c.in_ok-verdict.verdict c.requires.few c.as_slice-rows.ensures.few
-    (rw (ops, rows) at c.in_ok-verdict.ensures.right)
+    let task = c.args.task.now in
+    rw c.rows-rows.ensures.rows
+    (verdict_listed c.args.judging.now.outputs_alone task.latencies.now c.args.judging.now.memory.now task.block.now.ops
+    c.into_schedule-theirs.result.ops c.into_schedule-theirs.result.rows c.in_ok-verdict.verdict task.few c.rows-rows.ensures.few
+    c.in_ok-verdict.ensures.right)
 
 pub returns : goal.returns
 returns c =
-    let ops = c.in_ok-their_ops.ensures.items ∙ c.as_slice-ops.ensures in
-    let rows = c.in_ok-their_rows.ensures.items ∙ c.as_slice-rows.ensures.rows in
+    let p = c.args.proposal in
+    let task = c.args.task.now in
+    let judging = c.args.judging.now in
+    let ops = c.into_schedule-theirs.ensures.ops in
+    let rows = c.into_schedule-theirs.ensures.rows in
     let checked : Checked = record {
       kind = c.kind_of.result;
-      cycles = c.cycles_of.result;
-      ours = c.cycles.result;
-      least = c.args.least;
+      cycles = c.cycles.result;
+      ours = c.cycles-2.result;
+      least = task.least;
     } in (
-      entry_as c.args.lawful c.args.csv c.args.proposal c.in_ok-verdict.verdict checked,
+      entry_as judging.lawful judging.csv p.claimed p.ops p.rows c.in_ok-verdict.verdict checked,
       record {
         verdict = c.in_ok-verdict.verdict;
         right = rw (ops, rows) at c.in_ok-verdict.ensures.right;
         own = rw (ops, rows) at c.in_ok-verdict.ensures.own;
-        is_found =
-            rw (
-              c.kind_of.ensures,
-              c.cycles_of.ensures,
-              c.as_slice-ops.ensures,
-              c.as_slice-rows.ensures.rows,
-              c.cycles.ensures,
-              c.requires.least,
-            ) refl;
+        is_found = rw (c.kind_of.ensures, c.cycles.ensures, ops, rows, c.cycles-2.ensures, task.bound) refl;
         listed = refl;
       },
-      c.in_ok-push_entry.ensures,
+      rw (c.ops-ops.ensures.ops, c.rows-rows.ensures.rows, ops, rows, c.claimed-claimed.ensures) at c.in_ok-push_entry.ensures,
     )

@@ -8,36 +8,31 @@ use Rattle.iloc_judge.proofs.unread.push_unread.Goals as goal
 
 pub cycles_of-requires-clause-numbered : goal.cycles_of-requires-clause-numbered
 cycles_of-requires-clause-numbered c =
-    rw (c.as_slice-ops.ensures, c.as_slice-rows.ensures.rows)
-    (numbered_from c.args.proposal.now.ops c.args.proposal.now.rows c.requires.in_range c.requires.once)
+    rw (c.ops-ops.ensures, c.rows-rows.ensures.rows)
+    (numbered_from c.args.proposal.now.ops c.args.proposal.now.rows c.rows-rows.ensures.in_range c.rows-rows.ensures.once)
 
 pub returns : goal.returns
 returns c =
+    let p = c.args.proposal.now in
     let checked : Checked = record {
       kind = Unread;
       cycles = c.cycles_of.result;
       ours = c.cycles.result;
-      least = c.args.least;
+      least = c.args.task.now.least;
     } in
-    let line = line_of checked c.args.proposal.now.claimed in
+    let line = line_of checked p.claimed in
     let row = c.in_ok-push_unread_row.ensures in
     let told = unread_told c.args.unread.now.row row.0 in (
-      unread_as false checked c.args.proposal.now.claimed c.args.unread.now.row row.0,
+      unread_as false checked p.claimed c.args.unread.now.row row.0,
       record {
         unread = c.args.unread.now;
         first = c.requires.first;
         is_found =
-            rw (
-              c.cycles_of.ensures,
-              c.as_slice-ops.ensures,
-              c.as_slice-rows.ensures.rows,
-              c.cycles.ensures,
-              c.requires.least,
-            ) refl;
+            rw (c.cycles_of.ensures, c.ops-ops.ensures, c.rows-rows.ensures.rows, c.cycles.ensures, c.args.task.now.bound) refl;
         words = row.0;
         listed = rw c.if-csv.false refl;
       },
       row.1
-          ∙ ap (λ xs. xs ++ told) c.in_ok-push_line.ensures
+          ∙ ap (λ xs. xs ++ told) (rw c.claimed-claimed.ensures at c.in_ok-push_line.ensures)
           ∙ append_assoc c.args.text.now.items line told,
     )

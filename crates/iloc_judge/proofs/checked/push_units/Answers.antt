@@ -1,0 +1,37 @@
+use Rattle.std.proofs.Common.{refl}
+use Rattle.iloc_timed.proofs.Standing.{numbered_from}
+use Rattle.iloc_judge.specs.declared.checked.Checked.{Checked}
+use Rattle.iloc_judge.specs.declared.verdict.Verdict.TheVariants.{Units}
+use Rattle.iloc_judge.specs.declared.verdict.kind.VerdictKind.TheVariants as kind
+use Rattle.iloc_judge.specs.Listing.{entry_as}
+use Rattle.iloc_judge.proofs.OwnRows.{own_rows_keep_units}
+use Rattle.iloc_judge.proofs.checked.push_units.Goals as goal
+
+pub cycles_of-requires-clause-numbered : goal.cycles_of-requires-clause-numbered
+cycles_of-requires-clause-numbered c =
+    rw (c.ops-ops.ensures, c.rows-rows.ensures.rows)
+    (numbered_from c.args.proposal.now.ops c.args.proposal.now.rows c.rows-rows.ensures.in_range c.rows-rows.ensures.once)
+
+pub returns : goal.returns
+returns c =
+    let p = c.args.proposal.now in
+    let task = c.args.task.now in
+    let judging = c.args.judging.now in
+    let checked : Checked = record {
+      kind = kind.Units;
+      cycles = c.cycles_of.result;
+      ours = c.cycles.result;
+      least = task.least;
+    } in (
+      entry_as judging.lawful judging.csv p.claimed p.ops p.rows (Units c.args.row) checked,
+      record {
+        verdict = Units c.args.row;
+        right = c.requires;
+        own = λ same. absurd (own_rows_keep_units task.latencies.now task.block.now.ops task.ours.now.ops p.ops
+            task.ours.now.rows p.rows c.args.row task.lawful c.rows-rows.ensures.in_range c.rows-rows.ensures.once same c.requires);
+        is_found =
+            rw (c.cycles_of.ensures, c.ops-ops.ensures, c.rows-rows.ensures.rows, c.cycles.ensures, task.bound) refl;
+        listed = refl;
+      },
+      rw (c.ops-ops.ensures, c.rows-rows.ensures.rows, c.claimed.ensures) at c.in_ok-push_entry.ensures,
+    )

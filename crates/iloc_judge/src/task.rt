@@ -1,0 +1,40 @@
+//! What proposals are judged beside, and how.
+ghost use Rattle.std.specs.Prelude.{◌≡◌, ◌≤◌, length};
+ghost use Rattle.iloc_ops.specs.Limits.{MAX_OPS};
+ghost use Rattle.iloc_sched.specs.Lawful.{IsLawful};
+ghost use Rattle.iloc_sched.specs.Least as bound;
+
+use iloc_meaning::Memory;
+use iloc_ops::Block;
+use iloc_timed::{Latencies, Schedule};
+
+/// A block that somebody proposes rows for, and what we know of it.
+#[derive(Drop)]
+pub struct Task<'a> {
+    /// The block, of 10,000 operations at most.
+    pub block: &'a Block,
+    /// Our schedule of it.
+    pub ours: &'a Schedule,
+    /// How many cycles each lawful schedule takes at least.
+    pub least: u64,
+    /// The latencies of the machine.
+    pub latencies: &'a Latencies,
+    pub ghost few: { length block.now.ops ≤ MAX_OPS },
+    pub ghost lawful: { IsLawful latencies.now block.now.ops ours.now.ops ours.now.rows },
+    pub ghost bound: { least ≡ bound.least latencies.now block.now.ops },
+}
+
+/// How what is proposed for blocks is judged, and listed.
+#[derive(Drop)]
+pub struct Judging<'a> {
+    /// Whether nothing but rows by the book passes.
+    pub lawful: bool,
+    /// Whether a table is listed.
+    pub csv: bool,
+    /// Whether rows are compared with their block by outputs and faults alone, and not by outcomes.
+    pub outputs_alone: bool,
+    /// The memory that is handed in.
+    pub memory: &'a Memory,
+    /// How many blocks are judged. The more there are, the fewer memories are made up for each.
+    pub blocks: usize,
+}

@@ -1,0 +1,8 @@
+use Rattle.std.proofs.Common.{arith}
+use Rattle.iloc_lint.proofs.Begins.{comes_next}
+use Rattle.iloc_lint.proofs.row.found_at.Goals as goal
+
+pub returns : goal.returns
+returns c =
+    comes_next c.args.bytes.now c.after_blanks-rest.result.now c.shown_at.result c.after_blanks-rest.ensures c.shown_at.ensures.some
+    (omega (arith, c.shown_at.ensures.some, c.shown_at.ensures.within))

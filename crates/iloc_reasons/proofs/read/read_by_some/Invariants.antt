@@ -1,0 +1,8 @@
+use Rattle.std.proofs.Common.{◌<◌, ℕ}
+use Rattle.iloc_validation.specs.Readings.{reading_at}
+use Rattle.iloc_reasons.specs.Steps.Sides.{IsNoted, source_at}
+use Rattle.iloc_reasons.proofs.read.read_by_some.Given as goal
+
+abbrev pub invariant-loop-k : goal.invariant-loop-k
+invariant-loop-k l = (i : ℕ) → i < l.k → IsNoted l.read (source_at (reading_at l.readings i).sources 0)
+    × IsNoted l.read (source_at (reading_at l.readings i).sources 1)
