@@ -1,13 +1,24 @@
 -- An argument or a command with one setting, argument or subcommand more.
-use Rattle.std.proofs.Common.{◌≡◌, ◌∙◌, ◌||◌, Bool, Err, List, Ok, Result, ap, [], ◌∷◌, false, fold, refl}
-use Rattle.std.specs.Result.{IfOk, IsOkAnd}
+use Rattle.std.proofs.Common.{◌≡◌, ◌∙◌, ◌||◌, ◌+◌, ◌<◌, ◌++◌, ℕ, Bool, List, Option, Some, ap, arith, cond, [], ◌∷◌, false, get_or, length, map, refl, subst, sym, suc, take, true}
+use Rattle.std.specs.Prelude.{find, option_map}
+use Rattle.std.specs.Str.{bytes_eq}
+use Rattle.std.proofs.Math.Seq.{take-suc}
+use Rattle.std.proofs.lemmas.List.{map-append}
+use Rattle.std.proofs.lemmas.List.Sums.{fold-append}
 use Rattle.clap.specs.Simple.{Shape, app_of_fields, on_top}
 use Rattle.clap.specs.Words.{AddsArg, AddsSubcommand, App, Rule, app_of, rule_of, with_rule, with_subcommand}
 use Rattle.clap.specs.declared.builder.arg.Arg.{Arg}
 use Rattle.clap.specs.declared.builder.command.Command.{Command}
 use Rattle.clap.specs.declared.builder.command.Command.TheOpen.{Command-F}
 use Rattle.clap.specs.declared.builder.command.Command.TheViews.{out-Command}
-use Rattle.iloc_args.specs.Steps.Building.{AddsArgument, AddsRules, HasApp, HasRule}
+use Rattle.clap.specs.Simple.{new_shape}
+use Rattle.clap.specs.Words.{Text}
+use Rattle.iloc_args.specs.Asked.{task_among}
+use Rattle.iloc_args.specs.declared.request.Task.{Task}
+use Rattle.iloc_args.specs.Command.{Subcommand, top_shape}
+use Rattle.iloc_args.specs.declared.command.Argument.{Argument}
+use Rattle.iloc_args.specs.declared.command.Entry.{Entry}
+use Rattle.iloc_args.specs.Steps.Building.{HasApp, HasRule, alone, app_for, app_with, subcommand_for, rule_for, with_arguments}
 
 -- a setting of an argument
 pub set_rule : (change : Rule → Rule) (r : Rule) (old new set : Arg) → HasRule r old → new ≡ set
@@ -45,51 +56,7 @@ more_rule a r old arg new had rule adds = record {
   globals = neither _ _ _ adds.globals had.globals rule.global;
 }
 
-pub if_more_rule : {E : Type 0} (a : App) (r : Rule) (old : Command) (arg : Arg) (result : Result Command E)
-    → HasApp a old → HasRule r arg
-    → IfOk result (AddsArg old arg) → IfOk result (HasApp (with_rule a r))
-if_more_rule a r old arg (Ok new) had rule adds = more_rule a r old arg new had rule adds
-if_more_rule a r old arg (Err e) had rule adds = tt
-
--- an argument, after those of a command that could be made
-pub one_argument : {E : Type 0} (command result : Result Command E) (old : Command) (arg : Arg) → command ≡ Ok old
-    → IfOk result (AddsArg old arg) → IfOk result (λ new. IsOkAnd command (λ c. AddsArgument arg c new))
-one_argument command (Ok new) old arg made adds = rw made (λ rule has. record {
-  app = λ a had. more_rule a rule old arg new had has adds;
-})
-one_argument command (Err e) old arg made adds = tt
-
-pub if_one_argument : {E : Type 0} (a : App) (r : Rule) (old result : Result Command E) (arg : Arg) → IfOk old (HasApp a)
-    → HasRule r arg
-    → IfOk result (λ new. IsOkAnd old (λ c. AddsArgument arg c new)) → IfOk result (HasApp (with_rule a r))
-if_one_argument a r (Ok old) (Ok new) arg had rule adds = (adds r rule).app a had
-if_one_argument a r (Err e) (Ok new) arg had rule adds = absurd adds
-if_one_argument a r old (Err e) arg had rule adds = tt
-
--- three arguments, after those of a command that could be made
-pub three_rules : {E : Type 0} (r1 r2 r3 : Rule) (command result : Result Command E) (old one two : Command)
-    (a1 a2 a3 : Arg)
-    → command ≡ Ok old
-    → HasRule r1 a1 → HasRule r2 a2 → HasRule r3 a3
-    → AddsArg old a1 one → AddsArg one a2 two → IfOk result (AddsArg two a3)
-    → IfOk result (λ new. IsOkAnd command (λ c. AddsRules (r1 ∷ r2 ∷ r3 ∷ []) c new))
-three_rules r1 r2 r3 command (Ok new) old one two a1 a2 a3 made h1 h2 h3 adds1 adds2 adds3 = rw made (record {
-  app = λ a had.
-      let first = more_rule a r1 old a1 one had h1 adds1 in
-      let second = more_rule _ r2 one a2 two first h2 adds2 in
-      more_rule _ r3 two a3 new second h3 adds3;
-})
-three_rules r1 r2 r3 command (Err e) old one two a1 a2 a3 made h1 h2 h3 adds1 adds2 adds3 = tt
-
--- arguments after those of a command that could be made
-pub if_more_rules : {E : Type 0} (a : App) (rules : List Rule) (old result : Result Command E)
-    → IfOk old (HasApp a)
-    → IfOk result (λ new. IsOkAnd old (λ c. AddsRules rules c new)) → IfOk result (HasApp (fold with_rule a rules))
-if_more_rules a rules (Ok old) (Ok new) had adds = adds.app a had
-if_more_rules a rules (Err e) (Ok new) had adds = absurd adds
-if_more_rules a rules old (Err e) had adds = tt
-
-more_command : (a s : App) (old sub new : Command) → HasApp a old → HasApp s sub → AddsSubcommand old sub new
+pub more_command : (a s : App) (old sub new : Command) → HasApp a old → HasApp s sub → AddsSubcommand old sub new
     → HasApp (with_subcommand a s.top) new
 more_command a s old sub new had has adds = record {
   app = adds.shape has.globals ∙ (ap (λ x. with_subcommand x (app_of sub).top) had.app
@@ -97,12 +64,49 @@ more_command a s old sub new had has adds = record {
   globals = neither _ _ _ adds.globals had.globals has.globals;
 }
 
--- a subcommand, if both could be made
-pub if_more_command : {E : Type 0} (a s : App) (old sub result : Result Command E) → IfOk old (HasApp a)
-    → IfOk sub (HasApp s)
-    → IfOk result (λ new. IsOkAnd old (λ c. IsOkAnd sub (λ d. AddsSubcommand c d new)))
-    → IfOk result (HasApp (with_subcommand a s.top))
-if_more_command a s (Ok old) (Ok sub) (Ok new) had has adds = more_command a s old sub new had has adds
-if_more_command a s (Ok old) (Err e) (Ok new) had has adds = absurd adds
-if_more_command a s (Err e) sub (Ok new) had has adds = absurd adds
-if_more_command a s old sub (Err e) had has adds = tt
+next : {A B : Type 0} (f : A → B) (xs : List A) (i : ℕ) (d : A) → i < length xs
+    → map f (take (i + 1) xs) ≡ map f (take i xs) ++ f (get_or xs i d) ∷ []
+next f xs i d within =
+    let after : i + 1 ≡ suc i = omega arith in
+    ap (λ n. map f (take n xs)) after ∙ (ap (map f) (take-suc xs i d within) ∙ map-append f (take i xs) (get_or xs i d ∷ []))
+
+-- a command with its next argument
+pub next_argument : (name : Text) (arguments : List Argument) (i : ℕ) (d : Argument) (old : Command) (arg : Arg) (new : Command)
+    → i < length arguments → HasApp (with_arguments name (take i arguments)) old
+    → HasRule (rule_for (get_or arguments i d)) arg → AddsArg old arg new
+    → HasApp (with_arguments name (take (i + 1) arguments)) new
+next_argument name arguments i d old arg new within had rule adds =
+    let P : List Rule → Type 0 = λ rs. HasApp (alone (record (new_shape name) { rules = rs })) new in
+    subst P (sym (next rule_for arguments i d within)) (more_rule _ _ old arg new had rule adds)
+
+-- the program with its next command
+pub next_command : (entries : List Entry) (i : ℕ) (d : Entry) (old sub new : Command) → i < length entries
+    → HasApp (app_with (take i entries)) old → HasApp (app_for (get_or entries i d)) sub → AddsSubcommand old sub new
+    → HasApp (app_with (take (i + 1) entries)) new
+next_command entries i d old sub new within had has adds =
+    let after : i + 1 ≡ suc i = omega arith in
+    let P : List Entry → Type 0 = λ rs. HasApp (app_with rs) new in
+    let step = fold-append (λ a r. with_subcommand a (app_for r).top) (alone top_shape) (take i entries) (get_or entries i d ∷ []) in
+    subst P (sym (ap (λ n. take n entries) after ∙ take-suc entries i d within))
+    (subst (λ a. HasApp a new) (sym step) (more_command _ _ old sub new had has adds))
+
+same_task : (entries : List Entry) (name : Text)
+    → option_map (λ (r : Entry). r.task) (find (λ (r : Entry). bytes_eq r.name.now name) entries)
+    ≡ task_among (map subcommand_for entries) name
+same_task [] name = refl
+same_task (r ∷ entries) name = go (bytes_eq r.name.now name) (same_task entries name)
+  where
+    go : (b : Bool)
+        → option_map (λ (x : Entry). x.task) (find (λ (x : Entry). bytes_eq x.name.now name) entries)
+        ≡ task_among (map subcommand_for entries) name
+        → option_map (λ (x : Entry). x.task) (cond b (Some r) (find (λ (x : Entry). bytes_eq x.name.now name) entries))
+        ≡ option_map (λ (e : Subcommand). e.task)
+        (cond b (Some (subcommand_for r)) (find (λ (e : Subcommand). bytes_eq e.name name) (map subcommand_for entries)))
+    go true rest = refl
+    go false rest = rest
+
+-- the task of the row of a name is that of the command that it stands for
+pub found_in : (entries : List Entry) (name : Text) (found : Option Task)
+    → found ≡ option_map (λ (r : Entry). r.task) (find (λ (r : Entry). bytes_eq r.name.now name) entries)
+    → found ≡ task_among (map subcommand_for entries) name
+found_in entries name found is = is ∙ same_task entries name

@@ -6,7 +6,7 @@ use Rattle.std.specs.Str.{bytes_eq}
 use Rattle.std.specs.Str.Parse.{digits_value, without_leading_plus}
 use Rattle.std.specs.String.{string_bytes}
 use Rattle.clap.specs.Words.{Row, Text, first_of, many_of, one_of, subcommand_of}
-use Rattle.iloc_args.specs.Command.{entries, farm_app}
+use Rattle.iloc_args.specs.Command.{Subcommand, entries, farm_app}
 use Rattle.iloc_args.specs.Priority.{priority_word}
 use Rattle.iloc_args.specs.declared.request.Request.{Request}
 use Rattle.iloc_args.specs.declared.request.Task.{Task}
@@ -83,9 +83,13 @@ asked_as task rows = record {
   either_slot = flag_in (codes "either-slot") rows;
 }
 
+-- the task of the first of these commands that has this name
+abbrev pub task_among : List Subcommand → Text → Option Task
+task_among commands name = option_map (λ e. e.task) (find (λ e. bytes_eq e.name name) commands)
+
 -- the task of the command of this name
 abbrev pub task_named : Text → Option Task
-task_named name = option_map (λ e. e.task) (find (λ e. bytes_eq e.name name) entries)
+task_named name = task_among entries name
 
 -- what the command of this name asks for, by the matches of its arguments
 abbrev pub asked_by : Text × List Row → Option Asked

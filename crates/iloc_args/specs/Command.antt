@@ -96,12 +96,12 @@ simulate_entry = record {
   rules = at_rule ∷ words_rule ∷ latency_rules ++ priority_rule ∷ [];
 }
 
--- `trace [--at N] [WORD].. [--load N] [--store N] [--mult N] [--priority NAME]`
+-- `trace [--at N] [WORD].. [--load N] [--store N] [--mult N] [--priority NAME] [--task FILE] [--either-slot]`
 abbrev pub trace_entry : Subcommand
 trace_entry = record {
   name = codes "trace";
   task = Trace;
-  rules = at_rule ∷ words_rule ∷ latency_rules ++ priority_rule ∷ [];
+  rules = at_rule ∷ words_rule ∷ latency_rules ++ priority_rule ∷ task_rule ∷ either_slot_rule ∷ [];
 }
 
 -- `schedule [--workers N] [--load N] [--store N] [--mult N] [--priority NAME]`

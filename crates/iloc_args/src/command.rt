@@ -1,15 +1,15 @@
 //! The program's command line, as the parser reads it.
-ghost use Rattle.std.specs.Prelude.{IfOk, IsOkAnd, codes};
+ghost use Rattle.std.specs.Prelude.{◌≡◌, IfOk, codes, find, map};
 ghost use Rattle.clap.specs.Simple.{new_shape};
-ghost use Rattle.clap.specs.Words.{AddsSubcommand};
-ghost use Rattle.iloc_args.specs.Command.{at_rule, check_entry, compare_entry, counts_entry, csv_rule, either_slot_rule, explain_entry};
-ghost use Rattle.iloc_args.specs.Command.{farm_app, flag_rule, latency_rule, latency_rules, lawful_rule};
-ghost use Rattle.iloc_args.specs.Command.{outputs_rule, priority_rule, run_entry, schedule_entry, simulate_entry};
-ghost use Rattle.iloc_args.specs.Command.{graph_entry, lint_entry};
-ghost use Rattle.iloc_args.specs.Command.{task_rule, text_rule, top_shape, trace_entry, words_rule, workers_rule};
-ghost use Rattle.iloc_args.specs.Steps.Building.{AddsArgument, AddsRules, HasApp, HasRule, alone, app};
-ghost use Rattle.iloc_args.specs.Steps.Building.{memory_shape, option_rule, workers_shape};
+ghost use Rattle.std.specs.Str.{bytes_eq};
+ghost use Rattle.iloc_args.specs.declared.command.Entry.{Entry as entry_value};
+ghost use Rattle.iloc_args.specs.Asked.{task_among, task_named};
+ghost use Rattle.iloc_args.specs.Command.{at_rule, csv_rule, either_slot_rule, farm_app, flag_rule, latency_rule, lawful_rule};
+ghost use Rattle.iloc_args.specs.Command.{outputs_rule, priority_rule, task_rule, text_rule, top_shape, words_rule, workers_rule};
+ghost use Rattle.iloc_args.specs.Steps.Building.{HasApp, HasRule, alone, option_rule, rule_for, app_for, app_with, subcommand_for};
 
+use crate::priority::HELP;
+use crate::request::Task;
 use clap::builder::ValueParser;
 use clap::{Arg, ArgAction, Command, value_parser};
 use iloc_meaning::LAST_ADDRESS;
@@ -30,7 +30,7 @@ Exit status:
   2  a mistake in the command line
   3  no memory, or a worker could not be started
   4  reading or writing failed
-  5  check, explain --task: the rows for a block do not pass
+  5  check, explain --task, trace --task: the rows for a block do not pass
 
 Manual:
   man ilocfarm; in the repository man/ilocfarm.1 and docs/LANGUAGE.md";
@@ -170,13 +170,7 @@ fn mult_arg<'a>(alloc: Global) -> Arg<'a>
 fn priority_arg<'a>(alloc: Global) -> Arg<'a>
     ensures { HasRule priority_rule result }
 {
-    text_arg(
-        alloc,
-        "priority",
-        "NAME",
-        "What goes first: chain, slack, descendants, successors, latency or order",
-    )
-    .default_value("chain")
+    text_arg(alloc, "priority", "NAME", HELP).default_value("chain")
 }
 
 /// `--csv`
@@ -231,27 +225,189 @@ fn either_slot_arg<'a>(alloc: Global, help: &'a str) -> Arg<'a>
     flag_arg(alloc, "either-slot", help)
 }
 
-/// The command with this argument after its own, if it could be made.
-fn with_arg<'a>(
-    command: Result<Command<'a>, AllocError>,
-    arg: Arg<'a>,
-) -> Result<Command<'a>, AllocError>
-    ensures { IfOk result (λ new. IsOkAnd command.entry (λ old. AddsArgument arg.entry old new)) }
-{
-    command?.arg(arg)
+/// An argument of a command.
+#[derive(Clone, Copy)]
+enum Argument {
+    At,
+    Words,
+    Workers,
+    Load,
+    Store,
+    Mult,
+    Priority,
+    Csv,
+    Task,
+    Lawful,
+    Outputs,
+    EitherSlot,
+    /// `--either-slot` of a command that reads rows with `--task` alone.
+    EitherSlotWithTask,
 }
 
-/// The command with `[--load N] [--store N] [--mult N]` after its arguments, if it could be made.
-fn with_latencies<'a>(
-    alloc: Global,
-    command: Result<Command<'a>, AllocError>,
-) -> Result<Command<'a>, AllocError>
-    ensures { IfOk result (λ new. IsOkAnd command.entry (λ old. AddsRules latency_rules old new)) }
-{
-    command?
-        .arg(load_arg(alloc))?
-        .arg(store_arg(alloc))?
-        .arg(mult_arg(alloc))
+/// A command: the task that it asks for, its name, what it is about, how it is used, and its arguments.
+#[derive(Clone, Copy)]
+struct Entry {
+    task: Task,
+    name: &'static str,
+    about: &'static str,
+    usage: &'static str,
+    arguments: &'static [Argument],
+}
+
+/// The commands, in the order in which the help lists them.
+const COMMANDS: [Entry; 10] = [
+    Entry {
+        task: Task::Run,
+        name: "run",
+        about: "Run each block, one operation after the other",
+        usage: "ilocfarm run [OPTIONS] [WORD]... < BLOCKS",
+        arguments: &[Argument::At, Argument::Words],
+    },
+    Entry {
+        task: Task::Simulate,
+        name: "simulate",
+        about: "Schedule each block, and run the schedule",
+        usage: "ilocfarm simulate [OPTIONS] [WORD]... < BLOCKS",
+        arguments: &[
+            Argument::At,
+            Argument::Words,
+            Argument::Load,
+            Argument::Store,
+            Argument::Mult,
+            Argument::Priority,
+        ],
+    },
+    Entry {
+        task: Task::Trace,
+        name: "trace",
+        about: "Schedule each block, run the schedule, and print what happens in each cycle",
+        usage: "ilocfarm trace [OPTIONS] [WORD]... < BLOCKS",
+        arguments: &[
+            Argument::At,
+            Argument::Words,
+            Argument::Load,
+            Argument::Store,
+            Argument::Mult,
+            Argument::Priority,
+            Argument::Task,
+            Argument::EitherSlotWithTask,
+        ],
+    },
+    Entry {
+        task: Task::Schedule,
+        name: "schedule",
+        about: "Schedule each block, and print the schedule",
+        usage: "ilocfarm schedule [OPTIONS] < BLOCKS",
+        arguments: &[
+            Argument::Workers,
+            Argument::Load,
+            Argument::Store,
+            Argument::Mult,
+            Argument::Priority,
+        ],
+    },
+    Entry {
+        task: Task::Counts,
+        name: "counts",
+        about: "Schedule each block, and print how many cycles the schedule takes",
+        usage: "ilocfarm counts [OPTIONS] < BLOCKS",
+        arguments: &[
+            Argument::Workers,
+            Argument::Load,
+            Argument::Store,
+            Argument::Mult,
+            Argument::Priority,
+            Argument::Csv,
+        ],
+    },
+    Entry {
+        task: Task::Compare,
+        name: "compare",
+        about: "Schedule each block by each priority, and print the cycles beside their bound",
+        usage: "ilocfarm compare [OPTIONS] < BLOCKS",
+        arguments: &[
+            Argument::Workers,
+            Argument::Load,
+            Argument::Store,
+            Argument::Mult,
+            Argument::Csv,
+        ],
+    },
+    Entry {
+        task: Task::Explain,
+        name: "explain",
+        about: "Schedule each block, and print why the schedule takes its cycles",
+        usage: "ilocfarm explain [OPTIONS] < BLOCKS",
+        arguments: &[
+            Argument::Load,
+            Argument::Store,
+            Argument::Mult,
+            Argument::Priority,
+            Argument::Task,
+            Argument::EitherSlotWithTask,
+        ],
+    },
+    Entry {
+        task: Task::Check,
+        name: "check",
+        about: "Judge schedules that others made, given after their blocks",
+        usage: "ilocfarm check [OPTIONS] [WORD]... < BLOCKS_AND_ROWS",
+        arguments: &[
+            Argument::At,
+            Argument::Words,
+            Argument::Load,
+            Argument::Store,
+            Argument::Mult,
+            Argument::Task,
+            Argument::EitherSlot,
+            Argument::Lawful,
+            Argument::Outputs,
+            Argument::Csv,
+        ],
+    },
+    Entry {
+        task: Task::Graph,
+        name: "graph",
+        about: "Print the dependence graph of each block, for Graphviz",
+        usage: "ilocfarm graph [OPTIONS] < BLOCKS",
+        arguments: &[Argument::Load, Argument::Store, Argument::Mult],
+    },
+    Entry {
+        task: Task::Lint,
+        name: "lint",
+        about: "Print every fault of the text, and what is wanted there",
+        usage: "ilocfarm lint < BLOCKS",
+        arguments: &[],
+    },
+];
+
+impl Argument {
+    /// The argument as the parser reads it.
+    fn arg<'a>(self, alloc: Global) -> Arg<'a>
+        ensures { HasRule (rule_for self) result }
+    {
+        match self {
+            Argument::At => at_arg(alloc),
+            Argument::Words => words_arg(alloc),
+            Argument::Workers => workers_arg(alloc),
+            Argument::Load => load_arg(alloc),
+            Argument::Store => store_arg(alloc),
+            Argument::Mult => mult_arg(alloc),
+            Argument::Priority => priority_arg(alloc),
+            Argument::Csv => csv_arg(alloc),
+            Argument::Task => task_arg(alloc),
+            Argument::Lawful => lawful_arg(alloc),
+            Argument::Outputs => outputs_arg(alloc),
+            Argument::EitherSlot => either_slot_arg(
+                alloc,
+                "Accept rows whose operations fit only when swapped",
+            ),
+            Argument::EitherSlotWithTask => either_slot_arg(
+                alloc,
+                "With --task, accept rows whose operations fit only when swapped",
+            ),
+        }
+    }
 }
 
 /// `NAME`, with what it is about and how it is used.
@@ -261,136 +417,17 @@ fn bare_command<'a>(alloc: Global, name: &'a str, about: &'a str, usage: &'a str
     Command::new(alloc, name).about(about).override_usage(usage)
 }
 
-/// `NAME [--at N] [WORD]...`
-fn memory_command<'a>(
-    alloc: Global,
-    name: &'a str,
-    about: &'a str,
-    usage: &'a str,
-) -> Result<Command<'a>, AllocError>
-    ensures { IfOk result (HasApp (alone (memory_shape name.entry.now))) }
-{
-    bare_command(alloc, name, about, usage)
-        .arg(at_arg(alloc))?
-        .arg(words_arg(alloc))
-}
-
-/// `NAME [--workers N]`
-fn workers_command<'a>(
-    alloc: Global,
-    name: &'a str,
-    about: &'a str,
-    usage: &'a str,
-) -> Result<Command<'a>, AllocError>
-    ensures { IfOk result (HasApp (alone (workers_shape name.entry.now))) }
-{
-    bare_command(alloc, name, about, usage).arg(workers_arg(alloc))
-}
-
-/// `run [--at N] [WORD]...`
-fn run_command<'a>(alloc: Global) -> Result<Command<'a>, AllocError>
-    ensures { IfOk result (HasApp (app run_entry)) }
-{
-    let about = "Run each block, one operation after the other";
-    let usage = "ilocfarm run [OPTIONS] [WORD]... < BLOCKS";
-    memory_command(alloc, "run", about, usage)
-}
-
-/// `simulate [--at N] [WORD]... [--load N] [--store N] [--mult N] [--priority NAME]`
-fn simulate_command<'a>(alloc: Global) -> Result<Command<'a>, AllocError>
-    ensures { IfOk result (HasApp (app simulate_entry)) }
-{
-    let about = "Schedule each block, and run the schedule";
-    let usage = "ilocfarm simulate [OPTIONS] [WORD]... < BLOCKS";
-    let command = with_latencies(alloc, memory_command(alloc, "simulate", about, usage));
-    with_arg(command, priority_arg(alloc))
-}
-
-/// `trace [--at N] [WORD]... [--load N] [--store N] [--mult N] [--priority NAME]`
-fn trace_command<'a>(alloc: Global) -> Result<Command<'a>, AllocError>
-    ensures { IfOk result (HasApp (app trace_entry)) }
-{
-    let about = "Schedule each block, run the schedule, and print what happens in each cycle";
-    let usage = "ilocfarm trace [OPTIONS] [WORD]... < BLOCKS";
-    let command = with_latencies(alloc, memory_command(alloc, "trace", about, usage));
-    with_arg(command, priority_arg(alloc))
-}
-
-/// `schedule [--workers N] [--load N] [--store N] [--mult N] [--priority NAME]`
-fn schedule_command<'a>(alloc: Global) -> Result<Command<'a>, AllocError>
-    ensures { IfOk result (HasApp (app schedule_entry)) }
-{
-    let about = "Schedule each block, and print the schedule";
-    let usage = "ilocfarm schedule [OPTIONS] < BLOCKS";
-    let command = with_latencies(alloc, workers_command(alloc, "schedule", about, usage));
-    with_arg(command, priority_arg(alloc))
-}
-
-/// `counts [--workers N] [--load N] [--store N] [--mult N] [--priority NAME] [--csv]`
-fn counts_command<'a>(alloc: Global) -> Result<Command<'a>, AllocError>
-    ensures { IfOk result (HasApp (app counts_entry)) }
-{
-    let about = "Schedule each block, and print how many cycles the schedule takes";
-    let usage = "ilocfarm counts [OPTIONS] < BLOCKS";
-    let command = with_latencies(alloc, workers_command(alloc, "counts", about, usage));
-    let command = with_arg(command, priority_arg(alloc));
-    with_arg(command, csv_arg(alloc))
-}
-
-/// `compare [--workers N] [--load N] [--store N] [--mult N] [--csv]`
-fn compare_command<'a>(alloc: Global) -> Result<Command<'a>, AllocError>
-    ensures { IfOk result (HasApp (app compare_entry)) }
-{
-    let about = "Schedule each block by each priority, and print the cycles beside their bound";
-    let usage = "ilocfarm compare [OPTIONS] < BLOCKS";
-    let command = with_latencies(alloc, workers_command(alloc, "compare", about, usage));
-    with_arg(command, csv_arg(alloc))
-}
-
-/// `explain [--load N] [--store N] [--mult N] [--priority NAME] [--task FILE] [--either-slot]`
-fn explain_command<'a>(alloc: Global) -> Result<Command<'a>, AllocError>
-    ensures { IfOk result (HasApp (app explain_entry)) }
-{
-    let about = "Schedule each block, and print why the schedule takes its cycles";
-    let usage = "ilocfarm explain [OPTIONS] < BLOCKS";
-    let command = with_latencies(alloc, Ok(bare_command(alloc, "explain", about, usage)));
-    let command = with_arg(command, priority_arg(alloc));
-    let command = with_arg(command, task_arg(alloc));
-    let swapped = "With --task, accept rows whose operations fit only when swapped";
-    with_arg(command, either_slot_arg(alloc, swapped))
-}
-
-/// `check [--at N] [WORD]... [--load N] [--store N] [--mult N] [--task FILE] [--either-slot] [--lawful] [--outputs] [--csv]`
-fn check_command<'a>(alloc: Global) -> Result<Command<'a>, AllocError>
-    ensures { IfOk result (HasApp (app check_entry)) }
-{
-    let about = "Judge schedules that others made, given after their blocks";
-    let usage = "ilocfarm check [OPTIONS] [WORD]... < BLOCKS_AND_ROWS";
-    let command = with_latencies(alloc, memory_command(alloc, "check", about, usage));
-    let command = with_arg(command, task_arg(alloc));
-    let swapped = "Accept rows whose operations fit only when swapped";
-    let command = with_arg(command, either_slot_arg(alloc, swapped));
-    let command = with_arg(command, lawful_arg(alloc));
-    let command = with_arg(command, outputs_arg(alloc));
-    with_arg(command, csv_arg(alloc))
-}
-
-/// `graph [--load N] [--store N] [--mult N]`
-fn graph_command<'a>(alloc: Global) -> Result<Command<'a>, AllocError>
-    ensures { IfOk result (HasApp (app graph_entry)) }
-{
-    let about = "Print the dependence graph of each block, for Graphviz";
-    let usage = "ilocfarm graph [OPTIONS] < BLOCKS";
-    with_latencies(alloc, Ok(bare_command(alloc, "graph", about, usage)))
-}
-
-/// `lint`
-fn lint_command<'a>(alloc: Global) -> Result<Command<'a>, AllocError>
-    ensures { IfOk result (HasApp (app lint_entry)) }
-{
-    let about = "Print every fault of the text, and what is wanted there";
-    let usage = "ilocfarm lint < BLOCKS";
-    Ok(bare_command(alloc, "lint", about, usage))
+impl Entry {
+    /// The command as the parser reads it.
+    fn command<'a>(&self, alloc: Global) -> Result<Command<'a>, AllocError>
+        ensures { IfOk result (HasApp (app_for self.now)) }
+    {
+        let mut command = bare_command(alloc, self.name, self.about, self.usage);
+        for argument in self.arguments {
+            command = command.arg(argument.arg(alloc))?;
+        }
+        Ok(command)
+    }
 }
 
 /// The program without its commands.
@@ -407,30 +444,41 @@ fn top_command<'a>(alloc: Global) -> Result<Command<'a>, AllocError>
     )
 }
 
-/// A command with another below it, if both could be made.
-fn with_command<'a>(
-    above: Result<Command<'a>, AllocError>,
-    below: Result<Command<'a>, AllocError>,
-) -> Result<Command<'a>, AllocError>
-    ensures { IfOk result (λ new. IsOkAnd above.entry (λ old. IsOkAnd below.entry (λ sub.
-        AddsSubcommand old sub new))) }
+/// The program with these commands.
+fn with_commands<'a>(alloc: Global, entries: &[Entry]) -> Result<Command<'a>, AllocError>
+    ensures { IfOk result (HasApp (app_with entries.now)) }
 {
-    above?.subcommand(below?)
+    let mut farm = top_command(alloc)?;
+    for entry in entries {
+        farm = farm.subcommand(entry.command(alloc)?)?;
+    }
+    Ok(farm)
 }
 
 /// The whole command line, whose words stand after the program's name.
 pub(crate) fn farm_command<'a>(alloc: Global) -> Result<Command<'a>, AllocError>
     ensures { IfOk result (HasApp farm_app) }
 {
-    let farm = top_command(alloc);
-    let farm = with_command(farm, run_command(alloc));
-    let farm = with_command(farm, simulate_command(alloc));
-    let farm = with_command(farm, trace_command(alloc));
-    let farm = with_command(farm, schedule_command(alloc));
-    let farm = with_command(farm, counts_command(alloc));
-    let farm = with_command(farm, compare_command(alloc));
-    let farm = with_command(farm, explain_command(alloc));
-    let farm = with_command(farm, check_command(alloc));
-    let farm = with_command(farm, graph_command(alloc));
-    with_command(farm, lint_command(alloc))
+    with_commands(alloc, &COMMANDS)
+}
+
+/// The first of these commands that has this name.
+fn entry_named(entries: &[Entry], name: &str) -> Option<Entry>
+    ensures { result ≡ find (λ (e : entry_value). bytes_eq e.name.now name.now) entries.now }
+{
+    entries.iter().copied().find(|entry| entry.name == name)
+}
+
+/// The task of the first of these commands that has this name.
+fn task_in(entries: &[Entry], name: &str) -> Option<Task>
+    ensures { result ≡ task_among (map subcommand_for entries.now) name.now }
+{
+    entry_named(entries, name).map(|entry| entry.task)
+}
+
+/// The task of the command of this name.
+pub(crate) fn task_of(name: &str) -> Option<Task>
+    ensures { result ≡ task_named name.now }
+{
+    task_in(&COMMANDS, name)
 }

@@ -6,6 +6,7 @@ ghost use Rattle.iloc_args.specs.Steps.Refusing.{IsFaultBy};
 ghost use Rattle.iloc_args.specs.declared.fault.LineFault.TheVariants.{NoMemory};
 
 use crate::advice::advised;
+use crate::priority::NO_SUCH_PRIORITY;
 use clap::error::{Error as ClapError, ErrorKind};
 use std::alloc::{AllocError, AllocFailed, Global};
 use std::error::Error;
@@ -39,11 +40,7 @@ impl Display for LineFault {
             LineFault::Help(text) | LineFault::Refused(text) => f.write_str(text.as_str()),
             LineFault::BadStart(_) => f.write_str("--at is not a multiple of 4"),
             LineFault::TooManyWords => f.write_str("the words do not fit into memory"),
-            LineFault::NoSuchPriority => {
-                f.write_str(
-                    "--priority is none of chain, slack, descendants, successors, latency, order",
-                )
-            }
+            LineFault::NoSuchPriority => { f.write_str(NO_SUCH_PRIORITY) }
             LineFault::NoMemory => f.write_str("out of memory"),
         }
     }

@@ -1,9 +1,9 @@
 //! Reading a command line.
-ghost use Rattle.std.specs.Prelude.{◌≡◌, ◌≤◌, Some, IfErr, IfOk, IsSome, MatchOption, OnOk, [], codes, map, option_map, true};
+ghost use Rattle.std.specs.Prelude.{◌≡◌, ◌≤◌, IfErr, IfOk, MatchOption, OnOk, [], codes, map, option_map, true};
 ghost use Rattle.std.specs.String.{string_bytes};
 ghost use Rattle.clap.specs.Words.{first_of, found_of, has_subcommand, rows_of, subcommand_of};
 ghost use Rattle.clap.specs.Words.{subcommand_rows_of};
-ghost use Rattle.iloc_args.specs.Asked.{asked_as, asked_in, flag_in, number_or, numbers_in, task_named, text_or};
+ghost use Rattle.iloc_args.specs.Asked.{asked_as, asked_in, flag_in, number_or, numbers_in, text_or};
 ghost use Rattle.iloc_args.specs.Command.{farm_app};
 ghost use Rattle.iloc_args.specs.Due.{Asks, IsDue, faults_in};
 ghost use Rattle.iloc_args.specs.Priority.{IsNoPriority, priority_word};
@@ -11,8 +11,9 @@ ghost use Rattle.iloc_args.specs.Steps.Refusing.{IsOutOfRange};
 ghost use Rattle.iloc_args.specs.Steps.Taken.{HoldValues, HoldsFlag, HoldsIn};
 ghost use Rattle.iloc_timed.specs.Latency.{IsLatency};
 
-use crate::command::farm_command;
+use crate::command::{farm_command, task_of};
 use crate::fault::LineFault;
+use crate::priority::heuristic_of;
 use crate::request::{Request, Task};
 use clap::ArgMatches;
 use iloc_meaning::{LAST_ADDRESS, WORDS};
@@ -47,27 +48,10 @@ pub fn parse_line<S: AsStr>(alloc: Global, words: &[S]) -> Result<Request, LineF
     let Some((name, given)) = matches.subcommand() else {
         unreachable!()
     };
-    request_in(alloc, task_of(name), given)
-}
-
-/// The task of the command of this name.
-fn task_of(name: &str) -> Task
-    requires { IsSome (task_named name.now) }
-    ensures { task_named name.now ≡ Some result }
-{
-    match name {
-        "run" => Task::Run,
-        "simulate" => Task::Simulate,
-        "trace" => Task::Trace,
-        "schedule" => Task::Schedule,
-        "counts" => Task::Counts,
-        "compare" => Task::Compare,
-        "explain" => Task::Explain,
-        "check" => Task::Check,
-        "graph" => Task::Graph,
-        "lint" => Task::Lint,
-        _ => unreachable!(),
-    }
+    let Some(task) = task_of(name) else {
+        unreachable!()
+    };
+    request_in(alloc, task, given)
 }
 
 /// What the parser makes of the words.
@@ -176,21 +160,6 @@ fn words_in(alloc: Global, given: &ArgMatches<'_>) -> Result<Vec<u32>, AllocFail
         }
     }
     Ok(words)
-}
-
-/// The heuristic of this name.
-fn heuristic_of(name: &str) -> Option<Heuristic>
-    ensures { MatchOption result (IsNoPriority name.now) (λ heuristic. priority_word heuristic ≡ name.now) }
-{
-    match name {
-        "chain" => Some(Heuristic::Chain),
-        "slack" => Some(Heuristic::Slack),
-        "descendants" => Some(Heuristic::Descendants),
-        "successors" => Some(Heuristic::Successors),
-        "latency" => Some(Heuristic::Latency),
-        "order" => Some(Heuristic::Order),
-        _ => None,
-    }
 }
 
 /// By what the ready operations are ranked, if a heuristic has the name that is given.

@@ -1,8 +1,28 @@
-//! The names of what the ready operations are ranked by.
-ghost use Rattle.std.specs.Prelude.{◌≡◌};
-ghost use Rattle.iloc_args.specs.Priority.{priority_word};
+//! What the ready operations are ranked by, as the command line names it.
+ghost use Rattle.std.specs.Prelude.{◌≡◌, find};
+ghost use Rattle.std.specs.Str.{bytes_eq};
+ghost use Rattle.iloc_args.specs.Priority.{priorities, priority_word};
+ghost use Rattle.iloc_sched.specs.declared.ranking.heuristic.Heuristic.{Heuristic as heuristic_value};
 
 use iloc_sched::Heuristic;
+
+/// The heuristics, in the order in which they are listed.
+const PRIORITIES: [Heuristic; 6] = [
+    Heuristic::Chain,
+    Heuristic::Slack,
+    Heuristic::Descendants,
+    Heuristic::Successors,
+    Heuristic::Latency,
+    Heuristic::Order,
+];
+
+/// What the help says of `--priority`: their names in this order, from which the completions have them.
+pub(crate) const HELP: &str =
+    "What goes first: chain, slack, descendants, successors, latency or order";
+
+/// What is said where a name is none of these.
+pub(crate) const NO_SUCH_PRIORITY: &str =
+    "--priority is none of chain, slack, descendants, successors, latency, order";
 
 /// The name of a heuristic.
 ///
@@ -18,4 +38,14 @@ pub fn priority_name(heuristic: Heuristic) -> &'static str
         Heuristic::Latency => "latency",
         Heuristic::Order => "order",
     }
+}
+
+/// The heuristic of this name.
+pub(crate) fn heuristic_of(name: &str) -> Option<Heuristic>
+    ensures { result ≡ find (λ (h : heuristic_value). bytes_eq (priority_word h) name.now) priorities }
+{
+    PRIORITIES
+        .iter()
+        .copied()
+        .find(|heuristic| priority_name(*heuristic) == name)
 }

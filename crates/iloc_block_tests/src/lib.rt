@@ -16,4 +16,6 @@ mod text;
 #[cfg(test)]
 mod timed;
 #[cfg(test)]
+mod trace;
+#[cfg(test)]
 mod written;

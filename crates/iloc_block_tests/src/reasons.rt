@@ -136,6 +136,25 @@ const REPLACED: Case = (
     }],
 );
 
+const DOUBLED_IN_FOURTH: Op = Op::Add {
+    left: Reg(1),
+    right: Reg(1),
+    dest: Reg(4),
+};
+
+/// A sum in a register that nobody reads.
+const NEVER_READ: Case = (
+    b"loadI 1 => r1\nadd r1, r1 => r3\nstore r3 => r1\n",
+    &[ONE, DOUBLED_IN_FOURTH, STORE_TO_FIRST],
+    &[(0, Some(0), None), (1, Some(1), None), (2, Some(2), None)],
+    &[Fact::NeverRead {
+        issue: Issue {
+            cycle: 1,
+            op: DOUBLED_IN_FOURTH,
+        },
+    }],
+);
+
 const FIRST_OUTPUT: Issue = Issue {
     cycle: 0,
     op: Op::Output { addr: 12 },
@@ -227,7 +246,15 @@ fn assert_listed(rt: &impl Abort, alloc: Global, case: &Case) -> Result<(), Fail
 
 #[test]
 fn says_what_is_at_fault(rt: HostRuntime) -> Result<(), Fail> {
-    for case in [UNDER_WAY, BROUGHT_LATER, REPLACED, ORDER, FOR, SEE] {
+    for case in [
+        UNDER_WAY,
+        BROUGHT_LATER,
+        REPLACED,
+        NEVER_READ,
+        ORDER,
+        FOR,
+        SEE,
+    ] {
         assert_listed(&rt, rt.alloc(), &case)?;
     }
     Ok(())

@@ -8,9 +8,9 @@ use Rattle.iloc_farm.specs.Entries.{AreEntries, AreListed, IsListingAfter, IsLis
 use Rattle.iloc_farm.specs.Listing.{entries}
 use Rattle.iloc_farm.specs.Steps.Listed.{Grows}
 
-module _ {F : Type 0} (lists : ℕ → Block → List ℕ → F → Type 0) where
+module _ {X F : Type 0} (lists : ℕ → X → List ℕ → F → Type 0) where
   -- one block more
-  entries_more : (k n : ℕ) (blocks : List Block) (found : List F) (b : Block) (f : F) (text entry : List ℕ)
+  entries_more : (k n : ℕ) (blocks : List X) (found : List F) (b : X) (f : F) (text entry : List ℕ)
       → k + length blocks ≡ n → AreEntries lists k blocks found text → lists n b entry f
       → AreEntries lists k (blocks ++ b ∷ []) (found ++ f ∷ []) (text ++ entry)
   entries_more k n [] [] b f text entry at are is =
@@ -27,7 +27,7 @@ module _ {F : Type 0} (lists : ℕ → Block → List ℕ → F → Type 0) wher
     ap (λ xs. xs ++ entry) are.4 ∙ append_assoc are.0 are.1 entry,
   )
 
-  pub entries_long : (k : ℕ) (blocks : List Block) (found : List F) (text : List ℕ) → AreEntries lists k blocks found text
+  pub entries_long : (k : ℕ) (blocks : List X) (found : List F) (text : List ℕ) → AreEntries lists k blocks found text
       → length found ≡ length blocks
   entries_long k [] [] text are = refl
   entries_long k [] (f ∷ found) text are = absurd are
@@ -35,7 +35,7 @@ module _ {F : Type 0} (lists : ℕ → Block → List ℕ → F → Type 0) wher
   entries_long k (b ∷ blocks) (f ∷ found) text are =
       let rest : length found ≡ length blocks = entries_long (k + 1) blocks found are.1 are.3 in omega arith
 
-  pub one_more : (blocks : List Block) (b : Block) (n : ℕ) (text old new entry : List ℕ) (found all more : List F) (f : F)
+  pub one_more : (blocks : List X) (b : X) (n : ℕ) (text old new entry : List ℕ) (found all more : List F) (f : F)
       → Grows lists blocks text old found all → length blocks + 1 ≡ n → lists n b entry f → new ≡ old ++ entry
       → more ≡ all ++ f ∷ [] → Grows lists (blocks ++ b ∷ []) text new found more
   one_more blocks b n text old new entry found all more f so_far at is added kept = record {
@@ -47,7 +47,7 @@ module _ {F : Type 0} (lists : ℕ → Block → List ℕ → F → Type 0) wher
   }
 
   -- what was listed behind nothing, and the ending
-  pub whole_listing : (ending : List F → List ℕ) (blocks : List Block) (start text all : List ℕ) (before found : List F)
+  pub whole_listing : (ending : List F → List ℕ) (blocks : List X) (start text all : List ℕ) (before found : List F)
       → start ≡ [] → before ≡ [] → Grows lists blocks start text before found → all ≡ text ++ ending found
       → IsListingOf lists ending blocks all
   whole_listing ending blocks start text all before found empty none so_far ended = record {
@@ -58,6 +58,7 @@ module _ {F : Type 0} (lists : ℕ → Block → List ℕ → F → Type 0) wher
         (so_far.kept ∙ ap (λ fs. fs ++ so_far.next) none);
   }
 
+module _ {F : Type 0} (lists : ℕ → Block → List ℕ → F → Type 0) where
   -- what each block has is what all have, one after another
   module _ {E : Type 0} (text_of : E → List ℕ) (found_of : E → F) where
     each_listed : (k : ℕ) (blocks : List Block) (made : List E) → length made ≡ length blocks

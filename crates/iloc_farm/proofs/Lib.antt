@@ -4,9 +4,10 @@ pub mod Words
 pub mod Written
 pub mod Joining
 pub mod Routines
-pub mod Proposed
+pub mod RowListing
 pub mod Checks
-pub mod RowsTold
+pub mod RowsExplained
+pub mod RowsTraced
 pub mod Status
 pub mod Tasks
 pub mod Gathered

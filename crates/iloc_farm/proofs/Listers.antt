@@ -31,10 +31,11 @@ use Rattle.iloc_farm.specs.Commands.Simulate.{IsSimulateEntry}
 use Rattle.iloc_farm.specs.Commands.Trace.{IsTraceEntry}
 use Rattle.iloc_farm.specs.Laws.{AskAlike, SimulatingListsRuns}
 use Rattle.iloc_farm.specs.Listing.{block_head, cycles_of, entries, opening_as, outcome_entry, schedule_entry, schedule_lines, shown_entry, total_of_all}
-use Rattle.iloc_farm.specs.Run.{IsListingFor, Lists, ListsAs, ListsFile, ListsFor, ListsFrom}
+use Rattle.iloc_farm.specs.Run.{IsListingFor, ListsAs, ListsFrom}
 use Rattle.iloc_farm.specs.Schedules.{IsCount, IsGreedyAs, IsTheGreedy}
 use Rattle.iloc_farm.specs.Entries.{AreListed, ListsRead}
 use Rattle.iloc_farm.specs.Steps.Listed.{Adds}
+use Rattle.iloc_farm.specs.declared.commands.Finding.{Finding}
 use Rattle.iloc_farm.specs.declared.commands.Finding.TheVariants.{Passed}
 use Rattle.iloc_farm.specs.declared.commands.Listed.{Listed}
 use Rattle.iloc_farm.specs.declared.commands.compare.ComparedCycles.{ComparedCycles}
@@ -42,7 +43,7 @@ use Rattle.iloc_farm.proofs.Comparisons.{one_comparison}
 use Rattle.iloc_farm.proofs.Entries.{lined_listing, listing_also, one_listing, one_listing_after}
 use Rattle.iloc_farm.proofs.Schedules.{one_schedule}
 
-parts_joined : (text head line entry : List ℕ) → ((text ++ head) ++ line) ++ entry ≡ text ++ ((head ++ line) ++ entry)
+pub parts_joined : (text head line entry : List ℕ) → ((text ++ head) ++ line) ++ entry ≡ text ++ ((head ++ line) ++ entry)
 parts_joined text head line entry = simp append_assoc
 
 -- the schedule that was found is the one greedy schedule
@@ -290,26 +291,19 @@ pub simulating_lists_runs : SimulatingListsRuns
 simulating_lists_runs request blocks text is =
     listing_also (IsSimulateEntry request) (IsRunEntry request) (λ k b e f entry. entry.plain) no_ending blocks text is
 
--- what is listed of a file that was read is what the request lists, where its task is no check
-pub file_listed : (held : Held) (t : Task) (request : Request) (old new : Option (List ℕ)) (text : List ℕ)
-    (listed : Listed) → request.task ≡ t
-    → ((input : List ℕ) → ListsFile request input text × (Passed ≡ Passed) → ListsFor t request input Passed text)
-    → (Lists request old new Passed text → ListsAs t request.task_file held request old new Passed text)
-    → ListsRead (λ blocks text. IsListingFor t request blocks text) old new text
-    → listed ≡ record { text = text; finding = Passed } → ListsFrom held request old new listed.finding listed.text
-file_listed held t request old new text listed is files lists read made =
-    let P : Task → Type 0 = λ t. IsListingFor t request read.blocks text in
-    let Q : Task → Type 0 = λ t. ListsFor t request read.input Passed text in
-    let R : Task → Type 0 = λ t. ListsAs t request.task_file held request old new Passed text in
-    let S : Listed → Type 0 = λ l. ListsFrom held request old new l.finding l.text in
-    let file : ListsFile request read.input text =
-    record { blocks = read.blocks; denoted = read.denoted; listed = subst P (sym is) read.listed } in
-    let input : Lists request old new Passed text =
-    record { input = read.input; read = read.read; listed = subst Q (sym is) (files read.input (file, refl)) } in
-    subst S (sym made) (subst R (sym is) (lists input))
+-- what is listed as a request with this task and this file, or none, asks is what the request lists
+pub listed_as : (held : Held) (request : Request) (old new : Option (List ℕ)) (finding : Finding) (text : List ℕ) (t : Task)
+    (file : Option (String Global)) → request.task ≡ t → request.task_file ≡ file
+    → ListsAs t file held request old new finding text → ListsFrom held request old new finding text
+listed_as held request old new finding text t file is named lists =
+    let P : Task → Type 0 = λ t. ListsAs t request.task_file held request old new finding text in
+    let Q : Option (String Global) → Type 0 = λ file. ListsAs t file held request old new finding text in
+    subst P (sym is) (subst Q (sym named) lists)
 
--- so it is of an explanation for which no file is named
-pub explains_file : (held : Held) (file : Option (String Global)) (request : Request) (old new : Option (List ℕ)) (text : List ℕ)
-    → file ≡ None → Lists request old new Passed text → ListsAs task.Explain file held request old new Passed text
-explains_file held None request old new text none lists = lists
-explains_file held (Some name) request old new text none lists = absurd cc
+-- so is what is listed of a file that was read, where no other file is named
+pub file_listed : (held : Held) (request : Request) (old new : Option (List ℕ)) (text : List ℕ) (listed : Listed) (t : Task)
+    → request.task ≡ t → request.task_file ≡ None → ListsAs t None held request old new Passed text
+    → listed ≡ record { text = text; finding = Passed } → ListsFrom held request old new listed.finding listed.text
+file_listed held request old new text listed t is none lists made =
+    let R : Listed → Type 0 = λ l. ListsAs t None held request old new l.finding l.text in
+    listed_as held request old new listed.finding listed.text t None is none (subst R (sym made) lists)

@@ -1,22 +1,23 @@
 -- What is listed of one input does not depend on the workers, and greedy schedules can be listed.
-use Rattle.std.proofs.Common.{◌≡◌, ℕ, Bool, List, ℤ, None, Option, Some, IsTrue, refl, sym, ◌∙◌, subst}
+use Rattle.std.proofs.Common.{◌≡◌, ℕ, Bool, List, ℤ, None, Option, Some, IsTrue, sym, subst}
 use Rattle.std.specs.declared.alloc.Global.{Global}
 use Rattle.std.specs.declared.string.String.{String}
 use Rattle.iloc_ops.specs.declared.file.Block.{Block}
 use Rattle.iloc_text.proofs.Answer.{one_answer}
 use Rattle.iloc_timed.specs.declared.latencies.Latencies.{Latencies}
-use Rattle.iloc_rows.specs.declared.proposal.Proposal.{Proposal}
+use Rattle.iloc_rows.specs.declared.proposal.Proposed.{Proposed}
 use Rattle.iloc_rows.specs.EitherSlot.{placed}
 use Rattle.iloc_sched.specs.declared.ranking.heuristic.Heuristic.{Heuristic}
 use Rattle.iloc_args.specs.declared.request.Request.{Request}
 use Rattle.iloc_args.specs.declared.request.Task.{Task}
 use Rattle.iloc_args.specs.declared.request.Task.TheVariants as task
-use Rattle.iloc_farm.specs.Commands.Check.{ListsChecked}
-use Rattle.iloc_farm.specs.Commands.ExplainRows.{ExplainsRows}
+use Rattle.iloc_farm.specs.Commands.Check.{Checks, ListsChecked}
+use Rattle.iloc_farm.specs.Commands.ExplainRows.{Explains, ExplainsRows}
 use Rattle.iloc_farm.specs.Commands.Run.{initial_memory}
+use Rattle.iloc_farm.specs.Commands.TraceRows.{Traces, TracesRows}
 use Rattle.iloc_farm.specs.Laws.{AskAlike, ChecksIgnoreWorkers, GreedySchedulesCanBeListed, ListingsIgnoreWorkers}
 use Rattle.iloc_farm.specs.Apart.{Held}
-use Rattle.iloc_farm.specs.Run.{Checks, Explains, IsListing, IsListingFor, Lists, ListsApart, ListsAs, ListsFor, ListsSubmission, takes_rows}
+use Rattle.iloc_farm.specs.Run.{IsListing, IsListingFor, Lists, ListsApart, ListsAs, ListsSubmission, takes_rows}
 use Rattle.iloc_farm.specs.declared.commands.Finding.{Finding}
 use Rattle.iloc_farm.proofs.Listers.{of_one_task, one_memory}
 use Rattle.iloc_farm.proofs.Schedules.{greedy_long, total_small}
@@ -29,10 +30,10 @@ ignore_workers r q alike input blocks blocks' denotes denotes' text text' lists 
     of_one_task r.task r q alike blocks text text' lists (subst Q (sym alike.task) own)
 
 -- a check of the one request is one of the other
-checks_alike : (r q : Request) → AskAlike r q → (blocks : List Block) (proposals : List Proposal) (finding : Finding)
+checks_alike : (r q : Request) → AskAlike r q → (blocks : List Block) (proposals : List Proposed) (finding : Finding)
     (text : List ℕ) → Checks r blocks proposals finding text → Checks q blocks proposals finding text
 checks_alike r q alike blocks proposals finding text checks =
-    let theirs : List Proposal = placed r.either_slot proposals in
+    let theirs : List Proposed = placed r.either_slot proposals in
     let P : Latencies → Type 0 = λ lat.
     ListsChecked r.lawful r.csv r.outputs lat (initial_memory r) blocks theirs finding text in
     let Q : List ℤ → Type 0 = λ memory.
@@ -48,29 +49,31 @@ checks_alike r q alike blocks proposals finding text checks =
     subst T alike.either_slot (subst U alike.outputs (subst S alike.csv
     (subst R alike.lawful (subst Q (one_memory r q alike) (subst P alike.latencies checks)))))
 
-submission_alike : (r q : Request) → AskAlike r q → (input : List ℕ) (finding : Finding) (text : List ℕ)
-    → ListsSubmission r input finding text → ListsSubmission q input finding text
-submission_alike r q alike input finding text lists = record {
-  blocks = lists.blocks;
-  proposals = lists.proposals;
-  denoted = lists.denoted;
-  checked = checks_alike r q alike lists.blocks lists.proposals finding text lists.checked;
-}
-
 -- so is an explanation of rows
-explains_alike : (r q : Request) → AskAlike r q → (blocks : List Block) (proposals : List Proposal) (finding : Finding)
+explains_alike : (r q : Request) → AskAlike r q → (blocks : List Block) (proposals : List Proposed) (finding : Finding)
     (text : List ℕ) → Explains r blocks proposals finding text → Explains q blocks proposals finding text
 explains_alike r q alike blocks proposals finding text explains =
-    let theirs : List Proposal = placed r.either_slot proposals in
+    let theirs : List Proposed = placed r.either_slot proposals in
     let P : Latencies → Type 0 = λ lat. ExplainsRows r.priority lat blocks theirs finding text in
     let Q : Heuristic → Type 0 = λ heuristic. ExplainsRows heuristic q.latencies blocks theirs finding text in
     let T : Bool → Type 0 = λ either_slot.
     ExplainsRows q.priority q.latencies blocks (placed either_slot proposals) finding text in
     subst T alike.either_slot (subst Q alike.priority (subst P alike.latencies explains))
 
+-- so is a trace of rows
+traces_alike : (r q : Request) → AskAlike r q → (blocks : List Block) (proposals : List Proposed) (finding : Finding)
+    (text : List ℕ) → Traces r blocks proposals finding text → Traces q blocks proposals finding text
+traces_alike r q alike blocks proposals finding text traces =
+    let theirs : List Proposed = placed r.either_slot proposals in
+    let P : Latencies → Type 0 = λ lat. TracesRows lat (initial_memory r) blocks theirs finding text in
+    let Q : List ℤ → Type 0 = λ memory. TracesRows q.latencies memory blocks theirs finding text in
+    let T : Bool → Type 0 = λ either_slot.
+    TracesRows q.latencies (initial_memory q) blocks (placed either_slot proposals) finding text in
+    subst T alike.either_slot (subst Q (one_memory r q alike) (subst P alike.latencies traces))
+
 -- what is said of rows that were read apart is said as well by other words that follow from these
-apart_alike : (says also : List Block → List Proposal → Finding → List ℕ → Type 0)
-    → ((blocks : List Block) (proposals : List Proposal) (finding : Finding) (text : List ℕ)
+apart_alike : (says also : List Block → List Proposed → Finding → List ℕ → Type 0)
+    → ((blocks : List Block) (proposals : List Proposed) (finding : Finding) (text : List ℕ)
     → says blocks proposals finding text → also blocks proposals finding text)
     → (known old new : Option (List ℕ)) (finding : Finding) (text : List ℕ)
     → ListsApart says known old new finding text → ListsApart also known old new finding text
@@ -81,36 +84,45 @@ apart_alike says also follows known old new finding text lists = record {
   said = follows lists.blocks lists.proposals finding text lists.said;
 }
 
--- so is one of an input
-lists_alike : (r q : Request) → AskAlike r q → r.task ≡ task.Check → (old new : Option (List ℕ)) (finding : Finding)
-    (text : List ℕ) → Lists r old new finding text → Lists q old new finding text
-lists_alike r q alike is old new finding text lists =
-    let P : Task → Type 0 = λ t. ListsFor t r lists.input finding text in
-    let Q : Task → Type 0 = λ t. ListsFor t q lists.input finding text in
-    record {
+-- so it is of rows that were read behind their blocks
+whole_alike : (says also : List Block → List Proposed → Finding → List ℕ → Type 0)
+    → ((blocks : List Block) (proposals : List Proposed) (finding : Finding) (text : List ℕ)
+    → says blocks proposals finding text → also blocks proposals finding text)
+    → (old new : Option (List ℕ)) (finding : Finding) (text : List ℕ)
+    → Lists (ListsSubmission says) old new finding text → Lists (ListsSubmission also) old new finding text
+whole_alike says also follows old new finding text lists =
+    let own = lists.listed in record {
       input = lists.input;
       read = lists.read;
-      listed = subst Q (sym is ∙ alike.task) (submission_alike r q alike lists.input finding text (subst P is lists.listed));
+      listed = record {
+        blocks = own.blocks;
+        proposals = own.proposals;
+        denoted = own.denoted;
+        said = follows own.blocks own.proposals finding text own.said;
+      };
     }
 
-as_alike : (held : Held) (r q : Request) → AskAlike r q → (t : Task) (file : Option (String Global)) → r.task ≡ t
+as_alike : (held : Held) (r q : Request) → AskAlike r q → (t : Task) (file : Option (String Global))
     → IsTrue (takes_rows t file) → (old new : Option (List ℕ)) (finding : Finding) (text : List ℕ)
     → ListsAs t file held r old new finding text → ListsAs t file held q old new finding text
-as_alike held r q alike task.Check None is takes old new finding text lists =
-    lists_alike r q alike is old new finding text lists
-as_alike held r q alike task.Check (Some name) is takes old new finding text lists =
+as_alike held r q alike task.Check None takes old new finding text lists =
+    whole_alike (Checks r) (Checks q) (checks_alike r q alike) old new finding text lists
+as_alike held r q alike task.Check (Some name) takes old new finding text lists =
     apart_alike (Checks r) (Checks q) (checks_alike r q alike) _ old new finding text lists
-as_alike held r q alike task.Explain None is takes old new finding text lists = absurd cc
-as_alike held r q alike task.Explain (Some name) is takes old new finding text lists =
+as_alike held r q alike task.Explain None takes old new finding text lists = absurd cc
+as_alike held r q alike task.Explain (Some name) takes old new finding text lists =
     apart_alike (Explains r) (Explains q) (explains_alike r q alike) _ old new finding text lists
-as_alike held r q alike _ file is takes old new finding text lists = absurd cc
+as_alike held r q alike task.Trace None takes old new finding text lists = absurd cc
+as_alike held r q alike task.Trace (Some name) takes old new finding text lists =
+    apart_alike (Traces r) (Traces q) (traces_alike r q alike) _ old new finding text lists
+as_alike held r q alike _ file takes old new finding text lists = absurd cc
 
 pub checks_ignore_workers : ChecksIgnoreWorkers
 checks_ignore_workers r q alike takes held old new finding text lists =
     let Q : Task → Type 0 = λ t. ListsAs t q.task_file held q old new finding text in
     let R : Option (String Global) → Type 0 = λ file. ListsAs r.task file held q old new finding text in
     subst Q alike.task (subst R alike.task_file
-    (as_alike held r q alike r.task r.task_file refl takes old new finding text lists))
+    (as_alike held r q alike r.task r.task_file takes old new finding text lists))
 
 pub can_be_listed : GreedySchedulesCanBeListed
 can_be_listed heuristic lat blocks schedules limits greedy =

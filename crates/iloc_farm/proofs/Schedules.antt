@@ -20,7 +20,6 @@ use Rattle.iloc_timed.proofs.WholeRuns.{short_latency}
 use Rattle.iloc_sched.specs.declared.cycle.calendar.TheConstants.{LONGEST_DELAY}
 use Rattle.iloc_sched.specs.Renaming.{renamed, renamed_op, without_nops, numbering, is_nop}
 use Rattle.iloc_sched.specs.declared.ranking.heuristic.Heuristic.{Heuristic}
-use Rattle.iloc_sched.specs.declared.ranking.heuristic.Heuristic.TheVariants.{Chain}
 use Rattle.iloc_sched.specs.Greedy.{IsGreedy, IsGreedyBy}
 use Rattle.iloc_sched.specs.Heuristics.{priorities_by}
 use Rattle.iloc_sched.specs.Priority.{priorities}
@@ -31,7 +30,7 @@ use Rattle.iloc_sched.proofs.Basics.IssueCycles.{issue_cycle_within}
 use Rattle.iloc_sched.proofs.Choice.OneGreedy.{greedy_same_as}
 use Rattle.iloc_sched.proofs.Outcome.LawfulOutcomes.{lawful_same_outcome}
 use Rattle.iloc_farm.specs.Listing.{cycles_of, total_cycles}
-use Rattle.iloc_farm.specs.Schedules.{AreGreedy, AreGreedyAs, IsGreedyAs, IsScheduleOf, KeepOutcomes}
+use Rattle.iloc_farm.specs.Schedules.{AreGreedyAs, IsGreedyAs, IsScheduleOf, KeepOutcomes}
 use Rattle.iloc_farm.specs.Steps.Limits.{most_cycles}
 
 -- One list
@@ -61,11 +60,6 @@ greedy_all_same_as heuristic lat (b ∷ blocks) (s ∷ schedules) [] greedy othe
 greedy_all_same_as heuristic lat (b ∷ blocks) (s ∷ schedules) (t ∷ others) greedy other =
     cons_same t s others schedules (one_schedule heuristic lat b.ops s t greedy.0 other.0)
     (greedy_all_same_as heuristic lat blocks schedules others greedy.1 other.1)
-
-pub greedy_all_same : (lat : Latencies) (blocks : List Block) (schedules others : List Table)
-    → AreGreedy lat blocks schedules → AreGreedy lat blocks others → others ≡ schedules
-greedy_all_same lat blocks schedules others greedy other =
-    greedy_all_same_as Chain lat blocks schedules others greedy other
 
 -- Outcomes
 
@@ -163,18 +157,3 @@ total_small heuristic lat blocks schedules greedy limits =
     let few : total_cycles lat schedules ≤ most_cycles * length blocks =
     total_few heuristic lat blocks schedules greedy limits.1 in
     let most : length blocks ≤ MAX_BLOCKS = limits.0 in omega arith
-
-pub greedy_more : (lat : Latencies) (blocks : List Block) (schedules : List Table) (b : Block) (s : Table)
-    → AreGreedy lat blocks schedules → IsGreedy lat b.ops s.ops s.rows
-    → AreGreedy lat (blocks ++ b ∷ []) (schedules ++ s ∷ [])
-greedy_more lat [] [] b s are is = (is, tt)
-greedy_more lat [] (t ∷ schedules) b s are is = absurd are
-greedy_more lat (a ∷ blocks) [] b s are is = absurd are
-greedy_more lat (a ∷ blocks) (t ∷ schedules) b s are is = (are.0, greedy_more lat blocks schedules b s are.1 is)
-
--- the block that was read is short
-pub short_at : (blocks : List Block) (n : ℕ) (b : Block) → AllByRecursion (λ (a : Block). length a.ops ≤ MAX_OPS) blocks
-    → n < length blocks → b ≡ get_or blocks n b → length b.ops ≤ MAX_OPS
-short_at [] n b short within read = absurd (omega arith)
-short_at (a ∷ blocks) zero b short within read = rw read short.0
-short_at (a ∷ blocks) (suc n) b short within read = short_at blocks n b short.1 (omega arith) read

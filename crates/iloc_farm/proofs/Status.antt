@@ -13,7 +13,7 @@ use Rattle.iloc_rows.specs.declared.fault.RowsFault.TheVariants as rows
 use Rattle.iloc_ops.specs.declared.file.Block.{Block}
 use Rattle.iloc_rows.specs.EitherSlot.{placed}
 use Rattle.iloc_meaning.specs.Memory.{words_from}
-use Rattle.iloc_rows.specs.declared.proposal.Proposal.{Proposal}
+use Rattle.iloc_rows.specs.declared.proposal.Proposed.{Proposed}
 use Rattle.iloc_judge.specs.Checked.{DoTheSame}
 use Rattle.iloc_args.specs.Asked.{Asked, asked_in}
 use Rattle.iloc_args.specs.declared.fault.LineFault.TheVariants as line
@@ -34,7 +34,8 @@ use Rattle.iloc_farm.specs.Fault.{status_of_finding}
 use Rattle.iloc_farm.specs.Commands.Run.{initial_memory}
 use Rattle.iloc_farm.specs.Laws.{ReadsRows, ReadsTheSame, Status0MeansTheSame}
 use Rattle.iloc_farm.specs.Program.{Args, AskFor, IsListed, IsStopped, MakeNone, status_of}
-use Rattle.iloc_farm.specs.Run.{Checks, ListsAs, ListsFor, ListsSubmission}
+use Rattle.iloc_farm.specs.Commands.Check.{Checks}
+use Rattle.iloc_farm.specs.Run.{ListsAs}
 use Rattle.iloc_farm.proofs.Checks.{passed_keep_outcomes, passed_may_pass}
 
 -- No fault has status 0
@@ -95,7 +96,7 @@ one_asked (Err error) a b asks also = absurd asks
 record Judges (held : Held) (request : Request) (old new : Option (List ℕ)) (finding : Finding) (text : List ℕ)
     : Type 0 where
   blocks : List Block
-  proposals : List Proposal
+  proposals : List Proposed
   read : ReadsRows held (option_map string_bytes request.task_file) old new blocks proposals
   checked : Checks request blocks proposals finding text
 
@@ -104,15 +105,14 @@ judges : (held : Held) (request : Request) (old new : Option (List ℕ)) (findin
     (t : Task) (file : Option (String Global)) → t ≡ request.task → t ≡ task.Check → file ≡ request.task_file
     → ListsAs t file held request old new finding text → Judges held request old new finding text
 judges held request old new finding text task.Check None is check named lists =
-    let P : Task → Type 0 = λ t. ListsFor t request lists.input finding text in
-    let own : ListsSubmission request lists.input finding text = subst P (sym is) lists.listed in
+    let own = lists.listed in
     let Q : Option (String Global) → Type 0 = λ file.
     ReadsRows held (option_map string_bytes file) old new own.blocks own.proposals in
     record {
       blocks = own.blocks;
       proposals = own.proposals;
       read = subst Q named (record { input = lists.input; read = lists.read; denoted = own.denoted });
-      checked = own.checked;
+      checked = own.said;
     }
 judges held request old new finding text task.Check (Some name) is check named lists =
     let Q : Option (String Global) → Type 0 = λ file.
@@ -136,10 +136,10 @@ listed_same held words read_old read_new finding text a listed passed asks check
     judges held request read_old read_new finding text request.task request.task_file refl is refl listed.listed in
     let Q : Finding → Type 0 = λ f. Checks request judged.blocks judged.proposals f text in
     let T : Asked → Type 0 = λ x.
-    AllZip (λ (b : Block) (p : Proposal). DoTheSame x.outputs request.latencies b.ops p.ops p.rows) judged.blocks
+    AllZip (λ (b : Block) (p : Proposed). DoTheSame x.outputs request.latencies b.ops p.ops p.rows) judged.blocks
     (placed x.either_slot judged.proposals) in
     let R : Option (List ℕ) → Type 0 = λ file. ReadsRows held file read_old read_new judged.blocks judged.proposals in
-    let S : Asked → Type 0 = λ x. AllZip (λ (b : Block) (p : Proposal).
+    let S : Asked → Type 0 = λ x. AllZip (λ (b : Block) (p : Proposed).
     MayPass x.lawful x.outputs request.latencies (words_from x.at x.words) b.ops p.ops p.rows) judged.blocks
     (placed x.either_slot judged.proposals) in
     record {

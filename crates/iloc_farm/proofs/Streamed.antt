@@ -7,15 +7,14 @@ use Rattle.iloc_text.specs.declared.fault.StreamFault.TheVariants as stream
 use Rattle.iloc_text.specs.Files.{IsRefused}
 use Rattle.iloc_text.specs.Streams.{ReadsText, EndsStream}
 use Rattle.iloc_farm.specs.Fault.{fault_of_stream}
-use Rattle.iloc_farm.specs.Run.{Refuses}
-use Rattle.iloc_farm.specs.Steps.OfInput.{EndsFile}
+use Rattle.iloc_farm.specs.Causes.{IsCaused, Refuses, of_file}
 
 refuses : (old new : Option (List ℕ)) (fault : ReadFault)
     → (text : List ℕ) × ReadsText old new text × IsRefused text fault → Refuses IsRefused old new fault
 refuses old new fault h = record { input = h.0; read = h.1; refused = h.2 }
 
 pub ends_file : (old new : Option (List ℕ)) (fault : StreamFault) → EndsStream old new fault
-    → EndsFile old new (fault_of_stream fault)
+    → IsCaused (of_file old new) (fault_of_stream fault)
 ends_file old new stream.ReadFailed h = tt
 ends_file old new (stream.Text InputTooLong) h = refuses old new InputTooLong (h (λ e. cc))
 ends_file old new (stream.Text (BadLine n)) h = refuses old new (BadLine n) (h (λ e. cc))

@@ -7,7 +7,7 @@ use Rattle.iloc_text.specs.Files.{Denotes}
 use Rattle.iloc_text.proofs.Answer.{one_answer}
 use Rattle.iloc_rows.specs.Laws.{AreWithinLimits, SubmissionsApartAreWithinLimits}
 use Rattle.iloc_rows.specs.Submissions.{DenoteApart, ProposeApart}
-use Rattle.iloc_rows.specs.declared.proposal.Proposal.{Proposal}
+use Rattle.iloc_rows.specs.declared.proposal.Proposed.{Proposed}
 use Rattle.iloc_farm.specs.Apart.{Holds, ReadsApart, ReadsTask}
 use Rattle.iloc_text.specs.Streams.{ReadsText}
 use Rattle.iloc_farm.specs.Laws.{HandInsDontChangeTheTask}
@@ -31,7 +31,7 @@ hand_ins_dont_change_the_task known old new old' new' blocks blocks' proposals p
 
 -- rows that propose for the blocks of a task were read apart from it
 pub apart_read : (known old new : Option (List ℕ)) (blocks lent : List Block) (rows bytes : List ℕ)
-    (proposals : List Proposal) → SubmissionsApartAreWithinLimits → ReadsTask known blocks → ReadsText old new rows
+    (proposals : List Proposed) → SubmissionsApartAreWithinLimits → ReadsTask known blocks → ReadsText old new rows
     → lent ≡ blocks → bytes ≡ rows → ProposeApart lent bytes proposals
     → ReadsApart known old new blocks proposals × AreWithinLimits blocks proposals
 apart_read known old new blocks lent rows bytes proposals limits task read same whole propose =

@@ -2,7 +2,7 @@
 use Rattle.std.specs.Prelude.{ℕ, List, Option}
 use Rattle.iloc_ops.specs.declared.file.Block.{Block}
 use Rattle.iloc_rows.specs.declared.fault.RowsFault.{RowsFault}
-use Rattle.iloc_rows.specs.declared.proposal.Proposal.{Proposal}
+use Rattle.iloc_rows.specs.declared.proposal.Proposed.{Proposed}
 use Rattle.iloc_rows.specs.Submissions.{AreRefusedFor, DenoteApart, IsNoTask, IsTask}
 use Rattle.iloc_text.specs.Streams.{ReadsText}
 use Rattle.iloc_farm.specs.declared.fault.TaskFault.{TaskFault}
@@ -25,7 +25,7 @@ pub record ReadsTask (known : Option (List ℕ)) (blocks : List Block) : Type 0 
 
 -- The task that was read from one text, and the rows that were read from another, denote these blocks and what is
 -- proposed for them.
-pub record ReadsApart (known old new : Option (List ℕ)) (blocks : List Block) (proposals : List Proposal)
+pub record ReadsApart (known old new : Option (List ℕ)) (blocks : List Block) (proposals : List Proposed)
     : Type 0 where
   pub task : List ℕ
   pub held : Holds known task

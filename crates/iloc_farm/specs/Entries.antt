@@ -4,10 +4,11 @@ use Rattle.iloc_ops.specs.declared.file.Block.{Block}
 use Rattle.iloc_text.specs.Files.{Denotes}
 use Rattle.iloc_text.specs.Streams.{ReadsText}
 
--- `lists k b entry f` says that this is the entry of the block b with the number k, of which f is found
-module _ {F : Type 0} (lists : ℕ → Block → List ℕ → F → Type 0) where
-  -- the text is the entries of these blocks, numbered from k on, of which this is found
-  abbrev pub AreEntries : ℕ → List Block → List F → List ℕ → Type 0
+-- `lists k b entry f` says that this is the entry of the block b, or of what else is listed, with the number k, of which f is
+-- found
+module _ {X F : Type 0} (lists : ℕ → X → List ℕ → F → Type 0) where
+  -- the text is the entries of these, numbered from k on, of which this is found
+  abbrev pub AreEntries : ℕ → List X → List F → List ℕ → Type 0
   AreEntries k [] [] text = text ≡ []
   AreEntries k [] (f ∷ found) text = ⊥
   AreEntries k (b ∷ blocks) [] text = ⊥
@@ -15,9 +16,8 @@ module _ {F : Type 0} (lists : ℕ → Block → List ℕ → F → Type 0) wher
       (entry : List ℕ) × (rest : List ℕ) × lists k b entry f × AreEntries (k + 1) blocks found rest
       × (text ≡ entry ++ rest)
 
-  -- the text is this opening, the entries of these blocks, numbered from 1 on, and the ending that follows from what is
-  -- found of them
-  pub record IsListingAfter (opening : List ℕ) (ending : List F → List ℕ) (blocks : List Block) (text : List ℕ)
+  -- the text is this opening, the entries of these, numbered from 1 on, and the ending that follows from what is found of them
+  pub record IsListingAfter (opening : List ℕ) (ending : List F → List ℕ) (blocks : List X) (text : List ℕ)
       : Type 0 where
     pub found : List F
     pub entries : List ℕ
@@ -25,7 +25,7 @@ module _ {F : Type 0} (lists : ℕ → Block → List ℕ → F → Type 0) wher
     pub whole : text ≡ opening ++ entries ++ ending found
 
   -- without an opening
-  abbrev pub IsListingOf : (List F → List ℕ) → List Block → List ℕ → Type 0
+  abbrev pub IsListingOf : (List F → List ℕ) → List X → List ℕ → Type 0
   IsListingOf ending blocks text = IsListingAfter [] ending blocks text
 
 -- the bytes that were read denote a file, of whose blocks the text is the listing

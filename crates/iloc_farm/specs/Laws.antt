@@ -9,7 +9,7 @@ use Rattle.iloc_text.specs.Streams.{ReadsText}
 use Rattle.iloc_timed.specs.declared.latencies.Latencies.{Latencies}
 use Rattle.iloc_timed.specs.Schedule.{Table}
 use Rattle.iloc_sched.specs.declared.ranking.heuristic.Heuristic.{Heuristic}
-use Rattle.iloc_rows.specs.declared.proposal.Proposal.{Proposal}
+use Rattle.iloc_rows.specs.declared.proposal.Proposed.{Proposed}
 use Rattle.iloc_judge.specs.Checked.{DoTheSame, MayPass}
 use Rattle.iloc_rows.specs.EitherSlot.{placed}
 use Rattle.iloc_rows.specs.Submissions as submissions
@@ -61,23 +61,23 @@ ChecksIgnoreWorkers = (r q : Request) → AskAlike r q → IsTrue (takes_rows r.
 -- every memory or, where outputs alone are compared, show what it shows
 abbrev pub PassedChecksKeepOutcomes : Type 0
 PassedChecksKeepOutcomes = (lawful csv outputs : Bool) (lat : Latencies) (memory : List ℤ) (blocks : List Block)
-    (proposals : List Proposal) (text : List ℕ) → ListsChecked lawful csv outputs lat memory blocks proposals Passed text
-    → AllZip (λ (b : Block) (p : Proposal). DoTheSame outputs lat b.ops p.ops p.rows) blocks proposals
+    (proposals : List Proposed) (text : List ℕ) → ListsChecked lawful csv outputs lat memory blocks proposals Passed text
+    → AllZip (λ (b : Block) (p : Proposed). DoTheSame outputs lat b.ops p.ops p.rows) blocks proposals
 
 -- and they pass only if they may
 abbrev pub PassedChecksMayPass : Type 0
 PassedChecksMayPass = (lawful csv outputs : Bool) (lat : Latencies) (memory : List ℤ) (blocks : List Block)
-    (proposals : List Proposal) (text : List ℕ) → ListsChecked lawful csv outputs lat memory blocks proposals Passed text
-    → AllZip (λ (b : Block) (p : Proposal). MayPass lawful outputs lat memory b.ops p.ops p.rows) blocks proposals
+    (proposals : List Proposed) (text : List ℕ) → ListsChecked lawful csv outputs lat memory blocks proposals Passed text
+    → AllZip (λ (b : Block) (p : Proposed). MayPass lawful outputs lat memory b.ops p.ops p.rows) blocks proposals
 
 -- one input was read, which denotes blocks and the rows that are proposed for them
-pub record ReadsSubmission (old new : Option (List ℕ)) (blocks : List Block) (proposals : List Proposal) : Type 0 where
+pub record ReadsSubmission (old new : Option (List ℕ)) (blocks : List Block) (proposals : List Proposed) : Type 0 where
   pub input : List ℕ
   pub read : ReadsText old new input
   pub denoted : submissions.Denotes input blocks proposals
 
 -- blocks and rows were read: of one input or, where a file is named, the blocks of that file alone
-abbrev pub ReadsRows : Held → Option (List ℕ) → Option (List ℕ) → Option (List ℕ) → List Block → List Proposal → Type 0
+abbrev pub ReadsRows : Held → Option (List ℕ) → Option (List ℕ) → Option (List ℕ) → List Block → List Proposed → Type 0
 ReadsRows held None old new blocks proposals = ReadsSubmission old new blocks proposals
 ReadsRows held (Some name) old new blocks proposals = ReadsApart (held name) old new blocks proposals
 
@@ -87,15 +87,15 @@ ReadsRows held (Some name) old new blocks proposals = ReadsApart (held name) old
 -- memory that is, and has a store or an output, or an output where outputs alone are compared.
 pub record ReadsTheSame (held : Held) (asked : Asked) (old new : Option (List ℕ)) : Type 0 where
   pub blocks : List Block
-  pub proposals : List Proposal
+  pub proposals : List Proposed
   pub read : ReadsRows held asked.task_file old new blocks proposals
   pub latencies : Latencies
   pub load : latencies.load ≡ asked.load
   pub store : latencies.store ≡ asked.store
   pub mult : latencies.mult ≡ asked.mult
-  pub same : AllZip (λ (b : Block) (p : Proposal). DoTheSame asked.outputs latencies b.ops p.ops p.rows) blocks
+  pub same : AllZip (λ (b : Block) (p : Proposed). DoTheSame asked.outputs latencies b.ops p.ops p.rows) blocks
       (placed asked.either_slot proposals)
-  pub told : AllZip (λ (b : Block) (p : Proposal).
+  pub told : AllZip (λ (b : Block) (p : Proposed).
       MayPass asked.lawful asked.outputs latencies (words_from asked.at asked.words) b.ops p.ops p.rows) blocks
       (placed asked.either_slot proposals)
 
@@ -109,7 +109,7 @@ Status0MeansTheSame = (held : Held) (words : Result Args Error)
 -- of a text that is known, two checks judge the same blocks, whatever was handed in to each
 abbrev pub HandInsDontChangeTheTask : Type 0
 HandInsDontChangeTheTask = (known : List ℕ) (old new old' new' : Option (List ℕ)) (blocks blocks' : List Block)
-    (proposals proposals' : List Proposal) → ReadsApart (Some known) old new blocks proposals
+    (proposals proposals' : List Proposed) → ReadsApart (Some known) old new blocks proposals
     → ReadsApart (Some known) old' new' blocks' proposals' → blocks ≡ blocks'
 
 -- By every heuristic, the greedy schedules of blocks within the limits are as many as the blocks, and their cycles together

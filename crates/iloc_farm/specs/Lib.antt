@@ -1,4 +1,6 @@
 pub mod Apart
+pub mod Causes
+pub mod Command
 pub mod Commands
 pub mod Device
 pub mod Entries
@@ -8,6 +10,7 @@ pub mod Laws
 pub mod Listing
 pub mod Program
 pub mod Schedules
+pub mod Rows
 pub mod Run
 pub mod Steps
 pub mod Work

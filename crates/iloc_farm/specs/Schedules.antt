@@ -8,7 +8,6 @@ use Rattle.iloc_timed.specs.declared.latencies.Latencies.{Latencies}
 use Rattle.iloc_timed.specs.Schedule.{Table}
 use Rattle.iloc_timed.specs.Timed.{timed_outcome}
 use Rattle.iloc_sched.specs.declared.ranking.heuristic.Heuristic.{Heuristic}
-use Rattle.iloc_sched.specs.declared.ranking.heuristic.Heuristic.TheVariants.{Chain}
 use Rattle.iloc_sched.specs.Greedy.{IsGreedyBy}
 use Rattle.iloc_sched.specs.Heuristics.{priorities_by}
 use Rattle.iloc_farm.specs.Listing.{cycles_of}
@@ -24,10 +23,6 @@ AreGreedyAs heuristic lat [] (s ∷ schedules) = ⊥
 AreGreedyAs heuristic lat (b ∷ blocks) [] = ⊥
 AreGreedyAs heuristic lat (b ∷ blocks) (s ∷ schedules) =
     IsGreedyAs heuristic lat b.ops s × AreGreedyAs heuristic lat blocks schedules
-
--- by the longest chains of delays
-abbrev pub AreGreedy : Latencies → List Block → List Table → Type 0
-AreGreedy lat blocks schedules = AreGreedyAs Chain lat blocks schedules
 
 -- the schedule is that of block i, greedy by this heuristic
 abbrev pub IsScheduleOf : Heuristic → Latencies → List Block → ℕ → Table → Type 0
@@ -48,9 +43,6 @@ pub record IsCount (heuristic : Heuristic) (lat : Latencies) (b : Block) (cycles
 abbrev pub AreTheOnlyGreedyAs : Heuristic → Latencies → List Block → List Table → Type 0
 AreTheOnlyGreedyAs heuristic lat blocks schedules =
     (others : List Table) → AreGreedyAs heuristic lat blocks others → others ≡ schedules
-
-abbrev pub AreTheOnlyGreedy : Latencies → List Block → List Table → Type 0
-AreTheOnlyGreedy lat blocks schedules = AreTheOnlyGreedyAs Chain lat blocks schedules
 
 -- what comes of the blocks, each run plainly on this memory
 abbrev pub plain_outcomes : List ℤ → List Block → List Outcome

@@ -3,8 +3,6 @@ pub mod Tallies
 pub mod Text
 pub mod Joined
 pub mod Listed
-pub mod OfInput
-pub mod OfTask
+pub mod Coming
 pub mod Limits
 pub mod Checking
-pub mod Telling

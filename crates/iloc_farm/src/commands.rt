@@ -1,9 +1,11 @@
 //! The commands: what each lists of what is read, and what it finds.
-ghost use Rattle.std.specs.Prelude.{◌≡◌, IfErr, IfOk};
+ghost use Rattle.std.specs.Prelude.{◌≡◌};
+ghost use Rattle.iloc_farm.specs.Apart.{Held};
+ghost use Rattle.iloc_farm.specs.Command.{Shared, of_files};
+ghost use Rattle.iloc_farm.specs.Commands.{command_of};
+ghost use Rattle.iloc_farm.specs.Entries.{IsListingOf};
 ghost use Rattle.iloc_farm.specs.Fault.{finding_of, finding_of_text, status_of_finding};
-ghost use Rattle.iloc_farm.specs.Run.{ListsFrom};
-ghost use Rattle.iloc_farm.specs.Work.{HasReceipt};
-ghost use Rattle.iloc_farm.specs.Steps.OfInput.{EndsReading};
+ghost use Rattle.iloc_farm.specs.Steps.Coming.{ComesTo};
 
 mod check;
 mod compare;
@@ -17,10 +19,11 @@ mod schedule;
 mod simulate;
 mod totals;
 mod trace;
+mod trace_rows;
 
-use crate::farmed::listed_by_workers;
+use crate::farmed::{FarmedLister, listed_by_workers};
 use crate::fault::RunFault;
-use crate::lister::listed_as_read;
+use crate::lister::{Lister, listed_as_read};
 use crate::listing::text::Listing;
 use crate::texts::Texts;
 use check::checked;
@@ -38,7 +41,7 @@ use std::alloc::Global;
 use std::io::Read;
 use std::sync::Wait;
 use std::thread::Threads;
-use trace::TraceLister;
+use trace::traced;
 
 /// What a run found out about the schedules that it judged.
 #[derive(Clone, Copy, Debug, Drop, PartialEq, Eq)]
@@ -105,6 +108,35 @@ impl Listed {
     }
 }
 
+/// What a command that shares no block lists of the file that the reader gives.
+fn alone<L: Lister, R: Read>(
+    alloc: Global,
+    reader: &mut R,
+    request: &Request,
+) -> Result<(Listed, Option<Receipt>), RunFault>
+    ensures { (held : Held) → ComesTo (of_files (λ asked. IsListingOf (L.lists asked) L.ending)) held request.now
+        (R.remaining reader.old) (R.remaining reader.new) result }
+{
+    let text = listed_as_read::<L, R>(alloc, reader, request)?;
+    Ok((Listed::of_file(text), None))
+}
+
+/// What a command whose blocks workers share lists of the file that the reader gives, and the receipt for their work.
+fn shared<L: FarmedLister + Send + Sync, H: Threads + Wait + Sync, R: Read>(
+    rt: &H,
+    alloc: Global,
+    reader: &mut R,
+    request: &Request,
+) -> Result<(Listed, Option<Receipt>), RunFault>
+where
+    L::Answer: Send,
+    ensures { (held : Held) → ComesTo (record (of_files L.lists) { listers = Shared L.Answer L.answers L.cycles_in }) held
+        request.now (R.remaining reader.old) (R.remaining reader.new) result }
+{
+    let (text, receipt) = listed_by_workers::<L, H, R>(rt, alloc, reader, request)?;
+    Ok((Listed::of_file(text), Some(receipt)))
+}
+
 /// What the request lists of what the reader gives and, where it names a file of blocks, of that text; and the receipt for the
 /// work of those who made its entries, if they were workers.
 pub(crate) fn list<H: Threads + Wait + Sync, T: Texts, R: Read>(
@@ -114,50 +146,19 @@ pub(crate) fn list<H: Threads + Wait + Sync, T: Texts, R: Read>(
     reader: &mut R,
     request: &Request,
 ) -> Result<(Listed, Option<Receipt>), RunFault>
-    ensures ok { IfOk result (λ r. ListsFrom (T.held texts.now) request.now
-        (R.remaining reader.old) (R.remaining reader.new) r.0.finding r.0.text) }
-    ensures work { IfOk result (λ r. HasReceipt request.now.task request.now
-        (R.remaining reader.old) (R.remaining reader.new) r.0.text r.1) }
-    ensures err { IfErr result (EndsReading (T.held texts.now) request.now
-        (R.remaining reader.old) (R.remaining reader.new)) }
+    ensures { ComesTo (command_of request.now.task) (T.held texts.now) request.now
+        (R.remaining reader.old) (R.remaining reader.new) result }
 {
     match request.task {
-        Task::Run => {
-            let text = listed_as_read::<RunLister, R>(alloc, reader, request)?;
-            Ok((Listed::of_file(text), None))
-        }
-        Task::Simulate => {
-            let text = listed_as_read::<SimulateLister, R>(alloc, reader, request)?;
-            Ok((Listed::of_file(text), None))
-        }
-        Task::Trace => {
-            let text = listed_as_read::<TraceLister, R>(alloc, reader, request)?;
-            Ok((Listed::of_file(text), None))
-        }
-        Task::Schedule => {
-            let (text, receipt) = listed_by_workers::<ScheduleLister, H, R>(
-                rt, alloc, reader, request,
-            )?;
-            Ok((Listed::of_file(text), Some(receipt)))
-        }
-        Task::Counts => {
-            let (text, receipt) = listed_by_workers::<CountLister, H, R>(
-                rt, alloc, reader, request,
-            )?;
-            Ok((Listed::of_file(text), Some(receipt)))
-        }
-        Task::Compare => {
-            let (text, receipt) = listed_by_workers::<CompareLister, H, R>(
-                rt, alloc, reader, request,
-            )?;
-            Ok((Listed::of_file(text), Some(receipt)))
-        }
+        Task::Run => alone::<RunLister, R>(alloc, reader, request),
+        Task::Simulate => alone::<SimulateLister, R>(alloc, reader, request),
+        Task::Trace => Ok((traced(alloc, texts, reader, request)?, None)),
+        Task::Schedule => shared::<ScheduleLister, H, R>(rt, alloc, reader, request),
+        Task::Counts => shared::<CountLister, H, R>(rt, alloc, reader, request),
+        Task::Compare => shared::<CompareLister, H, R>(rt, alloc, reader, request),
         Task::Explain => Ok((explained(alloc, texts, reader, request)?, None)),
-        Task::Graph => {
-            let text = listed_as_read::<GraphLister, R>(alloc, reader, request)?;
-            Ok((Listed::of_file(text), None))
-        }
+        Task::Graph => alone::<GraphLister, R>(alloc, reader, request),
         Task::Check => Ok((checked(alloc, texts, reader, request)?, None)),
-        Task::Lint => Ok((linted(alloc, reader, request)?, None)),
+        Task::Lint => Ok((linted(alloc, reader)?, None)),
     }
 }

@@ -5,7 +5,7 @@ ghost use Rattle.iloc_ops.specs.declared.file.Block.{Block as block_value};
 ghost use Rattle.iloc_args.specs.declared.request.Request.{Request as request_value};
 ghost use Rattle.iloc_text.specs.Files.{AreWithinLimits};
 ghost use Rattle.iloc_farm.specs.Entries.{AreListed, OfBlock};
-ghost use Rattle.iloc_farm.specs.Steps.OfInput.{EndsFarm};
+ghost use Rattle.iloc_farm.specs.Causes.{IsCaused, of_shared_file};
 ghost use Rattle.iloc_farm.specs.Work.{AreFarmed, ListsFarmed};
 
 use crate::fault::{FarmFault, RunFault};
@@ -164,7 +164,8 @@ where
 {
     let jobs = ListedJobs::<L>::new(blocks, request);
     let desks = desks::<L>(alloc, request)?;
-    Ok(farm_out(rt, alloc, &jobs, desks, &FreeGate)?.into_parts())
+    let (answers, receipt) = farm_out(rt, alloc, &jobs, desks, &FreeGate)?.into_parts();
+    Ok((answers, receipt))
 }
 
 /// The listing of the file that the reader gives, for whose blocks the request's workers make the answers, and the receipt for
@@ -180,7 +181,7 @@ where
     ensures ok { IfOk result (λ listed.
         ListsFarmed (L.answers request.now) L.cycles_in (L.lists request.now) request.now.workers
         (R.remaining reader.old) (R.remaining reader.new) listed.0 listed.1) }
-    ensures err { IfErr result (EndsFarm (R.remaining reader.old) (R.remaining reader.new)) }
+    ensures err { IfErr result (IsCaused (of_shared_file (R.remaining reader.old) (R.remaining reader.new))) }
 {
     let blocks = read_blocks(rt, alloc, reader, request)?;
     let (answers, receipt) = answers_of::<H, L>(rt, alloc, blocks.as_slice(), request)?;

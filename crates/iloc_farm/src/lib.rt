@@ -11,6 +11,7 @@ mod lister;
 mod listing;
 mod program;
 mod reading;
+mod rows;
 mod texts;
 mod workers;
 

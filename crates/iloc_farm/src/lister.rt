@@ -6,7 +6,7 @@ ghost use Rattle.iloc_args.specs.declared.request.Request.{Request as request_va
 ghost use Rattle.iloc_farm.specs.Commands.Run.{initial_memory};
 ghost use Rattle.iloc_farm.specs.Entries.{IsListingOf, ListsRead};
 ghost use Rattle.iloc_farm.specs.Steps.Listed.{Adds};
-ghost use Rattle.iloc_farm.specs.Steps.OfInput.{EndsFile};
+ghost use Rattle.iloc_farm.specs.Causes.{IsCaused, of_file};
 
 use crate::fault::RunFault;
 use crate::listing::text::Listing;
@@ -112,7 +112,7 @@ pub(crate) fn listed_as_read<L: Lister, R: Read>(
 ) -> Result<Listing, RunFault>
     ensures ok { IfOk result
         (ListsRead (IsListingOf (L.lists request.now) L.ending) (R.remaining reader.old) (R.remaining reader.new)) }
-    ensures err { IfErr result (EndsFile (R.remaining reader.old) (R.remaining reader.new)) }
+    ensures err { IfErr result (IsCaused (of_file (R.remaining reader.old) (R.remaining reader.new))) }
 {
     files_are_within_limits();
     let lister = L::new(alloc, request)?;

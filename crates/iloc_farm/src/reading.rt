@@ -2,7 +2,7 @@
 ghost use Rattle.std.specs.Prelude.{IfErr, IfOk, List, ℕ};
 ghost use Rattle.iloc_text.specs.Files.{AreWithinLimits, Denotes};
 ghost use Rattle.iloc_text.specs.Streams.{ReadsText};
-ghost use Rattle.iloc_farm.specs.Steps.OfInput.{EndsFile};
+ghost use Rattle.iloc_farm.specs.Causes.{IsCaused, of_file};
 
 mod parts;
 pub(crate) mod task;
@@ -27,7 +27,7 @@ pub(crate) fn read_blocks<H: Threads + Wait + Sync, R: Read>(
     ensures ok { IfOk result (λ blocks. (input : List ℕ) ×
         ReadsText (R.remaining reader.old) (R.remaining reader.new) input ×
         Denotes input blocks × AreWithinLimits blocks) }
-    ensures err { IfErr result (EndsFile (R.remaining reader.old) (R.remaining reader.new)) }
+    ensures err { IfErr result (IsCaused (of_file (R.remaining reader.old) (R.remaining reader.new))) }
 {
     if request.workers == 1 {
         return Ok(read_file_from(alloc, reader)?.blocks);

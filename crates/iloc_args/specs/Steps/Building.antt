@@ -1,12 +1,16 @@
 -- The parser in the making: its arguments and its commands, one by one.
-use Rattle.std.specs.Prelude.{◌≡◌, List, [], ◌∷◌, Some, false, fold}
+use Rattle.std.specs.Prelude.{◌≡◌, List, [], ◌∷◌, Some, codes, false, fold, map}
 use Rattle.clap.specs.declared.builder.arg.Arg.{Arg}
 use Rattle.clap.specs.declared.builder.command.Command.{Command}
 use Rattle.clap.specs.declared.builder.command.Command.TheViews.{out-Command}
 use Rattle.clap.specs.declared.builder.value_parser.ValueParser.{ValueParser}
-use Rattle.clap.specs.Words.{App, Rule, Shape, Text, app_of, new_rule, rule_of, with_rule}
+use Rattle.clap.specs.Words.{App, Rule, Shape, Text, app_of, new_rule, rule_of, with_subcommand}
 use Rattle.clap.specs.Simple.{new_shape}
-use Rattle.iloc_args.specs.Command.{Subcommand, at_rule, shape, words_rule, workers_rule}
+use Rattle.iloc_args.specs.Command.{Subcommand, at_rule, csv_rule, either_slot_rule, latency_rule, lawful_rule, outputs_rule, priority_rule, shape, top_shape}
+use Rattle.iloc_args.specs.Command.{task_rule, words_rule, workers_rule}
+use Rattle.iloc_args.specs.declared.command.Argument.{Argument}
+use Rattle.iloc_args.specs.declared.command.Argument.TheVariants.{At, Words, Workers, Load, Store, Mult, Priority, Csv, Task, Lawful, Outputs, EitherSlot, EitherSlotWithTask}
+use Rattle.iloc_args.specs.declared.command.Entry.{Entry}
 
 -- `--NAME N`, a number that this parser takes, and this one where it is not given
 abbrev pub option_rule : Text → Text → ValueParser → Rule
@@ -24,14 +28,6 @@ alone s = record { top = s; subs = [] }
 abbrev pub app : Subcommand → App
 app e = alone (shape e)
 
--- a command of this name that takes words and their start
-abbrev pub memory_shape : Text → Shape
-memory_shape name = record (new_shape name) { rules = at_rule ∷ words_rule ∷ [] }
-
--- one that takes the number of workers
-abbrev pub workers_shape : Text → Shape
-workers_shape name = record (new_shape name) { rules = workers_rule ∷ [] }
-
 -- the argument has this rule, and is for its own command alone
 pub record HasRule (wanted : Rule) (a : Arg) : Type 0 where
   pub rule : rule_of a ≡ wanted
@@ -42,10 +38,34 @@ pub record HasApp (wanted : App) (c : Command) : Type 0 where
   pub app : app_of c ≡ wanted
   pub globals : (out-Command c).has_globals ≡ false
 
--- the new command is the old one with these arguments after its own, which are for it alone
-pub record AddsRules (rules : List Rule) (old new : Command) : Type 0 where
-  pub app : (a : App) → HasApp a old → HasApp (fold with_rule a rules) new
+-- the rule of an argument
+abbrev pub rule_for : Argument → Rule
+rule_for At = at_rule
+rule_for Words = words_rule
+rule_for Workers = workers_rule
+rule_for Load = latency_rule (codes "load") (codes "5")
+rule_for Store = latency_rule (codes "store") (codes "5")
+rule_for Mult = latency_rule (codes "mult") (codes "3")
+rule_for Priority = priority_rule
+rule_for Csv = csv_rule
+rule_for Task = task_rule
+rule_for Lawful = lawful_rule
+rule_for Outputs = outputs_rule
+rule_for EitherSlot = either_slot_rule
+rule_for EitherSlotWithTask = either_slot_rule
 
--- so it is with this argument, whatever its rule
-abbrev pub AddsArgument : Arg → Command → Command → Type 0
-AddsArgument a old new = (rule : Rule) → HasRule rule a → AddsRules (rule ∷ []) old new
+-- the command that an entry of the table stands for
+abbrev pub subcommand_for : Entry → Subcommand
+subcommand_for e = record { name = e.name.now; task = e.task; rules = map rule_for e.arguments.now }
+
+-- a command of this name with these arguments
+abbrev pub with_arguments : Text → List Argument → App
+with_arguments name arguments = alone (record (new_shape name) { rules = map rule_for arguments })
+
+-- and as the parser has it
+abbrev pub app_for : Entry → App
+app_for e = with_arguments e.name.now e.arguments.now
+
+-- the program with these commands
+abbrev pub app_with : List Entry → App
+app_with entries = fold (λ a e. with_subcommand a (app_for e).top) (alone top_shape) entries

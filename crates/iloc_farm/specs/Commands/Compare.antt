@@ -13,6 +13,7 @@ use Rattle.iloc_farm.specs.declared.commands.compare.ComparedCycles.{ComparedCyc
 use Rattle.iloc_farm.specs.Entries.{IsListingAfter}
 use Rattle.iloc_farm.specs.Listing.{field, head_as, opening_as}
 use Rattle.iloc_farm.specs.Schedules.{IsCount}
+use Rattle.iloc_farm.specs.Command.{Command, Shared, of_files}
 
 -- the heuristics, in the order in which they are listed
 abbrev pub heuristics : List Heuristic
@@ -101,3 +102,9 @@ abbrev pub IsCompareListing : Request → List Block → List ℕ → Type 0
 IsCompareListing request blocks text =
     IsListingAfter (IsCompareEntry request) (opening_as request.csv compare_header) (compare_ending request.csv) blocks
     text
+
+-- workers hand back all that is compared
+abbrev pub compare_command : Command
+compare_command = record (of_files IsCompareListing) {
+  listers = Shared ComparedCycles (λ request k b c. IsComparedCycles request.latencies b c) (cycles_by Chain);
+}

@@ -6,7 +6,8 @@ use Rattle.iloc_timed.specs.Schedule.{Table}
 use Rattle.iloc_args.specs.declared.request.Request.{Request}
 use Rattle.iloc_farm.specs.Entries.{IsListingAfter}
 use Rattle.iloc_farm.specs.Listing.{field, cycles_of, entries, head_as, opening_as, total_line, total_of_all}
-use Rattle.iloc_farm.specs.Schedules.{IsTheGreedy}
+use Rattle.iloc_farm.specs.Schedules.{IsCount, IsTheGreedy}
+use Rattle.iloc_farm.specs.Command.{Command, Shared, of_files}
 
 -- `block K NAME cycles C`, or `K,NAME,C` in a table
 abbrev pub count_line : Bool → ℕ → Option (List ℕ) → ℕ → List ℕ
@@ -40,3 +41,9 @@ count_ending false cycles = total_of_all cycles
 abbrev pub IsCountListing : Request → List Block → List ℕ → Type 0
 IsCountListing request blocks text =
     IsListingAfter (IsCountEntry request) (opening_as request.csv count_header) (count_ending request.csv) blocks text
+
+-- workers hand back the cycles
+abbrev pub counts_command : Command
+counts_command = record (of_files IsCountListing) {
+  listers = Shared ℕ (λ request k b c. IsCount request.priority request.latencies b c) (λ c. c);
+}

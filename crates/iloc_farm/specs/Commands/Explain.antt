@@ -1,11 +1,14 @@
 -- `explain` lists why each block's schedule takes its cycles.
-use Rattle.std.specs.Prelude.{◌≡◌, ℕ, List, ◌++◌, codes}
+use Rattle.std.specs.Prelude.{◌≡◌, ℕ, true, List, ◌++◌, codes}
 use Rattle.iloc_ops.specs.declared.file.Block.{Block}
 use Rattle.iloc_timed.specs.Schedule.{Table}
 use Rattle.iloc_explain.specs.Listing.{IsExplanation}
 use Rattle.iloc_args.specs.declared.request.Request.{Request}
-use Rattle.iloc_farm.specs.Listing.{block_head, cycles_of}
+use Rattle.iloc_farm.specs.Listing.{block_head, cycles_of, total_of_all}
 use Rattle.iloc_farm.specs.Schedules.{IsTheGreedy}
+use Rattle.iloc_farm.specs.Command.{Command, of_files}
+use Rattle.iloc_farm.specs.Commands.ExplainRows.{Explains}
+use Rattle.iloc_farm.specs.Entries.{IsListingOf}
 
 -- the entry of block k: its number and its name, and what explains its greedy schedule, whose cycles are found
 pub record IsExplainEntry (request : Request) (k : ℕ) (b : Block) (entry : List ℕ) (cycles : ℕ) : Type 0 where
@@ -15,3 +18,9 @@ pub record IsExplainEntry (request : Request) (k : ℕ) (b : Block) (entry : Lis
   pub explains : IsExplanation request.priority request.latencies b.ops schedule.ops schedule.rows schedule.ops text
   pub listed : entry ≡ block_head k b.name ++ codes "\n" ++ text
   pub counted : cycles ≡ cycles_of request.latencies schedule
+
+abbrev pub explain_command : Command
+explain_command = record (of_files (λ request. IsListingOf (IsExplainEntry request) total_of_all)) {
+  takes_task = true;
+  says = Explains;
+}

@@ -3,6 +3,8 @@ use Rattle.std.specs.Prelude.{◌≡◌, ℕ, ◌==◌, if◌then◌else◌, Lis
 use Rattle.iloc_ops.specs.declared.file.Block.{Block}
 use Rattle.iloc_graph.specs.Listing.{IsCluster, opening, closing}
 use Rattle.iloc_args.specs.declared.request.Request.{Request}
+use Rattle.iloc_farm.specs.Command.{Command, of_files}
+use Rattle.iloc_farm.specs.Entries.{IsListingOf}
 
 -- the first block opens the drawing
 abbrev pub opening_at : ℕ → List ℕ
@@ -18,3 +20,6 @@ pub record IsGraphEntry (request : Request) (k : ℕ) (b : Block) (entry : List 
 abbrev pub drawing_end : List (Unit {0}) → List ℕ
 drawing_end [] = opening ++ closing
 drawing_end (f ∷ found) = closing
+
+abbrev pub graph_command : Command
+graph_command = of_files (λ request. IsListingOf (IsGraphEntry request) drawing_end)

@@ -5,6 +5,8 @@ use Rattle.iloc_meaning.specs.Memory.{words_from}
 use Rattle.iloc_meaning.specs.Outcome.{outcome}
 use Rattle.iloc_args.specs.declared.request.Request.{Request}
 use Rattle.iloc_farm.specs.Listing.{outcome_entry}
+use Rattle.iloc_farm.specs.Command.{Command, of_files}
+use Rattle.iloc_farm.specs.Entries.{IsListingOf}
 
 -- the memory that a request has each block start with
 abbrev pub initial_memory : Request → List ℤ
@@ -18,3 +20,6 @@ IsRunEntry request k b entry found = entry ≡ outcome_entry k b.name (outcome b
 -- there is no ending
 abbrev pub no_ending : List (Unit {0}) → List ℕ
 no_ending found = []
+
+abbrev pub run_command : Command
+run_command = of_files (λ request. IsListingOf (IsRunEntry request) no_ending)

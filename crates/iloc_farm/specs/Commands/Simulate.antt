@@ -4,9 +4,11 @@ use Rattle.iloc_ops.specs.declared.file.Block.{Block}
 use Rattle.iloc_timed.specs.Schedule.{Table}
 use Rattle.iloc_timed.specs.Timed.{timed_outcome}
 use Rattle.iloc_args.specs.declared.request.Request.{Request}
-use Rattle.iloc_farm.specs.Commands.Run.{IsRunEntry, initial_memory}
+use Rattle.iloc_farm.specs.Commands.Run.{IsRunEntry, initial_memory, no_ending}
 use Rattle.iloc_farm.specs.Listing.{outcome_entry}
 use Rattle.iloc_farm.specs.Schedules.{IsTheGreedy}
+use Rattle.iloc_farm.specs.Command.{Command, of_files}
+use Rattle.iloc_farm.specs.Entries.{IsListingOf}
 
 -- The entry of block k: its number and its name, and what its greedy schedule emits on the request's memory, or that it
 -- faults. It is the entry that `run` has.
@@ -16,3 +18,6 @@ pub record IsSimulateEntry (request : Request) (k : ℕ) (b : Block) (entry : Li
   pub timed : entry ≡ outcome_entry k b.name
       (timed_outcome request.latencies schedule.ops schedule.rows (initial_memory request))
   pub plain : IsRunEntry request k b entry found
+
+abbrev pub simulate_command : Command
+simulate_command = of_files (λ request. IsListingOf (IsSimulateEntry request) no_ending)

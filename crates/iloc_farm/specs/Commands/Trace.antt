@@ -1,13 +1,16 @@
 -- `trace` lists what each block's schedule does on the timed machine.
-use Rattle.std.specs.Prelude.{◌≡◌, ℕ, List, ◌++◌, codes}
+use Rattle.std.specs.Prelude.{◌≡◌, ℕ, true, List, ◌++◌, codes}
 use Rattle.iloc_ops.specs.declared.file.Block.{Block}
 use Rattle.iloc_timed.specs.Schedule.{Table}
 use Rattle.iloc_trace.specs.Events.{events}
 use Rattle.iloc_trace.specs.Listing.{trace_lines}
 use Rattle.iloc_args.specs.declared.request.Request.{Request}
-use Rattle.iloc_farm.specs.Commands.Run.{initial_memory}
+use Rattle.iloc_farm.specs.Commands.Run.{initial_memory, no_ending}
+use Rattle.iloc_farm.specs.Commands.TraceRows.{Traces}
 use Rattle.iloc_farm.specs.Listing.{block_head}
 use Rattle.iloc_farm.specs.Schedules.{IsTheGreedy}
+use Rattle.iloc_farm.specs.Command.{Command, of_files}
+use Rattle.iloc_farm.specs.Entries.{IsListingOf}
 
 -- the entry of block k: its number and its name, and what its greedy schedule does on the request's memory
 pub record IsTraceEntry (request : Request) (k : ℕ) (b : Block) (entry : List ℕ) (found : Unit {0}) : Type 0 where
@@ -15,3 +18,9 @@ pub record IsTraceEntry (request : Request) (k : ℕ) (b : Block) (entry : List 
   pub greedy : IsTheGreedy request.priority request.latencies b schedule
   pub listed : entry ≡ block_head k b.name ++ codes "\n"
       ++ trace_lines (events request.latencies (initial_memory request) schedule.ops schedule.rows)
+
+abbrev pub trace_command : Command
+trace_command = record (of_files (λ request. IsListingOf (IsTraceEntry request) no_ending)) {
+  takes_task = true;
+  says = Traces;
+}

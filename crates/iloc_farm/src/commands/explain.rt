@@ -1,14 +1,14 @@
 //! `explain`: why blocks' schedules take their cycles.
 ghost use Rattle.std.specs.Prelude.{◌≡◌, IfErr, IfOk};
 ghost use Rattle.iloc_args.specs.declared.request.Task.TheVariants as task;
-ghost use Rattle.iloc_farm.specs.Run.{ListsFrom};
-ghost use Rattle.iloc_farm.specs.Steps.OfInput.{EndsReading};
+ghost use Rattle.iloc_farm.specs.Run.{EndsReading, ListsFrom};
 
 use crate::commands::Listed;
-use crate::commands::explain_rows::explained_apart;
+use crate::commands::explain_rows::RowsExplainer;
 use crate::fault::RunFault;
 use crate::lister::{Lister, listed_as_read};
 use crate::listing::{count_of, push_block_head, push_total_of};
+use crate::rows::listed_apart;
 use crate::texts::Texts;
 use iloc_args::Request;
 use iloc_explain::push_explanation;
@@ -83,6 +83,8 @@ pub(crate) fn explained<T: Texts, R: Read>(
             let text = listed_as_read::<ExplainLister, R>(alloc, reader, request)?;
             Ok(Listed::of_file(text))
         }
-        Some(name) => explained_apart(alloc, texts, name.as_str(), reader, request),
+        Some(name) => {
+            listed_apart::<RowsExplainer, T, R>(alloc, texts, name.as_str(), reader, request)
+        }
     }
 }

@@ -1,127 +1,101 @@
 //! `explain --task`: why the rows that others proposed for blocks take their cycles.
-ghost use Rattle.std.specs.Prelude.{◌≡◌, ◌+◌, ◌<◌, ◌^◌, [], IfErr, IfOk};
-ghost use Rattle.iloc_rows.specs.Laws.{AreWithinLimits};
-ghost use Rattle.iloc_farm.specs.Commands.ExplainRows.{ExplainsRows};
-ghost use Rattle.iloc_farm.specs.Run.{Explains, ListsApart};
-ghost use Rattle.iloc_farm.specs.Steps.OfTask.{EndsApart};
-ghost use Rattle.iloc_farm.specs.Steps.Telling.{found_of, with_rows};
+ghost use Rattle.std.specs.Prelude.{◌≡◌, ◌≤◌, ◌<◌, ◌^◌, length, sum_by};
+ghost use Rattle.std.specs.List.{All};
+ghost use Rattle.iloc_ops.specs.Limits.{MAX_BLOCKS};
+ghost use Rattle.iloc_judge.specs.declared.explained.ExplainedRows.{ExplainedRows as explained_rows};
+ghost use Rattle.iloc_farm.specs.Steps.Limits.{most_proposed_cycles};
 
-use crate::commands::{Finding, Listed};
-use crate::fault::RunFault;
-use crate::listing::text::Listing;
+use crate::commands::Finding;
 use crate::listing::{push_block_head, push_total};
-use crate::reading::task::submission_apart;
-use crate::texts::Texts;
+use crate::rows::RowLister;
 use iloc_args::Request;
-use iloc_judge::{ExplainedRows, push_rows_explanation};
-use iloc_rows::Submission;
-use iloc_rows::laws::placed_rows_are_within_limits;
+use iloc_judge::{ExplainedRows, Task, push_rows_explanation};
+use iloc_rows::Proposal;
 use iloc_sched::Scheduler;
-use iloc_text::{MAX_OPS, NoMemory};
+use iloc_text::{Block, NoMemory};
 use iloc_timed::MAX_ROWS;
 use std::alloc::Global;
-use std::io::Read;
 
-/// What was found of the proposals for some blocks.
-#[derive(Clone, Copy)]
-struct Found {
-    /// How many blocks those are.
-    blocks: usize,
-    /// The cycles of the proposals together.
-    cycles: u64,
-    /// Whether each is known to be by the book.
-    all_lawful: bool,
-}
+/// Lists why what is proposed for each block takes its cycles.
+#[derive(Drop)]
+pub(crate) struct RowsExplainer(Scheduler);
 
-impl Found {
-    /// Of no block.
-    fn none() -> Found
-        ensures { result ≡ found_of [] }
-    {
-        Found {
-            blocks: 0,
-            cycles: 0,
-            all_lawful: true,
-        }
-    }
-
-    /// Adds what was found of one proposal more.
-    fn add(&mut self, one: ExplainedRows)
-        requires blocks { self.old.blocks + 1 < 2 ^ 63 }
-        requires cycles { self.old.cycles + one.cycles < 2 ^ 63 }
-        ensures { self.new ≡ with_rows self.old one }
-    {
-        self.blocks += 1;
-        self.cycles += one.cycles;
-        self.all_lawful &= one.is_lawful;
-    }
-}
-
-/// What explains the proposals for some blocks.
-#[derive(Debug, Drop)]
-struct ExplainedText {
-    text: Vec<u8>,
-    /// Whether each is known to be by the book.
-    finding: Finding,
-}
-
-/// The listing of what explains each proposal, with the cycles of all at the end.
-fn explained_text(
-    alloc: Global,
-    submission: Submission,
-    request: &Request,
-) -> Result<ExplainedText, NoMemory>
-    requires { AreWithinLimits submission.blocks submission.proposals }
-    ensures { IfOk result (λ explained. ExplainsRows request.now.priority request.now.latencies
-        submission.blocks submission.proposals explained.finding explained.text.items) }
+/// The cycles of these together.
+fn cycles_of_all(found: &[ExplainedRows]) -> u64
+    requires few { length found.now ≤ MAX_BLOCKS }
+    requires small { All (λ (one : explained_rows). one.cycles ≤ most_proposed_cycles) found.now }
+    ensures sum { result ≡ sum_by (λ one. one.cycles) found.now }
+    ensures small { result < 2 ^ 63 }
 {
-    let Submission { blocks, proposals } = submission;
-    let (latencies, priority) = (&request.latencies, request.priority);
-    let mut scheduler = Scheduler::new(alloc);
-    let mut text = Vec::new(alloc);
-    let mut found = Found::none();
-    for proposal in proposals.into_vec() {
-        let block = &blocks.as_slice()[found.blocks];
-        prove!(block.ops.as_slice().len() <= MAX_OPS);
-        let (ours, least) = scheduler.lend_with_least(block, latencies, priority)?;
-        prove!(proposal.rows.as_slice().len() <= MAX_ROWS);
-        push_block_head(&mut text, found.blocks + 1, block.name.as_ref())?;
+    let mut cycles = 0;
+    for one in found {
+        cycles += one.cycles;
+    }
+    cycles
+}
+
+impl RowLister for RowsExplainer {
+    ghost use Rattle.std.specs.Prelude.{◌≤◌, []};
+    ghost use Rattle.iloc_farm.specs.Commands.ExplainRows.{IsRowsEntry, rows_total};
+    ghost use Rattle.iloc_farm.specs.Commands.Run.{initial_memory};
+    ghost use Rattle.iloc_farm.specs.Steps.Limits.{most_proposed_cycles};
+
+    type Found = ExplainedRows;
+
+    ghost lists = { λ request. IsRowsEntry request.priority request.latencies };
+
+    ghost opening = { λ _. [] };
+
+    ghost ending = { λ _. rows_total };
+
+    ghost passes = { λ _ found. found.is_lawful };
+
+    ghost fits = { λ found. found.cycles ≤ most_proposed_cycles };
+
+    ghost memory = { λ request _. initial_memory request };
+
+    fn new(alloc: Global, _request: &Request, _blocks: usize) -> Result<RowsExplainer, NoMemory> {
+        Ok(RowsExplainer(Scheduler::new(alloc)))
+    }
+
+    fn push_opening(_request: &Request, _text: &mut Vec<u8>) -> Result<(), NoMemory> {
+        Ok(())
+    }
+
+    fn list(
+        &mut self,
+        alloc: Global,
+        request: &Request,
+        number: usize,
+        block: &Block,
+        proposal: Proposal,
+        text: &mut Vec<u8>,
+    ) -> Result<ExplainedRows, NoMemory> {
+        let (latencies, priority) = (&request.latencies, request.priority);
+        prove!(proposal.rows().len() <= MAX_ROWS);
+        let (ours, least) = self.0.lend_with_least(block, latencies, priority)?;
+        push_block_head(text, number, block.name.as_ref())?;
         text.push(b'\n')?;
-        let one = push_rows_explanation(
-            alloc, &mut text, block, &ours, least, &proposal, latencies, priority,
-        )?;
-        scheduler.take_back(ours);
-        found.add(one);
+        let task = Task {
+            block,
+            ours: &ours,
+            least,
+            latencies,
+        };
+        let found = push_rows_explanation(alloc, text, &task, proposal, priority)?;
+        self.0.take_back(ours);
+        Ok(found)
     }
-    push_total(&mut text, found.cycles)?;
-    Ok(ExplainedText {
-        text,
-        finding: Finding::of(found.all_lawful),
-    })
-}
 
-/// What explains the rows that an input proposes for the blocks of the task with this name.
-pub(crate) fn explained_apart<T: Texts, R: Read>(
-    alloc: Global,
-    texts: &T,
-    name: &str,
-    reader: &mut R,
-    request: &Request,
-) -> Result<Listed, RunFault>
-    ensures ok { IfOk result (λ listed. ListsApart (Explains request.now) (T.held texts.now name.now)
-        (R.remaining reader.old) (R.remaining reader.new) listed.finding listed.text) }
-    ensures err { IfErr result
-        (EndsApart (T.held texts.now name.now) (R.remaining reader.old) (R.remaining reader.new)) }
-{
-    let submission = submission_apart(alloc, texts, name, reader)?;
-    placed_rows_are_within_limits();
-    let submission = Submission {
-        blocks: submission.blocks,
-        proposals: submission.proposals.placed(request.either_slot),
-    };
-    let explained = explained_text(alloc, submission, request)?;
-    Ok(Listed {
-        text: Listing::of_text(alloc, explained.text),
-        finding: explained.finding,
-    })
+    fn push_ending(
+        _request: &Request,
+        text: &mut Vec<u8>,
+        found: &[ExplainedRows],
+    ) -> Result<(), NoMemory> {
+        push_total(text, cycles_of_all(found))
+    }
+
+    fn finding(_request: &Request, found: &[ExplainedRows]) -> Finding {
+        Finding::of(found.iter().all(|one| one.is_lawful))
+    }
 }

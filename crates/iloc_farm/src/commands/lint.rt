@@ -1,28 +1,22 @@
 //! `lint`: what is wrong with a text.
-ghost use Rattle.std.specs.Prelude.{◌≡◌, IfErr, IfOk};
-ghost use Rattle.iloc_args.specs.declared.request.Task.TheVariants as task;
+ghost use Rattle.std.specs.Prelude.{IfErr, IfOk};
+ghost use Rattle.iloc_farm.specs.Commands.Lint.{ListsLinted};
 ghost use Rattle.iloc_farm.specs.Run.{Lists};
-ghost use Rattle.iloc_farm.specs.Steps.OfInput.{EndsHolding};
+ghost use Rattle.iloc_farm.specs.Causes.{IsCaused, of_reading};
 
 use crate::commands::{Finding, Listed};
 use crate::fault::RunFault;
 use crate::listing::text::Listing;
-use iloc_args::Request;
 use iloc_lint::report_of;
 use iloc_text::read_text_from;
 use std::alloc::Global;
 use std::io::Read;
 
 /// Every fault of what the reader gives. A text that is refused is what this command is for, and no fault of it.
-pub(crate) fn linted<R: Read>(
-    alloc: Global,
-    reader: &mut R,
-    request: &Request,
-) -> Result<Listed, RunFault>
-    requires { request.now.task ≡ task.Lint }
+pub(crate) fn linted<R: Read>(alloc: Global, reader: &mut R) -> Result<Listed, RunFault>
     ensures ok { IfOk result (λ listed.
-        Lists request.now (R.remaining reader.old) (R.remaining reader.new) listed.finding listed.text) }
-    ensures err { IfErr result EndsHolding }
+        Lists ListsLinted (R.remaining reader.old) (R.remaining reader.new) listed.finding listed.text) }
+    ensures err { IfErr result (IsCaused of_reading) }
 {
     let input = read_text_from(alloc, reader)?;
     let report = report_of(alloc, &input)?;

@@ -2,7 +2,7 @@
 ghost use Rattle.std.specs.Prelude.{IfErr, IfOk};
 ghost use Rattle.iloc_rows.specs.Laws.{AreWithinLimits};
 ghost use Rattle.iloc_farm.specs.Apart.{Holds, ReadsApart, ReadsTask};
-ghost use Rattle.iloc_farm.specs.Steps.OfTask.{EndsApart, EndsTask};
+ghost use Rattle.iloc_farm.specs.Causes.{IsCaused, of_rows_apart, of_task};
 
 use crate::fault::{FarmFault, RunFault, TaskFault};
 use crate::texts::Texts;
@@ -15,7 +15,7 @@ use std::io::{ErrorKind, Read};
 /// The bytes of the text with this name.
 fn input_named<T: Texts>(alloc: Global, texts: &T, name: &str) -> Result<Vec<u8>, RunFault>
     ensures ok { IfOk result (λ input. Holds (T.held texts.now name.now) input.items) }
-    ensures err { IfErr result (EndsTask (T.held texts.now name.now)) }
+    ensures err { IfErr result (IsCaused (of_task (T.held texts.now name.now))) }
 {
     let mut text = match texts.open_text(name) {
         Ok(text) => text,
@@ -34,7 +34,7 @@ fn input_named<T: Texts>(alloc: Global, texts: &T, name: &str) -> Result<Vec<u8>
 /// The blocks of the task with this name.
 fn task_named<T: Texts>(alloc: Global, texts: &T, name: &str) -> Result<Blocks, RunFault>
     ensures ok { IfOk result (ReadsTask (T.held texts.now name.now)) }
-    ensures err { IfErr result (EndsTask (T.held texts.now name.now)) }
+    ensures err { IfErr result (IsCaused (of_task (T.held texts.now name.now))) }
 {
     let input = input_named(alloc, texts, name)?;
     match read_task(alloc, &input) {
@@ -57,7 +57,7 @@ pub(crate) fn submission_apart<T: Texts, R: Read>(
         found.blocks found.proposals
         × AreWithinLimits found.blocks found.proposals) }
     ensures err { IfErr result
-        (EndsApart (T.held texts.now name.now) (R.remaining reader.old) (R.remaining reader.new)) }
+        (IsCaused (of_rows_apart (T.held texts.now name.now) (R.remaining reader.old) (R.remaining reader.new))) }
 {
     submissions_apart_are_within_limits();
     let blocks = task_named(alloc, texts, name)?;

@@ -11,5 +11,5 @@ returns g c =
     (OfBlock (g.L.FarmedLister.answers j.request) j.blocks) g.L.FarmedLister.cycles_in n done.receipt done.answers in
     let Q : ToList → Type 0 = λ j. P j (length c.in_ok-desks.desks.items) in
     let R : ℕ → Type 0 = λ n. P record { blocks = c.args.blocks.now; request = c.args.request.now } n in
-    rw (c.into_parts.ensures.receipt, c.into_parts.ensures.answers)
+    rw (c.into_parts-answers.ensures.receipt, c.into_parts-answers.ensures.answers)
     (subst R c.in_ok-desks.ensures (subst Q c.new-jobs.ensures c.in_ok-farm_out.ensures.headline))

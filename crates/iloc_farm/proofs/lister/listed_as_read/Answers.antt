@@ -1,7 +1,7 @@
 use Rattle.std.proofs.Common.{◌≡◌, ◌≤◌, ◌++◌, arith, ap, ◌∙◌, length, Err, IfErr, sym, subst}
 use Rattle.std.proofs.lemmas.Result.{err_from_is_err_and}
 use Rattle.iloc_ops.specs.Limits.{MAX_BLOCKS}
-use Rattle.iloc_farm.specs.Steps.OfInput.{EndsFile}
+use Rattle.iloc_farm.specs.Causes.{IsCaused, of_file}
 use Rattle.iloc_farm.proofs.Entries.{entries_long, whole_listing}
 use Rattle.iloc_farm.proofs.Streamed.{ends_file}
 use Rattle.iloc_farm.proofs.lister.listed_as_read.Goals as goal
@@ -36,5 +36,5 @@ returns-in_err-read-clause-err g c =
     let old = g.R.Read.remaining c.args.reader.now in
     let new = g.R.Read.remaining c.read_blocks_from.new.stream in
     let exit = err_from_is_err_and c.from_residual-in_err-read.result c.from_residual-in_err-read.ensures.1 in
-    subst (λ r. IfErr r (EndsFile old new)) (sym (exit.1 ∙ ap (λ e. Err e) exit.2))
+    subst (λ r. IfErr r (IsCaused (of_file old new))) (sym (exit.1 ∙ ap (λ e. Err e) exit.2))
     (ends_file old new c.in_err-read.field-0.0 c.in_err-read.ensures.err)

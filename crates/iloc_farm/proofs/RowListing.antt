@@ -1,0 +1,129 @@
+-- What is proposed for blocks, listed block by block, and that this is what the request lists.
+use Rattle.std.proofs.Common.{◌≡◌, ℕ, ◌+◌, Bool, List, [], ◌∷◌, ◌++◌, length, None, Option, Some, refl, sym, ap, ◌∙◌, subst, arith, append_assoc, append-nil}
+use Rattle.std.specs.String.{string_bytes}
+use Rattle.std.specs.declared.alloc.Global.{Global}
+use Rattle.std.specs.declared.string.String.{String}
+use Rattle.std.specs.List.{All, list_all, zip}
+use Rattle.std.proofs.lemmas.List.Elements.{All-nil, All-push}
+use Rattle.std.proofs.lemmas.List.{length-append}
+use Rattle.iloc_ops.specs.declared.file.Block.{Block}
+use Rattle.iloc_rows.specs.declared.proposal.Proposed.{Proposed}
+use Rattle.iloc_args.specs.declared.request.Request.{Request}
+use Rattle.iloc_args.specs.declared.request.Task.TheVariants as task
+use Rattle.iloc_farm.specs.Apart.{Held}
+use Rattle.iloc_farm.specs.Commands.Check.{Checks}
+use Rattle.iloc_farm.specs.Commands.ExplainRows.{Explains}
+use Rattle.iloc_farm.specs.Commands.TraceRows.{Traces}
+use Rattle.iloc_farm.specs.Entries.{AreEntries}
+use Rattle.iloc_farm.specs.Fault.{finding_of}
+use Rattle.iloc_farm.specs.Rows.{ListsRows}
+use Rattle.iloc_farm.specs.Run.{Lists, ListsApart, ListsFrom, ListsSubmission}
+use Rattle.iloc_farm.specs.Steps.Listed.{Adds, AreListedTo}
+use Rattle.iloc_farm.specs.declared.commands.Finding.{Finding}
+use Rattle.iloc_farm.proofs.Entries.{entries_long, one_more}
+use Rattle.iloc_farm.proofs.Listers.{listed_as}
+
+-- two lists, the next of each and what is left
+pub both_next : {A B : Type 0} (xs xs' : List A) (ys ys' : List B) (x : A) (y : B) → xs ≡ x ∷ xs' → ys ≡ y ∷ ys'
+    → zip xs ys ≡ (x, y) ∷ zip xs' ys'
+both_next xs xs' ys ys' x y first second = λ i. zip (first i) (second i)
+
+none_left : {A B : Type 0} (xs : List A) (ys : List B) → length xs ≡ 0 → zip xs ys ≡ []
+none_left [] ys none = refl
+none_left (x ∷ xs) ys none = absurd (omega arith)
+
+module _ {X F : Type 0} (lists : ℕ → X → List ℕ → F → Type 0) (fits : F → Type 0) (opening : List ℕ) (all : List X) where
+  -- nothing yet
+  pub none_listed : (left : List X) (text : List ℕ) (found : List F) → left ≡ all → text ≡ opening → found ≡ []
+      → AreListedTo lists fits opening all left text found
+  none_listed left text found is empty none = record {
+    done = [];
+    split = is;
+    grown = record {
+      entries = [];
+      next = [];
+      right = refl;
+      added = empty ∙ sym (append-nil opening);
+      kept = none;
+    };
+    small = subst (All fits) (sym none) (All-nil fits);
+  }
+
+  -- as many are done as something was found of
+  done_long : (left : List X) (text : List ℕ) (found : List F) (so_far : AreListedTo lists fits opening all left text found)
+      → length so_far.done ≡ length found
+  done_long left text found so_far =
+      sym (ap length so_far.grown.kept
+      ∙ entries_long lists 1 so_far.done so_far.grown.next so_far.grown.entries so_far.grown.right)
+
+  pub found_few : (left : List X) (text : List ℕ) (found : List F) → AreListedTo lists fits opening all left text found
+      → length found + length left ≡ length all
+  found_few left text found so_far =
+      omega (
+        arith,
+        done_long left text found so_far,
+        ap length so_far.split,
+        length-append so_far.done left,
+      )
+
+  -- one more
+  pub one_listed : (left rest : List X) (x : X) (text more : List ℕ) (found now : List F) (f : F) (n : ℕ) → left ≡ x ∷ rest
+      → AreListedTo lists fits opening all left text found → n ≡ length found + 1 → Adds (lists n x) text more f → fits f
+      → now ≡ found ++ f ∷ [] → AreListedTo lists fits opening all rest more now
+  one_listed left rest x text more found now f n next so_far number adds small kept = record {
+    done = so_far.done ++ x ∷ [];
+    split = append_assoc so_far.done (x ∷ []) rest ∙ (ap (λ xs. so_far.done ++ xs) (sym next) ∙ so_far.split);
+    grown = one_more lists so_far.done x n opening text more adds.entry [] found now f so_far.grown
+        (omega (arith, done_long left text found so_far)) adds.right adds.added kept;
+    small = subst (All fits) (sym kept) (All-push fits found f so_far.small small);
+  }
+
+-- all
+pub all_listed : {F : Type 0} (lists : ℕ → Block × Proposed → List ℕ → F → Type 0) (fits : F → Type 0) (opening : List ℕ)
+    (ending : List F → List ℕ) (passes : F → Bool) (blocks left : List Block) (proposals others : List Proposed)
+    (text whole : List ℕ) (found : List F) (finding : Finding) → length proposals ≡ length blocks → length left ≡ 0
+    → AreListedTo lists fits opening (zip blocks proposals) (zip left others) text found → whole ≡ text ++ ending found
+    → finding ≡ finding_of (list_all passes found)
+    → ListsRows lists opening ending passes blocks proposals finding whole
+all_listed lists fits opening ending passes blocks left proposals others text whole found finding as_many none so_far ended is =
+    let P : List (Block × Proposed) → Type 0 = λ items. AreEntries lists 1 items found so_far.grown.entries in
+    let Q : List _ → Type 0 = λ fs. AreEntries lists 1 so_far.done fs so_far.grown.entries in
+    let every : so_far.done ≡ zip blocks proposals =
+    sym (append-nil so_far.done) ∙ (ap (λ xs. so_far.done ++ xs) (sym (none_left left others none)) ∙ so_far.split) in
+    record {
+      as_many = as_many;
+      found = found;
+      entries = so_far.grown.entries;
+      listed = subst P every (subst Q (sym so_far.grown.kept) so_far.grown.right);
+      whole = ended ∙ ap (λ t. t ++ ending found) so_far.grown.added;
+      judged = is;
+    }
+
+-- What was listed of rows is what the request lists
+
+module _ (held : Held) (request : Request) (old new : Option (List ℕ)) (finding : Finding) (text : List ℕ) where
+  pub whole_checked : request.task ≡ task.Check → request.task_file ≡ None
+      → Lists (ListsSubmission (Checks request)) old new finding text → ListsFrom held request old new finding text
+  whole_checked is none lists = listed_as held request old new finding text task.Check None is none lists
+
+  module _ (name : String Global) (lent : List ℕ) (named : request.task_file ≡ Some name) (same : lent ≡ string_bytes name)
+    where
+      of_name : (says : List Block → List Proposed → Finding → List ℕ → Type 0)
+          → ListsApart says (held lent) old new finding text → ListsApart says (held (string_bytes name)) old new finding text
+      of_name says lists =
+          let P : List ℕ → Type 0 = λ bytes. ListsApart says (held bytes) old new finding text in subst P same lists
+
+      pub apart_checked : request.task ≡ task.Check → ListsApart (Checks request) (held lent) old new finding text
+          → ListsFrom held request old new finding text
+      apart_checked is lists =
+          listed_as held request old new finding text task.Check (Some name) is named (of_name (Checks request) lists)
+
+      pub apart_explained : request.task ≡ task.Explain → ListsApart (Explains request) (held lent) old new finding text
+          → ListsFrom held request old new finding text
+      apart_explained is lists =
+          listed_as held request old new finding text task.Explain (Some name) is named (of_name (Explains request) lists)
+
+      pub apart_traced : request.task ≡ task.Trace → ListsApart (Traces request) (held lent) old new finding text
+          → ListsFrom held request old new finding text
+      apart_traced is lists =
+          listed_as held request old new finding text task.Trace (Some name) is named (of_name (Traces request) lists)

@@ -1,0 +1,50 @@
+-- What a command is: what it reads, what it lists of that, and whether workers share it.
+use Rattle.std.specs.Prelude.{ℕ, Bool, true, false, List}
+use Rattle.iloc_ops.specs.declared.file.Block.{Block}
+use Rattle.iloc_rows.specs.declared.proposal.Proposed.{Proposed}
+use Rattle.iloc_args.specs.declared.request.Request.{Request}
+use Rattle.iloc_farm.specs.declared.commands.Finding.{Finding}
+
+-- what is read: a file, blocks with rows for them, or a text of whatever kind
+pub data Input : Type 0 where
+  OfFile : Input
+  OfRows : Input
+  OfText : Input
+
+abbrev pub is_of_rows : Input → Bool
+is_of_rows OfRows = true
+is_of_rows _ = false
+
+-- Who lists the blocks of a file: one thread, or the workers, of whom each hands back for a block with its number such an
+-- answer, with the cycles of the block's schedule in it.
+pub data Listers : Type 1 where
+  Alone : Listers
+  Shared : (A : Type 0) → (Request → ℕ → Block → A → Type 0) → (A → ℕ) → Listers
+
+pub record Command : Type 1 where
+  -- what it reads
+  pub input : Input
+  -- whether, where a request names a file, that file has the blocks and rows for them are read
+  pub takes_task : Bool
+  pub listers : Listers
+  -- what it lists of a file's blocks
+  pub lists : Request → List Block → List ℕ → Type 0
+  -- what it says of what is proposed for blocks, and finds
+  pub says : Request → List Block → List Proposed → Finding → List ℕ → Type 0
+  -- what it reports of a text, and finds
+  pub reports : List ℕ → Finding → List ℕ → Type 0
+
+-- a command that lists files so, and does no more
+abbrev pub of_files : (Request → List Block → List ℕ → Type 0) → Command
+of_files lists = record {
+  input = OfFile;
+  takes_task = false;
+  listers = Alone;
+  lists = lists;
+  says = λ _ _ _ _ _. ⊥;
+  reports = λ _ _ _. ⊥;
+}
+
+-- one that lists no file
+abbrev pub of_no_file : Command
+of_no_file = of_files (λ _ _ _. ⊥)
