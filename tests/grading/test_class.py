@@ -1,0 +1,94 @@
+"""A class made anew, of which the oracle knows the points; and how policies give them."""
+import csv
+import os
+
+from grading import classes
+from harness.place import Place
+
+BOTH = "examples/class/tasks"
+# Options, and the points of ada (lawful, 16 cycles as ours and the least), dan (same, 15) and fay (lawful, 21).
+POLICIES = (
+    ((), (10, 10, 7.62)), (("--policy", "pass"), (10, 10, 10)), (("--policy", "least"), (10, 10, 7.62)),
+    (("--policy", "best"), (9.38, 10, 7.14)), (("--per-cycle", "1"), (10, 10, 5)), (("--per-cycle", "0.5", "--points", "4"), (4, 4, 2)),
+    (("--per-cycle", "2", "--floor", "0"), (10, 10, 0)), (("--floor", "1"), (10, 10, 10)), (("--points", "0"), (0, 0, 0)),
+    (("--require", "lawful"), (10, 0, 7.62)), (("--require", "outcome"), (10, 10, 7.62)), (("--penalty", "3"), (10, 10, 7.62)),
+    (("--check=--store=4",), (9.38, 10, 7.14)))
+
+
+class Graded(Place):
+    """A place with a class."""
+
+    def grade(self, *words, tasks="tasks", submissions="submissions"):
+        """Status and what is said; the gradebook by name."""
+        status, out, err = self.call("ilocgrade", tasks, submissions, "--pictures", "none", *words)
+        book = {}
+        if os.path.exists(self.path("grades/gradebook.csv")):
+            with open(self.path("grades/gradebook.csv"), newline="", encoding="utf-8") as file:
+                book = {it["student"]: it for it in csv.DictReader(file)}
+        return status, out + err, book
+
+
+class Class(Graded):
+    def test_kinds(self):
+        """No right hand-in gets less than its points, no wrong one any, and a cheat what the policy gives: nothing."""
+        due = {}
+        for made in classes.tasks():
+            self.write(f"tasks/{made.name}.iloc", made.text())
+            for number, (name, kind) in enumerate(classes.students().items()):
+                rows = classes.handed_in(made, kind, number)
+                self.write(f"submissions/{name}/{made.name}.rows", classes.text(rows, number if number % 3 else None))
+                due[name, made.name] = kind in classes.RIGHT, classes.keeps_operations(made, rows), *made.judged(rows)
+        for required in "operations", "outcome":
+            status, said, book = self.grade("--require", required)
+            self.expect("status", (status, len(book)), (0, classes.STUDENTS))
+            for (name, task), (is_right, keeps, passes, points) in due.items():
+                got, verdict = float(book[name][task]), book[name][f"{task} verdict"]
+                if passes or is_right and (keeps or required == "outcome"):
+                    self.expect(f"{name} {task} {verdict} is right", got, points)
+                elif passes is False or not keeps and required == "operations":
+                    self.expect(f"{name} {task} {verdict} isn't", got, 0)
+                else:
+                    self.expect(f"{name} {task} {verdict} gets no more than a right one", got in (0, points), True)
+
+    def test_policies(self):
+        for words, points in POLICIES:
+            status, said, book = self.grade(*words, tasks=BOTH, submissions="examples/class/submissions")
+            self.expect(f"{words}", (status, tuple(float(book[it]["total"]) for it in ("ada", "dan", "fay"))), (0, points))
+            self.expect(f"{words}: the others", {float(book[it]["total"]) for it in ("ben", "cem", "eve", "gus", "hal")}, {0})
+
+    def test_roster(self):
+        """Everybody of the roster is in the gradebook, with nothing handed in too, and everybody who handed in."""
+        for roster in (b"\xef\xbb\xbfStudent,Section\r\nzoe,1\r\nada,2", b"zoe\n\nada\n"):
+            self.write("roster.csv", roster)
+            status, _, book = self.grade("--roster", "roster.csv", tasks=BOTH, submissions="examples/class/submissions")
+            self.expect("gradebook", (status, len(book), book["zoe"]["both verdict"], book["ada"]["total"]), (0, 9, "missing", "10"))
+
+    def test_statuses(self):
+        """A student's fault is none of the command's; what isn't graded is said in a line."""
+        os.makedirs(self.path("empty"))
+        self.write("faults/a.iloc", "output 1\n")
+        self.write("two/a.iloc", "a: output 4\nb: output 8\n")
+        self.write("unread/a.iloc", "output\n")
+        self.write("shows/a.iloc", "loadI 1 => r1\n")
+        self.write("input/a.iloc", "//SIM INPUT: -r 1\noutput 4\n")
+        self.write("twice/a.iloc", "output 4\n")
+        self.write("twice/a.i", "output 4\n")
+        for tasks, submissions, words, status, said in (
+                (BOTH, "examples/class/submissions", ["--exit-code"], 1, "3 of 8 passed"),
+                (BOTH, "nosuch", [], 3, "nosuch: no such folder"), (BOTH, "empty", [], 3, "empty: no student's folder is there"),
+                ("empty", "examples/class/submissions", [], 3, "empty: no task NAME.iloc or NAME.i is there"),
+                ("faults", "examples/class/submissions", [], 3, "faults/a.iloc: the block faults on its words"),
+                ("two", "examples/class/submissions", [], 3, "two/a.iloc: a task is one block, and this has 2"),
+                ("unread", "examples/class/submissions", [], 3, "unread/a.iloc: line 1: not understood"),
+                ("shows", "examples/class/submissions", [], 3, "shows/a.iloc: the block neither stores nor prints"),
+                ("input", "examples/class/submissions", [], 3, "expected `//SIM INPUT: -i ADDRESS WORD ..`, found `-r 1`"),
+                ("twice", "examples/class/submissions", [], 3, "two tasks have this name"),
+                ("faults", "faults", [], 3, "faults: the tasks must not be where students' files are"),
+                (BOTH, "empty", ["-o", "empty/grades"], 3, "empty/grades: the grades must not be where students' files are"),
+                (BOTH, "empty", ["--roster", "nosuch"], 3, "nosuch"), (BOTH, "empty", ["--ilocfarm", "nosuch"], 3, "nosuch is not on the PATH"),
+                (BOTH, "empty", ["--floor", "2"], 2, "2 is not between 0 and 1"), (BOTH, "empty", ["--points", "nan"], 2, "nan"),
+                (BOTH, "empty", ["--check=--task=x"], 2, "--task=x is none of"), (BOTH, "empty", ["--time", "0"], 2, "0 is not a number from 1 on"),
+                (BOTH, "empty", ["--policy", "best", "--github"], 2, "--policy best needs a class"),
+                (BOTH, "empty", ["--user", "root"], 2, "root")):
+            got, told, _ = self.grade(*words, tasks=tasks, submissions=submissions)
+            self.expect(f"{tasks} {submissions} {words}: {told}", (got, said in told.decode(), b"Traceback" in told), (status, True, False))

@@ -1,0 +1,166 @@
+"""What students hand in, and how they name it, whatever it does to those who grade it: each case with the mark it has to get."""
+import csv
+import io
+import os
+import socket
+from html.parser import HTMLParser
+from urllib.parse import unquote
+
+from grading.test_class import BOTH, Graded
+from harness.program import TOP, needs
+from limits import MOST_BYTES
+
+RIGHT = f"{TOP}/examples/class/submissions/ada/both.rows"
+NAMES = [os.fsdecode(it) for it in (
+    b"x\nben 10  lawful cycles 16", b"x\\nben", b"a  b", b"*", b";touch gone", b"-rf", b"--help", b"=1+1", b"+1", b"@x", b"$(touch gone)", b"'\"",
+    b"<script>alert(1)", b"<img src=x onerror=alert(1)>", b"%s{0}", b"%2e", b"\xff\xfe", b"\t", b"\r=1", b"a,b", "Łukasz 李".encode(),
+    b"\x1b[2J", b"::error::x", b"n" * 255, b"<" * 255, b"#", b"..x")]
+
+
+def rows():
+    with open(RIGHT, "rb") as file:
+        return file.read()
+
+
+def numbered(data):
+    lines = [it for it in data.splitlines(True) if it.startswith(b"[")]
+    return b"started\n" + b"".join(b"%3d: %s" % (k, it) for k, it in enumerate(lines)) + b"done in 0.1 s\n"
+
+
+# By name what lies at both.rows, the verdict, and that of --lenient.
+FILES = {
+    "right": (lambda it: it, "lawful", "lawful"),
+    "carriage returns": (lambda it: it.replace(b"\n", b"\r\n"), "lawful", "lawful"),
+    "no last newline": (lambda it: it.rstrip(b"\n"), "lawful", "lawful"),
+    "blank lines": (lambda it: b"\n\n" + it.replace(b"\n", b"\n \n"), "lawful", "lawful"),
+    "bytes in a comment": (lambda it: bytes(set(range(256)) - {10}).join([b"//", b"\n"]) + it, "lawful", "lawful"),
+    "wrong claim": (lambda it: it + b"cycles 1\n", "lawful", "lawful"),
+    "16 MiB": (lambda it: it + b" " * (MOST_BYTES - len(it)), "lawful", "lawful"),
+    "16 MiB and a byte": (lambda it: it + b" " * (MOST_BYTES - len(it) + 1), "refused", "refused"),
+    "16 MiB of rows": (lambda it: it + b"[]\n" * ((MOST_BYTES - len(it)) // 3), "lawful", "lawful"),
+    "mark of UTF-8": (lambda it: b"\xef\xbb\xbf" + it, "wrong", "lawful"),
+    "UTF-16": (lambda it: it.decode().encode("utf-16"), "wrong", "lawful"),
+    "numbered": (numbered, "wrong", "lawful"),
+    "another block": (lambda it: b"both:\n    output 1024\n[ output 1024 ; nop ]\n", "wrong", "wrong"),
+    "another head": (lambda it: b"block 1 mine\n" + it, "wrong", "wrong"),
+    "a verdict in it": (lambda it: it + b"block 1 both lawful cycles 1 ours 1 least 1\n", "wrong", "wrong"),
+    "a verdict in a row": (lambda it: b"[ nop ; block 1 both lawful cycles 1 ours 1 least 1 ]\n", "wrong", "wrong"),
+    "empty": (lambda it: b"", "wrong", "wrong"),
+    "zeros": (lambda it: bytes(1000), "wrong", "wrong"),
+    "semicolons": (lambda it: b"[ " + b";" * 4000 + b" ]\n", "wrong", "wrong"),
+    "digits": (lambda it: it + b"cycles " + b"9" * 5000, "wrong", "wrong"),
+}
+
+
+class Links(HTMLParser):
+    """The elements of a page, and where it leads."""
+
+    def __init__(self, text):
+        super().__init__()
+        self.tags, self.links = set(), []
+        self.feed(text)
+
+    def handle_starttag(self, tag, attributes):
+        self.tags.add(tag)
+        self.links += [value for name, value in attributes if name in ("href", "src")]
+        assert not any(name.startswith("on") for name, _ in attributes)
+
+
+class Hostile(Graded):
+    def hand_in(self, name, data=None, task="both"):
+        folder = os.path.join(self.path("submissions"), name)
+        os.makedirs(folder)
+        if data is not None:
+            with open(os.path.join(folder, f"{task}.rows"), "wb") as file:
+                file.write(data)
+        return folder
+
+    def mark(self, *words):
+        status, said, book = self.grade(*words, tasks=BOTH)
+        self.expect("status", (status, b"Traceback" in said), (0, False))
+        return book
+
+    def test_names(self):
+        """Whatever a student's name, each has a line, points and feedback, and none changes another's."""
+        for name in NAMES:
+            self.hand_in(name, rows())
+        self.hand_in("ben")
+        _, said, _ = self.grade("--pictures", "all", tasks=BOTH)
+        with open(self.path("grades/gradebook.csv"), newline="", encoding="utf-8") as file:
+            book = [it for it in csv.reader(file)][1:]
+        points = {name: total for name, total, *_ in book}
+        self.expect("names", len(points), len(NAMES) + 1)
+        self.expect("points", (points.pop("ben"), set(points.values())), ("0", {"10"}))
+        self.expect("cells that a spreadsheet computes", [it for row in book for it in row if it[:1] in tuple("=+-@\t\r\n")], [])
+        self.expect("nothing ran", os.path.exists(self.path("gone")), False)
+        page = Links(self.text("grades/report.html"))
+        self.expect("elements", page.tags & {"script", "img", "iframe"}, set())
+        self.expect("dead links", [it for it in page.links if not os.path.exists(self.path(f"grades/{unquote(it)}"))], [])
+        self.expect("links", len(page.links), 2 * len(NAMES) + 1)
+        self.expect("control characters", [it for it in self.text("grades/report.html") if it < " " and it != "\n"], [])
+
+    def test_files(self):
+        """A right file is right with any line ends; what is round the rows costs nothing with --lenient, and is noted."""
+        for name, (change, *_) in FILES.items():
+            self.hand_in(name, change(rows()))
+        for words, which in ((), 1), (("--lenient", "--penalty", "1"), 2):
+            book = self.mark(*words)
+            for name, due in FILES.items():
+                verdict, points = book[name]["both verdict"], book[name]["total"]
+                is_noted = due[1] != due[2]
+                wanted = ("9" if which == 2 and is_noted else "10") if due[which] == "lawful" else "0"
+                self.expect(f"{name} {words} is {verdict}", (points, due[which] in (verdict, "wrong")), (wanted, True))
+
+    def test_bare_operations(self):
+        """One operation a line, as a scheduler's log has them."""
+        self.hand_in("ada", rows().replace(b" ; sub r21, r22 => r31 ]", b" ]\nsub r21, r22 => r31").replace(b"[ ", b"").replace(b" ; nop ]", b"")
+                     .replace(b" ]", b""))
+        for words, points in ((), "0"), (("--lenient",), "9.41"):
+            self.expect(f"{words}", self.mark(*words)["ada"]["total"], points)
+
+    def test_no_files(self):
+        """What is no regular file is refused at once, and costs that student alone."""
+        right = self.hand_in("right", rows())
+        os.mkfifo(f"{self.hand_in('pipe')}/both.rows")
+        os.mkdir(f"{self.hand_in('folder')}/both.rows")
+        os.symlink("nowhere", f"{self.hand_in('dangling')}/both.rows")
+        os.symlink(f"{right}/both.rows", f"{self.hand_in('link')}/both.rows")
+        os.symlink("/dev/zero", f"{self.hand_in('endless')}/both.rows")
+        os.symlink("both.rows", f"{self.hand_in('itself')}/both.rows")
+        with socket.socket(socket.AF_UNIX) as made:
+            made.bind(f"{self.hand_in('socket')}/both.rows")
+        os.symlink(right, self.path("submissions/linked folder"))
+        os.symlink("nowhere", self.path("submissions/dangling folder"))
+        self.write("submissions/notes.txt", b"no student")
+        os.mkfifo(self.path("submissions/no student"))
+        self.hand_in("none")
+        self.write("submissions/other/Both.rows", rows())
+        book = self.mark()
+        self.expect("verdicts", {name: (it["both verdict"], it["total"]) for name, it in book.items()}, {
+            "right": ("lawful", "10"), "none": ("missing", "0"), "other": ("missing", "0"), **{it: ("refused", "0") for it in (
+                "pipe", "folder", "dangling", "link", "endless", "itself", "socket", "linked folder", "dangling folder")}})
+        self.expect("what is there is said", "there is Both.rows." in self.text("grades/feedback/other/feedback.txt"), True)
+
+    def test_pandas(self):
+        """The gradebook as pandas reads it."""
+        try:
+            import pandas
+        except ImportError:
+            self.skipTest("pandas isn't installed")
+        for name in NAMES:
+            self.hand_in(name, rows())
+        self.mark()
+        book = pandas.read_csv(io.StringIO(self.text("grades/gradebook.csv"), newline=""), keep_default_na=False)
+        self.expect("table", (len(book), set(book.total), list(book.columns)),
+                    (len(NAMES), {10}, ["student", "total", "both", "both verdict", "both cycles"]))
+
+    def test_libreoffice(self):
+        """The gradebook as LibreOffice reads it: no cell is computed."""
+        needs("soffice")
+        for name in NAMES:
+            self.hand_in(name, rows())
+        self.mark()
+        self.call("soffice", f"-env:UserInstallation=file://{self.folder}/profile", "--headless", "--convert-to", "csv:Text - txt - csv (StarCalc)",
+                  "--outdir", self.folder, self.path("grades/gradebook.csv"))
+        with open(self.path("gradebook.csv"), newline="", encoding="utf-8") as file:
+            self.expect("totals", [it[1] for it in csv.reader(file)][1:], ["10"] * len(NAMES))

@@ -1,0 +1,105 @@
+"""One student in Gradescope's autograder and in a GitHub workflow; and a class's report in a browser."""
+import json
+import os
+import re
+
+from grading.test_class import BOTH, Graded
+from harness.browser import Browser
+from harness.program import TOP
+
+BEN = "examples/class/submissions/ben"
+# The fields of Gradescope's results.json that are written, and what each may be.
+FIELDS = {"score": float, "execution_time": float, "output": str, "visibility": ("hidden", "after_due_date", "after_published", "visible"),
+          "stdout_visibility": ("hidden", "after_due_date", "after_published", "visible"), "tests": list, "leaderboard": list}
+TEST = {"score": float, "max_score": float, "status": ("passed", "failed"), "name": str, "number": str, "output": str,
+        "output_format": ("text", "html", "simple_format", "md", "ansi"), "visibility": FIELDS["visibility"]}
+BOARD = {"name": str, "value": float, "order": ("asc", "desc")}
+
+
+class Sites(Graded):
+    def fits(self, given, fields):
+        self.expect("fields", sorted(given), sorted(fields))
+        for name, kind in fields.items():
+            value = given[name]
+            fine = value in kind if isinstance(kind, tuple) else isinstance(value, (int, float) if kind is float else kind)
+            self.expect(f"{name}: {value!r}", fine, True)
+
+    def test_gradescope(self):
+        """results.json has the fields that Gradescope reads, and status 0 whatever the student did."""
+        for name, points, cycles in ("ada", 10, 16), ("ben", 0, 1_000_000):
+            status, out, err = self.call("ilocgrade", BOTH, f"examples/class/submissions/{name}", "--gradescope", "results.json")
+            self.expect(f"{name}: status", (status, out, err), (0, b"", b""))
+            made = json.loads(self.read("results.json"))
+            self.fits(made, FIELDS)
+            for it in made["tests"]:
+                self.fits(it, TEST)
+            for it in made["leaderboard"]:
+                self.fits(it, BOARD)
+            self.expect("points", (made["score"], made["tests"][0]["score"], made["tests"][0]["max_score"]), (points, points, 10))
+            self.expect("board", [it["value"] for it in made["leaderboard"]], [points, cycles])
+        self.expect("feedback", made["tests"][0]["output"].splitlines()[1], "Word 1 that your rows print is 3; it should be 7.")
+
+    def autograder(self, submission):
+        """The results of the autograder's files in a folder as Gradescope has it."""
+        os.makedirs(self.path("autograder/source"), exist_ok=True)
+        for name, target in (("tasks", f"{TOP}/{BOTH}"), ("submission", f"{TOP}/{submission}"), ("source/tasks", f"{TOP}/{BOTH}"),
+                             ("source/ilocfarm", self.path("installed"))):
+            if os.path.lexists(self.path(f"autograder/{name}")):
+                os.remove(self.path(f"autograder/{name}"))
+            os.symlink(target, self.path(f"autograder/{name}"))
+        status, _, err = self.call("grading/gradescope/run_autograder", AUTOGRADER=self.path("autograder"))
+        self.expect("status", (status, err), (0, b""))
+        return json.loads(self.read("autograder/results/results.json"))
+
+    def test_autograder(self):
+        """The files that a course copies, with an installed ilocfarm; and a task that can't be graded, which blames nobody."""
+        self.call("./install", self.path("installed"), "bin/ilocfarm")
+        self.expect("score", self.autograder(BEN)["score"], 0)
+        self.expect("score", self.autograder("examples/class/submissions/ada")["score"], 10)
+        self.call("rm", "-r", self.path("installed/bin/ilocfarm"))
+        made = self.autograder(BEN)
+        self.expect("failed", (made["score"], "no fault of yours" in made["output"]), (0, True))
+
+    def test_github(self):
+        """Annotations lead to the line; students' texts are no commands of the runner."""
+        status, out, err = self.call("ilocgrade", BOTH, BEN, "--github")
+        self.expect("ben", (status, err), (1, b""))
+        lines = out.decode().splitlines()
+        stopped = re.fullmatch(r"::stop-commands::(\w{32})", lines[0])[1]
+        error = next(it for it in lines if it.startswith("::error "))
+        self.expect("said apart", lines.index(f"::{stopped}::") < lines.index(error), True)
+        self.expect("error", error.startswith(f"::error file={BEN}/both.rows,line=8::both: 0 points. Wrong."), True)
+        self.expect("ada", self.call("ilocgrade", BOTH, "examples/class/submissions/ada", "--github")[0], 0)
+        self.write("eve/both.rows", b"[ nop ; nop ]\n::error::a\r##[add-mask]b\n")
+        status, out, _ = self.call("ilocgrade", BOTH, "eve", "--github")
+        begun = [it for it in out.decode().splitlines() if it.lstrip().startswith("::")]
+        self.expect("commands", (status, len(begun)), (1, 3))
+
+    def test_report_in_a_browser(self):
+        """The report on light and dark ground and on a narrow screen: each mark opens, and nothing is cut or faint."""
+        self.call("ilocgrade", BOTH, "examples/class/submissions")
+        browser = Browser()
+        self.addCleanup(browser.close)
+        for width, scheme in (1200, "light"), (1200, "dark"), (400, "light"):
+            browser.size(width, 800)
+            browser.seen_on("screen", scheme)
+            browser.open(self.path("grades/report.html"))
+            browser.value("document.querySelectorAll('details').forEach(it => { it.open = true; })")
+            self.expect("page as wide as the screen", browser.value("document.documentElement.scrollWidth <= innerWidth"), True)
+            colours = browser.value("[...document.querySelectorAll('td, th')].map(it => "
+                                    "[getComputedStyle(it).color, getComputedStyle(it).backgroundColor].join('; '))")
+            self.expect("texts of too little contrast", [it for it in set(colours) if ratio(it) < 4.5], [])
+            if folder := os.environ.get("SHOTS"):
+                browser.shot(f"{folder}/report-{width}-{scheme}.png")
+        tree = browser.tree()
+        self.expect("rows", (sum(role == "row" for role, _ in tree), ("heading", "Grades") in tree), (10, True))
+        self.expect("problems", browser.problems, [])
+
+
+def ratio(colours):
+    """The contrast of two colours `rgb(R, G, B)`, as WCAG has it."""
+    def luminance(colour):
+        parts = [int(it) / 255 for it in re.findall(r"\d+", colour)[:3]]
+        return sum(share * (it / 12.92 if it <= 0.04045 else ((it + 0.055) / 1.055) ** 2.4) for share, it in zip((0.2126, 0.7152, 0.0722), parts))
+    low, high = sorted(luminance(it) + 0.05 for it in colours.split("; "))
+    return high / low
