@@ -1,6 +1,8 @@
 """A block's schedule as a picture: units over cycles, each operation from its issue to its arrival."""
+from heapq import heappop, heappush
+
 import svg
-from listing import CHAIN, COLOURS, PATH, WRONG
+from listing import CHAIN, COLOURS, MOST_CYCLES, PATH, WRONG
 
 HEIGHT = 18         # of a row
 LANE = 9            # from one bar to the next
@@ -11,18 +13,26 @@ DOT = 3             # half of one that marks the path
 
 
 def lanes(operations, latencies):
-    """Each operation whose result is under way for more than a cycle, with a lane that is free then."""
-    free = []
+    """Each operation whose result is under way for more than a cycle, with the first lane that is free then."""
+    free, busy, count = [], [], 0
     for it in sorted(operations, key=lambda it: it.cycle):
+        while busy and busy[0][0] <= it.cycle:
+            heappush(free, heappop(busy)[1])
         if it.arrival(latencies) > it.cycle + 1:
-            lane = next((k for k, end in enumerate(free) if end <= it.cycle), len(free))
-            free[lane:lane + 1] = [it.arrival(latencies)]
+            lane = heappop(free) if free else count
+            count = max(count, lane + 1)
+            heappush(busy, (it.arrival(latencies), lane))
             yield it, lane
 
 
 class Chart:
     def __init__(self, block, latencies):
+        if block.cycles > MOST_CYCLES:
+            raise svg.Unread(f"block {block.number} takes {block.cycles} cycles: at most {MOST_CYCLES} are drawn")
+        if len({(it.cycle, it.unit) for it in block.operations}) < len(block.operations):
+            raise svg.Unread(f"block {block.number} has two operations on one unit in one cycle")
         self.block, self.latencies = block, latencies
+        self.chain, self.path = set(block.chain), set(block.path)
         units = [[it for it in block.operations if it.unit == unit] for unit in (0, 1)]
         self.flights = [list(lanes(it, latencies)) for it in units]
         self.boxes = [max([svg.width_of(it.label()) + 12 for it in unit], default=70) for unit in units]
@@ -81,10 +91,10 @@ class Chart:
                 svg.rectangle(x, self.y(it.cycle) + 2, BAR, end - self.y(it.cycle) - 3, colour)]
 
     def box(self, it):
-        mark = WRONG if it.cycle in self.block.wrong else CHAIN if it.number in self.block.chain else None
+        mark = WRONG if it.cycle in self.block.wrong else CHAIN if it.number in self.chain else None
         marked = {"stroke": mark, "stroke_width": 2} if mark else {}
         x, y = self.starts[it.unit], self.y(it.cycle)
-        dot = [svg.mark(0, x, y + HEIGHT / 2, PATH, DOT)] if it.number in self.block.path else []
+        dot = [svg.mark(0, x, y + HEIGHT / 2, PATH, DOT)] if it.number in self.path else []
         return [svg.rectangle(x, y + 1, self.boxes[it.unit], HEIGHT - 2, COLOURS[it.kind()], class_="box", **marked), *dot,
                 svg.text(x + 6, y + 13, it.label(), "on")]
 

@@ -11,8 +11,8 @@ CHAIN = "#e5484d"
 WRONG = "#d6409f"
 PATH = "#0969da"
 PASSED = ("", "lawful", "same", "prints")      # no verdict, or one that passes
+MOST_CYCLES = 160_000    # of a schedule: 10,000 operations, each of which takes 16
 HEADER = re.compile(r"block (\d+) (\S+)")
-ROW = re.compile(r"\[ *(.*?) *(?:; *(.*?) *)?\]")
 COMMENT = re.compile(r"//.*")
 CYCLES = re.compile(r"cycles (\d+)(?: least (\d+).*)?")
 CHAINED = re.compile(r"chain (?:-|(\d+(?: \d+)*))")
@@ -93,29 +93,28 @@ class Listed:
     def note(self, line):
         """Keeps a line below a verdict that doesn't pass, if it is of a row."""
         if self.verdict not in PASSED and (found := WRONG_ROW.fullmatch(line)):
-            self.wrong.setdefault(int(found[1]), []).append(line)
+            self.wrong.setdefault(count(found[1]), []).append(line)
 
     def take(self, line):
         """Reads a line below the block's header, and says whether it is one."""
         if self.verdict:
             self.note(line)
-        elif found := ROW.fullmatch(line):
-            slots = found.groups() if found[2] is not None or not is_product(found[1]) else ("", found[1])
-            for unit, spelling in enumerate(slots):
+        elif line.startswith("[") and line.endswith("]"):
+            for unit, spelling in enumerate(slots_of(line)):
                 if spelling and spelling != "nop":
                     self.operations.append(Operation(spelling, self.rows, unit))
             self.rows += 1
         elif found := EXPLAINED.fullmatch(line):
             number, cycle, unit, ready, after, priority, source, spelling = found.groups()
-            self.operations.append(Operation(spelling, int(cycle), int(unit), int(number), source, int(ready), after,
-                                             int(priority)))
-            self.rows = max(self.rows, int(cycle) + 1)
+            made = Operation(spelling, count(cycle), int(unit), count(number), source, count(ready), after, count(priority))
+            self.operations.append(made)
+            self.rows = max(self.rows, made.cycle + 1)
         elif found := CYCLES.fullmatch(line):
-            self.cycles, self.least = int(found[1]), found[2] or ""
+            self.cycles, self.least = count(found[1]), found[2] or ""
         elif found := CHAINED.fullmatch(line):
-            self.chain = [int(it) for it in (found[1] or "").split()]
+            self.chain = [count(it) for it in (found[1] or "").split()]
         elif PATHED.fullmatch(line):
-            self.path = [int(it) for it in line.split()[1:] if it.isdecimal()]
+            self.path = [count(it) for it in line.split()[1:] if it.isdecimal()]
         elif UNLAWFUL.fullmatch(line) or self.reasons and REASON.fullmatch(line):
             self.reasons.append(line)
         else:
@@ -130,7 +129,9 @@ class Listed:
         those asked for. A delay on a store by a load or a store may be one of memory, which says nothing."""
         issued, shown = {it.number: it for it in self.operations}, dict(asked)
         for it in self.operations:
-            for awaited in (issued[int(k)] for k in NUMBER.findall(it.after)):
+            for awaited in (issued.get(count(k)) for k in NUMBER.findall(it.after)):
+                if not awaited:
+                    raise Unread(f"operation {it.number} waited for {it.after}, which the listing hasn't")
                 if awaited.kind() == "mult" or it.kind() != "store":
                     shown[awaited.kind()] = it.ready - awaited.cycle
         return shown
@@ -149,6 +150,19 @@ class Listed:
             raise Unread("these are not the latencies of the listing: give them by --load, --store and --mult")
 
 
+def count(digits):
+    """A number of a listing. None is longer than a 32-bit one."""
+    if len(digits) > 10:
+        raise Unread(f"a number of {len(digits)} digits: {digits[:10]}..")
+    return int(digits)
+
+
+def slots_of(row):
+    """The spellings of a row `[ X ; Y ]` by unit; alone a product is on unit 1."""
+    first, semicolon, second = (it.strip() for it in row[1:-1].partition(";"))
+    return ("", first) if not semicolon and is_product(first) else (first, second)
+
+
 def is_product(spelling):
     return bool(spelling) and kind_of(spelling.split()[0]) == "mult"
 
@@ -156,14 +170,15 @@ def is_product(spelling):
 def read_blocks(lines):
     """The blocks one after the other; rows without a header are block 1. What `check` says of them may follow."""
     blocks = [Listed(1, "-", is_headed=False)]
-    block = blocks[0]
+    block, latest = blocks[0], {1: blocks[0]}
     for at, line in enumerate(lines, 1):
         text = " ".join(COMMENT.sub("", line).split())
         if found := VERDICT.fullmatch(text):
-            block = next((it for it in reversed(blocks) if it.number == int(found[1])), block)
+            block = latest.get(count(found[1]), block)
             block.judge(*found.groups()[1:])
         elif found := HEADER.fullmatch(text):
-            blocks.append(block := Listed(int(found[1]), found[2]))
+            blocks.append(block := Listed(count(found[1]), found[2]))
+            latest[block.number] = block
         elif text and not block.take(text) and not NOTHING.fullmatch(text):
             raise Unread(f"line {at} is none of a listing of schedule or explain: {line}")
     return [it for it in blocks if it.is_headed or it.rows]
@@ -189,6 +204,6 @@ def latencies(asked):
 
 
 def lines():
-    """Those of standard input."""
-    with open(0, encoding="utf-8", errors="replace", closefd=False) as given:
-        return given.read().splitlines()
+    """Those of standard input. Only a newline ends one, as it does for the program."""
+    with open(0, "rb", closefd=False) as given:
+        return given.read().decode("utf-8", "replace").removesuffix("\n").split("\n")

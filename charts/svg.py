@@ -1,6 +1,7 @@
 """What the charts share: the parts of an SVG picture, in colours that read on light and on dark ground."""
+import html
+import re
 import sys
-from html import escape
 
 # Lines are on the page's own ground, so they are neither light nor dark; text is one or the other, as the page is.
 INK = "#7d8590"
@@ -14,10 +15,16 @@ STYLE = ("text { font: 12px ui-monospace, 'DejaVu Sans Mono', Menlo, Consolas, m
          f" @media (prefers-color-scheme: dark) {{ .ink {{ fill: {TEXT['dark']}; }} }}")
 # No letter of the fonts above is wider.
 LETTER = 7.4
+NO_XML = re.compile("[^\t\n\r -\ud7ff\ue000-\ufffd\U00010000-\U0010ffff]")
 
 
 class Unread(Exception):
     """A text is no listing that can be drawn."""
+
+
+def escape(words):
+    """Words as XML text, with a mark in place of each character that XML has no way to write."""
+    return html.escape(NO_XML.sub("\ufffd", words))
 
 
 def number(value):

@@ -8,7 +8,7 @@ _ilocfarm() {
     1,*) words="run simulate trace schedule counts compare explain check graph lint help --help --version" ;;
     *,run,*) words="--at --help" ;;
     *,simulate,*) words="--at --load --store --mult --priority --help" ;;
-    *,trace,*) words="--at --load --store --mult --priority --help" ;;
+    *,trace,*) words="--at --load --store --mult --priority --task --either-slot --help" ;;
     *,schedule,*) words="--workers --load --store --mult --priority --help" ;;
     *,counts,*) words="--workers --load --store --mult --priority --csv --help" ;;
     *,compare,*) words="--workers --load --store --mult --csv --help" ;;

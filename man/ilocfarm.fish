@@ -25,6 +25,8 @@ complete -c ilocfarm -n '__fish_seen_subcommand_from trace' -l load -x -d 'Cycle
 complete -c ilocfarm -n '__fish_seen_subcommand_from trace' -l store -x -d 'Cycles that store and storeAI take, 1 to 16 [default: 5]'
 complete -c ilocfarm -n '__fish_seen_subcommand_from trace' -l mult -x -d 'Cycles that mult and multI take, 1 to 16 [default: 3]'
 complete -c ilocfarm -n '__fish_seen_subcommand_from trace' -l priority -x -a 'chain slack descendants successors latency order' -d 'What goes first: chain, slack, descendants, successors, latency or order [default: chain]'
+complete -c ilocfarm -n '__fish_seen_subcommand_from trace' -l task -r -d 'Read the blocks from FILE, and only rows from standard input'
+complete -c ilocfarm -n '__fish_seen_subcommand_from trace' -l either-slot -d 'With --task, accept rows whose operations fit only when swapped'
 complete -c ilocfarm -n '__fish_seen_subcommand_from trace' -l help -d 'Print help'
 complete -c ilocfarm -n '__fish_seen_subcommand_from schedule' -l workers -x -d 'How many workers share the blocks, 1 to 8 [default: 2]'
 complete -c ilocfarm -n '__fish_seen_subcommand_from schedule' -l load -x -d 'Cycles that load and loadAI take, 1 to 16 [default: 5]'

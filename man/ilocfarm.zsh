@@ -34,6 +34,8 @@ trace) shift words; (( CURRENT-- ))
         '--store[Cycles that store and storeAI take, 1 to 16 \[default\: 5\]]:N:' \
         '--mult[Cycles that mult and multI take, 1 to 16 \[default\: 3\]]:N:' \
         '--priority[What goes first\: chain, slack, descendants, successors, latency or order \[default\: chain\]]:N:(chain slack descendants successors latency order)' \
+        '--task[Read the blocks from FILE, and only rows from standard input]:FILE:_files' \
+        '--either-slot[With --task, accept rows whose operations fit only when swapped]' \
         '--help[Print help]' ;;
 schedule) shift words; (( CURRENT-- ))
     _arguments '--workers[How many workers share the blocks, 1 to 8 \[default\: 2\]]:N:' \

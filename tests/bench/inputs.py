@@ -7,6 +7,7 @@ Each is a valid file of the language and within its limits.
 """
 import os
 import random
+import re
 import sys
 
 sys.path.insert(0, os.path.dirname(os.path.dirname(os.path.abspath(__file__))))
@@ -24,6 +25,7 @@ MIX = [
     ("rshiftI", "left shift target", 1), ("loadAI", "address offset target", 2), ("storeAI", "left address offset", 1),
     ("output", "offset", 1), ("nop", "", 1),
 ]
+OPERATION = re.compile(rb"(?m)^(?:\w+:)?[ \t]*[a-z]+I?[ \t]")
 FORMS = [SPELLED[opcode].format(*(f"{{{it}}}" for it in names.split())) for opcode, names, times in MIX for _ in range(times)]
 
 
@@ -161,6 +163,11 @@ def stores_and_loads(_):
 
 def sums(_):
     return b"".join(b"addI r0, %d => r%d\n" % (number, number + 1) for number in range(MOST_OPERATIONS))
+
+
+def operations(text):
+    """How many operations an input has, at least 1."""
+    return max(1, len(OPERATION.findall(text)))
 
 
 def front(text, most):

@@ -1,4 +1,4 @@
-"""Runs a program and measures it: time, processor time, the memory that it held. Linux alone."""
+"""Runs a program and measures it: what it executes, time, processor time, the memory that it held. Linux alone."""
 import ctypes
 import os
 import subprocess
@@ -10,6 +10,7 @@ from dataclasses import dataclass
 HERE = os.path.dirname(os.path.abspath(__file__))
 PR_SET_CHILD_SUBREAPER = 36
 TURNS = 100
+COUNTER = ["valgrind", "--tool=cachegrind", "--cache-sim=yes", "--branch-sim=yes"]
 # Starts the words after the two paths and leaves it to be waited for by this program.
 START = 'given=$1; output=$2; shift 2; "$@" <"$given" >"$output" 2>"$output.err" & echo $!'
 
@@ -25,6 +26,14 @@ class Result:
 
     def shown(self):
         return self.status, contents(self.output), contents(self.output + ".err")
+
+
+@dataclass
+class Counts:
+    """What a program executes: instructions, reads and writes of data, and branches that a simple predictor gets wrong."""
+    instructions: int
+    data: int
+    mispredicted: int
 
 
 def contents(path):
@@ -71,6 +80,19 @@ def run(words, given, output):
         except ChildProcessError:
             pass
     sys.exit(f"{sys.argv[0]}: the shell waits for {words[0]} each time")
+
+
+def counted(words, given, output):
+    """The counts of a program on the file `given`, by valgrind's cachegrind. A program has the same ones each time."""
+    events = output + ".events"
+    with open(given, "rb") as text, open(output, "wb") as shown:
+        said = subprocess.run([*COUNTER, f"--cachegrind-out-file={events}", *words], stdin=text, stdout=shown,
+                              stderr=subprocess.PIPE).stderr
+    lines = dict(line.split(b": ", 1) for line in contents(events).splitlines() if line.startswith((b"events: ", b"summary: ")))
+    if len(lines) != 2:
+        sys.exit(f"{sys.argv[0]}: {words[0]} isn't counted: {said[-200:].decode()}")
+    of = dict(zip(lines[b"events"].decode().split(), map(int, lines[b"summary"].split())))
+    return Counts(of["Ir"], of["Dr"] + of["Dw"], of["Bcm"] + of["Bim"])
 
 
 def build_baseline(folder):

@@ -1,6 +1,7 @@
 """Cases of charts/: what is drawn, by the tooltips of the pictures, and the pictures that docs/ shows."""
 import random
 import re
+import time
 from xml.etree import ElementTree
 
 from harness.place import Place
@@ -152,8 +153,8 @@ class Charts(Place):
 
     def test_timeline_marks_no_right_rows(self):
         """Dan's are `same`, and `check` says below that why they aren't by the book: nothing in them is wrong."""
-        rows = self.read("examples/class/schedules/dan.rows")
-        said = self.call("ilocfarm", "check", "--task", "examples/class/schedules/task.iloc", "3", "4", given=rows)[1]
+        rows = self.read("examples/class/submissions/dan/both.rows")
+        said = self.call("ilocfarm", "check", "--task", "examples/class/tasks/both.iloc", "3", "4", given=rows)[1]
         root = self.picture("charts/timeline", given=rows + said)
         self.expect("title", root.find(f"{SVG}title").text, "block 1 both: 15 cycles, at least 16, same")
         self.expect("marks", [it for it in root.iter() if it.get("stroke") == WRONG_OUTLINE], [])
@@ -183,8 +184,8 @@ class Charts(Place):
 
     def test_timeline_of_rows_alone(self):
         """Rows as a student hands them in: comments, no header, any claim of cycles or none, operations that come early."""
-        for rows, cycles in ((self.read("examples/class/schedules/ada.rows"), 16),
-                             (self.read("examples/class/schedules/fay.rows"), 21),
+        for rows, cycles in ((self.read("examples/class/submissions/ada/both.rows"), 16),
+                             (self.read("examples/class/submissions/fay/both.rows"), 21),
                              (b"[ loadI 1 => r1;nop ]  // one\r\n\n[ nop ; add r1, r1 => r1 ]\n", 2)):
             root = self.picture("charts/timeline", given=rows)
             self.expect("title", root.find(f"{SVG}title").text, f"block 1: {cycles} cycles")
@@ -193,8 +194,8 @@ class Charts(Place):
 
     def test_timeline_of_rows_judged(self):
         """What `check` says is wrong is marked at its row, also where latencies aren't those of the rows."""
-        rows = self.read("examples/class/schedules/ben.rows")
-        said = self.call("ilocfarm", "check", "--task", "examples/class/schedules/task.iloc", "3", "4", given=rows)[1]
+        rows = self.read("examples/class/submissions/ben/both.rows")
+        said = self.call("ilocfarm", "check", "--task", "examples/class/tasks/both.iloc", "3", "4", given=rows)[1]
         for given in (rows + said, b"block 1 both\n" + rows + said):
             root = self.picture("charts/timeline", given=given)
             self.expect("title", root.find(f"{SVG}title").text, "block 1 both: 15 cycles, at least 16, differs")
@@ -217,6 +218,37 @@ class Charts(Place):
             self.expect(f"timeline {words}", self.call("charts/timeline", *words, given=given),
                    (1, b"", b"charts/timeline: " + said + b"\n"))
         self.expect("status", self.call("charts/timeline", "--load", "17", given=listing)[0], 2)
+
+    def test_timeline_of_hostile_texts(self):
+        """What can't be drawn is said in a line; what is drawn is XML, whatever the bytes, in time that grows with the text."""
+        late = EXPLAINED.replace(b"6 cycle 12", b"6 cycle 200000").replace(b"cycles 13", b"cycles 200001")
+        for given, said in (
+                (b"[ ]\ncycles " + b"9" * 5000, b"a number of 5000 digits: 9999999999.."),
+                (EXPLAINED.replace(b"after 5", b"after 8"), b"operation 6 waited for 8, which the listing hasn't"),
+                (EXPLAINED.replace(b"cycle 1 unit 1", b"cycle 1 unit 0"), b"block 1 has two operations on one unit in one cycle"),
+                (late, b"block 1 takes 200001 cycles: at most 160000 are drawn")):
+            self.expect(f"{given[:40]}", self.call("charts/timeline", given=given), (1, b"", b"charts/timeline: " + said + b"\n"))
+        begun = time.monotonic()
+        self.picture("charts/timeline", given=b"[ " + b";" * 1_000_000 + b" ]")
+        self.picture("charts/timeline", given=b"[ load r1 => r2 ]\n" * 10_000)
+        self.picture("charts/timeline", given=b"".join(b"block %d -\n" % k for k in range(1, 20_000)) +
+                     b"".join(b"block %d - lawful cycles 0 ours 0 least 0\n" % k for k in range(1, 20_000)))
+        self.expect("within 30 s", time.monotonic() - begun < 30, True)
+
+    def test_timeline_of_changed_texts(self):
+        """Of listings with other bytes in them, each is drawn as XML, or refused by one line."""
+        chance, begun = random.Random(69), (EXPLAINED, self.read("examples/class/submissions/ada/both.rows"))
+        bytes_of = [b";", b"[", b"]", b"\0", b"\x0c", b"\xff", b"\xef\xbf\xbe", b"99999999999", b"-1", b"\xd9\xa3", b" ; ", b"\npath 1"]
+        for _ in range(100):
+            text = bytearray(chance.choice(begun))
+            for _ in range(chance.randrange(1, 4)):
+                at = chance.randrange(len(text))
+                text[at:at + chance.randrange(2)] = chance.choice(bytes_of)
+            status, out, err = self.call("charts/timeline", given=bytes(text))
+            if status == 0:
+                ElementTree.fromstring(out)
+            self.expect(f"{bytes(text)}", (status in (0, 1), err.count(b"\n"), err.startswith(b"charts/timeline: ") or not err),
+                        (True, status, True))
 
     def test_graph(self):
         """dot draws each operation and each edge."""

@@ -47,11 +47,11 @@ IN_FISH = (
 )
 READS_TERMINAL = "ilocfarm: reading {} from the terminal; Ctrl-D on a line of its own ends them\n"
 COMPLETE = ('source "$0"; COMP_WORDS=(ilocfarm "$@"); COMP_CWORD=$#; _ilocfarm; echo "${COMPREPLY[*]}"')
-INSTALLED = {"bin/ilocfarm", "share/man/man1/ilocfarm.1", "share/bash-completion/completions/ilocfarm",
+INSTALLED = {"bin/ilocfarm", "bin/ilocgrade", "share/man/man1/ilocfarm.1", "share/man/man1/ilocgrade.1", "share/bash-completion/completions/ilocfarm",
              "share/zsh/site-functions/_ilocfarm", "share/fish/vendor_completions.d/ilocfarm.fish",
              "share/doc/ilocfarm/README.md", "share/doc/ilocfarm/CHANGELOG.md"}
 # Folders of the repository of which all is installed, and where.
-WHOLE = {"charts": "share/ilocfarm/charts", "cluster": "share/ilocfarm/cluster", "examples": "share/ilocfarm/examples",
+WHOLE = {"charts": "share/ilocfarm/charts", "grading": "share/ilocfarm/grading", "cluster": "share/ilocfarm/cluster", "examples": "share/ilocfarm/examples",
          "docs": "share/doc/ilocfarm/docs"}
 
 
@@ -76,6 +76,13 @@ class Manual(Place):
     def test_page_has_no_slips(self):
         self.needs("mandoc")
         self.expect("mandoc", self.call("mandoc", "-T", "lint", PAGE), (0, b"", b""))
+        self.expect("mandoc", self.call("mandoc", "-T", "lint", "-W", "warning", "man/ilocgrade.1"), (0, b"", b""))
+
+    def test_page_of_ilocgrade(self):
+        """Each option of its help is on its page, and no other."""
+        options = set(re.findall(r"--[a-z-]+", self.call("ilocgrade", "--help")[1].decode().partition("\n\n")[0])) | {"--help", "--out", "--jobs"}
+        named = {f"-{it}" for it in re.findall(r"^\.It (?:Fl \w , |Fl )(-[a-z-]+)", self.text("man/ilocgrade.1"), re.MULTILINE)}
+        self.expect("options", sorted(named), sorted(options))
 
     def test_page_has_the_words_of_listings(self):
         """Each field, verdict and line in a table of docs/LANGUAGE.md on listings is on the page."""
@@ -164,6 +171,9 @@ class Manual(Place):
         for made, source in (("bin/ilocfarm", TESTED.program), ("share/man/man1/ilocfarm.1", PAGE),
                              ("share/ilocfarm/cluster/join", f"{TOP}/cluster/join")):
             self.expect(f"{made} as it is", self.read(f"a prefix/{made}") == self.read(source), True)
+        installed = f"{self.path('a prefix/bin')}:/usr/bin:/bin"
+        self.expect("ilocgrade", self.call("ilocgrade", "examples/class/tasks", "examples/class/submissions", PATH=installed),
+                    (0, b"8 students, 1 task, 3 of 8 passed: grades/report.html\n", b""))
         listing = self.call("ilocfarm", "schedule", given=self.read("examples/dot.iloc"))[1]
         self.expect("timeline", self.call("a prefix/share/ilocfarm/charts/timeline", given=listing),
                self.call("charts/timeline", given=listing))

@@ -13,26 +13,7 @@ WRITE = re.compile(r"write (\d+) (r\d+|word \d+) = (-?\d+) was (-?\d+) from (\d+
 ISSUE = re.compile(r"(issue|fault) (\d+) unit (\d) (.+?)(?: (reads|emits) (.+))?")
 READ = re.compile(r"(r\d+|word \d+) = (-?\d+)(?: until (\d+))?")
 WRONG = '[stroke="#d6409f"]'
-CLASS = "examples/class/schedules"
-# What the timed machine does with Ben's rows, as LANGUAGE tells events, where memory from 1024 on holds 3 and 4.
-BEN = b"""block 1 both
-issue 0 unit 0 loadI 1024 => r0
-write 1 r0 = 1024 was 0 from 0
-issue 1 unit 0 loadAI r0, 0 => r1 reads r0 = 1024, word 1024 = 3
-issue 2 unit 0 loadAI r0, 4 => r2 reads r0 = 1024, word 1028 = 4
-write 6 r1 = 3 was 0 from 1
-issue 6 unit 0 add r1, r2 => r3 reads r1 = 3, r2 = 0 until 7
-write 7 r2 = 4 was 0 from 2
-write 7 r3 = 3 was 0 from 6
-issue 7 unit 0 storeAI r3 => r0, 8 reads r3 = 3, r0 = 1024
-issue 7 unit 1 sub r1, r2 => r4 reads r1 = 3, r2 = 4
-write 8 r4 = -1 was 0 from 7
-issue 8 unit 0 storeAI r4 => r0, 12 reads r4 = -1, r0 = 1024
-write 12 word 1032 = 3 was 0 from 7
-write 13 word 1036 = -1 was 0 from 8
-issue 13 unit 0 output 1032 emits word 1032 = 3
-issue 14 unit 0 output 1036 emits word 1036 = -1
-"""
+CLASS = "examples/class"
 FAULTS = b"a: output 0\nb: loadI 2 => r1\nload r1 => r2\nc: loadI 4 => r1\nload r1 => r2\nadd r2, r2 => r3\n"
 
 
@@ -75,10 +56,11 @@ class Page(Place):
         return b"".join(self.call("ilocfarm", *command, given=given)[1] for command in commands)
 
     def ben(self):
-        """The page's listings of Ben's rows."""
-        task = f"{CLASS}/task.iloc"
-        return (self.listings(("graph",), given=self.read(task)) + BEN
-                + self.listings(("check", "--task", task, "3", "4"), given=self.read(f"{CLASS}/ben.rows")))
+        """The page's listings of Ben's rows, where memory from 1024 on holds 3 and 4."""
+        task = f"{CLASS}/tasks/both.iloc"
+        rows = ("--task", task, "3", "4")
+        return (self.listings(("graph",), given=self.read(task))
+                + self.listings(("trace", *rows), ("check", *rows), given=self.read(f"{CLASS}/submissions/ben/both.rows")))
 
     def block(self, text, *options):
         return self.listings(("explain", *options), ("graph", *options), ("trace", *options, "3", "4"), given=text)
@@ -157,7 +139,7 @@ class Page(Place):
 
     def test_tab(self):
         """Each control is reached by the keyboard."""
-        self.open(self.block(self.read(f"{CLASS}/task.iloc")))
+        self.open(self.block(self.read(f"{CLASS}/tasks/both.iloc")))
         seen = []
         for _ in range(8):
             self.browser.key("Tab")
@@ -221,7 +203,7 @@ class Page(Place):
 
     def test_alone(self):
         """Nothing is fetched, and a trace alone makes a page."""
-        for listing in (self.ben(), self.listings(("trace", "3", "4"), given=self.read(f"{CLASS}/task.iloc"))):
+        for listing in (self.ben(), self.listings(("trace", "3", "4"), given=self.read(f"{CLASS}/tasks/both.iloc"))):
             self.open(listing)
             self.expect("links out", re.findall(r'(?:src|href)="(?!#)[^"]*|url\(|@import', self.text("page.html")), [])
         self.browser.key("End")
@@ -244,14 +226,14 @@ class Page(Place):
     def test_odd_listings(self):
         """Cut off, of two versions, none: refused with the reason, or joined as far as it goes."""
         whole = self.ben()
-        trace = self.listings(("trace", "3", "4"), given=self.read(f"{CLASS}/task.iloc"))
+        trace = self.listings(("trace", "3", "4"), given=self.read(f"{CLASS}/tasks/both.iloc"))
         for given, said in (
                 (b"", b"there is no trace of a block"),
                 (self.listings(("graph",), given=FAULTS), b"there is no trace of a block"),
                 (trace[:-3], b"line "), (trace.replace(b"issue 0", b"issue 5"), b"no operation before sends what arrives: ")):
             status, out, err = self.call("charts/page", given=given)
             self.expect(said, (status, out, err.startswith(b"charts/page: " + said)), (1, b"", True))
-        explained = self.listings(("explain", "--load", "9"), given=self.read(f"{CLASS}/task.iloc"))
+        explained = self.listings(("explain", "--load", "9"), given=self.read(f"{CLASS}/tasks/both.iloc"))
         self.open(whole + explained)
         self.expect("chain", self.value("document.querySelectorAll('[stroke=\"#e5484d\"]').length"), 0)
 

@@ -54,7 +54,8 @@ class Place(InFolder):
         super().setUp()
         os.mkdir(self.path("bin"))
         os.symlink(TESTED.program, self.path("bin/ilocfarm"))
-        for name in ("charts", "cluster", "docs", "examples", "install", "man", "CHANGELOG.md", "README.md"):
+        os.symlink(f"{TOP}/grading/ilocgrade", self.path("bin/ilocgrade"))
+        for name in ("charts", "cluster", "docs", "examples", "grading", "install", "man", "CHANGELOG.md", "README.md"):
             os.symlink(f"{TOP}/{name}", self.path(name))
         self.environment = {**os.environ, "PATH": f"{self.path('bin')}:{os.environ['PATH']}", "LC_ALL": "C.UTF-8"}
 

@@ -146,6 +146,8 @@ def size_checks():
         yield Check("sizes/slow loads in little memory", in_little_memory)
     for name, make, start in judged_inputs():
         yield Check(f"sizes/check/{name}", begins_so, name, make, start)
+    for it in traced_inputs():
+        yield Check(f"sizes/trace/{it[0]}", traced_in_time, *it)
     for name, (op, unit) in ALIKE.items():
         yield Check(f"sizes/alike/{name}", judged_in_time, op, *alike(op, unit))
     yield Check("sizes/alike/loads of one address", judged_in_time, "loads of one address", *loads_of_one_address())
@@ -175,6 +177,25 @@ def begins_so(name, make, start):
     begun = front(got.output + ".err" * (status == 1))
     if got.status != status or not begun.startswith(start):
         yield f"check: status {got.status}, {begun[:60]!r}"
+    yield from wrong
+
+
+def traced_inputs():
+    """Blocks, and as many rows for them as a text can have."""
+    load = b"[load r0=>r0;nop]\n" * MOST_OPERATIONS
+    blocks = MOST_BYTES // (len(load) + len(b"block 999 A\n"))
+    yield "empty rows", b"A:\n", filled(b"[nop;nop]\n"), 0
+    yield ("rows of loads", b"A:\n" * blocks, b"".join(b"block %d A\n%s" % (k, load) for k in range(1, blocks + 1)),
+           2 * MOST_OPERATIONS * blocks)
+
+
+def traced_in_time(name, task, rows, events):
+    """A trace of rows takes time and memory in proportion to them."""
+    got, wrong = measured(name, ["trace", "--task", stored("task", task)], stored("given", rows))
+    with open(got.output, "rb") as file:
+        lines = sum(1 for _ in file)
+    if got.status != 0 or lines != task.count(b":") + events:
+        yield f"{name}: status {got.status}, {lines} lines"
     yield from wrong
 
 

@@ -8,10 +8,10 @@ from judged.test_rows import LISTED, SAME, UNLIKE, VERDICTS, WORDS, spread
 from limits import MOST_BYTES
 
 ROW_STARTS = ("[", "block ", "cycles", "total")
-CLASS = f"{TOP}/examples/class/schedules"
+CLASS = f"{TOP}/examples/class"
 PASSED, NOT_READ, NO_DEVICE, FAILED = 0, 1, 4, 5
 
-# What students hand in for examples/class/schedules/task.iloc in place of a schedule.
+# What students hand in for examples/class/tasks/both.iloc in place of a schedule.
 CHEATS = {
     "task_of_their_own": b"// mine\noutput 1\n[ output 1 ; nop ]\n",
     "fault": b"[ output 1 ; nop ]\n",
@@ -58,14 +58,14 @@ def all_as_together():
 
 def is_refused(given):
     """Anything but a pass, with no byte listed where the rows aren't read."""
-    end = ending(["check", "--task", f"{CLASS}/task.iloc", "3", "4"], given)
+    end = ending(["check", "--task", f"{CLASS}/tasks/both.iloc", "3", "4"], given)
     if end[0] not in (NOT_READ, FAILED) or end[0] == NOT_READ and end[1]:
         yield told(end)
 
 
 def cut_anywhere():
     """A hand-in that is cut passes nowhere before its last row."""
-    with open(f"{CLASS}/ada.rows", "rb") as file:
+    with open(f"{CLASS}/submissions/ada/both.rows", "rb") as file:
         rows = file.read()
     for end in range(rows.index(b"[ output 1036")):
         yield from is_refused(rows[:end])

@@ -65,17 +65,20 @@ def rows_as_checked():
             yield from as_checked(task.encode("latin-1"), rows.encode("latin-1"))
 
 
+TASK = f"{CLASS}/tasks/both.iloc"
+
+
 def class_as_checked():
-    with open(f"{CLASS}/task.iloc", "rb") as file:
+    with open(TASK, "rb") as file:
         task = file.read()
     for name in ("ada", "ben", "dan", "fay", "hal", "gus"):
-        with open(f"{CLASS}/{name}.rows", "rb") as file:
+        with open(f"{CLASS}/submissions/{name}/both.rows", "rb") as file:
             rows = file.read()
-        status = ending(["check", "--task", f"{CLASS}/task.iloc"], rows)[0]
+        status = ending(["check", "--task", TASK], rows)[0]
         if status in (PASSED, FAILED):
             yield from as_checked(task, rows)
         else:
-            ends = [ending([command, "--task", f"{CLASS}/task.iloc"], rows) for command in ("check", "explain")]
+            ends = [ending([command, "--task", TASK], rows) for command in ("check", "explain")]
             if ends[0] != ends[1]:
                 yield f"{name}: {told(ends[1])} in place of {told(ends[0])}"
 

@@ -117,6 +117,15 @@ VERDICTS = {
                       "add r1, r1 => r3\nloadI 4 => r1\nstore r3 => r1\n", "differs", "word 4: 0 for 8"),
 }
 
+# Rows of a student, with operands exchanged; and others with two operations a row early besides.
+OPERANDS_EXCHANGED = ("loadI 1024 => r1\nload r1 => r2\nloadI 5 => r3\nsub r2, r3 => r4\nstore r4 => r1\noutput 1024\n"
+                      "[ loadI 1024 => r1 ; loadI 5 => r3 ]\n[ load r1 => r2 ]\n" + "[ ]\n" * 4
+                      + "[ sub r3, r2 => r4 ]\n[ store r4 => r1 ]\n" + "[ ]\n" * 4 + "[ output 1024 ]\n")
+THREE_FAULTS = ("loadI 1024 => r1\nload r1 => r2\nsub r2, r1 => r3\nmult r2, r3 => r4\naddI r4, 1 => r5\nstore r5 => r1\noutput 1024\n"
+                "[ loadI 1024 => r1 ]\n[ load r1 => r2 ]\n" + "[ ]\n" * 4
+                + "[ sub r1, r2 => r3 ]\n[ mult r2, r3 => r4 ]\n[ ]\n[ addI r4, 1 => r5 ]\n[ ]\n[ store r5 => r1 ]\n"
+                + "[ ]\n" * 3 + "[ output 1024 ]\n")
+
 # A block, somebody's operations, the verdict with `--outputs`, and what is listed below it.
 SHOWN = {
     "scratch_store": (SQUARE, SQUARE.replace("output", "loadI 2000 => r9\nstore r2 => r9\noutput"), "prints"),
@@ -194,6 +203,19 @@ LISTED = {
     # Two addresses in one register, of which the second is there before the first is read.
     "address_overwritten": (TWO_ADDRESSES, "block 1 - differs cycles 10 ours 10 least 10\n  output 1: 0 for 7\n"
                             "  row 2: store r2 => r1 reads r1 of row 1: loadI 1028 => r1, no longer of row 0: loadI 1024 => r1"),
+    # A sum in a register that nobody reads; the one that reads another in its stead isn't to blame.
+    "result_never_read": ("loadI 4 => r1\nloadI 5 => r2\nadd r1, r2 => r3\nstore r3 => r1\n"
+                          "[ loadI 4 => r1 ; loadI 5 => r2 ]\n[ add r1, r2 => r4 ]\n[ store r3 => r1 ]\n",
+                          "block 1 - differs cycles 7 ours 7 least 7\n  word 4: 0 for 9\n"
+                          "  row 1: add r1, r2 => r4, whose result is never read"),
+    "operands_exchanged": (OPERANDS_EXCHANGED,
+                           "block 1 - differs cycles 13 ours 13 least 13\n  output 1: 5 for -5\n"
+                           "  row 6: sub r3, r2 => r4 for sub r2, r3 => r4"),
+    # Each fault has a line, and nothing else: operands exchanged, a sum and an output that come too early.
+    "three_faults": (THREE_FAULTS, "block 1 - differs cycles 16 ours 17 least 17\n  output 1: 0 for 1\n"
+                     "  row 6: sub r1, r2 => r3 for sub r2, r1 => r3\n"
+                     "  row 9: addI r4, 1 => r5 reads r4, which row 7: mult r2, r3 => r4 brings in row 10\n"
+                     "  row 15: output 1024 while row 11: store r5 => r1 is under way to row 16"),
     "product_known": (PRODUCT + "[ loadI 42 => r1 ; loadI 1024 => r0 ]\n[ store r1 => r0 ]\n" + "[ ]\n" * 4 + "[ output 1024 ]\n",
                       "block 1 - same cycles 7 ours 10 least 10\n  left out 3: loadI 6 => r1\n  added 1: row 0: loadI 42 => r1\n"
                       "  row 0: loadI 42 => r1 like none of the block\n"

@@ -144,6 +144,9 @@ class Reasons:
         return any(lost_row is None or any(n != i and int(register) in self.issued[n][1].defined and self.due[n] <= cycle
                                            for n in self.numbers(lost_row, lost_op)) for i in read)
 
+    def is_never_read(self, k):
+        return bool(self.issued[k][1].defined) and not any(k in read for read in self.read)
+
     def are_in_order(self, k, side, row, op):
         return any({it.kind for it in (self.issued[k][1], self.issued[n][1])} in KEPT_IN_ORDER
                    and (self.issued[k][0] < int(row) if side == "before" else self.issued[k][0] > int(row))
@@ -176,6 +179,7 @@ FACTS = {re.compile(form.replace("ISSUE", r"row (\d+): ([^:]*?)")): holds for fo
     r"ISSUE while ISSUE is under way to row (\d+)": Reasons.is_under_way,
     r"ISSUE reads r(\d+), which ISSUE brings in row (\d+)": Reasons.brings,
     r"ISSUE reads r(\d+) of ISSUE, no longer of (?:the start|ISSUE)": Reasons.replaces,
+    r"ISSUE, whose result is never read": Reasons.is_never_read,
     r"ISSUE (before|after) ISSUE": Reasons.are_in_order,
     r"ISSUE for ([^:]*)": Reasons.stands_for,
     r"ISSUE like none of the block": Reasons.is_like_none,

@@ -101,7 +101,7 @@ def runs(name, given, rows):
     yield Asked(["graph"], name, given)
     yield Asked(["lint"], name, given)
     yield Asked(["check", "--at", "0", "5", "6"], name, given + rows)
-    for command in ("check", "explain"):
+    for command in ("check", "explain", "trace"):
         yield Asked([command, "--task", stored(f"{name}.iloc", given)], f"rows for {name}", rows)
     yield Asked(["counts", "--csv", "--workers", "1"], name, given, 1)
     for command in ("schedule", "counts", "compare"):

@@ -1,0 +1,145 @@
+"""What rows do on the timed machine (`trace --task`), beside the oracle's log: our own, students' and made ones, and rows that
+aren't traced."""
+import random
+import re
+
+from forms import USUAL
+from harness.program import TESTED, TOP, ending, stored, told
+from harness.suite import Check, table
+from judged.students import RIGHT, WRONG
+from judged.test_apart import CLASS, parts
+from judged.test_rows import LISTED
+from judged.test_students import EACH_LATENCIES, LINES, WORDS, given_blocks, ours
+from oracle.drawn import made_block
+from oracle.judge import AT, proposed
+from oracle.machine import bad_row, row_text, words_from
+from oracle.operations import text_of, words_for
+from oracle.scheduler import Schedule
+from oracle.trace import trace
+
+DRAWN, ALL_DRAWN = 1000, 20_000
+A_FILE = 20     # blocks
+SEEDS, ALL_SEEDS = 2, 20
+PASSED, FAILED = 0, 5
+# What `check` has below a verdict on rows that aren't traced.
+UNTRACED = re.compile(rb"^block .* (?:unread|units) cycles .*\n(  row .*)", re.M)
+# Ben's rows with 3 and 4 from 1024 on: he reads r2 a cycle before the load of it arrives.
+BEN = b"""\
+block 1 both
+issue 0 unit 0 loadI 1024 => r0
+write 1 r0 = 1024 was 0 from 0
+issue 1 unit 0 loadAI r0, 0 => r1 reads r0 = 1024, word 1024 = 3
+issue 2 unit 0 loadAI r0, 4 => r2 reads r0 = 1024, word 1028 = 4
+write 6 r1 = 3 was 0 from 1
+issue 6 unit 0 add r1, r2 => r3 reads r1 = 3, r2 = 0 until 7
+write 7 r2 = 4 was 0 from 2
+write 7 r3 = 3 was 0 from 6
+issue 7 unit 0 storeAI r3 => r0, 8 reads r3 = 3, r0 = 1024
+issue 7 unit 1 sub r1, r2 => r4 reads r1 = 3, r2 = 4
+write 8 r4 = -1 was 0 from 7
+issue 8 unit 0 storeAI r4 => r0, 12 reads r4 = -1, r0 = 1024
+write 12 word 1032 = 3 was 0 from 7
+write 13 word 1036 = -1 was 0 from 8
+issue 13 unit 0 output 1032 emits word 1032 = 3
+issue 14 unit 0 output 1036 emits word 1036 = -1
+"""
+
+
+def entry(number, rows, latencies):
+    """The entry of a block, and whether its rows are traced."""
+    bad = bad_row(rows)
+    if bad is not None:
+        return [f"block {number} B{number}", f"  row {bad}: {row_text(rows[bad])}"], False
+    return [f"block {number} B{number}", *trace(rows, latencies, words_from(AT, WORDS))], True
+
+
+def wrongly_traced(blocks, handed_in, latencies):
+    """Where what is listed of rows for blocks isn't what the oracle has."""
+    entries = [entry(k, rows, latencies) for k, rows in enumerate(handed_in, 1)]
+    due = "".join(f"{line}\n" for lines, _ in entries for line in lines).encode()
+    rows = b"".join(proposed(k, f"B{k}", rows) for k, rows in enumerate(handed_in, 1))
+    words = ["--at", str(AT), *map(str, WORDS), *words_for(latencies)]
+    got = ending(["trace", *words, "--task", stored("traced.iloc", text_of(blocks))], rows)
+    if got != (PASSED if all(traced for _, traced in entries) else FAILED, due, b""):
+        yield f"{rows!r}: {told(got)}"
+
+
+def drawn():
+    """Rows of any priority for made blocks, with latencies of any kind."""
+    for seed in range((DRAWN if TESTED.is_short else ALL_DRAWN) // A_FILE):
+        chance = random.Random(f"traced {seed}")
+        latencies = {name: chance.randint(1, 16) for name in USUAL}
+        blocks = [made_block(chance) for _ in range(A_FILE)]
+        yield from wrongly_traced(blocks, [Schedule(ops, latencies).rows for ops in blocks], latencies)
+
+
+def of_kind(kind):
+    for seed in range(SEEDS if TESTED.is_short else ALL_SEEDS):
+        for name, latencies in EACH_LATENCIES.items():
+            chance = random.Random(f"{seed} {kind.__name__}")
+            blocks, givens = given_blocks(seed, name)
+            rows = [kind(chance, given) or ours(chance, given) for given in givens]
+            yield from wrongly_traced(blocks, rows, latencies)
+
+
+def ben():
+    with open(f"{CLASS}/submissions/ben/both.rows", "rb") as file:
+        got = ending(["trace", "--task", f"{CLASS}/tasks/both.iloc", "3", "4"], file.read())
+    if got != (PASSED, BEN, b""):
+        yield told(got)
+
+
+def as_scheduled():
+    """Our own listing is traced, byte for byte, as our schedules are."""
+    for name in ("first", "book", "dot", "faults", "class/dan"):
+        with open(f"{TOP}/examples/{name}.iloc", "rb") as file:
+            block = file.read()
+        due = ending(["trace", "3", "4"], block)
+        got = ending(["trace", "3", "4", "--task", stored("own.iloc", block)], ending(["schedule"], block)[1])
+        if got != due:
+            yield f"{name}: {told(got)} in place of {told(due)}"
+
+
+def as_checked(text):
+    """A row that isn't traced has the line that `check` has for it."""
+    task, rows = (part.encode("latin-1") for part in parts(text))
+    words = ["--task", stored("checked.iloc", task)]
+    status, checked, _ = ending(["check", *words], rows)
+    got = ending(["trace", *words], rows)
+    if status in (PASSED, FAILED):
+        lines = [line for line in got[1].splitlines() if line.startswith(b"  ")]
+        due = UNTRACED.findall(checked)
+        if (got[0] == FAILED) != bool(due) or lines != due:
+            yield f"{text!r}: {told(got)} where check has {told((status, checked, b''))}"
+    elif got[0] != status or got[1]:
+        yield f"{text!r}: {told(got)} where check ends with {status}"
+
+
+def rows_as_checked():
+    for text, *_ in LISTED.values():
+        yield from as_checked(text)
+    for end in range(len(LINES) + 1):
+        yield from as_checked(LINES[:end].decode("latin-1"))
+
+
+def in_either_slot():
+    task, rows = b"loadI 4 => r0\nload r0 => r1\n", b"[ loadI 4 => r0 ; nop ]\n[ nop ; load r0 => r1 ]\n"
+    words = ["trace", "--task", stored("either.iloc", task)]
+    refused, taken = ending(words, rows), ending([*words, "--either-slot"], rows)
+    if refused != (FAILED, b"block 1 -\n  row 1: [ nop ; load r0 => r1 ]\n", b""):
+        yield told(refused)
+    if taken[0] != PASSED or b"issue 1 unit 0 load r0 => r1 reads r0 = 4, word 4 = 0\n" not in taken[1]:
+        yield told(taken)
+
+
+def traced_cases():
+    yield Check("traced/ben", ben)
+    yield Check("traced/drawn", drawn)
+    for kind in (*RIGHT, *WRONG):
+        yield Check(f"traced/students/{kind.__name__}", of_kind, kind)
+    yield Check("traced/as_scheduled", as_scheduled)
+    yield Check("traced/rows_as_checked", rows_as_checked)
+    yield Check("traced/in_either_slot", in_either_slot)
+
+
+load_tests = table(traced_cases)
