@@ -56,21 +56,35 @@ def is_by_the_book(block, rows, latencies):
     return is_paired(ops, [*sources_in_block(ops)], issued, [*sources_in_rows(issued, latencies)], latencies)
 
 
+def narrowed(found, issued, waits):
+    """Leaves of each operation's partners those that a delay allows beside some partner of the other operation."""
+    cycles, before = [cycle for cycle, _ in issued], None
+    while all(found) and found != before:
+        before = [*found]
+        for j, earlier in enumerate(waits):
+            for i, d in earlier:
+                first, last = min((cycles[k] for k in found[i]), default=0), max((cycles[k] for k in found[j]), default=0)
+                found[i] = [k for k in found[i] if cycles[k] + d <= last]
+                found[j] = [k for k in found[j] if first + d <= cycles[k]]
+    return found
+
+
 def is_paired(ops, wanted, issued, read, latencies):
     here, there = shapes(ops, wanted), shapes([op for _, op in issued], read)
     if Counter(here) != Counter(there):
         return False
+    waits = [[(i, d) for i in range(j) for d in memory_delays(ops[i], ops[j], latencies)] for j in range(len(ops))]
+    found = narrowed([[k for k, it in enumerate(there) if it == shape] for shape in here], issued, waits)
     partner, taken = {}, set()
 
     def fits(j, k):
-        return (here[j] == there[k] and [partner.get(i) for i in wanted[j]] == read[k]
-                and all(issued[partner[i]][0] + d <= issued[k][0] for i in range(j)
-                        for d in memory_delays(ops[i], ops[j], latencies)))
+        return ([partner.get(i) for i in wanted[j]] == read[k]
+                and all(issued[partner[i]][0] + d <= issued[k][0] for i, d in waits[j]))
 
     def search(j):
         if j == len(ops):
             return True
-        for k in range(len(issued)):
+        for k in found[j]:
             if k not in taken and fits(j, k):
                 partner[j] = k
                 taken.add(k)
@@ -80,7 +94,7 @@ def is_paired(ops, wanted, issued, read, latencies):
                 del partner[j]
         return False
 
-    return search(0)
+    return all(found) and search(0)
 
 
 def lacking(ops, others):
