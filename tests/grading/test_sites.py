@@ -39,7 +39,7 @@ class Sites(Graded):
             self.expect("board", [it["value"] for it in made["leaderboard"]], [points, cycles])
         self.expect("feedback", made["tests"][0]["output"].splitlines()[1], "Word 1 that your rows print is 3; it should be 7.")
 
-    def autograder(self, submission):
+    def autograder(self, submission, said=b""):
         """The results of the autograder's files in a folder as Gradescope has it."""
         os.makedirs(self.path("autograder/source"), exist_ok=True)
         for name, target in (("tasks", f"{TOP}/{BOTH}"), ("submission", f"{TOP}/{submission}"), ("source/tasks", f"{TOP}/{BOTH}"),
@@ -48,7 +48,7 @@ class Sites(Graded):
                 os.remove(self.path(f"autograder/{name}"))
             os.symlink(target, self.path(f"autograder/{name}"))
         status, _, err = self.call("grading/gradescope/run_autograder", AUTOGRADER=self.path("autograder"))
-        self.expect("status", (status, err), (0, b""))
+        self.expect("status", (status, err), (0, said))
         return json.loads(self.read("autograder/results/results.json"))
 
     def test_autograder(self):
@@ -56,8 +56,8 @@ class Sites(Graded):
         self.call("./install", self.path("installed"), "bin/ilocfarm")
         self.expect("score", self.autograder(BEN)["score"], 0)
         self.expect("score", self.autograder("examples/class/submissions/ada")["score"], 10)
-        self.call("rm", "-r", self.path("installed/bin/ilocfarm"))
-        made = self.autograder(BEN)
+        self.call("rm", self.path("installed/bin/ilocfarm"), self.path("bin/ilocfarm"))
+        made = self.autograder(BEN, b"ilocgrade: ilocfarm is not on the PATH\n")
         self.expect("failed", (made["score"], "no fault of yours" in made["output"]), (0, True))
 
     def test_github(self):
