@@ -181,8 +181,9 @@ def begins_so(name, make, start):
 
 
 def traced_inputs():
-    """Blocks, and as many rows for them as a text can have."""
-    load = b"[load r0=>r0;nop]\n" * MOST_OPERATIONS
+    """Blocks, and as many rows for them as a text can have; and as many loads as fit into blocks."""
+    block, load = b"A:\n" + b"load r0=>r0\n" * MOST_OPERATIONS, b"[load r0=>r0;nop]\n" * MOST_OPERATIONS
+    yield "blocks of loads", b"", filled(block), 2 * MOST_OPERATIONS * (MOST_BYTES // len(block))
     blocks = MOST_BYTES // (len(load) + len(b"block 999 A\n"))
     yield "empty rows", b"A:\n", filled(b"[nop;nop]\n"), 0
     yield ("rows of loads", b"A:\n" * blocks, b"".join(b"block %d A\n%s" % (k, load) for k in range(1, blocks + 1)),
@@ -190,11 +191,12 @@ def traced_inputs():
 
 
 def traced_in_time(name, task, rows, events):
-    """A trace of rows takes time and memory in proportion to them."""
-    got, wrong = measured(name, ["trace", "--task", stored("task", task)], stored("given", rows))
+    """A trace of blocks, or of rows for those of a task, takes time and memory in proportion to them."""
+    words = ["trace", "--task", stored("task", task)] if task else ["trace"]
+    got, wrong = measured(name, words, stored("given", rows))
     with open(got.output, "rb") as file:
         lines = sum(1 for _ in file)
-    if got.status != 0 or lines != task.count(b":") + events:
+    if got.status != 0 or lines != (task or rows).count(b":") + events:
         yield f"{name}: status {got.status}, {lines} lines"
     yield from wrong
 
