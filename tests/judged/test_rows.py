@@ -208,6 +208,16 @@ LISTED = {
                           "[ loadI 4 => r1 ; loadI 5 => r2 ]\n[ add r1, r2 => r4 ]\n[ store r3 => r1 ]\n",
                           "block 1 - differs cycles 7 ours 7 least 7\n  word 4: 0 for 9\n"
                           "  row 1: add r1, r2 => r4, whose result is never read"),
+    # A sum in a register that others read; the one that reads another in its stead isn't to blame.
+    "result_read_by_others": ("loadI 4 => r1\nloadI 5 => r2\nadd r1, r2 => r3\nstore r3 => r1\nstoreAI r2 => r1, 4\n"
+                              "[ loadI 4 => r1 ; loadI 5 => r2 ]\n[ add r1, r2 => r2 ]\n[ store r3 => r1 ]\n"
+                              "[ storeAI r2 => r1, 4 ]\n",
+                              "block 1 - differs cycles 8 ours 8 least 8\n  word 4: 0 for 9\n"
+                              "  row 3: storeAI r2 => r1, 4 reads r2 of row 1: add r1, r2 => r2, no longer of row 0: loadI 5 => r2"),
+    # One line says of a load and a store that they changed places.
+    "load_and_store_exchanged": ("loadI 4 => r1\nload r1 => r2\nstore r1 => r1\n"
+                                 "[ loadI 4 => r1 ]\n[ store r1 => r1 ]\n[ load r1 => r2 ]\n",
+                                 "block 1 - same cycles 7 ours 7 least 7\n  row 2: load r1 => r2 after row 1: store r1 => r1"),
     "operands_exchanged": (OPERANDS_EXCHANGED,
                            "block 1 - differs cycles 13 ours 13 least 13\n  output 1: 5 for -5\n"
                            "  row 6: sub r3, r2 => r4 for sub r2, r3 => r4"),
@@ -223,7 +233,7 @@ LISTED = {
     "register_at_first": ("add r1, r1 => r2\nloadI 4 => r1\nstore r2 => r1\n"
                           "[ loadI 4 => r1 ]\n[ add r1, r1 => r2 ]\n[ store r2 => r1 ]\n",
                           "block 1 - differs cycles 7 ours 6 least 6\n  word 4: 8 for 0\n"
-                          "  row 1: add r1, r1 => r2 for add r1, r1 => r2"),
+                          "  row 1: add r1, r1 => r2 reads r1 of row 0: loadI 4 => r1, no longer of the start"),
     "register_of_nobody": ("loadI 4 => r1\nstore r1 => r1\n[ loadI 4 => r1 ]\n[ store r2 => r1 ]\n",
                            "block 1 - differs cycles 6 ours 6 least 6\n  word 4: 0 for 4\n"
                            "  row 1: store r2 => r1 for store r1 => r1"),

@@ -5,6 +5,7 @@
 //! what it reads; from then on it counts as that one, so that nobody is blamed for another's fault.
 
 mod counts;
+mod doubts;
 mod graph;
 mod guesses;
 mod missing;
@@ -110,6 +111,7 @@ fn begun<'a>(
         stores: issued(alloc, &rows.graph, Kind::Store)?,
         outputs: issued(alloc, &rows.graph, Kind::Output)?,
         claims: Vec::new(alloc),
+        doubts: Vec::new(alloc),
         unlike: None,
     })
 }

@@ -1,7 +1,7 @@
 //! What an operation may have been meant to read.
 
 use super::graph::Graph;
-use crate::claim::What;
+use crate::claim::{What, source_at};
 use crate::sides::Sides;
 use crate::terms::{Values, at, value};
 use iloc_ops::{NoMemory, Op, Reg, defines, uses};
@@ -190,6 +190,44 @@ impl Looking<'_> {
             guesses.push(self.guess(*u, 3, what))?;
         }
         Ok(())
+    }
+}
+
+/// What an operation may have been meant to read, left to right.
+#[derive(Drop)]
+pub(crate) struct Guesses {
+    left: Vec<Guess>,
+    right: Vec<Guess>,
+}
+
+/// What is said where one of these was meant.
+fn what_of(guesses: &[Guess], wanted: u64) -> Option<What> {
+    for guess in guesses {
+        if guess.what.is_some() && guess.value == wanted {
+            return guess.what;
+        }
+    }
+    None
+}
+
+impl Guesses {
+    /// What is said where this was meant at a place.
+    pub(crate) fn what(&self, place: usize, wanted: u64) -> Option<What> {
+        if place == 0 {
+            what_of(&self.left, wanted)
+        } else {
+            what_of(&self.right, wanted)
+        }
+    }
+}
+
+impl Looking<'_> {
+    /// What operation k of the rows may have been meant to read, at each use apart.
+    pub(crate) fn both(&self, alloc: Global, graph: &Graph, k: usize) -> Result<Guesses, NoMemory> {
+        let sources = graph.sources(k);
+        let left = self.guesses(alloc, k, 0, source_at(sources, 0))?;
+        let right = self.guesses(alloc, k, 1, source_at(sources, 1))?;
+        Ok(Guesses { left, right })
     }
 }
 

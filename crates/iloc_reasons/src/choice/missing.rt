@@ -71,10 +71,9 @@ impl Lines {
     }
 }
 
-/// What an operation of the rows is meant to be.
+/// What an operation of the rows is meant to be, besides its label.
 #[derive(Clone, Copy, Debug)]
 pub(crate) struct Wanted {
-    pub label: u64,
     pub place: u64,
     pub values: Values,
     pub readers: u64,
@@ -193,32 +192,35 @@ impl Missing {
             .saturating_add(readers)
     }
 
-    /// The operation of its label that is nearest, if it differs in one thing that it reads at most, or is the only one.
-    pub(crate) fn nearest(
-        &mut self,
-        block: &Side,
-        wanted: &Wanted,
-    ) -> Result<Option<usize>, NoMemory> {
-        let mut here = self.by_label.first_free(wanted.label, &self.free)?;
-        let mut found: Option<(u32, usize)> = None;
-        let mut count: u32 = 0;
+    /// Those of a label, of which so many are looked at.
+    pub(crate) fn of_label(&mut self, alloc: Global, label: u64) -> Result<Vec<usize>, NoMemory> {
+        let mut found = Vec::new(alloc);
+        let mut here = self.by_label.first_free(label, &self.free)?;
         for _ in 0..LOOKS {
             let Some(i) = here else {
                 break;
             };
             if has(&self.free, i) {
-                count = count.saturating_add(1);
-                let far = self.distance(block, i, wanted);
-                found = match found {
-                    Some((other, _)) if other <= far => found,
-                    _ => Some((far, i)),
-                };
+                found.push(i)?;
             }
             here = self.by_label.behind(i);
         }
-        Ok(match found {
-            Some((far, i)) if far < FAR || count == 1 => Some(i),
+        Ok(found)
+    }
+
+    /// The nearest of these, if it differs in one thing that it reads at most, or is the only one.
+    pub(crate) fn nearest(&self, block: &Side, these: &[usize], wanted: &Wanted) -> Option<usize> {
+        let mut found: Option<(u32, usize)> = None;
+        for i in these {
+            let far = self.distance(block, *i, wanted);
+            found = match found {
+                Some((other, _)) if other <= far => found,
+                _ => Some((far, *i)),
+            };
+        }
+        match found {
+            Some((far, i)) if far < FAR || these.len() == 1 => Some(i),
             _ => None,
-        })
+        }
     }
 }

@@ -65,32 +65,20 @@ pub(crate) fn effects(graph: &Graph) -> u64 {
     sum
 }
 
-/// Operations that have a counterpart of the same term and readers, and how many of each term have none.
-#[derive(Drop)]
-struct Matched {
-    are: Vec<bool>,
-    others: Counts,
-}
-
 /// Which operations of a side have a counterpart of the same term and readers on the other.
-fn match_readers(alloc: Global, side: &Side, other: &Side) -> Result<Matched, NoMemory> {
+fn matched(alloc: Global, side: &Side, other: &Side) -> Result<Vec<bool>, NoMemory> {
     let mut there = Counts::none(alloc);
     for k in 0..other.terms.len() {
         there.add(other.both(k))?;
     }
     let mut are = Vec::with_capacity(alloc, side.terms.len())?;
-    let mut others = Counts::none(alloc);
     for k in 0..side.terms.len() {
-        let is = there.take(side.both(k))?;
-        are.push(is)?;
-        if !is {
-            others.add(at(&side.terms, k))?;
-        }
+        are.push(there.take(side.both(k))?)?;
     }
-    Ok(Matched { are, others })
+    Ok(are)
 }
 
-/// Which operations have a counterpart of the same term.
+/// Which operations have a counterpart of the same term and readers.
 #[derive(Drop)]
 pub(crate) struct Counterparts {
     pub block: Vec<bool>,
@@ -98,30 +86,11 @@ pub(crate) struct Counterparts {
 }
 
 impl Counterparts {
-    /// Those of one term and the same readers are counterparts first; of the others the first ones of the rows have one, and
-    /// the last ones of the block.
+    /// Those of a block and of rows.
     pub(crate) fn of(alloc: Global, block: &Side, rows: &Side) -> Result<Counterparts, NoMemory> {
-        let Matched {
-            are: mut here,
-            others: mut left_here,
-        } = match_readers(alloc, block, rows)?;
-        let Matched {
-            are: mut there,
-            others: mut left_there,
-        } = match_readers(alloc, rows, block)?;
-        for i in (0..here.len()).rev() {
-            if !has(&here, i) && left_there.take(at(&block.terms, i))? {
-                put(&mut here, i, true);
-            }
-        }
-        for k in 0..there.len() {
-            if !has(&there, k) && left_here.take(at(&rows.terms, k))? {
-                put(&mut there, k, true);
-            }
-        }
         Ok(Counterparts {
-            block: here,
-            rows: there,
+            block: matched(alloc, block, rows)?,
+            rows: matched(alloc, rows, block)?,
         })
     }
 }

@@ -1,4 +1,4 @@
-//! Results that are never read, though something that nothing else brings is read.
+//! Results that are in another register than they are wanted in.
 
 use super::graph::Graph;
 use super::side::has;
@@ -7,15 +7,25 @@ use iloc_ops::{NoMemory, Op, Reg, defines, uses};
 use std::alloc::Global;
 use std::collections::BTreeMap;
 
-/// Results that are never read, and registers that are known.
+/// What was brought so far, and registers that are known.
 #[derive(Drop)]
 pub(crate) struct Strays<'a> {
-    // Registers that some operation defines, or that one with a counterpart reads as they were at the start.
+    ops: &'a [Op],
+    // How many operations define each register, of those that some do, or that one with a counterpart reads as it was at the
+    // start.
     known: BTreeMap<u32, usize>,
-    // By what they are meant to bring, operations so far whose results are never read.
+    // By what it is meant to bring, an operation whose result is never read, and one whose result is.
     unread: BTreeMap<u64, usize>,
+    brought: BTreeMap<u64, usize>,
     // The operations whose results are read.
     read: &'a BTreeMap<usize, usize>,
+}
+
+/// An operation that brings what is wanted, in another register.
+#[derive(Clone, Copy, Debug)]
+pub(crate) enum Stray {
+    NeverRead(usize),
+    Read(usize),
 }
 
 /// Notes the registers that operation k of the rows reads as they were at the start.
@@ -26,8 +36,8 @@ fn note_starts(
     k: usize,
 ) -> Result<(), NoMemory> {
     for (place, register) in uses(op).iter().enumerate() {
-        if source_at(rows.sources(k), place).is_none() {
-            known.insert(register.0, k)?;
+        if source_at(rows.sources(k), place).is_none() && known.get(&register.0).is_none() {
+            known.insert(register.0, 0)?;
         }
     }
     Ok(())
@@ -37,39 +47,69 @@ impl<'a> Strays<'a> {
     /// None so far.
     pub(crate) fn none(
         alloc: Global,
-        rows: &Graph,
+        rows: &Graph<'a>,
         counterparts: &[bool],
         read: &'a BTreeMap<usize, usize>,
     ) -> Result<Strays<'a>, NoMemory> {
-        let mut known = BTreeMap::new(alloc);
+        let mut known: BTreeMap<u32, usize> = BTreeMap::new(alloc);
         for (k, op) in rows.ops.iter().enumerate() {
             if let Some(register) = defines(op) {
-                known.insert(register.0, k)?;
+                let count = known.get(&register.0).copied().unwrap_or(0);
+                known.insert(register.0, count.saturating_add(1))?;
             }
             if has(counterparts, k) {
                 note_starts(&mut known, rows, op, k)?;
             }
         }
         Ok(Strays {
+            ops: rows.ops,
             known,
             unread: BTreeMap::new(alloc),
+            brought: BTreeMap::new(alloc),
             read,
         })
     }
 
-    /// Operation k is meant to bring this.
+    /// Whether operation k shares its register with others.
+    fn shares(&self, k: usize) -> bool {
+        if let Some(op) = self.ops.get(k)
+            && let Some(register) = defines(op)
+        {
+            return self.known.get(&register.0).copied().unwrap_or(0) > 1;
+        }
+        false
+    }
+
+    /// Operation k is meant to bring this. Of several, one that shares its register stays.
     pub(crate) fn note(&mut self, k: usize, meant: u64) -> Result<(), NoMemory> {
-        if self.read.get(&k).is_none() {
+        let is_read = self.read.get(&k).is_some();
+        let noted = if is_read {
+            self.brought.get(&meant).copied()
+        } else {
+            self.unread.get(&meant).copied()
+        };
+        if let Some(other) = noted
+            && self.shares(other)
+            && !self.shares(k)
+        {
+            return Ok(());
+        }
+        if is_read {
+            self.brought.insert(meant, k)?;
+        } else {
             self.unread.insert(meant, k)?;
         }
         Ok(())
     }
 
     /// An operation that brings this elsewhere, where it is wanted in a register that isn't known.
-    pub(crate) fn instead(&self, register: Reg, wanted: u64) -> Option<usize> {
-        match self.known.get(&register.0) {
-            Some(_) => None,
-            None => self.unread.get(&wanted).copied(),
+    pub(crate) fn instead(&self, register: Reg, wanted: u64) -> Option<Stray> {
+        if self.known.get(&register.0).is_some() {
+            return None;
+        }
+        match self.unread.get(&wanted).copied() {
+            Some(k) => Some(Stray::NeverRead(k)),
+            None => Some(Stray::Read(self.brought.get(&wanted).copied()?)),
         }
     }
 }

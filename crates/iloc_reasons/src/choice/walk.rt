@@ -1,11 +1,12 @@
 //! The operations of rows one after another, each with what it is meant to be.
 
 use super::Choice;
+use super::doubts::{Cause, Causes, Doubt, undoubted};
 use super::graph::{Place, put};
-use super::guesses::{Definers, Looking, Pick};
+use super::guesses::{Definers, Guesses, Looking, Pick};
 use super::missing::{Missing, Wanted};
 use super::side::{Side, has};
-use super::strays::Strays;
+use super::strays::{Stray, Strays};
 use crate::claim::{Claim, What, source_at};
 use crate::sides::Sides;
 use crate::terms::{Values, at, mix};
@@ -49,6 +50,7 @@ pub(crate) struct Walk<'a> {
     pub stores: Vec<usize>,
     pub outputs: Vec<usize>,
     pub claims: Vec<Claim>,
+    pub doubts: Vec<Doubt>,
     /// The first operation that is like none of the block.
     pub unlike: Option<usize>,
 }
@@ -128,10 +130,8 @@ impl Walk<'_> {
             return self.changed(k, change);
         }
         match self.counterpart(k, values)? {
-            Some(i) => {
-                if !self.strayed(k, values, i)? {
-                    self.claim(k, What::For { op: i })?;
-                }
+            Some((i, causes)) => {
+                self.stand_for(k, i, causes)?;
                 self.take(k, i);
             }
             None => {
@@ -143,62 +143,121 @@ impl Walk<'_> {
         Ok(())
     }
 
-    /// The missing operation that operation k is if its operands are exchanged, or else the nearest one of its label.
-    fn counterpart(&mut self, k: usize, values: Values) -> Result<Option<usize>, NoMemory> {
+    /// The missing operation that operation k is if its operands are exchanged, or else the nearest one of its label, or one
+    /// of which the causes are known why k reads otherwise; with these causes.
+    fn counterpart(
+        &mut self,
+        k: usize,
+        values: Values,
+    ) -> Result<Option<(usize, Causes)>, NoMemory> {
+        let (alloc, rows) = (self.alloc, self.rows);
+        let guesses = self.looking().both(alloc, &rows.graph, k)?;
         if let Values::Two(left, right) = values
             && left != right
         {
-            let exchanged = self.rows.term(k, self.place(k), Values::Two(right, left));
-            if let Some(i) = self.missing.of_term(exchanged, at(&self.rows.readers, k))? {
-                return Ok(Some(i));
+            let exchanged = rows.term(k, self.place(k), Values::Two(right, left));
+            if let Some(i) = self.missing.of_term(exchanged, at(&rows.readers, k))? {
+                let causes = self.causes(k, values, i, &guesses);
+                return Ok(Some((i, causes)));
             }
         }
         let wanted = Wanted {
-            label: at(&self.rows.graph.labels, k),
             place: self.place(k),
             values,
-            readers: at(&self.rows.readers, k),
+            readers: at(&rows.readers, k),
         };
-        self.missing.nearest(self.block, &wanted)
+        let label = at(&rows.graph.labels, k);
+        let found = self.missing.of_label(alloc, label)?;
+        if let Some(i) = self.missing.nearest(self.block, &found, &wanted) {
+            let causes = self.causes(k, values, i, &guesses);
+            return Ok(Some((i, causes)));
+        }
+        for i in &found {
+            let causes = self.causes(k, values, *i, &guesses);
+            if at(&self.block.places, *i) == wanted.place && causes.are_known() {
+                return Ok(Some((*i, causes)));
+            }
+        }
+        Ok(None)
     }
 
-    /// Whether results that are never read are all that operation k reads otherwise than operation i of the block; then it is
-    /// said of these.
-    fn strayed(&mut self, k: usize, values: Values, i: usize) -> Result<bool, NoMemory> {
+    /// Why operation k reads otherwise than operation i of the block; nothing unless it is known at each place where it does.
+    fn causes(&self, k: usize, values: Values, i: usize, guesses: &Guesses) -> Causes {
         let theirs = Values::of(&self.block.terms, self.block.graph.sources(i));
-        let mut found = [None, None];
+        let mut causes = Causes::none();
         for place in 0..2 {
-            if theirs.at(place) != values.at(place) {
-                found[place] = self.unread_instead(k, place, i);
-                if found[place].is_none() {
-                    return Ok(false);
+            if let Some(wanted) = theirs.at(place)
+                && values.at(place) != Some(wanted)
+            {
+                let what = guesses.what(place, wanted);
+                match self.cause(k, place, i, what) {
+                    Some(cause) => causes.put(place, cause),
+                    None => return Causes::none(),
                 }
             }
         }
-        for unread in found {
-            if let Some(u) = unread {
-                self.claim(u, What::NeverRead)?;
-            }
-        }
-        Ok(found != [None, None])
+        causes
     }
 
-    /// The operation whose result operation k was to read at a place if it is operation i of the block, and that is never read.
-    fn unread_instead(&self, k: usize, place: usize, i: usize) -> Option<usize> {
+    /// Why operation k doesn't read at a place what it is meant to, if it is operation i of the block: that it is brought
+    /// elsewhere, or this.
+    fn cause(&self, k: usize, place: usize, i: usize, what: Option<What>) -> Option<Cause> {
+        match self.instead(k, place, i) {
+            Some(Stray::NeverRead(u)) => {
+                let what = What::NeverRead;
+                Some(Cause::Said(Claim { k: u, what }))
+            }
+            Some(Stray::Read(u)) => Some(Cause::Elsewhere(u)),
+            None => match what {
+                Some(what) => Some(Cause::Said(Claim { k, what })),
+                None => None,
+            },
+        }
+    }
+
+    /// What operation k was to read at a place if it is operation i of the block, where that is brought elsewhere.
+    fn instead(&self, k: usize, place: usize, i: usize) -> Option<Stray> {
         let op = self.sides.schedule.ops().get(k)?;
         let register = uses(op).get(place).copied()?;
         let source = source_at(self.block.graph.sources(i), place)?;
         self.strays.instead(register, at(&self.block.terms, source))
     }
 
-    /// The cheapest change that makes operation k one that is missing.
-    fn cheapest(&mut self, k: usize) -> Result<Option<Change>, NoMemory> {
-        let looking = Looking {
+    /// Operation k stands for operation i of the block: says why or, where nothing is known, that it does.
+    fn stand_for(&mut self, k: usize, i: usize, causes: Causes) -> Result<(), NoMemory> {
+        for cause in causes.both() {
+            if let Some(Cause::Said(claim)) = cause {
+                self.claim(claim.k, claim.what)?;
+            }
+        }
+        let claim = Claim {
+            k,
+            what: What::For { op: i },
+        };
+        if !causes.are_known() {
+            return self.claim(k, claim.what);
+        }
+        for cause in causes.both() {
+            if let Some(Cause::Elsewhere(brought)) = cause {
+                self.doubts.push(Doubt { claim, brought })?;
+            }
+        }
+        Ok(())
+    }
+
+    /// What is known while operations' uses are looked at.
+    fn looking(&self) -> Looking<'_> {
+        Looking {
             sides: self.sides,
             definers: &self.definers,
             meant: &self.meant,
-        };
-        let picks = looking.picks(self.alloc, &self.rows.graph, k)?;
+        }
+    }
+
+    /// The cheapest change that makes operation k one that is missing.
+    fn cheapest(&mut self, k: usize) -> Result<Option<Change>, NoMemory> {
+        let (alloc, rows) = (self.alloc, self.rows);
+        let picks = self.looking().picks(alloc, &rows.graph, k)?;
         let mut best = None;
         for pick in &picks {
             best = self.cheaper(k, pick, best)?;
@@ -254,11 +313,25 @@ impl Walk<'_> {
         if change.moved {
             let place = self.block.graph.place(change.i);
             if let Some(other) = self.passed(k, place) {
-                self.claim(k, What::Beside { other })?;
+                self.beside(k, other)?;
             }
         }
         self.take(k, change.i);
         Ok(())
+    }
+
+    /// Operation k is on the wrong side of a store or output; that it is under way meanwhile is left out.
+    fn beside(&mut self, k: usize, other: usize) -> Result<(), NoMemory> {
+        let under_way = Claim {
+            k,
+            what: What::While { store: other },
+        };
+        let here = self.sides.cycles(k).map(|cycles| cycles.0);
+        let there = self.sides.cycles(other).map(|cycles| cycles.0);
+        if self.claims.last() == Some(&under_way) && here != there {
+            self.claims.pop();
+        }
+        self.claim(k, What::Beside { other })
     }
 
     /// The store or output that operation k is on the wrong side of, where this is its place.
@@ -298,7 +371,10 @@ impl Walk<'_> {
     }
 
     /// What was claimed; of those that are missing the first that is short is named.
-    pub(crate) fn into_choice(self) -> Result<Choice, NoMemory> {
+    pub(crate) fn into_choice(mut self) -> Result<Choice, NoMemory> {
+        let (alloc, rows) = (self.alloc, self.rows);
+        let undoubted = undoubted(alloc, &rows.graph, &self.doubts, &self.claims)?;
+        self.claims.extend_from_slice(&undoubted)?;
         let claims = self.by_row()?;
         let Walk {
             alloc: _,
@@ -314,6 +390,7 @@ impl Walk<'_> {
             stores: _,
             outputs: _,
             claims: _,
+            doubts: _,
             unlike,
         } = self;
         Ok(Choice {

@@ -1,0 +1,94 @@
+//! Operations that read a register which nothing brings, while others read what was wanted there: of these it is said, if they
+//! are found to read it wrongly.
+
+use super::graph::Graph;
+use crate::claim::{Claim, What, source_at};
+use iloc_ops::NoMemory;
+use std::alloc::Global;
+use std::collections::BTreeMap;
+
+/// Why an operation reads something else at a place than it is meant to.
+#[derive(Clone, Copy, Debug)]
+pub(crate) enum Cause {
+    /// What this says.
+    Said(Claim),
+    /// That this operation brings it elsewhere, where others read it.
+    Elsewhere(usize),
+}
+
+/// Why an operation reads otherwise than it is meant to, left to right.
+#[derive(Clone, Copy, Debug)]
+pub(crate) struct Causes {
+    left: Option<Cause>,
+    right: Option<Cause>,
+}
+
+impl Causes {
+    /// Nothing is known.
+    pub(crate) fn none() -> Causes {
+        Causes {
+            left: None,
+            right: None,
+        }
+    }
+
+    /// The same with one at a place.
+    pub(crate) fn put(&mut self, place: usize, cause: Cause) {
+        if place == 0 {
+            self.left = Some(cause);
+        } else {
+            self.right = Some(cause);
+        }
+    }
+
+    /// Whether something is known.
+    pub(crate) fn are_known(self) -> bool {
+        self.left.is_some() || self.right.is_some()
+    }
+
+    /// Both, left to right.
+    pub(crate) fn both(self) -> [Option<Cause>; 2] {
+        [self.left, self.right]
+    }
+}
+
+/// What is claimed unless others are found to read wrongly what this operation brings.
+#[derive(Clone, Copy, Debug)]
+pub(crate) struct Doubt {
+    pub claim: Claim,
+    pub brought: usize,
+}
+
+/// The operations whose results are claimed to be read in place of others.
+fn misread(
+    alloc: Global,
+    rows: &Graph,
+    claims: &[Claim],
+) -> Result<BTreeMap<usize, usize>, NoMemory> {
+    let mut found = BTreeMap::new(alloc);
+    for claim in claims {
+        if let What::ReadsOver { place, .. } = claim.what
+            && let Some(j) = source_at(rows.sources(claim.k), place)
+        {
+            found.insert(j, claim.k)?;
+        }
+    }
+    Ok(found)
+}
+
+/// What is claimed of which there is no doubt, beside other claims.
+pub(crate) fn undoubted(
+    alloc: Global,
+    rows: &Graph,
+    doubts: &[Doubt],
+    claims: &[Claim],
+) -> Result<Vec<Claim>, NoMemory> {
+    let misread = misread(alloc, rows, claims)?;
+    let mut found = Vec::new(alloc);
+    for doubt in doubts {
+        if misread.get(&doubt.brought).is_none() {
+            found.push(doubt.claim)?;
+        }
+    }
+    Ok(found)
+}
