@@ -7,7 +7,7 @@ ghost use Rattle.iloc_farm.specs.Schedules.{AreGreedyAs, AreTheOnlyGreedyAs, Kee
 use crate::fault::FarmFault;
 use crate::workers::farm_out;
 use iloc_board::{Done, Gate, Jobs, NoDesk, NoMemory};
-use iloc_sched::{Heuristic, Scheduler};
+use iloc_sched::{Heuristic, schedule_as};
 use iloc_text::{Block, IlocFile};
 use iloc_timed::{Latencies, MAX_ROWS, Schedule, cycles};
 use std::alloc::Global;
@@ -83,9 +83,7 @@ impl<'f> Jobs for BlockJobs<'f> {
 
     fn answer(&self, alloc: Global, i: u32) -> Result<Schedule, NoMemory> {
         let block = &self.blocks[i as usize];
-        Scheduler::new(alloc)
-            .schedule_as(block, &self.latencies, self.heuristic)
-            .map_err(|_| NoMemory)
+        schedule_as(alloc, block, &self.latencies, self.heuristic).map_err(|_| NoMemory)
     }
 }
 

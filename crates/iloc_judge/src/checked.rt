@@ -114,7 +114,7 @@ fn push_units(
         kind: VerdictKind::Units,
         cycles: cycles_of(ops, rows, task.latencies),
         ours: cycles(task.ours, task.latencies),
-        least: task.least,
+        least: task.graph.least()?,
     };
     let verdict = Verdict::Units(row);
     push_entry(
@@ -160,7 +160,7 @@ pub fn push_check(
         kind: kind_of(judging.lawful, &verdict),
         cycles: cycles(&theirs, task.latencies),
         ours: cycles(task.ours, task.latencies),
-        least: task.least,
+        least: task.graph.least()?,
     };
     push_entry(text, judging, claimed, ops, rows, &verdict, checked)?;
     Ok(checked)

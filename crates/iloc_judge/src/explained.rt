@@ -75,9 +75,7 @@ fn push_said(
         Decision::Lawful(pairing) => {
             let own = own_rows(alloc, block, theirs, task.ours.ops(), &pairing)?;
             let (schedule, issued) = (&own.schedule, &own.issued);
-            push_explanation(
-                alloc, text, block, schedule, issued, latencies, heuristic, task.least,
-            )?;
+            push_explanation(alloc, text, block, task.graph, schedule, issued, heuristic)?;
             Ok(true)
         }
         Decision::Unlawful => {

@@ -70,7 +70,7 @@ pub fn push_unread(
         kind: VerdictKind::Unread,
         cycles: cycles_of(ops, rows, task.latencies),
         ours: cycles(task.ours, task.latencies),
-        least: task.least,
+        least: task.graph.least()?,
     };
     if csv {
         push_table_row(text, checked, claimed)?;

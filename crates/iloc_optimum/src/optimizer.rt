@@ -58,15 +58,15 @@ fn keep_shorter(
 fn try_order(
     scheduler: &mut Scheduler,
     block: &Block,
-    latencies: &Latencies,
+    graph: &Graph,
     best: &mut Schedule,
     heuristic: Heuristic,
 ) -> Result<(), NoMemory>
-    requires { length block.now.ops ≤ MAX_OPS }
-    ensures { OnOk result (IsShortened latencies.now block.now.ops heuristic best.old best.new) }
+    requires { graph.now.ops ≡ renamed block.now.ops }
+    ensures { OnOk result (IsShortened graph.now.latencies block.now.ops heuristic best.old best.new) }
 {
-    let other = scheduler.lend_as(block, latencies, heuristic)?;
-    keep_shorter(scheduler, latencies, best, other);
+    let other = scheduler.lend_as(graph, heuristic)?;
+    keep_shorter(scheduler, graph.latencies(), best, other);
     Ok(())
 }
 
@@ -74,29 +74,18 @@ fn try_order(
 fn best_of_orders(
     scheduler: &mut Scheduler,
     block: &Block,
-    latencies: &Latencies,
+    graph: &Graph,
 ) -> Result<Optimum, NoMemory>
-    requires { length block.now.ops ≤ MAX_OPS }
-    ensures { IfOk result (IsOptimumOf latencies.now block.now.ops) }
+    requires { graph.now.ops ≡ renamed block.now.ops }
+    ensures { IfOk result (IsOptimumOf graph.now.latencies block.now.ops) }
 {
-    let (mut best, least) = scheduler.lend_with_least(block, latencies, Heuristic::Chain)?;
-    try_order(scheduler, block, latencies, &mut best, Heuristic::Slack)?;
-    try_order(
-        scheduler,
-        block,
-        latencies,
-        &mut best,
-        Heuristic::Descendants,
-    )?;
-    try_order(
-        scheduler,
-        block,
-        latencies,
-        &mut best,
-        Heuristic::Successors,
-    )?;
-    try_order(scheduler, block, latencies, &mut best, Heuristic::Latency)?;
-    try_order(scheduler, block, latencies, &mut best, Heuristic::Order)?;
+    let least = graph.least()?;
+    let mut best = scheduler.lend_as(graph, Heuristic::Chain)?;
+    try_order(scheduler, block, graph, &mut best, Heuristic::Slack)?;
+    try_order(scheduler, block, graph, &mut best, Heuristic::Descendants)?;
+    try_order(scheduler, block, graph, &mut best, Heuristic::Successors)?;
+    try_order(scheduler, block, graph, &mut best, Heuristic::Latency)?;
+    try_order(scheduler, block, graph, &mut best, Heuristic::Order)?;
     Ok(Optimum {
         schedule: best,
         bound: least,
@@ -128,10 +117,75 @@ fn windows_within(alloc: Global, graph: &Graph, limit: u32) -> Result<Windows, N
     Ok(Windows { firsts, lasts })
 }
 
+/// Improves what is known of a block by a search for a schedule of at most so many cycles, and answers whether cycles of
+/// issue were found.
+fn improve(
+    alloc: Global,
+    scheduler: &mut Scheduler,
+    block: &Block,
+    graph: &Graph,
+    optimum: &mut Optimum,
+    limit: u32,
+    nodes: u32,
+) -> Result<bool, NoMemory>
+    requires graph { graph.now.ops ≡ renamed block.now.ops }
+    requires known { IsOptimumOf graph.now.latencies block.now.ops optimum.old }
+    requires above { optimum.old.bound ≤ limit }
+    ensures known { OnOk result (IsOptimumOf graph.now.latencies block.now.ops optimum.new) }
+    ensures above { OnOk result (optimum.new.bound ≤ limit + 1) }
+{
+    let windows = windows_within(alloc, graph, limit)?;
+    match search_windows(alloc, graph.edges(), graph.kinds(), windows, nodes)? {
+        Found::Nothing => {
+            optimum.bound = u64::from(limit) + 1;
+            Ok(false)
+        }
+        Found::Cycles(cycles) => {
+            let ranks = rests_of(alloc, &cycles, limit)?;
+            let schedule = scheduler.lend(graph, &ranks)?;
+            keep_shorter(
+                scheduler,
+                graph.latencies(),
+                &mut optimum.schedule,
+                schedule,
+            );
+            Ok(true)
+        }
+        Found::Unknown => Ok(false),
+    }
+}
+
+/// Improves what is known of a block by a search for each number of cycles from the bound up, until cycles of issue are
+/// found or the best schedule's are reached. A block of more than `MOST_SEARCHED` operations isn't searched.
+fn search_upwards(
+    alloc: Global,
+    scheduler: &mut Scheduler,
+    block: &Block,
+    graph: &Graph,
+    optimum: &mut Optimum,
+    nodes: u32,
+) -> Result<(), NoMemory>
+    requires graph { graph.now.ops ≡ renamed block.now.ops }
+    requires known { IsOptimumOf graph.now.latencies block.now.ops optimum.old }
+    ensures { OnOk result (IsOptimumOf graph.now.latencies block.now.ops optimum.new) }
+{
+    if block.ops.len() > MOST_SEARCHED {
+        return Ok(());
+    }
+    for limit in optimum.bound..count_of(&optimum.schedule, graph.latencies()) {
+        let is_found = improve(alloc, scheduler, block, graph, optimum, limit as u32, nodes)?;
+        if is_found {
+            break;
+        }
+    }
+    Ok(())
+}
+
 /// Finds the best schedules of blocks, one after another.
 #[derive(Drop)]
 pub struct Optimizer {
     alloc: Global,
+    graph: Graph,
     scheduler: Scheduler,
 }
 
@@ -140,6 +194,7 @@ impl Optimizer {
     pub fn new(alloc: Global) -> Optimizer {
         Optimizer {
             alloc,
+            graph: Graph::new(alloc),
             scheduler: Scheduler::new(alloc),
         }
     }
@@ -160,80 +215,21 @@ impl Optimizer {
         requires { length block.now.ops ≤ MAX_OPS }
         ensures { IfOk result (IsOptimumOf latencies.now block.now.ops) }
     {
-        let mut optimum = best_of_orders(&mut self.scheduler, block, latencies)?;
-        if block.ops.len() <= MOST_SEARCHED {
-            self.search_upwards(block, latencies, &mut optimum, nodes.min(MOST_NODES))?;
-        }
+        self.graph.refill(block, latencies)?;
+        let mut optimum = best_of_orders(&mut self.scheduler, block, &self.graph)?;
+        search_upwards(
+            self.alloc,
+            &mut self.scheduler,
+            block,
+            &self.graph,
+            &mut optimum,
+            nodes.min(MOST_NODES),
+        )?;
         Ok(optimum)
     }
 
     /// Takes back the buffers of a schedule, for the next block.
     pub fn take_back(&mut self, schedule: Schedule) {
         self.scheduler.take_back(schedule);
-    }
-
-    /// Improves what is known of a block by a search for each number of cycles from the bound up, until cycles of issue are
-    /// found or the best schedule's are reached.
-    fn search_upwards(
-        &mut self,
-        block: &Block,
-        latencies: &Latencies,
-        optimum: &mut Optimum,
-        nodes: u32,
-    ) -> Result<(), NoMemory>
-        requires short { length block.now.ops ≤ MAX_OPS }
-        requires known { IsOptimumOf latencies.now block.now.ops optimum.old }
-        ensures { OnOk result (IsOptimumOf latencies.now block.now.ops optimum.new) }
-    {
-        let count = count_of(&optimum.schedule, latencies);
-        if optimum.bound == count {
-            return Ok(());
-        }
-        let mut graph = Graph::new(self.alloc);
-        graph.refill(block, latencies)?;
-        for limit in optimum.bound..count {
-            let is_found = self.improve(block, &graph, optimum, limit as u32, nodes)?;
-            if is_found {
-                break;
-            }
-        }
-        Ok(())
-    }
-
-    /// Improves what is known of a block by a search for a schedule of at most so many cycles, and answers whether cycles of
-    /// issue were found.
-    fn improve(
-        &mut self,
-        block: &Block,
-        graph: &Graph,
-        optimum: &mut Optimum,
-        limit: u32,
-        nodes: u32,
-    ) -> Result<bool, NoMemory>
-        requires graph { graph.now.ops ≡ renamed block.now.ops }
-        requires known { IsOptimumOf graph.now.latencies block.now.ops optimum.old }
-        requires above { optimum.old.bound ≤ limit }
-        ensures known { OnOk result (IsOptimumOf graph.now.latencies block.now.ops optimum.new) }
-        ensures above { OnOk result (optimum.new.bound ≤ limit + 1) }
-    {
-        let windows = windows_within(self.alloc, graph, limit)?;
-        match search_windows(self.alloc, graph.edges(), graph.kinds(), windows, nodes)? {
-            Found::Nothing => {
-                optimum.bound = u64::from(limit) + 1;
-                Ok(false)
-            }
-            Found::Cycles(cycles) => {
-                let ranks = rests_of(self.alloc, &cycles, limit)?;
-                let schedule = self.scheduler.lend(graph, &ranks)?;
-                keep_shorter(
-                    &mut self.scheduler,
-                    graph.latencies(),
-                    &mut optimum.schedule,
-                    schedule,
-                );
-                Ok(true)
-            }
-            Found::Unknown => Ok(false),
-        }
     }
 }

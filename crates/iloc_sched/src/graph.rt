@@ -3,7 +3,7 @@ ghost use Rattle.std.specs.Prelude.{ℕ, ◌≡◌, ◌≤◌, ◌<◌, ◌+◌,
 ghost use Rattle.iloc_ops.specs.declared.op.Op.{Op};
 ghost use Rattle.iloc_timed.specs.Kinds.{kind};
 ghost use Rattle.iloc_sched.specs.Delays.{IsDelayPair};
-ghost use Rattle.iloc_sched.specs.GraphOf.{GraphOf};
+ghost use Rattle.iloc_sched.specs.GraphOf.{GraphOf, of_block};
 ghost use Rattle.iloc_sched.specs.Heuristics.{priorities_by};
 ghost use Rattle.iloc_sched.specs.Least.{tails, least_of};
 ghost use Rattle.iloc_sched.specs.Near.{IsNearPair};
@@ -65,7 +65,7 @@ impl Graph {
     /// Becomes the graph of a block, of at most `MAX_OPS` operations. After a refusal it is that of a block without any.
     pub fn refill(&mut self, block: &Block, latencies: &Latencies) -> Result<(), NoMemory>
         requires { length block.now.ops ≤ MAX_OPS }
-        ensures graph { OnOk result (self.new ≡ record { ops = renamed block.now.ops; latencies = latencies.now }) }
+        ensures graph { OnOk result (self.new ≡ of_block latencies.now block.now.ops) }
         ensures empty { IfErr result (λ _. self.new.ops ≡ []) }
     {
         match self

@@ -1,129 +1,135 @@
 //! The list scheduler.
 ghost use Rattle.std.specs.Prelude.{◌≡◌, ◌≤◌, ◌+◌, ◌*◌, List, length, IfOk, OnOk};
 ghost use Rattle.iloc_ops.specs.declared.op.Op.{Op};
-ghost use Rattle.iloc_sched.specs.Renaming.{renamed};
-ghost use Rattle.iloc_sched.specs.Priority.{priorities};
+ghost use Rattle.iloc_timed.specs.declared.latencies.Latencies.{Latencies as latencies_value};
+ghost use Rattle.iloc_sched.specs.GraphOf.{of_block};
+ghost use Rattle.iloc_sched.specs.Greedy.{IsGreedyBy};
 ghost use Rattle.iloc_sched.specs.Heuristics.{priorities_by};
-ghost use Rattle.iloc_sched.specs.Least.{least};
+ghost use Rattle.iloc_sched.specs.Priority.{priorities};
+ghost use Rattle.iloc_sched.specs.Renaming.{renamed};
 ghost use Rattle.iloc_sched.specs.Scheduled.{IsTheSchedule};
+ghost use Rattle.iloc_sched.specs.Steps.SoFar.{IsPlan};
 
+use crate::cycle::calendar::LONGEST_DELAY;
+use crate::cycle::plan::Plan;
+use crate::cycle::queues::Queues;
+use crate::cycle::waiting::Waiting;
 use crate::graph::Graph;
-use crate::lender::Lender;
 use crate::ranking::heuristic::Heuristic;
-use iloc_ops::{Block, MAX_OPS, NoMemory};
-use iloc_timed::{Latencies, Schedule};
+use iloc_ops::{Block, MAX_OPS, NoMemory, Op};
+use iloc_timed::{Latencies, Row, Schedule};
 use std::alloc::Global;
+use std::mem;
 
-/// Schedules blocks, one after another. Its buffers are kept from block to block.
+/// Makes schedules of blocks from their graphs, one after another. Its buffers are kept from schedule to schedule, whatever
+/// the graphs.
 #[derive(Drop)]
 pub struct Scheduler {
-    graph: Graph,
+    alloc: Global,
     ranks: Vec<u32>,
-    lender: Lender,
+    waiting: Waiting,
+    queues: Queues,
+    ops: Vec<Op>,
+    rows: Vec<Row>,
 }
 
 impl Scheduler {
     /// A scheduler that has no memory yet.
     pub fn new(alloc: Global) -> Scheduler {
         Scheduler {
-            graph: Graph::new(alloc),
+            alloc,
             ranks: Vec::new(alloc),
-            lender: Lender::new(alloc),
+            waiting: Waiting::new(alloc),
+            queues: Queues::new(alloc),
+            ops: Vec::new(alloc),
+            rows: Vec::new(alloc),
         }
     }
 
-    /// The greedy schedule of a block. After a refusal the next block is scheduled as after any other.
+    /// The schedule of a graph's block that is greedy by these priorities, one for each operation: in each cycle the first of
+    /// the ready operations is issued, with the first of the others that can go beside it, in order of falling priority, then of
+    /// number. It is in own buffers, which `take_back` takes back, and the graph stays as it is.
     ///
-    /// Promise: It is the schedule that `schedule` promises, whatever blocks came before.
-    pub fn schedule(&mut self, block: &Block, latencies: &Latencies) -> Result<Schedule, NoMemory>
-        requires { length block.now.ops ≤ MAX_OPS }
-        ensures { IfOk result (IsTheSchedule (priorities latencies.now) latencies.now block.now.ops) }
-    {
-        let own = self.lend_as(block, latencies, Heuristic::Chain)?;
-        let schedule = own.clone()?;
-        self.take_back(own);
-        Ok(schedule)
-    }
-
-    /// The schedule of a graph's block that is greedy by these priorities, one for each operation, in the scheduler's own
-    /// buffers, which `take_back` takes back.
-    ///
-    /// Promise: It is the schedule that `schedule_by` promises, whatever graphs came before.
+    /// Promise: It is the only schedule of the block that is greedy by these priorities, with the block's outcome, and its
+    /// cycles lie between the bounds of `schedule`, whatever graphs came before.
     pub fn lend(&mut self, graph: &Graph, ranks: &[u32]) -> Result<Schedule, NoMemory>
         requires { length ranks.now ≡ length graph.now.ops }
-        ensures { IfOk result (λ s. (block : List Op) → graph.now.ops ≡ renamed block
-            → IsTheSchedule (λ _. ranks.now) graph.now.latencies block s) }
+        ensures { IfOk result (λ s. (lat : latencies_value) (block : List Op) → graph.now ≡ of_block lat block
+            → IsTheSchedule (λ _. ranks.now) lat block s) }
     {
-        self.lender.lend(graph, ranks)
+        let plan = Plan {
+            tables: graph.tables(),
+            ranks,
+        };
+        self.fill_rows(&plan)?;
+        self.ops.clear();
+        self.ops.extend_from_slice(graph.ops())?;
+        let ops = mem::replace(&mut self.ops, Vec::new(self.alloc));
+        let rows = mem::replace(&mut self.rows, Vec::new(self.alloc));
+        Ok(Schedule::of_table(ops, rows))
     }
 
-    /// The schedule of a block that is greedy by a heuristic.
+    /// The schedule of a graph's block that is greedy by a heuristic, lent as `lend` does.
     ///
     /// Promise: It is the only greedy schedule of the block by the heuristic's priorities, with the block's outcome, and its
     /// cycles lie between the bounds of `schedule`.
-    pub fn schedule_as(
-        &mut self,
-        block: &Block,
-        latencies: &Latencies,
-        heuristic: Heuristic,
-    ) -> Result<Schedule, NoMemory>
-        requires { length block.now.ops ≤ MAX_OPS }
-        ensures { IfOk result (IsTheSchedule (priorities_by heuristic latencies.now) latencies.now block.now.ops) }
+    pub fn lend_as(&mut self, graph: &Graph, heuristic: Heuristic) -> Result<Schedule, NoMemory>
+        ensures { IfOk result (λ s. (lat : latencies_value) (block : List Op) → graph.now ≡ of_block lat block
+            → IsTheSchedule (priorities_by heuristic lat) lat block s) }
     {
-        let own = self.lend_as(block, latencies, heuristic)?;
-        let schedule = own.clone()?;
-        self.take_back(own);
-        Ok(schedule)
+        let mut ranks = mem::replace(&mut self.ranks, Vec::new(self.alloc));
+        graph.rank(heuristic, &mut ranks)?;
+        let lent = self.lend(graph, &ranks);
+        self.ranks = ranks;
+        lent
     }
 
-    /// The schedule of a block that is greedy by a heuristic, in the scheduler's own buffers, which `take_back` takes back.
-    ///
-    /// Promise: It is the schedule that `schedule_as` promises.
-    pub fn lend_as(
-        &mut self,
-        block: &Block,
-        latencies: &Latencies,
-        heuristic: Heuristic,
-    ) -> Result<Schedule, NoMemory>
-        requires { length block.now.ops ≤ MAX_OPS }
-        ensures { IfOk result (IsTheSchedule (priorities_by heuristic latencies.now) latencies.now block.now.ops) }
-    {
-        self.graph.refill(block, latencies)?;
-        self.graph.rank(heuristic, &mut self.ranks)?;
-        self.lender.lend(&self.graph, &self.ranks)
-    }
-
-    /// The schedule that `lend_as` promises, and the lower bound on the cycles of the block's lawful schedules.
-    ///
-    /// Promise: The schedule is the one that `schedule_as` promises, and the bound is that of `least`.
-    pub fn lend_with_least(
-        &mut self,
-        block: &Block,
-        latencies: &Latencies,
-        heuristic: Heuristic,
-    ) -> Result<(Schedule, u64), NoMemory>
-        requires { length block.now.ops ≤ MAX_OPS }
-        ensures schedule { IfOk result (λ found.
-            IsTheSchedule (priorities_by heuristic latencies.now) latencies.now block.now.ops found.0) }
-        ensures least { IfOk result (λ found. found.1 ≡ least latencies.now block.now.ops) }
-    {
-        self.graph.refill(block, latencies)?;
-        self.graph.rank(heuristic, &mut self.ranks)?;
-        let least = self.graph.least()?;
-        let schedule = self.lender.lend(&self.graph, &self.ranks)?;
-        Ok((schedule, least))
-    }
-
-    /// Takes back the buffers of a schedule, for the next block.
+    /// Takes back the buffers of a schedule, for the next one.
     pub fn take_back(&mut self, schedule: Schedule) {
-        self.lender.take_back(schedule);
+        (self.ops, self.rows) = schedule.into_parts();
     }
+
+    /// Makes the rows of the greedy schedule.
+    fn fill_rows(&mut self, plan: &Plan) -> Result<(), NoMemory>
+        requires { IsPlan plan.now }
+        ensures greedy { OnOk result ((block : List Op) → plan.now.tables.now.ops.items ≡ renamed block
+            → IsGreedyBy plan.now.ranks.now plan.now.tables.now.latencies block plan.now.tables.now.ops.items
+            self.new.rows.items) }
+        ensures few { OnOk result (length self.new.rows.items ≤ LONGEST_DELAY * MAX_OPS + 1) }
+    {
+        self.waiting.open(&plan.tables.edges)?;
+        self.queues.clear();
+        self.rows.clear();
+        let mut left = plan.tables.ops.len();
+        while left > 0 {
+            left -= self.waiting.step(plan, &mut self.queues, &mut self.rows)?;
+        }
+        Ok(())
+    }
+}
+
+/// The schedule of a block, of at most `MAX_OPS` operations, that is greedy by a heuristic.
+///
+/// For many blocks make one `Graph` and one `Scheduler`.
+///
+/// Promise: It is the only greedy schedule of the block by the heuristic's priorities, with the block's outcome, and its
+/// cycles lie between the bounds of `schedule`.
+pub fn schedule_as(
+    alloc: Global,
+    block: &Block,
+    latencies: &Latencies,
+    heuristic: Heuristic,
+) -> Result<Schedule, NoMemory>
+    requires { length block.now.ops ≤ MAX_OPS }
+    ensures { IfOk result (IsTheSchedule (priorities_by heuristic latencies.now) latencies.now block.now.ops) }
+{
+    let mut graph = Graph::new(alloc);
+    graph.refill(block, latencies)?;
+    Scheduler::new(alloc).lend_as(&graph, heuristic)
 }
 
 /// The greedy schedule of a block, of at most `MAX_OPS` operations: in each cycle the first of the ready operations is
 /// issued, with the first of the others that can go beside it, in order of priority, then of number.
-///
-/// For many blocks make one `Scheduler`.
 ///
 /// Promise: It is the only greedy schedule of the block, and on every memory it has the block's outcome; it takes at least
 /// as many cycles as an operation's issue and its priority together, and at most as many as all latencies together.
@@ -131,26 +137,5 @@ pub fn schedule(alloc: Global, block: &Block, latencies: &Latencies) -> Result<S
     requires { length block.now.ops ≤ MAX_OPS }
     ensures { IfOk result (IsTheSchedule (priorities latencies.now) latencies.now block.now.ops) }
 {
-    Scheduler::new(alloc).schedule(block, latencies)
-}
-
-/// The schedule of a block, of at most `MAX_OPS` operations, that is greedy by these priorities, one for each renamed
-/// operation (`rename`): in each cycle the first of the ready operations is issued, with the first of the others that
-/// can go beside it, in order of falling priority, then of number.
-///
-/// Promise: It is the only schedule of the block that is greedy by these priorities, with the block's outcome, and its
-/// cycles lie between the bounds of `schedule`.
-pub fn schedule_by(
-    alloc: Global,
-    block: &Block,
-    latencies: &Latencies,
-    priorities: &[u32],
-) -> Result<Schedule, NoMemory>
-    requires few { length block.now.ops ≤ MAX_OPS }
-    requires priorities { length priorities.now ≡ length (renamed block.now.ops) }
-    ensures { IfOk result (IsTheSchedule (λ _. priorities.now) latencies.now block.now.ops) }
-{
-    let mut graph = Graph::new(alloc);
-    graph.refill(block, latencies)?;
-    Scheduler::new(alloc).lend(&graph, priorities)
+    schedule_as(alloc, block, latencies, Heuristic::Chain)
 }

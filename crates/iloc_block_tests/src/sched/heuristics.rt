@@ -1,6 +1,6 @@
 //! Schedules by other priorities than the longest chains.
 use crate::written::{USUAL, block_of, latencies};
-use iloc_sched::{Heuristic, Scheduler, least, priorities_by, rename, schedule_by};
+use iloc_sched::{Graph, Heuristic, Scheduler, least, priorities_by, rename, schedule_as};
 use iloc_timed::cycles;
 use std::test::Fail;
 
@@ -25,9 +25,8 @@ const CYCLES: &[(Heuristic, u64)] = &[
 fn ranks_by_each_heuristic(rt: HostRuntime) -> Result<(), Fail> {
     let block = block_of(rt.alloc(), DOT)?;
     let times = latencies(USUAL)?;
-    let mut scheduler = Scheduler::new(rt.alloc());
     for (heuristic, wanted) in CYCLES {
-        let schedule = scheduler.schedule_as(&block, &times, *heuristic)?;
+        let schedule = schedule_as(rt.alloc(), &block, &times, *heuristic)?;
         assert!(rt; cycles(&schedule, &times) == *wanted, "{heuristic:?}");
     }
     Ok(())
@@ -48,16 +47,17 @@ fn counts_who_waits_once(rt: HostRuntime) -> Result<(), Fail> {
 }
 
 #[test]
-fn lends_with_the_bound(rt: HostRuntime) -> Result<(), Fail> {
-    let block = block_of(rt.alloc(), DOT)?;
+fn lends_by_one_graph(rt: HostRuntime) -> Result<(), Fail> {
     let times = latencies(USUAL)?;
+    let mut graph = Graph::new(rt.alloc());
+    graph.refill(&block_of(rt.alloc(), DOT)?, &times)?;
     let mut scheduler = Scheduler::new(rt.alloc());
     for (heuristic, wanted) in CYCLES {
-        let (schedule, bound) = scheduler.lend_with_least(&block, &times, *heuristic)?;
+        let schedule = scheduler.lend_as(&graph, *heuristic)?;
         assert!(rt; cycles(&schedule, &times) == *wanted, "{heuristic:?}");
-        assert!(rt; bound == 21);
         scheduler.take_back(schedule);
     }
+    assert!(rt; graph.least()? == 21);
     Ok(())
 }
 
@@ -65,9 +65,10 @@ fn lends_with_the_bound(rt: HostRuntime) -> Result<(), Fail> {
 fn ranks_by_priorities_that_are_brought(rt: HostRuntime) -> Result<(), Fail> {
     let block = block_of(rt.alloc(), DOT)?;
     let times = latencies(USUAL)?;
-    let ops = rename(rt.alloc(), &block)?;
-    let equal = vec![in rt.alloc(); 1; ops.len()]?;
-    let schedule = schedule_by(rt.alloc(), &block, &times, &equal)?;
+    let mut graph = Graph::new(rt.alloc());
+    graph.refill(&block, &times)?;
+    let equal = vec![in rt.alloc(); 1; graph.ops().len()]?;
+    let schedule = Scheduler::new(rt.alloc()).lend(&graph, &equal)?;
     assert!(rt; cycles(&schedule, &times) == 21);
     assert!(rt; least(rt.alloc(), &block, &times)? == 21);
     Ok(())

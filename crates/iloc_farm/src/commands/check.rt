@@ -15,7 +15,7 @@ use iloc_args::Request;
 use iloc_judge::{Checked, Judging, Task, push_check, push_unread};
 use iloc_meaning::Memory;
 use iloc_rows::Proposal;
-use iloc_sched::{Heuristic, Scheduler};
+use iloc_sched::{Graph, Heuristic, Scheduler};
 use iloc_text::{Block, NoMemory};
 use iloc_timed::MAX_ROWS;
 use std::alloc::Global;
@@ -27,6 +27,7 @@ const HEADER: &[u8] = b"block,name,verdict,cycles,ours,least,claimed\n";
 /// Judges what is proposed for each block, beside our schedule of it.
 #[derive(Drop)]
 pub(crate) struct CheckLister {
+    graph: Graph,
     scheduler: Scheduler,
     memory: Memory,
     /// How many blocks are judged.
@@ -76,6 +77,7 @@ impl RowLister for CheckLister {
 
     fn new(alloc: Global, request: &Request, blocks: usize) -> Result<CheckLister, NoMemory> {
         Ok(CheckLister {
+            graph: Graph::new(alloc),
             scheduler: Scheduler::new(alloc),
             memory: initial_memory(alloc, request)?,
             blocks,
@@ -97,9 +99,8 @@ impl RowLister for CheckLister {
     ) -> Result<Checked, NoMemory> {
         let latencies = &request.latencies;
         prove!(proposal.rows().len() <= MAX_ROWS);
-        let (ours, least) = self
-            .scheduler
-            .lend_with_least(block, latencies, Heuristic::Chain)?;
+        self.graph.refill(block, latencies)?;
+        let ours = self.scheduler.lend_as(&self.graph, Heuristic::Chain)?;
         push_head(text, request.csv, number, block.name.as_ref())?;
         let judging = Judging {
             lawful: request.lawful,
@@ -110,8 +111,8 @@ impl RowLister for CheckLister {
         };
         let task = Task {
             block,
+            graph: &self.graph,
             ours: &ours,
-            least,
             latencies,
         };
         let checked = push_judged(alloc, text, &judging, &task, proposal)?;

@@ -1,7 +1,10 @@
 //! `compare`: the bound on blocks' cycles, and the cycles of their schedules by each heuristic.
 ghost use Rattle.std.specs.Prelude.{◌≡◌, ◌≤◌, ◌<◌, ◌^◌, ◌++◌, false, length, sum_by, IfOk, OnOk};
 ghost use Rattle.std.specs.Option.{option_copied};
-ghost use Rattle.iloc_ops.specs.Limits.{MAX_BLOCKS, MAX_OPS};
+ghost use Rattle.iloc_ops.specs.Limits.{MAX_BLOCKS};
+ghost use Rattle.iloc_ops.specs.declared.file.Block.{Block as block_value};
+ghost use Rattle.iloc_timed.specs.declared.latencies.Latencies.{Latencies as latencies_value};
+ghost use Rattle.iloc_sched.specs.GraphOf.{of_block};
 ghost use Rattle.iloc_farm.specs.Commands.Compare as compare;
 ghost use Rattle.iloc_farm.specs.Schedules.{IsCount};
 ghost use Rattle.iloc_farm.specs.Steps.Tallies.{counted};
@@ -11,9 +14,8 @@ use crate::listing::table::{push_field, push_head, push_opening};
 use crate::listing::text::Listing;
 use crate::listing::{count_of, push_numbered};
 use iloc_args::{Request, priority_name};
-use iloc_sched::{Heuristic, Scheduler};
+use iloc_sched::{Graph, Heuristic, Scheduler};
 use iloc_text::{Block, Blocks, Name, NoMemory};
-use iloc_timed::Latencies;
 use std::alloc::Global;
 
 /// The heuristics, in the order in which they are listed.
@@ -223,24 +225,20 @@ fn push_totals(text: &mut Vec<u8>, csv: bool, found: &[ComparedCycles]) -> Resul
 
 /// Schedules each block by each heuristic, and answers how many cycles the schedules take.
 #[derive(Drop)]
-pub(crate) struct CompareLister(Scheduler);
+pub(crate) struct CompareLister {
+    graph: Graph,
+    scheduler: Scheduler,
+}
 
-impl CompareLister {
-    /// How many cycles the block's schedule by this heuristic takes.
-    fn count(
-        &mut self,
-        block: &Block,
-        latencies: &Latencies,
-        heuristic: Heuristic,
-    ) -> Result<u32, NoMemory>
-        requires { length block.now.ops ≤ MAX_OPS }
-        ensures { IfOk result (IsCount heuristic latencies.now block.now) }
-    {
-        let schedule = self.0.lend_as(block, latencies, heuristic)?;
-        let cycles = count_of(&schedule, latencies);
-        self.0.take_back(schedule);
-        Ok(cycles)
-    }
+/// How many cycles the schedule of this graph's block by this heuristic takes.
+fn count(scheduler: &mut Scheduler, graph: &Graph, heuristic: Heuristic) -> Result<u32, NoMemory>
+    ensures { IfOk result (λ cycles. (lat : latencies_value) (block : block_value) → graph.now ≡ of_block lat block.ops
+        → IsCount heuristic lat block cycles) }
+{
+    let schedule = scheduler.lend_as(graph, heuristic)?;
+    let cycles = count_of(&schedule, graph.latencies());
+    scheduler.take_back(schedule);
+    Ok(cycles)
 }
 
 impl FarmedLister for CompareLister {
@@ -257,7 +255,10 @@ impl FarmedLister for CompareLister {
     ghost lists = { λ request. IsCompareListing request };
 
     fn new(alloc: Global) -> CompareLister {
-        CompareLister(Scheduler::new(alloc))
+        CompareLister {
+            graph: Graph::new(alloc),
+            scheduler: Scheduler::new(alloc),
+        }
     }
 
     fn answer(
@@ -267,15 +268,14 @@ impl FarmedLister for CompareLister {
         _number: usize,
         block: &Block,
     ) -> Result<ComparedCycles, NoMemory> {
-        let latencies = &request.latencies;
-        let (schedule, least) = self.0.lend_with_least(block, latencies, Heuristic::Chain)?;
-        let chain = count_of(&schedule, latencies);
-        self.0.take_back(schedule);
-        let slack = self.count(block, latencies, Heuristic::Slack)?;
-        let descendants = self.count(block, latencies, Heuristic::Descendants)?;
-        let successors = self.count(block, latencies, Heuristic::Successors)?;
-        let latency = self.count(block, latencies, Heuristic::Latency)?;
-        let order = self.count(block, latencies, Heuristic::Order)?;
+        self.graph.refill(block, &request.latencies)?;
+        let least = self.graph.least()?;
+        let chain = count(&mut self.scheduler, &self.graph, Heuristic::Chain)?;
+        let slack = count(&mut self.scheduler, &self.graph, Heuristic::Slack)?;
+        let descendants = count(&mut self.scheduler, &self.graph, Heuristic::Descendants)?;
+        let successors = count(&mut self.scheduler, &self.graph, Heuristic::Successors)?;
+        let latency = count(&mut self.scheduler, &self.graph, Heuristic::Latency)?;
+        let order = count(&mut self.scheduler, &self.graph, Heuristic::Order)?;
         Ok(ComparedCycles {
             least: least as u32,
             cycles: [chain, slack, descendants, successors, latency, order],

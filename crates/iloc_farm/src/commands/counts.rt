@@ -8,7 +8,7 @@ use crate::listing::table::{push_count, push_opening};
 use crate::listing::text::Listing;
 use crate::listing::{count_of, push_total_of};
 use iloc_args::Request;
-use iloc_sched::Scheduler;
+use iloc_sched::{Graph, Scheduler};
 use iloc_text::{Block, Blocks, NoMemory};
 use std::alloc::Global;
 
@@ -28,7 +28,10 @@ fn push_ending(text: &mut Vec<u8>, csv: bool, cycles: &[u32]) -> Result<(), NoMe
 
 /// Schedules each block, and answers how many cycles its schedule takes.
 #[derive(Drop)]
-pub(crate) struct CountLister(Scheduler);
+pub(crate) struct CountLister {
+    graph: Graph,
+    scheduler: Scheduler,
+}
 
 impl FarmedLister for CountLister {
     ghost use Rattle.iloc_farm.specs.Commands.Counts.{IsCountListing};
@@ -44,7 +47,10 @@ impl FarmedLister for CountLister {
     ghost lists = { λ request. IsCountListing request };
 
     fn new(alloc: Global) -> CountLister {
-        CountLister(Scheduler::new(alloc))
+        CountLister {
+            graph: Graph::new(alloc),
+            scheduler: Scheduler::new(alloc),
+        }
     }
 
     fn answer(
@@ -54,9 +60,10 @@ impl FarmedLister for CountLister {
         _number: usize,
         block: &Block,
     ) -> Result<u32, NoMemory> {
-        let schedule = self.0.lend_as(block, &request.latencies, request.priority)?;
+        self.graph.refill(block, &request.latencies)?;
+        let schedule = self.scheduler.lend_as(&self.graph, request.priority)?;
         let cycles = count_of(&schedule, &request.latencies);
-        self.0.take_back(schedule);
+        self.scheduler.take_back(schedule);
         Ok(cycles)
     }
 

@@ -12,14 +12,17 @@ use crate::rows::listed_apart;
 use crate::texts::Texts;
 use iloc_args::Request;
 use iloc_explain::push_explanation;
-use iloc_sched::Scheduler;
+use iloc_sched::{Graph, Scheduler};
 use iloc_text::{Block, NoMemory};
 use std::alloc::Global;
 use std::io::Read;
 
 /// Schedules each block, and lists why its schedule takes its cycles.
 #[derive(Drop)]
-pub(crate) struct ExplainLister(Scheduler);
+pub(crate) struct ExplainLister {
+    graph: Graph,
+    scheduler: Scheduler,
+}
 
 impl Lister for ExplainLister {
     ghost use Rattle.iloc_farm.specs.Commands.Explain.{IsExplainEntry};
@@ -35,7 +38,10 @@ impl Lister for ExplainLister {
     ghost memory = { λ request _. initial_memory request };
 
     fn new(alloc: Global, _request: &Request) -> Result<ExplainLister, NoMemory> {
-        Ok(ExplainLister(Scheduler::new(alloc)))
+        Ok(ExplainLister {
+            graph: Graph::new(alloc),
+            scheduler: Scheduler::new(alloc),
+        })
     }
 
     fn list(
@@ -47,15 +53,14 @@ impl Lister for ExplainLister {
         text: &mut Vec<u8>,
     ) -> Result<u32, NoMemory> {
         let (latencies, priority) = (&request.latencies, request.priority);
-        let (schedule, least) = self.0.lend_with_least(block, latencies, priority)?;
+        self.graph.refill(block, latencies)?;
+        let schedule = self.scheduler.lend_as(&self.graph, priority)?;
         let cycles = count_of(&schedule, latencies);
         push_block_head(text, number, block.name.as_ref())?;
         text.push(b'\n')?;
         let issued = schedule.ops();
-        push_explanation(
-            alloc, text, block, &schedule, issued, latencies, priority, least,
-        )?;
-        self.0.take_back(schedule);
+        push_explanation(alloc, text, block, &self.graph, &schedule, issued, priority)?;
+        self.scheduler.take_back(schedule);
         Ok(cycles)
     }
 

@@ -11,14 +11,17 @@ use crate::rows::RowLister;
 use iloc_args::Request;
 use iloc_judge::{ExplainedRows, Task, push_rows_explanation};
 use iloc_rows::Proposal;
-use iloc_sched::Scheduler;
+use iloc_sched::{Graph, Scheduler};
 use iloc_text::{Block, NoMemory};
 use iloc_timed::MAX_ROWS;
 use std::alloc::Global;
 
 /// Lists why what is proposed for each block takes its cycles.
 #[derive(Drop)]
-pub(crate) struct RowsExplainer(Scheduler);
+pub(crate) struct RowsExplainer {
+    graph: Graph,
+    scheduler: Scheduler,
+}
 
 /// The cycles of these together.
 fn cycles_of_all(found: &[ExplainedRows]) -> u64
@@ -55,7 +58,10 @@ impl RowLister for RowsExplainer {
     ghost memory = { λ request _. initial_memory request };
 
     fn new(alloc: Global, _request: &Request, _blocks: usize) -> Result<RowsExplainer, NoMemory> {
-        Ok(RowsExplainer(Scheduler::new(alloc)))
+        Ok(RowsExplainer {
+            graph: Graph::new(alloc),
+            scheduler: Scheduler::new(alloc),
+        })
     }
 
     fn push_opening(_request: &Request, _text: &mut Vec<u8>) -> Result<(), NoMemory> {
@@ -73,17 +79,18 @@ impl RowLister for RowsExplainer {
     ) -> Result<ExplainedRows, NoMemory> {
         let (latencies, priority) = (&request.latencies, request.priority);
         prove!(proposal.rows().len() <= MAX_ROWS);
-        let (ours, least) = self.0.lend_with_least(block, latencies, priority)?;
+        self.graph.refill(block, latencies)?;
+        let ours = self.scheduler.lend_as(&self.graph, priority)?;
         push_block_head(text, number, block.name.as_ref())?;
         text.push(b'\n')?;
         let task = Task {
             block,
+            graph: &self.graph,
             ours: &ours,
-            least,
             latencies,
         };
         let found = push_rows_explanation(alloc, text, &task, proposal, priority)?;
-        self.0.take_back(ours);
+        self.scheduler.take_back(ours);
         Ok(found)
     }
 

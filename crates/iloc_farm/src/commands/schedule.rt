@@ -7,7 +7,7 @@ use crate::listing::text::{FoldedText, Listing, ScheduleEntry};
 use crate::listing::{count_of, push_schedule, push_total};
 use bytes::BytesMut;
 use iloc_args::Request;
-use iloc_sched::Scheduler;
+use iloc_sched::{Graph, Scheduler};
 use iloc_text::{Block, Blocks, NoMemory};
 use std::alloc::Global;
 
@@ -27,6 +27,7 @@ fn cycles_of_all(entries: &[ScheduleEntry]) -> u64
 /// Schedules each block, and lists its schedule.
 #[derive(Drop)]
 pub(crate) struct ScheduleLister {
+    graph: Graph,
     scheduler: Scheduler,
     /// The entry of a block, until it is kept.
     text: Vec<u8>,
@@ -50,6 +51,7 @@ impl FarmedLister for ScheduleLister {
 
     fn new(alloc: Global) -> ScheduleLister {
         ScheduleLister {
+            graph: Graph::new(alloc),
             scheduler: Scheduler::new(alloc),
             text: Vec::new(alloc),
             piece: BytesMut::new(alloc),
@@ -65,9 +67,8 @@ impl FarmedLister for ScheduleLister {
         block: &Block,
     ) -> Result<ScheduleEntry, NoMemory> {
         self.text.clear();
-        let schedule = self
-            .scheduler
-            .lend_as(block, &request.latencies, request.priority)?;
+        self.graph.refill(block, &request.latencies)?;
+        let schedule = self.scheduler.lend_as(&self.graph, request.priority)?;
         let cycles = count_of(&schedule, &request.latencies);
         push_schedule(
             &mut self.text,

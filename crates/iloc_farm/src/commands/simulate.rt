@@ -2,7 +2,7 @@
 use crate::lister::{Lister, initial_memory};
 use crate::listing::push_outcome;
 use iloc_args::Request;
-use iloc_sched::Scheduler;
+use iloc_sched::{Graph, Scheduler};
 use iloc_text::{Block, NoMemory};
 use iloc_timed::Simulator;
 use std::alloc::Global;
@@ -10,6 +10,7 @@ use std::alloc::Global;
 /// Runs each block's schedule, and lists what comes of it.
 #[derive(Drop)]
 pub(crate) struct SimulateLister {
+    graph: Graph,
     scheduler: Scheduler,
     simulator: Simulator,
 }
@@ -29,6 +30,7 @@ impl Lister for SimulateLister {
     fn new(alloc: Global, request: &Request) -> Result<SimulateLister, NoMemory> {
         let memory = initial_memory(alloc, request)?;
         Ok(SimulateLister {
+            graph: Graph::new(alloc),
             scheduler: Scheduler::new(alloc),
             simulator: Simulator::new(alloc, memory)?,
         })
@@ -42,9 +44,8 @@ impl Lister for SimulateLister {
         block: &Block,
         text: &mut Vec<u8>,
     ) -> Result<(), NoMemory> {
-        let schedule = self
-            .scheduler
-            .lend_as(block, &request.latencies, request.priority)?;
+        self.graph.refill(block, &request.latencies)?;
+        let schedule = self.scheduler.lend_as(&self.graph, request.priority)?;
         self.simulator.run(&schedule, &request.latencies)?;
         self.scheduler.take_back(schedule);
         push_outcome(text, number, block.name.as_ref(), self.simulator.outputs())

@@ -11,7 +11,7 @@ use crate::listing::push_block_head;
 use crate::rows::listed_apart;
 use crate::texts::Texts;
 use iloc_args::Request;
-use iloc_sched::Scheduler;
+use iloc_sched::{Graph, Scheduler};
 use iloc_text::{Block, NoMemory};
 use iloc_trace::Tracer;
 use std::alloc::Global;
@@ -20,6 +20,7 @@ use std::io::Read;
 /// Runs each block's schedule, and lists what happens.
 #[derive(Drop)]
 pub(crate) struct TraceLister {
+    graph: Graph,
     scheduler: Scheduler,
     tracer: Tracer,
 }
@@ -39,6 +40,7 @@ impl Lister for TraceLister {
     fn new(alloc: Global, request: &Request) -> Result<TraceLister, NoMemory> {
         let memory = initial_memory(alloc, request)?;
         Ok(TraceLister {
+            graph: Graph::new(alloc),
             scheduler: Scheduler::new(alloc),
             tracer: Tracer::new(alloc, memory)?,
         })
@@ -52,9 +54,8 @@ impl Lister for TraceLister {
         block: &Block,
         text: &mut Vec<u8>,
     ) -> Result<(), NoMemory> {
-        let schedule = self
-            .scheduler
-            .lend_as(block, &request.latencies, request.priority)?;
+        self.graph.refill(block, &request.latencies)?;
+        let schedule = self.scheduler.lend_as(&self.graph, request.priority)?;
         push_block_head(text, number, block.name.as_ref())?;
         text.push(b'\n')?;
         self.tracer.push_trace(text, &schedule, &request.latencies)?;

@@ -1,4 +1,6 @@
-use Rattle.std.proofs.Common.{refl}
+use Rattle.std.proofs.Common.{ap, refl, ◌∙◌}
+use Rattle.iloc_sched.specs.GraphOf.{GraphOf}
+use Rattle.iloc_sched.specs.Least.{least_of}
 use Rattle.iloc_judge.specs.declared.checked.Checked.{Checked}
 use Rattle.iloc_judge.specs.Listing.{entry_as}
 use Rattle.iloc_judge.proofs.Counted.{verdict_listed}
@@ -19,18 +21,19 @@ returns c =
     let judging = c.args.judging.now in
     let ops = c.into_schedule-theirs.ensures.ops in
     let rows = c.into_schedule-theirs.ensures.rows in
+    let bound = c.in_ok-least.ensures ∙ ap (λ (g : GraphOf). least_of g.latencies g.ops) task.drawn in
     let checked : Checked = record {
       kind = c.kind_of.result;
       cycles = c.cycles.result;
       ours = c.cycles-2.result;
-      least = task.least;
+      least = c.in_ok-least.field-0;
     } in (
       entry_as judging.lawful judging.csv p.claimed p.ops p.rows c.in_ok-verdict.verdict checked,
       record {
         verdict = c.in_ok-verdict.verdict;
         right = rw (ops, rows) at c.in_ok-verdict.ensures.right;
         own = rw (ops, rows) at c.in_ok-verdict.ensures.own;
-        is_found = rw (c.kind_of.ensures, c.cycles.ensures, ops, rows, c.cycles-2.ensures, task.bound) refl;
+        is_found = rw (c.kind_of.ensures, c.cycles.ensures, ops, rows, c.cycles-2.ensures, bound) refl;
         listed = refl;
       },
       rw (c.ops-ops.ensures.ops, c.rows-rows.ensures.rows, ops, rows, c.claimed-claimed.ensures) at c.in_ok-push_entry.ensures,

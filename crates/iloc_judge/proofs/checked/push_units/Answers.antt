@@ -1,5 +1,7 @@
-use Rattle.std.proofs.Common.{refl}
+use Rattle.std.proofs.Common.{ap, refl, ◌∙◌}
 use Rattle.iloc_timed.proofs.Standing.{numbered_from}
+use Rattle.iloc_sched.specs.GraphOf.{GraphOf}
+use Rattle.iloc_sched.specs.Least.{least_of}
 use Rattle.iloc_judge.specs.declared.checked.Checked.{Checked}
 use Rattle.iloc_judge.specs.declared.verdict.Verdict.TheVariants.{Units}
 use Rattle.iloc_judge.specs.declared.verdict.kind.VerdictKind.TheVariants as kind
@@ -17,11 +19,12 @@ returns c =
     let p = c.args.proposal.now in
     let task = c.args.task.now in
     let judging = c.args.judging.now in
+    let bound = c.in_ok-least.ensures ∙ ap (λ (g : GraphOf). least_of g.latencies g.ops) task.drawn in
     let checked : Checked = record {
       kind = kind.Units;
       cycles = c.cycles_of.result;
       ours = c.cycles.result;
-      least = task.least;
+      least = c.in_ok-least.field-0;
     } in (
       entry_as judging.lawful judging.csv p.claimed p.ops p.rows (Units c.args.row) checked,
       record {
@@ -30,7 +33,7 @@ returns c =
         own = λ same. absurd (own_rows_keep_units task.latencies.now task.block.now.ops task.ours.now.ops p.ops
             task.ours.now.rows p.rows c.args.row task.lawful c.rows-rows.ensures.in_range c.rows-rows.ensures.once same c.requires);
         is_found =
-            rw (c.cycles_of.ensures, c.ops-ops.ensures, c.rows-rows.ensures.rows, c.cycles.ensures, task.bound) refl;
+            rw (c.cycles_of.ensures, c.ops-ops.ensures, c.rows-rows.ensures.rows, c.cycles.ensures, bound) refl;
         listed = refl;
       },
       rw (c.ops-ops.ensures, c.rows-rows.ensures.rows, c.claimed.ensures) at c.in_ok-push_entry.ensures,

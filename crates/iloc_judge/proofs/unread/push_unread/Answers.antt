@@ -1,5 +1,7 @@
 use Rattle.std.proofs.Common.{◌++◌, refl, ap, ◌∙◌, false, append_assoc}
 use Rattle.iloc_timed.proofs.Standing.{numbered_from}
+use Rattle.iloc_sched.specs.GraphOf.{GraphOf}
+use Rattle.iloc_sched.specs.Least.{least_of}
 use Rattle.iloc_judge.specs.declared.checked.Checked.{Checked}
 use Rattle.iloc_judge.specs.declared.verdict.kind.VerdictKind.TheVariants.{Unread}
 use Rattle.iloc_judge.specs.Listing.{line_of}
@@ -14,11 +16,12 @@ cycles_of-requires-clause-numbered c =
 pub returns : goal.returns
 returns c =
     let p = c.args.proposal.now in
+    let bound = c.in_ok-least.ensures ∙ ap (λ (g : GraphOf). least_of g.latencies g.ops) c.args.task.now.drawn in
     let checked : Checked = record {
       kind = Unread;
       cycles = c.cycles_of.result;
       ours = c.cycles.result;
-      least = c.args.task.now.least;
+      least = c.in_ok-least.field-0;
     } in
     let line = line_of checked p.claimed in
     let row = c.in_ok-push_unread_row.ensures in
@@ -28,7 +31,7 @@ returns c =
         unread = c.args.unread.now;
         first = c.requires.first;
         is_found =
-            rw (c.cycles_of.ensures, c.ops-ops.ensures, c.rows-rows.ensures.rows, c.cycles.ensures, c.args.task.now.bound) refl;
+            rw (c.cycles_of.ensures, c.ops-ops.ensures, c.rows-rows.ensures.rows, c.cycles.ensures, bound) refl;
         words = row.0;
         listed = rw c.if-csv.false refl;
       },

@@ -1,13 +1,20 @@
 use Rattle.iloc_farm.proofs.Checks.{check_listed, small_check}
 use Rattle.iloc_farm.proofs.commands.check.CheckListerRowLister.list.Goals as goal
 
+pub invariant_of-task : goal.invariant_of-task
+invariant_of-task c = record {
+  few = c.requires.short;
+  lawful = (c.in_ok-ours.ensures _ _ c.in_ok-refill.ensures.graph).greedy.lawful;
+  drawn = c.in_ok-refill.ensures.graph;
+}
+
 pub returns-clause-listed : goal.returns-clause-listed
 returns-clause-listed c =
     let request = c.args.request.now in
     let said = c.in_ok-checked.ensures in
     check_listed request.lawful request.csv request.outputs request.latencies _ _ c.args.number c.args.block.now
     c.in_ok-ours.ours c.args.proposal c.in_ok-checked.checked c.args.text.now.items _ _ said.0 _
-    c.in_ok-ours.ensures.schedule.greedy c.requires.starts c.as_ref.ensures.value c.in_ok-push_head.ensures said.1 said.2
+    (c.in_ok-ours.ensures _ _ c.in_ok-refill.ensures.graph).greedy c.requires.starts c.as_ref.ensures.value c.in_ok-push_head.ensures said.1 said.2
 
 pub returns-clause-small : goal.returns-clause-small
 returns-clause-small c =
@@ -15,4 +22,4 @@ returns-clause-small c =
     let said = c.in_ok-checked.ensures in
     small_check c.args.proposal.unread request.lawful request.csv request.outputs request.latencies c.args.self.now.memory
     c.args.block.now.ops c.in_ok-ours.ours c.args.proposal c.in_ok-checked.checked said.0 said.1
-    c.in_ok-ours.ensures.schedule.greedy c.requires.short c.rows.ensures.few
+    (c.in_ok-ours.ensures _ _ c.in_ok-refill.ensures.graph).greedy c.requires.short c.rows.ensures.few

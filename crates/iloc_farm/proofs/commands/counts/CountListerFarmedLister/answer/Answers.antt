@@ -3,5 +3,5 @@ use Rattle.iloc_farm.proofs.commands.counts.CountListerFarmedLister.answer.Goals
 
 pub returns : goal.returns
 returns c =
-    is_count c.args.request.now.priority c.args.request.now.latencies c.args.block.now c.in_ok-schedule.schedule c.in_ok-schedule.ensures.greedy
+    is_count c.args.request.now.priority c.args.request.now.latencies c.args.block.now c.in_ok-schedule.schedule (c.in_ok-schedule.ensures _ _ c.in_ok-refill.ensures.graph).greedy
     c.count_of-cycles.result c.count_of-cycles.ensures

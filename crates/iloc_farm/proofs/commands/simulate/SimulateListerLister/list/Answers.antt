@@ -12,5 +12,5 @@ returns-clause-listed c =
     ∙ ap shown (c.in_ok-run.ensures.outcome ∙ ap (timed_outcome request.latencies s.ops s.rows) c.requires.starts) in
     if_ok _ c.push_outcome.result
     (λ _. simulate_listed request c.args.number c.args.block.now c.args.text.now.items _ _ c.as_ref.ensures.value s
-    c.in_ok-schedule.ensures.greedy _ words)
+    (c.in_ok-schedule.ensures _ _ c.in_ok-refill.ensures.graph).greedy _ words)
     c.push_outcome.ensures

@@ -1,7 +1,7 @@
 use Rattle.std.proofs.Common.{ℕ, ◌≡◌, ◌≤◌, ◌+◌, ◌-◌, [], length}
 use Rattle.iloc_timed.specs.Rows.{row_at, slots}
 use Rattle.iloc_sched.specs.Steps.SoFar.{IsSoFar, waiting_count}
-use Rattle.iloc_sched.proofs.lender.Lender.fill_rows.Given as goal
+use Rattle.iloc_sched.proofs.scheduler.Scheduler.fill_rows.Given as goal
 
 abbrev pub invariant-loop-left : goal.invariant-loop-left
 invariant-loop-left l = record {

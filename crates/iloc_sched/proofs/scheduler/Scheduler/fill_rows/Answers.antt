@@ -3,7 +3,7 @@ use Rattle.iloc_timed.specs.Rows.{row_at, slots}
 use Rattle.iloc_sched.specs.Steps.SoFar.{IsSoFar, waiting_count}
 use Rattle.iloc_sched.proofs.Choice.NextRow.{few_rows, greedy_at_end}
 use Rattle.iloc_sched.proofs.Walking.FirstStates.{so_far_opened}
-use Rattle.iloc_sched.proofs.lender.Lender.fill_rows.Goals as goal
+use Rattle.iloc_sched.proofs.scheduler.Scheduler.fill_rows.Goals as goal
 
 pub loop-left-init : goal.loop-left-init
 loop-left-init c =

@@ -8,7 +8,7 @@ use Rattle.iloc_optimum.specs.Found.{IsFound}
 use Rattle.iloc_optimum.specs.Optimum.{cycles_of}
 use Rattle.iloc_optimum.specs.Timing.{HasNone}
 use Rattle.iloc_optimum.proofs.Improvements.{one_lawful, refuted, with_bound, with_schedule}
-use Rattle.iloc_optimum.proofs.optimizer.Optimizer.improve.Goals as goal
+use Rattle.iloc_optimum.proofs.optimizer.improve.Goals as goal
 
 pub search_windows-requires-clause-windows : goal.search_windows-requires-clause-windows
 search_windows-requires-clause-windows c =
@@ -41,7 +41,7 @@ returns-in_ok-schedule-in-Cycles-clause-known c =
     let block = c.args.block.now.ops in
     let old = c.args.optimum.now.schedule in
     let new = c.keep_shorter.new.best in
-    let the = c.in_ok-schedule-in-Cycles.ensures block c.requires.graph in
+    let the = c.in_ok-schedule-in-Cycles.ensures g.latencies block (λ i. record { ops = c.requires.graph i; latencies = g.latencies }) in
     with_schedule g.latencies block c.args.optimum.now new c.requires.known
     (one_lawful g.latencies block old new c.in_ok-schedule-in-Cycles.schedule the.greedy.lawful c.keep_shorter.ensures.one
     c.requires.known.lawful)

@@ -1,9 +1,9 @@
 use Rattle.std.proofs.Common.{◌≤◌}
 use Rattle.iloc_optimum.specs.Optimum.{IsOptimumOf}
-use Rattle.iloc_optimum.proofs.optimizer.Optimizer.search_upwards.Given as goal
+use Rattle.iloc_optimum.proofs.optimizer.search_upwards.Given as goal
 
 abbrev pub invariant-loop-limit : goal.invariant-loop-limit
 invariant-loop-limit l = record {
-  known : IsOptimumOf l.latencies l.block.ops l.optimum;
+  known : IsOptimumOf l.graph.latencies l.block.ops l.optimum;
   above : l.optimum.bound ≤ l.limit;
 }
