@@ -17,6 +17,9 @@ use std::alloc::Global;
 /// A change that is as unlikely isn't thought of.
 const DEAR: u32 = 6;
 
+/// Of how many missing operations of its label it is looked for causes why an operation isn't one of them.
+const FEW: usize = 8;
+
 /// How much less likely it is that an operation is in another place.
 const MOVED: u32 = 2;
 
@@ -172,7 +175,7 @@ impl Walk<'_> {
             let causes = self.causes(k, values, i, &guesses);
             return Ok(Some((i, causes)));
         }
-        for i in &found {
+        for i in found.iter().take(FEW) {
             let causes = self.causes(k, values, *i, &guesses);
             if at(&self.block.places, *i) == wanted.place && causes.are_known() {
                 return Ok(Some((*i, causes)));
