@@ -14,6 +14,8 @@ ISSUE = re.compile(r"(issue|fault) (\d+) unit (\d) (.+?)(?: (reads|emits) (.+))?
 READ = re.compile(r"(r\d+|word \d+) = (-?\d+)(?: until (\d+))?")
 WRONG = '[stroke="#d6409f"]'
 CLASS = "examples/class"
+# A sum beside a product, whose result comes later.
+BESIDE = b"loadI 1024 => r1\nadd r1, r1 => r2\nmult r1, r1 => r3\nstore r2 => r1\nstore r3 => r1\n"
 FAULTS = b"a: output 0\nb: loadI 2 => r1\nload r1 => r2\nc: loadI 4 => r1\nload r1 => r2\nadd r2, r2 => r3\n"
 
 
@@ -37,6 +39,12 @@ def state_at(lines, cycle):
             for place, value, _ in READ.findall(ISSUE.fullmatch(line)[6] or ""):
                 first.setdefault(place, value)
     return {**first, **values}
+
+
+def sender(lines, write):
+    """Where the operation was issued whose result this is."""
+    return next(f"{it[2]}.{it[3]}" for it in filter(None, map(ISSUE.fullmatch, lines)) if it[2] == write[5]
+                and (it[4].startswith("store") if write[2].startswith("word") else it[4].endswith(f"=> {write[2]}")))
 
 
 class Page(Place):
@@ -98,22 +106,22 @@ class Page(Place):
             wanted = {place.removeprefix("word "): it for place, it in state.items() if place.startswith(kind)}
             self.expect(what, shown, {it: wanted.get(it) for it in shown})
             self.expect(f"hidden {what}", [it for place, it in wanted.items() if place not in shown and it != "0"], [])
-        flights = [f"{it[2]} = {it[3]} at {it[1]}" for it in filter(None, map(WRITE.fullmatch, lines))
-                   if int(it[5]) <= cycle < int(it[1])]
-        self.expect("flights", sorted(self.texts(".flights li")), sorted(flights) or ["nothing"])
+        flights = [it for it in filter(None, map(WRITE.fullmatch, lines)) if int(it[5]) <= cycle < int(it[1])]
+        self.expect("flights", sorted(self.texts(".flights li")), sorted(f"{it[2]} = {it[3]} at {it[1]}" for it in flights) or ["nothing"])
         emitted = [it.split()[-1] for it in lines if int(it.split()[1]) <= cycle and " emits " in it]
         self.expect("emitted", self.texts(".emitted li"), emitted or ["nothing"])
         issued = sorted(f"{it[2]}.{it[3]}" for it in map(ISSUE.fullmatch, now) if it)
+        flying = sorted(sender(lines, it) for it in flights if int(it[5]) < cycle)
         for where in (".source li", ".timeline g", ".graph g"):
             if self.value(f'!!document.querySelector("{where}")'):
-                self.expect(where, self.marked(where, "issued"), issued)
+                self.expect(where, (self.marked(where, "issued"), self.marked(where, "flying")), (issued, flying))
 
     def test_each_cycle(self):
-        """Of Ben's rows, and of our schedules of drawn blocks."""
+        """Of Ben's rows, and of our schedules of a small block and of drawn ones."""
         chance = random.Random(7)
         listings = [self.block(text_of([lab_block(chance)]), *options) for options in
                     ((), ("--load", "2", "--store", "16"), ("--priority", "order", "--mult", "1"), ("--load", "1"))]
-        for listing in [self.ben(), *listings[:2 if TESTED.is_short else None]]:
+        for listing in [self.ben(), self.block(BESIDE), *listings[:2 if TESTED.is_short else None]]:
             self.open(listing)
             lines = traced(self.lines)
             last = int(self.value('document.querySelector("section").dataset.last'))
