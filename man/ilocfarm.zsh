@@ -7,6 +7,7 @@ local -a commands=(
     'schedule:Schedule each block, and print the schedule'
     'counts:Schedule each block, and print how many cycles the schedule takes'
     'compare:Schedule each block by each priority, and print the cycles beside their bound'
+    'optimize:Search for the best schedule of each block, and print it with a bound on the cycles'
     'explain:Schedule each block, and print why the schedule takes its cycles'
     'check:Judge schedules that others made, given after their blocks'
     'graph:Print the dependence graph of each block, for Graphviz'
@@ -58,6 +59,13 @@ compare) shift words; (( CURRENT-- ))
         '--store[Cycles that store and storeAI take, 1 to 16 \[default\: 5\]]:N:' \
         '--mult[Cycles that mult and multI take, 1 to 16 \[default\: 3\]]:N:' \
         '--csv[Print a table of comma-separated values, a row for each block]' \
+        '--help[Print help]' ;;
+optimize) shift words; (( CURRENT-- ))
+    _arguments '--nodes[Nodes of a search for each number of cycles that is tried, 0 to 100000 \[default\: 1000\]]:N:' \
+        '--workers[How many workers share the blocks, 1 to 8 \[default\: 2\]]:N:' \
+        '--load[Cycles that load and loadAI take, 1 to 16 \[default\: 5\]]:N:' \
+        '--store[Cycles that store and storeAI take, 1 to 16 \[default\: 5\]]:N:' \
+        '--mult[Cycles that mult and multI take, 1 to 16 \[default\: 3\]]:N:' \
         '--help[Print help]' ;;
 explain) shift words; (( CURRENT-- ))
     _arguments '--load[Cycles that load and loadAI take, 1 to 16 \[default\: 5\]]:N:' \

@@ -55,6 +55,18 @@ def listing(command, blocks, latencies, by="chain"):
     return "\n".join(map(str, [*lines, *ending, ""])).encode()
 
 
+def best_of_orders(blocks, latencies):
+    """What `optimize` lists without a search."""
+    lines, total = [], 0
+    for k, ops in enumerate(blocks, 1):
+        best = min((Schedule(ops, latencies, by) for by in ORDERS), key=Schedule.cycles)
+        cycles, least = best.cycles(), best.least()
+        lines += [f"block {k} B{k}", *map(row_text, best.rows), f"cycles {cycles}"]
+        lines.append(f"// bound {least}{' optimal' if cycles == least else ''}")
+        total += cycles
+    return "\n".join([*lines, f"total {total}", ""]).encode()
+
+
 def compared(blocks, latencies):
     """The bound and the cycles by each order, of each block."""
     schedules = [[Schedule(ops, latencies, by) for by in ORDERS] for ops in blocks]
@@ -114,6 +126,7 @@ def by_orders(name, blocks, latencies):
     yield listed(f"drawn/{name}/compare", text, comparison(blocks, latencies), ["compare", *words])
     yield listed(f"drawn/{name}/compare_csv", text, table_of(("least", *ORDERS), compared(blocks, latencies)),
                  ["compare", "--csv", *words])
+    yield listed(f"drawn/{name}/optimize", text, best_of_orders(blocks, latencies), ["optimize", "--nodes", "0", *words])
     by = random.Random(name).choice(ORDERS)
     rows = [[Schedule(ops, latencies, by).cycles()] for ops in blocks]
     yield listed(f"drawn/{name}/counts_csv", text, table_of(["cycles"], rows), ["counts", "--csv", "--priority", by, *words])

@@ -10,7 +10,7 @@ From these follow more cases, since a rule of the program says so:
 - NAME/spaced has blanks round each line end and no last line end, which change no answer;
 - what `run` prints, `simulate` prints, whatever the latencies;
 - a text that is refused is refused by every command alike;
-- what `schedule`, `counts` and `compare` print doesn't depend on the number of workers.
+- what `schedule`, `counts`, `compare` and `optimize` print doesn't depend on the number of workers.
 """
 import os
 
@@ -85,7 +85,7 @@ def refused_by_all(case):
 
 
 def by_workers(case):
-    if case.words[0] in ("schedule", "counts", "compare"):
+    if case.words[0] in ("schedule", "counts", "compare", "optimize"):
         for workers in range(1, 9):
             yield again(case, f"workers_{workers}", [*case.words, "--workers", str(workers)])
 

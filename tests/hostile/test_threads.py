@@ -11,7 +11,7 @@ from limits import MOST_OPERATIONS
 from refusals.refuser import Asked, refusing
 from refusals.test_program import NO_WORKER, long_text
 
-FARMED, OTHERS = ("schedule", "counts", "compare"), ("run", "simulate", "trace", "explain", "check", "graph")
+FARMED, OTHERS = ("schedule", "counts", "compare", "optimize"), ("run", "simulate", "trace", "explain", "check", "graph")
 RUNS = 200
 STACK = 128 * 1024
 TINY = b"".join(b"B%d: loadI %d => r1\nmult r1, r1 => r2\n" % (k, k) for k in range(300))

@@ -33,6 +33,7 @@ TESTS = {
         "timed::run::emits_what_has_arrived_in_order_of_issue",
         "timed::simulator::a_refused_run_can_be_repeated",
         "sched::refusals::schedules_chains",
+        "optimum::proves_what_is_best",
     ],
     "iloc_board_tests": [
         "machine::answers_step_by_step",

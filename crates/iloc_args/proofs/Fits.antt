@@ -30,6 +30,7 @@ pub record IsFit (rules : List Rule) : Type 0 where
   pub load : TakesIn 1 LONGEST_LATENCY (codes "load") rules
   pub store : TakesIn 1 LONGEST_LATENCY (codes "store") rules
   pub mult : TakesIn 1 LONGEST_LATENCY (codes "mult") rules
+  pub nodes : TakesIn 0 100000 (codes "nodes") rules
   pub csv : Takes vp.Bool (codes "csv") rules
   pub lawful : Takes vp.Bool (codes "lawful") rules
   pub outputs : Takes vp.Bool (codes "outputs") rules
@@ -77,9 +78,11 @@ takes_flags rules =
     takes is_flag_parser (codes "csv") rules
     && (takes is_flag_parser (codes "lawful") rules && takes_last_flags rules)
 
+abbrev takes_shares : List Rule → Bool
+takes_shares rules = takes_in 1 8 (codes "workers") rules && takes_in 0 100000 (codes "nodes") rules
+
 abbrev takes_all : List Rule → Bool
-takes_all rules =
-    takes_in 1 8 (codes "workers") rules && (takes_memory rules && (takes_latencies rules && takes_flags rules))
+takes_all rules = takes_shares rules && (takes_memory rules && (takes_latencies rules && takes_flags rules))
 
 abbrev pub is_fit : List Rule → Bool
 is_fit rules = have_own_ids rules && (are_ours rules && takes_all rules)
@@ -142,9 +145,9 @@ pub fits : (rules : List Rule) → is_fit rules ≡ true → IsFit rules
 fits rules e =
     let ids = and_parts (have_own_ids rules) (are_ours rules && takes_all rules) e in
     let ours = and_parts (are_ours rules) (takes_all rules) ids.1 in
-    let workers = and_parts (takes_in 1 8 (codes "workers") rules)
-    (takes_memory rules && (takes_latencies rules && takes_flags rules)) ours.1 in
-    let memory = and_parts (takes_memory rules) (takes_latencies rules && takes_flags rules) workers.1 in
+    let all = and_parts (takes_shares rules) (takes_memory rules && (takes_latencies rules && takes_flags rules)) ours.1 in
+    let shares = and_parts (takes_in 1 8 (codes "workers") rules) (takes_in 0 100000 (codes "nodes") rules) all.0 in
+    let memory = and_parts (takes_memory rules) (takes_latencies rules && takes_flags rules) all.1 in
     let words = and_parts (takes_in 0 LAST_ADDRESS (codes "at") rules) (takes_in 0 4294967295 (codes "words") rules)
     memory.0 in
     let both = and_parts (takes_latencies rules) (takes_flags rules) memory.1 in
@@ -164,7 +167,8 @@ fits rules e =
     λ id. has_parser is_flag_parser vp.Bool flag_parser id rules in
     record {
       ours = all_ours [] rules ids.0 ours.0;
-      workers = number 1 8 (codes "workers") workers.0;
+      workers = number 1 8 (codes "workers") shares.0;
+      nodes = number 0 100000 (codes "nodes") shares.1;
       at = number 0 LAST_ADDRESS (codes "at") words.0;
       words = number 0 4294967295 (codes "words") words.1;
       load = number 1 LONGEST_LATENCY (codes "load") load.0;

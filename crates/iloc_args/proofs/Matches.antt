@@ -114,6 +114,7 @@ leaf_holds s words fit e =
       load = number 1 LONGEST_LATENCY (codes "load") fit.load;
       store = number 1 LONGEST_LATENCY (codes "store") fit.store;
       mult = number 1 LONGEST_LATENCY (codes "mult") fit.mult;
+      nodes = number 0 100000 (codes "nodes") fit.nodes;
       csv = flag (codes "csv") fit.csv;
       lawful = flag (codes "lawful") fit.lawful;
       outputs = flag (codes "outputs") fit.outputs;

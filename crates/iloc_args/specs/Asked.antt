@@ -21,6 +21,7 @@ pub record Asked : Type 0 where
   pub store : ℕ
   pub mult : ℕ
   pub priority : Text
+  pub nodes : ℕ
   pub csv : Bool
   pub task_file : Option Text
   pub lawful : Bool
@@ -38,6 +39,7 @@ asked_in r = record {
   store = r.latencies.store;
   mult = r.latencies.mult;
   priority = priority_word r.priority;
+  nodes = r.nodes;
   csv = r.csv;
   task_file = option_map string_bytes r.task_file;
   lawful = r.lawful;
@@ -76,6 +78,7 @@ asked_as task rows = record {
   store = number_or 5 (codes "store") rows;
   mult = number_or 3 (codes "mult") rows;
   priority = text_or (codes "chain") (codes "priority") rows;
+  nodes = number_or 1000 (codes "nodes") rows;
   csv = flag_in (codes "csv") rows;
   task_file = first_of (codes "task") rows;
   lawful = flag_in (codes "lawful") rows;

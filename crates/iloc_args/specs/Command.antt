@@ -8,7 +8,7 @@ use Rattle.clap.specs.Simple.{new_shape}
 use Rattle.iloc_meaning.specs.Address.{LAST_ADDRESS}
 use Rattle.iloc_timed.specs.Limits.{LONGEST_LATENCY}
 use Rattle.iloc_args.specs.declared.request.Task.{Task}
-use Rattle.iloc_args.specs.declared.request.Task.TheVariants.{Run, Simulate, Trace, Schedule, Counts, Compare, Explain, Check, Graph, Lint}
+use Rattle.iloc_args.specs.declared.request.Task.TheVariants.{Run, Simulate, Trace, Schedule, Counts, Compare, Optimize, Explain, Check, Graph, Lint}
 
 -- `--NAME N`, a number within these bounds, and this one where it is not given
 abbrev pub number_rule : Text → Text → ℕ → ℕ → Rule
@@ -24,6 +24,9 @@ at_rule = number_rule (codes "at") (codes "1024") 0 LAST_ADDRESS
 
 abbrev pub workers_rule : Rule
 workers_rule = number_rule (codes "workers") (codes "2") 1 8
+
+abbrev pub nodes_rule : Rule
+nodes_rule = number_rule (codes "nodes") (codes "1000") 0 100000
 
 -- the latency of an operation, in cycles
 abbrev pub latency_rule : Text → Text → Rule
@@ -128,6 +131,14 @@ compare_entry = record {
   rules = workers_rule ∷ latency_rules ++ csv_rule ∷ [];
 }
 
+-- `optimize [--nodes N] [--workers N] [--load N] [--store N] [--mult N]`
+abbrev pub optimize_entry : Subcommand
+optimize_entry = record {
+  name = codes "optimize";
+  task = Optimize;
+  rules = nodes_rule ∷ workers_rule ∷ latency_rules;
+}
+
 -- `explain [--load N] [--store N] [--mult N] [--priority NAME] [--task FILE] [--either-slot]`
 abbrev pub explain_entry : Subcommand
 explain_entry = record {
@@ -162,6 +173,7 @@ entries =
     ∷ schedule_entry
     ∷ counts_entry
     ∷ compare_entry
+    ∷ optimize_entry
     ∷ explain_entry
     ∷ check_entry
     ∷ graph_entry

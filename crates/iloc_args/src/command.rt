@@ -5,7 +5,7 @@ ghost use Rattle.std.specs.Str.{bytes_eq};
 ghost use Rattle.iloc_args.specs.declared.command.Entry.{Entry as entry_value};
 ghost use Rattle.iloc_args.specs.Asked.{task_among, task_named};
 ghost use Rattle.iloc_args.specs.Command.{at_rule, csv_rule, either_slot_rule, farm_app, flag_rule, latency_rule, lawful_rule};
-ghost use Rattle.iloc_args.specs.Command.{outputs_rule, priority_rule, task_rule, text_rule, top_shape, words_rule, workers_rule};
+ghost use Rattle.iloc_args.specs.Command.{nodes_rule, outputs_rule, priority_rule, task_rule, text_rule, top_shape, words_rule, workers_rule};
 ghost use Rattle.iloc_args.specs.Steps.Building.{HasApp, HasRule, alone, option_rule, rule_for, app_for, app_with, subcommand_for};
 
 use crate::priority::HELP;
@@ -13,6 +13,7 @@ use crate::request::Task;
 use clap::builder::ValueParser;
 use clap::{Arg, ArgAction, Command, value_parser};
 use iloc_meaning::LAST_ADDRESS;
+use iloc_optimum::MOST_NODES;
 use iloc_timed::LONGEST_LATENCY;
 use std::alloc::{AllocError, Global};
 
@@ -173,6 +174,19 @@ fn priority_arg<'a>(alloc: Global) -> Arg<'a>
     text_arg(alloc, "priority", "NAME", HELP).default_value("chain")
 }
 
+/// `--nodes N`
+fn nodes_arg<'a>(alloc: Global) -> Arg<'a>
+    ensures { HasRule nodes_rule result }
+{
+    number_arg(
+        alloc,
+        "nodes",
+        "Nodes of a search for each number of cycles that is tried, 0 to 100000",
+        value_parser!(u32).range(0..=MOST_NODES as i64),
+        "1000",
+    )
+}
+
 /// `--csv`
 fn csv_arg<'a>(alloc: Global) -> Arg<'a>
     ensures { HasRule csv_rule result }
@@ -235,6 +249,7 @@ enum Argument {
     Store,
     Mult,
     Priority,
+    Nodes,
     Csv,
     Task,
     Lawful,
@@ -255,7 +270,7 @@ struct Entry {
 }
 
 /// The commands, in the order in which the help lists them.
-const COMMANDS: [Entry; 10] = [
+const COMMANDS: [Entry; 11] = [
     Entry {
         task: Task::Run,
         name: "run",
@@ -334,6 +349,19 @@ const COMMANDS: [Entry; 10] = [
         ],
     },
     Entry {
+        task: Task::Optimize,
+        name: "optimize",
+        about: "Search for the best schedule of each block, and print it with a bound on the cycles",
+        usage: "ilocfarm optimize [OPTIONS] < BLOCKS",
+        arguments: &[
+            Argument::Nodes,
+            Argument::Workers,
+            Argument::Load,
+            Argument::Store,
+            Argument::Mult,
+        ],
+    },
+    Entry {
         task: Task::Explain,
         name: "explain",
         about: "Schedule each block, and print why the schedule takes its cycles",
@@ -394,6 +422,7 @@ impl Argument {
             Argument::Store => store_arg(alloc),
             Argument::Mult => mult_arg(alloc),
             Argument::Priority => priority_arg(alloc),
+            Argument::Nodes => nodes_arg(alloc),
             Argument::Csv => csv_arg(alloc),
             Argument::Task => task_arg(alloc),
             Argument::Lawful => lawful_arg(alloc),

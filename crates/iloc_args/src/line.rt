@@ -28,6 +28,9 @@ const DEFAULT_START: u32 = 1024;
 /// How many workers share the blocks where the command does not take the option.
 const DEFAULT_WORKERS: u32 = 2;
 
+/// How many nodes a search has where the command does not take the option.
+const DEFAULT_NODES: u32 = 1000;
+
 /// The priority where the command does not take the option.
 const DEFAULT_PRIORITY: &str = "chain";
 
@@ -96,6 +99,7 @@ fn request_in(alloc: Global, task: Task, given: &ArgMatches<'_>) -> Result<Reque
         words,
         latencies: latencies_in(given),
         priority,
+        nodes: nodes_in(given),
         csv: flag_in(given, "csv"),
         task_file: task_file_in(alloc, given)?,
         lawful: flag_in(given, "lawful"),
@@ -112,6 +116,14 @@ fn workers_in(given: &ArgMatches<'_>) -> u32
     ensures few { result ≤ 8 }
 {
     given.get_one("workers").unwrap_or(DEFAULT_WORKERS)
+}
+
+/// How many nodes a search has for each number of cycles that is tried.
+fn nodes_in(given: &ArgMatches<'_>) -> u32
+    requires { HoldValues (rows_of (found_of given.now)) }
+    ensures { result ≡ number_or 1000 (codes "nodes") (rows_of (found_of given.now)) }
+{
+    given.get_one("nodes").unwrap_or(DEFAULT_NODES)
 }
 
 /// The latencies of loads, stores and products.

@@ -21,6 +21,8 @@ pub enum Task {
     Counts,
     /// Schedule it by each heuristic, and list how many cycles the schedules take.
     Compare,
+    /// Find its best schedule, and list that with a bound on the cycles.
+    Optimize,
     /// Schedule it, and list why the schedule takes its cycles.
     Explain,
     /// Judge the rows that stand behind the blocks.
@@ -46,6 +48,8 @@ pub struct Request {
     pub latencies: Latencies,
     /// By what the ready operations are ranked.
     pub priority: Heuristic,
+    /// How many nodes a search for a schedule has for each number of cycles that is tried.
+    pub nodes: u32,
     /// Whether the listing is a table of comma-separated values.
     pub csv: bool,
     /// The name of the file that holds the blocks, apart from the rows.

@@ -8,6 +8,8 @@ mod asserted;
 #[cfg(test)]
 mod meaning;
 #[cfg(test)]
+mod optimum;
+#[cfg(test)]
 mod reasons;
 #[cfg(test)]
 mod sched;

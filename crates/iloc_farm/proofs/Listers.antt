@@ -1,5 +1,5 @@
 -- What the commands list of a block, and that requests that ask alike list one text.
-use Rattle.std.proofs.Common.{◌≡◌, ℕ, ℤ, List, [], ◌++◌, Option, Some, None, Result, Ok, Err, OnOk, IfOk, refl, sym, ap, ap₂, ◌∙◌, subst, append_assoc}
+use Rattle.std.proofs.Common.{◌≡◌, ◌≢◌, ℕ, ℤ, List, [], ◌++◌, Option, Some, None, Result, Ok, Err, OnOk, IfOk, refl, sym, ap, ap₂, ◌∙◌, subst, append_assoc, append-nil}
 use Rattle.std.specs.Prelude.{codes}
 use Rattle.std.specs.declared.alloc.Global.{Global}
 use Rattle.std.specs.declared.string.String.{String}
@@ -7,6 +7,8 @@ use Rattle.iloc_ops.specs.declared.file.Block.{Block}
 use Rattle.iloc_timed.specs.declared.latencies.Latencies.{Latencies}
 use Rattle.iloc_timed.specs.Schedule.{Table}
 use Rattle.iloc_sched.specs.declared.ranking.heuristic.Heuristic.{Heuristic}
+use Rattle.iloc_optimum.specs.declared.optimizer.Optimum.{Optimum}
+use Rattle.iloc_optimum.specs.Optimum.{IsOptimumOf}
 use Rattle.iloc_explain.specs.Listing.{IsExplanation}
 use Rattle.iloc_explain.proofs.OneText.{one_explanation}
 use Rattle.iloc_graph.specs.Listing.{IsCluster}
@@ -25,12 +27,13 @@ use Rattle.iloc_farm.specs.Commands.Compare.{IsCompareEntry, IsCompareListing, I
 use Rattle.iloc_farm.specs.Commands.Counts.{IsCountEntry, IsCountListing, count_ending, count_header, count_line}
 use Rattle.iloc_farm.specs.Commands.Explain.{IsExplainEntry}
 use Rattle.iloc_farm.specs.Commands.Graph.{IsGraphEntry, drawing_end, opening_at}
+use Rattle.iloc_farm.specs.Commands.Optimize.{IsOptimizeEntry}
 use Rattle.iloc_farm.specs.Commands.Run.{IsRunEntry, initial_memory, no_ending}
 use Rattle.iloc_farm.specs.Commands.Schedule.{IsScheduleEntry}
 use Rattle.iloc_farm.specs.Commands.Simulate.{IsSimulateEntry}
 use Rattle.iloc_farm.specs.Commands.Trace.{IsTraceEntry}
 use Rattle.iloc_farm.specs.Laws.{AskAlike, SimulatingListsRuns}
-use Rattle.iloc_farm.specs.Listing.{block_head, cycles_of, entries, opening_as, outcome_entry, schedule_entry, schedule_lines, shown_entry, total_of_all}
+use Rattle.iloc_farm.specs.Listing.{block_head, bound_comment, cycles_of, entries, opening_as, outcome_entry, schedule_entry, shown_entry, total_of_all}
 use Rattle.iloc_farm.specs.Run.{IsListingFor, ListsAs, ListsFrom}
 use Rattle.iloc_farm.specs.Schedules.{IsCount, IsGreedyAs, IsTheGreedy}
 use Rattle.iloc_farm.specs.Entries.{AreListed, ListsRead}
@@ -110,17 +113,6 @@ module _ (request : Request) (k : ℕ) (b : Block) (text more : List ℕ) (name 
         }
 
     module _ (cycles : ℕ) (counted : cycles ≡ cycles_of request.latencies s) where
-      -- a text by itself is the entry
-      pub schedule_is : (shown : ℕ) → shown ≡ cycles → text ≡ [] → (entry : List ℕ) → entry ≡ more
-          → more ≡ text ++ schedule_lines k name s shown → IsScheduleEntry request k b entry cycles
-      schedule_is shown same empty entry is added = record {
-        schedule = s;
-        greedy = the_greedy request.priority request.latencies b s greedy;
-        listed = is ∙ (added ∙ (ap (λ t. t ++ schedule_lines k name s shown) empty
-            ∙ ap₂ (λ n c. schedule_lines k n s c) named (same ∙ counted)));
-        counted = counted;
-      }
-
       pub explain_listed : (explanation : List ℕ) → IsExplanation request.priority request.latencies b.ops s.ops s.rows s.ops explanation
           → more ≡ ((text ++ block_head k name) ++ codes "\n") ++ explanation
           → Adds (IsExplainEntry request k b) text more cycles
@@ -137,6 +129,28 @@ module _ (request : Request) (k : ℕ) (b : Block) (text more : List ℕ) (name 
         added = added ∙ (ap (λ n. ((text ++ block_head k n) ++ codes "\n") ++ explanation) named
             ∙ parts_joined text (block_head k b.name) (codes "\n") explanation);
       }
+
+-- what was made of the greedy schedule is the entry
+pub schedule_is : (request : Request) (k : ℕ) (b : Block) (s : Table) → IsGreedyAs request.priority request.latencies b.ops s
+    → (entry : List ℕ) (cycles : ℕ) → entry ≡ schedule_entry request.latencies k b.name s ++ []
+    → cycles ≡ cycles_of request.latencies s → IsScheduleEntry request k b entry cycles
+schedule_is request k b s greedy entry cycles listed counted = record {
+  schedule = s;
+  greedy = the_greedy request.priority request.latencies b s greedy;
+  listed = listed ∙ append-nil (schedule_entry request.latencies k b.name s);
+  counted = counted;
+}
+
+-- and what was made of the best one that was found
+pub optimum_is : (lat : Latencies) (k : ℕ) (b : Block) (best : Optimum) → IsOptimumOf lat b.ops best → (entry : List ℕ) (cycles : ℕ)
+    → entry ≡ schedule_entry lat k b.name best.schedule ++ bound_comment (Some best.bound) (cycles_of lat best.schedule)
+    → cycles ≡ cycles_of lat best.schedule → IsOptimizeEntry lat k b entry cycles
+optimum_is lat k b best found entry cycles listed counted = record {
+  best = best;
+  found = found;
+  listed = listed ∙ ap (λ n. schedule_entry lat k b.name best.schedule ++ bound_comment (Some best.bound) n) (sym counted);
+  counted = counted;
+}
 
 -- the cycles that were found are those of the greedy schedule
 pub is_count : (heuristic : Heuristic) (lat : Latencies) (b : Block) (s : Table) → IsGreedyAs heuristic lat b.ops s
@@ -260,32 +274,33 @@ module _ (r q : Request) (alike : AskAlike r q) (k : ℕ) (b : Block) where
       one_cluster q.latencies k b.name b.ops is.cluster is'.cluster (subst P alike.latencies is.draws) is'.draws in
       (is.listed ∙ (ap (λ c. opening_at k ++ c) same ∙ sym is'.listed), refl)
 
-pub of_one_task : (t : Task) (r q : Request) → AskAlike r q → (blocks : List Block) (text text' : List ℕ)
+pub of_one_task : (t : Task) (r q : Request) → AskAlike r q → t ≢ task.Optimize → (blocks : List Block) (text text' : List ℕ)
     → IsListingFor t r blocks text → IsListingFor t q blocks text' → text ≡ text'
-of_one_task task.Run r q alike blocks text text' lists lists' =
+of_one_task task.Run r q alike settled blocks text text' lists lists' =
     one_listing (IsRunEntry r) (IsRunEntry q) (run_same r q alike) no_ending blocks text text' lists lists'
-of_one_task task.Simulate r q alike blocks text text' lists lists' =
+of_one_task task.Simulate r q alike settled blocks text text' lists lists' =
     one_listing (IsSimulateEntry r) (IsSimulateEntry q)
     (λ k b e e' f f' is is'. run_same r q alike k b e e' f f' is.plain is'.plain) no_ending blocks text text' lists lists'
-of_one_task task.Trace r q alike blocks text text' lists lists' =
+of_one_task task.Trace r q alike settled blocks text text' lists lists' =
     one_listing (IsTraceEntry r) (IsTraceEntry q) (trace_same r q alike) no_ending blocks text text' lists lists'
-of_one_task task.Schedule r q alike blocks text text' lists lists' =
+of_one_task task.Schedule r q alike settled blocks text text' lists lists' =
     one_listing (IsScheduleEntry r) (IsScheduleEntry q) (schedule_same r q alike) total_of_all blocks text text'
     lists lists'
-of_one_task task.Counts r q alike blocks text text' lists lists' =
+of_one_task task.Counts r q alike settled blocks text text' lists lists' =
     one_listing_after (IsCountEntry r) (IsCountEntry q) (count_same r q alike) (opening_as r.csv count_header)
     (opening_as q.csv count_header) (count_ending r.csv) (count_ending q.csv) blocks text text'
     (ap (λ csv. opening_as csv count_header) alike.csv) (ap count_ending alike.csv) lists lists'
-of_one_task task.Compare r q alike blocks text text' lists lists' =
+of_one_task task.Compare r q alike settled blocks text text' lists lists' =
     one_listing_after (IsCompareEntry r) (IsCompareEntry q) (compare_same r q alike) (opening_as r.csv compare_header)
     (opening_as q.csv compare_header) (compare_ending r.csv) (compare_ending q.csv) blocks text text'
     (ap (λ csv. opening_as csv compare_header) alike.csv) (ap compare_ending alike.csv) lists lists'
-of_one_task task.Explain r q alike blocks text text' lists lists' =
+of_one_task task.Optimize r q alike settled blocks text text' lists lists' = absurd (settled refl)
+of_one_task task.Explain r q alike settled blocks text text' lists lists' =
     one_listing (IsExplainEntry r) (IsExplainEntry q) (explain_same r q alike) total_of_all blocks text text' lists lists'
-of_one_task task.Graph r q alike blocks text text' lists lists' =
+of_one_task task.Graph r q alike settled blocks text text' lists lists' =
     one_listing (IsGraphEntry r) (IsGraphEntry q) (graph_same r q alike) drawing_end blocks text text' lists lists'
-of_one_task task.Check r q alike blocks text text' lists lists' = absurd lists
-of_one_task task.Lint r q alike blocks text text' lists lists' = absurd lists
+of_one_task task.Check r q alike settled blocks text text' lists lists' = absurd lists
+of_one_task task.Lint r q alike settled blocks text text' lists lists' = absurd lists
 
 pub simulating_lists_runs : SimulatingListsRuns
 simulating_lists_runs request blocks text is =

@@ -1,5 +1,5 @@
 -- What is listed of one input does not depend on the workers, and greedy schedules can be listed.
-use Rattle.std.proofs.Common.{◌≡◌, ℕ, Bool, List, ℤ, None, Option, Some, IsTrue, sym, subst}
+use Rattle.std.proofs.Common.{◌≡◌, ◌∙◌, ℕ, Bool, List, ℤ, None, Option, Some, IsTrue, sym, subst}
 use Rattle.std.specs.declared.alloc.Global.{Global}
 use Rattle.std.specs.declared.string.String.{String}
 use Rattle.iloc_ops.specs.declared.file.Block.{Block}
@@ -7,6 +7,7 @@ use Rattle.iloc_text.proofs.Answer.{one_answer}
 use Rattle.iloc_timed.specs.declared.latencies.Latencies.{Latencies}
 use Rattle.iloc_rows.specs.declared.proposal.Proposed.{Proposed}
 use Rattle.iloc_rows.specs.EitherSlot.{placed}
+use Rattle.iloc_optimum.specs.Bound.{IsBound}
 use Rattle.iloc_sched.specs.declared.ranking.heuristic.Heuristic.{Heuristic}
 use Rattle.iloc_args.specs.declared.request.Request.{Request}
 use Rattle.iloc_args.specs.declared.request.Task.{Task}
@@ -15,7 +16,10 @@ use Rattle.iloc_farm.specs.Commands.Check.{Checks, ListsChecked}
 use Rattle.iloc_farm.specs.Commands.ExplainRows.{Explains, ExplainsRows}
 use Rattle.iloc_farm.specs.Commands.Run.{initial_memory}
 use Rattle.iloc_farm.specs.Commands.TraceRows.{Traces, TracesRows}
-use Rattle.iloc_farm.specs.Laws.{AskAlike, ChecksIgnoreWorkers, GreedySchedulesCanBeListed, ListingsIgnoreWorkers}
+use Rattle.iloc_farm.specs.Commands.Optimize.{IsOptimizeEntry}
+use Rattle.iloc_farm.specs.Entries.{IsListingOf}
+use Rattle.iloc_farm.specs.Laws.{AskAlike, ChecksIgnoreWorkers, GreedySchedulesCanBeListed, ListedOptimaAreOptimal, ListingsIgnoreWorkers, OptimaIgnoreWorkers}
+use Rattle.iloc_farm.specs.Listing.{total_of_all}
 use Rattle.iloc_farm.specs.Apart.{Held}
 use Rattle.iloc_farm.specs.Run.{IsListing, IsListingFor, Lists, ListsApart, ListsAs, ListsSubmission, takes_rows}
 use Rattle.iloc_farm.specs.declared.commands.Finding.{Finding}
@@ -23,11 +27,21 @@ use Rattle.iloc_farm.proofs.Listers.{of_one_task, one_memory}
 use Rattle.iloc_farm.proofs.Schedules.{greedy_long, total_small}
 
 pub ignore_workers : ListingsIgnoreWorkers
-ignore_workers r q alike input blocks blocks' denotes denotes' text text' lists lists' =
+ignore_workers r q alike settled input blocks blocks' denotes denotes' text text' lists lists' =
     let P : List Block → Type 0 = λ bs. IsListing q bs text' in
     let Q : Task → Type 0 = λ t. IsListingFor t q blocks text' in
     let own : IsListing q blocks text' = subst P (sym (one_answer.file input blocks blocks' denotes denotes')) lists' in
-    of_one_task r.task r q alike blocks text text' lists (subst Q (sym alike.task) own)
+    of_one_task r.task r q alike settled blocks text text' lists (subst Q (sym alike.task) own)
+
+pub optima_ignore_workers : OptimaIgnoreWorkers
+optima_ignore_workers r q alike blocks text lists =
+    subst (λ lat. IsListingOf (IsOptimizeEntry lat) total_of_all blocks text) alike.latencies lists
+
+pub listed_optima : ListedOptimaAreOptimal
+listed_optima lat k b entry cycles is reached = record {
+  lawful = is.found.lawful;
+  fewest = subst (IsBound lat b.ops) (sym reached ∙ is.counted) is.found.bound;
+}
 
 -- a check of the one request is one of the other
 checks_alike : (r q : Request) → AskAlike r q → (blocks : List Block) (proposals : List Proposed) (finding : Finding)

@@ -8,6 +8,7 @@ use Rattle.iloc_farm.specs.Commands.Counts.{counts_command}
 use Rattle.iloc_farm.specs.Commands.Explain.{explain_command}
 use Rattle.iloc_farm.specs.Commands.Graph.{graph_command}
 use Rattle.iloc_farm.specs.Commands.Lint.{lint_command}
+use Rattle.iloc_farm.specs.Commands.Optimize.{optimize_command}
 use Rattle.iloc_farm.specs.Commands.Run.{run_command}
 use Rattle.iloc_farm.specs.Commands.Schedule.{schedule_command}
 use Rattle.iloc_farm.specs.Commands.Simulate.{simulate_command}
@@ -18,6 +19,7 @@ pub mod Trace
 pub mod Schedule
 pub mod Counts
 pub mod Compare
+pub mod Optimize
 pub mod Explain
 pub mod ExplainRows
 pub mod TraceRows
@@ -32,6 +34,7 @@ command_of task.Trace = trace_command
 command_of task.Schedule = schedule_command
 command_of task.Counts = counts_command
 command_of task.Compare = compare_command
+command_of task.Optimize = optimize_command
 command_of task.Explain = explain_command
 command_of task.Check = check_command
 command_of task.Graph = graph_command

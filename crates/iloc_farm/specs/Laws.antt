@@ -1,5 +1,5 @@
 -- What holds of listings as a whole.
-use Rattle.std.specs.Prelude.{◌≡◌, ℕ, ℤ, ◌<◌, ◌^◌, Bool, List, length, Option, Some, None, Result, IsTrue}
+use Rattle.std.specs.Prelude.{◌≡◌, ◌≢◌, ℕ, ℤ, ◌<◌, ◌^◌, Bool, List, length, Option, Some, None, Result, IsTrue}
 use Rattle.std.specs.List.{AllZip}
 use Rattle.std.specs.declared.io.Error.{Error}
 use Rattle.iloc_ops.specs.declared.file.Block.{Block}
@@ -9,6 +9,7 @@ use Rattle.iloc_text.specs.Streams.{ReadsText}
 use Rattle.iloc_timed.specs.declared.latencies.Latencies.{Latencies}
 use Rattle.iloc_timed.specs.Schedule.{Table}
 use Rattle.iloc_sched.specs.declared.ranking.heuristic.Heuristic.{Heuristic}
+use Rattle.iloc_optimum.specs.Bound.{IsOptimal}
 use Rattle.iloc_rows.specs.declared.proposal.Proposed.{Proposed}
 use Rattle.iloc_judge.specs.Checked.{DoTheSame, MayPass}
 use Rattle.iloc_rows.specs.EitherSlot.{placed}
@@ -21,6 +22,7 @@ use Rattle.iloc_farm.specs.declared.commands.Finding.TheVariants.{Passed}
 use Rattle.iloc_farm.specs.declared.program.Ending.{Ending}
 use Rattle.iloc_farm.specs.Apart.{Held, ReadsApart}
 use Rattle.iloc_farm.specs.Commands.Check.{ListsChecked}
+use Rattle.iloc_farm.specs.Commands.Optimize.{IsOptimizeEntry}
 use Rattle.iloc_farm.specs.Listing.{total_cycles}
 use Rattle.iloc_farm.specs.Program.{Args, AskFor, Ends}
 use Rattle.iloc_farm.specs.Run.{IsListing, IsListingFor, ListsFrom, takes_rows}
@@ -33,18 +35,31 @@ pub record AskAlike (r q : Request) : Type 0 where
   pub words : r.words.items ≡ q.words.items
   pub latencies : r.latencies ≡ q.latencies
   pub priority : r.priority ≡ q.priority
+  pub nodes : r.nodes ≡ q.nodes
   pub task_file : r.task_file ≡ q.task_file
   pub csv : r.csv ≡ q.csv
   pub either_slot : r.either_slot ≡ q.either_slot
   pub lawful : r.lawful ≡ q.lawful
   pub outputs : r.outputs ≡ q.outputs
 
--- What such requests list of one file is one text. Where rows are read no file is listed: which of two right verdicts is given,
--- and by which pairing rows are explained, is not settled, so of one input more than one text may be listed.
+-- What such requests list of one file is one text, but where schedules are searched for: which of them is found is not settled.
+-- Where rows are read no file is listed: which of two right verdicts is given, and by which pairing rows are explained, is not
+-- settled either, so of one input more than one text may be listed.
 abbrev pub ListingsIgnoreWorkers : Type 0
-ListingsIgnoreWorkers = (r q : Request) → AskAlike r q → (input : List ℕ) (blocks blocks' : List Block)
+ListingsIgnoreWorkers = (r q : Request) → AskAlike r q → r.task ≢ task.Optimize → (input : List ℕ) (blocks blocks' : List Block)
     → Denotes input blocks → Denotes input blocks'
     → (text text' : List ℕ) → IsListing r blocks text → IsListing q blocks' text' → text ≡ text'
+
+-- where schedules are searched for, what one of such requests may list of blocks, so may the other
+abbrev pub OptimaIgnoreWorkers : Type 0
+OptimaIgnoreWorkers = (r q : Request) → AskAlike r q → (blocks : List Block) (text : List ℕ)
+    → IsListingFor task.Optimize r blocks text → IsListingFor task.Optimize q blocks text
+
+-- a schedule that is listed with a bound which its cycles reach is optimal among the lawful ones of its block
+abbrev pub ListedOptimaAreOptimal : Type 0
+ListedOptimaAreOptimal = (lat : Latencies) (k : ℕ) (b : Block) (entry : List ℕ) (cycles : ℕ)
+    → (is : IsOptimizeEntry lat k b entry cycles) → cycles ≡ is.best.bound
+    → IsOptimal lat b.ops is.best.schedule.ops is.best.schedule.rows
 
 -- what is listed of blocks as what comes of their schedules is what is listed as what comes of them
 abbrev pub SimulatingListsRuns : Type 0

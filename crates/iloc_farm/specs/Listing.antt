@@ -1,5 +1,5 @@
 -- The listings: of outcomes, of schedules and of their cycles.
-use Rattle.std.specs.Prelude.{ℕ, ◌+◌, Bool, true, false, ◌&&◌, if◌then◌else◌, List, [], ◌∷◌, ◌++◌, sum, sum_by, Option, Some, None, is_none, ℤ, codes}
+use Rattle.std.specs.Prelude.{ℕ, ◌+◌, ◌==◌, Bool, true, false, ◌&&◌, if◌then◌else◌, List, [], ◌∷◌, ◌++◌, sum, sum_by, Option, Some, None, is_none, ℤ, codes}
 use Rattle.std.specs.List.{flat_map, list_all}
 use Rattle.std.specs.Fmt.{decimal, signed_decimal}
 use Rattle.iloc_ops.specs.Columns.{column}
@@ -73,6 +73,12 @@ schedule_lines k name s cycles =
 
 abbrev pub schedule_entry : Latencies → ℕ → Option (List ℕ) → Table → List ℕ
 schedule_entry lat k name s = schedule_lines k name s (cycles_of lat s)
+
+-- the comment that follows the cycles where a bound on them is known: the bound, and whether they reach it
+abbrev pub bound_comment : Option ℕ → ℕ → List ℕ
+bound_comment None cycles = []
+bound_comment (Some bound) cycles =
+    codes "// bound " ++ decimal bound ++ (if cycles == bound then codes " optimal\n" else codes "\n")
 
 -- Tables of comma-separated values
 

@@ -14,6 +14,7 @@ mod explain;
 mod explain_rows;
 mod graph;
 mod lint;
+mod optimize;
 mod run;
 mod schedule;
 mod simulate;
@@ -34,6 +35,7 @@ use graph::GraphLister;
 use iloc_args::{Request, Task};
 use iloc_board::Receipt;
 use lint::linted;
+use optimize::OptimizeLister;
 use run::RunLister;
 use schedule::ScheduleLister;
 use simulate::SimulateLister;
@@ -156,6 +158,7 @@ pub(crate) fn list<H: Threads + Wait + Sync, T: Texts, R: Read>(
         Task::Schedule => shared::<ScheduleLister, H, R>(rt, alloc, reader, request),
         Task::Counts => shared::<CountLister, H, R>(rt, alloc, reader, request),
         Task::Compare => shared::<CompareLister, H, R>(rt, alloc, reader, request),
+        Task::Optimize => shared::<OptimizeLister, H, R>(rt, alloc, reader, request),
         Task::Explain => Ok((explained(alloc, texts, reader, request)?, None)),
         Task::Graph => alone::<GraphLister, R>(alloc, reader, request),
         Task::Check => Ok((checked(alloc, texts, reader, request)?, None)),

@@ -1,13 +1,28 @@
 //! Laws of listings, as contracts of functions that do nothing.
 ghost use Rattle.iloc_farm.specs.Laws.{ChecksIgnoreWorkers, GreedySchedulesCanBeListed, HandInsDontChangeTheTask};
-ghost use Rattle.iloc_farm.specs.Laws.{ListingsIgnoreWorkers, PassedChecksKeepOutcomes, PassedChecksMayPass};
+ghost use Rattle.iloc_farm.specs.Laws.{ListedOptimaAreOptimal, ListingsIgnoreWorkers, OptimaIgnoreWorkers};
+ghost use Rattle.iloc_farm.specs.Laws.{PassedChecksKeepOutcomes, PassedChecksMayPass};
 ghost use Rattle.iloc_farm.specs.Laws.{SimulatingListsRuns, Status0MeansTheSame};
 
 /// The number of workers leaves no trace in a listing.
 ///
-/// Promise: requests that are equal but for their workers list one text of one file.
+/// Promise: requests that are equal but for their workers list one text of one file, unless they ask for optima.
 pub fn listings_ignore_workers()
     ensures { ListingsIgnoreWorkers }
+{}
+
+/// Which of several schedules `optimize` finds, no contract says.
+///
+/// Promise: what `optimize` may list of blocks doesn't depend on its workers.
+pub fn optima_ignore_workers()
+    ensures { OptimaIgnoreWorkers }
+{}
+
+/// Where `optimize` says `optimal`, it is so.
+///
+/// Promise: a schedule that is listed with a bound which its cycles reach is optimal among the lawful ones of its block.
+pub fn listed_optima_are_optimal()
+    ensures { ListedOptimaAreOptimal }
 {}
 
 /// `simulate` and `run` list the same.

@@ -37,6 +37,7 @@ pub record HoldValues (rows : List Row) : Type 0 where
   pub load : HoldsIn 1 LONGEST_LATENCY (codes "load") rows
   pub store : HoldsIn 1 LONGEST_LATENCY (codes "store") rows
   pub mult : HoldsIn 1 LONGEST_LATENCY (codes "mult") rows
+  pub nodes : HoldsIn 0 100000 (codes "nodes") rows
   pub csv : HoldsFlag (codes "csv") rows
   pub lawful : HoldsFlag (codes "lawful") rows
   pub outputs : HoldsFlag (codes "outputs") rows

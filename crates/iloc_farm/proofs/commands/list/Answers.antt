@@ -22,6 +22,10 @@ pub returns-in-Compare : goal.returns-in-Compare
 returns-in-Compare g c =
     as_asked task.Compare _ c.args.request.now _ _ _ c.in-Compare.is (c.shared-in-Compare.ensures (g.T.Texts.held c.args.texts.now))
 
+pub returns-in-Optimize : goal.returns-in-Optimize
+returns-in-Optimize g c =
+    as_asked task.Optimize _ c.args.request.now _ _ _ c.in-Optimize.is (c.shared-in-Optimize.ensures (g.T.Texts.held c.args.texts.now))
+
 pub returns-in-Graph : goal.returns-in-Graph
 returns-in-Graph g c =
     as_asked task.Graph _ c.args.request.now _ _ _ c.in-Graph.is (c.alone-in-Graph.ensures (g.T.Texts.held c.args.texts.now))

@@ -1,20 +1,11 @@
-use Rattle.std.proofs.Common.{◌∙◌, ◌++◌, ap, sum_by, sym}
-use Rattle.std.proofs.lemmas.List.Sums.{sum-map}
 use Rattle.std.proofs.lemmas.Result.{IfOk-weaker}
-use Rattle.std.specs.List.{flat_map}
 use Rattle.iloc_farm.specs.Commands.Schedule.{IsScheduleEntry}
-use Rattle.iloc_farm.specs.Listing.{total_of, total_of_all}
+use Rattle.iloc_farm.specs.Listing.{total_of_all}
 use Rattle.iloc_farm.proofs.Entries.{made_listing}
 use Rattle.iloc_farm.proofs.commands.schedule.ScheduleListerFarmedLister.listing.Goals as goal
 
 pub returns : goal.returns
 returns c =
-    let entries = c.args.entries.items in
-    let total = c.cycles_of_all.ensures.sum
-    ∙ (ap (sum_by (λ e. e.cycles)) c.deref.ensures.value ∙ sym (sum-map (λ e. e.cycles) entries)) in
-    let ending = c.in_ok-push_total.ensures
-    ∙ (ap (λ t. t ++ total_of c.cycles_of_all.result) c.new-ending.ensures.items ∙ ap total_of total) in
-    IfOk-weaker c.of_entries.result _ _
+    IfOk-weaker c.with_total.result _ _
     (λ text is. made_listing (IsScheduleEntry c.args._request.now) (λ e. e.text) (λ e. e.cycles) total_of_all
-    c.args.blocks entries text c.requires.right (is ∙ ap (λ t. flat_map (λ e. e.text) entries ++ t) ending))
-    c.of_entries.ensures
+    c.args.blocks c.args.entries.items text c.requires.right is) c.with_total.ensures

@@ -1,5 +1,5 @@
 use Rattle.std.proofs.Common.{◌≡◌, ◌≤◌, ◌*◌, sum_by, take}
-use Rattle.iloc_farm.proofs.commands.schedule.cycles_of_all.Given as goal
+use Rattle.iloc_farm.proofs.listing.scheduled.cycles_of_all.Given as goal
 
 abbrev pub invariant-loop-entry : goal.invariant-loop-entry
 invariant-loop-entry l = record {

@@ -1,0 +1,75 @@
+//! `optimize`: the best schedules that are found, with a bound on the cycles of every one.
+ghost use Rattle.std.specs.Prelude.{◌≤◌, length, IfOk};
+ghost use Rattle.iloc_ops.specs.Limits.{MAX_BLOCKS};
+
+use crate::farmed::FarmedLister;
+use crate::listing::scheduled::{EntryMaker, with_total};
+use crate::listing::text::{Listing, ScheduleEntry};
+use iloc_args::Request;
+use iloc_optimum::Optimizer;
+use iloc_text::{Block, Blocks, NoMemory};
+use std::alloc::Global;
+
+/// Searches for the best schedule of each block, and lists it.
+#[derive(Drop)]
+pub(crate) struct OptimizeLister {
+    optimizer: Optimizer,
+    entries: EntryMaker,
+}
+
+impl FarmedLister for OptimizeLister {
+    ghost use Rattle.iloc_farm.specs.Commands.Optimize.{IsOptimizeEntry};
+    ghost use Rattle.iloc_farm.specs.Entries.{AreListed, IsListingOf};
+    ghost use Rattle.iloc_farm.specs.Listing.{total_of_all};
+
+    type Answer = ScheduleEntry;
+
+    ghost answers = { λ request k block entry. IsOptimizeEntry request.latencies k block entry.text entry.cycles };
+
+    ghost cycles_in = { λ entry. entry.cycles };
+
+    ghost lists = { λ request. IsListingOf (IsOptimizeEntry request.latencies) total_of_all };
+
+    fn new(alloc: Global) -> OptimizeLister {
+        OptimizeLister {
+            optimizer: Optimizer::new(alloc),
+            entries: EntryMaker::new(alloc),
+        }
+    }
+
+    fn answer(
+        &mut self,
+        _alloc: Global,
+        request: &Request,
+        number: usize,
+        block: &Block,
+    ) -> Result<ScheduleEntry, NoMemory> {
+        let latencies = &request.latencies;
+        let optimum = self.optimizer.optimize(block, latencies, request.nodes)?;
+        let bound = Some(optimum.bound);
+        let entry = self
+            .entries
+            .entry(latencies, number, block, &optimum.schedule, bound)?;
+        self.optimizer.take_back(optimum.schedule);
+        Ok(entry)
+    }
+
+    fn cycles(entry: &ScheduleEntry) -> u32 {
+        entry.cycles
+    }
+
+    fn listing(
+        alloc: Global,
+        _request: &Request,
+        blocks: Blocks,
+        entries: Vec<ScheduleEntry>,
+    ) -> Result<Listing, NoMemory>
+        requires few { length blocks ≤ MAX_BLOCKS }
+        requires right { AreListed (λ k block entry.
+            IsOptimizeEntry _request.now.latencies k block entry.text entry.cycles) blocks entries.items }
+        ensures { IfOk result (IsListingOf (IsOptimizeEntry _request.now.latencies) total_of_all blocks) }
+    {
+        drop(blocks);
+        with_total(alloc, entries)
+    }
+}
