@@ -1,0 +1,141 @@
+"""`optimize`: beside an exact search, beside `check`, and on blocks that are hard to search or aren't searched."""
+import random
+import re
+import time
+
+from forms import USUAL
+from harness.program import TESTED, ending
+from harness.suite import Check, table
+from limits import MOST_OPERATIONS
+from oracle.drawn import lab_block
+from oracle.operations import Op, text_of, words_for
+from oracle.optimum import fewest, odd_latencies, small_block
+from oracle.scheduler import ORDERS, Schedule
+
+ENTRY = re.compile(rb"^cycles ([0-9]+)\n// bound ([0-9]+)( optimal)?$", re.MULTILINE)
+TOGETHER = 20       # blocks of a run
+MOST_SEARCHED = 300
+SLOWEST = {"load": 16, "store": 16, "mult": 16}
+
+
+def listing_of(blocks, latencies, nodes=1000, *words):
+    return ending(["optimize", "--nodes", str(nodes), *words_for(latencies), *words], text_of(blocks))
+
+
+def found_in(end, blocks):
+    """Of each block the cycles, the bound, and whether it is said to be optimal."""
+    status, out, err = end
+    found = [(int(cycles), int(bound), bool(optimal)) for cycles, bound, optimal in ENTRY.findall(out)]
+    if (status, err) != (0, b"") or len(found) != len(blocks):
+        raise ValueError(f"status {status}, {len(found)} of {len(blocks)} blocks, {err}")
+    return found
+
+
+def unlawful(end, blocks, latencies):
+    """What `check` has against a listing, where anything is."""
+    status, out, err = ending(["check", "--lawful", *words_for(latencies)], text_of(blocks) + end[1])
+    if status:
+        yield f"check ends with status {status}: {out[-200:]} {err}"
+
+
+def exact(count):
+    """No bound is above the fewest cycles, and no schedule takes fewer; with ample nodes both meet."""
+    chance = random.Random("optima")
+    for _ in range(0, count, TOGETHER):
+        latencies, nodes = odd_latencies(chance), chance.choice([0, 1, 5, 1000])
+        blocks = [small_block(chance) for _ in range(TOGETHER)]
+        end = listing_of(blocks, latencies, nodes)
+        for ops, (cycles, bound, optimal) in zip(blocks, found_in(end, blocks)):
+            least = fewest(Schedule(ops, latencies))
+            if not bound <= least <= cycles or optimal != (bound == cycles) or nodes == 1000 and not optimal:
+                yield f"{[*map(str, ops)]}, {latencies}, {nodes} nodes: {cycles}, bound {bound}, of {least}"
+        yield from unlawful(end, blocks, latencies)
+
+
+def lawful(count):
+    """Each schedule of longer blocks is by the book, and takes no more cycles than one by any order."""
+    for seed in range(count):
+        chance = random.Random(f"lawful {seed}")
+        latencies = chance.choice([USUAL, SLOWEST, odd_latencies(chance)])
+        blocks = [lab_block(chance) for _ in range(TOGETHER)]
+        end = listing_of(blocks, latencies, chance.choice([0, 10, 1000]))
+        for ops, (cycles, bound, _) in zip(blocks, found_in(end, blocks)):
+            by_orders = [Schedule(ops, latencies, by) for by in ORDERS]
+            if cycles > min(it.cycles() for it in by_orders) or bound < by_orders[0].least():
+                yield f"{[*map(str, ops)]}, {latencies}: {cycles}, bound {bound}"
+        yield from unlawful(end, blocks, latencies)
+
+
+def repeated(opcode, numbers, count):
+    return [Op(opcode, numbers)] * count
+
+
+def in_closed_form():
+    """Blocks of one class, all alike, and without an edge, whose fewest cycles are known."""
+    n = MOST_SEARCHED
+    constants = [Op("loadI", [k, k]) for k in range(n)]
+    return [(repeated("mult", [0, 0, 1], n), n + 2), (repeated("output", [4], n), n), (repeated("store", [0, 1], n), n + 4),
+            (repeated("loadAI", [0, 4, 1], n), n + 4), (repeated("addI", [1, 1, 1], n), n), (constants, n // 2),
+            (repeated("add", [0, 0, 1], n), n // 2), ([], 0), (repeated("nop", [], 3), 0)]
+
+
+def known():
+    blocks, due = zip(*in_closed_form())
+    for nodes in (0, 1, 1000, 100_000):
+        end = listing_of(blocks, USUAL, nodes)
+        if (got := found_in(end, blocks)) != [(cycles, cycles, True) for cycles in due]:
+            yield f"{nodes} nodes: {got} in place of {due}"
+        yield from unlawful(end, blocks, USUAL)
+
+
+def hard_block(count):
+    """Products two by two, the second of which waits for the first, and sums of them."""
+    chance = random.Random(count)
+    made = [Op("multI", [0, k, k + 1]) for k in range(count // 3)]
+    while len(made) < count:
+        made.append(Op(chance.choice(["mult", "add"]), [1 + chance.randrange(len(made)), 1 + chance.randrange(len(made)), len(made) + 1]))
+    return made
+
+
+def long_ones():
+    """A block of more than so many operations isn't searched, whatever the nodes."""
+    for count in (MOST_SEARCHED + 1, 1000):
+        blocks = [hard_block(count)]
+        end = listing_of(blocks, USUAL, 100_000)
+        if end != listing_of(blocks, USUAL, 0):
+            yield f"{count} operations are searched"
+        yield from unlawful(end, blocks, USUAL)
+
+
+def longest():
+    """The longest block takes the time of its six schedules."""
+    text = text_of([hard_block(MOST_OPERATIONS)])
+    times = []
+    for command in ("compare", "optimize"):
+        start = time.monotonic()
+        if ending([command], text)[0]:
+            yield f"{command} fails"
+        times.append(time.monotonic() - start)
+    if times[1] > 2 * times[0] + 1:
+        yield f"{times[1]:.1f} s, where compare takes {times[0]:.1f} s"
+
+
+def by_workers():
+    """With one worker as with any other number."""
+    chance = random.Random("workers")
+    blocks = [lab_block(chance) for _ in range(40)] + [hard_block(30), hard_block(60)]
+    due = listing_of(blocks, USUAL, 100, "--workers", "1")
+    found_in(due, blocks)
+    for workers in range(2, 9):
+        if listing_of(blocks, USUAL, 100, "--workers", str(workers)) != due:
+            yield f"{workers} workers list something else"
+
+
+def optimum_checks():
+    yield Check("optima/exact", exact, 300 if TESTED.is_short else 3000)
+    yield Check("optima/lawful", lawful, 5 if TESTED.is_short else 50)
+    for check in (known, long_ones, longest, by_workers):
+        yield Check(f"optima/{check.__name__}", check)
+
+
+load_tests = table(optimum_checks)
