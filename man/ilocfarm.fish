@@ -68,6 +68,7 @@ complete -c ilocfarm -n '__fish_seen_subcommand_from check' -l mult -x -d 'Cycle
 complete -c ilocfarm -n '__fish_seen_subcommand_from check' -l task -r -d 'Read the blocks from FILE, and only rows from standard input'
 complete -c ilocfarm -n '__fish_seen_subcommand_from check' -l either-slot -d 'Accept rows whose operations fit only when swapped'
 complete -c ilocfarm -n '__fish_seen_subcommand_from check' -l lawful -d 'Pass nothing but rows that are a schedule by the book'
+complete -c ilocfarm -n '__fish_seen_subcommand_from check' -l operations -d 'Pass no rows that leave operations of their block out or add some'
 complete -c ilocfarm -n '__fish_seen_subcommand_from check' -l outputs -d 'Compare emitted words and faults alone, and not memory'
 complete -c ilocfarm -n '__fish_seen_subcommand_from check' -l csv -d 'Print a table of comma-separated values, a row for each block'
 complete -c ilocfarm -n '__fish_seen_subcommand_from check' -l help -d 'Print help'

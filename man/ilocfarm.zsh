@@ -83,6 +83,7 @@ check) shift words; (( CURRENT-- ))
         '--task[Read the blocks from FILE, and only rows from standard input]:FILE:_files' \
         '--either-slot[Accept rows whose operations fit only when swapped]' \
         '--lawful[Pass nothing but rows that are a schedule by the book]' \
+        '--operations[Pass no rows that leave operations of their block out or add some]' \
         '--outputs[Compare emitted words and faults alone, and not memory]' \
         '--csv[Print a table of comma-separated values, a row for each block]' \
         '--help[Print help]' ;;

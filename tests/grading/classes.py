@@ -6,7 +6,7 @@ from forms import USUAL
 from judged.labs import Given
 from judged.students import RIGHT, WRONG, ours
 from oracle.drawn import lab_block
-from oracle.judge import AT, MEMORIES, Entry, proposed, why_void
+from oracle.judge import AT, MEMORIES, Entry, operations_of, proposed, why_void
 from oracle.machine import cycles, memories, outcome, signed, words_from
 from oracle.operations import Op, text_of
 from oracle.reader import Block
@@ -77,11 +77,6 @@ KINDS = (*RIGHT, *WRONG, constants, of_another_task)
 def students():
     """By name a kind."""
     return {f"{k:02} {KINDS[k % len(KINDS)].__name__}": KINDS[k % len(KINDS)] for k in range(STUDENTS)}
-
-
-def operations_of(ops):
-    """Operations up to registers."""
-    return sorted((op.opcode, op.constant or 0) for op in ops if op.opcode != "nop")
 
 
 def keeps_operations(made, rows):

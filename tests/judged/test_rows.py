@@ -4,7 +4,7 @@ from harness.program import Run, ending, told
 from harness.suite import Check, table
 from limits import MOST_BLOCKS, MOST_BYTES, MOST_OPERATIONS
 from oracle.book import MOST_FACTS
-from oracle.judge import ENTRY, NOT_SAME, entries_of, status_of, total
+from oracle.judge import ENTRY, NOT_SAME, entries_of, operations_of, status_of, total
 from oracle.machine import row_text, words_from
 from oracle.reader import NO_SUCH_BLOCK, read
 
@@ -411,6 +411,23 @@ def only_lawful():
             yield f"{given!r}: {told(got)} in place of {told(due)}"
 
 
+def only_own_operations():
+    """With `--operations` the same is listed, and no rows pass that leave operations of their block out or add some."""
+    passed = set()
+    for block, theirs, verdict, *_ in [*SAME.values(), *VERDICTS.values()]:
+        given = (block + spread(theirs)).encode()
+        _, out, err = ending(WORDS, given)
+        keeps = operations_of(read(block.encode())[0].ops) == operations_of(read(theirs.encode())[0].ops)
+        for words in [], ["--lawful"]:
+            got = ending([*WORDS, "--operations", *words], given)
+            due = status_of([verdict], lawful=bool(words)) if keeps else NOT_SAME, out, err
+            passed |= {(verdict, keeps, got[0] == 0)}
+            if got != due:
+                yield f"{given!r}: {told(got)} in place of {told(due)}"
+    if not passed >= {("same", True, True), ("same", False, False), ("lawful", True, True)}:
+        yield f"no more than {passed} were tried"
+
+
 def outputs_alone():
     """With `--outputs` each verdict is right of emitted words and faults, and with `--lawful` too the same is listed."""
     for block, theirs, verdict, *_ in [*SAME.values(), *VERDICTS.values(), *SHOWN.values()]:
@@ -437,6 +454,7 @@ def judged_cases():
     for name, (block, theirs) in UNLIKE.items():
         yield Check(f"judged/unlike_{name}", isnt_passed, block + spread(theirs))
     yield Check("judged/only_lawful", only_lawful)
+    yield Check("judged/only_own_operations", only_own_operations)
     for name, (block, theirs, *said) in SHOWN.items():
         yield judged(f"outputs_{name}", block + spread(theirs), *said, outputs=True)
     yield Check("judged/outputs_alone", outputs_alone)

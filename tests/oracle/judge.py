@@ -58,6 +58,11 @@ def why_void(ops, start, outputs=False):
     return None if any(op.kind in shown for op in ops) else "the block shows nothing"
 
 
+def operations_of(ops):
+    """Operations up to registers."""
+    return sorted((op.opcode, op.constant or 0) for op in ops if op.opcode != "nop")
+
+
 class Entry:
     """What is right of one entry of the listing, with `--outputs` or without."""
 

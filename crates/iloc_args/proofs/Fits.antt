@@ -33,6 +33,7 @@ pub record IsFit (rules : List Rule) : Type 0 where
   pub nodes : TakesIn 0 100000 (codes "nodes") rules
   pub csv : Takes vp.Bool (codes "csv") rules
   pub lawful : Takes vp.Bool (codes "lawful") rules
+  pub operations : Takes vp.Bool (codes "operations") rules
   pub outputs : Takes vp.Bool (codes "outputs") rules
   pub either_slot : Takes vp.Bool (codes "either-slot") rules
 
@@ -73,10 +74,14 @@ takes_latencies rules =
 abbrev takes_last_flags : List Rule → Bool
 takes_last_flags rules = takes is_flag_parser (codes "outputs") rules && takes is_flag_parser (codes "either-slot") rules
 
+abbrev takes_passing_flags : List Rule → Bool
+takes_passing_flags rules =
+    takes is_flag_parser (codes "lawful") rules && takes is_flag_parser (codes "operations") rules
+
 abbrev takes_flags : List Rule → Bool
 takes_flags rules =
     takes is_flag_parser (codes "csv") rules
-    && (takes is_flag_parser (codes "lawful") rules && takes_last_flags rules)
+    && (takes_passing_flags rules && takes_last_flags rules)
 
 abbrev takes_shares : List Rule → Bool
 takes_shares rules = takes_in 1 8 (codes "workers") rules && takes_in 0 100000 (codes "nodes") rules
@@ -156,10 +161,12 @@ fits rules e =
     let store = and_parts (takes_in 1 LONGEST_LATENCY (codes "store") rules)
     (takes_in 1 LONGEST_LATENCY (codes "mult") rules) load.1 in
     let csv = and_parts (takes is_flag_parser (codes "csv") rules)
-    (takes is_flag_parser (codes "lawful") rules && takes_last_flags rules) both.1 in
-    let lawful = and_parts (takes is_flag_parser (codes "lawful") rules) (takes_last_flags rules) csv.1 in
+    (takes_passing_flags rules && takes_last_flags rules) both.1 in
+    let rest = and_parts (takes_passing_flags rules) (takes_last_flags rules) csv.1 in
+    let passing = and_parts (takes is_flag_parser (codes "lawful") rules)
+    (takes is_flag_parser (codes "operations") rules) rest.0 in
     let flags = and_parts (takes is_flag_parser (codes "outputs") rules)
-    (takes is_flag_parser (codes "either-slot") rules) lawful.1 in
+    (takes is_flag_parser (codes "either-slot") rules) rest.1 in
     let number : (low high : ℕ) (id : Text) → takes_in low high id rules ≡ true → TakesIn low high id rules =
     λ low high id. has_parser (is_number_parser low high) (vp.Signed (pos low) (pos high)) (number_parser low high) id
     rules in
@@ -175,7 +182,8 @@ fits rules e =
       store = number 1 LONGEST_LATENCY (codes "store") store.0;
       mult = number 1 LONGEST_LATENCY (codes "mult") store.1;
       csv = flag (codes "csv") csv.0;
-      lawful = flag (codes "lawful") lawful.0;
+      lawful = flag (codes "lawful") passing.0;
+      operations = flag (codes "operations") passing.1;
       outputs = flag (codes "outputs") flags.0;
       either_slot = flag (codes "either-slot") flags.1;
     }

@@ -117,6 +117,7 @@ leaf_holds s words fit e =
       nodes = number 0 100000 (codes "nodes") fit.nodes;
       csv = flag (codes "csv") fit.csv;
       lawful = flag (codes "lawful") fit.lawful;
+      operations = flag (codes "operations") fit.operations;
       outputs = flag (codes "outputs") fit.outputs;
       either_slot = flag (codes "either-slot") fit.either_slot;
     }

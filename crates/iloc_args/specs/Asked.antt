@@ -25,6 +25,7 @@ pub record Asked : Type 0 where
   pub csv : Bool
   pub task_file : Option Text
   pub lawful : Bool
+  pub operations : Bool
   pub outputs : Bool
   pub either_slot : Bool
 
@@ -43,6 +44,7 @@ asked_in r = record {
   csv = r.csv;
   task_file = option_map string_bytes r.task_file;
   lawful = r.lawful;
+  operations = r.operations;
   outputs = r.outputs;
   either_slot = r.either_slot;
 }
@@ -82,6 +84,7 @@ asked_as task rows = record {
   csv = flag_in (codes "csv") rows;
   task_file = first_of (codes "task") rows;
   lawful = flag_in (codes "lawful") rows;
+  operations = flag_in (codes "operations") rows;
   outputs = flag_in (codes "outputs") rows;
   either_slot = flag_in (codes "either-slot") rows;
 }

@@ -73,6 +73,10 @@ task_rule = text_rule (codes "task")
 abbrev pub lawful_rule : Rule
 lawful_rule = flag_rule (codes "lawful")
 
+-- `--operations`
+abbrev pub operations_rule : Rule
+operations_rule = flag_rule (codes "operations")
+
 -- `--outputs`
 abbrev pub outputs_rule : Rule
 outputs_rule = flag_rule (codes "outputs")
@@ -147,13 +151,13 @@ explain_entry = record {
   rules = latency_rules ++ priority_rule ∷ task_rule ∷ either_slot_rule ∷ [];
 }
 
--- `check [--at N] [WORD].. [--load N] [--store N] [--mult N] [--task FILE] [--either-slot] [--lawful] [--outputs] [--csv]`
+-- `check [--at N] [WORD].. [--load N] [--store N] [--mult N] [--task FILE] [--either-slot] [--lawful] [--operations] [--outputs] [--csv]`
 abbrev pub check_entry : Subcommand
 check_entry = record {
   name = codes "check";
   task = Check;
   rules = at_rule ∷ words_rule
-      ∷ (latency_rules ++ task_rule ∷ either_slot_rule ∷ lawful_rule ∷ outputs_rule ∷ csv_rule ∷ []);
+      ∷ (latency_rules ++ task_rule ∷ either_slot_rule ∷ lawful_rule ∷ operations_rule ∷ outputs_rule ∷ csv_rule ∷ []);
 }
 
 -- `graph [--load N] [--store N] [--mult N]`

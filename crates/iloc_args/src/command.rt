@@ -5,7 +5,7 @@ ghost use Rattle.std.specs.Str.{bytes_eq};
 ghost use Rattle.iloc_args.specs.declared.command.Entry.{Entry as entry_value};
 ghost use Rattle.iloc_args.specs.Asked.{task_among, task_named};
 ghost use Rattle.iloc_args.specs.Command.{at_rule, csv_rule, either_slot_rule, farm_app, flag_rule, latency_rule, lawful_rule};
-ghost use Rattle.iloc_args.specs.Command.{nodes_rule, outputs_rule, priority_rule, task_rule, text_rule, top_shape, words_rule, workers_rule};
+ghost use Rattle.iloc_args.specs.Command.{nodes_rule, operations_rule, outputs_rule, priority_rule, task_rule, text_rule, top_shape, words_rule, workers_rule};
 ghost use Rattle.iloc_args.specs.Steps.Building.{HasApp, HasRule, alone, option_rule, rule_for, app_for, app_with, subcommand_for};
 
 use crate::priority::HELP;
@@ -221,6 +221,17 @@ fn lawful_arg<'a>(alloc: Global) -> Arg<'a>
     )
 }
 
+/// `--operations`
+fn operations_arg<'a>(alloc: Global) -> Arg<'a>
+    ensures { HasRule operations_rule result }
+{
+    flag_arg(
+        alloc,
+        "operations",
+        "Pass no rows that leave operations of their block out or add some",
+    )
+}
+
 /// `--outputs`
 fn outputs_arg<'a>(alloc: Global) -> Arg<'a>
     ensures { HasRule outputs_rule result }
@@ -253,6 +264,7 @@ enum Argument {
     Csv,
     Task,
     Lawful,
+    Operations,
     Outputs,
     EitherSlot,
     /// `--either-slot` of a command that reads rows with `--task` alone.
@@ -389,6 +401,7 @@ const COMMANDS: [Entry; 11] = [
             Argument::Task,
             Argument::EitherSlot,
             Argument::Lawful,
+            Argument::Operations,
             Argument::Outputs,
             Argument::Csv,
         ],
@@ -426,6 +439,7 @@ impl Argument {
             Argument::Csv => csv_arg(alloc),
             Argument::Task => task_arg(alloc),
             Argument::Lawful => lawful_arg(alloc),
+            Argument::Operations => operations_arg(alloc),
             Argument::Outputs => outputs_arg(alloc),
             Argument::EitherSlot => either_slot_arg(
                 alloc,

@@ -103,6 +103,7 @@ fn request_in(alloc: Global, task: Task, given: &ArgMatches<'_>) -> Result<Reque
         csv: flag_in(given, "csv"),
         task_file: task_file_in(alloc, given)?,
         lawful: flag_in(given, "lawful"),
+        operations: flag_in(given, "operations"),
         outputs: flag_in(given, "outputs"),
         either_slot: flag_in(given, "either-slot"),
     })

@@ -56,6 +56,8 @@ pub struct Request {
     pub task_file: Option<String>,
     /// Whether nothing passes but rows that are a schedule of their block.
     pub lawful: bool,
+    /// Whether nothing passes that leaves operations of its block out or adds some, up to registers.
+    pub operations: bool,
     /// Whether rows are compared with their block by what is emitted alone, whatever they leave in memory.
     pub outputs: bool,
     /// Whether a row that breaks the rules of the units, and keeps them with its operations exchanged, is read so.

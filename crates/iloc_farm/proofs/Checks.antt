@@ -19,6 +19,7 @@ use Rattle.iloc_sched.proofs.Bounds.LeastBound.{least_bound}
 use Rattle.iloc_judge.specs.Checked.{DoTheSame, MayPass, passes}
 use Rattle.iloc_judge.specs.Unread.{IsUnread}
 use Rattle.iloc_judge.specs.declared.checked.Checked.{Checked}
+use Rattle.iloc_judge.specs.declared.task.CheckOptions.{CheckOptions}
 use Rattle.iloc_judge.proofs.Sameness.{passed_is_same, passed_rows_may_pass, same_rows_do_the_same}
 use Rattle.iloc_farm.specs.Commands.Check.{IsCheckEntry, IsSaid, ListsChecked}
 use Rattle.iloc_farm.specs.Entries.{AreEntries}
@@ -44,26 +45,26 @@ small_found lat block s p c theirs ours most greedy short few =
     let bound : least lat block ≤ cycles lat s.ops s.rows = least_bound lat block s.ops s.rows greedy.lawful in
     record { cycles = omega arith; ours = omega arith; least = omega arith }
 
-pub small_check : (u : Option Unread) (lawful csv outputs : Bool) (lat : Latencies) (memory : List ℤ) (block : List Op)
-    (s : Table) (p : Proposed) (c : Checked) (entry : List ℕ) → IsSaid u lawful csv outputs lat memory block s p c entry
+pub small_check : (u : Option Unread) (options : CheckOptions) (lat : Latencies) (memory : List ℤ) (block : List Op)
+    (s : Table) (p : Proposed) (c : Checked) (entry : List ℕ) → IsSaid u options lat memory block s p c entry
     → IsGreedy lat block s.ops s.rows → length block ≤ MAX_OPS → length p.rows ≤ MAX_ROWS → IsSmall c
-small_check None lawful csv outputs lat memory block s p c entry check greedy short few =
+small_check None options lat memory block s p c entry check greedy short few =
     small_found lat block s p c (ap (λ (x : Checked). x.cycles) check.is_found)
     (ap (λ (x : Checked). x.ours) check.is_found) (ap (λ (x : Checked). x.least) check.is_found) greedy short few
-small_check (Some unread) lawful csv outputs lat memory block s p c entry check greedy short few =
+small_check (Some unread) options lat memory block s p c entry check greedy short few =
     small_found lat block s p c (ap (λ (x : Checked). x.cycles) check.is_found)
     (ap (λ (x : Checked). x.ours) check.is_found) (ap (λ (x : Checked). x.least) check.is_found) greedy short few
 
 -- what was appended is the entry
-pub check_listed : (lawful csv outputs : Bool) (lat : Latencies) (memory start : List ℤ) (k : ℕ) (b : Block) (s : Table)
+pub check_listed : (options : CheckOptions) (lat : Latencies) (memory start : List ℤ) (k : ℕ) (b : Block) (s : Table)
     (p : Proposed) (c : Checked) (text headed more said : List ℕ) (name : Option (List ℕ)) → IsGreedy lat b.ops s.ops s.rows
-    → memory ≡ start → name ≡ b.name → headed ≡ text ++ head_as csv k name
-    → IsSaid p.unread lawful csv outputs lat memory b.ops s p c said → more ≡ headed ++ said
-    → Adds (IsCheckEntry lawful csv outputs lat start k (b, p)) text more c
-check_listed lawful csv outputs lat memory start k b s p c text headed more said name greedy starts named opened is added =
-    let P : List ℤ → Type 0 = λ m. IsSaid p.unread lawful csv outputs lat m b.ops s p c said in
+    → memory ≡ start → name ≡ b.name → headed ≡ text ++ head_as options.csv k name
+    → IsSaid p.unread options lat memory b.ops s p c said → more ≡ headed ++ said
+    → Adds (IsCheckEntry options lat start k (b, p)) text more c
+check_listed options lat memory start k b s p c text headed more said name greedy starts named opened is added =
+    let P : List ℤ → Type 0 = λ m. IsSaid p.unread options lat m b.ops s p c said in
     record {
-      entry = head_as csv k b.name ++ said;
+      entry = head_as options.csv k b.name ++ said;
       right = record {
         ours = s;
         greedy = the_greedy Chain lat b s greedy;
@@ -72,8 +73,8 @@ check_listed lawful csv outputs lat memory start k b s p c text headed more said
         listed = refl;
       };
       added = added
-          ∙ (ap (λ xs. xs ++ said) (opened ∙ ap (λ n. text ++ head_as csv k n) named)
-          ∙ append_assoc text (head_as csv k b.name) said);
+          ∙ (ap (λ xs. xs ++ said) (opened ∙ ap (λ n. text ++ head_as options.csv k n) named)
+          ∙ append_assoc text (head_as options.csv k b.name) said);
     }
 
 -- What passed
@@ -91,28 +92,28 @@ rest_passes true b is = is
 rest_passes false b is = absurd (cc)
 
 -- what holds of whatever passes holds of all, where all pass
-module _ (lawful csv outputs : Bool) (lat : Latencies) (memory : List ℤ) (P : Block → Proposed → Type 0)
+module _ (options : CheckOptions) (lat : Latencies) (memory : List ℤ) (P : Block → Proposed → Type 0)
     (holds : (b : Block) (s : Table) (p : Proposed) (c : Checked) (text : List ℕ)
-    → IsSaid p.unread lawful csv outputs lat memory b.ops s p c text → passes lawful c ≡ true → P b p) where
+    → IsSaid p.unread options lat memory b.ops s p c text → passes options.lawful c ≡ true → P b p) where
   of_each : (k : ℕ) (blocks : List Block) (proposals : List Proposed) (found : List Checked) (text : List ℕ)
       → length proposals ≡ length blocks
-      → AreEntries (IsCheckEntry lawful csv outputs lat memory) k (zip blocks proposals) found text
-      → list_all (passes lawful) found ≡ true → AllZip P blocks proposals
+      → AreEntries (IsCheckEntry options lat memory) k (zip blocks proposals) found text
+      → list_all (passes options.lawful) found ≡ true → AllZip P blocks proposals
   of_each k [] [] found text many are pass = tt
   of_each k [] (p ∷ proposals) found text many are pass = absurd (omega arith)
   of_each k (b ∷ blocks) [] found text many are pass = absurd (omega arith)
   of_each k (b ∷ blocks) (p ∷ proposals) [] text many are pass = absurd are
   of_each k (b ∷ blocks) (p ∷ proposals) (c ∷ found) text many are pass = (
-    holds b are.2.ours p c are.2.text are.2.right (first_passes (passes lawful c) (list_all (passes lawful) found) pass),
+    holds b are.2.ours p c are.2.text are.2.right (first_passes (passes options.lawful c) (list_all (passes options.lawful) found) pass),
     of_each (k + 1) blocks proposals found are.1 (omega arith) are.3
-        (rest_passes (passes lawful c) (list_all (passes lawful) found) pass),
+        (rest_passes (passes options.lawful c) (list_all (passes options.lawful) found) pass),
   )
 
   of_passed : (blocks : List Block) (proposals : List Proposed) (text : List ℕ)
-      → ListsChecked lawful csv outputs lat memory blocks proposals Passed text → AllZip P blocks proposals
+      → ListsChecked options lat memory blocks proposals Passed text → AllZip P blocks proposals
   of_passed blocks proposals text lists =
       of_each 1 blocks proposals lists.found lists.entries lists.as_many lists.listed
-      (all_pass (list_all (passes lawful) lists.found) lists.judged)
+      (all_pass (list_all (passes options.lawful) lists.found) lists.judged)
 
 -- rows of which one can't be read never pass
 unread_fails : (lawful csv : Bool) (lat : Latencies) (block : List Op) (s : Table) (p : Proposed) (c : Checked)
@@ -120,28 +121,28 @@ unread_fails : (lawful csv : Bool) (lat : Latencies) (block : List Op) (s : Tabl
 unread_fails lawful csv lat block s p c entry said pass =
     let fails : passes lawful c ≡ false = ap (passes lawful) said.is_found in cc
 
-said_keeps : (u : Option Unread) (lawful csv outputs : Bool) (lat : Latencies) (memory : List ℤ) (block : List Op) (s : Table)
-    (p : Proposed) (c : Checked) (entry : List ℕ) → IsSaid u lawful csv outputs lat memory block s p c entry → passes lawful c ≡ true
-    → DoTheSame outputs lat block p.ops p.rows
-said_keeps None lawful csv outputs lat memory block s p c entry said pass =
-    same_rows_do_the_same lawful csv outputs lat memory block s p c entry said (passed_is_same lawful c pass)
-said_keeps (Some unread) lawful csv outputs lat memory block s p c entry said pass =
-    absurd (unread_fails lawful csv lat block s p c entry said pass)
+said_keeps : (u : Option Unread) (options : CheckOptions) (lat : Latencies) (memory : List ℤ) (block : List Op) (s : Table)
+    (p : Proposed) (c : Checked) (entry : List ℕ) → IsSaid u options lat memory block s p c entry → passes options.lawful c ≡ true
+    → DoTheSame options.outputs_alone lat block p.ops p.rows
+said_keeps None options lat memory block s p c entry said pass =
+    same_rows_do_the_same options lat memory block s p c entry said (passed_is_same options.lawful c pass)
+said_keeps (Some unread) options lat memory block s p c entry said pass =
+    absurd (unread_fails options.lawful options.csv lat block s p c entry said pass)
 
-said_may : (u : Option Unread) (lawful csv outputs : Bool) (lat : Latencies) (memory : List ℤ) (block : List Op) (s : Table)
-    (p : Proposed) (c : Checked) (entry : List ℕ) → IsSaid u lawful csv outputs lat memory block s p c entry → passes lawful c ≡ true
-    → MayPass lawful outputs lat memory block p.ops p.rows
-said_may None lawful csv outputs lat memory block s p c entry said pass =
-    passed_rows_may_pass lawful csv outputs lat memory block s p c entry said pass
-said_may (Some unread) lawful csv outputs lat memory block s p c entry said pass =
-    absurd (unread_fails lawful csv lat block s p c entry said pass)
+said_may : (u : Option Unread) (options : CheckOptions) (lat : Latencies) (memory : List ℤ) (block : List Op) (s : Table)
+    (p : Proposed) (c : Checked) (entry : List ℕ) → IsSaid u options lat memory block s p c entry → passes options.lawful c ≡ true
+    → MayPass options lat memory block p.ops p.rows
+said_may None options lat memory block s p c entry said pass =
+    passed_rows_may_pass options lat memory block s p c entry said pass
+said_may (Some unread) options lat memory block s p c entry said pass =
+    absurd (unread_fails options.lawful options.csv lat block s p c entry said pass)
 
 pub passed_keep_outcomes : PassedChecksKeepOutcomes
-passed_keep_outcomes lawful csv outputs lat memory = of_passed lawful csv outputs lat memory
-    (λ b p. DoTheSame outputs lat b.ops p.ops p.rows)
-    (λ b s p c text right pass. said_keeps p.unread lawful csv outputs lat memory b.ops s p c text right pass)
+passed_keep_outcomes options lat memory = of_passed options lat memory
+    (λ b p. DoTheSame options.outputs_alone lat b.ops p.ops p.rows)
+    (λ b s p c text right pass. said_keeps p.unread options lat memory b.ops s p c text right pass)
 
 pub passed_may_pass : PassedChecksMayPass
-passed_may_pass lawful csv outputs lat memory = of_passed lawful csv outputs lat memory
-    (λ b p. MayPass lawful outputs lat memory b.ops p.ops p.rows)
-    (λ b s p c text right pass. said_may p.unread lawful csv outputs lat memory b.ops s p c text right pass)
+passed_may_pass options lat memory = of_passed options lat memory
+    (λ b p. MayPass options lat memory b.ops p.ops p.rows)
+    (λ b s p c text right pass. said_may p.unread options lat memory b.ops s p c text right pass)

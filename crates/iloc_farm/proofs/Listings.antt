@@ -9,10 +9,11 @@ use Rattle.iloc_rows.specs.declared.proposal.Proposed.{Proposed}
 use Rattle.iloc_rows.specs.EitherSlot.{placed}
 use Rattle.iloc_optimum.specs.Bound.{IsBound}
 use Rattle.iloc_sched.specs.declared.ranking.heuristic.Heuristic.{Heuristic}
+use Rattle.iloc_judge.specs.declared.task.CheckOptions.{CheckOptions}
 use Rattle.iloc_args.specs.declared.request.Request.{Request}
 use Rattle.iloc_args.specs.declared.request.Task.{Task}
 use Rattle.iloc_args.specs.declared.request.Task.TheVariants as task
-use Rattle.iloc_farm.specs.Commands.Check.{Checks, ListsChecked}
+use Rattle.iloc_farm.specs.Commands.Check.{Checks, ListsChecked, options_of}
 use Rattle.iloc_farm.specs.Commands.ExplainRows.{Explains, ExplainsRows}
 use Rattle.iloc_farm.specs.Commands.Run.{initial_memory}
 use Rattle.iloc_farm.specs.Commands.TraceRows.{Traces, TracesRows}
@@ -48,20 +49,20 @@ checks_alike : (r q : Request) → AskAlike r q → (blocks : List Block) (propo
     (text : List ℕ) → Checks r blocks proposals finding text → Checks q blocks proposals finding text
 checks_alike r q alike blocks proposals finding text checks =
     let theirs : List Proposed = placed r.either_slot proposals in
+    let options : options_of r ≡ options_of q = λ i. record {
+      lawful = alike.lawful i;
+      operations = alike.operations i;
+      outputs_alone = alike.outputs i;
+      csv = alike.csv i;
+    } in
     let P : Latencies → Type 0 = λ lat.
-    ListsChecked r.lawful r.csv r.outputs lat (initial_memory r) blocks theirs finding text in
-    let Q : List ℤ → Type 0 = λ memory.
-    ListsChecked r.lawful r.csv r.outputs q.latencies memory blocks theirs finding text in
-    let R : Bool → Type 0 = λ lawful.
-    ListsChecked lawful r.csv r.outputs q.latencies (initial_memory q) blocks theirs finding text in
-    let S : Bool → Type 0 = λ csv.
-    ListsChecked q.lawful csv r.outputs q.latencies (initial_memory q) blocks theirs finding text in
-    let U : Bool → Type 0 = λ outputs.
-    ListsChecked q.lawful q.csv outputs q.latencies (initial_memory q) blocks theirs finding text in
+    ListsChecked (options_of r) lat (initial_memory r) blocks theirs finding text in
+    let Q : List ℤ → Type 0 = λ memory. ListsChecked (options_of r) q.latencies memory blocks theirs finding text in
+    let R : CheckOptions → Type 0 = λ options.
+    ListsChecked options q.latencies (initial_memory q) blocks theirs finding text in
     let T : Bool → Type 0 = λ either_slot.
-    ListsChecked q.lawful q.csv q.outputs q.latencies (initial_memory q) blocks (placed either_slot proposals) finding text in
-    subst T alike.either_slot (subst U alike.outputs (subst S alike.csv
-    (subst R alike.lawful (subst Q (one_memory r q alike) (subst P alike.latencies checks)))))
+    ListsChecked (options_of q) q.latencies (initial_memory q) blocks (placed either_slot proposals) finding text in
+    subst T alike.either_slot (subst R options (subst Q (one_memory r q alike) (subst P alike.latencies checks)))
 
 -- so is an explanation of rows
 explains_alike : (r q : Request) → AskAlike r q → (blocks : List Block) (proposals : List Proposed) (finding : Finding)

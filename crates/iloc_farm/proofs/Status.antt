@@ -32,9 +32,9 @@ use Rattle.iloc_farm.specs.Apart.{Held}
 use Rattle.iloc_farm.specs.Fault.{rows_status, task_status, text_status}
 use Rattle.iloc_farm.specs.Fault.{status_of_finding}
 use Rattle.iloc_farm.specs.Commands.Run.{initial_memory}
-use Rattle.iloc_farm.specs.Laws.{ReadsRows, ReadsTheSame, Status0MeansTheSame}
+use Rattle.iloc_farm.specs.Laws.{options_in, ReadsRows, ReadsTheSame, Status0MeansTheSame}
 use Rattle.iloc_farm.specs.Program.{Args, AskFor, IsListed, IsStopped, MakeNone, status_of}
-use Rattle.iloc_farm.specs.Commands.Check.{Checks}
+use Rattle.iloc_farm.specs.Commands.Check.{Checks, options_of}
 use Rattle.iloc_farm.specs.Run.{ListsAs}
 use Rattle.iloc_farm.proofs.Checks.{passed_keep_outcomes, passed_may_pass}
 
@@ -140,7 +140,7 @@ listed_same held words read_old read_new finding text a listed passed asks check
     (placed x.either_slot judged.proposals) in
     let R : Option (List ℕ) → Type 0 = λ file. ReadsRows held file read_old read_new judged.blocks judged.proposals in
     let S : Asked → Type 0 = λ x. AllZip (λ (b : Block) (p : Proposed).
-    MayPass x.lawful x.outputs request.latencies (words_from x.at x.words) b.ops p.ops p.rows) judged.blocks
+    MayPass (options_in x) request.latencies (words_from x.at x.words) b.ops p.ops p.rows) judged.blocks
     (placed x.either_slot judged.proposals) in
     record {
       blocks = judged.blocks;
@@ -151,9 +151,9 @@ listed_same held words read_old read_new finding text a listed passed asks check
       store = ap (λ (x : Asked). x.store) same;
       mult = ap (λ (x : Asked). x.mult) same;
       same = subst T same
-          (passed_keep_outcomes request.lawful request.csv request.outputs request.latencies (initial_memory request)
+          (passed_keep_outcomes (options_of request) request.latencies (initial_memory request)
           judged.blocks (placed request.either_slot judged.proposals) text (subst Q passed judged.checked));
-      told = subst S same (passed_may_pass request.lawful request.csv request.outputs request.latencies
+      told = subst S same (passed_may_pass (options_of request) request.latencies
           (initial_memory request) judged.blocks (placed request.either_slot judged.proposals) text (subst Q passed judged.checked));
     }
 

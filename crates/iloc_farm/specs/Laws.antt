@@ -12,6 +12,7 @@ use Rattle.iloc_sched.specs.declared.ranking.heuristic.Heuristic.{Heuristic}
 use Rattle.iloc_optimum.specs.Bound.{IsOptimal}
 use Rattle.iloc_rows.specs.declared.proposal.Proposed.{Proposed}
 use Rattle.iloc_judge.specs.Checked.{DoTheSame, MayPass}
+use Rattle.iloc_judge.specs.declared.task.CheckOptions.{CheckOptions}
 use Rattle.iloc_rows.specs.EitherSlot.{placed}
 use Rattle.iloc_rows.specs.Submissions as submissions
 use Rattle.iloc_args.specs.Asked.{Asked}
@@ -40,6 +41,7 @@ pub record AskAlike (r q : Request) : Type 0 where
   pub csv : r.csv ≡ q.csv
   pub either_slot : r.either_slot ≡ q.either_slot
   pub lawful : r.lawful ≡ q.lawful
+  pub operations : r.operations ≡ q.operations
   pub outputs : r.outputs ≡ q.outputs
 
 -- What such requests list of one file is one text, but where schedules are searched for: which of them is found is not settled.
@@ -75,15 +77,15 @@ ChecksIgnoreWorkers = (r q : Request) → AskAlike r q → IsTrue (takes_rows r.
 -- where a check passed, the rows that are proposed for each block keep the rules of the units and have its outcome on
 -- every memory or, where outputs alone are compared, show what it shows
 abbrev pub PassedChecksKeepOutcomes : Type 0
-PassedChecksKeepOutcomes = (lawful csv outputs : Bool) (lat : Latencies) (memory : List ℤ) (blocks : List Block)
-    (proposals : List Proposed) (text : List ℕ) → ListsChecked lawful csv outputs lat memory blocks proposals Passed text
-    → AllZip (λ (b : Block) (p : Proposed). DoTheSame outputs lat b.ops p.ops p.rows) blocks proposals
+PassedChecksKeepOutcomes = (options : CheckOptions) (lat : Latencies) (memory : List ℤ) (blocks : List Block)
+    (proposals : List Proposed) (text : List ℕ) → ListsChecked options lat memory blocks proposals Passed text
+    → AllZip (λ (b : Block) (p : Proposed). DoTheSame options.outputs_alone lat b.ops p.ops p.rows) blocks proposals
 
 -- and they pass only if they may
 abbrev pub PassedChecksMayPass : Type 0
-PassedChecksMayPass = (lawful csv outputs : Bool) (lat : Latencies) (memory : List ℤ) (blocks : List Block)
-    (proposals : List Proposed) (text : List ℕ) → ListsChecked lawful csv outputs lat memory blocks proposals Passed text
-    → AllZip (λ (b : Block) (p : Proposed). MayPass lawful outputs lat memory b.ops p.ops p.rows) blocks proposals
+PassedChecksMayPass = (options : CheckOptions) (lat : Latencies) (memory : List ℤ) (blocks : List Block)
+    (proposals : List Proposed) (text : List ℕ) → ListsChecked options lat memory blocks proposals Passed text
+    → AllZip (λ (b : Block) (p : Proposed). MayPass options lat memory b.ops p.ops p.rows) blocks proposals
 
 -- one input was read, which denotes blocks and the rows that are proposed for them
 pub record ReadsSubmission (old new : Option (List ℕ)) (blocks : List Block) (proposals : List Proposed) : Type 0 where
@@ -96,10 +98,20 @@ abbrev pub ReadsRows : Held → Option (List ℕ) → Option (List ℕ) → Opti
 ReadsRows held None old new blocks proposals = ReadsSubmission old new blocks proposals
 ReadsRows held (Some name) old new blocks proposals = ReadsApart (held name) old new blocks proposals
 
+-- what is asked of rows
+abbrev pub options_in : Asked → CheckOptions
+options_in asked = record {
+  lawful = asked.lawful;
+  operations = asked.operations;
+  outputs_alone = asked.outputs;
+  csv = asked.csv;
+}
+
 -- Blocks were read, and rows that are proposed for them. With the latencies that are asked for, and in either slot if that is
 -- asked for, the rows for each block keep the rules of the units and have its outcome on every memory or, where it is asked to
 -- compare outputs alone, show what it shows. They are by the book; or, where that isn't asked for, the block finishes on the
--- memory that is, and has a store or an output, or an output where outputs alone are compared.
+-- memory that is, and has a store or an output, or an output where outputs alone are compared. Where it is asked for, they have
+-- the block's operations.
 pub record ReadsTheSame (held : Held) (asked : Asked) (old new : Option (List ℕ)) : Type 0 where
   pub blocks : List Block
   pub proposals : List Proposed
@@ -111,7 +123,7 @@ pub record ReadsTheSame (held : Held) (asked : Asked) (old new : Option (List �
   pub same : AllZip (λ (b : Block) (p : Proposed). DoTheSame asked.outputs latencies b.ops p.ops p.rows) blocks
       (placed asked.either_slot proposals)
   pub told : AllZip (λ (b : Block) (p : Proposed).
-      MayPass asked.lawful asked.outputs latencies (words_from asked.at asked.words) b.ops p.ops p.rows) blocks
+      MayPass (options_in asked) latencies (words_from asked.at asked.words) b.ops p.ops p.rows) blocks
       (placed asked.either_slot proposals)
 
 -- so it is where the program ends with status 0 and its words ask for a check

@@ -4,5 +4,6 @@ pub mod Places
 pub mod SameLists
 pub mod OwnRows
 pub mod Agreed
+pub mod Kept
 pub mod Sameness
 pub mod Counted

@@ -1,5 +1,5 @@
 -- Rows that are found to be the same do what the block does, and rows pass only if they may.
-use Rattle.std.proofs.Common.{◌≡◌, ◌⊎◌, Bool, true, false, List, ℕ, refl, sym, ap, ◌∙◌, inl, inr}
+use Rattle.std.proofs.Common.{◌≡◌, ◌⊎◌, ◌&&◌, Bool, true, false, List, ℕ, refl, sym, ap, ◌∙◌, inl, inr}
 use Rattle.std.specs.Prelude.{ℤ}
 use Rattle.std.proofs.lemmas.Bool.{true≢false}
 use Rattle.iloc_ops.specs.declared.op.Op.{Op}
@@ -23,7 +23,10 @@ use Rattle.iloc_judge.specs.declared.verdict.kind.VerdictKind.TheVariants as kin
 use Rattle.iloc_judge.specs.Void.{CanBeJudged}
 use Rattle.iloc_judge.specs.Verdict.{IsVerdict}
 use Rattle.iloc_judge.specs.declared.checked.Checked.{Checked}
-use Rattle.iloc_judge.specs.Checked.{compared_kind, is_passing, kind_of, passes, DoTheSame, IsCheck, MayPass}
+use Rattle.iloc_judge.specs.Checked.{compared_kind, is_passing, kind_of, passes, DoEnough, DoTheSame, IsCheck, MayPass}
+use Rattle.iloc_judge.specs.declared.task.CheckOptions.{CheckOptions}
+use Rattle.iloc_judge.specs.Kept.{keeps_operations, AreItsOperations}
+use Rattle.iloc_judge.proofs.Kept.{first_holds, kept, second_holds}
 use Rattle.iloc_judge.specs.Laws.{PassedRowsMayPass, SameRowsDoTheSame}
 
 -- equal outcomes are alike, whatever is compared
@@ -84,7 +87,7 @@ does_the_same outputs lat memory block ops rows lawful (inl book) = book_does_th
 does_the_same outputs lat memory block ops rows lawful (inr same) = same.0
 
 may_pass : (outputs : Bool) (lat : Latencies) (memory : List ℤ) (block ops : List Op) (rows : List Row) (lawful : Bool)
-    → PassesAs lawful outputs lat memory block ops rows → MayPass lawful outputs lat memory block ops rows
+    → PassesAs lawful outputs lat memory block ops rows → DoEnough lawful outputs lat memory block ops rows
 may_pass outputs lat memory block ops rows true (inl book) = book
 may_pass outputs lat memory block ops rows true (inr same) = absurd (true≢false same.2)
 may_pass outputs lat memory block ops rows false (inl book) = inl book
@@ -96,22 +99,45 @@ passing_too true kind.Lawful pass = refl
 passing_too true _ pass = absurd cc
 passing_too false word pass = pass
 
-pub passed_is_same : (lawful : Bool) (checked : Checked) → passes lawful checked ≡ true → passes false checked ≡ true
-passed_is_same lawful checked pass = passing_too lawful checked.kind pass
+both_hold : (a b : Bool) → a ≡ true → b ≡ true → (a && b) ≡ true
+both_hold true b first second = second
+both_hold false b first second = absurd (true≢false (sym first))
 
-module _ (lawful csv outputs : Bool) (lat : Latencies) (memory : List ℤ) (block : List Op) (ours : Table) (proposal : Proposed)
-    (checked : Checked) (entry : List ℕ) (check : IsCheck lawful csv outputs lat memory block ours proposal checked entry) where
+pub passed_is_same : (lawful : Bool) (checked : Checked) → passes lawful checked ≡ true → passes false checked ≡ true
+passed_is_same lawful checked pass =
+    both_hold checked.keeps_operations (is_passing false checked.kind)
+    (first_holds checked.keeps_operations (is_passing lawful checked.kind) pass)
+    (passing_too lawful checked.kind (second_holds checked.keeps_operations (is_passing lawful checked.kind) pass))
+
+module _ (options : CheckOptions) (lat : Latencies) (memory : List ℤ) (block : List Op) (ours : Table) (proposal : Proposed)
+    (checked : Checked) (entry : List ℕ) (check : IsCheck options lat memory block ours proposal checked entry) where
+  abbrev keeps : Bool
+  keeps = keeps_operations options.operations block proposal.ops
+
+  abbrev word : VerdictKind
+  word = kind_of options.lawful check.verdict
+
+  passing : (asked : Bool) → passes asked checked ≡ true → (keeps && is_passing asked word) ≡ true
+  passing asked pass = sym (ap (passes asked) check.is_found) ∙ pass
+
   passed_as : (asked : Bool) → passes asked checked ≡ true
-      → PassesAs asked outputs lat memory block proposal.ops proposal.rows
-  passed_as asked pass = passes_as asked lawful outputs lat memory block proposal.ops proposal.rows check.verdict check.right
-      (sym (ap (passes asked) check.is_found) ∙ pass)
+      → PassesAs asked options.outputs_alone lat memory block proposal.ops proposal.rows
+  passed_as asked pass =
+      passes_as asked options.lawful options.outputs_alone lat memory block proposal.ops proposal.rows check.verdict check.right
+      (second_holds keeps (is_passing asked word) (passing asked pass))
+
+  passed_kept : (asked : Bool) → passes asked checked ≡ true → options.operations ≡ true → AreItsOperations block proposal.ops
+  passed_kept asked pass is =
+      kept options.operations block proposal.ops (first_holds keeps (is_passing asked word) (passing asked pass)) is
 
 pub same_rows_do_the_same : SameRowsDoTheSame
-same_rows_do_the_same lawful csv outputs lat memory block ours proposal checked entry check pass =
-    does_the_same outputs lat memory block proposal.ops proposal.rows false
-    (passed_as lawful csv outputs lat memory block ours proposal checked entry check false pass)
+same_rows_do_the_same options lat memory block ours proposal checked entry check pass =
+    does_the_same options.outputs_alone lat memory block proposal.ops proposal.rows false
+    (passed_as options lat memory block ours proposal checked entry check false pass)
 
 pub passed_rows_may_pass : PassedRowsMayPass
-passed_rows_may_pass lawful csv outputs lat memory block ours proposal checked entry check pass =
-    may_pass outputs lat memory block proposal.ops proposal.rows lawful
-    (passed_as lawful csv outputs lat memory block ours proposal checked entry check lawful pass)
+passed_rows_may_pass options lat memory block ours proposal checked entry check pass = record {
+  enough = may_pass options.outputs_alone lat memory block proposal.ops proposal.rows options.lawful
+      (passed_as options lat memory block ours proposal checked entry check options.lawful pass);
+  kept = passed_kept options lat memory block ours proposal checked entry check options.lawful pass;
+}

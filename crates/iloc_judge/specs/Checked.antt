@@ -1,5 +1,5 @@
 -- What is found of the rows that are proposed for a block.
-use Rattle.std.specs.Prelude.{ℕ, ℤ, ◌≡◌, ◌⊎◌, not, Bool, true, false, List}
+use Rattle.std.specs.Prelude.{ℕ, ℤ, ◌≡◌, ◌⊎◌, ◌&&◌, not, Bool, true, false, List}
 use Rattle.iloc_ops.specs.declared.op.Op.{Op}
 use Rattle.iloc_timed.specs.declared.latencies.Latencies.{Latencies}
 use Rattle.iloc_timed.specs.declared.row.Row.{Row}
@@ -16,6 +16,8 @@ use Rattle.iloc_judge.specs.declared.verdict.Verdict.TheVariants.{Units, Lawful,
 use Rattle.iloc_judge.specs.declared.verdict.kind.VerdictKind.{VerdictKind}
 use Rattle.iloc_judge.specs.declared.verdict.kind.VerdictKind.TheVariants as kind
 use Rattle.iloc_judge.specs.Comparison.{AgreesOnAll}
+use Rattle.iloc_judge.specs.Kept.{keeps_operations, AreItsOperations}
+use Rattle.iloc_judge.specs.declared.task.CheckOptions.{CheckOptions}
 use Rattle.iloc_judge.specs.Verdict.{IsVerdict}
 use Rattle.iloc_judge.specs.Void.{CanBeJudged}
 use Rattle.iloc_judge.specs.declared.checked.Checked.{Checked}
@@ -37,24 +39,25 @@ kind_of lawful (Unlawful reasons found) = compared_kind found
 kind_of true (Undecided found) = kind.Undecided
 kind_of false (Undecided found) = compared_kind found
 
--- what goes with a word: the cycles of what is proposed, those of our schedule, and the least
-abbrev pub found : VerdictKind → Latencies → List Op → Table → Proposed → Checked
-found word lat block ours proposal = record {
+-- what goes with a word: whether the block's operations are kept, the cycles of what is proposed, those of our schedule, and the least
+abbrev pub found : VerdictKind → Bool → Latencies → List Op → Table → Proposed → Checked
+found word keeps lat block ours proposal = record {
   kind = word;
+  keeps_operations = keeps;
   cycles = cycles lat proposal.ops proposal.rows;
   ours = cycles lat ours.ops ours.rows;
   least = least lat block;
 }
 
--- Of what is proposed for a block this is found, and this entry listed, in a table or not, by a verdict that is right, of
--- outcomes or of outputs alone. What our schedule issues is lawful.
-pub record IsCheck (lawful csv outputs : Bool) (lat : Latencies) (memory : List ℤ) (block : List Op) (ours : Table)
+-- Of what is proposed for a block this is found, and this entry listed, as is asked for, by a verdict that is right. What our schedule issues is lawful.
+pub record IsCheck (options : CheckOptions) (lat : Latencies) (memory : List ℤ) (block : List Op) (ours : Table)
     (proposal : Proposed) (checked : Checked) (entry : List ℕ) : Type 0 where
   pub verdict : Verdict
-  pub right : IsVerdict outputs lat block proposal.ops proposal.rows memory verdict
+  pub right : IsVerdict options.outputs_alone lat block proposal.ops proposal.rows memory verdict
   pub own : IssueTheSame ours.ops ours.rows proposal.ops proposal.rows → verdict ≡ Lawful
-  pub is_found : checked ≡ found (kind_of lawful verdict) lat block ours proposal
-  pub listed : entry ≡ entry_as lawful csv proposal.claimed proposal.ops proposal.rows verdict checked
+  pub is_found : checked
+      ≡ found (kind_of options.lawful verdict) (keeps_operations options.operations block proposal.ops) lat block ours proposal
+  pub listed : entry ≡ entry_as options.lawful options.csv proposal.claimed proposal.ops proposal.rows verdict checked
 
 -- the operations in these rows keep the rules of the units, and on every memory of 16,384 words of 32 bits they have the
 -- block's outcome or, where outputs alone are compared, show what the block shows
@@ -72,11 +75,17 @@ is_passing lawful kind.Prints = not lawful
 is_passing lawful word = false
 
 abbrev pub passes : Bool → Checked → Bool
-passes lawful checked = is_passing lawful checked.kind
+passes lawful checked = checked.keeps_operations && is_passing lawful checked.kind
 
--- What holds of rows that pass: they are by the book; or, where they needn't be, they do the same as the block on every
+-- What rows that pass do: they are by the book; or, where they needn't be, they do the same as the block on every
 -- memory, and on the one handed in that says something.
-abbrev pub MayPass : (lawful outputs : Bool) → Latencies → List ℤ → List Op → List Op → List Row → Type 0
-MayPass true outputs lat memory block ops rows = IsByTheBook lat block ops rows
-MayPass false outputs lat memory block ops rows =
+abbrev pub DoEnough : (lawful outputs : Bool) → Latencies → List ℤ → List Op → List Op → List Row → Type 0
+DoEnough true outputs lat memory block ops rows = IsByTheBook lat block ops rows
+DoEnough false outputs lat memory block ops rows =
     IsByTheBook lat block ops rows ⊎ (DoTheSame outputs lat block ops rows × CanBeJudged outputs block memory)
+
+-- what holds of rows that pass: they do enough, and with the block's own operations where that is asked for
+pub record MayPass (options : CheckOptions) (lat : Latencies) (memory : List ℤ) (block ops : List Op) (rows : List Row) : Type 0
+  where
+    pub enough : DoEnough options.lawful options.outputs_alone lat memory block ops rows
+    pub kept : options.operations ≡ true → AreItsOperations block ops

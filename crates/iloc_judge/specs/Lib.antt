@@ -5,6 +5,7 @@ pub mod Laws
 pub mod Listing
 pub mod Memory
 pub mod Difference
+pub mod Kept
 pub mod Reasons
 pub mod RowsExplained
 pub mod Verdict

@@ -31,6 +31,6 @@ pub record IsUnread (csv : Bool) (lat : Latencies) (block : List Op) (ours : Tab
     (checked : Checked) (entry : List ℕ) : Type 0 where
   pub unread : Unread
   pub first : proposal.unread ≡ Some unread
-  pub is_found : checked ≡ found kind.Unread lat block ours proposal
+  pub is_found : checked ≡ found kind.Unread false lat block ours proposal
   pub words : List ℕ
   pub listed : entry ≡ unread_as csv checked proposal.claimed unread.row words

@@ -2,10 +2,12 @@
 ghost use Rattle.std.specs.Prelude.{ℕ, ◌≡◌, ◌++◌, List, IfOk, OnOk};
 ghost use Rattle.iloc_timed.specs.Schedule.{IsFirstBadRow};
 ghost use Rattle.iloc_judge.specs.Checked.{compared_kind, kind_of, passes, IsCheck};
+ghost use Rattle.iloc_judge.specs.Kept.{keeps_operations as kept};
 ghost use Rattle.iloc_judge.specs.Listing.{entry_as};
 ghost use Rattle.iloc_judge.specs.Steps.Counted.{CanBeListed};
 
 pub mod detail;
+mod kept;
 pub mod reason;
 pub(crate) mod verdict_line;
 
@@ -17,6 +19,7 @@ use detail::push_detail;
 use iloc_ops::{NoMemory, Op};
 use iloc_rows::Proposal;
 use iloc_timed::{Row, cycles, cycles_of};
+use kept::keeps_operations;
 use std::alloc::Global;
 use verdict_line::{push_line, push_table_row};
 
@@ -25,6 +28,8 @@ use verdict_line::{push_line, push_table_row};
 pub struct Checked {
     /// The verdict on them.
     pub kind: VerdictKind,
+    /// Whether they have the block's operations, up to registers, or needn't. Rows that can't be read don't.
+    pub keeps_operations: bool,
     /// How many cycles they take.
     pub cycles: u64,
     /// How many cycles our schedule takes.
@@ -38,11 +43,12 @@ impl Checked {
     pub fn passes(&self, lawful: bool) -> bool
         ensures { result ≡ passes lawful self.now }
     {
-        match self.kind {
-            VerdictKind::Lawful => true,
-            VerdictKind::Same | VerdictKind::Prints => !lawful,
-            _ => false,
-        }
+        self.keeps_operations
+            && match self.kind {
+                VerdictKind::Lawful => true,
+                VerdictKind::Same | VerdictKind::Prints => !lawful,
+                _ => false,
+            }
     }
 }
 
@@ -86,13 +92,13 @@ fn push_entry(
 ) -> Result<(), NoMemory>
     requires { CanBeListed rows.now verdict.now }
     ensures { OnOk result (text.new.items ≡ text.old.items
-        ++ entry_as judging.now.lawful judging.now.csv claimed ops.now rows.now verdict.now checked) }
+        ++ entry_as judging.now.options.lawful judging.now.options.csv claimed ops.now rows.now verdict.now checked) }
 {
-    if judging.csv {
+    if judging.options.csv {
         return push_table_row(text, checked, claimed);
     }
     push_line(text, checked, claimed)?;
-    push_detail(text, judging.lawful, ops, rows, verdict)
+    push_detail(text, judging.options.lawful, ops, rows, verdict)
 }
 
 /// Appends what is listed of a proposal of which this row is the first that breaks the rules of the units.
@@ -101,17 +107,20 @@ fn push_units(
     judging: &Judging<'_>,
     task: &Task<'_>,
     proposal: &Proposal,
+    keeps_operations: bool,
     row: usize,
 ) -> Result<Checked, NoMemory>
-    requires { IsFirstBadRow proposal.now.ops proposal.now.rows row }
+    requires bad { IsFirstBadRow proposal.now.ops proposal.now.rows row }
+    requires keeps { keeps_operations ≡ kept judging.now.options.operations task.now.block.now.ops proposal.now.ops }
     ensures { IfOk result (λ checked. (entry : List ℕ)
-        × IsCheck judging.now.lawful judging.now.csv judging.now.outputs_alone task.now.latencies.now judging.now.memory.now
+        × IsCheck judging.now.options task.now.latencies.now judging.now.memory.now
         task.now.block.now.ops task.now.ours.now proposal.now checked entry
         × (text.new.items ≡ text.old.items ++ entry)) }
 {
     let (ops, rows) = (proposal.ops(), proposal.rows());
     let checked = Checked {
         kind: VerdictKind::Units,
+        keeps_operations,
         cycles: cycles_of(ops, rows, task.latencies),
         ours: cycles(task.ours, task.latencies),
         least: task.graph.least()?,
@@ -145,19 +154,22 @@ pub fn push_check(
     proposal: Proposal,
 ) -> Result<Checked, NoMemory>
     ensures { IfOk result (λ checked. (entry : List ℕ)
-        × IsCheck judging.now.lawful judging.now.csv judging.now.outputs_alone task.now.latencies.now judging.now.memory.now
+        × IsCheck judging.now.options task.now.latencies.now judging.now.memory.now
         task.now.block.now.ops task.now.ours.now proposal checked entry
         × (text.new.items ≡ text.old.items ++ entry)) }
 {
+    let options = judging.options;
+    let keeps_operations = keeps_operations(alloc, options.operations, task.block, proposal.ops())?;
     if let Some(row) = proposal.bad_row() {
-        return push_units(text, judging, task, &proposal, row);
+        return push_units(text, judging, task, &proposal, keeps_operations, row);
     }
     let claimed = proposal.claimed();
     let theirs = proposal.into_schedule();
     let (ops, rows) = (theirs.ops(), theirs.rows());
     let verdict = judge(alloc, judging, task, &theirs)?;
     let checked = Checked {
-        kind: kind_of(judging.lawful, &verdict),
+        kind: kind_of(options.lawful, &verdict),
+        keeps_operations,
         cycles: cycles(&theirs, task.latencies),
         ours: cycles(task.ours, task.latencies),
         least: task.graph.least()?,

@@ -41,10 +41,11 @@ pub(crate) fn compared(
     task: &Task<'_>,
     theirs: &Schedule,
 ) -> Result<Comparison, NoMemory>
-    ensures { IfOk result (IsComparison judging.now.outputs_alone task.now.latencies.now task.now.block.now.ops
+    ensures { IfOk result (IsComparison judging.now.options.outputs_alone task.now.latencies.now task.now.block.now.ops
         theirs.now.ops theirs.now.rows judging.now.memory.now) }
 {
-    let (outputs_alone, memory, blocks) = (judging.outputs_alone, judging.memory, judging.blocks);
+    let (memory, blocks) = (judging.memory, judging.blocks);
+    let outputs_alone = judging.options.outputs_alone;
     let (block, ours, latencies) = (task.block, task.ours, task.latencies);
     if let Some(why) = why_void(alloc, outputs_alone, block, memory)? {
         return Ok(Comparison::Void(why));

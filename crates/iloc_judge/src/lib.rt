@@ -23,7 +23,7 @@ pub use comparison::Comparison;
 pub use difference::Difference;
 pub use explained::{ExplainedRows, push_rows_explanation};
 pub use refutation::probe::Probe;
-pub use task::{Judging, Task};
+pub use task::{CheckOptions, Judging, Task};
 pub use unread::{push_unread, push_unread_row};
 pub use verdict::kind::VerdictKind;
 pub use verdict::{Verdict, judge};

@@ -25,15 +25,24 @@ pub struct Task<'a> {
     pub ghost drawn: { graph.now ≡ of_block latencies.now block.now.ops },
 }
 
+/// What is asked of what is proposed for blocks, and how it is listed.
+#[derive(Clone, Copy, Debug, PartialEq, Eq)]
+pub struct CheckOptions {
+    /// Whether nothing but rows by the book passes.
+    pub lawful: bool,
+    /// Whether nothing passes that leaves operations of its block out or adds some, up to registers.
+    pub operations: bool,
+    /// Whether rows are compared with their block by outputs and faults alone, and not by outcomes.
+    pub outputs_alone: bool,
+    /// Whether a table is listed.
+    pub csv: bool,
+}
+
 /// How what is proposed for blocks is judged, and listed.
 #[derive(Drop)]
 pub struct Judging<'a> {
-    /// Whether nothing but rows by the book passes.
-    pub lawful: bool,
-    /// Whether a table is listed.
-    pub csv: bool,
-    /// Whether rows are compared with their block by outputs and faults alone, and not by outcomes.
-    pub outputs_alone: bool,
+    /// What is asked of it.
+    pub options: CheckOptions,
     /// The memory that is handed in.
     pub memory: &'a Memory,
     /// How many blocks are judged. The more there are, the fewer memories are made up for each.

@@ -68,6 +68,7 @@ pub fn push_unread(
     let (ops, rows, claimed) = (proposal.ops(), proposal.rows(), proposal.claimed());
     let checked = Checked {
         kind: VerdictKind::Unread,
+        keeps_operations: false,
         cycles: cycles_of(ops, rows, task.latencies),
         ours: cycles(task.ours, task.latencies),
         least: task.graph.least()?,

@@ -38,7 +38,7 @@ pub fn judge(
 ) -> Result<Verdict, NoMemory>
     requires few { length theirs.now.rows ≤ MAX_ROWS }
     requires table { IsTable theirs.now.ops theirs.now.rows }
-    ensures right { IfOk result (IsVerdict judging.now.outputs_alone task.now.latencies.now task.now.block.now.ops
+    ensures right { IfOk result (IsVerdict judging.now.options.outputs_alone task.now.latencies.now task.now.block.now.ops
         theirs.now.ops theirs.now.rows judging.now.memory.now) }
     ensures own { IfOk result (λ verdict.
         IssueTheSame task.now.ours.now.ops task.now.ours.now.rows theirs.now.ops theirs.now.rows

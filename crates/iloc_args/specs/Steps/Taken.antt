@@ -40,5 +40,6 @@ pub record HoldValues (rows : List Row) : Type 0 where
   pub nodes : HoldsIn 0 100000 (codes "nodes") rows
   pub csv : HoldsFlag (codes "csv") rows
   pub lawful : HoldsFlag (codes "lawful") rows
+  pub operations : HoldsFlag (codes "operations") rows
   pub outputs : HoldsFlag (codes "outputs") rows
   pub either_slot : HoldsFlag (codes "either-slot") rows

@@ -9,6 +9,7 @@ use Rattle.iloc_rows.specs.declared.proposal.Proposed.{Proposed}
 use Rattle.iloc_rows.specs.declared.proposal.unread.Unread.{Unread}
 use Rattle.iloc_sched.specs.declared.ranking.heuristic.Heuristic.TheVariants.{Chain}
 use Rattle.iloc_judge.specs.declared.checked.Checked.{Checked}
+use Rattle.iloc_judge.specs.declared.task.CheckOptions.{CheckOptions}
 use Rattle.iloc_judge.specs.Checked.{IsCheck, passes}
 use Rattle.iloc_judge.specs.Unread.{IsUnread}
 use Rattle.iloc_farm.specs.Listing.{head_as, opening_as}
@@ -20,24 +21,30 @@ use Rattle.iloc_rows.specs.EitherSlot.{placed}
 use Rattle.iloc_farm.specs.Command.{Command, OfRows, of_no_file}
 use Rattle.iloc_farm.specs.Commands.Run.{initial_memory}
 
--- What is found of a proposal, and said of it, in a table or not, of outcomes or of outputs alone, is right: where this row can't
--- be read, that; else what is said of its rows.
-abbrev pub IsSaid : Option Unread → (lawful csv outputs : Bool) → Latencies → List ℤ → List Op → Table → Proposed → Checked → List ℕ
-    → Type 0
-IsSaid None lawful csv outputs lat memory block ours proposal checked text =
-    IsCheck lawful csv outputs lat memory block ours proposal checked text
-IsSaid (Some unread) lawful csv outputs lat memory block ours proposal checked text =
-    IsUnread csv lat block ours proposal checked text
+-- what a request asks of rows
+abbrev pub options_of : Request → CheckOptions
+options_of request = record {
+  lawful = request.lawful;
+  operations = request.operations;
+  outputs_alone = request.outputs;
+  csv = request.csv;
+}
+
+-- What is found of a proposal, and said of it, is right: where this row can't be read, that; else what is said of its rows.
+abbrev pub IsSaid : Option Unread → CheckOptions → Latencies → List ℤ → List Op → Table → Proposed → Checked → List ℕ → Type 0
+IsSaid None options lat memory block ours proposal checked text = IsCheck options lat memory block ours proposal checked text
+IsSaid (Some unread) options lat memory block ours proposal checked text =
+    IsUnread options.csv lat block ours proposal checked text
 
 -- The entry of block k and its proposal: the block's number and its name, and what is said of the proposal, beside the block's
 -- greedy schedule.
-pub record IsCheckEntry (lawful csv outputs : Bool) (lat : Latencies) (memory : List ℤ) (k : ℕ) (of : Block × Proposed)
+pub record IsCheckEntry (options : CheckOptions) (lat : Latencies) (memory : List ℤ) (k : ℕ) (of : Block × Proposed)
     (entry : List ℕ) (checked : Checked) : Type 0 where
   pub ours : Table
   pub greedy : IsTheGreedy Chain lat of.0 ours
   pub text : List ℕ
-  pub right : IsSaid of.1.unread lawful csv outputs lat memory of.0.ops ours of.1 checked text
-  pub listed : entry ≡ head_as csv k of.0.name ++ text
+  pub right : IsSaid of.1.unread options lat memory of.0.ops ours of.1 checked text
+  pub listed : entry ≡ head_as options.csv k of.0.name ++ text
 
 -- what a table begins with
 abbrev pub check_header : List ℕ
@@ -54,20 +61,19 @@ abbrev pub check_ending : Bool → List Checked → List ℕ
 check_ending true found = []
 check_ending false found = totals_line found
 
--- The text says of each proposal, beside the greedy schedule of its block, what is right, of outcomes or of outputs alone: in a
--- table below its header, or else with the totals at the end. They passed exactly where each does.
-abbrev pub ListsChecked : (lawful csv outputs : Bool) → Latencies → List ℤ → List Block → List Proposed → Finding → List ℕ
-    → Type 0
-ListsChecked lawful csv outputs lat memory blocks proposals finding text =
-    ListsRows (IsCheckEntry lawful csv outputs lat memory) (opening_as csv check_header) (check_ending csv) (passes lawful)
-    blocks proposals finding text
+-- The text says of each proposal, beside the greedy schedule of its block, what is right: in a table below its header, or else
+-- with the totals at the end. They passed exactly where each does.
+abbrev pub ListsChecked : CheckOptions → Latencies → List ℤ → List Block → List Proposed → Finding → List ℕ → Type 0
+ListsChecked options lat memory blocks proposals finding text =
+    ListsRows (IsCheckEntry options lat memory) (opening_as options.csv check_header) (check_ending options.csv)
+    (passes options.lawful) blocks proposals finding text
 
 -- The text is what the request says of what is proposed for blocks, with this finding: of the rows with leave for either slot,
 -- if it gives that.
 abbrev pub Checks : Request → List Block → List Proposed → Finding → List ℕ → Type 0
 Checks request blocks proposals finding text =
-    ListsChecked request.lawful request.csv request.outputs request.latencies (initial_memory request) blocks
-    (placed request.either_slot proposals) finding text
+    ListsChecked (options_of request) request.latencies (initial_memory request) blocks (placed request.either_slot proposals)
+    finding text
 
 abbrev pub check_command : Command
 check_command = record of_no_file { input = OfRows; takes_task = true; says = Checks }

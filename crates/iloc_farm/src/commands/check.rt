@@ -1,7 +1,7 @@
 //! `check`: what is said of the schedules that others proposed for blocks.
 ghost use Rattle.std.specs.Prelude.{ℕ, ◌≡◌, ◌++◌, List, IfErr, IfOk};
 ghost use Rattle.iloc_args.specs.declared.request.Task.TheVariants as task;
-ghost use Rattle.iloc_farm.specs.Commands.Check.{IsSaid};
+ghost use Rattle.iloc_farm.specs.Commands.Check.{IsSaid, options_of};
 ghost use Rattle.iloc_farm.specs.Run.{EndsReading, ListsFrom};
 
 use crate::commands::totals::Totals;
@@ -12,7 +12,7 @@ use crate::listing::table::{push_head, push_opening};
 use crate::rows::{RowLister, listed_apart, listed_whole};
 use crate::texts::Texts;
 use iloc_args::Request;
-use iloc_judge::{Checked, Judging, Task, push_check, push_unread};
+use iloc_judge::{CheckOptions, Checked, Judging, Task, push_check, push_unread};
 use iloc_meaning::Memory;
 use iloc_rows::Proposal;
 use iloc_sched::{Graph, Heuristic, Scheduler};
@@ -34,6 +34,18 @@ pub(crate) struct CheckLister {
     blocks: usize,
 }
 
+/// What a request asks of rows.
+fn options_of(request: &Request) -> CheckOptions
+    ensures { result ≡ options_of request.now }
+{
+    CheckOptions {
+        lawful: request.lawful,
+        operations: request.operations,
+        outputs_alone: request.outputs,
+        csv: request.csv,
+    }
+}
+
 /// Appends what is said of a proposal beside our schedule of the block: of its first row that can't be read, if there is one,
 /// and else of its rows.
 fn push_judged(
@@ -44,18 +56,18 @@ fn push_judged(
     proposal: Proposal,
 ) -> Result<Checked, NoMemory>
     ensures { IfOk result (λ checked. (entry : List ℕ)
-        × IsSaid proposal.unread judging.now.lawful judging.now.csv judging.now.outputs_alone task.now.latencies.now
+        × IsSaid proposal.unread judging.now.options task.now.latencies.now
         judging.now.memory.now task.now.block.now.ops task.now.ours.now proposal checked entry
         × (text.new.items ≡ text.old.items ++ entry)) }
 {
     if let Some(unread) = proposal.unread() {
-        return push_unread(alloc, text, judging.csv, task, &proposal, unread);
+        return push_unread(alloc, text, judging.options.csv, task, &proposal, unread);
     }
     push_check(alloc, text, judging, task, proposal)
 }
 
 impl RowLister for CheckLister {
-    ghost use Rattle.iloc_farm.specs.Commands.Check.{IsCheckEntry, check_ending, check_header};
+    ghost use Rattle.iloc_farm.specs.Commands.Check.{IsCheckEntry, check_ending, check_header, options_of};
     ghost use Rattle.iloc_farm.specs.Commands.Run.{initial_memory};
     ghost use Rattle.iloc_farm.specs.Listing.{opening_as};
     ghost use Rattle.iloc_farm.specs.Steps.Checking.{IsSmall};
@@ -63,7 +75,7 @@ impl RowLister for CheckLister {
 
     type Found = Checked;
 
-    ghost lists = { λ request. IsCheckEntry request.lawful request.csv request.outputs request.latencies (initial_memory request) };
+    ghost lists = { λ request. IsCheckEntry (options_of request) request.latencies (initial_memory request) };
 
     ghost opening = { λ request. opening_as request.csv check_header };
 
@@ -103,9 +115,7 @@ impl RowLister for CheckLister {
         let ours = self.scheduler.lend_as(&self.graph, Heuristic::Chain)?;
         push_head(text, request.csv, number, block.name.as_ref())?;
         let judging = Judging {
-            lawful: request.lawful,
-            csv: request.csv,
-            outputs_alone: request.outputs,
+            options: options_of(request),
             memory: &self.memory,
             blocks: self.blocks,
         };

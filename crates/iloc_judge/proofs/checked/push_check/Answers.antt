@@ -10,7 +10,7 @@ pub push_entry-requires : goal.push_entry-requires
 push_entry-requires c =
     let task = c.args.task.now in
     rw c.rows-rows.ensures.rows
-    (verdict_listed c.args.judging.now.outputs_alone task.latencies.now c.args.judging.now.memory.now task.block.now.ops
+    (verdict_listed c.args.judging.now.options.outputs_alone task.latencies.now c.args.judging.now.memory.now task.block.now.ops
     c.into_schedule-theirs.result.ops c.into_schedule-theirs.result.rows c.in_ok-verdict.verdict task.few c.rows-rows.ensures.few
     c.in_ok-verdict.ensures.right)
 
@@ -18,22 +18,23 @@ pub returns : goal.returns
 returns c =
     let p = c.args.proposal in
     let task = c.args.task.now in
-    let judging = c.args.judging.now in
+    let options = c.args.judging.now.options in
     let ops = c.into_schedule-theirs.ensures.ops in
     let rows = c.into_schedule-theirs.ensures.rows in
     let bound = c.in_ok-least.ensures ∙ ap (λ (g : GraphOf). least_of g.latencies g.ops) task.drawn in
     let checked : Checked = record {
       kind = c.kind_of.result;
+      keeps_operations = c.in_ok-keeps_operations.keeps_operations;
       cycles = c.cycles.result;
       ours = c.cycles-2.result;
       least = c.in_ok-least.field-0;
     } in (
-      entry_as judging.lawful judging.csv p.claimed p.ops p.rows c.in_ok-verdict.verdict checked,
+      entry_as options.lawful options.csv p.claimed p.ops p.rows c.in_ok-verdict.verdict checked,
       record {
         verdict = c.in_ok-verdict.verdict;
         right = rw (ops, rows) at c.in_ok-verdict.ensures.right;
         own = rw (ops, rows) at c.in_ok-verdict.ensures.own;
-        is_found = rw (c.kind_of.ensures, c.cycles.ensures, ops, rows, c.cycles-2.ensures, bound) refl;
+        is_found = rw (c.kind_of.ensures, c.in_ok-keeps_operations.ensures, c.ops.ensures, c.cycles.ensures, ops, rows, c.cycles-2.ensures, bound) refl;
         listed = refl;
       },
       rw (c.ops-ops.ensures.ops, c.rows-rows.ensures.rows, ops, rows, c.claimed-claimed.ensures) at c.in_ok-push_entry.ensures,

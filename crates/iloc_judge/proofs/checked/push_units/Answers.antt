@@ -18,22 +18,23 @@ pub returns : goal.returns
 returns c =
     let p = c.args.proposal.now in
     let task = c.args.task.now in
-    let judging = c.args.judging.now in
+    let options = c.args.judging.now.options in
     let bound = c.in_ok-least.ensures ∙ ap (λ (g : GraphOf). least_of g.latencies g.ops) task.drawn in
     let checked : Checked = record {
       kind = kind.Units;
+      keeps_operations = c.args.keeps_operations;
       cycles = c.cycles_of.result;
       ours = c.cycles.result;
       least = c.in_ok-least.field-0;
     } in (
-      entry_as judging.lawful judging.csv p.claimed p.ops p.rows (Units c.args.row) checked,
+      entry_as options.lawful options.csv p.claimed p.ops p.rows (Units c.args.row) checked,
       record {
         verdict = Units c.args.row;
-        right = c.requires;
+        right = c.requires.bad;
         own = λ same. absurd (own_rows_keep_units task.latencies.now task.block.now.ops task.ours.now.ops p.ops
-            task.ours.now.rows p.rows c.args.row task.lawful c.rows-rows.ensures.in_range c.rows-rows.ensures.once same c.requires);
+            task.ours.now.rows p.rows c.args.row task.lawful c.rows-rows.ensures.in_range c.rows-rows.ensures.once same c.requires.bad);
         is_found =
-            rw (c.cycles_of.ensures, c.ops-ops.ensures, c.rows-rows.ensures.rows, c.cycles.ensures, bound) refl;
+            rw (c.requires.keeps, c.cycles_of.ensures, c.ops-ops.ensures, c.rows-rows.ensures.rows, c.cycles.ensures, bound) refl;
         listed = refl;
       },
       rw (c.ops-ops.ensures, c.rows-rows.ensures.rows, c.claimed.ensures) at c.in_ok-push_entry.ensures,

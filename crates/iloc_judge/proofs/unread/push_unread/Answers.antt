@@ -19,6 +19,7 @@ returns c =
     let bound = c.in_ok-least.ensures ∙ ap (λ (g : GraphOf). least_of g.latencies g.ops) c.args.task.now.drawn in
     let checked : Checked = record {
       kind = Unread;
+      keeps_operations = false;
       cycles = c.cycles_of.result;
       ours = c.cycles.result;
       least = c.in_ok-least.field-0;

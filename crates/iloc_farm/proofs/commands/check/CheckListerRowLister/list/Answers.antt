@@ -1,3 +1,4 @@
+use Rattle.iloc_farm.specs.Commands.Check.{options_of}
 use Rattle.iloc_farm.proofs.Checks.{check_listed, small_check}
 use Rattle.iloc_farm.proofs.commands.check.CheckListerRowLister.list.Goals as goal
 
@@ -12,14 +13,14 @@ pub returns-clause-listed : goal.returns-clause-listed
 returns-clause-listed c =
     let request = c.args.request.now in
     let said = c.in_ok-checked.ensures in
-    check_listed request.lawful request.csv request.outputs request.latencies _ _ c.args.number c.args.block.now
+    check_listed (options_of request) request.latencies _ _ c.args.number c.args.block.now
     c.in_ok-ours.ours c.args.proposal c.in_ok-checked.checked c.args.text.now.items _ _ said.0 _
-    (c.in_ok-ours.ensures _ _ c.in_ok-refill.ensures.graph).greedy c.requires.starts c.as_ref.ensures.value c.in_ok-push_head.ensures said.1 said.2
+    (c.in_ok-ours.ensures _ _ c.in_ok-refill.ensures.graph).greedy c.requires.starts c.as_ref.ensures.value c.in_ok-push_head.ensures (rw c.options_of.ensures at said.1) said.2
 
 pub returns-clause-small : goal.returns-clause-small
 returns-clause-small c =
     let request = c.args.request.now in
     let said = c.in_ok-checked.ensures in
-    small_check c.args.proposal.unread request.lawful request.csv request.outputs request.latencies c.args.self.now.memory
-    c.args.block.now.ops c.in_ok-ours.ours c.args.proposal c.in_ok-checked.checked said.0 said.1
+    small_check c.args.proposal.unread (options_of request) request.latencies c.args.self.now.memory
+    c.args.block.now.ops c.in_ok-ours.ours c.args.proposal c.in_ok-checked.checked said.0 (rw c.options_of.ensures at said.1)
     (c.in_ok-ours.ensures _ _ c.in_ok-refill.ensures.graph).greedy c.requires.short c.rows.ensures.few
