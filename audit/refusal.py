@@ -3,7 +3,7 @@ import re
 
 from edit import BadEdit
 
-PLACE = re.compile(r"(note: )?(?:\./)?(\S+?):\d+:\d+: (error: )?(?:(`[^`]*`): )?(.*)")
+PLACE = re.compile(r"(note: )?(?:what antt said of a `search` [^:]*: )?(?:\./)?(\S+?):\d+:\d+: (error: )?(?:(`[^`]*`): )?(.*)")
 VERDICT = re.compile(r"fn \w+::(\S+): ")
 QUOTED = re.compile(r"`[^`]*`")
 # What is said of a text that can't be read. One that reads, and is false, is reported in other words.

@@ -35,6 +35,8 @@ SAID = {
     "other": ("fn high::f: proved\nonly=1 proved=1\n", 0),
     "wrong": (GOAL + NOT_PROVED, 1),
     "unanswered": ("./proofs/f/Answers.antt:3:9: error: `returns`: the two types differ\n" + NOT_PROVED, 1),
+    "searched": ("note: what antt said of a `search` in the proof that rattle made: src/lib.rt:1:4: error: `returns`: give the call "
+                 "less to do\n" + NOT_PROVED, 1),
     "unread": ("src/lib.rt:1:10: error: expected an expression\n", 1),
     "misnamed": ("src/lib.rt:1:10: error: `returns`: `y` is not in scope\n" + NOT_PROVED, 1),
     "gone": ("./proofs/f/Answers.antt:3:9: error: `returns`: `c.x` is not in scope\n" + NOT_PROVED, 1),
@@ -105,13 +107,15 @@ class Audit(InFolder):
     def test_refused_at_a_goal(self):
         self.edit("returns_another", "wrong")
         self.edit("returns_nothing", "unanswered")
+        self.edit("returns_what_is_far", "searched")
         status, lines = self.status_and_lines()
         self.expect("status", status, 0)
         self.expect("lines", lines, [f"refused high/returns_another: {GOAL.strip()}",
-                                f"refused high/returns_nothing: {SAID['unanswered'][0].splitlines()[0]}",
-                                "2 passed, 0 failed"])
+                                *(f"refused high/{name}: {SAID[said][0].splitlines()[0]}"
+                                  for name, said in (("returns_nothing", "unanswered"), ("returns_what_is_far", "searched"))),
+                                "3 passed, 0 failed"])
         checks = self.asked("checked")
-        self.expect("checks", len(checks), 3)
+        self.expect("checks", len(checks), 4)
         for it in ("--crate-name high", f"--extern low={self.path('top')}/crates/low/out/rlib/low.rlib", "--only f",
                    f"--extern thiserror={self.folder}/kit/rlibs/thiserror.rlib"):
             self.expect(it, all(it in words for words in checks), True)
