@@ -238,7 +238,7 @@ class Answers(Repository):
                          [BUILT, "ilocfarm: out/ilocfarm is proved and built already\n"])
 
     def test_install_builds(self):
-        for it in ("man", "charts", "cluster", "docs", "examples", "CHANGELOG.md", "README.md"):
+        for it in ("man", "charts", "cluster", "docs", "examples", "grading", "CHANGELOG.md", "README.md"):
             os.symlink(f"{TOP}/{it}", f"{self.top}/{it}")
         shutil.copy2(f"{TOP}/install", self.top)
         status, out, _ = self.ran(f"{self.folder}/prefix", by="install", env={"PATH": f"{self.folder}/bin:{os.environ['PATH']}"})
