@@ -15,8 +15,8 @@ use std::marker::Model;
 use std::sync::Wait;
 use std::thread::Threads;
 
-/// Blocks to be scheduled for a machine with these latencies, by this heuristic. The answer to job i is the schedule of block i, and costs its
-/// cycles.
+/// Blocks to be scheduled for a machine with these latencies, by this heuristic. The answer to job i is the schedule of block
+/// i, and costs its cycles.
 #[derive(Drop)]
 pub struct BlockJobs<'f> {
     blocks: &'f [Block],

@@ -39,7 +39,8 @@ kind_of lawful (Unlawful reasons found) = compared_kind found
 kind_of true (Undecided found) = kind.Undecided
 kind_of false (Undecided found) = compared_kind found
 
--- what goes with a word: whether the block's operations are kept, the cycles of what is proposed, those of our schedule, and the least
+-- what goes with a word: whether the block's operations are kept, the cycles of what is proposed, those of our schedule, and
+-- the least
 abbrev pub found : VerdictKind → Bool → Latencies → List Op → Table → Proposed → Checked
 found word keeps lat block ours proposal = record {
   kind = word;
@@ -49,7 +50,8 @@ found word keeps lat block ours proposal = record {
   least = least lat block;
 }
 
--- Of what is proposed for a block this is found, and this entry listed, as is asked for, by a verdict that is right. What our schedule issues is lawful.
+-- Of what is proposed for a block this is found, and this entry listed, as is asked for, by a verdict that is right. What our
+-- schedule issues is lawful.
 pub record IsCheck (options : CheckOptions) (lat : Latencies) (memory : List ℤ) (block : List Op) (ours : Table)
     (proposal : Proposed) (checked : Checked) (entry : List ℕ) : Type 0 where
   pub verdict : Verdict

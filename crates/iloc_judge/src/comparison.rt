@@ -32,9 +32,9 @@ pub enum Comparison {
 }
 
 /// Compares what a schedule does with what its block does. Ours, which has the block's outcome on every memory, is what it is
-/// compared with. Where that doesn't show them the same, they are run on the memory handed in, and then on a
-/// few that are made up, fewer where this is one of many blocks. That no difference was found doesn't mean that there is none: only `Comparison::Same` and
-/// `Comparison::Prints` do.
+/// compared with. Where that doesn't show them the same, they are run on the memory handed in, and then on a few that are
+/// made up, fewer where this is one of many blocks. That no difference was found doesn't mean that there is none: only
+/// `Comparison::Same` and `Comparison::Prints` do.
 pub(crate) fn compared(
     alloc: Global,
     judging: &Judging<'_>,
