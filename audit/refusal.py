@@ -10,6 +10,7 @@ QUOTED = re.compile(r"`[^`]*`")
 UNREAD = re.compile(r"is not in scope|has no field|is no name|operand is missing|expected the end|cannot continue")
 # What is said of a proof that names what the edit took away, and of what cites that proof.
 GONE = re.compile(r"has no field|is not in scope|has no `|was not admitted")
+GOES_ON = re.compile(r"\n +(?=has no field)")
 STALE = re.compile(r"Run the lower steps again")
 LAST = re.compile(r"only=\d+ proved=\d+")
 
@@ -21,6 +22,7 @@ class Said:
         """Raises BadEdit where no function was judged."""
         self.is_all_proved, self.unproved = status == 0, set()
         self.in_bodies, self.in_proofs = {}, []
+        lines = GOES_ON.sub(" ", "\n".join(lines)).splitlines()
         self.last = (lines or ["nothing was said"])[-1]
         if self.is_all_proved:
             return

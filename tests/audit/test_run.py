@@ -40,6 +40,7 @@ SAID = {
     "unread": ("src/lib.rt:1:10: error: expected an expression\n", 1),
     "misnamed": ("src/lib.rt:1:10: error: `returns`: `y` is not in scope\n" + NOT_PROVED, 1),
     "gone": ("./proofs/f/Answers.antt:3:9: error: `returns`: `c.x` is not in scope\n" + NOT_PROVED, 1),
+    "gone_below": ("./proofs/f/Answers.antt:3:9: error: `returns`: record `In-Err` (nearest: .y)\n  has no field `x`\n" + NOT_PROVED, 1),
     "no_function": ("rattle: --only f fits nothing\n", 2),
     "unknown": ("rattle: no verdict\n", 3),
 }
@@ -57,6 +58,7 @@ FAIL = {
     "text_that_does_not_read": ("unread", f"{NO_START}{SAID['unread'][0].strip()}", {}),
     "name_that_is_not_there": ("misnamed", f"{UNREAD}{SAID['misnamed'][0].splitlines()[0]}", {}),
     "proof_that_names_what_is_gone": ("gone", f"{GONE}{SAID['gone'][0].splitlines()[0]}", {}),
+    "proof_that_names_it_on_two_lines": ("gone_below", f"{GONE}{' '.join(map(str.strip, SAID['gone_below'][0].splitlines()[:2]))}", {}),
     "function_that_is_not_there": ("no_function", f"{NO_START}{SAID['no_function'][0].strip()}", {}),
     "no_verdict": ("unknown", f"{NO_START}{SAID['unknown'][0].strip()}", {}),
 }
