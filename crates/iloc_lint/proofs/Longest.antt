@@ -3,8 +3,10 @@ use Rattle.std.proofs.Common.{◌≡◌, ◌∙◌, ℕ, zero, suc, ◌+◌, ◌
 use Rattle.std.specs.Char.{is_ascii_digit, digit_value}
 use Rattle.std.specs.Str.Parse.{AllDigits, digits_value_after}
 use Rattle.std.proofs.lemmas.Bool.Decides.{nat_tests}
+use Rattle.std.proofs.lemmas.Bool.{ltb-true, ltb-false, eqb-true, eqb-false}
 use Rattle.iloc_ops.specs.Limits.{MAX_NUMBER}
 use Rattle.iloc_text.specs.Grammar.{◌⋅◌, Text, is_blank, Blanks, SomeBlanks, OptionalComment}
+use Rattle.iloc_text.proofs.Tokens.{digit_value_is, digit_value_small, digit_from_value}
 use Rattle.iloc_lint.specs.Steps.Longest.{Longest, SmallNumber, NumberAt, blanks_in, digits_in, common_in, comment_in, starts}
 
 -- From byte to byte
@@ -209,12 +211,6 @@ text_first t c ts w j =
 pub text_nothing : {Q : List ℕ → Type 0} (w : List ℕ) → (Text [] ⋅ Q) w → Q w
 text_nothing {Q} w j = subst Q (sym (j.whole ∙ ap (λ f. f ++ j.rest) j.first)) j.second
 
-same_byte : (c t : ℕ) → (c == t) ≡ true → c ≡ t
-same_byte c t h = grind (arith, nat_tests)
-
-other_byte : (c t : ℕ) → (c == t) ≡ false → c ≡ t → ⊥
-other_byte c t h e = grind (arith, nat_tests)
-
 pub text_along : {Q : List ℕ → Type 0} (text bytes : List ℕ) (k : ℕ) → common_in text bytes ≡ length text
     → Longest Q (drop (length text) bytes) k → Longest (Text text ⋅ Q) bytes (length text + k)
 text_along {Q} [] bytes k all l = at_length (omega arith) (same (λ w q. some_text [] w q) text_nothing l)
@@ -225,7 +221,7 @@ text_along {Q} (t ∷ ts) (c ∷ cs) k all l = by (c == t) refl (λ a. text_alon
         → (common_in ts cs ≡ length ts → Longest (Text ts ⋅ Q) cs (length ts + k))
         → cond b (suc (common_in ts cs)) 0 ≡ suc (length ts)
         → Longest (Text (t ∷ ts) ⋅ Q) (c ∷ cs) (length (t ∷ ts) + k)
-    by true e again a = subst (λ x. Longest (Text (t ∷ ts) ⋅ Q) (x ∷ cs) (length (t ∷ ts) + k)) (sym (same_byte c t e))
+    by true e again a = subst (λ x. Longest (Text (t ∷ ts) ⋅ Q) (x ∷ cs) (length (t ∷ ts) + k)) (sym (eqb-true c t e))
         (at_length (omega arith) (step t cs (length ts + k) (text_more t ts) (text_less t ts) (again (omega arith))))
     by false e again a = absurd (omega arith)
 
@@ -238,10 +234,10 @@ text_stop {Q} q is (t ∷ ts) (c ∷ cs) less = by (c == t) refl (text_stop q is
     by : (b : Bool) → (c == t) ≡ b
         → (common_in ts cs < length ts → Longest (Text ts ⋅ Q) cs (common_in ts cs)) → cond b (suc (common_in ts cs)) 0 < suc (length ts)
         → Longest (Text (t ∷ ts) ⋅ Q) (c ∷ cs) (cond b (suc (common_in ts cs)) 0)
-    by true e again a = subst (λ x. Longest (Text (t ∷ ts) ⋅ Q) (x ∷ cs) (suc (common_in ts cs))) (sym (same_byte c t e))
+    by true e again a = subst (λ x. Longest (Text (t ∷ ts) ⋅ Q) (x ∷ cs) (suc (common_in ts cs))) (sym (eqb-true c t e))
         (step t cs (common_in ts cs) (text_more t ts) (text_less t ts) (again (omega arith)))
     by false e again a = stop c cs ((t ∷ ts) ++ q) (some_text (t ∷ ts) q is)
-        (λ w j. other_byte c t e (text_first t c ts w j))
+        (λ w j. eqb-false c t e (text_first t c ts w j))
 
 -- Numbers
 
@@ -252,21 +248,6 @@ NoDigit Q = (c : ℕ) (w : List ℕ) → is_ascii_digit c ≡ true → Q (c ∷ 
 -- digits after those of a number, within the limit
 abbrev DigitsAfter : ℕ → List ℕ → Type 0
 DigitsAfter value ds = AllDigits 10 ds × (digits_value_after 10 value ds ≤ MAX_NUMBER)
-
-digit_value_is : (c : ℕ) → is_ascii_digit c ≡ true → digit_value c ≡ c - 48
-digit_value_is c h = grind (arith, nat_tests)
-
-digit_value_small : (c : ℕ) → is_ascii_digit c ≡ true → digit_value c < 10
-digit_value_small c h = grind (arith, nat_tests)
-
-digit_from_value : (c : ℕ) → digit_value c < 10 → is_ascii_digit c ≡ true
-digit_from_value c h = grind (arith, nat_tests)
-
-above_limit : (n : ℕ) → nat_lt MAX_NUMBER n ≡ true → MAX_NUMBER < n
-above_limit n h = grind (arith, nat_tests)
-
-within_limit : (n : ℕ) → nat_lt MAX_NUMBER n ≡ false → n ≤ MAX_NUMBER
-within_limit n h = grind (arith, nat_tests)
 
 -- more digits make a number no smaller
 digits_grow : (n : ℕ) (ds : List ℕ) → n ≤ digits_value_after 10 n ds
@@ -338,7 +319,7 @@ digits_along {Q} never v small (c ∷ cs) k ends l =
     by true false e a again s m =
         let value = digit_value_is c e in
         let next : v * 10 + (c - 48) ≡ v * 10 + digit_value c = ap (λ d. v * 10 + d) (sym value) in
-        let rest = again (within_limit _ a) s m in
+        let rest = again (ltb-false _ _ a) s m in
         at_length (omega arith)
         (step c cs (more + k) (λ w j. digits_more v c w e j)
         (λ w j. digits_less never v c w e j)
@@ -361,7 +342,7 @@ digits_stop {Q} never q is v small (c ∷ cs) ends =
     dead : is_ascii_digit c ≡ true → nat_lt MAX_NUMBER (v * 10 + (c - 48)) ≡ true → (w : List ℕ)
         → (DigitsAfter v ⋅ Q) (c ∷ w) → ⊥
     dead e a w j =
-        let large = above_limit _ a in
+        let large = ltb-true _ _ a in
         let less = digits_less never v c w e j in
         let grown = digits_grow (v * 10 + digit_value c) less.front in
         let small = less.first.1 in
@@ -375,7 +356,7 @@ digits_stop {Q} never q is v small (c ∷ cs) ends =
     by false above e a again s = absurd (true≢false (sym s ∙ e))
     by true true e a again s = stop c cs q (no_digits v small q is) (dead e a)
     by true false e a again s =
-        let rest = again (within_limit _ a) s in
+        let rest = again (ltb-false _ _ a) s in
         step c cs more (λ w j. digits_more v c w e j)
         (λ w j. digits_less never v c w e j)
         (subst (λ n. Longest (DigitsAfter n ⋅ Q) cs more) (next e) rest)
@@ -423,7 +404,7 @@ first_small : (c : ℕ) → is_ascii_digit c ≡ true → nat_lt MAX_NUMBER (0 *
 first_small c e = grind (arith, nat_tests)
 
 first_within : (c : ℕ) → is_ascii_digit c ≡ true → 0 * 10 + (c - 48) ≤ MAX_NUMBER
-first_within c e = within_limit _ (first_small c e)
+first_within c e = ltb-false _ _ (first_small c e)
 
 no_more : (n : ℕ) (b : Bool) → true ≡ (nat_lt 0 (suc n) && not b) → b ≡ false
 no_more n true e = absurd (true≢false (e ∙ ap (λ t. t && false) (more_than_none n)))
@@ -535,12 +516,12 @@ comment_along (c ∷ []) = by (c == 47) refl
     last e = record { within = omega arith; goes_on = (47 ∷ [], (e, refl)); longest = λ j tail h p. h }
 
     by : (b : Bool) → (c == 47) ≡ b → Longest OptionalComment (c ∷ []) (cond b 1 0)
-    by true e = last (same_byte c 47 e)
-    by false e = stop c [] [] no_comment (λ w h. other_byte c 47 e (comment_first c w h))
+    by true e = last (eqb-true c 47 e)
+    by false e = stop c [] [] no_comment (λ w h. eqb-false c 47 e (comment_first c w h))
 comment_along (c ∷ d ∷ cs) = by (c == 47) (d == 47) refl refl
   where
     by : (a b : Bool) → (c == 47) ≡ a → (d == 47) ≡ b
         → Longest OptionalComment (c ∷ d ∷ cs) (cond a (cond b (length (c ∷ d ∷ cs)) 1) 0)
-    by true true e f = whole_comment (c ∷ d ∷ cs) (same_byte c 47 e, same_byte d 47 f)
-    by true false e f = slash_alone c d cs (same_byte c 47 e) (other_byte d 47 f)
-    by false b e f = stop c (d ∷ cs) [] no_comment (λ w h. other_byte c 47 e (comment_first c w h))
+    by true true e f = whole_comment (c ∷ d ∷ cs) (eqb-true c 47 e, eqb-true d 47 f)
+    by true false e f = slash_alone c d cs (eqb-true c 47 e) (eqb-false d 47 f)
+    by false b e f = stop c (d ∷ cs) [] no_comment (λ w h. eqb-false c 47 e (comment_first c w h))

@@ -6,10 +6,11 @@ use Rattle.iloc_ops.specs.declared.file.Block.{Block}
 use Rattle.iloc_text.specs.declared.fault.ReadFault.{ReadFault}
 use Rattle.iloc_text.specs.declared.fault.ReadFault.TheVariants.{InputTooLong, BadLine, NumberTooLarge, TooManyBlocks, TooManyOperations, NoMemory}
 use Rattle.iloc_text.specs.Grammar.{Reads}
-use Rattle.iloc_text.specs.Files.{AreLines, HasNoLineEnd, Reading, ReadAs, Denotes, IsFaulty, HasFirstFault, IsRefused, file_of, block_names, block_count}
+use Rattle.iloc_text.specs.Files.{AreLines, HasNoLineEnd, Reading, ReadAs, Denotes, IsFaulty, HasFirstFault, IsRefused, file_of, block_count}
 use Rattle.iloc_text.specs.Steps.Growth.{with_line}
 use Rattle.iloc_text.proofs.Answer.{lines_are_of}
 use Rattle.iloc_text.proofs.BlockLists.{file-snoc}
+use Rattle.iloc_text.proofs.Reading.{nothing_read}
 use Rattle.iloc_lint.specs.declared.alone.Content.{Content}
 use Rattle.iloc_lint.specs.declared.alone.Unknown.TheVariants as unread
 use Rattle.iloc_lint.specs.Steps.Alone.{said_after, unread_of, Says}
@@ -34,10 +35,6 @@ said_more start (x ∷ xs) b = said_more (record { labelled = is_some x.name; op
 abbrev pub nothing_said : Content
 nothing_said = record { labelled = false; op = None }
 
-no_file : file_of [] ≡ []
-unfolding file_of block_names
-no_file = refl
-
 line_said : (label : Option (List ℕ)) (op : Option Op)
     → said_after nothing_said (with_line label op []) ≡ record { labelled = is_some label; op = op }
 line_said None None = refl
@@ -46,7 +43,7 @@ line_said (Some name) None = refl
 line_said (Some name) (Some op) = refl
 
 one_said : (r : Reading) → said_after nothing_said (file_of (r ∷ [])) ≡ record { labelled = is_some r.label; op = r.op }
-one_said r = ap (said_after nothing_said) (file-snoc [] r ∙ ap (with_line r.label r.op) no_file) ∙ line_said r.label r.op
+one_said r = ap (said_after nothing_said) (file-snoc [] r ∙ ap (with_line r.label r.op) nothing_read) ∙ line_said r.label r.op
 
 pub line_says : (line : List ℕ) (blocks : List Block) (said : Content) → HasNoLineEnd line → Denotes line blocks
     → said ≡ said_after nothing_said blocks → Says line (Ok said)

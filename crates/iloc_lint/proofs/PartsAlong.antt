@@ -5,6 +5,7 @@ use Rattle.std.proofs.Math.Seq.{drop-drop, drop-cons}
 use Rattle.std.proofs.Math.ListN.{drop_of_length-le}
 use Rattle.std.proofs.lemmas.List.{take_all, length-drop}
 use Rattle.std.proofs.lemmas.Bool.Decides.{nat_tests}
+use Rattle.std.proofs.lemmas.Bool.{and_parts, eqb-true, not-true}
 use Rattle.iloc_text.specs.Grammar.{◌⋅◌, Text, is_blank, Blanks}
 use Rattle.iloc_lint.specs.declared.place.Part.{Part}
 use Rattle.iloc_lint.specs.declared.place.Part.TheVariants as part
@@ -98,20 +99,8 @@ some_rest (p ∷ more) = let rest = some_rest more in with_part p more rest.0 re
 
 -- What follows a part
 
-and_left : (a b : Bool) → (a && b) ≡ true → a ≡ true
-and_left true b h = refl
-and_left false b h = h
-
-and_right : (a b : Bool) → (a && b) ≡ true → b ≡ true
-and_right true b h = h
-and_right false b h = absurd (true≢false (sym h))
-
-opposite : (b : Bool) → not b ≡ true → b ≡ false
-opposite true h = absurd (true≢false (sym h))
-opposite false h = refl
-
 pub alternate_more : (p : Part) (more : List Part) → alternate (p ∷ more) ≡ true → alternate more ≡ true
-alternate_more p more h = and_right _ (alternate more) h
+alternate_more p more h = (and_parts _ (alternate more) h).1
 
 -- Signs
 
@@ -145,25 +134,25 @@ pub space_at : (bytes : List ℕ) → PartAt part.Space bytes (blanks_in bytes) 
 space_at bytes = by (nat_lt 0 (blanks_in bytes)) refl
   where
     by : (b : Bool) → nat_lt 0 (blanks_in bytes) ≡ b → PartAt part.Space bytes (blanks_in bytes) b
-    by true e = λ more k alt l. some_along (no_blank more (and_left (starts_with_value more) (alternate more) alt)) bytes k e l
+    by true e = λ more k alt l. some_along (no_blank more (and_parts (starts_with_value more) (alternate more) alt).0) bytes k e l
     by false e = λ more alt. let rest = some_rest more in some_stop rest.0 rest.1 bytes e
 
 pub comma_at : (bytes : List ℕ) (count : ℕ) (whole : Bool) → SignAt (codes ",") bytes count whole
     → PartAt part.Comma bytes count whole
 comma_at bytes count true at = λ more k alt l.
-    sign_along (no_blank more (and_left (starts_with_value more) (alternate more) alt)) 44 [] bytes count k refl at l
+    sign_along (no_blank more (and_parts (starts_with_value more) (alternate more) alt).0) 44 [] bytes count k refl at l
 comma_at bytes count false at = λ more alt. let rest = some_rest more in sign_stop rest.0 rest.1 44 [] bytes count refl at
 
 pub arrow_at : (bytes : List ℕ) (count : ℕ) (whole : Bool) → SignAt (codes "=>") bytes count whole
     → PartAt part.Arrow bytes count whole
 arrow_at bytes count true at = λ more k alt l.
-    sign_along (no_blank more (and_left (starts_with_value more) (alternate more) alt)) 61 (62 ∷ []) bytes count k refl at l
+    sign_along (no_blank more (and_parts (starts_with_value more) (alternate more) alt).0) 61 (62 ∷ []) bytes count k refl at l
 arrow_at bytes count false at = λ more alt.
     let rest = some_rest more in sign_stop rest.0 rest.1 61 (62 ∷ []) bytes count refl at
 
 after_value : (more : List Part) → (not (starts_with_value more) && alternate more) ≡ true → NoDigit (Rest more)
 after_value more alt =
-    no_digit more (opposite (starts_with_value more) (and_left (not (starts_with_value more)) (alternate more) alt))
+    no_digit more (not-true (starts_with_value more) (and_parts (not (starts_with_value more)) (alternate more) alt).0)
 
 pub constant_at : (bytes : List ℕ) (count : ℕ) (whole : Bool) → NumberAt bytes count whole
     → PartAt part.Constant bytes count whole
@@ -191,9 +180,6 @@ unregistered bytes none = λ more alt.
     let stopped = text_stop (48 ∷ rest.0) (some_number rest.0 rest.1) (codes "r") bytes (omega (arith, none)) in
     at_length none (same grouped_left grouped_right stopped)
 
-letter_r : (c : ℕ) → (c == 114) ≡ true → c ≡ 114
-letter_r c h = grind (arith, nat_tests)
-
 pub register_at : (bytes : List ℕ) (count : ℕ) (whole : Bool) → RegisterAt bytes count whole
     → PartAt part.Register bytes count whole
 register_at bytes count whole at = by bytes at.named at.other
@@ -205,7 +191,7 @@ register_at bytes count whole at = by bytes at.named at.other
       where
         here : (b : Bool) → (c == 114) ≡ b → PartAt part.Register (c ∷ cs) count whole
         here true e =
-            let letter = letter_r c e in
+            let letter = eqb-true c 114 e in
             let n = named cs (ap (λ x. x ∷ cs) letter) in
             subst (λ x. PartAt part.Register (x ∷ cs) count whole) (sym letter)
             (subst (λ m. PartAt part.Register (114 ∷ cs) m whole) (sym n.2) (registered cs n.0 whole n.1))

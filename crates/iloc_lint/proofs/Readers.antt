@@ -1,17 +1,12 @@
 -- The faults beside what the reader answers.
 use Rattle.std.proofs.Common.{◌≡◌, ◌∙◌, ℕ, ◌+◌, List, [], ◌∷◌, ◌++◌, length, map, refl, sym, ap, subst, subst₂, append_assoc, append-nil, length-append, inl, inr, arith}
-use Rattle.std.specs.List.{AllByRecursion}
 use Rattle.iloc_text.specs.declared.fault.ReadFault.{ReadFault}
-use Rattle.iloc_text.specs.declared.fault.ReadFault.TheVariants.{InputTooLong, BadLine, NumberTooLarge, TooManyBlocks, TooManyOperations, NoMemory}
-use Rattle.iloc_text.specs.Files.{AreLines, Reading, ReadAs, IsWithin, NoneFaulty, IsFaulty, HasFirstFault, IsRefused, fronts, file_of}
-use Rattle.iloc_text.proofs.Counts.{fronts-snoc}
-use Rattle.iloc_text.proofs.Every.{all-snoc}
+use Rattle.iloc_text.specs.declared.fault.ReadFault.TheVariants.{InputTooLong}
+use Rattle.iloc_text.specs.Files.{AreLines, Reading, ReadAs, NoneFaulty, IsFaulty, IsRefused, file_of}
+use Rattle.iloc_text.proofs.Every.{NoneFaulty-snoc, first_refused}
 use Rattle.iloc_text.proofs.BlockLists.{length-file}
 use Rattle.iloc_lint.specs.Faults.{Refusal, CountsAs, AreRefused}
 use Rattle.iloc_lint.specs.Laws.{NoFaultsMeanAFile, TheFirstIsTheReaders}
-
-none-snoc : (rs : List Reading) (r : Reading) → NoneFaulty rs → IsWithin (rs ++ r ∷ []) → NoneFaulty (rs ++ r ∷ [])
-none-snoc rs r h w = subst (AllByRecursion IsWithin) (sym (fronts-snoc rs r)) (all-snoc IsWithin (fronts rs) (rs ++ r ∷ []) h w)
 
 -- No fault
 
@@ -34,7 +29,7 @@ all_read before (line ∷ lines) (r ∷ rs) h none =
         → (AreRefused (before ++ r ∷ []) lines rs [] → NoneFaulty (before ++ r ∷ []) → AllRead (before ++ r ∷ []) lines rs)
         → AllRead before (line ∷ lines) (r ∷ rs)
     by [] [] counts more e go =
-        let others = go more (none-snoc before r none counts.1) in
+        let others = go more (NoneFaulty-snoc before r none counts.1) in
         record { read = (counts.0, others.read); none = subst NoneFaulty (append_assoc before (r ∷ []) rs) others.none }
     by [] (x ∷ xs) counts more e go = cc
     by (fault ∷ faults) rest counts more e go = cc
@@ -86,7 +81,7 @@ first_found before (line ∷ lines) (r ∷ rs) first others h none =
     by [] [] counts more e go = cc
     by [] (x ∷ xs) counts more e go =
         let same : x ≡ first = cc in
-        let found = go x xs more (none-snoc before r none counts.1) in
+        let found = go x xs more (NoneFaulty-snoc before r none counts.1) in
         let number : length (before ++ r ∷ []) + length found.front + 1 ≡ length before + length (line ∷ found.front) + 1 =
         omega (arith, length-append before (r ∷ [])) in
         record {
@@ -117,14 +112,6 @@ first_found before (line ∷ lines) (r ∷ rs) first others h none =
         }
     by (fault ∷ other ∷ more) rest counts left e go = absurd counts
 
-refused_for : (input : List ℕ) (fault : ReadFault) → HasFirstFault input fault → IsRefused input fault
-refused_for input InputTooLong h = absurd h.faulty
-refused_for input (BadLine n) h = h
-refused_for input (NumberTooLarge n) h = h
-refused_for input (TooManyBlocks n) h = h
-refused_for input (TooManyOperations n) h = h
-refused_for input NoMemory h = absurd h.faulty
-
 at_first : (n : ℕ) → length {A = Reading} [] + n + 1 ≡ n + 1
 at_first n = omega arith
 
@@ -134,7 +121,7 @@ first_fault input first others blocks ops (inr long) =
     subst (λ f. IsRefused input f.fault) (sym same) long.long
 first_fault input first others blocks ops (inl h) =
     let found = first_found [] h.lines h.readings first others h.refused tt in
-    refused_for input first.fault (record {
+    first_refused input first.fault (record {
       short = h.short;
       before = found.front;
       line = found.line;

@@ -1,12 +1,11 @@
 //! How far a line reads: along the parts of each operation, to the first byte that belongs to none.
 ghost use Rattle.std.specs.Prelude.{◌≡◌, ◌≤◌, nat_lt, not, true, ◌&&◌, drop, length};
 ghost use Rattle.std.specs.Char.{is_ascii_digit};
-ghost use Rattle.iloc_text.specs.Grammar.{is_blank, is_word_byte};
 ghost use Rattle.iloc_lint.specs.Place.{IsPlace};
 ghost use Rattle.iloc_lint.specs.Steps.Longest.{Called, Longest, NumberAt, PartAt, RegisterAt, Rest, SignAt, alternate, blanks_in, comment_in, common_in, digits_in, label_in, parts, word_in};
 
 use iloc_ops::{OPCODES, Opcode, Operands, form_of, op_of};
-use iloc_text::MAX_NUMBER;
+use iloc_text::{MAX_NUMBER, is_blank, is_word_byte};
 
 /// A part of an operation after its opcode.
 #[derive(Clone, Copy, Drop, PartialEq, Eq)]
@@ -38,18 +37,6 @@ pub fn parts_of(opcode: Opcode) -> &'static [Part]
         Operands::WithConstant(..) => &[Space, Register, Comma, Constant, Arrow, Register],
         Operands::StoredAt(..) => &[Space, Register, Arrow, Register, Comma, Constant],
     }
-}
-
-fn is_blank(byte: u8) -> bool
-    ensures { result ≡ is_blank byte }
-{
-    byte == b' ' || byte == b'\t' || byte == b'\r'
-}
-
-pub fn is_word_byte(byte: u8) -> bool
-    ensures { result ≡ is_word_byte byte }
-{
-    byte.is_ascii_alphanumeric() || byte == b'_'
 }
 
 /// How many blanks are at the front.

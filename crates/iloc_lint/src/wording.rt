@@ -1,12 +1,10 @@
 //! What is wrong with a line, in words.
 ghost use Rattle.std.specs.Prelude.{◌≤◌, ◌<◌, length};
 
-use crate::place::{
-    Part, Place, blanks_at, is_word_byte, label_at, operands_at, place_of, word_at,
-};
+use crate::place::{Part, Place, blanks_at, label_at, operands_at, place_of, word_at};
 use crate::shown::push_shown;
 use iloc_ops::{OPCODES, Opcode};
-use iloc_text::NoMemory;
+use iloc_text::{NoMemory, is_word_byte};
 use std::alloc::Global;
 
 /// Opcodes of the book and of other machines that this language doesn't have.

@@ -1,7 +1,8 @@
 -- The run of a block from its start to its end.
-use Rattle.std.proofs.Common.{◌≡◌, ℕ, zero, suc, ◌+◌, ◌*◌, ◌/◌, ◌<◌, ◌||◌, Bool, true, false, List, [], length, get_or, ℤ, pos, arith, refl, ap, sym, ◌∙◌, add-one, add-zero, add-suc, ◌-◌}
+use Rattle.std.proofs.Common.{◌≡◌, ℕ, zero, suc, ◌+◌, ◌*◌, ◌/◌, ◌<◌, true, List, [], length, get_or, ℤ, pos, arith, refl, ap, sym, ◌∙◌, add-one, add-zero, add-suc, ◌-◌}
 use Rattle.std.proofs.lemmas.List.FromFn.{fill_by_all}
 use Rattle.std.proofs.lemmas.List.{get_or_default}
+use Rattle.std.proofs.lemmas.Bool.{or_right}
 use Rattle.iloc_meaning.specs.Memory.{WORDS, word_at, with_words}
 use Rattle.iloc_ops.specs.declared.op.Reg.{Reg}
 use Rattle.iloc_ops.specs.declared.op.Op.{Op}
@@ -43,10 +44,6 @@ pub goes_on : (memory : List ℤ) (ops items : List Op) (i : ℕ) (other : Op) (
     → i < length items → Follows memory (then_executed memory (get_or items i other) (before memory ops i)) state
     → Follows memory (before memory ops (i + 1)) state
 goes_on memory ops items i other state same within follows = rw (next memory ops items i other same within) follows
-
-or_right : (a b : Bool) → b ≡ true → (a || b) ≡ true
-or_right true b holds = refl
-or_right false b holds = holds
 
 -- a fault stays
 pub fault_stays : (memory : List ℤ) (ops : List Op) (i more : ℕ) → has_fault (before memory ops i) ≡ true

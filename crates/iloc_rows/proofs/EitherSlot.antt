@@ -1,10 +1,11 @@
 -- Exchanging the operations of rows keeps the limits.
 use Rattle.std.proofs.Common.{◌≡◌, ◌∙◌, ℕ, zero, suc, ◌≤◌, ◌<◌, nat_lt, Option, Some, None, ◌==◌, ◌&&◌, not, Bool, true, false, cond, List, [], ◌∷◌, length, map, count_by, option_to_list, refl, sym, arith}
 use Rattle.std.specs.List.{AllByRecursion, list_all}
-use Rattle.std.specs.Prelude.{MatchOption, IsTrue, IsFalse}
+use Rattle.std.specs.Prelude.{MatchOption}
 use Rattle.std.proofs.lemmas.List.{length-map}
 use Rattle.std.proofs.lemmas.List.Folds.{list_all-append}
 use Rattle.std.proofs.lemmas.List.Sums.{sum_by-cons}
+use Rattle.std.proofs.lemmas.Bool.{and_from, and_right}
 use Rattle.iloc_ops.specs.Limits.{MAX_OPS}
 use Rattle.iloc_ops.specs.declared.op.Op.{Op}
 use Rattle.iloc_timed.specs.declared.row.Row.{Row}
@@ -99,27 +100,19 @@ placed_within true blocks proposals w = record {
 
 -- The first row that breaks the rules of the units
 
-both : (a b : Bool) → a ≡ true → b ≡ true → (a && b) ≡ true
-both true b first second = second
-both false b first second = absurd cc
-
-second_fails : (a b : Bool) → b ≡ false → (a && b) ≡ false
-second_fails true b fails = fails
-second_fails false b fails = refl
-
 -- rows whose numbers are operations' are a table unless one breaks the rules of the units
 pub bad_row_of : (p : Proposed) (found : Option ℕ) → IsNumbered p
     → MatchOption found (AllKeepUnits p.ops p.rows) (IsFirstThatBreaks p.ops p.rows)
     → MatchOption found (IsTable p.ops p.rows) (IsFirstBadRow p.ops p.rows)
 bad_row_of p None numbered keep =
     table_from p.ops p.rows
-    (λ c within. both (in_range (length p.ops) (row_at p.rows c)) (keeps_units p.ops (row_at p.rows c)) (numbered.0 c within) (keep c within))
+    (λ c within. and_from (in_range (length p.ops) (row_at p.rows c)) (keeps_units p.ops (row_at p.rows c)) (numbered.0 c within) (keep c within))
     numbered.1
 bad_row_of p (Some c) numbered first = record {
   within = first.within;
-  bad = second_fails (in_range (length p.ops) (row_at p.rows c)) (keeps_units p.ops (row_at p.rows c)) first.bad;
+  bad = and_right (in_range (length p.ops) (row_at p.rows c)) (keeps_units p.ops (row_at p.rows c)) first.bad;
   others = λ b below.
       let inside : b < length p.rows = omega (arith, first.within) in
-      both (in_range (length p.ops) (row_at p.rows b)) (keeps_units p.ops (row_at p.rows b)) (numbered.0 b inside)
+      and_from (in_range (length p.ops) (row_at p.rows b)) (keeps_units p.ops (row_at p.rows b)) (numbered.0 b inside)
       (first.others b below);
 }

@@ -8,6 +8,7 @@ use Rattle.iloc_text.specs.ScheduleLines.Said.{nothing, row, head, cycles, total
 use Rattle.iloc_text.specs.Lines.{lines_of, lines_left}
 use Rattle.iloc_text.proofs.ScheduleLines.Says.{nothing_alone}
 use Rattle.iloc_text.proofs.Splitting.{lines_few}
+use Rattle.iloc_text.proofs.Every.{all-snoc}
 use Rattle.iloc_rows.specs.Submissions.{StartWithSchedule}
 use Rattle.iloc_rows.specs.Steps.Ends.{is_nothing}
 
@@ -86,11 +87,6 @@ pub record AreBlocks (input : List ℕ) (number : ℕ) (rest : Option (Bor (List
   pub none : AllByRecursion (λ line. IsScheduleLine line → ⊥) before
   pub lines : lines_of input ≡ before ++ lines_left rest
   pub count : number ≡ length before
-
-pub all-snoc : {A : Type 0} (P : A → Type 0) (xs : List A) (x : A) → AllByRecursion P xs → P x
-    → AllByRecursion P (xs ++ x ∷ [])
-all-snoc P [] x h p = (p, tt)
-all-snoc P (y ∷ ys) x h p = (h.0, all-snoc P ys x h.1 p)
 
 pub blocks_step : {input : List ℕ} {number : ℕ} {text : Bor (List ℕ)} (p : AreBlocks input number (Some text))
     (line : List ℕ) (after : Option (Bor (List ℕ))) → lines_of text.now ≡ line ∷ lines_left after

@@ -2,9 +2,8 @@
 use Rattle.std.proofs.Common.{◌≡◌, ◌∙◌, ℕ, ◌+◌, ◌<◌, ◌≤◌, nat_lt, Bool, true, false, List, [], ◌∷◌, ◌++◌, length, refl, sym, ap, subst, Option, Some, None, ◌⊎◌, inl, inr, append_assoc, append-nil, arith}
 use Rattle.std.specs.Prelude.{not}
 use Rattle.std.specs.List.{find, join_with_byte}
-use Rattle.std.proofs.lemmas.Bool.{cases_eq}
+use Rattle.std.proofs.lemmas.Bool.{cases_eq, ltb-true, ltb-false}
 use Rattle.std.proofs.lemmas.Option.{same_Some}
-use Rattle.std.proofs.lemmas.Bool.Decides.{nat_tests}
 use Rattle.iloc_ops.specs.Limits.{MAX_INPUT, MAX_OPS}
 use Rattle.iloc_ops.specs.declared.file.Block.{Block}
 use Rattle.iloc_text.specs.declared.fault.ReadFault.TheVariants.{InputTooLong, BadLine, NumberTooLarge, TooManyOperations}
@@ -82,21 +81,15 @@ record IsRead (blocks : List Block) (told : List Told) (line : List ℕ) : Type 
 abbrev Judged : List Block → List Told → List ℕ → ℕ → Type 0
 Judged blocks told line n = ((fault : RowsFault) × IsFaulty blocks told line n fault) ⊎ IsRead blocks told line
 
-above : (a b : ℕ) → nat_lt a b ≡ true → a < b
-above a b h = grind (arith, nat_tests)
-
-not_above : (a b : ℕ) → nat_lt a b ≡ false → b ≤ a
-not_above a b h = grind (arith, nat_tests)
-
 by_fit : (blocks : List Block) (told : List Told) (line : List ℕ) (n : ℕ) (t : Told) → Tells line t
     → (there many : Bool) → is_of_block blocks told t ≡ there → nat_lt MAX_OPS (op_count told t) ≡ many
     → Judged blocks told line n
 by_fit blocks told line n t tells false many h m =
     inl (NoSuchBlock n, (refl, record { told = t; tells = tells; of_none = h }))
 by_fit blocks told line n t tells true true h m =
-    inl (Read (TooManyOperations n), (refl, record { told = t; tells = tells; of_block = h; many = above _ _ m }))
+    inl (Read (TooManyOperations n), (refl, record { told = t; tells = tells; of_block = h; many = ltb-true _ _ m }))
 by_fit blocks told line n t tells true false h m =
-    inr (record { telling = t; tells = tells; fits = record { of_block = h; few = not_above _ _ m } })
+    inr (record { telling = t; tells = tells; fits = record { of_block = h; few = ltb-false _ _ m } })
 
 -- whether a line opens a row
 opens_or_not : (line : List ℕ) → OpensRow line ⊎ (OpensRow line → ⊥)
@@ -239,8 +232,8 @@ by_blocks input short c = elim (files_every.an_answer (join_with_byte 10 c.befor
 ]
 
 by_length : (input : List ℕ) (long : Bool) → nat_lt MAX_INPUT (length input) ≡ long → Answered input
-by_length input true e = inr (Read InputTooLong, above _ _ e)
-by_length input false e = by_blocks input (not_above _ _ e) (cut (lines_of input))
+by_length input true e = inr (Read InputTooLong, ltb-true _ _ e)
+by_length input false e = by_blocks input (ltb-false _ _ e) (cut (lines_of input))
 
 pub an_answer : TextsHaveAnAnswer
 an_answer input = by_length input _ refl

@@ -3,6 +3,7 @@ use Rattle.std.proofs.Common.{◌≡◌, ◌∙◌, ℕ, ◌+◌, ◌-◌, ◌<�
 use Rattle.std.proofs.lemmas.List.{get_or_past}
 use Rattle.std.proofs.lemmas.List.FromFn.{length-map-range_with_len, get_or-map-range_with_len}
 use Rattle.std.proofs.lemmas.Bool.Decides.{nat_tests}
+use Rattle.std.proofs.lemmas.Bool.{lt-ltb}
 use Rattle.iloc_ops.specs.declared.op.Op.{Op}
 use Rattle.iloc_ops.specs.declared.file.Block.{Block}
 use Rattle.iloc_text.specs.declared.fault.ReadFault.TheVariants.{InputTooLong, BadLine, NumberTooLarge, TooManyBlocks, TooManyOperations, NoMemory}
@@ -210,15 +211,12 @@ same_proposals : (count : ℕ) (ss : List Told) (s : Told) → row_in s ≡ None
 same_proposals count ss s r u c =
     sym (map-same (proposal_of ss) (proposal_of (ss ++ s ∷ [])) 1 count (λ k le. proposal-same ss s k r u c))
 
-below : (a k : ℕ) → a < k → nat_lt a k ≡ true
-below a k h = grind (arith, nat_tests)
-
 pub head_turns : {blocks : List Block} {ss : List Told} {old : Proposing} (k : ℕ) (name : Option (List ℕ)) (n : ℕ)
     (new : Proposing) (result : Result (Unit {0}) RowsFault)
     → HasProposed blocks ss old → Turns blocks old k name n new result → Adds blocks ss (read (head k name)) n new result
 head_turns {blocks} {ss} {old} k name n new (Ok done) h r = (
   record {
-    of_block = ap₂ (λ a b. a && b) (below (last_block ss) k (let last = h.last in let lt = r.0 in omega arith)) r.1;
+    of_block = ap₂ (λ a b. a && b) (lt-ltb (last_block ss) k (let last = h.last in let lt = r.0 in omega arith)) r.1;
     few = omega arith;
   },
   record {

@@ -6,6 +6,7 @@ use Rattle.std.specs.Option.{is_some}
 use Rattle.std.proofs.lemmas.List.Elements.{filter_map-append}
 use Rattle.std.proofs.lemmas.List.Folds.{list_any-append}
 use Rattle.iloc_text.specs.ScheduleLines.Said.{head}
+use Rattle.iloc_text.proofs.BlockOps.{filter_map-one, one_or_none}
 use Rattle.iloc_rows.specs.Told.{Told}
 use Rattle.iloc_rows.specs.Told.Told.{read}
 use Rattle.iloc_rows.specs.Proposing.{last_of, fronts, head_number, last_head, proposes, last_block, block_of, of_last, picked}
@@ -24,18 +25,6 @@ pub last_of-snoc : {A : Type 0} (xs : List A) (x : A) → last_of (xs ++ x ∷ [
 last_of-snoc [] x = refl
 last_of-snoc (y ∷ []) x = refl
 last_of-snoc (y ∷ z ∷ xs) x = last_of-snoc (z ∷ xs) x
-
-filter_map-one : {A B : Type 0} (f : A → Option B) (x : A) → filter_map f (x ∷ []) ≡ option_to_list (f x)
-filter_map-one {A} {B} f x = by (f x) refl
-  where
-    by : (o : Option B) → f x ≡ o → filter_map f (x ∷ []) ≡ option_to_list o
-    by None e = rw e refl
-    by (Some y) e = rw e refl
-
-one_or_none : {A : Type 0} (b : Bool) (o p : Option A) → o ≡ p
-    → option_to_list (cond b o None) ≡ cond b (option_to_list p) []
-one_or_none true o p h = ap option_to_list h
-one_or_none false o p h = refl
 
 picked-snoc : {A : Type 0} (pick : Told → Option A) (k : ℕ) (ss : List Told) (s : Told)
     → picked pick k (ss ++ s ∷ [])

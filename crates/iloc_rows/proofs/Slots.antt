@@ -1,7 +1,6 @@
 -- Each operation of rows with numbers is in exactly one slot.
 use Rattle.std.proofs.Common.{◌≡◌, ◌∙◌, ℕ, zero, suc, ◌+◌, ◌<◌, ◌≤◌, nat_lt, ◌==◌, ◌⊎◌, inl, inr, Bool, true, false, cond, List, [], ◌∷◌, ◌++◌, length, length-append, count_by, Option, Some, None, option_to_list, refl, arith, eq-eqb, ne_eqb}
-use Rattle.std.proofs.lemmas.Bool.{cases_lt, cases_eq}
-use Rattle.std.proofs.lemmas.Bool.Decides.{nat_tests}
+use Rattle.std.proofs.lemmas.Bool.{cases_lt, cases_eq, lt-ltb}
 use Rattle.std.proofs.lemmas.List.Sums.{sum_by-cons}
 use Rattle.iloc_ops.specs.declared.op.Op.{Op}
 use Rattle.iloc_timed.specs.declared.row.Row.{Row}
@@ -156,9 +155,6 @@ numbered_once rs i below = once_from 0 rs i (omega arith) (omega arith)
 
 -- Numbers
 
-below_true : (n count : ℕ) → n < count → nat_lt n count ≡ true
-below_true n count h = grind (arith, nat_tests)
-
 row_in_range : (count n : ℕ) (r : Op × Op) → n + length (ops_of_row r) ≤ count
     → in_range count (row_after n r) ≡ true
 row_in_range count n r h = by (is_empty r.0) refl (is_empty r.1) refl
@@ -170,16 +166,16 @@ row_in_range count n r h = by (is_empty r.0) refl (is_empty r.1) refl
     by true e true f = rw (e, f) refl
     by true e false f =
         let long : length (ops_of_row r) ≡ 1 = rw (e, f) refl in
-        let low : nat_lt (n + 0) count ≡ true = below_true (n + 0) count (omega arith) in
+        let low : nat_lt (n + 0) count ≡ true = lt-ltb (n + 0) count (omega arith) in
         rw (e, f, low) refl
     by false e true f =
         let long : length (ops_of_row r) ≡ 1 = rw (e, f) refl in
-        let low : nat_lt n count ≡ true = below_true n count (omega arith) in
+        let low : nat_lt n count ≡ true = lt-ltb n count (omega arith) in
         rw (e, f, low) refl
     by false e false f =
         let long : length (ops_of_row r) ≡ 2 = rw (e, f) refl in
-        let low : nat_lt n count ≡ true = below_true n count (omega arith) in
-        let high : nat_lt (n + 1) count ≡ true = below_true (n + 1) count (omega arith) in
+        let low : nat_lt n count ≡ true = lt-ltb n count (omega arith) in
+        let high : nat_lt (n + 1) count ≡ true = lt-ltb (n + 1) count (omega arith) in
         rw (e, f, low, high) refl
 
 in_range_from : (count n : ℕ) (rs : List (Op × Op)) → n + length (ops_in rs) ≤ count → AreInRange count (numbered n rs)

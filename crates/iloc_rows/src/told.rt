@@ -1,9 +1,8 @@
 //! What a line below the blocks tells.
 ghost use Rattle.std.specs.Prelude.{◌≡◌, MatchBool};
-ghost use Rattle.iloc_text.specs.Grammar.{is_blank};
 ghost use Rattle.iloc_rows.specs.Told.{IsToldBy, OpensRow};
 
-use iloc_text::{ParseFault, ScheduleLine, read_schedule_line};
+use iloc_text::{ParseFault, ScheduleLine, is_blank, read_schedule_line};
 
 /// What a line below the blocks tells.
 #[derive(Clone, Copy)]
@@ -12,12 +11,6 @@ pub enum ToldLine<'a> {
     Reads(ScheduleLine<'a>),
     /// It begins as a row, and can't be read.
     Unread(&'a [u8]),
-}
-
-fn is_blank(byte: u8) -> bool
-    ensures { result ≡ is_blank byte }
-{
-    byte == b' ' || byte == b'\t' || byte == b'\r'
 }
 
 /// Whether the first byte that is no blank is `[`.

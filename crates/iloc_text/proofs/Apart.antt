@@ -17,6 +17,7 @@ use Rattle.iloc_text.proofs.Splitting.{lines_are}
 use Rattle.iloc_text.specs.Steps.Verdicts.{verdict_on, verdict, answer_from, on_verdict}
 use Rattle.iloc_text.proofs.Answer.{reads_verdict, lines_are_of, file_answer}
 use Rattle.iloc_text.proofs.Reading.{answer_begins}
+use Rattle.iloc_text.proofs.Growing.{length-with_optional, length-opened}
 
 -- The lines of both parts
 
@@ -71,40 +72,27 @@ optional_op_behind (Some op) front [] some = absurd (omega arith)
 optional_op_behind (Some op) [] (c ∷ cs) some = refl
 optional_op_behind (Some op) (b ∷ bs) (c ∷ cs) some = with_op_behind op (b ∷ bs) (c ∷ cs) some
 
-length_with_op : (op : Op) (blocks : List Block) → length (with_op op blocks) ≡ length blocks
-length_with_op op [] = refl
-length_with_op op (b ∷ []) = refl
-length_with_op op (b ∷ c ∷ bs) = ap suc (length_with_op op (c ∷ bs))
-
-longer_with_op : (op : Option Op) (blocks : List Block) → length blocks ≤ length (with_optional_op op blocks)
-longer_with_op None blocks = omega arith
-longer_with_op (Some op) [] = omega arith
-longer_with_op (Some op) (b ∷ bs) = omega (arith, length_with_op op (b ∷ bs))
-
 -- a line has a label, or blocks stand before it
 abbrev Opens : Option (List ℕ) → List Block → Type 0
 Opens label blocks = (is_some label ≡ true) ⊎ (0 < length blocks)
 
-length_opened : (name : Option (List ℕ)) (blocks : List Block) → length (opened name blocks) ≡ length blocks + 1
-length_opened name blocks = length-append blocks (record { name = name; ops = [] } ∷ [])
-
 longer_with_line : (label : Option (List ℕ)) (op : Option Op) (blocks : List Block)
     → length blocks ≤ length (with_line label op blocks)
-longer_with_line None op blocks = longer_with_op op blocks
+longer_with_line None op blocks = length-with_optional op blocks
 longer_with_line (Some name) op blocks =
-    omega (arith, length_opened (Some name) blocks, longer_with_op op (opened (Some name) blocks))
+    omega (arith, length-opened (Some name) blocks, length-with_optional op (opened (Some name) blocks))
 
 with_line_behind : (label : Option (List ℕ)) (op : Option Op) (front blocks : List Block) → Opens label blocks
     → (with_line label op (front ++ blocks) ≡ front ++ with_line label op blocks)
     × (0 < length (with_line label op blocks))
 with_line_behind None op front blocks (inl named) = cc
 with_line_behind None op front blocks (inr some) =
-    (optional_op_behind op front blocks some, omega (arith, longer_with_op op blocks))
+    (optional_op_behind op front blocks some, omega (arith, length-with_optional op blocks))
 with_line_behind (Some name) op front blocks opens =
-    let count = length_opened (Some name) blocks in (
+    let count = length-opened (Some name) blocks in (
       ap (with_optional_op op) (append_assoc front blocks (record { name = Some name; ops = [] } ∷ []))
           ∙ optional_op_behind op front (opened (Some name) blocks) (omega arith),
-      omega (arith, longer_with_op op (opened (Some name) blocks)),
+      omega (arith, length-with_optional op (opened (Some name) blocks)),
     )
 
 within : (blocks grown : List Block) (m : ℕ) → limited blocks m ≡ Ok grown

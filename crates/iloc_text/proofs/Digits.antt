@@ -2,8 +2,8 @@
 use Rattle.std.proofs.Common.{◌≡◌, ◌∙◌, ◌≤◌, ◌<◌, ◌+◌, ◌-◌, ◌*◌, ℕ, zero, suc, Bool, true, false, cond, ◌&&◌, if◌then◌else◌, List, [], ◌∷◌, length, take, drop, length-drop, get_or, refl, sym, ap, ◌⊎◌, inl, inr, Some, None, nat_lt, arith}
 use Rattle.std.specs.Char.{is_ascii_digit}
 use Rattle.std.specs.Int.{from_bool}
-use Rattle.std.proofs.lemmas.Bool.Decides.{nat_tests}
 use Rattle.std.proofs.lemmas.List.{length-take, take_all}
+use Rattle.std.proofs.lemmas.Bool.{ltb-true}
 use Rattle.iloc_text.specs.Steps.Scan.{capped, digits_after, number_at}
 
 -- d is the digit that c writes, where it writes one
@@ -11,13 +11,10 @@ pub record DigitIn (c d : ℕ) : Type 0 where
   pub is : nat_lt d 10 ≡ is_ascii_digit c
   pub value : nat_lt d 10 ≡ true → c ≡ d + 48
 
-small : (d : ℕ) → nat_lt d 10 ≡ true → d < 10
-small d e = grind (arith, nat_tests)
-
 one_more : (v c d : ℕ) (cs : List ℕ) → v < 100000 → DigitIn c d → nat_lt d 10 ≡ true
     → digits_after v (c ∷ cs) ≡ digits_after (v * 10 + d) cs
 one_more v c d cs low digit e =
-    rw (sym digit.is ∙ e) (ap (λ n. digits_after n cs) (omega (arith, digit.value e, small d e, low)))
+    rw (sym digit.is ∙ e) (ap (λ n. digits_after n cs) (omega (arith, digit.value e, ltb-true d 10 e, low)))
 
 no_more : (v c d : ℕ) (cs : List ℕ) → DigitIn c d → nat_lt d 10 ≡ false → digits_after v (c ∷ cs) ≡ (v, c ∷ cs)
 no_more v c d cs digit e = rw (sym digit.is ∙ e) refl
@@ -39,11 +36,11 @@ passed b c d more p q r s db dc dd low false y z eq er es = refl
 passed b c d more p q r s db dc dd low true false z eq er es = one_more p b q (c ∷ d ∷ more) (omega (arith, low)) db eq
 passed b c d more p q r s db dc dd low true true false eq er es =
     one_more p b q (c ∷ d ∷ more) (omega (arith, low)) db eq
-    ∙ one_more (p * 10 + q) c r (d ∷ more) (omega (arith, low, small q eq)) dc er
+    ∙ one_more (p * 10 + q) c r (d ∷ more) (omega (arith, low, ltb-true q 10 eq)) dc er
 passed b c d more p q r s db dc dd low true true true eq er es =
     one_more p b q (c ∷ d ∷ more) (omega (arith, low)) db eq
-    ∙ one_more (p * 10 + q) c r (d ∷ more) (omega (arith, low, small q eq)) dc er
-    ∙ one_more ((p * 10 + q) * 10 + r) d s more (omega (arith, low, small q eq, small r er)) dd es
+    ∙ one_more (p * 10 + q) c r (d ∷ more) (omega (arith, low, ltb-true q 10 eq)) dc er
+    ∙ one_more ((p * 10 + q) * 10 + r) d s more (omega (arith, low, ltb-true q 10 eq, ltb-true r 10 er)) dd es
 
 ended : (b c d e : ℕ) (more : List ℕ) (v q r s t : ℕ) → DigitIn b q → DigitIn c r → DigitIn d s → DigitIn e t
     → (x y z w : Bool) → nat_lt q 10 ≡ x → nat_lt r 10 ≡ y → nat_lt s 10 ≡ z → nat_lt t 10 ≡ w
@@ -57,7 +54,7 @@ ended b c d e more v q r s t db dc dd de true true true true eq er es et h = cc
 
 first_one : (a p : ℕ) (rest : List ℕ) → DigitIn a p → nat_lt p 10 ≡ true → number_at (a ∷ rest) ≡ Some (digits_after p rest)
 first_one a p rest digit e =
-    rw (sym digit.is ∙ e) (ap (λ n. Some (digits_after n rest)) (omega (arith, digit.value e, small p e)))
+    rw (sym digit.is ∙ e) (ap (λ n. Some (digits_after n rest)) (omega (arith, digit.value e, ltb-true p 10 e)))
 
 -- what stands behind up to four digits, and their number
 abbrev rest_of : (bytes : List ℕ) (q r s : ℕ) → List ℕ
@@ -78,7 +75,7 @@ four_passed (a ∷ b ∷ c ∷ d ∷ more) p q r s long da db dc dd first =
     let y = nat_lt r 10 in
     let z = nat_lt s 10 in
     first_one a p (b ∷ c ∷ d ∷ more) da first
-    ∙ ap (λ found. Some found) (passed b c d more p q r s db dc dd (small p first) x y z refl refl refl)
+    ∙ ap (λ found. Some found) (passed b c d more p q r s db dc dd (ltb-true p 10 first) x y z refl refl refl)
     ∙ ap (λ rest. Some (digits_after (value_of p q r s x y z) rest)) (sym (behind a (b ∷ c ∷ d ∷ more) x y z))
 four_passed _ p q r s long da db dc dd first = absurd (omega (arith, long))
 

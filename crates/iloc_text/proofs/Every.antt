@@ -1,7 +1,7 @@
 -- Every text has an answer, and the answer is what it denotes: line by line, each is read or faulty.
-use Rattle.std.proofs.Common.{◌≡◌, ℕ, ◌+◌, ◌<◌, ◌≤◌, nat_lt, Bool, true, false, cond, List, [], ◌∷◌, ◌++◌, length, refl, sym, subst, subst₂, Option, Some, None, Result, Ok, Err, ◌⊎◌, inl, inr, append_assoc, append-nil, length-append, arith}
+use Rattle.std.proofs.Common.{◌≡◌, ℕ, ◌+◌, ◌<◌, ◌≤◌, nat_lt, Bool, true, false, cond, List, [], ◌∷◌, ◌++◌, length, refl, sym, subst, subst₂, Option, Some, None, Result, Ok, Err, ◌⊎◌, inl, inr, append_assoc, append-nil, length-append}
 use Rattle.std.specs.List.{AllByRecursion}
-use Rattle.std.proofs.lemmas.Bool.Decides.{nat_tests}
+use Rattle.std.proofs.lemmas.Bool.{ltb-true, ltb-false}
 use Rattle.iloc_ops.specs.Limits.{MAX_INPUT, MAX_BLOCKS, MAX_OPS}
 use Rattle.iloc_ops.specs.declared.op.Op.{Op}
 use Rattle.iloc_ops.specs.declared.file.Block.{Block}
@@ -33,12 +33,6 @@ abbrev Judged : List Reading → List ℕ → ℕ → Result (List Block) ReadFa
 Judged rs line n (Ok grown) = IsRead rs line grown
 Judged rs line n (Err fault) = IsFaulty rs line n fault
 
-above : (a b : ℕ) → nat_lt a b ≡ true → a < b
-above a b h = grind (arith, nat_tests)
-
-not_above : (a b : ℕ) → nat_lt a b ≡ false → b ≤ a
-not_above a b h = grind (arith, nat_tests)
-
 by_limits : (rs : List Reading) (line : List ℕ) (n : ℕ) (r : Reading) → Reads line r.label r.op
     → (blocks operations : Bool)
     → nat_lt MAX_BLOCKS (length (file_of (rs ++ r ∷ []))) ≡ blocks
@@ -46,22 +40,22 @@ by_limits : (rs : List Reading) (line : List ℕ) (n : ℕ) (r : Reading) → Re
     → Judged rs line n (cond blocks (Err (TooManyBlocks n)) (cond operations (Err (TooManyOperations n))
     (Ok (file_of (rs ++ r ∷ [])))))
 by_limits rs line n r reads true operations b o =
-    (refl, record { reading = r; read = reads; blocks = subst (λ c. MAX_BLOCKS < c) (length-file _) (above _ _ b) })
+    (refl, record { reading = r; read = reads; blocks = subst (λ c. MAX_BLOCKS < c) (length-file _) (ltb-true _ _ b) })
 by_limits rs line n r reads false true b o = (
   refl,
   record {
     reading = r;
     read = reads;
-    blocks = subst (λ c. c ≤ MAX_BLOCKS) (length-file _) (not_above _ _ b);
-    operations = subst (λ ops. MAX_OPS < length ops) (last-file _) (above _ _ o);
+    blocks = subst (λ c. c ≤ MAX_BLOCKS) (length-file _) (ltb-false _ _ b);
+    operations = subst (λ ops. MAX_OPS < length ops) (last-file _) (ltb-true _ _ o);
   },
 )
 by_limits rs line n r reads false false b o = record {
   reading = r;
   reads = reads;
   within = record {
-    blocks = subst (λ c. c ≤ MAX_BLOCKS) (length-file _) (not_above _ _ b);
-    operations = subst (λ ops. length ops ≤ MAX_OPS) (last-file _) (not_above _ _ o);
+    blocks = subst (λ c. c ≤ MAX_BLOCKS) (length-file _) (ltb-false _ _ b);
+    operations = subst (λ ops. length ops ≤ MAX_OPS) (last-file _) (ltb-false _ _ o);
   };
   file = refl;
 }
@@ -88,7 +82,7 @@ pub all-snoc : {A : Type 0} (P : A → Type 0) (xs : List A) (x : A) → AllByRe
 all-snoc P [] x h p = (p, tt)
 all-snoc P (y ∷ ys) x h p = (h.0, all-snoc P ys x h.1 p)
 
-NoneFaulty-snoc : (rs : List Reading) (r : Reading) → NoneFaulty rs → IsWithin (rs ++ r ∷ [])
+pub NoneFaulty-snoc : (rs : List Reading) (r : Reading) → NoneFaulty rs → IsWithin (rs ++ r ∷ [])
     → NoneFaulty (rs ++ r ∷ [])
 NoneFaulty-snoc rs r h w = subst (AllByRecursion IsWithin) (sym (fronts-snoc rs r))
     (all-snoc IsWithin (fronts rs) (rs ++ r ∷ []) h w)
@@ -100,7 +94,7 @@ ReadAs-snoc [] (x ∷ xs) line r h reads = absurd h
 ReadAs-snoc (l ∷ ls) [] line r h reads = absurd h
 ReadAs-snoc (l ∷ ls) (x ∷ xs) line r h reads = (h.0, ReadAs-snoc ls xs line r h.1 reads)
 
-first_refused : (input : List ℕ) (fault : ReadFault) → HasFirstFault input fault → IsRefused input fault
+pub first_refused : (input : List ℕ) (fault : ReadFault) → HasFirstFault input fault → IsRefused input fault
 first_refused input InputTooLong h = absurd h.faulty
 first_refused input (BadLine n) h = h
 first_refused input (NumberTooLarge n) h = h
@@ -153,8 +147,8 @@ answers input = by (nat_lt MAX_INPUT (length input)) refl
   where
     by : (long : Bool) → nat_lt MAX_INPUT (length input) ≡ long
         → Answers input (cond long (Err InputTooLong) (answer_from (file_of []) 1 (lines_of input)))
-    by true e = above _ _ e
-    by false e = from_here input (not_above _ _ e) [] (lines_of input) [] (lines_are input) tt tt
+    by true e = ltb-true _ _ e
+    by false e = from_here input (ltb-false _ _ e) [] (lines_of input) [] (lines_are input) tt tt
 
 pub an_answer : TextsHaveAnAnswer
 an_answer input = (elim (answer input)

@@ -35,7 +35,7 @@ many_operations blocks line few many =
 
 -- The open block
 
-length-with_op : (op : Op) (bs : List Block) → length (with_op op bs) ≡ length bs
+pub length-with_op : (op : Op) (bs : List Block) → length (with_op op bs) ≡ length bs
 length-with_op op [] = refl
 length-with_op op (x ∷ []) = refl
 length-with_op op (x ∷ y ∷ bs) = ap suc (length-with_op op (y ∷ bs))
@@ -108,7 +108,7 @@ pub with_optional-none : (op : Op) (bs : List Block) → length bs ≡ 0 → wit
 with_optional-none op [] none = refl
 with_optional-none op (b ∷ bs) none = absurd (omega arith)
 
-length-with_optional : (op : Option Op) (bs : List Block) → length bs ≤ length (with_optional_op op bs)
+pub length-with_optional : (op : Option Op) (bs : List Block) → length bs ≤ length (with_optional_op op bs)
 length-with_optional None bs = omega arith
 length-with_optional (Some op) [] = omega arith
 length-with_optional (Some op) (b ∷ bs) = omega (arith, length-with_op op (b ∷ bs))

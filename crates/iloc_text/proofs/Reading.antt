@@ -45,7 +45,7 @@ label_is_utf8 line (Some name) op r = λ x e.
 
 -- From line to line
 
-nothing_read : file_of [] ≡ []
+pub nothing_read : file_of [] ≡ []
 unfolding file_of block_names
 nothing_read = refl
 

@@ -1,25 +1,18 @@
 -- How a text falls into its lines.
-use Rattle.std.proofs.Common.{◌≡◌, ℕ, ◌+◌, ◌<◌, ◌≤◌, nat_lt, Option, Bool, true, false, cond, not, List, [], ◌∷◌, length, take, drop, refl, sym, Some, None, arith}
+use Rattle.std.proofs.Common.{◌≡◌, ℕ, ◌+◌, ◌≤◌, nat_lt, Option, Bool, true, false, cond, not, List, [], ◌∷◌, length, take, drop, refl, sym, Some, None, arith}
 use Rattle.std.specs.List.{onto_first, position_or_len, slice_index, AllByRecursion}
 use Rattle.std.proofs.lemmas.List.Sums.{position_or_len_is}
 use Rattle.memchr.specs.Find.{IsFirstByte, is_byte}
 use Rattle.std.proofs.lemmas.List.Splits.{slice_split_first, length-slice_split, join_with_byte-slice_split}
 use Rattle.std.proofs.lemmas.List.Sums.{count_by-le-length}
 use Rattle.std.proofs.lemmas.Bool.Decides.{nat_tests}
+use Rattle.std.proofs.lemmas.Bool.{false_from_ne_true, lt-ltb}
 use Rattle.iloc_text.specs.Lines.{is_line_end, line_end, lines_of}
 use Rattle.iloc_text.specs.Files.{HasNoLineEnd, AreLines}
-
--- what passes no test fails it
-fails : (b : Bool) → (b ≡ true → ⊥) → b ≡ false
-fails true h = absurd (h refl)
-fails false h = refl
 
 at_place : (text : List ℕ) (i : ℕ) (r : Option ℕ) → position_or_len is_line_end text ≡ i
     → cond (nat_lt i (length text)) (Some i) None ≡ r → r ≡ line_end text
 at_place text i r e f = rw e (sym f)
-
-in_text : (i n : ℕ) → i < n → nat_lt i n ≡ true
-in_text i n h = grind (arith, nat_tests)
 
 past_text : (n : ℕ) → nat_lt n n ≡ false
 past_text n = grind (arith, nat_tests)
@@ -28,14 +21,14 @@ past_text n = grind (arith, nat_tests)
 pub first_line_end : (text : List ℕ) (r : Option ℕ) → IsFirstByte (is_byte 10) text r → r ≡ line_end text
 first_line_end text None h =
     let end = position_or_len_is is_line_end text (length text) 0 (omega arith)
-    (λ k below. fails (is_line_end (slice_index text k)) (h k (omega arith) below))
+    (λ k below. false_from_ne_true (is_line_end (slice_index text k)) (h k (omega arith) below))
     (λ inside. absurd (omega arith)) in
     at_place text (length text) None end (rw (past_text (length text)) refl)
 first_line_end text (Some i) h =
     let inside = h.0.high in
     let here = position_or_len_is is_line_end text i 0 (omega arith)
-    (λ k below. fails (is_line_end (slice_index text k)) (h.0.before k (omega arith) below)) (λ inside. h.1) in
-    at_place text i (Some i) here (rw (in_text i (length text) inside) refl)
+    (λ k below. false_from_ne_true (is_line_end (slice_index text k)) (h.0.before k (omega arith) below)) (λ inside. h.1) in
+    at_place text i (Some i) here (rw (lt-ltb i (length text) inside) refl)
 
 whole_line : (text : List ℕ) → length text ≤ position_or_len is_line_end text → lines_of text ≡ text ∷ []
 whole_line [] h = refl

@@ -5,6 +5,7 @@ use Rattle.std.specs.List.{AllByRecursion}
 use Rattle.std.specs.Char.{is_ascii_digit, digit_value}
 use Rattle.std.specs.Str.Parse.{AllDigits, digits_value_after}
 use Rattle.std.proofs.lemmas.Bool.Decides.{nat_tests}
+use Rattle.std.proofs.lemmas.Bool.{eqb-true}
 use Rattle.iloc_ops.specs.declared.op.Reg.{Reg}
 use Rattle.iloc_text.specs.Grammar.{is_word_byte, ◌⋅◌, Text, is_blank, Blanks, SomeBlanks, Number, Register, Arrow, Comma}
 use Rattle.iloc_text.specs.Steps.Scan.{after_blanks, some_blanks_at, capped, digits_after, number_at, register_at, arrow_at, arrow_from, comma_at, comma_from, after_word, word_of}
@@ -69,13 +70,13 @@ some_blanks_again rest bytes b s = ap some_blanks_at b.whole ∙ some_again_from
 
 -- Numbers
 
-digit_value_is : (c : ℕ) → is_ascii_digit c ≡ true → digit_value c ≡ c - 48
+pub digit_value_is : (c : ℕ) → is_ascii_digit c ≡ true → digit_value c ≡ c - 48
 digit_value_is c h = grind (arith, nat_tests)
 
-digit_value_small : (c : ℕ) → is_ascii_digit c ≡ true → digit_value c < 10
+pub digit_value_small : (c : ℕ) → is_ascii_digit c ≡ true → digit_value c < 10
 digit_value_small c h = grind (arith, nat_tests)
 
-digit_from_value : (c : ℕ) → digit_value c < 10 → is_ascii_digit c ≡ true
+pub digit_from_value : (c : ℕ) → digit_value c < 10 → is_ascii_digit c ≡ true
 digit_from_value c h = grind (arith, nat_tests)
 
 capped_step : (n d : ℕ) → capped (capped n * 10 + d) ≡ capped (n * 10 + d)
@@ -165,9 +166,6 @@ some_map f (Some x) h = f x h
 abbrev pub FindsRegister : List ℕ → ℕ × List ℕ → Type 0
 FindsRegister bytes found = (r : Reg) × Before (Register r) found.1 bytes × (found.0 ≡ capped r.0)
 
-letter_r : (c : ℕ) → (c == 114) ≡ true → c ≡ 114
-letter_r c h = grind (arith, nat_tests)
-
 pub register_read : (bytes : List ℕ) → IfSome (register_at bytes) (FindsRegister bytes)
 register_read [] = tt
 register_read (c ∷ cs) = by (c == 114) refl (number_at cs) (number_read cs)
@@ -178,7 +176,7 @@ register_read (c ∷ cs) = by (c == 114) refl (number_at cs) (number_read cs)
     by true e None h = tt
     by true e (Some found) h = (
       record { 0 = h.0 },
-      Before-join (record { front = c ∷ []; first = ap (λ d. d ∷ []) (letter_r c e); whole = refl }) h.1,
+      Before-join (record { front = c ∷ []; first = ap (λ d. d ∷ []) (eqb-true c 114 e); whole = refl }) h.1,
       h.2,
     )
 
@@ -219,9 +217,6 @@ arrow_again rest bytes b s =
     ap arrow_from (blanks_again outer.0 bytes outer.1 (ap (starts is_blank) here) ∙ here)
     ∙ ap (λ r. Some r) (blanks_again rest inner.0 inner.2 s)
 
-letter_comma : (c : ℕ) → (c == 44) ≡ true → c ≡ 44
-letter_comma c h = grind (arith, nat_tests)
-
 comma_found : (bytes : List ℕ) → IfSome (comma_from bytes) (λ rest. Before (Text (codes ",") ⋅ Blanks) rest bytes)
 comma_found [] = tt
 comma_found (c ∷ cs) = by (c == 44) refl
@@ -229,7 +224,7 @@ comma_found (c ∷ cs) = by (c == 44) refl
     by : (b : Bool) → (c == 44) ≡ b → IfSome (cond b (Some (after_blanks cs)) None)
         (λ rest. Before (Text (codes ",") ⋅ Blanks) rest (c ∷ cs))
     by false e = tt
-    by true e = Before-join (record { front = c ∷ []; first = ap (λ d. d ∷ []) (letter_comma c e); whole = refl })
+    by true e = Before-join (record { front = c ∷ []; first = ap (λ d. d ∷ []) (eqb-true c 44 e); whole = refl })
         (blanks_read cs)
 
 pub comma_read : (bytes : List ℕ) → IfSome (comma_at bytes) (λ rest. Before Comma rest bytes)

@@ -18,6 +18,7 @@ pub use iloc_ops::{
     NoMemory, Op, Ops, Reg, defines, push_column, push_number, push_op, uses, write_op, write_text,
 };
 pub use line::ParseFault;
+pub use line::scan::{is_blank, is_word_byte};
 pub use line::schedule_line::{ScheduleLine, read_schedule_line};
 pub use line_ends::split_line;
 pub use reader::taker::TakeBlocks;

@@ -1,8 +1,8 @@
 -- What the scanner finds in a schedule line is a text of the grammar.
-use Rattle.std.proofs.Common.{◌≡◌, ◌∙◌, ℕ, Bool, true, false, cond, ◌==◌, List, [], ◌∷◌, codes, refl, ap, ap₂, Option, Some, None, IfSome, option_map, unwrap_or, inl, inr, bytes_eq, arith}
+use Rattle.std.proofs.Common.{◌≡◌, ◌∙◌, ℕ, Bool, true, false, cond, ◌==◌, List, [], ◌∷◌, codes, refl, ap, ap₂, Option, Some, None, IfSome, option_map, unwrap_or, inl, inr, bytes_eq}
 use Rattle.std.specs.Char.{is_ascii_alphabetic}
-use Rattle.std.proofs.lemmas.Bool.Decides.{nat_tests}
 use Rattle.std.proofs.lemmas.Slice.Eq.{bytes_eq-Decides}
+use Rattle.std.proofs.lemmas.Bool.{eqb-true}
 use Rattle.iloc_ops.specs.declared.op.Op.{Op}
 use Rattle.iloc_ops.specs.declared.op.Op.TheVariants.{Nop}
 use Rattle.iloc_text.specs.Grammar.{◌⋅◌, Text, is_word_byte, Blanks, SomeBlanks, Number, OptionalOperation}
@@ -50,15 +50,12 @@ slot_read bytes = bind_each (FindsSlot bytes) (optional_operation_at (after_blan
       ap (λ given. unwrap_or given Nop) f.2 ∙ capped_given f.0,
     ))
 
-byte_tells : (c byte : ℕ) → (c == byte) ≡ true → c ≡ byte
-byte_tells c byte h = grind (arith, nat_tests)
-
 behind_read : (byte : ℕ) (bytes : List ℕ) → IfSome (behind_byte byte bytes) (λ rest. Before (Text (byte ∷ [])) rest bytes)
 behind_read byte [] = tt
 behind_read byte (c ∷ cs) = by (c == byte) refl
   where
     by : (b : Bool) → (c == byte) ≡ b → IfSome (cond b (Some cs) None) (λ rest. Before (Text (byte ∷ [])) rest (c ∷ cs))
-    by true e = record { front = c ∷ []; first = ap (λ d. d ∷ []) (byte_tells c byte e); whole = refl }
+    by true e = record { front = c ∷ []; first = ap (λ d. d ∷ []) (eqb-true c byte e); whole = refl }
     by false e = tt
 
 pub alone_capped : (op : Op) → alone (capped_op op) ≡ (capped_op (alone op).0, capped_op (alone op).1)
@@ -132,7 +129,7 @@ block_name_read (c ∷ cs) = by (c == 45) refl
     named false e = tt
 
     by : (b : Bool) → (c == 45) ≡ b → IfSome (dash_or_name b c cs) (FindsName (c ∷ cs))
-    by true e = record { front = c ∷ []; first = ap (λ d. d ∷ []) (byte_tells c 45 e); whole = refl }
+    by true e = record { front = c ∷ []; first = ap (λ d. d ∷ []) (eqb-true c 45 e); whole = refl }
     by false e = named (is_ascii_alphabetic c) refl
 
 abbrev FindsSaid : List ℕ → Said × List ℕ → Type 0
@@ -206,7 +203,7 @@ said_read (c ∷ cs) = by (c == 91) refl
         (worded_at (word_of (c ∷ cs)) (after_word (c ∷ cs))) (Some (nothing, c ∷ cs)))) (FindsSaid (c ∷ cs))
     by true e = some_map (λ found f. (
       row f.0 f.1,
-      Before-join (record { front = c ∷ []; first = ap (λ d. d ∷ []) (byte_tells c 91 e); whole = refl }) f.2,
+      Before-join (record { front = c ∷ []; first = ap (λ d. d ∷ []) (eqb-true c 91 e); whole = refl }) f.2,
       f.3,
     )) (row_at cs) (row_read cs)
     by false e = worded (is_word_byte c)

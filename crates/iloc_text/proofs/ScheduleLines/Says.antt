@@ -3,6 +3,7 @@ use Rattle.std.proofs.Common.{◌≡◌, ◌∙◌, ℕ, ◌≤◌, nat_lt, Bool
 use Rattle.std.specs.List.{AllByRecursion, list_all}
 use Rattle.std.proofs.lemmas.Bool.Decides.{nat_tests}
 use Rattle.std.proofs.lemmas.Option.{same_Some}
+use Rattle.std.proofs.lemmas.Bool.{and_parts}
 use Rattle.iloc_ops.specs.Limits.{MAX_NUMBER}
 use Rattle.iloc_text.specs.declared.line.scan.TheConstants.{ABOVE_LIMIT}
 use Rattle.iloc_ops.specs.declared.op.Op.{Op}
@@ -18,10 +19,6 @@ use Rattle.iloc_text.proofs.ScheduleLines.Read.{capped_said, FindsSaidLine, line
 use Rattle.iloc_text.proofs.ScheduleLines.Again.{nothing_line, line_again}
 
 -- The limit
-
-and_true : (a b : Bool) → (a && b) ≡ true → (a ≡ true) × (b ≡ true)
-and_true true b h = (refl, h)
-and_true false b h = cc
 
 abbrev AreAllSmall : List ℕ → Type 0
 AreAllSmall ns = AllByRecursion (λ n. n ≤ MAX_NUMBER) ns
@@ -53,7 +50,7 @@ AreSmall said = AreAllSmall (said_numbers said)
 said_within : (said : Said) → is_said_within (capped_said said) ≡ true → AreSmall said
 said_within nothing h = tt
 said_within (row zero one) h =
-    let both = and_true (is_within (Some (capped_op zero))) (is_within (Some (capped_op one))) h in
+    let both = and_parts (is_within (Some (capped_op zero))) (is_within (Some (capped_op one))) h in
     all-append (numbers zero) (numbers one) (within_limit zero both.0) (within_limit one both.1)
 said_within (head k name) h = (number_within k h, tt)
 said_within (cycles c) h = (number_within c h, tt)

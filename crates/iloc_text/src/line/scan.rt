@@ -8,7 +8,9 @@ use iloc_ops::MAX_NUMBER;
 /// The least number above the limit. While a line is scanned it represents every such number.
 pub const ABOVE_LIMIT: u32 = MAX_NUMBER + 1;
 
-fn is_blank(byte: u8) -> bool
+/// Promise: whether a byte is a space, a tab or a carriage return.
+#[inline(always)]
+pub fn is_blank(byte: u8) -> bool
     ensures { result ≡ is_blank byte }
 {
     byte == b' ' || byte == b'\t' || byte == b'\r'
@@ -78,6 +80,7 @@ pub fn comma_at(bytes: &[u8]) -> Option<&[u8]>
     }
 }
 
+/// Promise: whether a byte is a letter, a digit or an underscore.
 pub fn is_word_byte(byte: u8) -> bool
     ensures { result ≡ is_word_byte byte }
 {
