@@ -11,7 +11,7 @@ use Rattle.iloc_optimum.specs.Timing.{Within, Crowd, between, belongs}
 use Rattle.iloc_optimum.specs.Steps.Inside.{is_inside, count_inside}
 use Rattle.iloc_optimum.specs.Shares.{width}
 
-count-cons : {X : Type 0} → (p : X → Bool) (x : X) (xs : List X) → count_by p (x ∷ xs) ≡ cond (p x) 1 0 + count_by p xs
+pub count-cons : {X : Type 0} → (p : X → Bool) (x : X) (xs : List X) → count_by p (x ∷ xs) ≡ cond (p x) 1 0 + count_by p xs
 count-cons p x xs = sum_by-cons (λ y. cond (p y) 1 0) x xs
 
 pub both : (a b : Bool) → a ≡ true → b ≡ true → (a && b) ≡ true
@@ -24,10 +24,13 @@ both_true false b h = cc
 at_least : (q p : ℕ) → nat_le q p ≡ true → q ≤ p
 at_least q p h = grind (arith, nat_tests)
 
+pub is_less : (q p : ℕ) → nat_lt q p ≡ true → q < p
+is_less q p h = grind (arith, nat_tests)
+
 pub is_at_least : (q p : ℕ) → q ≤ p → nat_le q p ≡ true
 is_at_least q p le = grind (arith, nat_tests)
 
-in_between : (a c x : ℕ) → a ≤ x → x < c → between a c x ≡ true
+pub in_between : (a c x : ℕ) → a ≤ x → x < c → between a c x ≡ true
 in_between a c x low high =
     let first : nat_le a x ≡ true = grind (arith, nat_tests) in
     let second : nat_lt x c ≡ true = grind (arith, nat_tests) in
@@ -117,17 +120,25 @@ module _ (kinds : List Kind) (firsts lasts : List ℕ) (s : Share) (a e : ℕ) (
   then_issued : ℕ → Bool
   then_issued i = belongs kinds s i && between a (e + 1) (t i)
 
-  inside_then : length firsts ≡ length kinds → length lasts ≡ length kinds → Within firsts lasts t
-      → (i : ℕ) → i < length kinds → is_inside kinds firsts lasts s a e i ≡ true → then_issued i ≡ true
-  unfolding then_issued
-  inside_then same_firsts same_lasts w i below passes =
+  -- an operation with its window from a to e is issued then
+  pub issued_inside : length firsts ≡ length kinds → length lasts ≡ length kinds → Within firsts lasts t
+      → (i : ℕ) → i < length kinds → is_inside kinds firsts lasts s a e i ≡ true
+      → (belongs kinds s i ≡ true) × (a ≤ t i) × (t i ≤ e)
+  issued_inside same_firsts same_lasts w i below passes =
       let parts = both_true (belongs kinds s i) (nat_le a (get_or firsts i 0) && nat_le (get_or lasts i 0) e) passes in
       let ends = both_true (nat_le a (get_or firsts i 0)) (nat_le (get_or lasts i 0) e) parts.1 in
       let low : a ≤ get_or firsts i 0 = at_least a (get_or firsts i 0) ends.0 in
       let high : get_or lasts i 0 ≤ e = at_least (get_or lasts i 0) e ends.1 in
       let from : get_or firsts i 0 ≤ t i = w.from i (omega arith) in
       let to : t i ≤ get_or lasts i 0 = w.to i (omega arith) in
-      both (belongs kinds s i) (between a (e + 1) (t i)) parts.0 (in_between a (e + 1) (t i) (omega arith) (omega arith))
+      (parts.0, omega arith, omega arith)
+
+  inside_then : length firsts ≡ length kinds → length lasts ≡ length kinds → Within firsts lasts t
+      → (i : ℕ) → i < length kinds → is_inside kinds firsts lasts s a e i ≡ true → then_issued i ≡ true
+  unfolding then_issued
+  inside_then same_firsts same_lasts w i below passes =
+      let at = issued_inside same_firsts same_lasts w i below passes in
+      both (belongs kinds s i) (between a (e + 1) (t i)) at.0 (in_between a (e + 1) (t i) at.1 (omega arith))
 
   -- more have their windows from a to e than the cycles hold: no schedule is within the windows
   pub too_many : length firsts ≡ length kinds → length lasts ≡ length kinds

@@ -1,6 +1,7 @@
 mod NarrowerWindows
 mod FullCycles
 mod TakenCycles
+mod OverfullNests
 mod CoveredStack
 mod LawfulTimings
 mod Improvements

@@ -25,7 +25,7 @@ fn is_between(first: u32, last: u32, from: u32, to: u32) -> bool
 }
 
 /// How many operations of the share have their windows within these cycles.
-fn count_inside(
+pub(crate) fn count_inside(
     kinds: &[Kind],
     firsts: &[u32],
     lasts: &[u32],

@@ -8,6 +8,7 @@ mod choice;
 mod crowds;
 pub mod laws;
 mod narrowing;
+mod nests;
 mod optimizer;
 mod proposal;
 mod search;

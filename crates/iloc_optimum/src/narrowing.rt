@@ -1,13 +1,14 @@
 //! What delays and shares leave of windows.
-ghost use Rattle.std.specs.Prelude.{ℕ, IsTrue, IfOk};
-ghost use Rattle.iloc_optimum.specs.Timing.{Within, IsTiming, IsSized, AreSized};
+ghost use Rattle.std.specs.Prelude.{ℕ, ◌≤◌, length, IsTrue, IfOk};
+ghost use Rattle.iloc_optimum.specs.Timing.{Within, FitsShares, IsTiming, IsSized, AreSized};
 
 use crate::crowds::hold_each;
+use crate::nests::has_overfull;
 use crate::proposal::Proposer;
 use crate::share::Share;
 use crate::waits::wait;
 use crate::windows::{Windows, has_empty};
-use iloc_ops::NoMemory;
+use iloc_ops::{MAX_OPS, NoMemory};
 use iloc_sched::Edge;
 use iloc_timed::Kind;
 
@@ -27,6 +28,23 @@ fn sums(windows: &Windows) -> (u64, u64) {
         sums.1 = sums.1.saturating_add(u64::from(*last));
     }
     sums
+}
+
+/// Whether each window has a cycle, and no nest that is proposed is overfull; false only if no cycles of issue are within
+/// them.
+fn fits(proposer: &mut Proposer, kinds: &[Kind], windows: &Windows) -> Result<bool, NoMemory>
+    requires few { length kinds.now ≤ MAX_OPS }
+    requires sized { AreSized kinds.now windows.now }
+    ensures { IfOk result (λ some. (t : ℕ → ℕ) → FitsShares kinds.now t
+        → Within windows.now.firsts.items windows.now.lasts.items t → IsTrue some) }
+{
+    let (firsts, lasts) = (&windows.firsts, &windows.lasts);
+    if has_empty(firsts, lasts) {
+        return Ok(false);
+    }
+    proposer.nests.propose(kinds, firsts, lasts)?;
+    let overfull = has_overfull(kinds, firsts, lasts, &proposer.nests.nests);
+    Ok(!overfull)
 }
 
 /// Narrows windows by the edges, and by what cycles hold of each share, until they stay; false if no cycles of issue are
@@ -51,13 +69,15 @@ pub(crate) fn narrow(
             return Ok(false);
         }
         for share in SHARES {
-            proposer.propose(kinds, &windows.firsts, &windows.lasts, share)?;
+            proposer
+                .spans
+                .propose(kinds, &windows.firsts, &windows.lasts, share)?;
             let some = hold_each(
                 kinds,
                 &mut windows.firsts,
                 &mut windows.lasts,
                 share,
-                &proposer.spans,
+                &proposer.spans.spans,
             );
             if !some {
                 return Ok(false);
@@ -67,6 +87,5 @@ pub(crate) fn narrow(
             break;
         }
     }
-    let empty = has_empty(&windows.firsts, &windows.lasts);
-    Ok(!empty)
+    fits(proposer, kinds, windows)
 }

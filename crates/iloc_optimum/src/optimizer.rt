@@ -13,7 +13,7 @@ use iloc_timed::{Latencies, MAX_ROWS, Schedule, cycles};
 use std::alloc::Global;
 use std::mem;
 
-/// Blocks with more operations aren't searched: a node of 500 operations takes a millisecond.
+/// Blocks with more operations aren't searched: a node of 500 operations takes some 0.4 ms.
 pub const MOST_SEARCHED: usize = 300;
 
 /// More nodes count as so many, with which a search takes at most some 250 MB.
