@@ -88,6 +88,24 @@ def known():
         yield from unlawful(end, blocks, USUAL)
 
 
+def loads_with_sums(count):
+    """Loads, each with a sum that waits for it and a second one that waits for the first."""
+    return [op for k in range(1, 3 * count, 3)
+            for op in (Op("load", [0, k]), Op("add", [k, k, k + 1]), Op("add", [k + 1, k + 1, k + 2]))]
+
+
+def by_one_node():
+    """A load is alone in the first row, so the others need a row more than the least says: one set of windows shows it."""
+    latencies = {"load": 1, "store": 1, "mult": 1}
+    counts = range(4, MOST_SEARCHED // 3 + 1, 12)
+    blocks = [loads_with_sums(count) for count in counts]
+    end = listing_of(blocks, latencies, 1)
+    due = [(count // 2 * 3 + 1, count // 2 * 3 + 1, True) for count in counts]
+    if (got := found_in(end, blocks)) != due:
+        yield f"{got} in place of {due}"
+    yield from unlawful(end, blocks, latencies)
+
+
 def hard_block(count):
     """Products two by two, the second of which waits for the first, and sums of them."""
     chance = random.Random(count)
@@ -134,7 +152,7 @@ def by_workers():
 def optimum_checks():
     yield Check("optima/exact", exact, 300 if TESTED.is_short else 3000)
     yield Check("optima/lawful", lawful, 5 if TESTED.is_short else 50)
-    for check in (known, long_ones, longest, by_workers):
+    for check in (known, by_one_node, long_ones, longest, by_workers):
         yield Check(f"optima/{check.__name__}", check)
 
 
