@@ -4,7 +4,7 @@ use Rattle.std.specs.Prelude.{IfSome}
 use Rattle.std.specs.List.{AllByRecursion, list_all}
 use Rattle.std.specs.Option.{option_map_or}
 use Rattle.std.specs.Str.{bytes_eq}
-use Rattle.std.proofs.lemmas.Bool.{and_parts, eqb-true}
+use Rattle.std.proofs.lemmas.Bool.{and_parts, eqb-true, not-true}
 use Rattle.std.proofs.lemmas.Slice.Eq.{bytes_eq-Decides}
 use Rattle.clap.specs.Walk.{Rule, Text, action_of, arg_by_id}
 use Rattle.clap.specs.declared.builder.value_parser.ValueParser.{ValueParser}
@@ -94,13 +94,9 @@ is_fit rules = have_own_ids rules && (are_ours rules && takes_all rules)
 
 -- ---- what it tests
 
-not_true : (b : Bool) → not b ≡ true → b ≡ false
-not_true true e = cc
-not_true false e = refl
-
 lacks_one : (id : Text) (before : List Rule) (a : Rule) (after : List Rule) → lacks id (before ++ a ∷ after) ≡ true
     → bytes_eq id a.id ≡ false
-lacks_one id [] a after e = not_true (bytes_eq id a.id) (and_parts (not (bytes_eq id a.id)) (lacks id after) e).0
+lacks_one id [] a after e = not-true (bytes_eq id a.id) (and_parts (not (bytes_eq id a.id)) (lacks id after) e).0
 lacks_one id (b ∷ before) a after e =
     lacks_one id before a after (and_parts (not (bytes_eq id b.id)) (lacks id (before ++ a ∷ after)) e).1
 

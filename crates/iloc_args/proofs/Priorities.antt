@@ -7,7 +7,7 @@ use Rattle.std.proofs.lemmas.Slice.Eq.{bytes_eq-Decides}
 use Rattle.clap.specs.Words.{Text}
 use Rattle.iloc_sched.specs.declared.ranking.heuristic.Heuristic.{Heuristic}
 use Rattle.iloc_sched.specs.declared.ranking.heuristic.Heuristic.TheVariants.{Chain, Slack, Descendants, Successors, Latency, Order}
-use Rattle.iloc_args.specs.Priority.{IsNoPriority, priorities, priority_word}
+use Rattle.iloc_args.specs.Priority.{IsNoPriority, heuristics, priority_word}
 
 -- the first of these whose name it is has that name; or none of them has
 abbrev Named : Text → Option Heuristic → List Heuristic → Type 0
@@ -30,7 +30,7 @@ found name (h ∷ those) = go (bytes_eq (priority_word h) name) refl (found name
         other (Some x) named = named
         other None none = (λ same. false≢true (sym is ∙ (bytes_eq-Decides (priority_word h) name).1 same), none)
 
-none_named : (name : Text) → Named name None priorities → IsNoPriority name
+none_named : (name : Text) → Named name None heuristics → IsNoPriority name
 none_named name none Chain same = none.0 same
 none_named name none Slack same = none.1.0 same
 none_named name none Descendants same = none.1.1.0 same
@@ -39,10 +39,10 @@ none_named name none Latency same = none.1.1.1.1.0 same
 none_named name none Order same = none.1.1.1.1.1.0 same
 
 -- what is found by a name is the heuristic of that name, or there is none
-pub named : (name : Text) (o : Option Heuristic) → o ≡ find (λ (h : Heuristic). bytes_eq (priority_word h) name) priorities
+pub named : (name : Text) (o : Option Heuristic) → o ≡ find (λ (h : Heuristic). bytes_eq (priority_word h) name) heuristics
     → MatchOption o (IsNoPriority name) (λ h. priority_word h ≡ name)
-named name o is = go o (subst (λ x. Named name x priorities) (sym is) (found name priorities))
+named name o is = go o (subst (λ x. Named name x heuristics) (sym is) (found name heuristics))
   where
-    go : (o : Option Heuristic) → Named name o priorities → MatchOption o (IsNoPriority name) (λ h. priority_word h ≡ name)
+    go : (o : Option Heuristic) → Named name o heuristics → MatchOption o (IsNoPriority name) (λ h. priority_word h ≡ name)
     go (Some h) same = same
     go None none = none_named name none

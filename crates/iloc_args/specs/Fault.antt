@@ -1,9 +1,11 @@
 -- The text and the exit status of a fault.
-use Rattle.std.specs.Prelude.{ℕ, List, codes}
+use Rattle.std.specs.Prelude.{ℕ, List, ◌++◌, codes}
+use Rattle.std.specs.List.{join_by}
 use Rattle.std.specs.String.{string_bytes}
 use Rattle.iloc_args.specs.declared.fault.LineFault.{LineFault}
 use Rattle.iloc_args.specs.declared.fault.LineFault.TheVariants.{Help, Refused, BadStart}
 use Rattle.iloc_args.specs.declared.fault.LineFault.TheVariants.{TooManyWords, NoSuchPriority, NoMemory}
+use Rattle.iloc_args.specs.Priority.{heuristics, priority_word}
 
 -- what is said of a fault: the parser's own text, or one of these
 abbrev pub line_text : LineFault → List ℕ
@@ -11,7 +13,7 @@ line_text (Help text) = string_bytes text
 line_text (Refused text) = string_bytes text
 line_text (BadStart at) = codes "--at is not a multiple of 4"
 line_text TooManyWords = codes "the words do not fit into memory"
-line_text NoSuchPriority = codes "--priority is none of chain, slack, descendants, successors, latency, order"
+line_text NoSuchPriority = codes "--priority is none of " ++ join_by priority_word (codes ", ") heuristics
 line_text NoMemory = codes "out of memory"
 
 -- the exit status of a fault

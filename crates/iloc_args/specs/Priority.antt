@@ -5,8 +5,8 @@ use Rattle.iloc_sched.specs.declared.ranking.heuristic.Heuristic.{Heuristic}
 use Rattle.iloc_sched.specs.declared.ranking.heuristic.Heuristic.TheVariants.{Chain, Slack, Descendants, Successors, Latency, Order}
 
 -- the heuristics, in the order in which they are listed
-abbrev pub priorities : List Heuristic
-priorities = Chain ∷ Slack ∷ Descendants ∷ Successors ∷ Latency ∷ Order ∷ []
+abbrev pub heuristics : List Heuristic
+heuristics = Chain ∷ Slack ∷ Descendants ∷ Successors ∷ Latency ∷ Order ∷ []
 
 -- the word for a heuristic
 abbrev pub priority_word : Heuristic → Text

@@ -1,13 +1,13 @@
 //! What the ready operations are ranked by, as the command line names it.
 ghost use Rattle.std.specs.Prelude.{◌≡◌, find};
 ghost use Rattle.std.specs.Str.{bytes_eq};
-ghost use Rattle.iloc_args.specs.Priority.{priorities, priority_word};
+ghost use Rattle.iloc_args.specs.Priority.{heuristics, priority_word};
 ghost use Rattle.iloc_sched.specs.declared.ranking.heuristic.Heuristic.{Heuristic as heuristic_value};
 
 use iloc_sched::Heuristic;
 
 /// The heuristics, in the order in which they are listed.
-const PRIORITIES: [Heuristic; 6] = [
+pub const HEURISTICS: [Heuristic; 6] = [
     Heuristic::Chain,
     Heuristic::Slack,
     Heuristic::Descendants,
@@ -42,9 +42,9 @@ pub fn priority_name(heuristic: Heuristic) -> &'static str
 
 /// The heuristic of this name.
 pub(crate) fn heuristic_of(name: &str) -> Option<Heuristic>
-    ensures { result ≡ find (λ (h : heuristic_value). bytes_eq (priority_word h) name.now) priorities }
+    ensures { result ≡ find (λ (h : heuristic_value). bytes_eq (priority_word h) name.now) heuristics }
 {
-    PRIORITIES
+    HEURISTICS
         .iter()
         .copied()
         .find(|heuristic| priority_name(*heuristic) == name)
