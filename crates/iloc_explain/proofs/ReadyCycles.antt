@@ -1,8 +1,7 @@
 -- The latest of what earlier operations leave to wait for is when an operation is ready.
-use Rattle.std.proofs.Common.{◌≡◌, ◌<◌, ◌≤◌, ℕ, ◌+◌, ◌&&◌, ◌||◌, max, Bool, true, List, map, length, arith, refl, sym, ◌∙◌, ◌⊎◌, inl, inr}
+use Rattle.std.proofs.Common.{◌≡◌, ◌<◌, ◌≤◌, ℕ, ◌+◌, ◌&&◌, ◌||◌, max, true, List, map, length, arith, refl, sym, ◌∙◌, ◌⊎◌, inl, inr}
 use Rattle.std.specs.Prelude.{Contains}
-use Rattle.std.proofs.lemmas.Bool.{and_from, and_parts, cases_lt, false≢true, or_cases, or_left, or_right}
-use Rattle.iloc_meaning.proofs.Cases.{by_bool}
+use Rattle.std.proofs.lemmas.Bool.{and_from, and_parts, false≢true, or_cases, or_left, or_right}
 use Rattle.iloc_ops.specs.declared.op.Op.{Op}
 use Rattle.iloc_ops.specs.declared.op.Reg.{Reg}
 use Rattle.iloc_ops.specs.Registers.{used, defined}
@@ -17,19 +16,11 @@ use Rattle.iloc_timed.specs.Rows.{issue_cycle}
 use Rattle.iloc_sched.specs.Delays.{uses_result, reads_stored, keeps_order, when, memory_delays, delays}
 use Rattle.iloc_sched.specs.Steps.Members.{In}
 use Rattle.iloc_sched.proofs.Basics.Members.{contains_from, in_from, in_left, in_right, from_append, in_map, from_map, any_at, from_any}
-use Rattle.iloc_sched.proofs.Basics.Maxima.{fold_max_start, fold_max_each, fold_max_reached}
+use Rattle.iloc_sched.proofs.Basics.Maxima.{fold_max_start, fold_max_each, fold_max_reached, max_is}
+use Rattle.iloc_sched.proofs.DelayPairs.DelayBounds.{in_when, from_when}
 use Rattle.iloc_explain.specs.declared.latest.Latest.{Latest}
 use Rattle.iloc_explain.specs.Waiting.{IsReadyAt}
 use Rattle.iloc_explain.specs.Steps.Latest.{AreLatest, result_of, by_kind, ready_after, arrival, next_cycle}
-
-in_when : (b : Bool) (d : ℕ) → b ≡ true → In (when b d) d
-in_when b d holds = rw holds (inl refl)
-
-from_when : (b : Bool) (d e : ℕ) → In (when b d) e → (b ≡ true) × (d ≡ e)
-from_when b d e there =
-    by_bool b
-    (λ t. elim (rw t at there) [ inl here ↦ (t, here) | inr none ↦ absurd none ])
-    (λ t. absurd (rw t at there))
 
 -- why a delay stands between two operations
 data Reason (lat : Latencies) (i j : Op) (d : ℕ) : Type 0 where
@@ -64,9 +55,6 @@ delay_of lat i j d (Keeps is at) =
     contains_from (delays lat i j) d (in_right (when (uses_result i j) (latency lat i)) (memory_delays lat i j) d
     (in_right (when (reads_stored (kind i) (kind j)) (latency lat i)) (when (keeps_order (kind i) (kind j)) 1) d
     (rw (← at) (in_when _ _ is))))
-
-max_is : (a b : ℕ) → (max a b ≡ a) ⊎ (max a b ≡ b)
-max_is a b = elim (cases_lt a b) [ inl less ↦ inr (omega arith) | inr more ↦ inl (omega arith) ]
 
 module _ (lat : Latencies) (ops : List Op) (rows : List Row) (j : ℕ) (l : Latest) (are : AreLatest lat ops rows j l) where
   -- what an earlier operation stored is there by then

@@ -20,6 +20,7 @@ use Rattle.iloc_sched.specs.Delays.{delays}
 use Rattle.iloc_sched.specs.Steps.Members.{In}
 use Rattle.iloc_sched.proofs.Basics.Members.{contains_from, empty_from, from_any, from_append, from_filter}
 use Rattle.iloc_sched.proofs.DelayPairs.DelayBounds.{delay_at_least, delay_at_most}
+use Rattle.iloc_sched.proofs.Choice.ChosenRows.{in_option}
 use Rattle.iloc_explain.specs.Waiting.{ends_at, issue_order, waited_until}
 use Rattle.iloc_explain.specs.Steps.Waits.{waits_for}
 use Rattle.iloc_timed.proofs.WholeRuns.{short_latency}
@@ -29,15 +30,10 @@ use Rattle.iloc_timed.specs.Kinds.{kind}
 abbrev pub in_order : Row → List ℕ
 in_order row = option_to_list row.zero ++ option_to_list row.one
 
-from_slot : (slot : Option ℕ) (i : ℕ) → In (option_to_list slot) i → slot ≡ Some i
-from_slot None i there = absurd there
-from_slot (Some k) i (inl same) = ap Some same
-from_slot (Some k) i (inr none) = absurd none
-
 from_row : (row : Row) (i : ℕ) → In (in_order row) i → holds row i ≡ true
 from_row row i there = elim (from_append (option_to_list row.zero) (option_to_list row.one) i there) [
-  | inl first ↦ holds_zero row i (from_slot row.zero i first)
-  | inr second ↦ holds_one row i (from_slot row.one i second)
+  | inl first ↦ holds_zero row i (in_option row.zero i first)
+  | inr second ↦ holds_one row i (in_option row.one i second)
 ]
 
 from_order : (rows : List Row) (i : ℕ) → In (issue_order rows) i

@@ -1,5 +1,5 @@
 -- The refusals that are kept, and one more.
-use Rattle.std.proofs.Common.{◌≡◌, ◌∙◌, ◌+◌, ◌≤◌, ◌<◌, List, [], ◌∷◌, ◌++◌, length, take, sym, ap, length-append, append-nil, arith}
+use Rattle.std.proofs.Common.{◌≡◌, ◌∙◌, ◌+◌, ◌≤◌, ◌<◌, List, [], ◌∷◌, ◌++◌, sym, ap, length-append, arith}
 use Rattle.std.proofs.lemmas.List.{map-append, take_all, take-append-le}
 use Rattle.iloc_lint.specs.Faults.{Refusal}
 use Rattle.iloc_lint.specs.Refused.{AreKept, refusal_of, refusals_of}
@@ -25,11 +25,4 @@ pub one_counted : (before : List Refusal) (old new : Refusals) (r : Refusal) →
 one_counted before old new r kept many same counted = record {
   first = ap refusals_of same ∙ kept.first ∙ sym (take-append-le 1000 before (r ∷ []) (omega (arith, many, kept.count)));
   count = omega (arith, counted, kept.count, length-append before (r ∷ []));
-}
-
--- where none is added
-pub none_added : (before : List Refusal) (kept : Refusals) → AreKept before kept → AreKept (before ++ []) kept
-none_added before kept are = record {
-  first = are.first ∙ ap (take 1000) (sym (append-nil before));
-  count = are.count ∙ ap length (sym (append-nil before));
 }

@@ -33,7 +33,7 @@ recent test c log = last_due (filter (λ e. test e.executed) (landed c log))
 abbrev newest : (Executed → Bool) → ℕ → List Issued → Option Issued
 newest test d log = find (λ e. test e.executed && (e.due == d)) log
 
-later_below : (c : ℕ) (e : Issued) (o : Option Issued) → e.due < c → IfSome o (λ f. f.due < c) → (later e o).due < c
+pub later_below : (c : ℕ) (e : Issued) (o : Option Issued) → e.due < c → IfSome o (λ f. f.due < c) → (later e o).due < c
 later_below c e None first rest = first
 later_below c e (Some f) first rest = by_bool (nat_lt e.due f.due) (λ t. rw t rest) (λ t. rw t first)
 
@@ -61,7 +61,7 @@ later_or_else e d (Some f) old before due =
     let less : nat_lt e.due f.due ≡ true = lt-ltb e.due f.due (omega arith) in
     rw less refl
 
-later_newest : (e : Issued) (o : Option Issued) → IfSome o (λ f. f.due < e.due + 1) → later e o ≡ e
+pub later_newest : (e : Issued) (o : Option Issued) → IfSome o (λ f. f.due < e.due + 1) → later e o ≡ e
 later_newest e None below = refl
 later_newest e (Some f) below =
     let least : nat_lt e.due f.due ≡ false = le-ltb e.due f.due (omega arith) in

@@ -127,7 +127,7 @@ stops lat memory ops rows c within fault =
     rw rest at (fault_later lat memory ops rows (c + 1) (length rows - (c + 1)) here) in
     rw last refl
 
-no_fault : (c : ℕ) (log : List Issued) → AllLand c log → has_fault (executed_in log) ≡ false
+pub no_fault : (c : ℕ) (log : List Issued) → AllLand c log → has_fault (executed_in log) ≡ false
 no_fault c [] all = refl
 no_fault c (e ∷ earlier) all = or_from (is_fault e.executed.effect) (has_fault (executed_in earlier)) all.1.no_fault
     (no_fault c earlier all.2)

@@ -92,7 +92,7 @@ slots_of ops a b =
     by_bool (is_mult (kind (op_at ops a)) || is_some_kind is_memory (kind_in ops b)) (λ t. rw t (inl refl))
     (λ t. rw t (inr refl))
 
-in_option : (b : Option ℕ) (i : ℕ) → In (option_to_list b) i → b ≡ Some i
+pub in_option : (b : Option ℕ) (i : ℕ) → In (option_to_list b) i → b ≡ Some i
 in_option None i there = absurd there
 in_option (Some k) i (inl here) = ap Some here
 in_option (Some k) i (inr none) = absurd none

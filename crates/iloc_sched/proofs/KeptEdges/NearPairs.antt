@@ -49,11 +49,11 @@ before_store lat K.Output d (inl is) = (sym is, inr (inl refl))
 before_store lat K.Output d (inr none) = absurd none
 before_store lat _ d held = absurd held
 
-store_is : (k : Kind) → is_store k ≡ true → k ≡ K.Store
+pub store_is : (k : Kind) → is_store k ≡ true → k ≡ K.Store
 store_is K.Store holds = refl
 store_is _ holds = cc
 
-output_is : (k : Kind) → is_output k ≡ true → k ≡ K.Output
+pub output_is : (k : Kind) → is_output k ≡ true → k ≡ K.Output
 output_is K.Output holds = refl
 output_is _ holds = cc
 

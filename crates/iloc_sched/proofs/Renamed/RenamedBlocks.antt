@@ -39,7 +39,7 @@ other_is_not (Some q) other own apart = ne_eqb other.0 own.0 (apart q refl)
 abbrev new : List Op → List Op
 new ops = renamed_by ops (numbering ops)
 
-defined_at : (ops : List Op) (i : ℕ) → i < length ops
+pub defined_at : (ops : List Op) (i : ℕ) → i < length ops
     → defined (op_at (new ops) i) ≡ option_map (λ r. name_of (numbering ops) (Result i)) (defined (op_at ops i))
 defined_at ops i below = ap defined (renamed_op_at ops (numbering ops) i below)
     ∙ defined-with_registers _ _ (op_at ops i)
@@ -129,7 +129,7 @@ record Defines (ops : List Op) (i : ℕ) (r : Reg) : Type 0 where
   stands : Stands (numbering ops) (Result i)
   name : name_of (numbering ops) (Result i) ≡ r
 
-named_defined : (d : Option Reg) (own r : Reg) → option_map (λ q. own) d ≡ Some r → (q : Reg) × (d ≡ Some q) × (own ≡ r)
+pub named_defined : (d : Option Reg) (own r : Reg) → option_map (λ q. own) d ≡ Some r → (q : Reg) × (d ≡ Some q) × (own ≡ r)
 named_defined None own r is = absurd cc
 named_defined (Some q) own r is = (q, refl, cc)
 
