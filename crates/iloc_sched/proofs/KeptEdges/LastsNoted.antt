@@ -155,20 +155,21 @@ pub noted : (ops : List Op) (j : ℕ) (old new : Lasts) → IsLasts ops old j
     → IsLasts ops new (j + 1)
 noted ops j old new is definers notes = noted_by (kind (op_at ops j)) ops j old new is refl definers notes
 
-same_kind : (k : Kind) (old new : Lasts) (d : ByRegister) (j : ℕ) → NotesKind k (record old { definers = d }) new j
-    → NotesKind k old new j
-same_kind K.Load old new d j notes = notes
-same_kind _ old new d j notes = notes
+same_kind : (k : Kind) (old mid : Lasts) (d : ByRegister) (j : ℕ) → NotesKind k old mid j
+    → NotesKind k old (record mid { definers = d }) j
+same_kind K.Load old mid d j notes = notes
+same_kind _ old mid d j notes = notes
 
--- first what it defines is noted, then its kind
-pub noted_in_turn : (ops : List Op) (j : ℕ) (old new : Lasts) (d : ByRegister) (op : Op) (k : Kind) → IsLasts ops old j
-    → op ≡ op_at ops j → k ≡ kind op → NotesDefiner op old.definers d j → new.definers ≡ d
-    → NotesKind k (record old { definers = d }) new j → IsLasts ops new (j + 1)
-noted_in_turn ops j old new d op k is op_is kind_is definers same notes =
+-- first its kind is noted, then what it defines
+pub noted_in_turn : (ops : List Op) (j : ℕ) (old mid new : Lasts) (op : Op) (k : Kind) → IsLasts ops old j
+    → op ≡ op_at ops j → k ≡ kind op → NotesKind k old mid j → mid.definers ≡ old.definers
+    → new ≡ record mid { definers = new.definers } → NotesDefiner op mid.definers new.definers j → IsLasts ops new (j + 1)
+noted_in_turn ops j old mid new op k is op_is kind_is notes same rest definers =
     noted ops j old new is
-    (subst (λ f. NotesDefiner (op_at ops j) old.definers f j) (sym same)
-    (subst (λ o. NotesDefiner o old.definers d j) op_is definers))
-    (subst (λ q. NotesKind q old new j) (kind_is ∙ ap kind op_is) (same_kind k old new d j notes))
+    (subst (λ f. NotesDefiner (op_at ops j) f new.definers j) same
+    (subst (λ o. NotesDefiner o mid.definers new.definers j) op_is definers))
+    (subst (λ q. NotesKind q old new j) (kind_is ∙ ap kind op_is)
+    (subst (λ (n : Lasts). NotesKind k old n j) (sym rest) (same_kind k old mid new.definers j notes)))
 
 -- the loads since the last store are one more at most, and at a store they are gone
 pub loads_noted : (k : Kind) (j : ℕ) (old new : Lasts) → NotesKind k old new j
