@@ -1,11 +1,10 @@
 -- Rows that wait for the nearest pairs wait for all delays, and the other way round.
-use Rattle.std.proofs.Common.{◌≡◌, ℕ, zero, suc, ◌+◌, ◌-◌, ◌<◌, ◌≤◌, not, Bool, true, false, List, length, inl, inr, refl, sym, ◌∙◌, ap, subst, arith}
+use Rattle.std.proofs.Common.{◌≡◌, ℕ, zero, suc, ◌+◌, ◌-◌, ◌<◌, ◌≤◌, not, true, false, List, length, inl, inr, refl, sym, ◌∙◌, ap, subst, arith}
 use Rattle.std.specs.Prelude.{Contains}
 use Rattle.std.specs.List.{range_with_len}
-use Rattle.std.proofs.lemmas.Bool.{and_from, and_parts, false≢true, not-true, not_from_false, or_cases, or_left, or_right}
+use Rattle.std.proofs.lemmas.Bool.{and_from, and_parts, false≢true, not-true, not_from_false, or_cases, or_left, or_right, false_from_ne_true}
 use Rattle.iloc_ops.specs.declared.op.Op.{Op}
 use Rattle.iloc_meaning.specs.Trace.{op_at}
-use Rattle.iloc_meaning.proofs.Cases.{by_bool}
 use Rattle.iloc_timed.specs.declared.latencies.Latencies.{Latencies}
 use Rattle.iloc_timed.specs.declared.row.Row.{Row}
 use Rattle.iloc_timed.specs.Kinds.{kind}
@@ -33,9 +32,6 @@ ordered lat i j d there = elim (from_append (when (reads_stored (kind i) (kind j
           (from_when (keeps_order (kind i) (kind j)) 1 d keeps).0
     ]
 
-not_true : (b : Bool) → (b ≡ true → ⊥) → b ≡ false
-not_true b not = by_bool b (λ t. absurd (not t)) (λ f. f)
-
 module _ (lat : Latencies) (ops : List Op) (i j : ℕ) where
   abbrev a : Op
   a = op_at ops i
@@ -50,7 +46,7 @@ module _ (lat : Latencies) (ops : List Op) (i j : ℕ) where
     in_right (when (uses_result a b) (latency lat a)) (memory_delays lat a b) d there,
     inr (
       contains_from (memory_delays lat a b) d there,
-      λ k after before. not_true (takes_over a (op_at ops k)) (λ t. false≢true (sym free
+      λ k after before. false_from_ne_true (takes_over a (op_at ops k)) (λ t. false≢true (sym free
           ∙ any_at (λ m. takes_over a (op_at ops m)) (range_with_len (i + 1) (j - (i + 1))) k
           (in_range_from (i + 1) (j - (i + 1)) k (omega arith) (omega arith)) t)),
     ),
