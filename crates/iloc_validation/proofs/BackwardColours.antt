@@ -2,18 +2,14 @@
 use Rattle.std.proofs.Common.{◌≡◌, ◌<◌, ◌≤◌, ℕ, zero, suc, ◌+◌, ◌-◌, ◌==◌, true, false, cond, List, length, Option, Some, None, option_map, refl, sym, ap, ap₂, ◌∙◌, subst, arith, eq-eqb, inl, inr}
 use Rattle.std.specs.Prelude.{slice_index, IfSome, ◌%◌, ◌^◌}
 use Rattle.std.specs.List.{range_with_len}
-use Rattle.std.proofs.lemmas.Bool.{cases_eq, eqb-true}
+use Rattle.std.proofs.lemmas.Bool.{cases_eq, ne_eqb}
 use Rattle.std.proofs.lemmas.List.Sums.{sum_by-cons}
 use Rattle.std.proofs.Math.Nat.{mod-add-mod, add_comm}
-use Rattle.iloc_meaning.proofs.Cases.{by_bool}
 use Rattle.iloc_validation.specs.declared.reading.sources.Sources.{Sources}
 use Rattle.iloc_validation.specs.declared.reading.sources.Sources.TheVariants.{Nothing, One, Two}
 use Rattle.iloc_validation.specs.Steps.Colours.{mixed, said, heard_of, heard, IsBelow, AreBelow, AreBackwards, ReadAlike, HaveColours}
 use Rattle.iloc_validation.specs.Steps.Sources.{sources_at, by_numbers}
 use Rattle.iloc_validation.proofs.ColourSums.{ranges_paired}
-
-apart_test : (s j : ℕ) → (s ≡ j → ⊥) → (s == j) ≡ false
-apart_test s j apart = by_bool (s == j) (λ t. absurd (apart (eqb-true s j t))) (λ t. t)
 
 -- nothing is heard of what isn't read
 
@@ -21,7 +17,7 @@ said_none : (v s n : ℕ) (o : Option ℕ) → IfSome o (λ j. j < n) → n ≤ 
 said_none v s n None below past = refl
 said_none v s n (Some j) below past =
     let under : j < n = below in
-    ap (λ b. cond {A = ℕ} b v 0) (apart_test s j (λ same. omega arith))
+    ap (λ b. cond {A = ℕ} b v 0) (ne_eqb s j (λ same. omega arith))
 
 heard_of_none : (c s n : ℕ) (src : Sources) → IsBelow n src → n ≤ s → heard_of c s src ≡ 0
 heard_of_none c s n Nothing below past = refl
@@ -61,8 +57,8 @@ module _ (to : ℕ → ℕ) (v w p : ℕ) where
         let test_too : (to p == to j) ≡ true = eq-eqb (to p) (to j) (ap to here) in
         rw (test, test_too) (same (ap Some (sym here)))
     | inr other ↦
-        let test : (p == j) ≡ false = apart_test p j other in
-        let test_too : (to p == to j) ≡ false = apart_test (to p) (to j) (λ one. other (apart j below one)) in
+        let test : (p == j) ≡ false = ne_eqb p j other in
+        let test_too : (to p == to j) ≡ false = ne_eqb (to p) (to j) (λ one. other (apart j below one)) in
         rw (test, test_too) refl
   ]
 

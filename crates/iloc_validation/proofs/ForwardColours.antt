@@ -7,18 +7,6 @@ use Rattle.iloc_validation.specs.Steps.Colours.{mixed, told, with_told, IsBelow,
 use Rattle.iloc_validation.specs.Steps.Sources.{sources_at, by_numbers}
 
 module _ (f g : ℕ → ℕ) where
-  -- two ways to colour what is read before a place
-  told_before : (n : ℕ) (o : Option ℕ) → IfSome o (λ j. j < n) → ((j : ℕ) → j < n → f j ≡ g j) → told f o ≡ told g o
-  told_before n None below same = refl
-  told_before n (Some j) below same = same j below
-
-  pub with_told_before : (n c : ℕ) (s : Sources) → IsBelow n s → ((j : ℕ) → j < n → f j ≡ g j)
-      → with_told f c s ≡ with_told g c s
-  with_told_before n c Nothing below same = refl
-  with_told_before n c (One only) below same = ap (mixed c) (told_before n only below same)
-  with_told_before n c (Two left right) below same =
-      ap₂ (λ x y. mixed (mixed c x) y) (told_before n left below.0 same) (told_before n right below.1 same)
-
   module _ (to : ℕ → ℕ) (p q : ℕ) (same : (j : ℕ) → j < p → to j < q → f j ≡ g (to j)) where
     told_paired : (o : Option ℕ) → IfSome o (λ j. j < p) → IfSome (option_map to o) (λ j. j < q)
         → told f o ≡ told g (option_map to o)

@@ -5,7 +5,7 @@ use Rattle.std.proofs.lemmas.Bool.{le-leb}
 use Rattle.iloc_ops.specs.declared.op.Reg.{Reg}
 use Rattle.iloc_ops.specs.declared.op.Op.{Op}
 use Rattle.iloc_ops.specs.Registers.{used, defined}
-use Rattle.iloc_ops.proofs.Renaming.{used-with_registers, defined-with_registers}
+use Rattle.iloc_ops.proofs.Renaming.{used-with_registers}
 use Rattle.iloc_meaning.specs.Trace.{op_at, is_register}
 use Rattle.iloc_meaning.proofs.Cases.{by_bool}
 use Rattle.iloc_timed.specs.declared.latencies.Latencies.{Latencies}
@@ -23,6 +23,7 @@ use Rattle.iloc_sched.proofs.Basics.Slots.{early_issued, issued_early}
 use Rattle.iloc_sched.proofs.Renamed.Sources.{name_apart}
 use Rattle.iloc_sched.proofs.Renamed.MentionedSources.{source_earlier, use_numbered, definition_numbered, renamed_op_at, length-renamed_by}
 use Rattle.iloc_sched.proofs.DelayPairs.WaitedFor.{Waits, used_in_time}
+use Rattle.iloc_sched.proofs.Renamed.RenamedBlocks.{defined_at, named_defined}
 use Rattle.iloc_validation.specs.ByTheBook.{issued_before, due, last_of, defining, arrived, read, result_in, given}
 use Rattle.iloc_validation.proofs.Issues.{numbers_from_issued, issued_from_numbers}
 use Rattle.iloc_validation.proofs.ReadValues.{only_one}
@@ -35,26 +36,17 @@ new block = renamed_by block (numbering block)
 abbrev pub name_at : List Op → ℕ → Reg → Reg
 name_at block i r = name_of (numbering block) (source block i r)
 
-pub defined_new : (block : List Op) (i : ℕ) → i < length block
-    → defined (op_at (new block) i) ≡ option_map (λ r. name_of (numbering block) (Result i)) (defined (op_at block i))
-defined_new block i below = ap defined (renamed_op_at block (numbering block) i below)
-    ∙ defined-with_registers _ _ (op_at block i)
-
 pub used_new : (block : List Op) (i : ℕ) → i < length block
     → used (op_at (new block) i) ≡ map (name_at block i) (used (op_at block i))
 used_new block i below = ap used (renamed_op_at block (numbering block) i below)
     ∙ used-with_registers _ _ (op_at block i)
 
-named : (d : Option Reg) (own r : Reg) → option_map (λ q. own) d ≡ Some r → (q : Reg) × (d ≡ Some q) × (own ≡ r)
-named None own r is = absurd cc
-named (Some q) own r is = (q, refl, cc)
-
 -- what defines the name of a source is that source
 pub named_source : (block : List Op) (i j : ℕ) (r : Reg) → i < length block → In (used (op_at block i)) r → j < length block
     → defined (op_at (new block) j) ≡ Some (name_at block i r) → source block i r ≡ Result j
 named_source block i j r below uses within defines =
-    let found = named (defined (op_at block j)) (name_of (numbering block) (Result j)) (name_at block i r)
-    (sym (defined_new block j within) ∙ defines) in
+    let found = named_defined (defined (op_at block j)) (name_of (numbering block) (Result j)) (name_at block i r)
+    (sym (defined_at block j within) ∙ defines) in
     name_apart (numbering block) (source block i r) (Result j) (use_numbered block i r below uses)
     (definition_numbered block j found.0 within found.1) (sym found.2)
 
@@ -80,7 +72,7 @@ source_named block i j r below is =
     let earlier : j < i = source_earlier block i j r is in
     let within : j < length block = omega arith in
     let found = source_defines block i j r is in
-    defined_new block j within
+    defined_at block j within
     ∙ ap (option_map (λ (q : Reg). name_of (numbering block) (Result j))) found.1
     ∙ ap (λ s. Some (name_of (numbering block) s)) (sym is)
 

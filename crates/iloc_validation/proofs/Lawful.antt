@@ -1,6 +1,7 @@
 -- A lawful schedule is by the book: each of its operations is the block's with the same number;
 -- `laws::lawful_schedules_are_by_the_book`.
 use Rattle.std.proofs.Common.{◌≡◌, ℕ, ◌<◌, List, map, length, Option, Some, None, option_map, refl, ap, ap₂, sym, ◌∙◌, subst, arith}
+use Rattle.std.proofs.lemmas.Simd.{map-map}
 use Rattle.iloc_ops.specs.declared.op.Op.{Op}
 use Rattle.iloc_ops.specs.Registers.{used}
 use Rattle.iloc_meaning.specs.Trace.{op_at}
@@ -21,7 +22,7 @@ use Rattle.iloc_sched.proofs.Renamed.RenamedBlocks.{renamed_is_renamed}
 use Rattle.iloc_validation.specs.ByTheBook.{label, read, given, ArePaired, IsScheduleUnder, IsByTheBook}
 use Rattle.iloc_validation.proofs.Labels.{kind-with_registers, label-with_registers}
 use Rattle.iloc_validation.proofs.GivenReads.{new, name_at, used_new, read_is_given}
-use Rattle.iloc_validation.proofs.Outcomes.{memory_by, map_map}
+use Rattle.iloc_validation.proofs.Outcomes.{memory_by}
 
 itself : (o : Option ℕ) → option_map (λ i. i) o ≡ o
 itself None = refl
@@ -53,7 +54,7 @@ module _ (lat : Latencies) (block : List Op) (rows : List Row) where
     reads = λ k here.
         let inside : k < length block = omega (arith, size) in
         ap (map (λ r. option_map (λ i. i) (read lat (new block) rows (issue_cycle rows k) r))) (used_new block k inside)
-        ∙ map_map (λ r. option_map (λ i. i) (read lat (new block) rows (issue_cycle rows k) r)) (name_at block k)
+        ∙ map-map (λ r. option_map (λ i. i) (read lat (new block) rows (issue_cycle rows k) r)) (name_at block k)
         (used (op_at block k))
         ∙ map_same (λ r. option_map (λ i. i) (read lat (new block) rows (issue_cycle rows k) (name_at block k r)))
         (given block k) (used (op_at block k))

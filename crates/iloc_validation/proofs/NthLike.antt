@@ -11,11 +11,10 @@ use Rattle.iloc_meaning.specs.Trace.{op_at}
 use Rattle.iloc_meaning.proofs.Cases.{by_bool}
 use Rattle.iloc_validation.specs.declared.counterparts.chains.Chains.{Chains}
 use Rattle.iloc_validation.specs.declared.counterparts.unpaired.Unpaired.{Unpaired}
-use Rattle.iloc_validation.specs.ByTheBook.{ArePaired}
 use Rattle.iloc_validation.specs.Counts.{are_alike, count_like, lacks_counterpart, lacking, IsShort}
 use Rattle.iloc_validation.specs.Steps.Counterparts.{first_like, SetsLike, noted_at, IsNth, AreChained, IsCounterpart, AreCounterparts}
-use Rattle.iloc_validation.proofs.AlikeOps.{alike_test, alike_itself, alike_same, alike_back, count_same}
-use Rattle.iloc_validation.proofs.CountsLike.{counts_same, counted, one_more, no_more, one_counted, one_place}
+use Rattle.iloc_validation.proofs.AlikeOps.{alike_itself, alike_same, alike_back, count_same}
+use Rattle.iloc_validation.proofs.CountsLike.{counts_same, counted, one_more, no_more, one_counted}
 
 -- where two operations are alike, the same is true of the other
 nth_like : (ops : List Op) (a b : Op) (n : ℕ) (o : Option ℕ) → are_alike a b ≡ true → IsNth ops a n o → IsNth ops b n o
@@ -197,37 +196,3 @@ module _ (ops others : List Op) (there back : List (Option ℕ)) (are : AreCount
       subst (IsNth others (op_at ops k) (count_like (op_at ops k) (take k ops))) found.1 (are.each k within) in
       subst (λ n. (n < length others) × (are_alike (op_at ops k) (op_at others n) ≡ true)
       × (count_like (op_at ops k) (take n others) ≡ count_like (op_at ops k) (take k ops))) (sym is) nth
-
-  pub led_back : (k : ℕ) → k < length ops → slice_index numbers_back (slice_index numbers k) ≡ k
-  led_back k within =
-      let i = slice_index numbers k in
-      let to = led k within in
-      let found = found_some others ops back are_too (slice_index numbers k) to.0 none_back in
-      let is : slice_index numbers_back (slice_index numbers k) ≡ found.0 =
-      each_back (slice_index numbers k) to.0 ∙ ap (λ o. unwrap_or o 0) found.1 in
-      let nth : IsNth ops (op_at others (slice_index numbers k))
-      (count_like (op_at others (slice_index numbers k)) (take (slice_index numbers k) others)) (Some found.0) =
-      subst (IsNth ops (op_at others (slice_index numbers k))
-      (count_like (op_at others (slice_index numbers k)) (take (slice_index numbers k) others))) found.1
-      (are_too.each (slice_index numbers k) to.0) in
-      let alike : are_alike (op_at ops k) (op_at ops found.0) ≡ true =
-      alike_same (op_at ops k) (op_at others (slice_index numbers k)) (op_at ops found.0) to.1 ∙ nth.1 in
-      let here = count_same (op_at ops k) (op_at others (slice_index numbers k)) (take found.0 ops) to.1 in
-      let there_too = count_same (op_at ops k) (op_at others (slice_index numbers k)) (take (slice_index numbers k) others) to.1 in
-      is ∙ one_place (op_at ops k) ops found.0 k nth.0 within alike (alike_itself (op_at ops k))
-      (here ∙ nth.2 ∙ sym there_too ∙ to.2)
-
-pub counterparts_paired : (block ops : List Op) (origin partner : List (Option ℕ)) → AreCounterparts ops block origin
-    → AreCounterparts block ops partner → (origins partners : List ℕ)
-    → ((k : ℕ) → k < length ops → slice_index origins k ≡ unwrap_or (noted_at origin k) 0)
-    → ((i : ℕ) → i < length block → slice_index partners i ≡ unwrap_or (noted_at partner i) 0)
-    → lacking block ops ≡ 0 → lacking ops block ≡ 0 → ArePaired block ops (slice_index origins) (slice_index partners)
-counterparts_paired block ops origin partner are are_too origins partners each each_too none none_too = record {
-  there = λ k here. (led ops block origin partner are are_too origins partners each each_too none_too none k here).0;
-  back = λ k here. led_back ops block origin partner are are_too origins partners each each_too none_too none k here;
-  there_too = λ i here. (led block ops partner origin are_too are partners origins each_too each none none_too i here).0;
-  back_too = λ i here. led_back block ops partner origin are_too are partners origins each_too each none none_too i here;
-  labels = λ k here.
-      (alike_test (op_at ops k) (op_at block (slice_index origins k))).0
-      (led ops block origin partner are are_too origins partners each each_too none_too none k here).1;
-}

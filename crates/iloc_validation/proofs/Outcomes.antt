@@ -1,8 +1,9 @@
 -- What rows by the book have in common with the lawful schedule that has the block's own operations in their slots; for
 -- `laws::by_the_book_keeps_the_outcome`, `laws::by_the_book_takes_the_least`.
-use Rattle.std.proofs.Common.{◌≡◌, ℕ, zero, suc, ◌+◌, ◌<◌, ◌≤◌, Bool, true, false, ℤ, IsTrue, List, [], ◌∷◌, ◌++◌, map, length, Option, Some, None, option_map, inl, inr, refl, ap, ap₂, sym, ◌∙◌, subst, arith, leb-true}
+use Rattle.std.proofs.Common.{◌≡◌, ℕ, zero, suc, ◌+◌, ◌<◌, ◌≤◌, ℤ, IsTrue, List, ◌++◌, map, length, Option, Some, None, option_map, inl, inr, refl, ap, ap₂, sym, ◌∙◌, subst, arith, leb-true}
 use Rattle.std.specs.List.{range_with_len}
 use Rattle.std.proofs.lemmas.Bool.{cases_eq}
+use Rattle.std.proofs.lemmas.Simd.{map-map}
 use Rattle.iloc_ops.specs.declared.op.Reg.{Reg}
 use Rattle.iloc_ops.specs.declared.op.Op.{Op}
 use Rattle.iloc_ops.specs.Registers.{used, defined}
@@ -35,6 +36,7 @@ use Rattle.iloc_sched.proofs.Outcome.LawfulOutcomes.{lawful_same_outcome}
 use Rattle.iloc_sched.proofs.Renamed.MentionedSources.{renamed_op_at, length-renamed_by}
 use Rattle.iloc_sched.proofs.Renamed.OneMoreOperation.{map_same}
 use Rattle.iloc_sched.proofs.Renamed.RenamedBlocks.{renamed_is_renamed}
+use Rattle.iloc_sched.proofs.DelayPairs.DelayBounds.{from_when}
 use Rattle.iloc_validation.specs.ByTheBook.{due, read, given, result_in, IsScheduleUnder, IsByTheBook}
 use Rattle.iloc_validation.specs.OwnRows.{renumber}
 use Rattle.iloc_validation.proofs.Labels.{kind-with_registers, same_kind, same_effect}
@@ -43,15 +45,6 @@ use Rattle.iloc_validation.proofs.Issues.{issued_at, log_is, numbers_from_issued
 use Rattle.iloc_validation.proofs.ReadValues.{value_of, register_is_read, read_in}
 use Rattle.iloc_validation.proofs.GivenReads.{new, name_at, used_new, named_source, read_is_given}
 use Rattle.iloc_validation.proofs.Renumbered.{length-renumber, row_at-map, slots_at-map, numbers_before-map, AreApartBelow, AreBelow, times_same, cycle_same, units_same}
-
-pub map_map : {X Y Z : Type 0} → (g : Y → Z) (f : X → Y) (xs : List X) → map g (map f xs) ≡ map (λ x. g (f x)) xs
-map_map g f [] = refl
-map_map g f (x ∷ xs) = ap (λ ys. g (f x) ∷ ys) (map_map g f xs)
-
-from_when : (b : Bool) (x d : ℕ) → In (when b x) d → (b ≡ true) × (x ≡ d)
-from_when true x d (inl same) = (refl, same)
-from_when true x d (inr none) = absurd none
-from_when false x d there = absurd there
 
 some_mapped : (f : ℕ → ℕ) (o : Option ℕ) (i : ℕ) → option_map f o ≡ Some i → (k : ℕ) × (o ≡ Some k) × (f k ≡ i)
 some_mapped f None i is = absurd (let no : None ≡ Some i = is in cc)
@@ -201,7 +194,7 @@ module _ (lat : Latencies) (block ops : List Op) (rows : List Row) (origin partn
           log_is lat ops rows memory by.table c,
           log_is lat (new block) own_rows memory own_table c,
           numbers_before-map origin rows c,
-          map_map own origin (numbers_before rows c),
+          map-map own origin (numbers_before rows c),
         )
         (alike_map theirs (λ k. own (origin k)) (numbers_before rows c) (λ k there.
         let early = issued_early ops rows by.table c k there in
@@ -235,10 +228,10 @@ module _ (lat : Latencies) (block ops : List Op) (rows : List Row) (origin partn
         map_same (values (issue_cycle rows k))
         (λ r. value_of own (option_map origin (read lat ops rows (issue_cycle rows k) r))) (used (op_at ops k))
         (λ r there. value_moved (issue_cycle rows k) r same)
-        ∙ sym (map_map (value_of own) (λ r. option_map origin (read lat ops rows (issue_cycle rows k) r))
+        ∙ sym (map-map (value_of own) (λ r. option_map origin (read lat ops rows (issue_cycle rows k) r))
         (used (op_at ops k)))
         ∙ ap (map (value_of own)) (by.reads k here)
-        ∙ map_map (value_of own) (given block (origin k)) (used (op_at block (origin k)))
+        ∙ map-map (value_of own) (given block (origin k)) (used (op_at block (origin k)))
         ∙ map_same (λ r. value_of own (given block (origin k) r))
         (λ r. own_values (issue_cycle own_rows (origin k)) (name_at block (origin k) r)) (used (op_at block (origin k)))
         (λ r there. sym (value_given (origin k) r (by.paired.there k here) there))

@@ -22,14 +22,6 @@ module _ (here there : List Sources) where
       (values_paired (length here) (length there) to from alike.leads alike.back alike.leads_too alike.back_too
       (λ c. mixed c 1) colours.here.items colours.there.items size size_too kept)
 
-  pub same_passed : (old : Coloured) → length old.here.items ≡ length here → length old.there.items ≡ length there
-      → ArePassedTo here there old old
-  same_passed old size size_too = record {
-    here_size = size;
-    there_size = size_too;
-    kept = λ below below_too to from alike kept. kept;
-  }
-
   pub then_passed : (old next : Coloured) (last : Option Coloured) → ArePassedTo here there old next
       → ArePassed here there next last → ArePassed here there old last
   then_passed old next None first more = λ below below_too to from alike kept.

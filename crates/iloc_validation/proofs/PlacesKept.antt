@@ -1,7 +1,7 @@
 -- Every pairing keeps the places of loads, stores and outputs, and so the first colours.
 use Rattle.std.proofs.Common.{◌≡◌, ◌<◌, ◌≤◌, ℕ, suc, ◌+◌, ◌%◌, ◌^◌, ◌⊎◌, Bool, true, cond, if◌then◌else◌, List, [], ◌∷◌, ◌++◌, length, Option, Some, None, slice_index, inl, inr, refl, sym, ap, ap₂, ◌∙◌, subst, arith}
 use Rattle.std.specs.Prelude.{count_by, filter, option_to_list}
-use Rattle.std.proofs.lemmas.Bool.{cases_lt, false≢true}
+use Rattle.std.proofs.lemmas.Bool.{cases_lt}
 use Rattle.std.proofs.lemmas.List.{append-nil, append_assoc}
 use Rattle.std.proofs.lemmas.List.Sums.{length-filter}
 use Rattle.std.proofs.Math.Nat.{mod-add-mod}
@@ -18,6 +18,7 @@ use Rattle.iloc_sched.specs.Steps.Members.{In}
 use Rattle.iloc_sched.proofs.Basics.Members.{in_filter, from_filter}
 use Rattle.iloc_sched.proofs.Basics.Ordered.{Ordered, ordered_filter}
 use Rattle.iloc_sched.proofs.Basics.Slots.{numbers_before, ComesLater, issued_in_order, issued_early, early_issued}
+use Rattle.iloc_sched.proofs.KeptEdges.NearPairs.{store_is, output_is}
 use Rattle.iloc_validation.specs.declared.decision.first_colours.Places.{Places}
 use Rattle.iloc_validation.specs.ByTheBook.{issued_before, IsScheduleUnder}
 use Rattle.iloc_validation.specs.Steps.Colours.{mixed, AreKept}
@@ -27,7 +28,6 @@ use Rattle.iloc_validation.specs.Steps.Waits.{memory_by}
 use Rattle.iloc_validation.proofs.FewerNumbers.{Apart, fewer, below_from, in_below, below_apart, count_append, count_single, count_issued}
 use Rattle.iloc_validation.proofs.FirstColours.{same_label_colour}
 use Rattle.iloc_validation.proofs.NotedSlots.{at_zero, at_one, one_row}
-use Rattle.iloc_validation.proofs.StoresUnderWay.{is_of_store}
 use Rattle.iloc_validation.proofs.UnderWayExcludes.{kind_of, waited}
 
 -- Counts as the code keeps them
@@ -131,13 +131,6 @@ record KeepOrder (lat : Latencies) (a b : Kind) : Type 0 where
 abbrev IsPlaced : Kind → Type 0
 IsPlaced a = (a ≡ K.Load) ⊎ ((a ≡ K.Store) ⊎ (a ≡ K.Output))
 
-is_of_output : (a : Kind) → is_output a ≡ true → a ≡ K.Output
-is_of_output K.Output is = refl
-is_of_output K.Load is = absurd (false≢true is)
-is_of_output K.Mult is = absurd (false≢true is)
-is_of_output K.Store is = absurd (false≢true is)
-is_of_output K.Other is = absurd (false≢true is)
-
 store_load : (lat : Latencies) → KeepOrder lat K.Store K.Load
 store_load lat = record {
   ahead = lat.store;
@@ -179,12 +172,12 @@ output_output lat = record {
 }
 
 stores_keep : (lat : Latencies) (a b : Kind) → is_store a ≡ true → IsPlaced b → KeepOrder lat a b
-stores_keep lat a b store (inl load) = rw (is_of_store a store, load) (store_load lat)
-stores_keep lat a b store (inr (inl other)) = rw (is_of_store a store, other) (store_store lat)
-stores_keep lat a b store (inr (inr out)) = rw (is_of_store a store, out) (store_output lat)
+stores_keep lat a b store (inl load) = rw (store_is a store, load) (store_load lat)
+stores_keep lat a b store (inr (inl other)) = rw (store_is a store, other) (store_store lat)
+stores_keep lat a b store (inr (inr out)) = rw (store_is a store, out) (store_output lat)
 
 outputs_keep : (lat : Latencies) (a b : Kind) → is_output a ≡ true → b ≡ K.Output → KeepOrder lat a b
-outputs_keep lat a b output out = rw (is_of_output a output, out) (output_output lat)
+outputs_keep lat a b output out = rw (output_is a output, out) (output_output lat)
 
 apart_of : (rows : List Row) (ks : List ℕ) → Ordered (ComesLater rows) ks → Ordered Apart ks
 apart_of rows [] ordered = tt

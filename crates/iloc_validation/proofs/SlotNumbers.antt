@@ -4,6 +4,7 @@ use Rattle.iloc_ops.specs.declared.op.Op.{Op}
 use Rattle.iloc_timed.specs.declared.latencies.Latencies.{Latencies}
 use Rattle.iloc_timed.specs.declared.row.Row.{Row}
 use Rattle.iloc_timed.specs.Rows.{row_at, IsTable, AreNumbered}
+use Rattle.iloc_timed.proofs.Arrivals.{table_numbered}
 use Rattle.iloc_sched.specs.Lawful.{IsLawful}
 use Rattle.iloc_sched.specs.Renaming.{without_nops}
 use Rattle.iloc_validation.specs.declared.pairing.Pairing.{Pairing}
@@ -13,9 +14,6 @@ use Rattle.iloc_validation.specs.Steps.Numbers.{number_in, with_number, AreNumbe
 use Rattle.iloc_validation.proofs.NotedSlots.{one_row}
 use Rattle.iloc_validation.proofs.InOrder.{under_same, lawful_count, lawful_in_order}
 use Rattle.iloc_validation.proofs.SameIssues.{zero_moved, one_moved, under_others}
-
-table_numbered : (ops : List Op) (rows : List Row) → IsTable ops rows → AreNumbered ops rows
-table_numbered ops rows table = record { in_range = table.in_range; once = table.once }
 
 module _ (ops ops' : List Op) (rows rows' : List Row) (table : IsTable ops' rows')
     (same : IssueTheSame ops rows ops' rows') (c : ℕ) where

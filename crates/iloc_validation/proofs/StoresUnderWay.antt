@@ -1,6 +1,6 @@
 -- What a row issues while a store is under way; for `is_under_way`.
-use Rattle.std.proofs.Common.{◌≡◌, ◌<◌, ℕ, ◌+◌, ◌⊎◌, ◌||◌, Bool, true, false, List, length, Option, Some, None, inl, inr, refl, ap, arith}
-use Rattle.std.proofs.lemmas.Bool.{false≢true}
+use Rattle.std.proofs.Common.{◌≡◌, ◌<◌, ℕ, ◌+◌, ◌⊎◌, ◌||◌, Bool, true, List, length, Option, Some, None, inl, inr, refl, ap, arith}
+use Rattle.std.proofs.lemmas.Bool.{false≢true, or_cases}
 use Rattle.iloc_ops.specs.declared.op.Op.{Op}
 use Rattle.iloc_meaning.specs.Trace.{op_at}
 use Rattle.iloc_timed.specs.declared.kind.Kind.{Kind}
@@ -13,16 +13,10 @@ use Rattle.iloc_timed.specs.Rows.{row_at, slots, issue_cycle, kind_in, is_some_k
 use Rattle.iloc_sched.specs.Delays.{reads_stored}
 use Rattle.iloc_sched.specs.Steps.Members.{In}
 use Rattle.iloc_sched.proofs.Basics.Slots.{within, cycle_is}
+use Rattle.iloc_sched.proofs.KeptEdges.NearPairs.{store_is}
 use Rattle.iloc_validation.specs.UnderWay.{IsUnderWay}
 use Rattle.iloc_validation.specs.Steps.Stores.{IsStoredUntil}
 use Rattle.iloc_validation.proofs.SameIssues.{in_first, in_second}
-
-pub is_of_store : (k : Kind) → is_store k ≡ true → k ≡ K.Store
-is_of_store K.Store is = refl
-is_of_store K.Load is = absurd (false≢true is)
-is_of_store K.Mult is = absurd (false≢true is)
-is_of_store K.Output is = absurd (false≢true is)
-is_of_store K.Other is = absurd (false≢true is)
 
 is_of_reader : (k : Kind) → reads_stored K.Store k ≡ true → (k ≡ K.Load) ⊎ (k ≡ K.Output)
 is_of_reader K.Load is = inl refl
@@ -30,10 +24,6 @@ is_of_reader K.Output is = inr refl
 is_of_reader K.Store is = absurd (false≢true is)
 is_of_reader K.Mult is = absurd (false≢true is)
 is_of_reader K.Other is = absurd (false≢true is)
-
-or_true : (a b : Bool) → (a || b) ≡ true → (a ≡ true) ⊎ (b ≡ true)
-or_true true b is = inl refl
-or_true false b is = inr is
 
 -- what stands in a slot, of a kind that passes
 record Passes (test : Kind → Bool) (ops : List Op) (slot : Option ℕ) : Type 0 where
@@ -84,7 +74,7 @@ module _ (lat : Latencies) (ops : List Op) (rows : List Row) (table : IsTable op
       record {
         s = it.k;
         within = it.within;
-        store = is_of_store (kind (op_at ops it.k)) it.passes;
+        store = store_is (kind (op_at ops it.k)) it.passes;
         begun = omega arith;
         over = omega arith;
       }
@@ -126,11 +116,11 @@ module _ (lat : Latencies) (ops : List Op) (rows : List Row) (table : IsTable op
       × ((is_some_kind is_store (kind_in ops (row_at rows c).zero)
       || is_some_kind is_store (kind_in ops (row_at rows c).one)) ≡ true)) ⊎ (new ≡ old) → 0 < new
       → IsStoredUntil lat ops rows (c + 1) new
-  row_stored old new before (inl (is, stores)) some = stored new is (or_true _ _ stores)
+  row_stored old new before (inl (is, stores)) some = stored new is (or_cases _ _ stores)
   row_stored old new before (inr is) some = rw is (still_stored old (before (rw is at some)))
 
   pub row_reads : (until : ℕ) → c < until → IsStoredUntil lat ops rows (c + 1) until
       → (is_some_kind (reads_stored K.Store) (kind_in ops (row_at rows c).zero)
       || is_some_kind (reads_stored K.Store) (kind_in ops (row_at rows c).one)) ≡ true
       → (k : ℕ) × (s : ℕ) × (k < length ops) × (s < length ops) × IsUnderWay lat ops rows k s
-  row_reads until early it reads = reads_under_way until early it (or_true _ _ reads)
+  row_reads until early it reads = reads_under_way until early it (or_cases _ _ reads)
