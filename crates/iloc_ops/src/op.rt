@@ -5,7 +5,7 @@
 pub struct Reg(pub u32);
 
 /// One operation. A constant stands for its 32-bit pattern.
-#[derive(Clone, Copy, Debug, PartialEq, Eq)]
+#[derive(Clone, Copy, Debug, PartialEq, Eq, PartialOrd, Ord)]
 pub enum Op {
     /// `load addr => dest`: `dest` becomes the word at the address in `addr`.
     Load { addr: Reg, dest: Reg },

@@ -3,7 +3,6 @@ use Rattle.std.proofs.Common.{◌≡◌, ◌≢◌, ◌<◌, ℕ, zero, suc, ◌
 use Rattle.std.specs.Prelude.{slice_index, IfSome}
 use Rattle.iloc_ops.specs.declared.op.Reg.{Reg}
 use Rattle.iloc_ops.specs.declared.op.Op.{Op}
-use Rattle.iloc_ops.specs.declared.op.Op.TheVariants.{Load, LoadI, Store, Add, Sub, Mult, Lshift, Rshift, Output, Nop, AddI, SubI, MultI, LshiftI, RshiftI, LoadAI, StoreAI}
 use Rattle.iloc_ops.specs.Registers.{used}
 use Rattle.iloc_meaning.specs.Trace.{op_at}
 use Rattle.iloc_timed.specs.declared.latencies.Latencies.{Latencies}
@@ -18,32 +17,14 @@ use Rattle.iloc_validation.specs.declared.reading.sources.Sources.{Sources}
 use Rattle.iloc_validation.specs.ByTheBook.{given, label, read, result_in}
 use Rattle.iloc_validation.specs.Readings.{reading_at, sources_at, sources_of}
 use Rattle.iloc_validation.proofs.Issues.{numbers_from_issued}
+use Rattle.iloc_validation.proofs.LabelKeys.{same_constant, same_opcode}
 use Rattle.iloc_validation.proofs.ReadValues.{read_in}
 use Rattle.iloc_reasons.specs.declared.terms.Values.TheVariants.{One, Two}
 use Rattle.iloc_reasons.specs.Facts.{AreAlike, AreAllSources, AreSources}
-use Rattle.iloc_reasons.specs.Steps.Terms.{AreTerms, behind, label_number, value_of, values_of}
-
-number_label : (op : Op) → label_number op ≡ label_number (label op)
-number_label (Load addr dest) = refl
-number_label (LoadI value dest) = refl
-number_label (Store value addr) = refl
-number_label (Add left right dest) = refl
-number_label (Sub left right dest) = refl
-number_label (Mult left right dest) = refl
-number_label (Lshift left right dest) = refl
-number_label (Rshift left right dest) = refl
-number_label (Output addr) = refl
-number_label Nop = refl
-number_label (AddI left value dest) = refl
-number_label (SubI left value dest) = refl
-number_label (MultI left value dest) = refl
-number_label (LshiftI left value dest) = refl
-number_label (RshiftI left value dest) = refl
-number_label (LoadAI addr offset dest) = refl
-number_label (StoreAI value addr offset) = refl
+use Rattle.iloc_reasons.specs.Steps.Terms.{AreTerms, behind, label_number, mixed, opcode_number, value_of, values_of}
 
 pub labels_number : (a b : Op) → label a ≡ label b → label_number a ≡ label_number b
-labels_number a b same = number_label a ∙ ap label_number same ∙ sym (number_label b)
+labels_number a b same = ap₂ (λ o c. mixed (opcode_number o) c) (same_opcode a b same) (same_constant a b same)
 
 pub reads_at : (readings : List Reading) (k : ℕ)
     → sources_at (map (λ (r : Reading). r.sources) readings) k ≡ (reading_at readings k).sources

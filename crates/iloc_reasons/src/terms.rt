@@ -1,10 +1,9 @@
 //! Terms: numbers for what operations have in common, equal for what is equal, and hardly ever for anything else.
 ghost use Rattle.std.specs.Prelude.{◌≡◌, slice_index};
-ghost use Rattle.iloc_ops.specs.Operands.{operands_in};
-ghost use Rattle.iloc_reasons.specs.Steps.Terms.{constant_among, label_number, mixed, opcode_number, value_of};
+ghost use Rattle.iloc_reasons.specs.Steps.Terms.{label_number, mixed, opcode_number, value_of};
 
-use iloc_ops::{Op, Opcode, Operands, form_of};
-use iloc_validation::Sources;
+use iloc_ops::{Op, Opcode};
+use iloc_validation::{Sources, opcode_and_constant};
 
 /// A number for two numbers in order.
 pub(crate) fn mix(one: u64, other: u64) -> u64
@@ -16,19 +15,6 @@ pub(crate) fn mix(one: u64, other: u64) -> u64
     // Odd numbers and their cubes go one to one.
     let odd = sum.wrapping_mul(2).wrapping_add(1);
     odd.wrapping_mul(odd).wrapping_mul(odd)
-}
-
-/// The constant in operands, 0 where there is none.
-fn constant_in(operands: Operands) -> u32
-    ensures { result ≡ constant_among (operands_in operands) }
-{
-    match operands {
-        Operands::Constant(value)
-        | Operands::Immediate(value, _)
-        | Operands::WithConstant(_, value, _)
-        | Operands::StoredAt(_, _, value) => value,
-        _ => 0,
-    }
 }
 
 /// A number for an opcode.
@@ -45,8 +31,8 @@ fn opcode_number(opcode: Opcode) -> u64
 pub(crate) fn label_number(op: &Op) -> u64
     ensures { result ≡ label_number op.now }
 {
-    let (opcode, operands) = form_of(op);
-    mix(opcode_number(opcode), u64::from(constant_in(operands)))
+    let (opcode, constant) = opcode_and_constant(op);
+    mix(opcode_number(opcode), u64::from(constant))
 }
 
 /// The number of what is read, where each operation has one; 0 for the start of a register.

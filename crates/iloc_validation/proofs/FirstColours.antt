@@ -10,12 +10,12 @@ use Rattle.iloc_validation.specs.declared.reading.sources.Sources.{Sources}
 use Rattle.iloc_validation.specs.ByTheBook.{label}
 use Rattle.iloc_validation.specs.Steps.Colours.{mixed, AreKept, AreColoured}
 use Rattle.iloc_validation.specs.Steps.Decisions.{IsExcluded}
-use Rattle.iloc_validation.specs.Steps.FirstColours.{label_colour}
+use Rattle.iloc_validation.specs.Steps.FirstColours.{label_colour, opcode_colour}
 use Rattle.iloc_validation.specs.Steps.Sides.{AreSides}
-use Rattle.iloc_validation.proofs.LabelNumbers.{same_form, same_constant}
+use Rattle.iloc_validation.proofs.LabelKeys.{same_opcode, same_constant}
 
 pub same_label_colour : (a b : Op) → label a ≡ label b → label_colour a ≡ label_colour b
-same_label_colour a b same = ap₂ mixed (same_form a b same) (same_constant a b same)
+same_label_colour a b same = ap₂ (λ o c. mixed (opcode_colour o) c) (same_opcode a b same) (same_constant a b same)
 
 -- where there are no more colours, there is no pairing
 pub no_colours : (block : List Op) (givens : List Sources) (schedule : Table) (readings : List Reading) (here there : List ℕ)

@@ -7,7 +7,7 @@ pub mod Renumbered
 pub mod Outcomes
 pub mod OwnTables
 pub mod Lawful
-pub mod LabelNumbers
+pub mod LabelKeys
 pub mod SourceLists
 pub mod Tracking
 pub mod ReadingRows

@@ -1,5 +1,4 @@
 -- What the code does piece by piece, as steps of proof: no contract of a public function names them.
-pub mod Labels
 pub mod Sources
 pub mod Holders
 pub mod Arrivals

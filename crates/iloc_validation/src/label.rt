@@ -1,55 +1,49 @@
 //! Operations without their registers.
 ghost use Rattle.std.specs.Prelude.{◌≡◌, ◌↔◌, IsTrue};
+ghost use Rattle.iloc_ops.specs.Forms.{opcode};
+ghost use Rattle.iloc_ops.specs.Operands.{operands_in};
 ghost use Rattle.iloc_validation.specs.ByTheBook.{label};
 ghost use Rattle.iloc_validation.specs.Counts.{count_like};
+ghost use Rattle.iloc_validation.specs.Labels.{constant, constant_among, label_key};
 
-use iloc_ops::Op;
+use iloc_ops::{Op, Opcode, Operands, form_of, op_of};
 
-/// An operation without its registers.
-#[derive(Clone, Copy, Debug, PartialEq, Eq, PartialOrd, Ord)]
-pub(crate) struct Label {
-    /// The number of its form.
-    pub form: u32,
-    /// The constant in it, 0 where there is none.
-    pub constant: u32,
+/// The constant in operands, 0 where there is none.
+fn constant_in(operands: Operands) -> u32
+    ensures { result ≡ constant_among (operands_in operands) }
+{
+    match operands {
+        Operands::Constant(value)
+        | Operands::Immediate(value, _)
+        | Operands::WithConstant(_, value, _)
+        | Operands::StoredAt(_, _, value) => value,
+        _ => 0,
+    }
 }
 
-impl Label {
-    ghost use Rattle.iloc_validation.specs.Steps.Labels.{form, constant};
+/// Promise: the opcode of an operation and its constant, 0 where it has none. Operations that differ in registers alone share
+/// both.
+pub fn opcode_and_constant(op: &Op) -> (Opcode, u32)
+    ensures opcode { result.0 ≡ opcode op.now }
+    ensures constant { result.1 ≡ constant op.now }
+{
+    let (opcode, operands) = form_of(op);
+    (opcode, constant_in(operands))
+}
 
-    /// The label of an operation.
-    pub(crate) fn of(op: &Op) -> Label
-        ensures form { result.form ≡ form op.now }
-        ensures constant { result.constant ≡ constant op.now }
-    {
-        let (form, constant) = match *op {
-            Op::Load { .. } => (0, 0),
-            Op::LoadI { value, .. } => (1, value),
-            Op::Store { .. } => (2, 0),
-            Op::Add { .. } => (3, 0),
-            Op::Sub { .. } => (4, 0),
-            Op::Mult { .. } => (5, 0),
-            Op::Lshift { .. } => (6, 0),
-            Op::Rshift { .. } => (7, 0),
-            Op::Output { addr } => (8, addr),
-            Op::Nop => (9, 0),
-            Op::AddI { value, .. } => (10, value),
-            Op::SubI { value, .. } => (11, value),
-            Op::MultI { value, .. } => (12, value),
-            Op::LshiftI { value, .. } => (13, value),
-            Op::RshiftI { value, .. } => (14, value),
-            Op::LoadAI { offset, .. } => (15, offset),
-            Op::StoreAI { offset, .. } => (16, offset),
-        };
-        Label { form, constant }
-    }
+/// An operation with its constant, or 0, in place of each register: operations that differ in registers alone share it.
+pub(crate) fn label_key(op: &Op) -> Op
+    ensures { result ≡ label_key op.now }
+{
+    let (opcode, constant) = opcode_and_constant(op);
+    op_of(opcode, &[constant, constant, constant])
 }
 
 /// Promise: whether two operations differ in registers alone.
 pub fn have_one_label(one: &Op, other: &Op) -> bool
     ensures { IsTrue result ↔ (label one.now ≡ label other.now) }
 {
-    Label::of(one) == Label::of(other)
+    label_key(one) == label_key(other)
 }
 
 /// How many operations have the label of this one.

@@ -16,7 +16,7 @@ mod waits;
 
 pub use counterparts::lacking::{Lacking, without_counterpart};
 pub use decision::{Decision, decide};
-pub use label::have_one_label;
+pub use label::{have_one_label, opcode_and_constant};
 pub use lawfulness::{Added, Issue, LeftOut};
 pub use pairing::Pairing;
 pub use reading::given::{givens, without_nops};

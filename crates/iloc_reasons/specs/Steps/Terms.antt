@@ -1,12 +1,12 @@
 -- Terms as the code has them: numbers for what operations have in common.
-use Rattle.std.specs.Prelude.{ℕ, ◌+◌, ◌*◌, ◌%◌, ◌^◌, ◌≡◌, ◌<◌, List, [], ◌∷◌, length, fold, slice_index, Option, Some, None}
+use Rattle.std.specs.Prelude.{ℕ, ◌+◌, ◌*◌, ◌%◌, ◌^◌, ◌≡◌, ◌<◌, List, length, fold, slice_index, Option, Some, None}
 use Rattle.iloc_ops.specs.declared.op.Op.{Op}
 use Rattle.iloc_ops.specs.declared.forms.Opcode.{Opcode}
-use Rattle.iloc_ops.specs.Forms.{Operand, Value, opcode, opcode_text, operands}
-use Rattle.iloc_ops.specs.Forms.Value.{Constant}
+use Rattle.iloc_ops.specs.Forms.{opcode, opcode_text}
 use Rattle.iloc_meaning.specs.Trace.{op_at}
 use Rattle.iloc_validation.specs.declared.reading.sources.Sources.{Sources}
 use Rattle.iloc_validation.specs.declared.reading.sources.Sources.TheVariants as reads
+use Rattle.iloc_validation.specs.Labels.{constant}
 use Rattle.iloc_validation.specs.Readings.{sources_at}
 use Rattle.iloc_reasons.specs.declared.terms.Values.{Values}
 use Rattle.iloc_reasons.specs.declared.terms.Values.TheVariants.{Nothing, One, Two}
@@ -19,22 +19,13 @@ odd_of a b = (((a * 0x9E37_79B9_7F4A_7C15) % 2 ^ 64 + (b * 0xD6E8_FEB8_6659_FD93
 abbrev pub mixed : ℕ → ℕ → ℕ
 mixed a b = let odd = odd_of a b % 2 ^ 64 in (odd * odd % 2 ^ 64 * odd) % 2 ^ 64
 
--- the constant among operands, 0 where there is none
-abbrev pub constant_of : Value → ℕ → ℕ
-constant_of (Constant n) rest = n
-constant_of _ rest = rest
-
-abbrev pub constant_among : List Operand → ℕ
-constant_among [] = 0
-constant_among (operand ∷ rest) = constant_of operand.value (constant_among rest)
-
 -- a number for an opcode
 abbrev pub opcode_number : Opcode → ℕ
 opcode_number code = fold mixed 0 (opcode_text code)
 
 -- a number for the label of an operation
 abbrev pub label_number : Op → ℕ
-label_number op = mixed (opcode_number (opcode op)) (constant_among (operands op))
+label_number op = mixed (opcode_number (opcode op)) (constant op)
 
 -- the number of what is read
 abbrev pub value_of : List ℕ → Option ℕ → ℕ

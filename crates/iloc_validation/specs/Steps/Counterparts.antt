@@ -2,18 +2,18 @@
 use Rattle.std.specs.Prelude.{ℕ, ◌+◌, ◌≡◌, ◌<◌, ◌≤◌, if◌then◌else◌, true, List, length, take, slice_index_or, count_by, is_none, Option, Some, None}
 use Rattle.std.specs.BTreeMap.{get}
 use Rattle.iloc_ops.specs.declared.op.Op.{Op}
+use Rattle.iloc_ops.specs.contracts.op.OpOrd.TheImpl as of_ops
 use Rattle.iloc_meaning.specs.Trace.{op_at}
 use Rattle.iloc_validation.specs.declared.counterparts.unpaired.Unpaired.{Unpaired}
 use Rattle.iloc_validation.specs.declared.counterparts.chains.Chains.{Chains}
 use Rattle.iloc_validation.specs.declared.counterparts.lacking.Lacking.{Lacking}
-use Rattle.iloc_validation.specs.contracts.label.LabelOrd.TheImpl as of_labels
 use Rattle.iloc_validation.specs.Counts.{are_alike, count_like}
 pub use Rattle.iloc_validation.specs.Counts.{AreLacking}
-use Rattle.iloc_validation.specs.Steps.Labels.{labelled}
+use Rattle.iloc_validation.specs.Labels.{label_key}
 
 -- the first operation that waits, of those like this one
 abbrev pub first_like : Unpaired → Op → Option ℕ
-first_like waiting op = get (of_labels.ghosts).cmp waiting.first (labelled op)
+first_like waiting op = get (of_ops.ghosts).cmp waiting.first (label_key op)
 
 -- of those like this operation another one waits first
 abbrev pub SetsLike : Unpaired → Unpaired → Op → Option ℕ → Type 0

@@ -1,6 +1,8 @@
 -- The first colours of operations: label, and place among stores and outputs.
-use Rattle.std.specs.Prelude.{ℕ, zero, suc, ◌+◌, ◌%◌, ◌^◌, ◌≡◌, Bool, if◌then◌else◌, List, [], ◌∷◌, ◌++◌, count_by, Option, Some, None}
+use Rattle.std.specs.Prelude.{ℕ, zero, suc, ◌+◌, ◌%◌, ◌^◌, ◌≡◌, Bool, if◌then◌else◌, List, [], ◌∷◌, ◌++◌, count_by, fold, Option, Some, None}
 use Rattle.iloc_ops.specs.declared.op.Op.{Op}
+use Rattle.iloc_ops.specs.declared.forms.Opcode.{Opcode}
+use Rattle.iloc_ops.specs.Forms.{opcode, opcode_text}
 use Rattle.iloc_meaning.specs.Trace.{op_at}
 use Rattle.iloc_timed.specs.declared.kind.Kind.{Kind}
 use Rattle.iloc_timed.specs.declared.kind.Kind.TheVariants as K
@@ -10,11 +12,15 @@ use Rattle.iloc_timed.specs.Rows.{issue_cycle}
 use Rattle.iloc_validation.specs.declared.decision.first_colours.Places.{Places}
 use Rattle.iloc_validation.specs.ByTheBook.{issued_before}
 use Rattle.iloc_validation.specs.Steps.Colours.{mixed}
-use Rattle.iloc_validation.specs.Steps.Labels.{form, constant}
+use Rattle.iloc_validation.specs.Labels.{constant}
+
+-- that of an opcode
+abbrev pub opcode_colour : Opcode → ℕ
+opcode_colour code = fold mixed 0 (opcode_text code)
 
 -- that of the label of an operation
 abbrev pub label_colour : Op → ℕ
-label_colour op = mixed (form op) (constant op)
+label_colour op = mixed (opcode_colour (opcode op)) (constant op)
 
 -- a colour with so many stores and outputs before it, of a kind that keeps its place among them
 abbrev pub with_place : Kind → ℕ → ℕ → ℕ → ℕ

@@ -1,15 +1,15 @@
 //! Operations that wait for a counterpart, by their labels.
 ghost use Rattle.std.specs.Prelude.{◌≡◌, None, OnOk};
 
-use crate::label::Label;
+use crate::label::label_key;
 use iloc_ops::{NoMemory, Op};
 use std::alloc::Global;
 use std::collections::BTreeMap;
 
-/// By label the first operation that waits.
+/// By the key of its label the first operation that waits.
 #[derive(Drop)]
 pub(crate) struct Unpaired {
-    first: BTreeMap<Label, usize>,
+    first: BTreeMap<Op, usize>,
 }
 
 impl Unpaired {
@@ -29,21 +29,21 @@ impl Unpaired {
     pub(crate) fn first(&self, op: &Op) -> Option<usize>
         ensures { result ≡ first_like self.now op.now }
     {
-        self.first.get(&Label::of(op)).copied()
+        self.first.get(&label_key(op)).copied()
     }
 
     /// Has another one wait first of those like an operation, or none.
     pub(crate) fn set(&mut self, op: &Op, first: Option<usize>) -> Result<(), NoMemory>
         ensures { OnOk result (SetsLike self.old self.new op.now first) }
     {
-        let label = Label::of(op);
+        let key = label_key(op);
         match first {
             Some(k) => {
-                self.first.insert(label, k)?;
+                self.first.insert(key, k)?;
                 Ok(())
             }
             None => {
-                self.first.remove(&label);
+                self.first.remove(&key);
                 Ok(())
             }
         }

@@ -3,23 +3,33 @@ ghost use Rattle.std.specs.Prelude.{◌≡◌, ◌<◌, ℕ, length, slice_index
 ghost use Rattle.iloc_timed.specs.declared.latencies.Latencies.{Latencies};
 ghost use Rattle.iloc_timed.specs.Rows.{IsTable};
 ghost use Rattle.iloc_validation.specs.Steps.Decisions.{IsExcluded};
-ghost use Rattle.iloc_validation.specs.Steps.FirstColours.{label_colour, first_here, first_there};
+ghost use Rattle.iloc_validation.specs.Steps.FirstColours.{label_colour, opcode_colour, first_here, first_there};
 ghost use Rattle.iloc_validation.specs.Steps.Sides.{AreSides};
 
 use crate::colours::mixing::mix;
 use crate::colours::{Coloured, kept_colours};
-use crate::label::Label;
+use crate::label::opcode_and_constant;
 use crate::verification::Sides;
-use iloc_ops::{NoMemory, Op};
+use iloc_ops::{NoMemory, Op, Opcode};
 use iloc_timed::{Kind, Schedule};
 use std::alloc::Global;
+
+/// The colour of an opcode.
+fn opcode_colour(opcode: Opcode) -> u64
+    ensures { result ≡ opcode_colour opcode }
+{
+    opcode
+        .text()
+        .iter()
+        .fold(0, |colour, byte| mix(colour, u64::from(*byte)))
+}
 
 /// The colour of the label of an operation.
 fn label_colour(op: &Op) -> u64
     ensures { result ≡ label_colour op.now }
 {
-    let label = Label::of(op);
-    mix(u64::from(label.form), u64::from(label.constant))
+    let (opcode, constant) = opcode_and_constant(op);
+    mix(opcode_colour(opcode), u64::from(constant))
 }
 
 /// How many stores and outputs there are so far, modulo 2⁶⁴.
