@@ -6,10 +6,10 @@ use Rattle.std.proofs.lemmas.Bool.{cases_lt}
 use Rattle.std.proofs.lemmas.Bool.Decides.{nat_tests}
 use Rattle.std.proofs.lemmas.List.Sums.{sum_by-cons}
 use Rattle.iloc_timed.specs.declared.kind.Kind.{Kind}
-use Rattle.iloc_optimum.specs.declared.share.Share.{Share}
+use Rattle.iloc_sched.specs.declared.lower_bound.share.Share.{Share}
 use Rattle.iloc_optimum.specs.Timing.{Within, Crowd, between, belongs}
 use Rattle.iloc_optimum.specs.Steps.Inside.{is_inside, count_inside}
-use Rattle.iloc_optimum.specs.Shares.{width}
+use Rattle.iloc_sched.specs.Shares.{width}
 
 pub count-cons : {X : Type 0} → (p : X → Bool) (x : X) (xs : List X) → count_by p (x ∷ xs) ≡ cond (p x) 1 0 + count_by p xs
 count-cons p x xs = sum_by-cons (λ y. cond (p y) 1 0) x xs

@@ -16,13 +16,13 @@ use Rattle.iloc_timed.specs.declared.row.Row.{Row}
 use Rattle.iloc_timed.specs.Cycles.{cycles}
 use Rattle.iloc_timed.specs.Kinds.{kind, is_load}
 use Rattle.iloc_timed.specs.Rows.{issue_cycle}
-use Rattle.iloc_optimum.specs.declared.share.Share.{Share}
-use Rattle.iloc_optimum.specs.declared.share.Share.TheVariants.{Memory, Products, Outputs, All as AllOf}
+use Rattle.iloc_sched.specs.declared.lower_bound.share.Share.{Share}
+use Rattle.iloc_sched.specs.declared.lower_bound.share.Share.TheVariants.{Memory, Products, Outputs, All as AllOf}
 use Rattle.iloc_sched.specs.Delays.{IsDelayPair}
 use Rattle.iloc_sched.specs.Lawful.{IsLawful}
 use Rattle.iloc_sched.specs.Least.{tails, tail}
 use Rattle.iloc_sched.specs.Renaming.{renamed}
-use Rattle.iloc_optimum.specs.Shares.{shares, width}
+use Rattle.iloc_sched.specs.Shares.{shares, width}
 use Rattle.iloc_sched.proofs.Bounds.PriorityBound.{ends_within}
 use Rattle.iloc_sched.proofs.Bounds.RowsHold.{Holds, holds_memory, holds_products, holds_outputs, holds_all, holds_loads}
 use Rattle.iloc_sched.proofs.Bounds.TailBound.{Fits, crowd_of, tail_within}

@@ -4,11 +4,11 @@ use Rattle.std.specs.Prelude.{count_by}
 use Rattle.std.specs.List.{range_with_len}
 use Rattle.std.proofs.lemmas.Bool.{cases_lt}
 use Rattle.iloc_timed.specs.declared.kind.Kind.{Kind}
-use Rattle.iloc_optimum.specs.declared.share.Share.{Share}
-use Rattle.iloc_optimum.specs.declared.share.Share.TheVariants.{All}
+use Rattle.iloc_sched.specs.declared.lower_bound.share.Share.{Share}
+use Rattle.iloc_sched.specs.declared.lower_bound.share.Share.TheVariants.{All}
 use Rattle.iloc_optimum.specs.Timing.{Within, FitsShares, between, belongs}
 use Rattle.iloc_optimum.specs.Steps.Inside.{is_inside, count_inside}
-use Rattle.iloc_optimum.specs.Shares.{width}
+use Rattle.iloc_sched.specs.Shares.{width}
 use Rattle.iloc_optimum.proofs.FullCycles.{both, in_between, count-cons, issued_inside}
 
 abbrev one : Bool → ℕ

@@ -1,5 +1,4 @@
 pub mod Bound
-pub mod Shares
 pub mod Timing
 pub mod Found
 pub mod Optimum

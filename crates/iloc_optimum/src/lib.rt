@@ -12,11 +12,9 @@ mod nests;
 mod optimizer;
 mod proposal;
 mod search;
-mod share;
 mod waits;
 mod windows;
 
 pub use optimizer::{MOST_NODES, MOST_SEARCHED, Optimizer, Optimum};
 pub use search::{Found, search_windows};
-pub use share::Share;
 pub use windows::Windows;

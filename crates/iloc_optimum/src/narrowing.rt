@@ -5,11 +5,10 @@ ghost use Rattle.iloc_optimum.specs.Timing.{Within, FitsShares, IsTiming, IsSize
 use crate::crowds::hold_each;
 use crate::nests::has_overfull;
 use crate::proposal::Proposer;
-use crate::share::Share;
 use crate::waits::wait;
 use crate::windows::{Windows, has_empty};
 use iloc_ops::{MAX_OPS, NoMemory};
-use iloc_sched::Edge;
+use iloc_sched::{Edge, Share};
 use iloc_timed::Kind;
 
 /// The operations that share slots.

@@ -3,13 +3,13 @@
 //! Loads and stores go on one unit alone, and so do products. Where more operations of such a share have their windows
 //! within the outer cycles than the rows around the inner ones can hold, they take slots of the inner ones from all others.
 ghost use Rattle.std.specs.Prelude.{ℕ, ◌≡◌, ◌≤◌, ◌*◌, ◌^◌, length, IsTrue};
-ghost use Rattle.iloc_optimum.specs.Shares.{width};
+ghost use Rattle.iloc_sched.specs.Shares.{width};
 ghost use Rattle.iloc_optimum.specs.Timing.{Within, FitsShares};
 
 use crate::crowds::count_inside;
 use crate::proposal::Span;
-use crate::share::Share;
 use iloc_ops::MAX_OPS;
+use iloc_sched::Share;
 use iloc_timed::Kind;
 
 /// Outer cycles for operations of a share, and inner ones for all others.

@@ -6,8 +6,8 @@ pub(crate) mod spans;
 
 use crate::proposal::nests::NestProposer;
 use crate::proposal::spans::SpanProposer;
-use crate::share::Share;
 use iloc_ops::NoMemory;
+use iloc_sched::Share;
 use iloc_timed::Kind;
 use std::alloc::Global;
 

@@ -9,6 +9,7 @@ pub mod Greedy
 pub mod GraphOf
 pub mod Heuristics
 pub mod Scheduled
+pub mod Shares
 pub mod Least
 pub mod Laws
 pub mod Steps

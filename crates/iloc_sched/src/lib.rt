@@ -21,6 +21,7 @@ pub use edges::Edge;
 pub use edges::delay_pairs::{Pair, delays, pairs};
 pub use graph::Graph;
 pub use lower_bound::least;
+pub use lower_bound::share::Share;
 pub use ranking::heuristic::Heuristic;
 pub use ranking::{priorities, priorities_by};
 pub use renaming::rename;

@@ -2,8 +2,8 @@
 ghost use Rattle.std.specs.Prelude.{◌≡◌, length};
 
 use crate::proposal::{Span, Window, ends_before, take_windows};
-use crate::share::Share;
 use iloc_ops::NoMemory;
+use iloc_sched::Share;
 use iloc_timed::Kind;
 use std::alloc::Global;
 

@@ -1,6 +1,6 @@
 //! Operations that share slots.
 ghost use Rattle.std.specs.Prelude.{◌≡◌};
-ghost use Rattle.iloc_optimum.specs.Shares.{shares, width};
+ghost use Rattle.iloc_sched.specs.Shares.{shares, width};
 
 use iloc_timed::Kind;
 
@@ -18,7 +18,7 @@ pub enum Share {
 }
 
 impl Share {
-    /// Whether operations of this kind belong to it.
+    /// Promise: whether operations of this kind belong to it.
     pub fn has(self, kind: Kind) -> bool
         ensures { result ≡ shares self kind }
     {
@@ -30,7 +30,7 @@ impl Share {
         }
     }
 
-    /// How many of its operations a row can hold.
+    /// Promise: how many of its operations a row can hold.
     pub fn width(self) -> u32
         ensures { result ≡ width self }
     {
