@@ -44,11 +44,10 @@ class Mark:
 def verdict_of(said, required):
     """The program's verdict, unless what passes there isn't what a course requires."""
     verdict = said["verdict"]
-    if required == "outcome" or verdict not in PASSING or verdict == "lawful":
+    if verdict not in PASSING or said["passes"]:
         return verdict
-    if said["left_out"] or said["added"]:
-        return "changed"
-    return "unlawful" if required == "lawful" else verdict
+    is_changed = required == "operations" or said["left_out"] or said["added"]
+    return "changed" if is_changed else "unlawful"
 
 
 def lost(mark, base, asked):

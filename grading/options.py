@@ -93,5 +93,5 @@ def parse(usage):
     if asked.uid == 0:
         made.error("programs are not run as root")
     asked.user = str(asked.uid)
-    asked.check += ["--lawful"] * (asked.require == "lawful")
+    asked.check += {"outcome": [], "operations": ["--operations"], "lawful": ["--lawful"]}[asked.require]
     return asked

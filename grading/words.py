@@ -15,12 +15,11 @@ VERDICTS = {
 }
 REASONS = {
     "units": "{Row} can't be issued: {rule}.",
-    "faults": "The block itself faults at `{operation}`.",
-    "shows_nothing": "The block itself neither stores nor prints.",
     "no_rows": "There is no row.",
     "under_way": "{Row} issues `{operation}` {early} too early: the store `{other_operation}` of row {other_row} is still under way.",
     "brings": "{Row} issues `{operation}` {early} too early: it has to wait for `{other_operation}` of row {other_row}.",
     "replaced": "{Row}, `{operation}`, reads in r{register} the result of row {other_row}, `{other_operation}`, and no longer {before}.",
+    "never_read": "{Row}: nothing reads the result of `{operation}`.",
     "order": "{Row}, `{operation}`, and row {other_row}, `{other_operation}`, are in the wrong order.",
     "for": "{Row} has `{operation}`; the block has `{wanted}`.",
     "like_none": "{Row}: nothing like `{operation}` in the block reads what this reads.",
@@ -58,7 +57,7 @@ def reason(it, mark):
         at = it.get("line") or mark.line_of(it["row"])
         text = f": {shown(it['text'], 80)}" if it.get("text") else ""
         return f"Line {at} can't be read: {shown(it['problem'])}{text}"
-    more = {"rule": f"[ {it.get('zero') or 'nop'} ; {it.get('one') or 'nop'} ]"} | it
+    more = {"rule": it.get("text")} | it
     if "row" in it:
         more["Row"] = f"Row {it['row']} (line {mark.line_of(it['row'])})"
     if "due" in it:

@@ -14,7 +14,7 @@ _ilocfarm() {
     *,compare,*) words="--workers --load --store --mult --csv --help" ;;
     *,optimize,*) words="--nodes --workers --load --store --mult --help" ;;
     *,explain,*) words="--load --store --mult --priority --task --either-slot --help" ;;
-    *,check,*) words="--at --load --store --mult --task --either-slot --lawful --operations --outputs --csv --help" ;;
+    *,check,*) words="--at --load --store --mult --task --either-slot --lawful --operations --outputs --csv --json --help" ;;
     *,graph,*) words="--load --store --mult --help" ;;
     *,lint,*) words="--help" ;;
     2,help,*) words="run simulate trace schedule counts compare optimize explain check graph lint" ;;

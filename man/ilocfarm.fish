@@ -71,6 +71,7 @@ complete -c ilocfarm -n '__fish_seen_subcommand_from check' -l lawful -d 'Pass n
 complete -c ilocfarm -n '__fish_seen_subcommand_from check' -l operations -d 'Pass no rows that leave operations of their block out or add some'
 complete -c ilocfarm -n '__fish_seen_subcommand_from check' -l outputs -d 'Compare emitted words and faults alone, and not memory'
 complete -c ilocfarm -n '__fish_seen_subcommand_from check' -l csv -d 'Print a table of comma-separated values, a row for each block'
+complete -c ilocfarm -n '__fish_seen_subcommand_from check' -l json -d 'Print a line of JSON for each block'
 complete -c ilocfarm -n '__fish_seen_subcommand_from check' -l help -d 'Print help'
 complete -c ilocfarm -n '__fish_seen_subcommand_from graph' -l load -x -d 'Cycles that load and loadAI take, 1 to 16 [default: 5]'
 complete -c ilocfarm -n '__fish_seen_subcommand_from graph' -l store -x -d 'Cycles that store and storeAI take, 1 to 16 [default: 5]'

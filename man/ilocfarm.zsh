@@ -86,6 +86,7 @@ check) shift words; (( CURRENT-- ))
         '--operations[Pass no rows that leave operations of their block out or add some]' \
         '--outputs[Compare emitted words and faults alone, and not memory]' \
         '--csv[Print a table of comma-separated values, a row for each block]' \
+        '--json[Print a line of JSON for each block]' \
         '--help[Print help]' ;;
 graph) shift words; (( CURRENT-- ))
     _arguments '--load[Cycles that load and loadAI take, 1 to 16 \[default\: 5\]]:N:' \

@@ -18,7 +18,7 @@ COMPLETIONS = (
     (["run", "--"], "--at --help"),
     (["counts", "--load", ""], ""),
     (["counts", "--load", "1", "--m"], "--mult"),
-    (["check", "--"], "--at --load --store --mult --task --either-slot --lawful --operations --outputs --csv --help"),
+    (["check", "--"], "--at --load --store --mult --task --either-slot --lawful --operations --outputs --csv --json --help"),
     (["help", "c"], "counts compare check"),
     (["counts", "--priority", ""], PRIORITIES),
     (["schedule", "--load", "1", "--priority", "s"], "slack successors"),

@@ -110,7 +110,8 @@ def runs(name, given, rows):
     yield Asked(["explain"], name, given)
     yield Asked(["graph"], name, given)
     yield Asked(["lint"], name, given)
-    yield Asked(["check", "--at", "0", "5", "6"], name, given + rows)
+    for form in ([], ["--json"]):
+        yield Asked(["check", "--at", "0", "5", "6", *form], name, given + rows)
     for command in ("check", "explain", "trace"):
         yield Asked([command, "--task", stored(f"{name}.iloc", given)], f"rows for {name}", rows)
     yield Asked(["counts", "--csv", "--workers", "1"], name, given, 1)
@@ -127,7 +128,8 @@ def few_runs():
         for command in ("check", "explain"):
             yield Asked([command, "--task", stored(f"{name}.iloc", block)], name, rows)
     yield Asked(["check"], "a bad row", NO_ROW)
-    yield Asked(["check"], "an unread row", UNREAD)
+    for form in ([], ["--json"]):
+        yield Asked(["check", *form], "an unread row", UNREAD)
     yield Asked(["check", "--task", stored("bad.iloc", BAD)], "a bad task", ROWS)
     yield Asked(["run", "--help"], "nothing", b"")
     yield Asked(["run", "--at", "2"], "nothing", b"")

@@ -13,7 +13,7 @@ use Rattle.iloc_args.specs.Command.{farm_app}
 use Rattle.iloc_args.specs.Due.{IsAskedFor, IsDue, faults_in}
 use Rattle.iloc_args.specs.Steps.Refusing.{IsFaultBy}
 use Rattle.iloc_args.specs.declared.fault.LineFault.{LineFault}
-use Rattle.iloc_args.specs.declared.fault.LineFault.TheVariants.{Help, Refused, BadStart, TooManyWords, NoSuchPriority, NoMemory}
+use Rattle.iloc_args.specs.declared.fault.LineFault.TheVariants.{Help, Refused, BadStart, TooManyWords, NoSuchPriority, TwoForms, NoMemory}
 
 farm_is_free : is_simple_and_free farm_app ≡ true
 unfolding clap_on_literals
@@ -57,4 +57,5 @@ refused_words a words e f is h =
     go (BadStart at) has by = absurd by
     go TooManyWords has by = absurd by
     go NoSuchPriority has by = absurd by
+    go TwoForms has by = absurd by
     go NoMemory has by = tt

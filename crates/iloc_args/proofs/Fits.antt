@@ -32,6 +32,7 @@ pub record IsFit (rules : List Rule) : Type 0 where
   pub mult : TakesIn 1 LONGEST_LATENCY (codes "mult") rules
   pub nodes : TakesIn 0 100000 (codes "nodes") rules
   pub csv : Takes vp.Bool (codes "csv") rules
+  pub json : Takes vp.Bool (codes "json") rules
   pub lawful : Takes vp.Bool (codes "lawful") rules
   pub operations : Takes vp.Bool (codes "operations") rules
   pub outputs : Takes vp.Bool (codes "outputs") rules
@@ -78,10 +79,11 @@ abbrev takes_passing_flags : List Rule → Bool
 takes_passing_flags rules =
     takes is_flag_parser (codes "lawful") rules && takes is_flag_parser (codes "operations") rules
 
+abbrev takes_forms : List Rule → Bool
+takes_forms rules = takes is_flag_parser (codes "csv") rules && takes is_flag_parser (codes "json") rules
+
 abbrev takes_flags : List Rule → Bool
-takes_flags rules =
-    takes is_flag_parser (codes "csv") rules
-    && (takes_passing_flags rules && takes_last_flags rules)
+takes_flags rules = takes_forms rules && (takes_passing_flags rules && takes_last_flags rules)
 
 abbrev takes_shares : List Rule → Bool
 takes_shares rules = takes_in 1 8 (codes "workers") rules && takes_in 0 100000 (codes "nodes") rules
@@ -156,9 +158,9 @@ fits rules e =
     (takes_in 1 LONGEST_LATENCY (codes "store") rules && takes_in 1 LONGEST_LATENCY (codes "mult") rules) both.0 in
     let store = and_parts (takes_in 1 LONGEST_LATENCY (codes "store") rules)
     (takes_in 1 LONGEST_LATENCY (codes "mult") rules) load.1 in
-    let csv = and_parts (takes is_flag_parser (codes "csv") rules)
-    (takes_passing_flags rules && takes_last_flags rules) both.1 in
-    let rest = and_parts (takes_passing_flags rules) (takes_last_flags rules) csv.1 in
+    let listing = and_parts (takes_forms rules) (takes_passing_flags rules && takes_last_flags rules) both.1 in
+    let forms = and_parts (takes is_flag_parser (codes "csv") rules) (takes is_flag_parser (codes "json") rules) listing.0 in
+    let rest = and_parts (takes_passing_flags rules) (takes_last_flags rules) listing.1 in
     let passing = and_parts (takes is_flag_parser (codes "lawful") rules)
     (takes is_flag_parser (codes "operations") rules) rest.0 in
     let flags = and_parts (takes is_flag_parser (codes "outputs") rules)
@@ -177,7 +179,8 @@ fits rules e =
       load = number 1 LONGEST_LATENCY (codes "load") load.0;
       store = number 1 LONGEST_LATENCY (codes "store") store.0;
       mult = number 1 LONGEST_LATENCY (codes "mult") store.1;
-      csv = flag (codes "csv") csv.0;
+      csv = flag (codes "csv") forms.0;
+      json = flag (codes "json") forms.1;
       lawful = flag (codes "lawful") passing.0;
       operations = flag (codes "operations") passing.1;
       outputs = flag (codes "outputs") flags.0;

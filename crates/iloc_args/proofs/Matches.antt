@@ -116,6 +116,7 @@ leaf_holds s words fit e =
       mult = number 1 LONGEST_LATENCY (codes "mult") fit.mult;
       nodes = number 0 100000 (codes "nodes") fit.nodes;
       csv = flag (codes "csv") fit.csv;
+      json = flag (codes "json") fit.json;
       lawful = flag (codes "lawful") fit.lawful;
       operations = flag (codes "operations") fit.operations;
       outputs = flag (codes "outputs") fit.outputs;

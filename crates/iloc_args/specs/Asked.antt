@@ -23,6 +23,7 @@ pub record Asked : Type 0 where
   pub priority : Text
   pub nodes : ℕ
   pub csv : Bool
+  pub json : Bool
   pub task_file : Option Text
   pub lawful : Bool
   pub operations : Bool
@@ -42,6 +43,7 @@ asked_in r = record {
   priority = priority_word r.priority;
   nodes = r.nodes;
   csv = r.csv;
+  json = r.json;
   task_file = option_map string_bytes r.task_file;
   lawful = r.lawful;
   operations = r.operations;
@@ -82,6 +84,7 @@ asked_as task rows = record {
   priority = text_or (codes "chain") (codes "priority") rows;
   nodes = number_or 1000 (codes "nodes") rows;
   csv = flag_in (codes "csv") rows;
+  json = flag_in (codes "json") rows;
   task_file = first_of (codes "task") rows;
   lawful = flag_in (codes "lawful") rows;
   operations = flag_in (codes "operations") rows;

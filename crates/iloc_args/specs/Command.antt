@@ -65,6 +65,10 @@ priority_rule = record (text_rule (codes "priority")) { defaults = codes "chain"
 abbrev pub csv_rule : Rule
 csv_rule = flag_rule (codes "csv")
 
+-- `--json`
+abbrev pub json_rule : Rule
+json_rule = flag_rule (codes "json")
+
 -- `--task FILE`
 abbrev pub task_rule : Rule
 task_rule = text_rule (codes "task")
@@ -151,13 +155,14 @@ explain_entry = record {
   rules = latency_rules ++ priority_rule ∷ task_rule ∷ either_slot_rule ∷ [];
 }
 
--- `check [--at N] [WORD].. [--load N] [--store N] [--mult N] [--task FILE] [--either-slot] [--lawful] [--operations] [--outputs] [--csv]`
+-- `check [--at N] [WORD].. [--load N] [--store N] [--mult N] [--task FILE] [--either-slot] [--lawful] [--operations] [--outputs] [--csv] [--json]`
 abbrev pub check_entry : Subcommand
 check_entry = record {
   name = codes "check";
   task = Check;
   rules = at_rule ∷ words_rule
-      ∷ (latency_rules ++ task_rule ∷ either_slot_rule ∷ lawful_rule ∷ operations_rule ∷ outputs_rule ∷ csv_rule ∷ []);
+      ∷ (latency_rules ++ task_rule ∷ either_slot_rule ∷ lawful_rule ∷ operations_rule ∷ outputs_rule ∷ csv_rule
+      ∷ json_rule ∷ []);
 }
 
 -- `graph [--load N] [--store N] [--mult N]`

@@ -1,5 +1,5 @@
 -- What a command line comes to: a request, or one of the faults.
-use Rattle.std.specs.Prelude.{◌≡◌, ◌≢◌, ◌⊎◌, ◌<◌, ◌≤◌, ◌+◌, ◌*◌, ◌%◌, ℕ, List, [], Some}
+use Rattle.std.specs.Prelude.{◌≡◌, ◌≢◌, ◌⊎◌, ◌<◌, ◌≤◌, ◌+◌, ◌*◌, ◌%◌, ◌&&◌, true, ℕ, List, [], Some}
 use Rattle.std.specs.Prelude.{length}
 use Rattle.clap.specs.Kinds.{IsAmong, Kinds}
 use Rattle.clap.specs.Words.{Text, fault_of}
@@ -11,7 +11,7 @@ use Rattle.iloc_args.specs.Command.{farm_app}
 use Rattle.iloc_args.specs.Priority.{IsNoPriority}
 use Rattle.iloc_args.specs.declared.fault.LineFault.{LineFault}
 use Rattle.iloc_args.specs.declared.fault.LineFault.TheVariants.{Help, Refused, BadStart}
-use Rattle.iloc_args.specs.declared.fault.LineFault.TheVariants.{TooManyWords, NoSuchPriority, NoMemory}
+use Rattle.iloc_args.specs.declared.fault.LineFault.TheVariants.{TooManyWords, NoSuchPriority, TwoForms, NoMemory}
 
 -- what the parser finds wrong with the words: the kinds of the first step that fails, and none
 -- where it takes them
@@ -39,6 +39,12 @@ pub record RanksByNone (a : Asked) : Type 0 where
   pub fits : a.at + 4 * length a.words ≤ 4 * WORDS
   pub none : IsNoPriority a.priority
 
+-- the words fit into the memory, and a listing is asked for in two forms
+pub record AsksForTwoForms (a : Asked) : Type 0 where
+  pub aligned : a.at % 4 ≡ 0
+  pub fits : a.at + 4 * length a.words ≤ 4 * WORDS
+  pub both : a.csv && a.json ≡ true
+
 -- an error of this kind is a text that was asked for
 abbrev pub IsAskedFor : ErrorKind → Type 0
 IsAskedFor kind = (kind ≡ DisplayHelp) ⊎ (kind ≡ DisplayVersion)
@@ -51,4 +57,5 @@ IsDue words (Refused text) =
 IsDue words (BadStart at) = (a : Asked) × Asks words a × StartsAmiss at a
 IsDue words TooManyWords = (a : Asked) × Asks words a × Overflows a
 IsDue words NoSuchPriority = (a : Asked) × Asks words a × RanksByNone a
+IsDue words TwoForms = (a : Asked) × Asks words a × AsksForTwoForms a
 IsDue words NoMemory = Unit {0}

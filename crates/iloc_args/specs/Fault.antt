@@ -4,7 +4,7 @@ use Rattle.std.specs.List.{join_by}
 use Rattle.std.specs.String.{string_bytes}
 use Rattle.iloc_args.specs.declared.fault.LineFault.{LineFault}
 use Rattle.iloc_args.specs.declared.fault.LineFault.TheVariants.{Help, Refused, BadStart}
-use Rattle.iloc_args.specs.declared.fault.LineFault.TheVariants.{TooManyWords, NoSuchPriority, NoMemory}
+use Rattle.iloc_args.specs.declared.fault.LineFault.TheVariants.{TooManyWords, NoSuchPriority, TwoForms, NoMemory}
 use Rattle.iloc_args.specs.Priority.{heuristics, priority_word}
 
 -- what is said of a fault: the parser's own text, or one of these
@@ -14,6 +14,7 @@ line_text (Refused text) = string_bytes text
 line_text (BadStart at) = codes "--at is not a multiple of 4"
 line_text TooManyWords = codes "the words do not fit into memory"
 line_text NoSuchPriority = codes "--priority is none of " ++ join_by priority_word (codes ", ") heuristics
+line_text TwoForms = codes "--csv and --json exclude each other"
 line_text NoMemory = codes "out of memory"
 
 -- the exit status of a fault
@@ -23,4 +24,5 @@ status_of (Refused text) = 2
 status_of (BadStart at) = 2
 status_of TooManyWords = 2
 status_of NoSuchPriority = 2
+status_of TwoForms = 2
 status_of NoMemory = 3

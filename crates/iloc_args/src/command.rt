@@ -4,7 +4,7 @@ ghost use Rattle.clap.specs.Simple.{new_shape};
 ghost use Rattle.std.specs.Str.{bytes_eq};
 ghost use Rattle.iloc_args.specs.declared.command.Entry.{Entry as entry_value};
 ghost use Rattle.iloc_args.specs.Asked.{task_among, task_named};
-ghost use Rattle.iloc_args.specs.Command.{at_rule, csv_rule, either_slot_rule, farm_app, flag_rule, latency_rule, lawful_rule};
+ghost use Rattle.iloc_args.specs.Command.{at_rule, csv_rule, either_slot_rule, farm_app, flag_rule, json_rule, latency_rule, lawful_rule};
 ghost use Rattle.iloc_args.specs.Command.{nodes_rule, operations_rule, outputs_rule, priority_rule, task_rule, text_rule, top_shape, words_rule, workers_rule};
 ghost use Rattle.iloc_args.specs.Steps.Building.{HasApp, HasRule, alone, option_rule, rule_for, app_for, app_with, subcommand_for};
 
@@ -198,6 +198,13 @@ fn csv_arg<'a>(alloc: Global) -> Arg<'a>
     )
 }
 
+/// `--json`
+fn json_arg<'a>(alloc: Global) -> Arg<'a>
+    ensures { HasRule json_rule result }
+{
+    flag_arg(alloc, "json", "Print a line of JSON for each block")
+}
+
 /// `--task FILE`
 fn task_arg<'a>(alloc: Global) -> Arg<'a>
     ensures { HasRule task_rule result }
@@ -262,6 +269,7 @@ enum Argument {
     Priority,
     Nodes,
     Csv,
+    Json,
     Task,
     Lawful,
     Operations,
@@ -404,6 +412,7 @@ const COMMANDS: [Entry; 11] = [
             Argument::Operations,
             Argument::Outputs,
             Argument::Csv,
+            Argument::Json,
         ],
     },
     Entry {
@@ -437,6 +446,7 @@ impl Argument {
             Argument::Priority => priority_arg(alloc),
             Argument::Nodes => nodes_arg(alloc),
             Argument::Csv => csv_arg(alloc),
+            Argument::Json => json_arg(alloc),
             Argument::Task => task_arg(alloc),
             Argument::Lawful => lawful_arg(alloc),
             Argument::Operations => operations_arg(alloc),

@@ -25,6 +25,8 @@ pub enum LineFault {
     TooManyWords,
     /// The priority is the name of no heuristic.
     NoSuchPriority,
+    /// A listing is asked for as a table and as JSON.
+    TwoForms,
     /// The growth of a list or a text was refused.
     NoMemory,
 }
@@ -41,6 +43,7 @@ impl Display for LineFault {
             LineFault::BadStart(_) => f.write_str("--at is not a multiple of 4"),
             LineFault::TooManyWords => f.write_str("the words do not fit into memory"),
             LineFault::NoSuchPriority => { f.write_str(NO_SUCH_PRIORITY) }
+            LineFault::TwoForms => f.write_str("--csv and --json exclude each other"),
             LineFault::NoMemory => f.write_str("out of memory"),
         }
     }
@@ -95,7 +98,8 @@ pub fn line_status(fault: &LineFault) -> u8
         LineFault::Refused(_)
         | LineFault::BadStart(_)
         | LineFault::TooManyWords
-        | LineFault::NoSuchPriority => 2,
+        | LineFault::NoSuchPriority
+        | LineFault::TwoForms => 2,
         LineFault::NoMemory => 3,
     }
 }

@@ -1,5 +1,5 @@
 //! Reading a command line.
-ghost use Rattle.std.specs.Prelude.{◌≡◌, ◌≤◌, IfErr, IfOk, MatchOption, OnOk, [], codes, map, option_map, true};
+ghost use Rattle.std.specs.Prelude.{◌≡◌, ◌≤◌, ◌&&◌, IfErr, IfOk, MatchOption, OnOk, [], codes, map, option_map, true};
 ghost use Rattle.std.specs.String.{string_bytes};
 ghost use Rattle.clap.specs.Words.{first_of, found_of, has_subcommand, rows_of, subcommand_of};
 ghost use Rattle.clap.specs.Words.{subcommand_rows_of};
@@ -42,7 +42,8 @@ const DEFAULT_PRIORITY: &str = "chain";
 ///
 /// `Help` or `Refused` with the parser's text where it gives no matches, `BadStart` where the words
 /// would not start at a multiple of 4, else `TooManyWords` where they would end beyond the memory,
-/// else `NoSuchPriority` where no heuristic has the name, and `NoMemory` where a growth was refused.
+/// else `NoSuchPriority` where no heuristic has the name, else `TwoForms` where both a table and JSON are asked for, and
+/// `NoMemory` where a growth was refused.
 pub fn parse_line<S: AsStr>(alloc: Global, words: &[S]) -> Result<Request, LineFault>
     ensures ok { IfOk result (λ request. Asks (map S.text words.now) (asked_in request)) }
     ensures err { IfErr result (IsDue (map S.text words.now)) }
@@ -92,6 +93,11 @@ fn request_in(alloc: Global, task: Task, given: &ArgMatches<'_>) -> Result<Reque
     let Some(priority) = priority_in(given) else {
         return Err(LineFault::NoSuchPriority);
     };
+    let csv = flag_in(given, "csv");
+    let json = flag_in(given, "json");
+    if are_both(csv, json) {
+        return Err(LineFault::TwoForms);
+    }
     Ok(Request {
         task,
         workers: workers_in(given),
@@ -100,13 +106,21 @@ fn request_in(alloc: Global, task: Task, given: &ArgMatches<'_>) -> Result<Reque
         latencies: latencies_in(given),
         priority,
         nodes: nodes_in(given),
-        csv: flag_in(given, "csv"),
+        csv,
+        json,
         task_file: task_file_in(alloc, given)?,
         lawful: flag_in(given, "lawful"),
         operations: flag_in(given, "operations"),
         outputs: flag_in(given, "outputs"),
         either_slot: flag_in(given, "either-slot"),
     })
+}
+
+/// Whether both are so.
+fn are_both(one: bool, other: bool) -> bool
+    ensures { result ≡ (one && other) }
+{
+    one && other
 }
 
 /// How many workers share the blocks.

@@ -1,5 +1,5 @@
 //! What a command line asks the program to do.
-ghost use Rattle.std.specs.Prelude.{◌≡◌, ◌+◌, ◌*◌, ◌%◌, ◌≤◌, length};
+ghost use Rattle.std.specs.Prelude.{◌≡◌, ◌+◌, ◌*◌, ◌%◌, ◌≤◌, ◌&&◌, false, length};
 ghost use Rattle.iloc_meaning.specs.Address.{LAST_ADDRESS};
 ghost use Rattle.iloc_meaning.specs.Memory.{WORDS};
 
@@ -52,6 +52,8 @@ pub struct Request {
     pub nodes: u32,
     /// Whether the listing is a table of comma-separated values.
     pub csv: bool,
+    /// Whether the listing has a value of JSON for each block, on a line of its own; never beside `csv`.
+    pub json: bool,
     /// The name of the file that holds the blocks, apart from the rows.
     pub task_file: Option<String>,
     /// Whether nothing passes but rows that are a schedule of their block.
@@ -66,5 +68,6 @@ pub struct Request {
     ghost few_workers: { workers ≤ 8 },
     ghost aligned: { at % 4 ≡ 0 },
     ghost in_memory: { at ≤ LAST_ADDRESS },
+    ghost one_form: { csv && json ≡ false },
     ghost fits: { at + 4 * length words.items ≤ 4 * WORDS },
 }

@@ -20,12 +20,12 @@ use Rattle.iloc_judge.specs.Checked.{DoTheSame, MayPass, passes}
 use Rattle.iloc_judge.specs.Unread.{IsUnread}
 use Rattle.iloc_judge.specs.declared.checked.Checked.{Checked}
 use Rattle.iloc_judge.specs.declared.task.CheckOptions.{CheckOptions}
+use Rattle.iloc_judge.specs.declared.task.Form.{Form}
 use Rattle.iloc_judge.proofs.Sameness.{passed_is_same, passed_rows_may_pass, same_rows_do_the_same}
-use Rattle.iloc_farm.specs.Commands.Check.{IsCheckEntry, IsSaid, ListsChecked}
+use Rattle.iloc_farm.specs.Commands.Check.{IsCheckEntry, IsSaid, ListsChecked, check_head}
 use Rattle.iloc_farm.specs.Entries.{AreEntries}
 use Rattle.iloc_farm.specs.Fault.{finding_of}
 use Rattle.iloc_farm.specs.Laws.{PassedChecksKeepOutcomes, PassedChecksMayPass}
-use Rattle.iloc_farm.specs.Listing.{head_as}
 use Rattle.iloc_farm.specs.Steps.Checking.{IsSmall}
 use Rattle.iloc_farm.specs.Steps.Limits.{most_cycles}
 use Rattle.iloc_farm.specs.Steps.Listed.{Adds}
@@ -58,13 +58,13 @@ small_check (Some unread) options lat memory block s p c entry check greedy shor
 -- what was appended is the entry
 pub check_listed : (options : CheckOptions) (lat : Latencies) (memory start : List ℤ) (k : ℕ) (b : Block) (s : Table)
     (p : Proposed) (c : Checked) (text headed more said : List ℕ) (name : Option (List ℕ)) → IsGreedy lat b.ops s.ops s.rows
-    → memory ≡ start → name ≡ b.name → headed ≡ text ++ head_as options.csv k name
+    → memory ≡ start → name ≡ b.name → headed ≡ text ++ check_head options.form k name
     → IsSaid p.unread options lat memory b.ops s p c said → more ≡ headed ++ said
     → Adds (IsCheckEntry options lat start k (b, p)) text more c
 check_listed options lat memory start k b s p c text headed more said name greedy starts named opened is added =
     let P : List ℤ → Type 0 = λ m. IsSaid p.unread options lat m b.ops s p c said in
     record {
-      entry = head_as options.csv k b.name ++ said;
+      entry = check_head options.form k b.name ++ said;
       right = record {
         ours = s;
         greedy = the_greedy Chain lat b s greedy;
@@ -73,8 +73,8 @@ check_listed options lat memory start k b s p c text headed more said name greed
         listed = refl;
       };
       added = added
-          ∙ (ap (λ xs. xs ++ said) (opened ∙ ap (λ n. text ++ head_as options.csv k n) named)
-          ∙ append_assoc text (head_as options.csv k b.name) said);
+          ∙ (ap (λ xs. xs ++ said) (opened ∙ ap (λ n. text ++ check_head options.form k n) named)
+          ∙ append_assoc text (check_head options.form k b.name) said);
     }
 
 -- What passed
@@ -116,9 +116,9 @@ module _ (options : CheckOptions) (lat : Latencies) (memory : List ℤ) (P : Blo
       (all_pass (list_all (passes options.lawful) lists.found) lists.judged)
 
 -- rows of which one can't be read never pass
-unread_fails : (lawful csv : Bool) (lat : Latencies) (block : List Op) (s : Table) (p : Proposed) (c : Checked)
-    (entry : List ℕ) → IsUnread csv lat block s p c entry → passes lawful c ≡ true → ⊥
-unread_fails lawful csv lat block s p c entry said pass =
+unread_fails : (lawful : Bool) (form : Form) (lat : Latencies) (block : List Op) (s : Table) (p : Proposed) (c : Checked)
+    (entry : List ℕ) → IsUnread form lat block s p c entry → passes lawful c ≡ true → ⊥
+unread_fails lawful form lat block s p c entry said pass =
     let fails : passes lawful c ≡ false = ap (passes lawful) said.is_found in cc
 
 said_keeps : (u : Option Unread) (options : CheckOptions) (lat : Latencies) (memory : List ℤ) (block : List Op) (s : Table)
@@ -127,7 +127,7 @@ said_keeps : (u : Option Unread) (options : CheckOptions) (lat : Latencies) (mem
 said_keeps None options lat memory block s p c entry said pass =
     same_rows_do_the_same options lat memory block s p c entry said (passed_is_same options.lawful c pass)
 said_keeps (Some unread) options lat memory block s p c entry said pass =
-    absurd (unread_fails options.lawful options.csv lat block s p c entry said pass)
+    absurd (unread_fails options.lawful options.form lat block s p c entry said pass)
 
 said_may : (u : Option Unread) (options : CheckOptions) (lat : Latencies) (memory : List ℤ) (block : List Op) (s : Table)
     (p : Proposed) (c : Checked) (entry : List ℕ) → IsSaid u options lat memory block s p c entry → passes options.lawful c ≡ true
@@ -135,7 +135,7 @@ said_may : (u : Option Unread) (options : CheckOptions) (lat : Latencies) (memor
 said_may None options lat memory block s p c entry said pass =
     passed_rows_may_pass options lat memory block s p c entry said pass
 said_may (Some unread) options lat memory block s p c entry said pass =
-    absurd (unread_fails options.lawful options.csv lat block s p c entry said pass)
+    absurd (unread_fails options.lawful options.form lat block s p c entry said pass)
 
 pub passed_keep_outcomes : PassedChecksKeepOutcomes
 passed_keep_outcomes options lat memory = of_passed options lat memory

@@ -13,7 +13,7 @@ use Rattle.iloc_judge.specs.declared.task.CheckOptions.{CheckOptions}
 use Rattle.iloc_args.specs.declared.request.Request.{Request}
 use Rattle.iloc_args.specs.declared.request.Task.{Task}
 use Rattle.iloc_args.specs.declared.request.Task.TheVariants as task
-use Rattle.iloc_farm.specs.Commands.Check.{Checks, ListsChecked, options_of}
+use Rattle.iloc_farm.specs.Commands.Check.{Checks, ListsChecked, form_as, options_of}
 use Rattle.iloc_farm.specs.Commands.ExplainRows.{Explains, ExplainsRows}
 use Rattle.iloc_farm.specs.Commands.Run.{initial_memory}
 use Rattle.iloc_farm.specs.Commands.TraceRows.{Traces, TracesRows}
@@ -53,7 +53,7 @@ checks_alike r q alike blocks proposals finding text checks =
       lawful = alike.lawful i;
       operations = alike.operations i;
       outputs_alone = alike.outputs i;
-      csv = alike.csv i;
+      form = form_as (alike.csv i) (alike.json i);
     } in
     let P : Latencies → Type 0 = λ lat.
     ListsChecked (options_of r) lat (initial_memory r) blocks theirs finding text in

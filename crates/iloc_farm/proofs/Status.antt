@@ -66,6 +66,7 @@ above_0 held words ro rn wo wn (Line (line.Refused said)) stopped zero = omega a
 above_0 held words ro rn wo wn (Line (line.BadStart at)) stopped zero = omega arith
 above_0 held words ro rn wo wn (Line line.TooManyWords) stopped zero = omega arith
 above_0 held words ro rn wo wn (Line line.NoSuchPriority) stopped zero = omega arith
+above_0 held words ro rn wo wn (Line line.TwoForms) stopped zero = omega arith
 above_0 held words ro rn wo wn (Line line.NoMemory) stopped zero = omega arith
 above_0 held words ro rn wo wn (Run ReadFailed) stopped zero = omega arith
 above_0 held words ro rn wo wn (Run (Text fault)) stopped zero = text_above_0 fault zero

@@ -22,7 +22,7 @@ use Rattle.iloc_farm.specs.declared.commands.Finding.{Finding}
 use Rattle.iloc_farm.specs.declared.commands.Finding.TheVariants.{Passed}
 use Rattle.iloc_farm.specs.declared.program.Ending.{Ending}
 use Rattle.iloc_farm.specs.Apart.{Held, ReadsApart}
-use Rattle.iloc_farm.specs.Commands.Check.{ListsChecked}
+use Rattle.iloc_farm.specs.Commands.Check.{ListsChecked, form_as}
 use Rattle.iloc_farm.specs.Commands.Optimize.{IsOptimizeEntry}
 use Rattle.iloc_farm.specs.Listing.{total_cycles}
 use Rattle.iloc_farm.specs.Program.{Args, AskFor, Ends}
@@ -39,6 +39,7 @@ pub record AskAlike (r q : Request) : Type 0 where
   pub nodes : r.nodes ≡ q.nodes
   pub task_file : r.task_file ≡ q.task_file
   pub csv : r.csv ≡ q.csv
+  pub json : r.json ≡ q.json
   pub either_slot : r.either_slot ≡ q.either_slot
   pub lawful : r.lawful ≡ q.lawful
   pub operations : r.operations ≡ q.operations
@@ -104,7 +105,7 @@ options_in asked = record {
   lawful = asked.lawful;
   operations = asked.operations;
   outputs_alone = asked.outputs;
-  csv = asked.csv;
+  form = form_as asked.csv asked.json;
 }
 
 -- Blocks were read, and rows that are proposed for them. With the latencies that are asked for, and in either slot if that is

@@ -13,7 +13,7 @@ use Rattle.iloc_args.specs.Asked.{Asked, asked_in}
 use Rattle.iloc_args.specs.Due.{Asks, IsDue}
 use Rattle.iloc_args.specs.Fault.{line_text, status_of as line_status_of}
 use Rattle.iloc_args.specs.declared.fault.LineFault.{LineFault}
-use Rattle.iloc_args.specs.declared.fault.LineFault.TheVariants.{Help, Refused, BadStart, TooManyWords, NoSuchPriority, NoMemory}
+use Rattle.iloc_args.specs.declared.fault.LineFault.TheVariants.{Help, Refused, BadStart, TooManyWords, NoSuchPriority, TwoForms, NoMemory}
 use Rattle.iloc_args.specs.declared.request.Request.{Request}
 use Rattle.iloc_farm.specs.Apart.{Held}
 use Rattle.iloc_farm.specs.Device.{WritesFront}
@@ -55,6 +55,7 @@ IsWordless error (Refused text) = (error_kind error ≢ OutOfMemory) × (string_
 IsWordless error (BadStart at) = ⊥
 IsWordless error TooManyWords = ⊥
 IsWordless error NoSuchPriority = ⊥
+IsWordless error TwoForms = ⊥
 IsWordless error NoMemory = Unit {0}
 
 -- the words make no request, by this fault, where help counts as one

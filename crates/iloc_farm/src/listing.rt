@@ -8,6 +8,7 @@ ghost use Rattle.iloc_timed.specs.Spelling.{row_line};
 ghost use Rattle.iloc_farm.specs.Commands.Counts.{counts_listing};
 ghost use Rattle.iloc_farm.specs.Listing as listed;
 
+pub(crate) mod json;
 pub(crate) mod scheduled;
 pub(crate) mod table;
 pub(crate) mod text;

@@ -21,7 +21,7 @@ use Rattle.iloc_judge.specs.declared.task.CheckOptions.{CheckOptions}
 use Rattle.iloc_judge.specs.Verdict.{IsVerdict}
 use Rattle.iloc_judge.specs.Void.{CanBeJudged}
 use Rattle.iloc_judge.specs.declared.checked.Checked.{Checked}
-use Rattle.iloc_judge.specs.Listing.{entry_as}
+use Rattle.iloc_judge.specs.Entry.{entry_as}
 
 abbrev pub compared_kind : Comparison → VerdictKind
 compared_kind (of.Void why) = kind.Void
@@ -59,7 +59,7 @@ pub record IsCheck (options : CheckOptions) (lat : Latencies) (memory : List ℤ
   pub own : IssueTheSame ours.ops ours.rows proposal.ops proposal.rows → verdict ≡ Lawful
   pub is_found : checked
       ≡ found (kind_of options.lawful verdict) (keeps_operations options.operations block proposal.ops) lat block ours proposal
-  pub listed : entry ≡ entry_as options.lawful options.csv proposal.claimed proposal.ops proposal.rows verdict checked
+  pub listed : entry ≡ entry_as options.lawful options.form proposal.claimed proposal.ops proposal.rows verdict checked
 
 -- the operations in these rows keep the rules of the units, and on every memory of 16,384 words of 32 bits they have the
 -- block's outcome or, where outputs alone are compared, show what the block shows

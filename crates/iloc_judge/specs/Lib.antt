@@ -5,6 +5,8 @@ pub mod Laws
 pub mod Listing
 pub mod Memory
 pub mod Difference
+pub mod Entry
+pub mod Json
 pub mod Kept
 pub mod Reasons
 pub mod RowsExplained

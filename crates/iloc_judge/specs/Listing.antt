@@ -118,9 +118,6 @@ detail lawful ops rows Lawful = []
 detail lawful ops rows (Unlawful reasons found) = comparison_told found ++ reasons_told reasons
 detail lawful ops rows (Undecided found) = comparison_told found ++ undecided_told lawful
 
--- What is listed of operations and rows, for which these cycles are claimed: a row of a table, where one is asked for, and else
--- the line of the verdict with what is said
--- below it.
-abbrev pub entry_as : (lawful csv : Bool) → Option ℕ → List Op → List Row → Verdict → Checked → List ℕ
-entry_as lawful true claimed ops rows verdict checked = row_of checked claimed
-entry_as lawful false claimed ops rows verdict checked = line_of checked claimed ++ detail lawful ops rows verdict
+-- the line of the verdict, for which these cycles are claimed, with what is said below it
+abbrev pub lines_of : Bool → Option ℕ → List Op → List Row → Verdict → Checked → List ℕ
+lines_of lawful claimed ops rows verdict checked = line_of checked claimed ++ detail lawful ops rows verdict

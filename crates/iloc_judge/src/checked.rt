@@ -2,8 +2,9 @@
 ghost use Rattle.std.specs.Prelude.{ℕ, ◌≡◌, ◌++◌, List, IfOk, OnOk};
 ghost use Rattle.iloc_timed.specs.Schedule.{IsFirstBadRow};
 ghost use Rattle.iloc_judge.specs.Checked.{compared_kind, kind_of, passes, IsCheck};
+ghost use Rattle.iloc_judge.specs.Entry.{entry_as};
 ghost use Rattle.iloc_judge.specs.Kept.{keeps_operations as kept};
-ghost use Rattle.iloc_judge.specs.Listing.{entry_as};
+ghost use Rattle.iloc_judge.specs.Listing.{lines_of};
 ghost use Rattle.iloc_judge.specs.Steps.Counted.{CanBeListed};
 
 pub mod detail;
@@ -12,7 +13,8 @@ pub mod reason;
 pub(crate) mod verdict_line;
 
 use crate::comparison::Comparison;
-use crate::task::{Judging, Task};
+use crate::json::push_json;
+use crate::task::{Form, Judging, Task};
 use crate::verdict::kind::VerdictKind;
 use crate::verdict::{Verdict, judge};
 use detail::push_detail;
@@ -79,8 +81,25 @@ fn kind_of(lawful: bool, verdict: &Verdict) -> VerdictKind
     }
 }
 
-/// Appends what is listed of operations and rows with this verdict: the row of a table or, where none is asked for, a line and
-/// what is said below it.
+/// Appends a line with this verdict on operations and rows, and what is said below it.
+fn push_lines(
+    text: &mut Vec<u8>,
+    judging: &Judging<'_>,
+    claimed: Option<u32>,
+    ops: &[Op],
+    rows: &[Row],
+    verdict: &Verdict,
+    checked: Checked,
+) -> Result<(), NoMemory>
+    requires { CanBeListed rows.now verdict.now }
+    ensures { OnOk result (text.new.items ≡ text.old.items
+        ++ lines_of judging.now.options.lawful claimed ops.now rows.now verdict.now checked) }
+{
+    push_line(text, checked, claimed)?;
+    push_detail(text, judging.options.lawful, ops, rows, verdict)
+}
+
+/// Appends what is listed of operations and rows with this verdict, in the form that is asked for.
 fn push_entry(
     text: &mut Vec<u8>,
     judging: &Judging<'_>,
@@ -92,13 +111,13 @@ fn push_entry(
 ) -> Result<(), NoMemory>
     requires { CanBeListed rows.now verdict.now }
     ensures { OnOk result (text.new.items ≡ text.old.items
-        ++ entry_as judging.now.options.lawful judging.now.options.csv claimed ops.now rows.now verdict.now checked) }
+        ++ entry_as judging.now.options.lawful judging.now.options.form claimed ops.now rows.now verdict.now checked) }
 {
-    if judging.options.csv {
-        return push_table_row(text, checked, claimed);
+    match judging.options.form {
+        Form::Lines => push_lines(text, judging, claimed, ops, rows, verdict, checked),
+        Form::Table => push_table_row(text, checked, claimed),
+        Form::Json => push_json(text, claimed, ops, rows, verdict, checked),
     }
-    push_line(text, checked, claimed)?;
-    push_detail(text, judging.options.lawful, ops, rows, verdict)
 }
 
 /// Appends what is listed of a proposal of which this row is the first that breaks the rules of the units.
@@ -140,7 +159,7 @@ fn push_units(
 
 /// Judges what is proposed for a block, beside our schedule of it, and appends what is listed of it after the block's head:
 /// the verdict with the cycles of the rows, ours and the least, and the lines that tell where the rows go wrong, if they do.
-/// In a table it is a row, with the cycles that are claimed and no lines below.
+/// In a table it is a row, with the cycles that are claimed and no lines below; in JSON it is one line that has all of it.
 ///
 /// After a refusal a part of it may have been appended.
 ///

@@ -25,6 +25,17 @@ pub struct Task<'a> {
     pub ghost drawn: { graph.now ≡ of_block latencies.now block.now.ops },
 }
 
+/// The form of a listing.
+#[derive(Clone, Copy, Debug, PartialEq, Eq)]
+pub enum Form {
+    /// A line for each block, with what is said of it below.
+    Lines,
+    /// A table of comma-separated values, with a row for each block.
+    Table,
+    /// A value of JSON for each block, on a line of its own.
+    Json,
+}
+
 /// What is asked of what is proposed for blocks, and how it is listed.
 #[derive(Clone, Copy, Debug, PartialEq, Eq)]
 pub struct CheckOptions {
@@ -34,8 +45,8 @@ pub struct CheckOptions {
     pub operations: bool,
     /// Whether rows are compared with their block by outputs and faults alone, and not by outcomes.
     pub outputs_alone: bool,
-    /// Whether a table is listed.
-    pub csv: bool,
+    /// The form in which it is listed.
+    pub form: Form,
 }
 
 /// How what is proposed for blocks is judged, and listed.

@@ -1,10 +1,11 @@
 //! What is listed of rows of which one can't be read.
 ghost use Rattle.std.specs.Prelude.{ℕ, ◌≡◌, ◌++◌, List, Some, IfOk, OnOk};
-ghost use Rattle.iloc_judge.specs.Unread.{in_one_line, unread_told, IsUnread};
+ghost use Rattle.iloc_judge.specs.Unread.{in_one_line, unread_as, unread_lines, unread_told, IsUnread};
 
 use crate::checked::Checked;
 use crate::checked::verdict_line::{push_line, push_table_row};
-use crate::task::Task;
+use crate::json::push_unread_json;
+use crate::task::{Form, Task};
 use crate::verdict::kind::VerdictKind;
 use iloc_lint::row_wording;
 use iloc_ops::{NoMemory, push_number};
@@ -44,9 +45,44 @@ pub fn push_unread_row(alloc: Global, text: &mut Vec<u8>, unread: &Unread) -> Re
     push_told(text, unread.row, &words)
 }
 
+/// Appends the line of the verdict on rows of which this one can't be read, and the row's line.
+fn push_unread_lines(
+    text: &mut Vec<u8>,
+    checked: Checked,
+    claimed: Option<u32>,
+    unread: &Unread,
+    words: &[u8],
+) -> Result<(), NoMemory>
+    ensures { OnOk result (text.new.items
+        ≡ text.old.items ++ unread_lines checked claimed unread.now words.now) }
+{
+    push_line(text, checked, claimed)?;
+    push_told(text, unread.row, words)
+}
+
+/// Appends what is listed of rows of which this one can't be read, in this form.
+fn push_unread_as(
+    text: &mut Vec<u8>,
+    form: Form,
+    checked: Checked,
+    claimed: Option<u32>,
+    unread: &Unread,
+    words: &[u8],
+) -> Result<(), NoMemory>
+    ensures { OnOk result (text.new.items
+        ≡ text.old.items ++ unread_as form checked claimed unread.now words.now) }
+{
+    match form {
+        Form::Lines => push_unread_lines(text, checked, claimed, unread, words),
+        Form::Table => push_table_row(text, checked, claimed),
+        Form::Json => push_unread_json(text, claimed, unread, words, checked),
+    }
+}
+
 /// Appends what is listed of a proposal of which this is the first row that can't be read, beside our schedule of the block,
 /// after the block's head: the verdict `unread` with the cycles of the rows, ours and the least, and a line that says which
-/// row it is and, in words, what is wrong with it. In a table it is a row, with no lines below.
+/// row it is and, in words, what is wrong with it. In a table it is a row, with no lines below; in JSON it is one line that
+/// has all of it, and the row's text.
 ///
 /// After a refusal a part of it may have been appended.
 ///
@@ -55,14 +91,14 @@ pub fn push_unread_row(alloc: Global, text: &mut Vec<u8>, unread: &Unread) -> Re
 pub fn push_unread(
     alloc: Global,
     text: &mut Vec<u8>,
-    csv: bool,
+    form: Form,
     task: &Task<'_>,
     proposal: &Proposal,
     unread: &Unread,
 ) -> Result<Checked, NoMemory>
     requires first { proposal.now.unread ≡ Some unread.now }
     ensures { IfOk result (λ checked. (entry : List ℕ)
-        × IsUnread csv task.now.latencies.now task.now.block.now.ops task.now.ours.now proposal.now checked entry
+        × IsUnread form task.now.latencies.now task.now.block.now.ops task.now.ours.now proposal.now checked entry
         × (text.new.items ≡ text.old.items ++ entry)) }
 {
     let (ops, rows, claimed) = (proposal.ops(), proposal.rows(), proposal.claimed());
@@ -73,11 +109,7 @@ pub fn push_unread(
         ours: cycles(task.ours, task.latencies),
         least: task.graph.least()?,
     };
-    if csv {
-        push_table_row(text, checked, claimed)?;
-        return Ok(checked);
-    }
-    push_line(text, checked, claimed)?;
-    push_unread_row(alloc, text, unread)?;
+    let words = row_wording(alloc, unread.text.as_bytes())?;
+    push_unread_as(text, form, checked, claimed, unread, &words)?;
     Ok(checked)
 }

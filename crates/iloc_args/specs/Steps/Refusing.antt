@@ -3,10 +3,10 @@ use Rattle.std.specs.Prelude.{◌≡◌, ◌≢◌}
 use Rattle.clap.specs.declared.error.kind.ErrorKind.{ErrorKind}
 use Rattle.clap.specs.declared.error.kind.ErrorKind.TheVariants.{OutOfMemory}
 use Rattle.iloc_args.specs.Asked.{Asked}
-use Rattle.iloc_args.specs.Due.{IsAskedFor, Overflows, RanksByNone, StartsAmiss}
+use Rattle.iloc_args.specs.Due.{AsksForTwoForms, IsAskedFor, Overflows, RanksByNone, StartsAmiss}
 use Rattle.iloc_args.specs.declared.fault.LineFault.{LineFault}
 use Rattle.iloc_args.specs.declared.fault.LineFault.TheVariants.{Help, Refused, BadStart}
-use Rattle.iloc_args.specs.declared.fault.LineFault.TheVariants.{TooManyWords, NoSuchPriority, NoMemory}
+use Rattle.iloc_args.specs.declared.fault.LineFault.TheVariants.{TooManyWords, NoSuchPriority, TwoForms, NoMemory}
 
 -- the fault is the one for an error of the parser of this kind
 abbrev pub IsFaultBy : ErrorKind → LineFault → Type 0
@@ -15,6 +15,7 @@ IsFaultBy kind (Refused text) = (IsAskedFor kind → ⊥) × (kind ≢ OutOfMemo
 IsFaultBy kind (BadStart at) = ⊥
 IsFaultBy kind TooManyWords = ⊥
 IsFaultBy kind NoSuchPriority = ⊥
+IsFaultBy kind TwoForms = ⊥
 IsFaultBy kind NoMemory = kind ≡ OutOfMemory
 
 -- what was asked for is out of range in this way, or memory was wanting
@@ -24,4 +25,5 @@ IsOutOfRange a (Refused text) = ⊥
 IsOutOfRange a (BadStart at) = StartsAmiss at a
 IsOutOfRange a TooManyWords = Overflows a
 IsOutOfRange a NoSuchPriority = RanksByNone a
+IsOutOfRange a TwoForms = AsksForTwoForms a
 IsOutOfRange a NoMemory = Unit {0}

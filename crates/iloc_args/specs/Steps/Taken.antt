@@ -39,6 +39,7 @@ pub record HoldValues (rows : List Row) : Type 0 where
   pub mult : HoldsIn 1 LONGEST_LATENCY (codes "mult") rows
   pub nodes : HoldsIn 0 100000 (codes "nodes") rows
   pub csv : HoldsFlag (codes "csv") rows
+  pub json : HoldsFlag (codes "json") rows
   pub lawful : HoldsFlag (codes "lawful") rows
   pub operations : HoldsFlag (codes "operations") rows
   pub outputs : HoldsFlag (codes "outputs") rows

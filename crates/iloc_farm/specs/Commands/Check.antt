@@ -10,9 +10,12 @@ use Rattle.iloc_rows.specs.declared.proposal.unread.Unread.{Unread}
 use Rattle.iloc_sched.specs.declared.ranking.heuristic.Heuristic.TheVariants.{Chain}
 use Rattle.iloc_judge.specs.declared.checked.Checked.{Checked}
 use Rattle.iloc_judge.specs.declared.task.CheckOptions.{CheckOptions}
+use Rattle.iloc_judge.specs.declared.task.Form.{Form}
+use Rattle.iloc_judge.specs.declared.task.Form.TheVariants as forms
 use Rattle.iloc_judge.specs.Checked.{IsCheck, passes}
+use Rattle.iloc_judge.specs.Json.{quoted}
 use Rattle.iloc_judge.specs.Unread.{IsUnread}
-use Rattle.iloc_farm.specs.Listing.{head_as, opening_as}
+use Rattle.iloc_farm.specs.Listing.{head_as}
 use Rattle.iloc_farm.specs.Rows.{ListsRows}
 use Rattle.iloc_farm.specs.Schedules.{IsTheGreedy}
 use Rattle.iloc_farm.specs.declared.commands.Finding.{Finding}
@@ -21,20 +24,47 @@ use Rattle.iloc_rows.specs.EitherSlot.{placed}
 use Rattle.iloc_farm.specs.Command.{Command, OfRows, of_no_file}
 use Rattle.iloc_farm.specs.Commands.Run.{initial_memory}
 
+-- the form of a listing for which a table is asked, or JSON
+abbrev pub form_as : (csv json : Bool) → Form
+form_as csv true = forms.Json
+form_as true false = forms.Table
+form_as false false = forms.Lines
+
+abbrev pub form_of : Request → Form
+form_of request = form_as request.csv request.json
+
 -- what a request asks of rows
 abbrev pub options_of : Request → CheckOptions
 options_of request = record {
   lawful = request.lawful;
   operations = request.operations;
   outputs_alone = request.outputs;
-  csv = request.csv;
+  form = form_of request;
 }
 
 -- What is found of a proposal, and said of it, is right: where this row can't be read, that; else what is said of its rows.
 abbrev pub IsSaid : Option Unread → CheckOptions → Latencies → List ℤ → List Op → Table → Proposed → Checked → List ℕ → Type 0
 IsSaid None options lat memory block ours proposal checked text = IsCheck options lat memory block ours proposal checked text
 IsSaid (Some unread) options lat memory block ours proposal checked text =
-    IsUnread options.csv lat block ours proposal checked text
+    IsUnread options.form lat block ours proposal checked text
+
+abbrev pub json_name : List ℕ → List ℕ
+json_name name = codes "\"name\":" ++ quoted name
+
+-- null for a block without a name
+abbrev pub name_member : Option (List ℕ) → List ℕ
+name_member None = codes "\"name\":null"
+name_member (Some name) = json_name name
+
+-- `{"block":K,"name":NAME`
+abbrev pub json_head : ℕ → Option (List ℕ) → List ℕ
+json_head k name = codes "{\"block\":" ++ decimal k ++ codes "," ++ name_member name
+
+-- how the entry of a block begins
+abbrev pub check_head : Form → ℕ → Option (List ℕ) → List ℕ
+check_head forms.Lines k name = head_as false k name
+check_head forms.Table k name = head_as true k name
+check_head forms.Json k name = json_head k name
 
 -- The entry of block k and its proposal: the block's number and its name, and what is said of the proposal, beside the block's
 -- greedy schedule.
@@ -44,11 +74,17 @@ pub record IsCheckEntry (options : CheckOptions) (lat : Latencies) (memory : Lis
   pub greedy : IsTheGreedy Chain lat of.0 ours
   pub text : List ℕ
   pub right : IsSaid of.1.unread options lat memory of.0.ops ours of.1 checked text
-  pub listed : entry ≡ head_as options.csv k of.0.name ++ text
+  pub listed : entry ≡ check_head options.form k of.0.name ++ text
 
 -- what a table begins with
 abbrev pub check_header : List ℕ
 check_header = codes "block,name,verdict,cycles,ours,least,claimed\n"
+
+-- a table has its header before the first row
+abbrev pub check_opening : Form → List ℕ
+check_opening forms.Lines = []
+check_opening forms.Table = check_header
+check_opening forms.Json = []
 
 -- `total C ours O least L`: the cycles that are proposed, those of our schedules and the least, each together
 abbrev pub totals_line : List Checked → List ℕ
@@ -56,16 +92,17 @@ totals_line found =
     codes "total " ++ decimal (sum_by (λ c. c.cycles) found) ++ codes " ours " ++ decimal (sum_by (λ c. c.ours) found)
     ++ codes " least " ++ decimal (sum_by (λ c. c.least) found) ++ codes "\n"
 
--- the totals, which a table has not
-abbrev pub check_ending : Bool → List Checked → List ℕ
-check_ending true found = []
-check_ending false found = totals_line found
+-- the totals, which neither a table nor JSON has
+abbrev pub check_ending : Form → List Checked → List ℕ
+check_ending forms.Lines found = totals_line found
+check_ending forms.Table found = []
+check_ending forms.Json found = []
 
--- The text says of each proposal, beside the greedy schedule of its block, what is right: in a table below its header, or else
--- with the totals at the end. They passed exactly where each does.
+-- The text says of each proposal, beside the greedy schedule of its block, what is right, in a table below its header, and
+-- in lines with the totals at the end. They passed exactly where each does.
 abbrev pub ListsChecked : CheckOptions → Latencies → List ℤ → List Block → List Proposed → Finding → List ℕ → Type 0
 ListsChecked options lat memory blocks proposals finding text =
-    ListsRows (IsCheckEntry options lat memory) (opening_as options.csv check_header) (check_ending options.csv)
+    ListsRows (IsCheckEntry options lat memory) (check_opening options.form) (check_ending options.form)
     (passes options.lawful) blocks proposals finding text
 
 -- The text is what the request says of what is proposed for blocks, with this finding: of the rows with leave for either slot,

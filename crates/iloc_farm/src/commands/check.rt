@@ -1,22 +1,28 @@
 //! `check`: what is said of the schedules that others proposed for blocks.
-ghost use Rattle.std.specs.Prelude.{ℕ, ◌≡◌, ◌++◌, List, IfErr, IfOk};
+ghost use Rattle.std.specs.Prelude.{ℕ, ◌≡◌, ◌<◌, ◌≤◌, ◌^◌, ◌++◌, List, length, IfErr, IfOk, OnOk};
+ghost use Rattle.std.specs.List.{All};
+ghost use Rattle.std.specs.Option.{option_copied};
 ghost use Rattle.iloc_args.specs.declared.request.Task.TheVariants as task;
-ghost use Rattle.iloc_farm.specs.Commands.Check.{IsSaid, options_of};
+ghost use Rattle.iloc_farm.specs.Commands.Check as listed;
+ghost use Rattle.iloc_farm.specs.Commands.Check.{IsSaid, form_of, options_of};
 ghost use Rattle.iloc_farm.specs.Run.{EndsReading, ListsFrom};
+ghost use Rattle.iloc_farm.specs.Steps.Checking.{IsSmall as IsSmallCheck};
+ghost use Rattle.iloc_ops.specs.Limits.{MAX_BLOCKS};
 
 use crate::commands::totals::Totals;
 use crate::commands::{Finding, Listed};
 use crate::fault::RunFault;
 use crate::lister::initial_memory;
-use crate::listing::table::{push_head, push_opening};
+use crate::listing::json::push_json_head;
+use crate::listing::table::push_head;
 use crate::rows::{RowLister, listed_apart, listed_whole};
 use crate::texts::Texts;
 use iloc_args::Request;
-use iloc_judge::{CheckOptions, Checked, Judging, Task, push_check, push_unread};
+use iloc_judge::{CheckOptions, Checked, Form, Judging, Task, push_check, push_unread};
 use iloc_meaning::Memory;
 use iloc_rows::Proposal;
 use iloc_sched::{Graph, Heuristic, Scheduler};
-use iloc_text::{Block, NoMemory};
+use iloc_text::{Block, Name, NoMemory};
 use iloc_timed::MAX_ROWS;
 use std::alloc::Global;
 use std::io::Read;
@@ -34,6 +40,17 @@ pub(crate) struct CheckLister {
     blocks: usize,
 }
 
+/// The form of the listing that a request asks for.
+fn form_of(request: &Request) -> Form
+    ensures { result ≡ form_of request.now }
+{
+    match (request.csv, request.json) {
+        (_, true) => Form::Json,
+        (true, false) => Form::Table,
+        (false, false) => Form::Lines,
+    }
+}
+
 /// What a request asks of rows.
 fn options_of(request: &Request) -> CheckOptions
     ensures { result ≡ options_of request.now }
@@ -42,7 +59,51 @@ fn options_of(request: &Request) -> CheckOptions
         lawful: request.lawful,
         operations: request.operations,
         outputs_alone: request.outputs,
-        csv: request.csv,
+        form: form_of(request),
+    }
+}
+
+/// Appends how the entry of a block begins.
+fn push_check_head(
+    text: &mut Vec<u8>,
+    form: Form,
+    number: usize,
+    name: Option<&Name>,
+) -> Result<(), NoMemory>
+    requires { number < 2 ^ 63 }
+    ensures { OnOk result
+        (text.new.items ≡ text.old.items ++ listed.check_head form number (option_copied name.entry)) }
+{
+    match form {
+        Form::Lines => push_head(text, false, number, name),
+        Form::Table => push_head(text, true, number, name),
+        Form::Json => push_json_head(text, number, name),
+    }
+}
+
+/// Appends the header of a table.
+fn push_check_opening(text: &mut Vec<u8>, form: Form) -> Result<(), NoMemory>
+    ensures { OnOk result (text.new.items ≡ text.old.items ++ listed.check_opening form) }
+{
+    match form {
+        Form::Lines | Form::Json => Ok(()),
+        Form::Table => Ok(text.extend_from_slice(HEADER)?),
+    }
+}
+
+/// Appends the totals, where lines are listed.
+fn push_check_ending(
+    text: &mut Vec<u8>,
+    form: Form,
+    found: &[Checked],
+) -> Result<(), NoMemory>
+    requires few { length found.now ≤ MAX_BLOCKS }
+    requires small { All IsSmallCheck found.now }
+    ensures { OnOk result (text.new.items ≡ text.old.items ++ listed.check_ending form found.now) }
+{
+    match form {
+        Form::Lines => Totals::of(found).push_line(text),
+        Form::Table | Form::Json => Ok(()),
     }
 }
 
@@ -61,15 +122,14 @@ fn push_judged(
         × (text.new.items ≡ text.old.items ++ entry)) }
 {
     if let Some(unread) = proposal.unread() {
-        return push_unread(alloc, text, judging.options.csv, task, &proposal, unread);
+        return push_unread(alloc, text, judging.options.form, task, &proposal, unread);
     }
     push_check(alloc, text, judging, task, proposal)
 }
 
 impl RowLister for CheckLister {
-    ghost use Rattle.iloc_farm.specs.Commands.Check.{IsCheckEntry, check_ending, check_header, options_of};
+    ghost use Rattle.iloc_farm.specs.Commands.Check.{IsCheckEntry, check_ending, check_opening, form_of, options_of};
     ghost use Rattle.iloc_farm.specs.Commands.Run.{initial_memory};
-    ghost use Rattle.iloc_farm.specs.Listing.{opening_as};
     ghost use Rattle.iloc_farm.specs.Steps.Checking.{IsSmall};
     ghost use Rattle.iloc_judge.specs.Checked.{passes};
 
@@ -77,9 +137,9 @@ impl RowLister for CheckLister {
 
     ghost lists = { λ request. IsCheckEntry (options_of request) request.latencies (initial_memory request) };
 
-    ghost opening = { λ request. opening_as request.csv check_header };
+    ghost opening = { λ request. check_opening (form_of request) };
 
-    ghost ending = { λ request. check_ending request.csv };
+    ghost ending = { λ request. check_ending (form_of request) };
 
     ghost passes = { λ request. passes request.lawful };
 
@@ -97,7 +157,7 @@ impl RowLister for CheckLister {
     }
 
     fn push_opening(request: &Request, text: &mut Vec<u8>) -> Result<(), NoMemory> {
-        push_opening(text, request.csv, HEADER)
+        push_check_opening(text, form_of(request))
     }
 
     fn list(
@@ -113,7 +173,7 @@ impl RowLister for CheckLister {
         prove!(proposal.rows().len() <= MAX_ROWS);
         self.graph.refill(block, latencies)?;
         let ours = self.scheduler.lend_as(&self.graph, Heuristic::Chain)?;
-        push_head(text, request.csv, number, block.name.as_ref())?;
+        push_check_head(text, form_of(request), number, block.name.as_ref())?;
         let judging = Judging {
             options: options_of(request),
             memory: &self.memory,
@@ -135,10 +195,7 @@ impl RowLister for CheckLister {
         text: &mut Vec<u8>,
         found: &[Checked],
     ) -> Result<(), NoMemory> {
-        if request.csv {
-            return Ok(());
-        }
-        Totals::of(found).push_line(text)
+        push_check_ending(text, form_of(request), found)
     }
 
     fn finding(request: &Request, found: &[Checked]) -> Finding {

@@ -2,7 +2,7 @@ use Rattle.std.proofs.Common.{ap, refl, ◌∙◌}
 use Rattle.iloc_sched.specs.GraphOf.{GraphOf}
 use Rattle.iloc_sched.specs.Least.{least_of}
 use Rattle.iloc_judge.specs.declared.checked.Checked.{Checked}
-use Rattle.iloc_judge.specs.Listing.{entry_as}
+use Rattle.iloc_judge.specs.Entry.{entry_as}
 use Rattle.iloc_judge.proofs.Counted.{verdict_listed}
 use Rattle.iloc_judge.proofs.checked.push_check.Goals as goal
 
@@ -29,7 +29,7 @@ returns c =
       ours = c.cycles-2.result;
       least = c.in_ok-least.field-0;
     } in (
-      entry_as options.lawful options.csv p.claimed p.ops p.rows c.in_ok-verdict.verdict checked,
+      entry_as options.lawful options.form p.claimed p.ops p.rows c.in_ok-verdict.verdict checked,
       record {
         verdict = c.in_ok-verdict.verdict;
         right = rw (ops, rows) at c.in_ok-verdict.ensures.right;

@@ -5,7 +5,7 @@ use Rattle.iloc_sched.specs.Least.{least_of}
 use Rattle.iloc_judge.specs.declared.checked.Checked.{Checked}
 use Rattle.iloc_judge.specs.declared.verdict.Verdict.TheVariants.{Units}
 use Rattle.iloc_judge.specs.declared.verdict.kind.VerdictKind.TheVariants as kind
-use Rattle.iloc_judge.specs.Listing.{entry_as}
+use Rattle.iloc_judge.specs.Entry.{entry_as}
 use Rattle.iloc_judge.proofs.OwnRows.{own_rows_keep_units}
 use Rattle.iloc_judge.proofs.checked.push_units.Goals as goal
 
@@ -27,7 +27,7 @@ returns c =
       ours = c.cycles.result;
       least = c.in_ok-least.field-0;
     } in (
-      entry_as options.lawful options.csv p.claimed p.ops p.rows (Units c.args.row) checked,
+      entry_as options.lawful options.form p.claimed p.ops p.rows (Units c.args.row) checked,
       record {
         verdict = Units c.args.row;
         right = c.requires.bad;

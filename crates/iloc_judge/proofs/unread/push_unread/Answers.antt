@@ -1,11 +1,10 @@
-use Rattle.std.proofs.Common.{◌++◌, refl, ap, ◌∙◌, false, append_assoc}
+use Rattle.std.proofs.Common.{refl, ap, ◌∙◌, false}
 use Rattle.iloc_timed.proofs.Standing.{numbered_from}
 use Rattle.iloc_sched.specs.GraphOf.{GraphOf}
 use Rattle.iloc_sched.specs.Least.{least_of}
 use Rattle.iloc_judge.specs.declared.checked.Checked.{Checked}
 use Rattle.iloc_judge.specs.declared.verdict.kind.VerdictKind.TheVariants.{Unread}
-use Rattle.iloc_judge.specs.Listing.{line_of}
-use Rattle.iloc_judge.specs.Unread.{unread_as, unread_told}
+use Rattle.iloc_judge.specs.Unread.{unread_as}
 use Rattle.iloc_judge.proofs.unread.push_unread.Goals as goal
 
 pub cycles_of-requires-clause-numbered : goal.cycles_of-requires-clause-numbered
@@ -24,19 +23,15 @@ returns c =
       ours = c.cycles.result;
       least = c.in_ok-least.field-0;
     } in
-    let line = line_of checked p.claimed in
-    let row = c.in_ok-push_unread_row.ensures in
-    let told = unread_told c.args.unread.now.row row.0 in (
-      unread_as false checked p.claimed c.args.unread.now.row row.0,
+    let words = c.in_ok-words.words.items in (
+      unread_as c.args.form checked p.claimed c.args.unread.now words,
       record {
         unread = c.args.unread.now;
         first = c.requires.first;
         is_found =
             rw (c.cycles_of.ensures, c.ops-ops.ensures, c.rows-rows.ensures.rows, c.cycles.ensures, bound) refl;
-        words = row.0;
-        listed = rw c.if-csv.false refl;
+        words = words;
+        listed = refl;
       },
-      row.1
-          ∙ ap (λ xs. xs ++ told) (rw c.claimed-claimed.ensures at c.in_ok-push_line.ensures)
-          ∙ append_assoc c.args.text.now.items line told,
+      rw (c.deref.ensures.value, c.claimed-claimed.ensures) at c.in_ok-push_unread_as.ensures,
     )

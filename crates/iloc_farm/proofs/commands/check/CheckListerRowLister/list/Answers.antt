@@ -15,7 +15,7 @@ returns-clause-listed c =
     let said = c.in_ok-checked.ensures in
     check_listed (options_of request) request.latencies _ _ c.args.number c.args.block.now
     c.in_ok-ours.ours c.args.proposal c.in_ok-checked.checked c.args.text.now.items _ _ said.0 _
-    (c.in_ok-ours.ensures _ _ c.in_ok-refill.ensures.graph).greedy c.requires.starts c.as_ref.ensures.value c.in_ok-push_head.ensures (rw c.options_of.ensures at said.1) said.2
+    (c.in_ok-ours.ensures _ _ c.in_ok-refill.ensures.graph).greedy c.requires.starts c.as_ref.ensures.value (rw c.form_of.ensures at c.in_ok-push_check_head.ensures) (rw c.options_of.ensures at said.1) said.2
 
 pub returns-clause-small : goal.returns-clause-small
 returns-clause-small c =

@@ -1,0 +1,16 @@
+-- What is listed of a block's rows after the block's head, in each form.
+use Rattle.std.specs.Prelude.{ℕ, Bool, List, Option}
+use Rattle.iloc_ops.specs.declared.op.Op.{Op}
+use Rattle.iloc_timed.specs.declared.row.Row.{Row}
+use Rattle.iloc_judge.specs.declared.checked.Checked.{Checked}
+use Rattle.iloc_judge.specs.declared.task.Form.{Form}
+use Rattle.iloc_judge.specs.declared.task.Form.TheVariants as forms
+use Rattle.iloc_judge.specs.declared.verdict.Verdict.{Verdict}
+use Rattle.iloc_judge.specs.Json.{json_of}
+use Rattle.iloc_judge.specs.Listing.{lines_of, row_of}
+
+-- of operations and rows, for which these cycles are claimed: lines, a row of a table, or a line of JSON
+abbrev pub entry_as : (lawful : Bool) → Form → Option ℕ → List Op → List Row → Verdict → Checked → List ℕ
+entry_as lawful forms.Lines claimed ops rows verdict checked = lines_of lawful claimed ops rows verdict checked
+entry_as lawful forms.Table claimed ops rows verdict checked = row_of checked claimed
+entry_as lawful forms.Json claimed ops rows verdict checked = json_of claimed ops rows verdict checked

@@ -1,0 +1,203 @@
+//! Lines of JSON.
+ghost use Rattle.std.specs.Prelude.{◌≡◌, ◌++◌, ◌<◌, length, OnOk};
+ghost use Rattle.iloc_judge.specs.Json as json;
+ghost use Rattle.iloc_judge.specs.Steps.Counted.{CanBeListed};
+
+mod comparison;
+mod reason;
+pub mod value;
+
+use crate::checked::Checked;
+use crate::verdict::Verdict;
+use comparison::{push_comparison, push_no_difference};
+use iloc_ops::{NoMemory, Op};
+use iloc_rows::Unread;
+use iloc_timed::{Row, push_row};
+use reason::push_reasons;
+use value::{push_literal, push_number_member, push_text_member};
+
+/// Appends the number of cycles that is claimed, null where none is.
+fn push_claim(text: &mut Vec<u8>, claimed: Option<u32>) -> Result<(), NoMemory>
+    ensures { OnOk result (text.new.items ≡ text.old.items ++ json.claim_member claimed) }
+{
+    match claimed {
+        Some(claim) => push_number_member(text, "claimed", u64::from(claim)),
+        None => push_literal(text, ",\"claimed\":null"),
+    }
+}
+
+/// Appends the cycles of the rows, ours and the least.
+fn push_counts(text: &mut Vec<u8>, checked: Checked) -> Result<(), NoMemory>
+    ensures { OnOk result (text.new.items ≡ text.old.items ++ json.counts_members checked) }
+{
+    push_number_member(text, "cycles", checked.cycles)?;
+    push_number_member(text, "ours", checked.ours)?;
+    push_number_member(text, "least", checked.least)
+}
+
+/// Appends the word for the verdict, and the numbers that go with it.
+fn push_verdict(
+    text: &mut Vec<u8>,
+    checked: Checked,
+    claimed: Option<u32>,
+) -> Result<(), NoMemory>
+    ensures { OnOk result (text.new.items ≡ text.old.items ++ json.verdict_members checked claimed) }
+{
+    push_text_member(text, "verdict", checked.kind.word().as_bytes())?;
+    push_counts(text, checked)?;
+    push_claim(text, claimed)
+}
+
+/// Appends what comes before a reason that is alone.
+fn push_before(text: &mut Vec<u8>) -> Result<(), NoMemory>
+    ensures { OnOk result (text.new.items ≡ text.old.items ++ json.before) }
+{
+    push_literal(text, ",\"left_out\":null,\"added\":null,\"reasons\":[")
+}
+
+/// Appends what comes after a reason that is alone.
+fn push_after(text: &mut Vec<u8>) -> Result<(), NoMemory>
+    ensures { OnOk result (text.new.items ≡ text.old.items ++ json.after) }
+{
+    push_literal(text, "],\"more\":0")
+}
+
+/// Appends this row, as one that breaks the rules of the units.
+fn push_units_value(
+    text: &mut Vec<u8>,
+    ops: &[Op],
+    rows: &[Row],
+    row: usize,
+) -> Result<(), NoMemory>
+    requires { row < length rows.now }
+    ensures { OnOk result (text.new.items ≡ text.old.items ++ json.units_value ops.now rows.now row) }
+{
+    push_literal(text, "{\"kind\":\"units\"")?;
+    push_number_member(text, "row", row as u64)?;
+    push_literal(text, ",\"text\":\"")?;
+    push_row(text, ops, &rows[row])?;
+    push_literal(text, "\"}")
+}
+
+/// Appends that this row breaks the rules of the units.
+fn push_units(
+    text: &mut Vec<u8>,
+    ops: &[Op],
+    rows: &[Row],
+    row: usize,
+) -> Result<(), NoMemory>
+    requires { row < length rows.now }
+    ensures { OnOk result (text.new.items ≡ text.old.items ++ json.units_members ops.now rows.now row) }
+{
+    push_no_difference(text)?;
+    push_before(text)?;
+    push_units_value(text, ops, rows, row)?;
+    push_after(text)
+}
+
+/// Appends that rows are by the book.
+fn push_lawful(text: &mut Vec<u8>) -> Result<(), NoMemory>
+    ensures { OnOk result (text.new.items ≡ text.old.items ++ json.lawful_members) }
+{
+    push_no_difference(text)?;
+    push_before(text)?;
+    push_after(text)
+}
+
+/// Appends that it isn't decided whether rows are by the book.
+fn push_undecided(text: &mut Vec<u8>) -> Result<(), NoMemory>
+    ensures { OnOk result (text.new.items ≡ text.old.items ++ json.undecided_members) }
+{
+    push_before(text)?;
+    push_literal(text, "{\"kind\":\"undecided\"}")?;
+    push_after(text)
+}
+
+/// Appends what is said of these operations and rows after their verdict.
+fn push_detail(
+    text: &mut Vec<u8>,
+    ops: &[Op],
+    rows: &[Row],
+    verdict: &Verdict,
+) -> Result<(), NoMemory>
+    requires { CanBeListed rows.now verdict.now }
+    ensures { OnOk result
+        (text.new.items ≡ text.old.items ++ json.detail_members ops.now rows.now verdict.now) }
+{
+    match verdict {
+        Verdict::Units(row) => push_units(text, ops, rows, *row),
+        Verdict::Lawful => push_lawful(text),
+        Verdict::Unlawful(reasons, comparison) => {
+            push_comparison(text, comparison)?;
+            push_reasons(text, reasons)
+        }
+        Verdict::Undecided(comparison) => {
+            push_comparison(text, comparison)?;
+            push_undecided(text)
+        }
+    }
+}
+
+/// Appends what is listed of operations and rows with this verdict.
+pub(crate) fn push_json(
+    text: &mut Vec<u8>,
+    claimed: Option<u32>,
+    ops: &[Op],
+    rows: &[Row],
+    verdict: &Verdict,
+    checked: Checked,
+) -> Result<(), NoMemory>
+    requires { CanBeListed rows.now verdict.now }
+    ensures { OnOk result
+        (text.new.items ≡ text.old.items ++ json.json_of claimed ops.now rows.now verdict.now checked) }
+{
+    push_verdict(text, checked, claimed)?;
+    push_detail(text, ops, rows, verdict)?;
+    push_literal(text, "}\n")
+}
+
+/// Appends the text of a row that can't be read, and what is said of it.
+fn push_unread_texts(text: &mut Vec<u8>, row: &[u8], words: &[u8]) -> Result<(), NoMemory>
+    ensures { OnOk result (text.new.items ≡ text.old.items ++ json.unread_texts row.now words.now) }
+{
+    push_text_member(text, "text", row)?;
+    push_text_member(text, "problem", words)?;
+    push_literal(text, "}")
+}
+
+/// Appends a row that can't be read, with what is said of it.
+fn push_unread_value(text: &mut Vec<u8>, unread: &Unread, words: &[u8]) -> Result<(), NoMemory>
+    ensures { OnOk result (text.new.items
+        ≡ text.old.items ++ json.unread_value unread.now.row unread.now.text words.now) }
+{
+    push_literal(text, "{\"kind\":\"unread\"")?;
+    push_number_member(text, "row", u64::from(unread.row))?;
+    push_unread_texts(text, unread.text.as_bytes(), words)
+}
+
+/// Appends that a row can't be read.
+fn push_unread_members(text: &mut Vec<u8>, unread: &Unread, words: &[u8]) -> Result<(), NoMemory>
+    ensures { OnOk result (text.new.items
+        ≡ text.old.items ++ json.unread_members unread.now.row unread.now.text words.now) }
+{
+    push_no_difference(text)?;
+    push_before(text)?;
+    push_unread_value(text, unread, words)?;
+    push_after(text)
+}
+
+/// Appends what is listed of rows of which this is the first that can't be read, with words for what is wrong with it.
+pub(crate) fn push_unread_json(
+    text: &mut Vec<u8>,
+    claimed: Option<u32>,
+    unread: &Unread,
+    words: &[u8],
+    checked: Checked,
+) -> Result<(), NoMemory>
+    ensures { OnOk result (text.new.items ≡ text.old.items
+        ++ json.unread_json_of claimed unread.now.row unread.now.text words.now checked) }
+{
+    push_verdict(text, checked, claimed)?;
+    push_unread_members(text, unread, words)?;
+    push_literal(text, "}\n")
+}
