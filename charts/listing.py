@@ -21,10 +21,10 @@ EXPLAINED = re.compile(r"(\d+) cycle (\d+) unit ([01]) ready (\d+) after (-|\d+(
                        r"earliest \d+ slack \d+ held (?:-|free|\d+) (.+?) ; (.+)")
 NUMBER = re.compile(r"\d+")
 VERDICT = re.compile(r"block (\d+) (\S+) ([a-z]+) cycles \d+ ours \d+ least (\d+)(?: claimed \d+)?")
-WRONG_ROW = re.compile(r"(?:added \d+: |see )?row (\d+): .+")
+WRONG_ROW = re.compile(r"(?:added \d+: |see |line \d+, )?row (\d+): .+")
 NOTHING = re.compile(r"total \d+.*")
 UNLAWFUL = re.compile(r"not lawful|undecided")
-REASON = re.compile(r"(?:row|left out|added|see|and) .+")
+REASON = re.compile(r"(?:row|line|left out|added|see|and) .+")
 
 
 @dataclass

@@ -103,7 +103,7 @@ def judged_inputs():
     yield ("most claims", lambda: rows(b"cycles 7\n" * ((MOST_BYTES - 3) // 9)),
                  lawful + b"cycles 0 ours 0 least 0 claimed 7")
     yield ("a load on the wrong unit", lambda: rows(load * 5000, b"[ nop ; load r0 => r1 ]\n", load * 4999),
-                 b"block 1 A units cycles 10004 ours 0 least 0\n  row 5000: [ nop ; load r0 => r1 ]\n")
+                 b"block 1 A units cycles 10004 ours 0 least 0\n  row 5000: [ nop ; load r0 => r1 ]: a load or store on unit 1\n")
     yield ("useless operations", lambda: rows(b"output 0\n", free * 4999, b"[ output 0 ; nop ]\n"),
            b"block 1 A same cycles 5000 ours 1 least 1\n")
     yield ("rows of a block that shows nothing", lambda: rows(free * 5000),
@@ -114,9 +114,10 @@ def judged_inputs():
            refused_line(f"line 5002: more than {MOST_OPERATIONS} operations in a block"))
     yield "65,535 heads of one block", lambda: rows(b"block 1 A\n" * MOST_BLOCKS), refused_line(f"line 3: {NO_SUCH_BLOCK}")
     yield "brackets", lambda: rows(b"[]\n", b"[" * (MOST_BYTES - 6)), (
-        b"block 1 A unread cycles 0 ours 0 least 0\n  row 1: expected an operation, found [\n")
+        b"block 1 A unread cycles 0 ours 0 least 0\n  line 3, row 1: expected an operation, found [\n")
     yield "a row without an end", lambda: b"A:\n[" + b" " * (MOST_BYTES - 4), refused_line("line 2: not understood")
-    yield "a long number", lambda: b"A:\ncycles " + b"9" * (MOST_BYTES - 10), refused_line("line 2: number above 2147483647")
+    yield "a long number", lambda: b"A:\ncycles " + b"9" * (MOST_BYTES - 10), (
+        b"block 1 A unread cycles 0 ours 0 least 0\n  line 2, row 0: expected a number up to 2147483647, found 99999999999999999999\n")
 
 
 def multiples():

@@ -88,7 +88,7 @@ def in_either_slot():
     task, rows = b"loadI 4 => r0\nload r0 => r1\n", b"[ loadI 4 => r0 ; nop ]\n[ nop ; load r0 => r1 ]\n"
     file = stored("either.iloc", task)
     refused = ending(["explain", "--task", file], rows)
-    if refused[0] != FAILED or b"  row 1: [ nop ; load r0 => r1 ]\n" not in refused[1]:
+    if refused[0] != FAILED or b"  row 1: [ nop ; load r0 => r1 ]: a load or store on unit 1\n" not in refused[1]:
         yield told(refused)
     taken = ending(["explain", "--task", file, "--either-slot"], rows)
     if taken[0] != PASSED or b"1 cycle 1 unit 0 " not in taken[1]:

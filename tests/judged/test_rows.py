@@ -186,14 +186,14 @@ LISTED = {
                                "  added 1: row 1: output 4\n"
                                "  row 1: output 4 like none of the block"),
     "store_missing": ("loadI 12 => r1\nsubI r1, 16 => r2\nstore r2 => r1\n",
-                      "block 1 - differs cycles 0 ours 7 least 7\n  word 12: 0 for -4\n"
+                      "block 1 - differs cycles 0 ours 7 least 7\n  no rows\n  word 12: 0 for -4\n"
                       "  left out 3: loadI 12 => r1"),
     "fault_beside_the_output": ("output 4\n[ output 4 ; loadI 5 => r1 ]\n[ load r1 => r1 ; nop ]\n",
                                 "block 1 - differs cycles 6 ours 1 least 1\n  fault\n"
                                 "  added 2: row 0: loadI 5 => r1\n"
                                 "  row 0: loadI 5 => r1 like none of the block\n"
                                 "  row 1: load r1 => r1 like none of the block"),
-    "fault_missing": ("output 5\n", "block 1 - void cycles 0 ours 1 least 1\n  the block faults: output 5\n"
+    "fault_missing": ("output 5\n", "block 1 - void cycles 0 ours 1 least 1\n  no rows\n  the block faults: output 5\n"
                       "  left out 1: output 5"),
     # On the memory handed in both words are 0.
     "output_of_another_word": ("output 65532\n[ output 65528 ; nop ]\n",
@@ -238,9 +238,9 @@ LISTED = {
                            "block 1 - differs cycles 6 ours 6 least 6\n  word 4: 0 for 4\n"
                            "  row 1: store r2 => r1 for store r1 => r1"),
     "load_on_unit_1": ("loadI 4 => r1\nload r1 => r2\n[ loadI 4 => r1 ; nop ]\n[ nop ; load r1 => r2 ]\n",
-                       "block 1 - units cycles 6 ours 6 least 6\n  row 1: [ nop ; load r1 => r2 ]"),
+                       "block 1 - units cycles 6 ours 6 least 6\n  row 1: [ nop ; load r1 => r2 ]: a load or store on unit 1"),
     "two_outputs_in_a_row": ("output 4\n[ output 4 ; output 8 ]\n[ mult r1, r1 => r2 ; nop ]\ncycles 1\n",
-                             "block 1 - units cycles 4 ours 1 least 1 claimed 1\n  row 0: [ output 4 ; output 8 ]"),
+                             "block 1 - units cycles 4 ours 1 least 1 claimed 1\n  row 0: [ output 4 ; output 8 ]: two outputs"),
     # An operation alone is on its unit; one that is left out is a `nop`.
     "single_operations": ("loadI 4 => r1\nload r1 => r2\nmult r2, r2 => r3\nmultI r3, 1 => r4\nstore r4 => r1\n"
                           "[ loadI 4 => r1 ]\n[ load r1 => r2 ]\n" + "[ ]\n" * 4 + "[mult r2,r2=>r2]\n[]\n[ nop ]\n"
@@ -251,13 +251,22 @@ LISTED = {
                        "block 1 - lawful cycles 2 ours 1 least 1"),
     "empty_row_at_once": ("nop\n[]", "block 1 - lawful cycles 0 ours 0 least 0"),
     "product_before_a_semicolon": ("nop\n[ mult r1, r2 => r3 ; ]\n", "block 1 - units cycles 3 ours 0 least 0\n"
-                                                                      "  row 0: [ mult r1, r2 => r3 ; nop ]"),
+                                                                      "  row 0: [ mult r1, r2 => r3 ; nop ]: a product on unit 0"),
     "load_behind_a_semicolon": ("nop\n[ ; load r1 => r2 ]\n", "block 1 - units cycles 5 ours 0 least 0\n"
-                                                               "  row 0: [ nop ; load r1 => r2 ]"),
+                                                               "  row 0: [ nop ; load r1 => r2 ]: a load or store on unit 1"),
+    # Of a row that breaks more than one rule the first is named, in this order.
+    "two_memory_operations": ("nop\n[ load r1 => r2 ; storeAI r2 => r1, 4 ]\n", "block 1 - units cycles 5 ours 0 least 0\n"
+                              "  row 0: [ load r1 => r2 ; storeAI r2 => r1, 4 ]: two loads or stores"),
+    "two_products": ("nop\n[ multI r1, 2 => r2 ; mult r2, r2 => r3 ]\n", "block 1 - units cycles 3 ours 0 least 0\n"
+                     "  row 0: [ multI r1, 2 => r2 ; mult r2, r2 => r3 ]: two products"),
+    "both_on_the_wrong_unit": ("nop\n[ mult r1, r1 => r2 ; load r1 => r3 ]\n", "block 1 - units cycles 5 ours 0 least 0\n"
+                               "  row 0: [ mult r1, r1 => r2 ; load r1 => r3 ]: a product on unit 0"),
+    "output_beside_a_product": ("nop\n[ mult r1, r1 => r2 ; output 4 ]\n", "block 1 - units cycles 3 ours 0 least 0\n"
+                                "  row 0: [ mult r1, r1 => r2 ; output 4 ]: a product on unit 0"),
     "no_head": ("output 0\n[output 0;nop]\ncycles 9\ntotal 3", "block 1 - lawful cycles 1 ours 1 least 1 claimed 9"),
     "no_head_of_a_name": ("main:\noutput 0\n[output 0;nop]\ncycles 9\ntotal 3",
                           "block 1 main lawful cycles 1 ours 1 least 1 claimed 9"),
-    "no_row": ("a: output 0\nb:", "block 1 a differs cycles 0 ours 1 least 1\n  output 1: none for 0\n"
+    "no_row": ("a: output 0\nb:", "block 1 a differs cycles 0 ours 1 least 1\n  no rows\n  output 1: none for 0\n"
                "  left out 1: output 0", "block 2 b lawful cycles 0 ours 0 least 0"),
     "no_row_and_a_total": ("a:\nb: nop\ntotal 0\n", "block 1 a lawful cycles 0 ours 0 least 0",
                            "block 2 b lawful cycles 0 ours 0 least 0"),
@@ -266,7 +275,7 @@ LISTED = {
                             "block 1 - same cycles 3 ours 1 least 1 claimed 1\n  added 1: row 2: add r1, r2 => r3\n"
                             "  row 2: add r1, r2 => r3 like none of the block"),
     "blanks_in_a_row_that_is_shown": ("nop\n [\tmult r1,r02 =>r3;nop\r]//\r\n",
-                                      "block 1 - units cycles 3 ours 0 least 0\n  row 0: [ mult r1, r2 => r3 ; nop ]"),
+                                      "block 1 - units cycles 3 ours 0 least 0\n  row 0: [ mult r1, r2 => r3 ; nop ]: a product on unit 0"),
     "row_of_another_block": ("A: output 4\nB: output 8\nblock 1 A\n[ output 4 ; nop ]\nblock 2 B\n[ output 4 ; nop ]\n",
                              "block 1 A lawful cycles 1 ours 1 least 1",
                              "block 2 B differs cycles 1 ours 1 least 1\n  output 1: 9 for 0\n"
@@ -285,14 +294,22 @@ LISTED = {
                        "  left out 4: loadI 6 => r1\n  see row 1: output 100000"),
 }
 
-# Each is line 4, after a claim.
-NOT_UNDERSTOOD = """\
-]|nop ]|; nop ]|A: [ nop ; nop ]|block|block 1|( nop ; nop )|/ [ nop ; nop ]|\x00[ nop ; nop ]
-block1 a|block 1a|block a 1|block 1 --|block 1 9|block 1 a b|block -1 a|cycles|cycles5|cycles -5|cycles 5 5|total
-total: 5|Cycles 5|block 1 a cycles 5|block a|block 1 1a|cycles nine
-output 0|nop|b:""".replace("\n", "|").split("|")
-# Rows that can't be read, with what is wanted where each stops, and what is found there.
-UNREAD = {
+# Lines among rows that can't be read, with what is wanted where each stops, and what is found there. Those of a block alone
+# would be read before the first row.
+OF_A_BLOCK = {"output 0": ("[", "output"), "nop": ("[", "nop"), "b:": ("[", "b")}
+STRAY = {
+    "hello": ("[", "hello"), "0: [ nop ; nop ]": ("[", "0"), "A: [ nop ; nop ]": ("[", "A"), "cycle 1: [ nop ; nop ]": ("[", "cycle"),
+    "]": ("[", "]"), "nop ]": ("[", "nop"), "; nop ]": ("[", ";"), "( nop ; nop )": ("[", "("), "/ [ nop ; nop ]": ("[", "/"),
+    "\x00[ nop ; nop ]": ("[", "?"), "\xff\xfe[ nop ; nop ]": ("[", "?"), "add r1, r2 => r3": ("[", "add"), "- - -": ("[", "-"),
+    "block": ("a number", "end of line"), "block 1": ("a name or -", "end of line"), "block1 a": ("[", "block1"),
+    "block 1a": ("a blank", "a"), "block a 1": ("a number", "a"), "block 1 --": ("end of line", "-"),
+    "block 1 9": ("a name or -", "9"), "block 1 a b": ("end of line", "b"), "block -1 a": ("a number", "-"),
+    "block a": ("a number", "a"), "block 1 1a": ("a name or -", "1a"), "block 1 a cycles 5": ("end of line", "cycles"),
+    "cycles": ("a number", "end of line"), "cycles5": ("[", "cycles5"), "cycles -5": ("a number", "-"),
+    "cycles 5 5": ("end of line", "5"), "cycles nine": ("a number", "nine"), "cycles: 5": ("a number", ":"),
+    "Cycles 5": ("[", "Cycles"), "total": ("a number", "end of line"), "total: 5": ("a number", ":"),
+}
+UNREAD = STRAY | OF_A_BLOCK | {
     "[": ("an operation", "end of line"),
     "[ nop ; nop": ("]", "end of line"),
     "[ nop ; nop ; nop ]": ("]", ";"),
@@ -330,28 +347,38 @@ UNREAD = {
     "[ nop ; add r1 => r2 ]": ("a comma", "=>"),
     "[ a_word_of_21_letters_ ]": ("an operation", "a_word_of_21_letters"),
 }
-TOO_LARGE = ["block 2147483648 b", "block 99999999999999999999 a", "cycles 2147483648", "total 4294967296 // wide"]
-TOO_LARGE_ROWS = {"[ output 2147483648 ; nop ]": "2147483648", "[ output 2147483648 ]": "2147483648",
-                  "[ ; multI r1, 2147483648 => r1 ]": "2147483648", "[ nop ; loadI 1 => r2147483648 ]": "r2147483648"}
-# Each text is of two blocks, and the second is judged beside the first, of which a row can't be read.
+TOO_LARGE = {"block 2147483648 b": "2147483648", "block 99999999999999999999 a": "99999999999999999999",
+             "cycles 2147483648": "2147483648", "total 4294967296 // wide": "4294967296",
+             "[ output 2147483648 ; nop ]": "2147483648", "[ output 2147483648 ]": "2147483648",
+             "[ ; multI r1, 2147483648 => r1 ]": "2147483648", "[ nop ; loadI 1 => r2147483648 ]": "r2147483648"}
+# Each text is of two blocks, and the second is judged beside the first, among whose rows a line can't be read.
 UNREAD_FIRST = "a: output 4\nb: output 4\nblock 1 a\n"
 THEN_LAWFUL = "block 2 b\n[ output 4 ]\n"
 UNREAD_ROWS = {
-    "alone": ("[ output 4", 0, 0), "first": ("[ output 4\n[ output 4 ]", 0, 2), "last": ("[ output 4 ]\n\n// 9\n[ output 4", 1, 1),
-    "two": ("[ nop ]\n[ output 4 ]\ntotal 3\n[ output 4\n[ output", 2, 2),
-    "breaks_the_units": ("[ output 4\n[ output 4 ; output 4 ]", 0, 2), "too_large": ("[ output 4 ]\n[ output 2147483648 ]", 1, 1),
+    "alone": ("[ output 4", 4, 0, 0, "; or ]", "end of line"),
+    "first": ("[ output 4\n[ output 4 ]", 4, 0, 2, "; or ]", "end of line"),
+    "last": ("[ output 4 ]\n\n// 9\n[ output 4", 7, 1, 1, "; or ]", "end of line"),
+    "two": ("[ nop ]\n[ output 4 ]\ntotal 3\n[ output 4\n[ output", 7, 2, 2, "; or ]", "end of line"),
+    "breaks_the_units": ("[ output 4\n[ output 4 ; output 4 ]", 4, 0, 2, "; or ]", "end of line"),
+    "too_large": ("[ output 4 ]\n[ output 2147483648 ]", 5, 1, 1, "a number up to 2147483647", "2147483648"),
+    "stray": ("[ output 4 ]\n\nhello\n[ output 4", 6, 1, 1, "[", "hello"),
+    "operation": ("output 4\n[ output 4 ]", 4, 0, 2, "[", "output"),
+    "numbered": ("0: [ output 4 ]\n1: [ nop ]", 4, 0, 0, "[", "0"),
+    "misspelled_claim": ("[ output 4 ]\ncycles: 1\n// 9", 5, 1, 1, "a number", ":"),
 }
 # The last line of each is the third.
 NO_BLOCK = ["a:\nb:\n[ nop ; nop ]", "a:\nb:\ncycles 0", "a:\n[ nop ; nop ]\nblock 1 a", "a:\ncycles 0\nblock 1 a", "a:\nb:\nblock 0 a",
             "a:\nb:\nblock 3 c", "a:\nb:\nblock 1 b", "a:\nb:\nblock 1 -", "nop\nb:\nblock 1 a",
             "a:\nblock 1 a\nblock 1 a", "a:\nb:\nblock 2147483647 a", "a:\nb:\nblock 1 A", "a:\nb:\nblock 1 ab",
-            "a:\nb:\nblock 65535 a", "a:\nb:\n[ output 2147483648 ]", "a:\n[ output 2147483648 ]\nblock 1 a"]
+            "a:\nb:\nblock 65535 a", "a:\n[ output 2147483648 ]\nblock 1 a", "a:\ncycles 2147483648\nblock 1 a"]
+# The last line of each can't be read, and is of no block.
+UNREAD_OF_NONE = ["a:\nb:\n[ output 2147483648 ]", "a:\nb:\ncycles 2147483648", "a:\nb:\nblock 2147483648 b", "a:\nb:\n[ nop\nblock 1 a"]
 BAD, LARGE, NONE = "not understood", "number above 2147483647", NO_SUCH_BLOCK
 NOTHING_TO_JUDGE = ["", "\n", "// none", "total 0\n", "// none\n\ntotal 7 // seven", "[ nop ; nop ]", "block 1 a\ncycles 0",
                     "\ncycles 0\n", "block 99999999999 a", "[ output 2147483648 ; nop ]", "[ nop ; nop ]\n[ nop ]"]
 # The text, the line of its earliest fault, and the fault.
 EARLIEST = [("a:\nb:\nblock 2 b\n[ nop ; nop ]\nblock 1 a", 5, NONE), ("add r1 r2 => r3\n[ nop ; nop ]\nfoo", 1, BAD),
-            ("a:\nfoo\nblock 2 a\n", 2, BAD), ("a:\ncycles 1\nfoo\ncycles 99999999999", 3, BAD),
+            ("a:\nfoo\nblock 2 a\n", 2, BAD), ("a:\nb:\ntotal 1\nfoo\nblock 3 c", 4, BAD), ("a:\ncycles 1\nfoo\nblock 3 c", 4, NONE),
             ("a:\noutput 2147483648\nfoo\n[ nop ; nop ]", 2, LARGE)]
 
 
@@ -463,7 +490,7 @@ def judged_cases():
     yield judged("four_apart", LOADS_AND_STORES + spread(LOADS_AND_STORES, 4), "differs",
                  "output 1: 2 for 0 with --at 1032 2")
     yield judged("product_on_unit_0", SQUARE + spread(SQUARE, product_unit=0), "units",
-                 "row 12: [ mult r2, r2 => r3 ; nop ]")
+                 "row 12: [ mult r2, r2 => r3 ; nop ]: a product on unit 0")
     yield from (listed(f"listed_{name}", *it) for name, it in LISTED.items())
     yield Run("judged/our_rows_for_two_outputs", ["schedule"], b"output 0\noutput 4\n",
                b"block 1 -\n[ output 0 ; nop ]\n[ output 4 ; nop ]\ncycles 2\ntotal 2\n", b"", 0)
@@ -473,18 +500,14 @@ def judged_cases():
 
 
 def refusals():
-    for line in NOT_UNDERSTOOD:
-        yield refused(f"not_understood: {line}", f"a:\noutput 0\ncycles 1\n{line}", f"line 4: {BAD}")
-    for line in NOT_UNDERSTOOD[:-3]:
-        yield refused(f"not_understood_at_once: {line}", f"a: output 0\n{line}", f"line 2: {BAD}")
     for words in (["--at", "2"], ["--at", "6", "--mult", "2"]):
         yield Run(f"judged/bad_start_{words[1]}", ["check", *words], b"a:", b"", b"ilocfarm: --at is not a multiple of 4\n", 2)
     for words in (["--workers", "2"], ["--load", "0"], ["--store", "17"], ["4294967296"]):
         yield Run(f"judged/refused_words_{'_'.join(words)}", ["check", *words], b"a:", b"", None, 2)
-    for line in UNREAD:
+    for line in UNREAD.keys() - OF_A_BLOCK.keys() - {"add r1, r2 => r3"}:
         yield refused(f"unread_at_once: {line!r}", f"a: output 0\n{line}", f"line 2: {BAD}")
-    for line in TOO_LARGE:
-        yield refused(f"too_large: {line}", f"a:\n{line}", f"line 2: {LARGE}")
+    for text in UNREAD_OF_NONE:
+        yield refused(f"unread_of_none: {text!r}", text, f"line 3: {BAD}")
     for text in NO_BLOCK:
         yield refused(f"no_block: {text!r}", text, f"line 3: {NONE}")
     for text in NOTHING_TO_JUDGE:
@@ -498,19 +521,17 @@ def unread(name, text, out, *words):
 
 
 def unread_rows():
-    """A row that can't be read costs its block, and no other."""
+    """A line that can't be read costs its block, and no other."""
     for line, (wanted, found) in UNREAD.items():
         yield unread(repr(line), f"a:\noutput 0\ncycles 1\n{line}",
-                     f"block 1 a unread cycles 0 ours 1 least 1 claimed 1\n  row 0: expected {wanted}, found {found}\n"
+                     f"block 1 a unread cycles 0 ours 1 least 1 claimed 1\n  line 4, row 0: expected {wanted}, found {found}\n"
                      "total 0 ours 1 least 1\n")
-    for line, found in TOO_LARGE_ROWS.items():
+    for line, found in TOO_LARGE.items():
         yield unread(repr(line), f"a:\n{line}", "block 1 a unread cycles 0 ours 0 least 0\n"
-                     f"  row 0: expected a number up to 2147483647, found {found}\ntotal 0 ours 0 least 0\n")
-    for name, (rows, row, cycles) in UNREAD_ROWS.items():
-        found = "2147483648" if "2147483648" in rows else "end of line"
-        wanted = "a number up to 2147483647" if "2147483648" in rows else "; or ]"
+                     f"  line 2, row 0: expected a number up to 2147483647, found {found}\ntotal 0 ours 0 least 0\n")
+    for name, (rows, line, row, cycles, wanted, found) in UNREAD_ROWS.items():
         text = f"{UNREAD_FIRST}{rows}\n{THEN_LAWFUL}"
-        out = (f"block 1 a unread cycles {cycles} ours 1 least 1\n  row {row}: expected {wanted}, found {found}\n"
+        out = (f"block 1 a unread cycles {cycles} ours 1 least 1\n  line {line}, row {row}: expected {wanted}, found {found}\n"
                f"block 2 b lawful cycles 1 ours 1 least 1\ntotal {cycles + 1} ours 2 least 2\n")
         for words in ([], ["--lawful"], ["--either-slot"]):
             yield unread("_".join([name, *words]), text, out, *words)
@@ -526,7 +547,7 @@ def at_the_limits():
          f"  added {MOST_OPERATIONS}: row 0: output 0\n" + like_none + f"  and {MOST_OPERATIONS - MOST_FACTS} more")
     yield listed("most_operations", full + "[ nop ; nop ]", a, "block 2 b lawful cycles 0 ours 0 least 0")
     yield listed("most_operations_of_one", full + "block 2 b\n[ output 0 ; output 0 ]", a,
-                 "block 2 b units cycles 1 ours 0 least 0\n  row 0: [ output 0 ; output 0 ]")
+                 "block 2 b units cycles 1 ours 0 least 0\n  row 0: [ output 0 ; output 0 ]: two outputs")
     yield refused("one_operation_too_many", full + "[ output 0 ; nop ]", many)
     yield refused("two_operations_too_many", full + "[ output 0 ; output 0 ]", many)
     yield refused("too_many_in_the_second_block", full.replace("block 1 a", "block 2 b") + "[ output 0 ; nop ]", many)

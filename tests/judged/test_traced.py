@@ -12,7 +12,7 @@ from judged.test_rows import LISTED
 from judged.test_students import EACH_LATENCIES, LINES, WORDS, given_blocks, ours
 from oracle.drawn import made_block
 from oracle.judge import AT, proposed
-from oracle.machine import bad_row, row_text, words_from
+from oracle.machine import bad_row, bad_row_text, words_from
 from oracle.operations import text_of, words_for
 from oracle.scheduler import Schedule
 from oracle.trace import trace
@@ -22,7 +22,7 @@ A_FILE = 20     # blocks
 SEEDS, ALL_SEEDS = 2, 20
 PASSED, FAILED = 0, 5
 # What `check` has below a verdict on rows that aren't traced.
-UNTRACED = re.compile(rb"^block .* (?:unread|units) cycles .*\n(  row .*)", re.M)
+UNTRACED = re.compile(rb"^block .* (?:unread|units) cycles .*\n(  (?:line|row) .*)", re.M)
 # Ben's rows with 3 and 4 from 1024 on: he reads r2 a cycle before the load of it arrives.
 BEN = b"""\
 block 1 both
@@ -49,7 +49,7 @@ def entry(number, rows, latencies):
     """The entry of a block, and whether its rows are traced."""
     bad = bad_row(rows)
     if bad is not None:
-        return [f"block {number} B{number}", f"  row {bad}: {row_text(rows[bad])}"], False
+        return [f"block {number} B{number}", f"  row {bad}: {bad_row_text(rows[bad])}"], False
     return [f"block {number} B{number}", *trace(rows, latencies, words_from(AT, WORDS))], True
 
 
@@ -126,7 +126,7 @@ def in_either_slot():
     task, rows = b"loadI 4 => r0\nload r0 => r1\n", b"[ loadI 4 => r0 ; nop ]\n[ nop ; load r0 => r1 ]\n"
     words = ["trace", "--task", stored("either.iloc", task)]
     refused, taken = ending(words, rows), ending([*words, "--either-slot"], rows)
-    if refused != (FAILED, b"block 1 -\n  row 1: [ nop ; load r0 => r1 ]\n", b""):
+    if refused != (FAILED, b"block 1 -\n  row 1: [ nop ; load r0 => r1 ]: a load or store on unit 1\n", b""):
         yield told(refused)
     if taken[0] != PASSED or b"issue 1 unit 0 load r0 => r1 reads r0 = 4, word 4 = 0\n" not in taken[1]:
         yield told(taken)

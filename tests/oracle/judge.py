@@ -1,8 +1,8 @@
 """What `check` must say of schedules that others made.
 
 What is right is worked out anew: texts are read by reader.py, rows and blocks are run on machine.py, our cycles and
-the least ones come of scheduler.py, and what is by the book of book.py. So `unread` has to be said exactly of blocks with a row
-that can't be read, with the number of the first one, `lawful` has to be said exactly of rows by the book, `void` of blocks that
+the least ones come of scheduler.py, and what is by the book of book.py. So `unread` has to be said exactly of blocks with a line
+that can't be read, with the place of the first one, `lawful` has to be said exactly of rows by the book, `void` of blocks that
 fault or show nothing, a verdict may never be `same` or, with `--outputs`, `prints` where a run differs on some memory,
 `differs` has to name the place that differs, what is said of rows that aren't by the book has to be so under some pairing,
 and schedules of the kinds in students.py that are right have to be found so.
@@ -13,7 +13,7 @@ from functools import cache
 from harness.program import told
 from limits import WORDS
 from oracle import book
-from oracle.machine import Fault, Machine, bad_row, cycles, difference, memories, row_text, words_from
+from oracle.machine import Fault, Machine, bad_row, bad_row_text, cycles, difference, memories, row_text, words_from
 from oracle.operations import words_for
 from oracle.reader import NoBlocks, Refused, read
 from oracle.scheduler import Schedule
@@ -87,7 +87,7 @@ class Entry:
     def settled(self):
         """Verdict and first line below, where the units, the book or the memory asked for decide; else None."""
         if self.bad is not None:
-            return "units", f"row {self.bad}: {row_text(self.block.rows[self.bad])}"
+            return "units", f"row {self.bad}: {bad_row_text(self.block.rows[self.bad])}"
         if self.is_lawful:
             return "lawful", None
         return ("void", self.void) if self.void else ("differs", self.place) if self.place else None
@@ -101,8 +101,12 @@ class Entry:
         if got[0].decode() != self.text(verdict, *below):
             yield f"{got[0]!r} in place of {self.text('..')!r}"
         if self.block.unread is not None or verdict == "unread":
-            yield from self.wrong_row(got, verdict, below)
+            yield from self.wrong_line(got, verdict, below)
             return
+        none = [] if self.block.rows or self.is_lawful else ["no rows"]
+        if below[:len(none)] != none:
+            yield f"{got[0]!r} doesn't say that there are no rows"
+        below = below[len(none):]
         due, line = self.settled() or (None, None)
         first = [below.pop(0)] if below and (line or not due and verdict == "differs") else []
         if due and (verdict, first) != (due, [line] if line else []):
@@ -112,11 +116,11 @@ class Entry:
         if not self.says_why(below):
             yield f"{got[0]!r} doesn't say why the rows aren't by the book"
 
-    def wrong_row(self, got, verdict, below):
-        """What is wrong with an entry of rows of which one can't be read, or that says that one can't."""
-        told = len(below) == 1 and re.fullmatch(r"row (\d+): expected [^,]+, found .+", below[0])
-        if verdict != "unread" or not told or int(told[1]) != self.block.unread:
-            yield f"{got[0]!r}, where row {self.block.unread} can't be read"
+    def wrong_line(self, got, verdict, below):
+        """What is wrong with an entry of rows among which a line can't be read, or that says that one can't."""
+        told = len(below) == 1 and re.fullmatch(r"line (\d+), row (\d+): expected [^,]+, found .+", below[0])
+        if verdict != "unread" or not told or (int(told[1]), int(told[2])) != self.block.unread:
+            yield f"{got[0]!r}, where line and row {self.block.unread} can't be read"
 
     def says_why(self, lines):
         """Whether lines say why the rows aren't by the book, all that has to be said. Nothing is said of rows that are, or that

@@ -126,6 +126,15 @@ def row_text(row):
     return "[ {} ; {} ]".format(*(op or "nop" for op in row))
 
 
+def bad_row_text(row):
+    """A row that breaks the rules of the units, and the first rule that it breaks."""
+    zero, one = (op and {"load": "load or store", "store": "load or store", "mult": "product", "output": "output"}.get(op.kind)
+                 for op in row)
+    if zero and zero == one:
+        return f"{row_text(row)}: two {' or '.join(f'{it}s' for it in zero.split(' or '))}"
+    return f"{row_text(row)}: a {'product on unit 0' if zero == 'product' else 'load or store on unit 1'}"
+
+
 def words_from(at, words):
     """The memory that `--at` and words ask for."""
     first, count = at // 4, len(words)

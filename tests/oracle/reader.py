@@ -40,7 +40,7 @@ class Block:
     rows: list = field(default_factory=list)
     issued: int = 0     # operations in the rows
     claim: int = None
-    unread: int = None  # the first row that can't be read, from 0
+    unread: tuple = None    # the number of the first line that can't be read, and how many rows precede it
 
 
 def operation_of(text):
@@ -90,19 +90,19 @@ def plain_line(text):
 
 class Reader:
     def __init__(self):
-        self.blocks, self.head, self.is_behind = [], 0, False
+        self.blocks, self.head, self.is_behind, self.number = [], 0, False, 0
 
     def read(self, text):
         """The blocks of the text, or Refused."""
         if len(text) > MOST_BYTES:
             raise Refused(f"input longer than {MOST_BYTES} bytes")
-        for number, line in enumerate(text.split(b"\n"), 1):
+        for self.number, line in enumerate(text.split(b"\n"), 1):
             try:
                 self.line(line.split(b"//")[0].strip(BLANKS))
             except NoBlocks:
                 raise
             except Refused as why:
-                raise Refused(f"line {number}: {why}") from None
+                raise Refused(f"line {self.number}: {why}") from None
         return self.blocks
 
     def line(self, text):
@@ -110,12 +110,10 @@ class Reader:
         if found and not self.blocks:
             raise NoBlocks("no blocks")
         self.is_behind = self.is_behind or found is not None
-        if self.is_behind and text[:1] == b"[" and (not found or is_too_large(*found)):
+        if self.is_behind and text and (not found or is_too_large(*found)):
             self.issue_unread()
         elif found:
             self.schedule_line(*found)
-        elif self.is_behind and text:
-            raise Refused("not understood")
         elif text:
             self.block_line(*plain_line(text))
 
@@ -129,8 +127,6 @@ class Reader:
             few(len(self.blocks[-1].ops))
 
     def schedule_line(self, kind, said):
-        if is_too_large(kind, said):
-            raise Refused(f"number above {MAX_NUMBER}")
         if kind == "head":
             self.start(*said)
         elif kind == "cycles":
@@ -143,17 +139,17 @@ class Reader:
             raise Refused(NO_SUCH_BLOCK)
         self.head = number
 
-    def current(self):
+    def current(self, fault=NO_SUCH_BLOCK):
         if not self.head and len(self.blocks) != 1:
-            raise Refused(NO_SUCH_BLOCK)
+            raise Refused(fault)
         self.head = self.head or 1
         return self.blocks[self.head - 1]
 
     def issue_unread(self):
-        """A row that can't be read stands as an empty one."""
-        block = self.current()
+        """A line that can't be read stands as an empty row."""
+        block = self.current("not understood")
+        block.unread = block.unread or (self.number, len(block.rows))
         block.rows.append([None, None])
-        block.unread = len(block.rows) - 1 if block.unread is None else block.unread
 
     def issue(self, row):
         block = self.current()

@@ -10,6 +10,7 @@ pub mod Json
 pub mod Kept
 pub mod Reasons
 pub mod RowsExplained
+pub mod UnitRule
 pub mod Verdict
 pub mod Void
 pub mod Steps

@@ -1,5 +1,5 @@
 -- What is listed of a block's rows, behind the block's head.
-use Rattle.std.specs.Prelude.{ℕ, ℤ, ◌+◌, ◌==◌, if◌then◌else◌, Bool, true, false, List, [], ◌++◌, Option, Some, None, codes}
+use Rattle.std.specs.Prelude.{ℕ, ℤ, ◌+◌, ◌==◌, if◌then◌else◌, Bool, true, false, List, [], ◌∷◌, ◌++◌, Option, Some, None, codes}
 use Rattle.std.specs.List.{flat_map}
 use Rattle.std.specs.Fmt.{decimal, signed_decimal}
 use Rattle.iloc_ops.specs.declared.op.Op.{Op}
@@ -7,7 +7,7 @@ use Rattle.iloc_ops.specs.Columns.{column}
 use Rattle.iloc_ops.specs.Spelling.{spelling}
 use Rattle.iloc_timed.specs.declared.row.Row.{Row}
 use Rattle.iloc_timed.specs.Rows.{row_at}
-use Rattle.iloc_timed.specs.Spelling.{row_line}
+use Rattle.iloc_timed.specs.Spelling.{row_spelling}
 use Rattle.iloc_judge.specs.declared.comparison.Comparison.{Comparison}
 use Rattle.iloc_judge.specs.declared.comparison.Comparison.TheVariants as of
 use Rattle.iloc_judge.specs.declared.difference.Difference.{Difference}
@@ -21,6 +21,7 @@ use Rattle.iloc_judge.specs.declared.void.Void.{Void}
 use Rattle.iloc_judge.specs.declared.void.Void.TheVariants.{Faults, ShowsNothing}
 use Rattle.iloc_judge.specs.declared.checked.Checked.{Checked}
 use Rattle.iloc_judge.specs.Reasons.{reasons_told}
+use Rattle.iloc_judge.specs.UnitRule.{broken_rule, rule_told}
 
 -- The line of the verdict
 
@@ -101,9 +102,16 @@ comparison_told (of.DiffersOn probe difference) = difference_told difference ++ 
 
 -- All of a verdict
 
--- `row N: [ X ; Y ]`, counted from 0 as cycles are
+-- `row N: [ X ; Y ]`, counted from 0 as cycles are, and the first rule that it breaks
 abbrev pub bad_row : List Op → List Row → ℕ → List ℕ
-bad_row ops rows c = codes "  row " ++ decimal c ++ codes ": " ++ row_line ops (row_at rows c)
+bad_row ops rows c =
+    codes "  row " ++ decimal c ++ codes ": " ++ row_spelling ops (row_at rows c) ++ rule_told (broken_rule ops (row_at rows c))
+    ++ codes "\n"
+
+-- that there are no rows, where there are none
+abbrev pub no_rows_told : List Row → List ℕ
+no_rows_told [] = codes "  no rows\n"
+no_rows_told (row ∷ rows) = []
 
 -- that it isn't decided whether rows are by the book, unless this is the verdict
 abbrev pub undecided_told : Bool → List ℕ
@@ -115,8 +123,8 @@ undecided_told false = codes "  undecided\n"
 abbrev pub detail : Bool → List Op → List Row → Verdict → List ℕ
 detail lawful ops rows (Units c) = bad_row ops rows c
 detail lawful ops rows Lawful = []
-detail lawful ops rows (Unlawful reasons found) = comparison_told found ++ reasons_told reasons
-detail lawful ops rows (Undecided found) = comparison_told found ++ undecided_told lawful
+detail lawful ops rows (Unlawful reasons found) = no_rows_told rows ++ comparison_told found ++ reasons_told reasons
+detail lawful ops rows (Undecided found) = no_rows_told rows ++ comparison_told found ++ undecided_told lawful
 
 -- the line of the verdict, for which these cycles are claimed, with what is said below it
 abbrev pub lines_of : Bool → Option ℕ → List Op → List Row → Verdict → Checked → List ℕ

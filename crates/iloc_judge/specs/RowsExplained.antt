@@ -18,7 +18,7 @@ use Rattle.iloc_reasons.specs.Reasons.{AreReasons}
 use Rattle.iloc_judge.specs.declared.explained.ExplainedRows.{ExplainedRows}
 use Rattle.iloc_judge.specs.Listing.{bad_row}
 use Rattle.iloc_judge.specs.Reasons.{reasons_told}
-use Rattle.iloc_judge.specs.Unread.{unread_told}
+use Rattle.iloc_judge.specs.Unread.{IsUnreadLine}
 
 -- Rows by the book are explained by the block's own operations in their slots, beside which the lines show what is issued.
 pub record AreExplainedBy (heuristic : Heuristic) (lat : Latencies) (block ops : List Op) (rows : List Row) (text : List ℕ)
@@ -57,16 +57,17 @@ IsSaidOf true heuristic lat block ops rows text = AreExplainedBy heuristic lat b
 IsSaidOf false heuristic lat block ops rows text =
     BreakUnits ops rows text ⊎ (AreUnlawful lat block ops rows text ⊎ AreUndecided ops rows text)
 
--- this is said of a row that can't be read: its number, and some words
-pub record HaveUnread (row : ℕ) (text : List ℕ) : Type 0 where
-  pub words : List ℕ
-  pub listed : text ≡ not_lawful (unread_told row words)
+-- this is said of rows among which this line can't be read
+pub record HaveUnread (unread : Unread) (text : List ℕ) : Type 0 where
+  pub told : List ℕ
+  pub is_told : IsUnreadLine unread told
+  pub listed : text ≡ not_lawful told
 
--- what is said of rows, the first of which that can't be read is this one, if there is one
+-- what is said of rows, of which this is the first line that can't be read, if there is one
 abbrev pub IsSaidOfAll : Option Unread → Bool → Heuristic → Latencies → List Op → List Op → List Row → List ℕ → Type 0
 IsSaidOfAll None is_lawful heuristic lat block ops rows text = IsSaidOf is_lawful heuristic lat block ops rows text
 IsSaidOfAll (Some unread) true heuristic lat block ops rows text = ⊥
-IsSaidOfAll (Some unread) false heuristic lat block ops rows text = HaveUnread unread.row text
+IsSaidOfAll (Some unread) false heuristic lat block ops rows text = HaveUnread unread text
 
 -- Of what is proposed for a block this is found, and this text said. Rows that issue what our schedule issues are lawful, if all
 -- of them can be read.

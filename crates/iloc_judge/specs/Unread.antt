@@ -1,4 +1,4 @@
--- What is listed of rows of which one can't be read.
+-- What is listed of rows among which a line can't be read.
 use Rattle.std.specs.Prelude.{ℕ, ◌+◌, ◌≡◌, ◌==◌, not, false, Some, Option, List, ◌++◌, codes}
 use Rattle.std.specs.List.{filter}
 use Rattle.std.specs.Fmt.{decimal}
@@ -7,6 +7,7 @@ use Rattle.iloc_timed.specs.declared.latencies.Latencies.{Latencies}
 use Rattle.iloc_timed.specs.Schedule.{Table}
 use Rattle.iloc_rows.specs.declared.proposal.Proposed.{Proposed}
 use Rattle.iloc_rows.specs.declared.proposal.unread.Unread.{Unread}
+use Rattle.iloc_lint.specs.Row.{IsRowWording}
 use Rattle.iloc_judge.specs.declared.checked.Checked.{Checked}
 use Rattle.iloc_judge.specs.declared.verdict.kind.VerdictKind.TheVariants as kind
 use Rattle.iloc_judge.specs.declared.task.Form.{Form}
@@ -19,25 +20,35 @@ use Rattle.iloc_judge.specs.Listing.{line_of, row_of}
 abbrev pub in_one_line : List ℕ → List ℕ
 in_one_line words = filter (λ byte. not (byte == 10)) words
 
--- `row N: ` and some words, where rows count from 0
-abbrev pub unread_told : ℕ → List ℕ → List ℕ
-unread_told row words = codes "  row " ++ decimal row ++ codes ": " ++ in_one_line words ++ codes "\n"
+-- `line L, row N: ` and some words, where lines count from 1, and rows from 0
+abbrev pub unread_told : Unread → List ℕ → List ℕ
+unread_told unread words =
+    codes "  line " ++ decimal unread.line ++ codes ", row " ++ decimal unread.row ++ codes ": " ++ in_one_line words
+    ++ codes "\n"
+
+-- this says of a line that can't be read where it is and, in words, what is found at a place of its text
+pub record IsUnreadLine (unread : Unread) (told : List ℕ) : Type 0 where
+  pub words : List ℕ
+  pub are_words : IsRowWording unread.text words
+  pub listed : told ≡ unread_told unread words
 
 abbrev pub unread_lines : Checked → Option ℕ → Unread → List ℕ → List ℕ
-unread_lines checked claimed unread words = line_of checked claimed ++ unread_told unread.row words
+unread_lines checked claimed unread words = line_of checked claimed ++ unread_told unread words
 
--- the line of the verdict `unread` with one for the row below it, a row of a table, or a line of JSON
+-- the line of the verdict `unread` with one for the line below it, a row of a table, or a line of JSON
 abbrev pub unread_as : Form → Checked → Option ℕ → Unread → List ℕ → List ℕ
 unread_as forms.Lines checked claimed unread words = unread_lines checked claimed unread words
 unread_as forms.Table checked claimed unread words = row_of checked claimed
-unread_as forms.Json checked claimed unread words = unread_json_of claimed unread.row unread.text words checked
+unread_as forms.Json checked claimed unread words = unread_json_of claimed unread words checked
 
--- This is the first row of what is proposed for a block that can't be read, this is found of it, and this entry listed in this
--- form. Its cycles are those of its rows, where what can't be read is empty.
+-- This is the first line of what is proposed for a block that can't be read, this is found of it, and this entry listed in this
+-- form, with words for what is found at a place of its text. Its cycles are those of its rows, where what can't be read is an
+-- empty one.
 pub record IsUnread (form : Form) (lat : Latencies) (block : List Op) (ours : Table) (proposal : Proposed)
     (checked : Checked) (entry : List ℕ) : Type 0 where
   pub unread : Unread
   pub first : proposal.unread ≡ Some unread
   pub is_found : checked ≡ found kind.Unread false lat block ours proposal
   pub words : List ℕ
+  pub are_words : IsRowWording unread.text words
   pub listed : entry ≡ unread_as form checked proposal.claimed unread words

@@ -10,6 +10,7 @@ ghost use Rattle.iloc_judge.specs.Steps.Counted.{CanBeListed};
 pub mod detail;
 mod kept;
 pub mod reason;
+mod unit_rule;
 pub(crate) mod verdict_line;
 
 use crate::comparison::Comparison;

@@ -9,7 +9,7 @@ ghost use Rattle.iloc_judge.specs.RowsExplained.{not_lawful, IsRowsExplanation, 
 use crate::checked::detail::push_bad_row;
 use crate::checked::reason::push_reasons;
 use crate::task::Task;
-use crate::unread::push_unread_row;
+use crate::unread::push_unread_line;
 use iloc_explain::push_explanation;
 use iloc_ops::{NoMemory, Op};
 use iloc_reasons::{Reasons, reasons_of};
@@ -45,13 +45,13 @@ fn push_why(text: &mut Vec<u8>, reasons: &Reasons) -> Result<(), NoMemory>
     push_reasons(text, reasons)
 }
 
-/// Appends that rows aren't lawful, and the first of them that can't be read.
+/// Appends that rows aren't lawful, and the first line among them that can't be read.
 fn push_unread_rows(alloc: Global, text: &mut Vec<u8>, unread: &Unread) -> Result<(), NoMemory>
-    ensures { OnOk result ((entry : List ℕ) × HaveUnread unread.now.row entry
+    ensures { OnOk result ((entry : List ℕ) × HaveUnread unread.now entry
         × (text.new.items ≡ text.old.items ++ entry)) }
 {
     text.extend_from_slice(b"  not lawful\n")?;
-    push_unread_row(alloc, text, unread)
+    push_unread_line(alloc, text, unread)
 }
 
 /// Appends what is said of a schedule that somebody made for a block, beside ours, and answers whether it is by the book.

@@ -26,7 +26,7 @@ pub use explained::{ExplainedRows, push_rows_explanation};
 pub use json::value::push_quoted;
 pub use refutation::probe::Probe;
 pub use task::{CheckOptions, Form, Judging, Task};
-pub use unread::{push_unread, push_unread_row};
+pub use unread::{push_unread, push_unread_line};
 pub use verdict::kind::VerdictKind;
 pub use verdict::{Verdict, judge};
 pub use void::Void;

@@ -1,6 +1,6 @@
-//! What is listed of rows of which one can't be read.
+//! What is listed of rows among which a line can't be read.
 ghost use Rattle.std.specs.Prelude.{ℕ, ◌≡◌, ◌++◌, List, Some, IfOk, OnOk};
-ghost use Rattle.iloc_judge.specs.Unread.{in_one_line, unread_as, unread_lines, unread_told, IsUnread};
+ghost use Rattle.iloc_judge.specs.Unread.{in_one_line, unread_as, unread_lines, unread_told, IsUnread, IsUnreadLine};
 
 use crate::checked::Checked;
 use crate::checked::verdict_line::{push_line, push_table_row};
@@ -25,27 +25,33 @@ fn push_in_one_line(text: &mut Vec<u8>, words: &[u8]) -> Result<(), NoMemory>
     Ok(())
 }
 
-/// Appends the line of a row, with what is said of it.
-fn push_told(text: &mut Vec<u8>, row: u32, words: &[u8]) -> Result<(), NoMemory>
-    ensures { OnOk result (text.new.items ≡ text.old.items ++ unread_told row words.now) }
+/// Appends where a line is that can't be read, with what is said of it.
+fn push_told(text: &mut Vec<u8>, unread: &Unread, words: &[u8]) -> Result<(), NoMemory>
+    ensures { OnOk result (text.new.items ≡ text.old.items ++ unread_told unread.now words.now) }
 {
-    text.extend_from_slice(b"  row ")?;
-    push_number(text, u64::from(row))?;
+    text.extend_from_slice(b"  line ")?;
+    push_number(text, u64::from(unread.line))?;
+    text.extend_from_slice(b", row ")?;
+    push_number(text, u64::from(unread.row))?;
     text.extend_from_slice(b": ")?;
     push_in_one_line(text, words)?;
     Ok(text.extend_from_slice(b"\n")?)
 }
 
-/// Promise: appends the line of a row that can't be read, with words for what is wrong with it, which aren't promised.
-pub fn push_unread_row(alloc: Global, text: &mut Vec<u8>, unread: &Unread) -> Result<(), NoMemory>
-    ensures { OnOk result ((words : List ℕ)
-        × (text.new.items ≡ text.old.items ++ unread_told unread.now.row words)) }
+/// Promise: appends where a line is that can't be read, with `row_wording`'s words for its text.
+pub fn push_unread_line(
+    alloc: Global,
+    text: &mut Vec<u8>,
+    unread: &Unread,
+) -> Result<(), NoMemory>
+    ensures { OnOk result ((told : List ℕ) × IsUnreadLine unread.now told
+        × (text.new.items ≡ text.old.items ++ told)) }
 {
     let words = row_wording(alloc, unread.text.as_bytes())?;
-    push_told(text, unread.row, &words)
+    push_told(text, unread, &words)
 }
 
-/// Appends the line of the verdict on rows of which this one can't be read, and the row's line.
+/// Appends the line of the verdict on rows among which this line can't be read, and what is said of it below.
 fn push_unread_lines(
     text: &mut Vec<u8>,
     checked: Checked,
@@ -57,10 +63,10 @@ fn push_unread_lines(
         ≡ text.old.items ++ unread_lines checked claimed unread.now words.now) }
 {
     push_line(text, checked, claimed)?;
-    push_told(text, unread.row, words)
+    push_told(text, unread, words)
 }
 
-/// Appends what is listed of rows of which this one can't be read, in this form.
+/// Appends what is listed of rows among which this line can't be read, in this form.
 fn push_unread_as(
     text: &mut Vec<u8>,
     form: Form,
@@ -79,15 +85,15 @@ fn push_unread_as(
     }
 }
 
-/// Appends what is listed of a proposal of which this is the first row that can't be read, beside our schedule of the block,
-/// after the block's head: the verdict `unread` with the cycles of the rows, ours and the least, and a line that says which
-/// row it is and, in words, what is wrong with it. In a table it is a row, with no lines below; in JSON it is one line that
-/// has all of it, and the row's text.
+/// Appends what is listed of a proposal of which this is the first line that can't be read, beside our schedule of the block,
+/// after the block's head: the verdict `unread` with the cycles of the rows, ours and the least, and a line that says where
+/// it is and, in words, what is wrong with it. In a table it is a row, with no lines below; in JSON it is one line that has
+/// all of it, and the text of what can't be read.
 ///
 /// After a refusal a part of it may have been appended.
 ///
-/// Promise: it doesn't pass, and what is listed are its cycles, where the row is empty, and the row's number. The words aren't
-/// promised.
+/// Promise: it doesn't pass, and what is listed are its cycles, where the line is an empty row, and its place and text, with
+/// `row_wording`'s words for it.
 pub fn push_unread(
     alloc: Global,
     text: &mut Vec<u8>,

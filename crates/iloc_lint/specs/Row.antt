@@ -1,4 +1,4 @@
--- What is said of a row of a schedule that can't be read.
+-- What is said of a line among the rows of a schedule that can't be read.
 use Rattle.std.specs.Prelude.{ℕ, ◌≡◌, ◌≢◌, ◌⊎◌, List, [], ◌++◌, codes, drop}
 use Rattle.iloc_lint.specs.Listing.{shown}
 

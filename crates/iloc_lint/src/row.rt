@@ -1,4 +1,4 @@
-//! What is wrong with a row of a schedule that can't be read, in words.
+//! What is wrong with a line among the rows of a schedule that can't be read, in words.
 ghost use Rattle.std.specs.Prelude.{ℕ, ◌<◌, ◌≤◌, IfErr, IfOk, drop, length};
 ghost use Rattle.iloc_lint.specs.Row.{IsLeft, IsNext, IsRowWording};
 
@@ -12,7 +12,7 @@ use std::alloc::Global;
 /// The longest part of a word that is shown.
 const MOST_SHOWN: usize = 20;
 
-/// Where a row stops: what is wanted, and the bytes from there on.
+/// Where a line stops: what is wanted, and the bytes from there on.
 #[derive(Clone, Copy)]
 struct Stop<'a> {
     wanted: &'static [u8],
@@ -132,23 +132,61 @@ fn slots_at(bytes: &[u8]) -> Result<&[u8], Stop<'_>>
     }
 }
 
-/// Where a row stops.
-fn stop_of(line: &[u8]) -> Stop<'_>
-    ensures { IsLeft line.now result.rest.now }
+/// What follows the name of a block, or where it stops.
+fn name_at(bytes: &[u8]) -> Result<&[u8], Stop<'_>>
+    ensures ok { IfOk result (λ rest. IsLeft bytes.now rest.now) }
+    ensures err { IfErr result (λ stop. IsLeft bytes.now stop.rest.now) }
 {
-    match after_blanks(line) {
-        [b'[', slots @ ..] => match slots_at(slots) {
-            Ok(rest) => Stop {
-                wanted: b"end of line",
-                rest,
-            },
-            Err(stop) => stop,
-        },
-        rest => Stop { wanted: b"[", rest },
+    let rest = after_blanks(bytes);
+    if rest.len() == bytes.len() && !rest.is_empty() {
+        return Err(Stop {
+            wanted: b"a blank",
+            rest,
+        });
+    }
+    match rest {
+        [b'-', after @ ..] => Ok(after),
+        [first, ..] if first.is_ascii_alphabetic() => Ok(&rest[word_at(rest)..]),
+        _ => Err(Stop {
+            wanted: b"a name or -",
+            rest,
+        }),
     }
 }
 
-/// What is wrong with a row that can't be read: what is wanted where its reading ends, and what is found there.
+/// What follows a row, a claim or a block's head, or where it stops.
+fn said_at(line: &[u8]) -> Result<&[u8], Stop<'_>>
+    ensures ok { IfOk result (λ rest. IsLeft line.now rest.now) }
+    ensures err { IfErr result (λ stop. IsLeft line.now stop.rest.now) }
+{
+    let rest = after_blanks(line);
+    if let [b'[', slots @ ..] = rest {
+        return slots_at(slots);
+    }
+    let (word, after) = rest.split_at(word_at(rest));
+    if word == b"cycles".as_slice() || word == b"total".as_slice() {
+        operands_at(Opcode::Output, after)
+    } else if word == b"block".as_slice() {
+        name_at(operands_at(Opcode::Output, after)?)
+    } else {
+        Err(Stop { wanted: b"[", rest })
+    }
+}
+
+/// Where a line stops.
+fn stop_of(line: &[u8]) -> Stop<'_>
+    ensures { IsLeft line.now result.rest.now }
+{
+    match said_at(line) {
+        Ok(rest) => Stop {
+            wanted: b"end of line",
+            rest,
+        },
+        Err(stop) => stop,
+    }
+}
+
+/// What is wrong with a line among rows that can't be read: what is wanted where its reading ends, and what is found there.
 ///
 /// Promise: this is `expected W, found F`, where F begins what is left of the line at some place, as bytes are shown, or is `end
 /// of line` where nothing is left. Which W and which place, isn't promised.

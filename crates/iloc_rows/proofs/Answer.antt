@@ -1,5 +1,5 @@
 -- A text has one answer.
-use Rattle.std.proofs.Common.{◌≡◌, ◌∙◌, ℕ, ◌+◌, ◌<◌, ◌≤◌, List, [], ◌∷◌, ◌++◌, length, refl, sym, ap, ap₂, subst, subst₂, ◌⊎◌, inl, inr, append_assoc, append-nil, arith}
+use Rattle.std.proofs.Common.{◌≡◌, ◌∙◌, ℕ, ◌+◌, ◌<◌, ◌≤◌, Bool, true, false, List, [], ◌∷◌, ◌++◌, length, refl, sym, ap, ap₂, subst, subst₂, ◌⊎◌, inl, inr, append_assoc, append-nil, arith}
 use Rattle.std.specs.List.{join_with_byte}
 use Rattle.iloc_ops.specs.Limits.{MAX_INPUT}
 use Rattle.iloc_ops.specs.declared.file.Block.{Block}
@@ -7,16 +7,15 @@ use Rattle.iloc_text.specs.declared.fault.ReadFault.{ReadFault}
 use Rattle.iloc_text.specs.declared.fault.ReadFault.TheVariants.{InputTooLong, BadLine, NumberTooLarge, TooManyBlocks, TooManyOperations, NoMemory}
 use Rattle.iloc_text.specs.Files as files
 use Rattle.iloc_text.specs.Files.{AreLines}
-use Rattle.iloc_text.specs.ScheduleLines.{SaysSomething, SaysSomethingWidely}
 use Rattle.iloc_text.proofs.Answer.{lines_are_of, one_answer}
 use Rattle.iloc_text.proofs.ScheduleLines.Says.{one_said}
 use Rattle.iloc_rows.specs.declared.fault.RowsFault.{RowsFault}
 use Rattle.iloc_rows.specs.declared.fault.RowsFault.TheVariants.{Read, NoBlocks, NoSuchBlock}
 use Rattle.iloc_rows.specs.declared.proposal.Proposed.{Proposed}
-use Rattle.iloc_rows.specs.Told.{Told, Tells, OpensRow}
+use Rattle.iloc_rows.specs.Told.{Told, Tells, is_unread}
 use Rattle.iloc_rows.specs.Told.Told.{read, unread}
 use Rattle.iloc_rows.specs.Proposing.{is_of_block, op_count, proposals_of, Fits, AllFit}
-use Rattle.iloc_rows.specs.Submissions.{TellAll, BlocksEnd, StartWithSchedule, Denotes, IsFaulty, HaveFirstFault, HasNoBlocks, BlocksAreRefused, RowsAreRefused, IsRefused}
+use Rattle.iloc_rows.specs.Submissions.{TellAll, BlocksEnd, StartWithSchedule, Denotes, IsOfNoBlock, HoldsTooManyOperations, IsFaulty, HaveFirstFault, HasNoBlocks, BlocksAreRefused, RowsAreRefused, IsRefused}
 use Rattle.iloc_rows.specs.Laws as laws
 
 -- Where the blocks end
@@ -40,98 +39,89 @@ same_split input b a c d l m h k =
 -- What lines tell
 
 -- a line tells one thing at most
-one_told : (line : List ℕ) (t t' : Told) → Tells line t → Tells line t' → t ≡ t'
-one_told line (read s) (read s') h k = ap read (one_said line s s' h k)
-one_told line (read s) (unread text) h k = absurd (k.2 (s, h))
-one_told line (unread text) (read s) h k = absurd (h.2 (s, k))
-one_told line (unread text) (unread text') h k = ap unread (h.0 ∙ sym k.0)
+one_told : (n : ℕ) (line : List ℕ) (t t' : Told) → Tells n line t → Tells n line t' → t ≡ t'
+one_told n line (read s) (read s') h k = ap read (one_said line s s' h k)
+one_told n line (read s) (unread m text) h k = absurd (k.2 (s, h))
+one_told n line (unread m text) (read s) h k = absurd (h.2 (s, k))
+one_told n line (unread m text) (unread m' text') h k = ap₂ unread (h.0 ∙ sym k.0) (h.1 ∙ sym k.1)
 
-same_told : (lines : List (List ℕ)) (ss ts : List Told) → TellAll lines ss → TellAll lines ts → ss ≡ ts
-same_told [] [] [] h k = refl
-same_told [] [] (t ∷ ts) h k = absurd k
-same_told [] (s ∷ ss) ts h k = absurd h
-same_told (l ∷ ls) [] ts h k = absurd h
-same_told (l ∷ ls) (s ∷ ss) [] h k = absurd k
-same_told (l ∷ ls) (s ∷ ss) (t ∷ ts) h k = ap₂ (λ x xs. x ∷ xs) (one_told l s t h.0 k.0) (same_told ls ss ts h.1 k.1)
-
--- a line that tells something opens a row or says it
-tells_widely : (line : List ℕ) (t : Told) → Tells line t → (OpensRow line → ⊥) → SaysSomethingWidely line
-tells_widely line (read s) h none = (s, h.0)
-tells_widely line (unread text) h none = absurd (none h.1)
-
-tells_within : (line : List ℕ) (t : Told) → Tells line t → (OpensRow line → ⊥) → SaysSomething line
-tells_within line (read s) h none = (s, h)
-tells_within line (unread text) h none = absurd (none h.1)
+same_told : (n : ℕ) (lines : List (List ℕ)) (ss ts : List Told) → TellAll n lines ss → TellAll n lines ts → ss ≡ ts
+same_told n [] [] [] h k = refl
+same_told n [] [] (t ∷ ts) h k = absurd k
+same_told n [] (s ∷ ss) ts h k = absurd h
+same_told n (l ∷ ls) [] ts h k = absurd h
+same_told n (l ∷ ls) (s ∷ ss) [] h k = absurd k
+same_told n (l ∷ ls) (s ∷ ss) (t ∷ ts) h k =
+    ap₂ (λ x xs. x ∷ xs) (one_told (n + 1) l s t h.0 k.0) (same_told (n + 1) ls ss ts h.1 k.1)
 
 -- Faults
 
+-- a line that is of no block is of none, whatever it tells
+of_none : {blocks : List Block} {ss : List Told} {line : List ℕ} {n : ℕ} {b : Bool} (s : Told) → Tells n line s
+    → IsOfNoBlock blocks ss line n b → is_of_block blocks ss s ≡ false
+of_none {blocks} {ss} {line} {n} {b} s h k =
+    ap (is_of_block blocks ss) (one_told n line s k.told h k.tells) ∙ k.of_none
+
+-- so it makes no operations of a block
+not_many : {blocks : List Block} {ss : List Told} {line : List ℕ} {n : ℕ} {b : Bool}
+    → HoldsTooManyOperations blocks ss line n → IsOfNoBlock blocks ss line n b → ⊥
+not_many {blocks} {ss} {line} {n} {b} h k =
+    let there = h.of_block in
+    let none = of_none h.told h.tells k in cc
+
+-- and it can be read or not
+not_both : {blocks : List Block} {ss : List Told} {line : List ℕ} {n : ℕ}
+    → IsOfNoBlock blocks ss line n true → IsOfNoBlock blocks ss line n false → ⊥
+not_both {blocks} {ss} {line} {n} h k =
+    let same = ap is_unread (one_told n line h.told k.told h.tells k.tells) in
+    let unread = h.is in
+    let read = k.is in cc
+
 -- a line that fits has no fault
-no_fault : (blocks : List Block) (ss : List Told) (line : List ℕ) (n : ℕ) (fault : RowsFault) (s : Told) → Tells line s
+no_fault : (blocks : List Block) (ss : List Told) (line : List ℕ) (n : ℕ) (fault : RowsFault) (s : Told) → Tells n line s
     → Fits blocks ss s → IsFaulty blocks ss line n fault → ⊥
 no_fault blocks ss line n (Read InputTooLong) s h f k = k
-no_fault blocks ss line n (Read (BadLine m)) s h f k = k.2 (tells_widely line s h k.1)
-no_fault blocks ss line n (Read (NumberTooLarge m)) s h f k = k.3 (tells_within line s h k.1)
+no_fault blocks ss line n (Read (BadLine m)) s h f k = let there = f.of_block in let none = of_none s h k.1 in cc
+no_fault blocks ss line n (Read (NumberTooLarge m)) s h f k = k
 no_fault blocks ss line n (Read (TooManyBlocks m)) s h f k = k
 no_fault blocks ss line n (Read (TooManyOperations m)) s h f k =
-    let same = ap (op_count ss) (one_told line s k.1.told h k.1.tells) in
+    let same = ap (op_count ss) (one_told n line s k.1.told h k.1.tells) in
     let few = f.few in
     let many = k.1.many in omega arith
 no_fault blocks ss line n (Read NoMemory) s h f k = k
 no_fault blocks ss line n NoBlocks s h f k = k
-no_fault blocks ss line n (NoSuchBlock m) s h f k =
-    let same = ap (is_of_block blocks ss) (one_told line s k.1.told h k.1.tells) in
-    let there = f.of_block in
-    let none = k.1.of_none in cc
+no_fault blocks ss line n (NoSuchBlock m) s h f k = let there = f.of_block in let none = of_none s h k.1 in cc
 
 -- one line has one fault at most
 same_fault : (blocks : List Block) (ss : List Told) (line : List ℕ) (n : ℕ) (fault fault' : RowsFault)
     → IsFaulty blocks ss line n fault → IsFaulty blocks ss line n fault' → fault ≡ fault'
 same_fault blocks ss line n (Read InputTooLong) g h k = absurd h
+same_fault blocks ss line n (Read (NumberTooLarge m)) g h k = absurd h
 same_fault blocks ss line n (Read (TooManyBlocks m)) g h k = absurd h
 same_fault blocks ss line n (Read NoMemory) g h k = absurd h
 same_fault blocks ss line n NoBlocks g h k = absurd h
 same_fault blocks ss line n (Read (BadLine m)) (Read (BadLine j)) h k = ap (λ i. Read (BadLine i)) (h.0 ∙ sym k.0)
-same_fault blocks ss line n (Read (BadLine m)) (Read (NumberTooLarge j)) h k = absurd (h.2 k.2)
-same_fault blocks ss line n (Read (BadLine m)) (Read (TooManyOperations j)) h k =
-    absurd (h.2 (tells_widely line k.1.told k.1.tells h.1))
-same_fault blocks ss line n (Read (BadLine m)) (NoSuchBlock j) h k = absurd (h.2 (tells_widely line k.1.told k.1.tells h.1))
+same_fault blocks ss line n (Read (BadLine m)) (Read (TooManyOperations j)) h k = absurd (not_many k.1 h.1)
+same_fault blocks ss line n (Read (BadLine m)) (NoSuchBlock j) h k = absurd (not_both h.1 k.1)
 same_fault blocks ss line n (Read (BadLine m)) (Read InputTooLong) h k = absurd k
+same_fault blocks ss line n (Read (BadLine m)) (Read (NumberTooLarge j)) h k = absurd k
 same_fault blocks ss line n (Read (BadLine m)) (Read (TooManyBlocks j)) h k = absurd k
 same_fault blocks ss line n (Read (BadLine m)) (Read NoMemory) h k = absurd k
 same_fault blocks ss line n (Read (BadLine m)) NoBlocks h k = absurd k
-same_fault blocks ss line n (Read (NumberTooLarge m)) (Read (BadLine j)) h k = absurd (k.2 h.2)
-same_fault blocks ss line n (Read (NumberTooLarge m)) (Read (NumberTooLarge j)) h k =
-    ap (λ i. Read (NumberTooLarge i)) (h.0 ∙ sym k.0)
-same_fault blocks ss line n (Read (NumberTooLarge m)) (Read (TooManyOperations j)) h k =
-    absurd (h.3 (tells_within line k.1.told k.1.tells h.1))
-same_fault blocks ss line n (Read (NumberTooLarge m)) (NoSuchBlock j) h k = absurd (h.3 (tells_within line k.1.told k.1.tells h.1))
-same_fault blocks ss line n (Read (NumberTooLarge m)) (Read InputTooLong) h k = absurd k
-same_fault blocks ss line n (Read (NumberTooLarge m)) (Read (TooManyBlocks j)) h k = absurd k
-same_fault blocks ss line n (Read (NumberTooLarge m)) (Read NoMemory) h k = absurd k
-same_fault blocks ss line n (Read (NumberTooLarge m)) NoBlocks h k = absurd k
-same_fault blocks ss line n (Read (TooManyOperations m)) (Read (BadLine j)) h k =
-    absurd (k.2 (tells_widely line h.1.told h.1.tells k.1))
-same_fault blocks ss line n (Read (TooManyOperations m)) (Read (NumberTooLarge j)) h k =
-    absurd (k.3 (tells_within line h.1.told h.1.tells k.1))
+same_fault blocks ss line n (Read (TooManyOperations m)) (Read (BadLine j)) h k = absurd (not_many h.1 k.1)
 same_fault blocks ss line n (Read (TooManyOperations m)) (Read (TooManyOperations j)) h k =
     ap (λ i. Read (TooManyOperations i)) (h.0 ∙ sym k.0)
-same_fault blocks ss line n (Read (TooManyOperations m)) (NoSuchBlock j) h k =
-    let same = ap (is_of_block blocks ss) (one_told line h.1.told k.1.told h.1.tells k.1.tells) in
-    let there = h.1.of_block in
-    let none = k.1.of_none in cc
+same_fault blocks ss line n (Read (TooManyOperations m)) (NoSuchBlock j) h k = absurd (not_many h.1 k.1)
 same_fault blocks ss line n (Read (TooManyOperations m)) (Read InputTooLong) h k = absurd k
+same_fault blocks ss line n (Read (TooManyOperations m)) (Read (NumberTooLarge j)) h k = absurd k
 same_fault blocks ss line n (Read (TooManyOperations m)) (Read (TooManyBlocks j)) h k = absurd k
 same_fault blocks ss line n (Read (TooManyOperations m)) (Read NoMemory) h k = absurd k
 same_fault blocks ss line n (Read (TooManyOperations m)) NoBlocks h k = absurd k
-same_fault blocks ss line n (NoSuchBlock m) (Read (BadLine j)) h k =
-    absurd (k.2 (tells_widely line h.1.told h.1.tells k.1))
-same_fault blocks ss line n (NoSuchBlock m) (Read (NumberTooLarge j)) h k = absurd (k.3 (tells_within line h.1.told h.1.tells k.1))
-same_fault blocks ss line n (NoSuchBlock m) (Read (TooManyOperations j)) h k =
-    let same = ap (is_of_block blocks ss) (one_told line h.1.told k.1.told h.1.tells k.1.tells) in
-    let none = h.1.of_none in
-    let there = k.1.of_block in cc
+same_fault blocks ss line n (NoSuchBlock m) (Read (BadLine j)) h k = absurd (not_both k.1 h.1)
+same_fault blocks ss line n (NoSuchBlock m) (Read (TooManyOperations j)) h k = absurd (not_many k.1 h.1)
 same_fault blocks ss line n (NoSuchBlock m) (NoSuchBlock j) h k = ap (λ i. NoSuchBlock i) (h.0 ∙ sym k.0)
 same_fault blocks ss line n (NoSuchBlock m) (Read InputTooLong) h k = absurd k
+same_fault blocks ss line n (NoSuchBlock m) (Read (NumberTooLarge j)) h k = absurd k
 same_fault blocks ss line n (NoSuchBlock m) (Read (TooManyBlocks j)) h k = absurd k
 same_fault blocks ss line n (NoSuchBlock m) (Read NoMemory) h k = absurd k
 same_fault blocks ss line n (NoSuchBlock m) NoBlocks h k = absurd k
@@ -140,7 +130,7 @@ same_fault blocks ss line n (NoSuchBlock m) NoBlocks h k = absurd k
 record Faulty (blocks : List Block) (front : List Told) (n : ℕ) (before : List (List ℕ)) (line : List ℕ)
     (fault : RowsFault) : Type 0 where
   told : List Told
-  tell : TellAll before told
+  tell : TellAll n before told
   fit : AllFit blocks front told
   faulty : IsFaulty blocks (front ++ told) line (n + length before + 1) fault
 
@@ -149,7 +139,7 @@ at_none : (blocks : List Block) (front : List Told) (n : ℕ) (line : List ℕ) 
     → Faulty blocks front n [] line fault → IsFaulty blocks front line (n + 1) fault
 at_none blocks front n line fault f = by f.told f.tell f.faulty
   where
-    by : (ss : List Told) → TellAll [] ss → IsFaulty blocks (front ++ ss) line (n + 0 + 1) fault
+    by : (ss : List Told) → TellAll n [] ss → IsFaulty blocks (front ++ ss) line (n + 0 + 1) fault
         → IsFaulty blocks front line (n + 1) fault
     by [] h k =
         let none : front ++ [] ≡ front = append-nil front in
@@ -159,12 +149,12 @@ at_none blocks front n line fault f = by f.told f.tell f.faulty
 
 at_some : (blocks : List Block) (front : List Told) (n : ℕ) (x : List ℕ) (xs : List (List ℕ)) (line : List ℕ)
     (fault : RowsFault) → Faulty blocks front n (x ∷ xs) line fault
-    → (s : Told) × Tells x s × Fits blocks front s × Faulty blocks (front ++ s ∷ []) (n + 1) xs line fault
+    → (s : Told) × Tells (n + 1) x s × Fits blocks front s × Faulty blocks (front ++ s ∷ []) (n + 1) xs line fault
 at_some blocks front n x xs line fault f = by f.told f.tell f.fit f.faulty
   where
-    by : (ss : List Told) → TellAll (x ∷ xs) ss → AllFit blocks front ss
+    by : (ss : List Told) → TellAll n (x ∷ xs) ss → AllFit blocks front ss
         → IsFaulty blocks (front ++ ss) line (n + length (x ∷ xs) + 1) fault
-        → (s : Told) × Tells x s × Fits blocks front s × Faulty blocks (front ++ s ∷ []) (n + 1) xs line fault
+        → (s : Told) × Tells (n + 1) x s × Fits blocks front s × Faulty blocks (front ++ s ∷ []) (n + 1) xs line fault
     by [] h a k = absurd h
     by (s ∷ ss) h a k =
         let number : n + length (x ∷ xs) + 1 ≡ n + 1 + length xs + 1 = omega arith in (
@@ -202,13 +192,13 @@ same_first blocks front n (x ∷ xs) l a (y ∷ ys) m d fault fault' e f g =
     let rest : xs ++ l ∷ a ≡ ys ++ m ∷ d = cc in
     let here = at_some blocks front n x xs l fault f in
     let there = at_some blocks front n y ys m fault' g in
-    let one : there.0 ≡ here.0 = one_told x there.0 here.0 (subst (λ t. Tells t there.0) same there.1) here.1 in
+    let one : there.0 ≡ here.0 = one_told (n + 1) x there.0 here.0 (subst (λ t. Tells (n + 1) t there.0) same there.1) here.1 in
     same_first blocks (front ++ here.0 ∷ []) (n + 1) xs l a ys m d fault fault' rest here.3
     (subst (λ s. Faulty blocks (front ++ s ∷ []) (n + 1) ys m fault') one there.3)
 
 -- lines that all fit have no fault
 none_first : (blocks : List Block) (front : List Told) (n : ℕ) (lines : List (List ℕ)) (ss : List Told)
-    (b : List (List ℕ)) (l : List ℕ) (a : List (List ℕ)) (fault : RowsFault) → TellAll lines ss
+    (b : List (List ℕ)) (l : List ℕ) (a : List (List ℕ)) (fault : RowsFault) → TellAll n lines ss
     → AllFit blocks front ss → lines ≡ b ++ l ∷ a → Faulty blocks front n b l fault → ⊥
 none_first blocks front n [] ss [] l a fault h f e g = cc
 none_first blocks front n [] ss (x ∷ xs) l a fault h f e g = cc
@@ -221,7 +211,7 @@ none_first blocks front n (y ∷ ys) (s ∷ ss) (x ∷ xs) l a fault h f e g =
     let same : x ≡ y = cc in
     let rest : ys ≡ xs ++ l ∷ a = cc in
     let there = at_some blocks front n x xs l fault g in
-    let one : there.0 ≡ s = one_told y there.0 s (subst (λ t. Tells t there.0) same there.1) h.0 in
+    let one : there.0 ≡ s = one_told (n + 1) y there.0 s (subst (λ t. Tells (n + 1) t there.0) same there.1) h.0 in
     none_first blocks (front ++ s ∷ []) (n + 1) ys ss xs l a fault h.1 f.1 rest
     (subst (λ t. Faulty blocks (front ++ t ∷ []) (n + 1) xs l fault) one there.3)
 
@@ -241,8 +231,7 @@ refusal_is : (input : List ℕ) (fault : RowsFault) → IsRefused input fault �
 refusal_is input (Read InputTooLong) h = inl (refl, h)
 refusal_is input (Read (BadLine n)) (inl b) = inr (inl (BadLine n, refl, b))
 refusal_is input (Read (BadLine n)) (inr r) = inr (inr (inr r))
-refusal_is input (Read (NumberTooLarge n)) (inl b) = inr (inl (NumberTooLarge n, refl, b))
-refusal_is input (Read (NumberTooLarge n)) (inr r) = inr (inr (inr r))
+refusal_is input (Read (NumberTooLarge n)) h = inr (inl (NumberTooLarge n, refl, h))
 refusal_is input (Read (TooManyBlocks n)) h = inr (inl (TooManyBlocks n, refl, h))
 refusal_is input (Read (TooManyOperations n)) (inl b) = inr (inl (TooManyOperations n, refl, b))
 refusal_is input (Read (TooManyOperations n)) (inr r) = inr (inr (inr r))
@@ -324,8 +313,9 @@ one_submission input blocks blocks' proposals proposals' h k =
     let parts = same_split input h.before h.after k.before k.after h.are_lines k.are_lines h.ends k.ends in
     let same : blocks ≡ blocks' = one_answer.file (front_text k.before) blocks blocks'
     (subst (λ b. files.Denotes (front_text b) blocks) parts.0 h.file) k.file in
-    let told : h.propose.told ≡ k.propose.told = same_told k.after h.propose.told k.propose.told
-    (subst (λ ls. TellAll ls h.propose.told) parts.1 h.propose.tell) k.propose.tell in
+    let number : length h.before ≡ length k.before = ap length parts.0 in
+    let told : h.propose.told ≡ k.propose.told = same_told (length k.before) k.after h.propose.told k.propose.told
+    (subst₂ (λ n ls. TellAll n ls h.propose.told) number parts.1 h.propose.tell) k.propose.tell in
     (same, h.propose.are ∙ ap₂ (λ bs ss. proposals_of (length bs) ss) same told ∙ sym k.propose.are)
 
 denoted_or_refused : (input : List ℕ) (blocks : List Block) (proposals : List Proposed) (fault : RowsFault)
@@ -353,7 +343,8 @@ denoted_or_refused input blocks proposals fault h k = by (refusal_is input fault
         let f = r.first in
         let moved : Faulty blocks [] (length r.before) f.before f.line fault =
         subst (λ bs. Faulty bs [] (length r.before) f.before f.line fault) same (faulty_of f) in
-        none_first blocks [] (length r.before) h.after h.propose.told f.before f.line f.after fault h.propose.tell
+        none_first blocks [] (length r.before) h.after h.propose.told f.before f.line f.after fault
+        (subst (λ n. TellAll n h.after h.propose.told) (ap length parts.0) h.propose.tell)
         h.propose.fit (parts.1 ∙ f.whole) moved
 
 pub one_answer_each : laws.TextsHaveOneAnswer
@@ -370,6 +361,6 @@ one_apart task input blocks blocks' proposals proposals' h k =
     let lines : h.rows.lines ≡ k.rows.lines =
     sym (lines_are_of input h.rows.lines h.rows.are_lines) ∙ lines_are_of input k.rows.lines k.rows.are_lines in
     let told : h.rows.propose.told ≡ k.rows.propose.told =
-    same_told k.rows.lines h.rows.propose.told k.rows.propose.told
-    (subst (λ ls. TellAll ls h.rows.propose.told) lines h.rows.propose.tell) k.rows.propose.tell in
+    same_told 0 k.rows.lines h.rows.propose.told k.rows.propose.told
+    (subst (λ ls. TellAll 0 ls h.rows.propose.told) lines h.rows.propose.tell) k.rows.propose.tell in
     (same, h.rows.propose.are ∙ ap₂ (λ bs ss. proposals_of (length bs) ss) same told ∙ sym k.rows.propose.are)

@@ -1,13 +1,10 @@
 -- Every text has an answer: its blocks end somewhere, and line by line each schedule line is read or faulty.
 use Rattle.std.proofs.Common.{◌≡◌, ◌∙◌, ℕ, ◌+◌, ◌<◌, ◌≤◌, nat_lt, Bool, true, false, List, [], ◌∷◌, ◌++◌, length, refl, sym, ap, subst, Option, Some, None, ◌⊎◌, inl, inr, append_assoc, append-nil, arith}
-use Rattle.std.specs.Prelude.{not}
-use Rattle.std.specs.List.{find, join_with_byte}
-use Rattle.std.proofs.lemmas.Bool.{cases_eq, ltb-true, ltb-false}
-use Rattle.std.proofs.lemmas.Option.{same_Some}
+use Rattle.std.specs.List.{join_with_byte}
+use Rattle.std.proofs.lemmas.Bool.{ltb-true, ltb-false}
 use Rattle.iloc_ops.specs.Limits.{MAX_INPUT, MAX_OPS}
 use Rattle.iloc_ops.specs.declared.file.Block.{Block}
-use Rattle.iloc_text.specs.declared.fault.ReadFault.TheVariants.{InputTooLong, BadLine, NumberTooLarge, TooManyOperations}
-use Rattle.iloc_text.specs.Grammar.{is_blank}
+use Rattle.iloc_text.specs.declared.fault.ReadFault.TheVariants.{InputTooLong, BadLine, TooManyOperations}
 use Rattle.iloc_text.specs.Files as files
 use Rattle.iloc_text.specs.Files.{AreLines}
 use Rattle.iloc_text.specs.ScheduleLines.{Said, Says, SaysSomething, IsScheduleLine}
@@ -20,7 +17,7 @@ use Rattle.iloc_text.proofs.Splitting.{lines_are}
 use Rattle.iloc_rows.specs.declared.fault.RowsFault.{RowsFault}
 use Rattle.iloc_rows.specs.declared.fault.RowsFault.TheVariants.{Read, NoBlocks, NoSuchBlock}
 use Rattle.iloc_rows.specs.declared.proposal.Proposed.{Proposed}
-use Rattle.iloc_rows.specs.Told.{Told, OpensRow, Tells}
+use Rattle.iloc_rows.specs.Told.{Told, Tells}
 use Rattle.iloc_rows.specs.Told.Told.{read, unread}
 use Rattle.iloc_rows.specs.Proposing.{proposals_of, is_of_block, op_count, Fits, AllFit}
 use Rattle.iloc_rows.specs.Submissions.{TellAll, BlocksEnd, Propose, Denotes, IsFaulty, HaveFirstFault, IsRefused}
@@ -73,68 +70,59 @@ cut (line ∷ lines) = elim (one_or_none line) as (λ _. AreCut (line ∷ lines)
 -- One line below the blocks
 
 -- the line tells something that fits after what these lines tell
-record IsRead (blocks : List Block) (told : List Told) (line : List ℕ) : Type 0 where
+record IsRead (blocks : List Block) (told : List Told) (line : List ℕ) (n : ℕ) : Type 0 where
   telling : Told
-  tells : Tells line telling
+  tells : Tells n line telling
   fits : Fits blocks told telling
 
 abbrev Judged : List Block → List Told → List ℕ → ℕ → Type 0
-Judged blocks told line n = ((fault : RowsFault) × IsFaulty blocks told line n fault) ⊎ IsRead blocks told line
+Judged blocks told line n = ((fault : RowsFault) × IsFaulty blocks told line n fault) ⊎ IsRead blocks told line n
 
-by_fit : (blocks : List Block) (told : List Told) (line : List ℕ) (n : ℕ) (t : Told) → Tells line t
+-- where the line is of no block
+homeless : (blocks : List Block) (told : List Told) (line : List ℕ) (n : ℕ) (t : Told) → Tells n line t
+    → is_of_block blocks told t ≡ false → Judged blocks told line n
+homeless blocks told line n (read s) tells h =
+    inl (NoSuchBlock n, (refl, record { told = read s; tells = tells; is = refl; of_none = h }))
+homeless blocks told line n (unread k text) tells h =
+    inl (Read (BadLine n), (refl, record { told = unread k text; tells = tells; is = refl; of_none = h }))
+
+by_fit : (blocks : List Block) (told : List Told) (line : List ℕ) (n : ℕ) (t : Told) → Tells n line t
     → (there many : Bool) → is_of_block blocks told t ≡ there → nat_lt MAX_OPS (op_count told t) ≡ many
     → Judged blocks told line n
-by_fit blocks told line n t tells false many h m =
-    inl (NoSuchBlock n, (refl, record { told = t; tells = tells; of_none = h }))
+by_fit blocks told line n t tells false many h m = homeless blocks told line n t tells h
 by_fit blocks told line n t tells true true h m =
     inl (Read (TooManyOperations n), (refl, record { told = t; tells = tells; of_block = h; many = ltb-true _ _ m }))
 by_fit blocks told line n t tells true false h m =
     inr (record { telling = t; tells = tells; fits = record { of_block = h; few = ltb-false _ _ m } })
 
--- whether a line opens a row
-opens_or_not : (line : List ℕ) → OpensRow line ⊎ (OpensRow line → ⊥)
-opens_or_not line = by (find (λ byte. not (is_blank byte)) line)
-  where
-    by : (o : Option ℕ) → (o ≡ Some 91) ⊎ (o ≡ Some 91 → ⊥)
-    by None = inr (λ e. cc)
-    by (Some byte) = elim (cases_eq byte 91) [
-      | inl same ↦ inl (ap (λ b. Some b) same)
-      | inr other ↦ inr (λ e. other (same_Some byte 91 e))
-    ]
-
 judged : (blocks : List Block) (told : List Told) (line : List ℕ) (n : ℕ) → Judged blocks told line n
-judged blocks told line n = by (schedule_line_at line) refl (opens_or_not line)
+judged blocks told line n = by (schedule_line_at line) refl
   where
-    no_row : (SaysSomething line → ⊥) → OpensRow line → Judged blocks told line n
-    no_row none opens = by_fit blocks told line n (unread line) (refl, opens, none) _ _ refl refl
+    no_row : (SaysSomething line → ⊥) → Judged blocks told line n
+    no_row none = by_fit blocks told line n (unread n line) (refl, refl, none) _ _ refl refl
 
-    within : (s : Said) → schedule_line_at line ≡ Some s → (b : Bool) → is_said_within s ≡ b
-        → OpensRow line ⊎ (OpensRow line → ⊥) → Judged blocks told line n
-    within s e true w o = by_fit blocks told line n (read s) (said_good line s e w) _ _ refl refl
-    within s e false w (inl opens) = no_row (said_large line s e w).1 opens
-    within s e false w (inr none) =
-        let large = said_large line s e w in inl (Read (NumberTooLarge n), (refl, none, large.0, large.1))
+    within : (s : Said) → schedule_line_at line ≡ Some s → (b : Bool) → is_said_within s ≡ b → Judged blocks told line n
+    within s e true w = by_fit blocks told line n (read s) (said_good line s e w) _ _ refl refl
+    within s e false w = no_row (said_large line s e w).1
 
-    by : (found : Option Said) → schedule_line_at line ≡ found → OpensRow line ⊎ (OpensRow line → ⊥)
-        → Judged blocks told line n
-    by None e (inl opens) = no_row (λ s. said_bad line e (s.0, s.1.0)) opens
-    by None e (inr none) = inl (Read (BadLine n), (refl, none, said_bad line e))
-    by (Some s) e o = within s e (is_said_within s) refl o
+    by : (found : Option Said) → schedule_line_at line ≡ found → Judged blocks told line n
+    by None e = no_row (λ s. said_bad line e (s.0, s.1.0))
+    by (Some s) e = within s e (is_said_within s) refl
 
 -- All of them
 
 abbrev ProposedOrNot : List Block → ℕ → List (List ℕ) → Type 0
-ProposedOrNot blocks n lines = ((proposals : List Proposed) × Propose blocks lines proposals)
+ProposedOrNot blocks n lines = ((proposals : List Proposed) × Propose blocks n lines proposals)
     ⊎ ((fault : RowsFault) × HaveFirstFault blocks n lines fault)
 
 -- where the lines before tell this, and it fits
 from_here : (blocks : List Block) (n : ℕ) (all before lines : List (List ℕ)) (told : List Told)
-    → all ≡ before ++ lines → TellAll before told → AllFit blocks [] told → ProposedOrNot blocks n all
+    → all ≡ before ++ lines → TellAll n before told → AllFit blocks [] told → ProposedOrNot blocks n all
 from_here blocks n all before [] told whole tell fit = inl (
   proposals_of (length blocks) told,
   record {
     told = told;
-    tell = subst (λ ls. TellAll ls told) (sym (whole ∙ append-nil before)) tell;
+    tell = subst (λ ls. TellAll n ls told) (sym (whole ∙ append-nil before)) tell;
     fit = fit;
     are = refl;
   },
@@ -156,7 +144,7 @@ from_here blocks n all before (line ∷ lines) told whole tell fit =
       )
       | inr good ↦ from_here blocks n all (before ++ line ∷ []) lines (told ++ good.telling ∷ [])
           (whole ∙ sym (append_assoc before (line ∷ []) lines))
-          (TellAll-snoc before told line good.telling tell good.tells)
+          (TellAll-snoc n before told line good.telling tell good.tells)
           (AllFit-snoc blocks [] told good.telling fit good.fits)
     ]
 

@@ -1,5 +1,5 @@
 -- What the steps of the reader do to what is proposed.
-use Rattle.std.proofs.Common.{◌≡◌, ◌∙◌, ℕ, ◌+◌, ◌-◌, ◌<◌, ◌≤◌, nat_lt, max, Bool, true, false, cond, ◌&&◌, ◌||◌, ◌==◌, List, [], ◌∷◌, ◌++◌, length, refl, sym, ap, ap₂, subst, Option, Some, None, Result, Ok, Err, set, inl, inr, ◌⊎◌, arith}
+use Rattle.std.proofs.Common.{◌≡◌, ◌≢◌, ◌∙◌, ℕ, ◌+◌, ◌-◌, ◌<◌, ◌≤◌, nat_lt, max, Bool, true, false, cond, ◌&&◌, ◌||◌, ◌==◌, List, [], ◌∷◌, ◌++◌, length, refl, sym, ap, ap₂, subst, Option, Some, None, Result, Ok, Err, set, inl, inr, ◌⊎◌, arith}
 use Rattle.std.proofs.lemmas.List.{get_or_past}
 use Rattle.std.proofs.lemmas.List.FromFn.{length-map-range_with_len, get_or-map-range_with_len}
 use Rattle.std.proofs.lemmas.Bool.Decides.{nat_tests}
@@ -124,7 +124,7 @@ row_adds {blocks} {ss} {old} one two n new (Ok done) h r =
       record { proposals = grown; last = r.3 ∙ ap (max 1) h.last ∙ sym (last_block-more ss (read (row one two)) refl refl) },
     )
 row_adds one two n new (Err (Read InputTooLong)) h r = r
-row_adds one two n new (Err (Read (BadLine k))) h r = r
+row_adds one two n new (Err (Read (BadLine k))) h r = absurd r
 row_adds one two n new (Err (Read (NumberTooLarge k))) h r = r
 row_adds one two n new (Err (Read (TooManyBlocks k))) h r = r
 row_adds {blocks} {ss} {old} one two n new (Err (Read (TooManyOperations k))) h r =
@@ -135,34 +135,47 @@ row_adds {blocks} {ss} {old} one two n new (Err (Read (TooManyOperations k))) h 
     (r.0, a.there, omega arith)
 row_adds one two n new (Err (Read NoMemory)) h r = tt
 row_adds one two n new (Err NoBlocks) h r = r
-row_adds one two n new (Err (NoSuchBlock k)) h r = (r.0, nowhere h r.1)
+row_adds one two n new (Err (NoSuchBlock k)) h r = (r.0, refl, nowhere h r.1)
 
--- Claims, and rows that can't be read
+-- Claims, and lines that can't be read
 
 -- a line of its block alone, without operations, by which what is proposed becomes another
-record IsChange (s : Told) (change : Proposed → Proposed) : Type 0 where
+record IsChange (s : Told) (change : Proposed → Proposed) (homeless : RowsFault) (number : ℕ) : Type 0 where
   turns : head_number s ≡ None
   proposes : proposes s ≡ true
   here : (ss : List Told) (k : ℕ) → block_of (ss ++ s ∷ []) ≡ k → proposal_of (ss ++ s ∷ []) k ≡ change (proposal_of ss k)
   count : (ss : List Told) → op_count ss s ≡ 0
   fits : (blocks : List Block) (ss : List Told)
       → is_of_block blocks ss s ≡ (nat_lt 0 (last_block ss) || (length blocks == 1))
+  refused : (blocks : List Block) (ss : List Told) (new : Proposing) → is_of_block blocks ss s ≡ false
+      → Adds blocks ss s number new (Err homeless)
 
-change_grows : (blocks : List Block) (ss : List Told) (s : Told) (change : Proposed → Proposed) (i : ℕ)
-    → IsChange s change → IsAt blocks ss i
+change_grows : {homeless : RowsFault} {number : ℕ} (blocks : List Block) (ss : List Told) (s : Told)
+    (change : Proposed → Proposed) (i : ℕ) → IsChange s change homeless number → IsAt blocks ss i
     → proposals_of (length blocks) (ss ++ s ∷ [])
     ≡ set (proposals_of (length blocks) ss) i (change (at_place (proposals_of (length blocks) ss) i))
-change_grows blocks ss s change i c a =
+change_grows {homeless} {number} blocks ss s change i c a =
     let here : block_of (ss ++ s ∷ []) ≡ 1 + i = still_of ss s c.turns c.proposes ∙ a.block in
     map-set (proposal_of ss) (proposal_of (ss ++ s ∷ [])) 1 (length blocks) i
     (change (at_place (proposals_of (length blocks) ss) i)) a.within
     (c.here ss (1 + i) here ∙ ap change (sym (at-proposals (length blocks) ss i a.within)))
     (λ k ne. proposal-else ss s k (λ e. ne (sym e ∙ here)))
 
-change_adds : {blocks : List Block} {ss : List Told} {old : Proposing} (s : Told) (change : Proposed → Proposed) (n : ℕ)
-    (new : Proposing) (result : Result (Unit {0}) RowsFault)
-    → IsChange s change → HasProposed blocks ss old → Becomes old change n new result → Adds blocks ss s n new result
-change_adds {blocks} {ss} {old} s change n new (Ok done) c h r =
+memory_or_not : (fault : RowsFault) → (fault ≡ Read NoMemory) ⊎ (fault ≢ Read NoMemory)
+memory_or_not (Read InputTooLong) = inr (λ e. cc)
+memory_or_not (Read (BadLine n)) = inr (λ e. cc)
+memory_or_not (Read (NumberTooLarge n)) = inr (λ e. cc)
+memory_or_not (Read (TooManyBlocks n)) = inr (λ e. cc)
+memory_or_not (Read (TooManyOperations n)) = inr (λ e. cc)
+memory_or_not (Read NoMemory) = inl refl
+memory_or_not NoBlocks = inr (λ e. cc)
+memory_or_not (NoSuchBlock n) = inr (λ e. cc)
+
+change_adds : {blocks : List Block} {ss : List Told} {old : Proposing} (s : Told) (change : Proposed → Proposed)
+    (homeless : RowsFault) (n : ℕ) (new : Proposing) (result : Result (Unit {0}) RowsFault)
+    → IsChange s change homeless n → HasProposed blocks ss old → Becomes old change homeless new result
+    → Adds blocks ss s n new result
+change_adds {blocks} {ss} {old} s change homeless n new (Ok done) c h r =
     let a = is_at r.0 h r.1 in
     let grown : new.proposals.items ≡ proposals_of (length blocks) (ss ++ s ∷ []) =
     r.2 ∙ ap (λ ps. set ps r.0 (change (at_place ps r.0))) h.proposals
@@ -170,38 +183,39 @@ change_adds {blocks} {ss} {old} s change n new (Ok done) c h r =
       record { of_block = c.fits blocks ss ∙ a.there; few = omega (arith, c.count ss) },
       record { proposals = grown; last = r.3 ∙ ap (max 1) h.last ∙ sym (last_block-more ss s c.turns c.proposes) },
     )
-change_adds s change n new (Err (Read InputTooLong)) c h r = r
-change_adds s change n new (Err (Read (BadLine k))) c h r = r
-change_adds s change n new (Err (Read (NumberTooLarge k))) c h r = r
-change_adds s change n new (Err (Read (TooManyBlocks k))) c h r = r
-change_adds s change n new (Err (Read (TooManyOperations k))) c h r = absurd r
-change_adds s change n new (Err (Read NoMemory)) c h r = tt
-change_adds s change n new (Err NoBlocks) c h r = r
-change_adds {blocks} {ss} {old} s change n new (Err (NoSuchBlock k)) c h r = (r.0, c.fits blocks ss ∙ nowhere h r.1)
+change_adds {blocks} {ss} {old} s change homeless n new (Err fault) c h r =
+    elim (memory_or_not fault) as (λ _. Adds blocks ss s n new (Err fault)) [
+      | inl memory ↦ subst (λ f. Adds blocks ss s n new (Err f)) (sym memory) tt
+      | inr other ↦ let a = r other in
+          subst (λ f. Adds blocks ss s n new (Err f)) (sym a.0) (c.refused blocks ss new (c.fits blocks ss ∙ nowhere h a.1))
+    ]
 
 pub cycles_add : {blocks : List Block} {ss : List Told} {old : Proposing} (c n : ℕ) (new : Proposing)
     (result : Result (Unit {0}) RowsFault)
-    → HasProposed blocks ss old → Becomes old (λ p. with_cycles p c) n new result
+    → HasProposed blocks ss old → Becomes old (λ p. with_cycles p c) (NoSuchBlock n) new result
     → Adds blocks ss (read (cycles c)) n new result
-cycles_add c n new result h r = change_adds (read (cycles c)) (λ p. with_cycles p c) n new result record {
+cycles_add c n new result h r = change_adds (read (cycles c)) (λ p. with_cycles p c) (NoSuchBlock n) n new result record {
   turns = refl;
   proposes = refl;
   here = λ ss k at. proposal-cycles ss c k at;
   count = λ ss. refl;
   fits = λ blocks ss. refl;
+  refused = λ blocks ss new none. (refl, refl, none);
 } h r
 
 pub unread_adds : {blocks : List Block} {ss : List Told} {old : Proposing} (text : List ℕ) (n : ℕ) (new : Proposing)
     (result : Result (Unit {0}) RowsFault)
-    → HasProposed blocks ss old → Becomes old (λ p. with_unread p text) n new result
-    → Adds blocks ss (unread text) n new result
-unread_adds text n new result h r = change_adds (unread text) (λ p. with_unread p text) n new result record {
-  turns = refl;
-  proposes = refl;
-  here = λ ss k at. proposal-unread ss text k at;
-  count = λ ss. refl;
-  fits = λ blocks ss. refl;
-} h r
+    → HasProposed blocks ss old → Becomes old (λ p. with_unread p n text) (Read (BadLine n)) new result
+    → Adds blocks ss (unread n text) n new result
+unread_adds text n new result h r =
+    change_adds (unread n text) (λ p. with_unread p n text) (Read (BadLine n)) n new result record {
+      turns = refl;
+      proposes = refl;
+      here = λ ss k at. proposal-unread ss n text k at;
+      count = λ ss. refl;
+      fits = λ blocks ss. refl;
+      refused = λ blocks ss new none. (refl, refl, none);
+    } h r
 
 -- Heads, and lines that propose nothing
 
@@ -227,7 +241,7 @@ head_turns {blocks} {ss} {old} k name n new (Ok done) h r = (
 head_turns k name n new (Err (Read fault)) h r = absurd r
 head_turns k name n new (Err NoBlocks) h r = r
 head_turns {blocks} {ss} {old} k name n new (Err (NoSuchBlock m)) h r =
-    (r.0, ap (λ last. nat_lt last k && is_named blocks k name) (sym h.last) ∙ r.1)
+    (r.0, refl, ap (λ last. nat_lt last k && is_named blocks k name) (sym h.last) ∙ r.1)
 
 pub nothing_adds : {blocks : List Block} {ss : List Told} {old : Proposing} (n : ℕ) → HasProposed blocks ss old
     → Adds blocks ss (read nothing) n old (Ok tt)

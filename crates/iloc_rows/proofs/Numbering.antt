@@ -37,15 +37,16 @@ pub length-numbered : (n : ℕ) (rs : List (Op × Op)) → length (numbered n rs
 length-numbered n [] = refl
 length-numbered n (r ∷ rs) = ap suc (length-numbered (n + length (ops_of_row r)) rs)
 
--- the first row that can't be read
+-- the first line that can't be read
 
-unread-snoc : (n m : ℕ) (us : List (Option (List ℕ))) (text : List ℕ) → n + length us ≡ m
-    → first_unread n (us ++ Some text ∷ []) ≡ or_this (first_unread n us) record { row = m; text = text }
-unread-snoc n m [] text e = let same : n ≡ m = omega arith in ap (λ k. Some record { row = k; text = text }) same
-unread-snoc n m (None ∷ us) text e = unread-snoc (n + 1) m us text (omega arith)
-unread-snoc n m (Some first ∷ us) text e = refl
+unread-snoc : (n m : ℕ) (us : List (Option (ℕ × List ℕ))) (line : ℕ) (text : List ℕ) → n + length us ≡ m
+    → first_unread n (us ++ Some (line, text) ∷ []) ≡ or_this (first_unread n us) record { line = line; row = m; text = text }
+unread-snoc n m [] line text e =
+    let same : n ≡ m = omega arith in ap (λ k. Some record { line = line; row = k; text = text }) same
+unread-snoc n m (None ∷ us) line text e = unread-snoc (n + 1) m us line text (omega arith)
+unread-snoc n m (Some first ∷ us) line text e = refl
 
-read-snoc : (n : ℕ) (us : List (Option (List ℕ))) → first_unread n (us ++ None ∷ []) ≡ first_unread n us
+read-snoc : (n : ℕ) (us : List (Option (ℕ × List ℕ))) → first_unread n (us ++ None ∷ []) ≡ first_unread n us
 read-snoc n [] = refl
 read-snoc n (None ∷ us) = read-snoc (n + 1) us
 read-snoc n (Some first ∷ us) = refl
@@ -60,14 +61,14 @@ as_many k ts = picked-alike unread_in row_in k ts each
     each (read (head n name)) = refl
     each (read (cycles c)) = refl
     each (read (total n)) = refl
-    each (unread text) = refl
+    each (unread n text) = refl
 
 -- a proposal by its rows, which of them can't be read, and its claims
-abbrev made : List (Op × Op) → List (Option (List ℕ)) → List ℕ → Proposed
+abbrev made : List (Op × Op) → List (Option (ℕ × List ℕ)) → List ℕ → Proposed
 made rows texts claims =
     record { ops = ops_in rows; rows = numbered 0 rows; claimed = last_of claims; unread = first_unread 0 texts }
 
-made-row : (rows : List (Op × Op)) (texts : List (Option (List ℕ))) (claims : List ℕ) (one two : Op)
+made-row : (rows : List (Op × Op)) (texts : List (Option (ℕ × List ℕ))) (claims : List ℕ) (one two : Op)
     → made (rows ++ (one, two) ∷ []) (texts ++ None ∷ []) claims ≡ with_row (made rows texts claims) one two
 made-row rows texts claims one two =
     let ops = ops_in-snoc rows (one, two) in
@@ -75,13 +76,14 @@ made-row rows texts claims one two =
     let still = read-snoc 0 texts in
     λ i. record { ops = ops i; rows = more i; claimed = last_of claims; unread = still i }
 
-made-unread : (rows : List (Op × Op)) (texts : List (Option (List ℕ))) (claims : List ℕ) (text : List ℕ)
+made-unread : (rows : List (Op × Op)) (texts : List (Option (ℕ × List ℕ))) (claims : List ℕ) (line : ℕ) (text : List ℕ)
     → length texts ≡ length rows
-    → made (rows ++ (Nop, Nop) ∷ []) (texts ++ Some text ∷ []) claims ≡ with_unread (made rows texts claims) text
-made-unread rows texts claims text many =
+    → made (rows ++ (Nop, Nop) ∷ []) (texts ++ Some (line, text) ∷ []) claims
+    ≡ with_unread (made rows texts claims) line text
+made-unread rows texts claims line text many =
     let ops = ops_in-snoc rows (Nop, Nop) ∙ append-nil (ops_in rows) in
     let more = numbered-snoc 0 (length (ops_in rows)) rows (Nop, Nop) (omega arith) in
-    let first = unread-snoc 0 (length (numbered 0 rows)) texts text (omega (arith, many, length-numbered 0 rows)) in
+    let first = unread-snoc 0 (length (numbered 0 rows)) texts line text (omega (arith, many, length-numbered 0 rows)) in
     λ i. record { ops = ops i; rows = more i; claimed = last_of claims; unread = first i }
 
 -- Proposals
@@ -110,13 +112,13 @@ proposal-row ss one two k e =
     (picked-nothing cycles_in k ss (read (row one two)) refl)
     ∙ made-row (rows_of k ss) (unread_of k ss) (claims_of k ss) one two
 
-pub proposal-unread : (ss : List Told) (text : List ℕ) (k : ℕ) → block_of (ss ++ unread text ∷ []) ≡ k
-    → proposal_of (ss ++ unread text ∷ []) k ≡ with_unread (proposal_of ss k) text
-proposal-unread ss text k e =
-    ap₃ made (picked-here row_in k ss (unread text) (Nop, Nop) refl e)
-    (picked-here unread_in k ss (unread text) (Some text) refl e)
-    (picked-nothing cycles_in k ss (unread text) refl)
-    ∙ made-unread (rows_of k ss) (unread_of k ss) (claims_of k ss) text (as_many k ss)
+pub proposal-unread : (ss : List Told) (n : ℕ) (text : List ℕ) (k : ℕ) → block_of (ss ++ unread n text ∷ []) ≡ k
+    → proposal_of (ss ++ unread n text ∷ []) k ≡ with_unread (proposal_of ss k) n text
+proposal-unread ss n text k e =
+    ap₃ made (picked-here row_in k ss (unread n text) (Nop, Nop) refl e)
+    (picked-here unread_in k ss (unread n text) (Some (n, text)) refl e)
+    (picked-nothing cycles_in k ss (unread n text) refl)
+    ∙ made-unread (rows_of k ss) (unread_of k ss) (claims_of k ss) n text (as_many k ss)
 
 pub proposal-cycles : (ss : List Told) (c k : ℕ) → block_of (ss ++ read (cycles c) ∷ []) ≡ k
     → proposal_of (ss ++ read (cycles c) ∷ []) k ≡ with_cycles (proposal_of ss k) c

@@ -23,18 +23,21 @@ use Rattle.iloc_rows.specs.Steps.Ends.{IsCutOf}
 use Rattle.iloc_rows.proofs.Picking.{last_block-nothing}
 use Rattle.iloc_rows.proofs.Ends.{join-append}
 
-pub TellAll-snoc : (lines : List (List ℕ)) (ss : List Told) (line : List ℕ) (s : Told) → TellAll lines ss → Tells line s
-    → TellAll (lines ++ line ∷ []) (ss ++ s ∷ [])
-TellAll-snoc [] [] line s h says = (says, tt)
-TellAll-snoc [] (x ∷ xs) line s h says = absurd h
-TellAll-snoc (l ∷ ls) [] line s h says = absurd h
-TellAll-snoc (l ∷ ls) (x ∷ xs) line s h says = (h.0, TellAll-snoc ls xs line s h.1 says)
+pub TellAll-snoc : (n : ℕ) (lines : List (List ℕ)) (ss : List Told) (line : List ℕ) (s : Told) → TellAll n lines ss
+    → Tells (n + length lines + 1) line s → TellAll n (lines ++ line ∷ []) (ss ++ s ∷ [])
+TellAll-snoc n [] [] line s h says =
+    let number : n + 0 + 1 ≡ n + 1 = omega arith in (subst (λ m. Tells m line s) number says, tt)
+TellAll-snoc n [] (x ∷ xs) line s h says = absurd h
+TellAll-snoc n (l ∷ ls) [] line s h says = absurd h
+TellAll-snoc n (l ∷ ls) (x ∷ xs) line s h says =
+    let number : n + length (l ∷ ls) + 1 ≡ n + 1 + length ls + 1 = omega arith in
+    (h.0, TellAll-snoc (n + 1) ls xs line s h.1 (subst (λ m. Tells m line s) number says))
 
-pub length-TellAll : (lines : List (List ℕ)) (ss : List Told) → TellAll lines ss → length ss ≡ length lines
-length-TellAll [] [] h = refl
-length-TellAll [] (s ∷ ss) h = absurd h
-length-TellAll (l ∷ ls) [] h = absurd h
-length-TellAll (l ∷ ls) (s ∷ ss) h = ap suc (length-TellAll ls ss h.1)
+pub length-TellAll : (n : ℕ) (lines : List (List ℕ)) (ss : List Told) → TellAll n lines ss → length ss ≡ length lines
+length-TellAll n [] [] h = refl
+length-TellAll n [] (s ∷ ss) h = absurd h
+length-TellAll n (l ∷ ls) [] h = absurd h
+length-TellAll n (l ∷ ls) (s ∷ ss) h = ap suc (length-TellAll (n + 1) ls ss h.1)
 
 pub AllFit-snoc : (blocks : List Block) (lines ss : List Told) (s : Told) → AllFit blocks lines ss
     → Fits blocks (lines ++ ss) s → AllFit blocks lines (ss ++ s ∷ [])
@@ -50,7 +53,7 @@ pub record Progress (blocks : List Block) (lines : ℕ) (all : List (List ℕ)) 
     (rest : Option (Bor (List ℕ))) : Type 0 where
   pub before : List (List ℕ)
   pub told : List Told
-  pub tell : TellAll before told
+  pub tell : TellAll lines before told
   pub fit : AllFit blocks [] told
   pub proposed : HasProposed blocks told state
   pub number_is : number ≡ lines + length before
@@ -72,13 +75,13 @@ progress_begins blocks lines state rest p l = record {
 pub progress_step : {blocks : List Block} {lines : ℕ} {all : List (List ℕ)} {state : Proposing} {number : ℕ}
     {text : Bor (List ℕ)} (p : Progress blocks lines all state number (Some text)) (line : List ℕ)
     (after : Option (Bor (List ℕ))) (s : Told) (new : Proposing)
-    → lines_of text.now ≡ line ∷ lines_left after → Tells line s
+    → lines_of text.now ≡ line ∷ lines_left after → Tells (number + 1) line s
     → Fits blocks p.told s × HasProposed blocks (p.told ++ s ∷ []) new
     → Progress blocks lines all new (number + 1) after
 progress_step {blocks} {lines} {all} {state} {number} {text} p line after s new split says added = record {
   before = p.before ++ line ∷ [];
   told = p.told ++ s ∷ [];
-  tell = TellAll-snoc p.before p.told line s p.tell says;
+  tell = TellAll-snoc lines p.before p.told line s p.tell (subst (λ n. Tells (n + 1) line s) p.number_is says);
   fit = AllFit-snoc blocks [] p.told s p.fit added.0;
   proposed = added.1;
   number_is = omega (arith, length-append p.before (line ∷ []), p.number_is);
@@ -95,13 +98,13 @@ pub progress_room : {blocks : List Block} {lines : ℕ} {all : List (List ℕ)} 
     {rest : Option (Bor (List ℕ))} (p : Progress blocks lines all state number rest)
     → lines + length all ≤ MAX_INPUT + 1 → length p.told < MAX_ROWS
 progress_room {blocks} {lines} {all} {state} {number} {rest} p few =
-    omega (arith, length-TellAll p.before p.told p.tell, ap length p.whole, length-append p.before (lines_left rest))
+    omega (arith, length-TellAll lines p.before p.told p.tell, ap length p.whole, length-append p.before (lines_left rest))
 
 pub progress_ends : {blocks : List Block} {lines : ℕ} {all : List (List ℕ)} {state : Proposing} {number : ℕ}
-    → Progress blocks lines all state number None → Propose blocks all state.proposals.items
+    → Progress blocks lines all state number None → Propose blocks lines all state.proposals.items
 progress_ends {blocks} {lines} {all} {state} {number} p = record {
   told = p.told;
-  tell = subst (λ ls. TellAll ls p.told) (sym (p.whole ∙ append-nil p.before)) p.tell;
+  tell = subst (λ ls. TellAll lines ls p.told) (sym (p.whole ∙ append-nil p.before)) p.tell;
   fit = p.fit;
   are = p.proposed.proposals;
 }
@@ -126,17 +129,19 @@ fault_here {blocks} {lines} {all} {state} {number} {text} p line after fault spl
 }
 
 pub added_faulty : (blocks : List Block) (ss : List Told) (line : List ℕ) (s : Told) (n : ℕ) (state : Proposing)
-    (fault : RowsFault) → Tells line s → Adds blocks ss s n state (Err fault) → fault ≢ Read NoMemory
+    (fault : RowsFault) → Tells n line s → Adds blocks ss s n state (Err fault) → fault ≢ Read NoMemory
     → IsFaulty blocks ss line n fault
 added_faulty blocks ss line s n state (Read InputTooLong) says a memory = a
-added_faulty blocks ss line s n state (Read (BadLine k)) says a memory = absurd a
+added_faulty blocks ss line s n state (Read (BadLine k)) says a memory =
+    (a.0, record { told = s; tells = says; is = a.1; of_none = a.2 })
 added_faulty blocks ss line s n state (Read (NumberTooLarge k)) says a memory = absurd a
 added_faulty blocks ss line s n state (Read (TooManyBlocks k)) says a memory = a
 added_faulty blocks ss line s n state (Read (TooManyOperations k)) says a memory =
     (a.0, record { told = s; tells = says; of_block = a.1; many = a.2 })
 added_faulty blocks ss line s n state (Read NoMemory) says a memory = absurd (memory refl)
 added_faulty blocks ss line s n state NoBlocks says a memory = a
-added_faulty blocks ss line s n state (NoSuchBlock k) says a memory = (a.0, record { told = s; tells = says; of_none = a.1 })
+added_faulty blocks ss line s n state (NoSuchBlock k) says a memory =
+    (a.0, record { told = s; tells = says; is = a.1; of_none = a.2 })
 
 -- the fault that a call hands on
 pub err_is : {T : Type 0} (P : RowsFault → Type 0) (r : Result T RowsFault) (fault : RowsFault) → r ≡ Err fault
@@ -153,7 +158,7 @@ cut_number {input} {cut} a =
 
 pub denoted : {input : List ℕ} {cut : CutText} (a : IsCutOf input cut) (blocks : List Block)
     (proposals : List Proposed) → length input ≤ MAX_INPUT → files.Denotes cut.blocks.now blocks → 0 < length blocks
-    → Propose blocks (lines_left cut.rows) proposals → Denotes input blocks proposals
+    → Propose blocks cut.lines (lines_left cut.rows) proposals → Denotes input blocks proposals
 denoted {input} {cut} a blocks proposals short file some propose = record {
   short = short;
   before = a.before;
@@ -162,7 +167,7 @@ denoted {input} {cut} a blocks proposals short file some propose = record {
   ends = a.ends;
   file = subst (λ t. files.Denotes t blocks) a.blocks file;
   some = some;
-  propose = propose;
+  propose = subst (λ n. Propose blocks n (lines_left cut.rows) proposals) a.count propose;
 }
 
 front_short : (before after : List (List ℕ)) → length (join_with_byte 10 before)
@@ -183,7 +188,7 @@ blocks_refuse input InputTooLong b =
     let whole = ap length (b.are_lines.whole) in
     omega arith
 blocks_refuse input (BadLine n) b = inl b
-blocks_refuse input (NumberTooLarge n) b = inl b
+blocks_refuse input (NumberTooLarge n) b = b
 blocks_refuse input (TooManyBlocks n) b = b
 blocks_refuse input (TooManyOperations n) b = inl b
 blocks_refuse input NoMemory b = b.refused
@@ -192,7 +197,7 @@ blocks_refuse input NoMemory b = b.refused
 pub rows_refuse : (input : List ℕ) (fault : RowsFault) → RowsAreRefused input fault → IsRefused input fault
 rows_refuse input (Read InputTooLong) r = absurd r.first.faulty
 rows_refuse input (Read (BadLine n)) r = inr r
-rows_refuse input (Read (NumberTooLarge n)) r = inr r
+rows_refuse input (Read (NumberTooLarge n)) r = absurd r.first.faulty
 rows_refuse input (Read (TooManyBlocks n)) r = absurd r.first.faulty
 rows_refuse input (Read (TooManyOperations n)) r = inr r
 rows_refuse input (Read NoMemory) r = absurd r.first.faulty
@@ -243,7 +248,7 @@ no_blocks {input} {cut} a blocks short file none = record {
 -- Rows apart from their blocks
 
 pub proposed_apart : (blocks : List Block) (input : List ℕ) (proposals : List Proposed) → length input ≤ MAX_INPUT
-    → Propose blocks (lines_of input) proposals → ProposeApart blocks input proposals
+    → Propose blocks 0 (lines_of input) proposals → ProposeApart blocks input proposals
 proposed_apart blocks input proposals short propose =
     record { short = short; lines = lines_of input; are_lines = lines_are input; propose = propose }
 
@@ -251,7 +256,7 @@ refused_for : (blocks : List Block) (input : List ℕ) (fault : RowsFault) → H
     → AreRefusedFor blocks input fault
 refused_for blocks input (Read InputTooLong) h = absurd h.first.faulty
 refused_for blocks input (Read (BadLine n)) h = h
-refused_for blocks input (Read (NumberTooLarge n)) h = h
+refused_for blocks input (Read (NumberTooLarge n)) h = h.first.faulty
 refused_for blocks input (Read (TooManyBlocks n)) h = h.first.faulty
 refused_for blocks input (Read (TooManyOperations n)) h = h
 refused_for blocks input (Read NoMemory) h = h.first.faulty

@@ -45,10 +45,10 @@ few-line blocks ss (read (row one two)) f h k = few-row blocks ss one two f h k
 few-line blocks ss (read (head n name)) f h k = few_rows _ _ (picked-nothing row_in k ss (read (head n name)) refl) (h k)
 few-line blocks ss (read (cycles c)) f h k = few_rows _ _ (picked-nothing row_in k ss (read (cycles c)) refl) (h k)
 few-line blocks ss (read (total t)) f h k = few_rows _ _ (picked-nothing row_in k ss (read (total t)) refl) (h k)
-few-line blocks ss (unread text) f h k =
-    elim (cases_eq (block_of (ss ++ unread text ∷ [])) k) [
-      | inl here ↦ few_rows _ _ (picked-here row_in k ss (unread text) (Nop, Nop) refl here) (few_more (h k))
-      | inr apart ↦ few_rows _ _ (picked-else row_in k ss (unread text) apart) (h k)
+few-line blocks ss (unread n text) f h k =
+    elim (cases_eq (block_of (ss ++ unread n text ∷ [])) k) [
+      | inl here ↦ few_rows _ _ (picked-here row_in k ss (unread n text) (Nop, Nop) refl here) (few_more (h k))
+      | inr apart ↦ few_rows _ _ (picked-else row_in k ss (unread n text) apart) (h k)
     ]
   where
     few_more : length (ops_in (rows_of k ss)) ≤ MAX_OPS → length (ops_in (rows_of k ss ++ (Nop, Nop) ∷ [])) ≤ MAX_OPS
@@ -79,17 +79,17 @@ all_proposed P count ss proposals e h =
     subst (AllByRecursion P) (sym e) (all-map P (proposal_of ss) (range_with_len 1 count) h)
 
 -- each number in the rows that lines propose is an operation's, and each operation is in one slot
-pub proposed_numbered : (blocks : List Block) (lines : List (List ℕ)) (proposals : List Proposed)
-    → Propose blocks lines proposals → AllByRecursion IsNumbered proposals
-proposed_numbered blocks lines proposals propose =
+pub proposed_numbered : (blocks : List Block) (n : ℕ) (lines : List (List ℕ)) (proposals : List Proposed)
+    → Propose blocks n lines proposals → AllByRecursion IsNumbered proposals
+proposed_numbered blocks n lines proposals propose =
     let told = propose.told in
     all_proposed IsNumbered (length blocks) told proposals propose.are
     (λ k. (numbered_in_range (rows_of k told), numbered_once (rows_of k told)))
 
 -- what lines propose for the blocks of a file is within the limits
-proposals_within : (text : List ℕ) (blocks : List Block) (lines : List (List ℕ)) (proposals : List Proposed)
-    → files.Denotes text blocks → Propose blocks lines proposals → AreWithinLimits blocks proposals
-proposals_within text blocks lines proposals file propose =
+proposals_within : (text : List ℕ) (blocks : List Block) (n : ℕ) (lines : List (List ℕ)) (proposals : List Proposed)
+    → files.Denotes text blocks → Propose blocks n lines proposals → AreWithinLimits blocks proposals
+proposals_within text blocks n lines proposals file propose =
     let few = files_within text blocks file in
     let told = propose.told in
     record {
@@ -103,8 +103,8 @@ proposals_within text blocks lines proposals file propose =
     }
 
 pub submissions_within : SubmissionsAreWithinLimits
-submissions_within input blocks proposals d = proposals_within _ blocks d.after proposals d.file d.propose
+submissions_within input blocks proposals d = proposals_within _ blocks _ d.after proposals d.file d.propose
 
 pub submissions_apart_within : SubmissionsApartAreWithinLimits
 submissions_apart_within task input blocks proposals d =
-    proposals_within task blocks d.rows.lines proposals d.task.file d.rows.propose
+    proposals_within task blocks _ d.rows.lines proposals d.task.file d.rows.propose

@@ -35,20 +35,20 @@ head_number (read (row zero one)) = None
 head_number (read (head k name)) = Some k
 head_number (read (cycles c)) = None
 head_number (read (total t)) = None
-head_number (unread text) = None
+head_number (unread n text) = None
 
 -- the number in the last head, 0 where there is none
 unfoldable pub last_head : List Told → ℕ
 last_head lines = unwrap_or (last_of (filter_map head_number lines)) 0
 
--- whether a line is of a block: a row, read or not, or a number of cycles
+-- whether a line is of a block: a row, a number of cycles, or one that can't be read
 abbrev pub proposes : Told → Bool
 proposes (read nothing) = false
 proposes (read (row zero one)) = true
 proposes (read (head k name)) = false
 proposes (read (cycles c)) = true
 proposes (read (total t)) = false
-proposes (unread text) = true
+proposes (unread n text) = true
 
 -- the number of the block of which the lines have been last: that in the last head, 1 where lines are of a block without a
 -- head, and 0 where none has been of a block
@@ -71,23 +71,23 @@ picked pick k lines = filter_map (λ front. if block_of front == k then of_last 
 
 -- Rows
 
--- the operations of a row, on unit 0 and on unit 1: none in one that can't be read
+-- the operations of a row, on unit 0 and on unit 1; a line that can't be read is taken for an empty one
 abbrev pub row_in : Told → Option (Op × Op)
 row_in (read nothing) = None
 row_in (read (row zero one)) = Some (zero, one)
 row_in (read (head k name)) = None
 row_in (read (cycles c)) = None
 row_in (read (total t)) = None
-row_in (unread text) = Some (Nop, Nop)
+row_in (unread n text) = Some (Nop, Nop)
 
--- of a row: its text, if it can't be read
-abbrev pub unread_in : Told → Option (Option (List ℕ))
+-- of a row: its line's number and text, if it can't be read
+abbrev pub unread_in : Told → Option (Option (ℕ × List ℕ))
 unread_in (read nothing) = None
 unread_in (read (row zero one)) = Some None
 unread_in (read (head k name)) = None
 unread_in (read (cycles c)) = None
 unread_in (read (total t)) = None
-unread_in (unread text) = Some (Some text)
+unread_in (unread n text) = Some (Some (n, text))
 
 -- a number of cycles
 abbrev pub cycles_in : Told → Option ℕ
@@ -96,13 +96,13 @@ cycles_in (read (row zero one)) = None
 cycles_in (read (head k name)) = None
 cycles_in (read (cycles c)) = Some c
 cycles_in (read (total t)) = None
-cycles_in (unread text) = None
+cycles_in (unread n text) = None
 
 -- the rows of block k, which of them can't be read, and the numbers of cycles that are said of it
 abbrev pub rows_of : ℕ → List Told → List (Op × Op)
 rows_of k lines = picked row_in k lines
 
-abbrev pub unread_of : ℕ → List Told → List (Option (List ℕ))
+abbrev pub unread_of : ℕ → List Told → List (Option (ℕ × List ℕ))
 unread_of k lines = picked unread_in k lines
 
 abbrev pub claims_of : ℕ → List Told → List ℕ
@@ -133,10 +133,10 @@ numbered n (r ∷ rs) =
     ∷ numbered (n + length (filled r.0 ++ filled r.1)) rs
 
 -- the first row that can't be read, after n rows
-abbrev pub first_unread : ℕ → List (Option (List ℕ)) → Option Unread
+abbrev pub first_unread : ℕ → List (Option (ℕ × List ℕ)) → Option Unread
 first_unread n [] = None
 first_unread n (None ∷ rows) = first_unread (n + 1) rows
-first_unread n (Some text ∷ rows) = Some record { row = n; text = text }
+first_unread n (Some line ∷ rows) = Some record { line = line.0; row = n; text = line.1 }
 
 -- what the lines propose for block k
 abbrev pub proposal_of : List Told → ℕ → Proposed
@@ -169,14 +169,14 @@ abbrev pub is_named : List Block → ℕ → Option (List ℕ) → Bool
 is_named blocks k name = option_map_or (λ block. is_same_name block.name name) (slice_get blocks (k - 1)) false
 
 -- After these lines a line speaks of a block that is there: a head names one after that of which lines have been last, and
--- a row or a number of cycles comes below a head, or there is one block only.
+-- a row, a number of cycles or a line that can't be read comes below a head, or there is one block only.
 abbrev pub is_of_block : List Block → List Told → Told → Bool
 is_of_block blocks lines (read nothing) = true
 is_of_block blocks lines (read (row zero one)) = nat_lt 0 (last_block lines) || (length blocks == 1)
 is_of_block blocks lines (read (head k name)) = nat_lt (last_block lines) k && is_named blocks k name
 is_of_block blocks lines (read (cycles c)) = nat_lt 0 (last_block lines) || (length blocks == 1)
 is_of_block blocks lines (read (total t)) = true
-is_of_block blocks lines (unread text) = nat_lt 0 (last_block lines) || (length blocks == 1)
+is_of_block blocks lines (unread n text) = nat_lt 0 (last_block lines) || (length blocks == 1)
 
 -- how many operations the rows of its block have with this one, where the line is a row that was read
 abbrev pub op_count : List Told → Told → ℕ
@@ -185,7 +185,7 @@ op_count lines (read (row zero one)) = length (ops_in (rows_of (block_of lines) 
 op_count lines (read (head k name)) = 0
 op_count lines (read (cycles c)) = 0
 op_count lines (read (total t)) = 0
-op_count lines (unread text) = 0
+op_count lines (unread n text) = 0
 
 -- the line speaks of a block that is there, and its row makes no more than 10,000 operations
 pub record Fits (blocks : List Block) (lines : List Told) (line : Told) : Type 0 where

@@ -1,5 +1,5 @@
 -- Which blocks and proposals a text denotes, and which refusal.
-use Rattle.std.specs.Prelude.{◌≡◌, ℕ, ◌+◌, ◌≤◌, ◌<◌, false, true, List, [], ◌∷◌, ◌++◌, length, ◌⊎◌}
+use Rattle.std.specs.Prelude.{◌≡◌, ℕ, ◌+◌, ◌≤◌, ◌<◌, Bool, false, true, List, [], ◌∷◌, ◌++◌, length, ◌⊎◌}
 use Rattle.std.specs.List.{AllByRecursion, join_with_byte}
 use Rattle.iloc_ops.specs.Limits.{MAX_INPUT, MAX_OPS}
 use Rattle.iloc_ops.specs.declared.file.Block.{Block}
@@ -7,19 +7,19 @@ use Rattle.iloc_text.specs.declared.fault.ReadFault.{ReadFault}
 use Rattle.iloc_text.specs.declared.fault.ReadFault.TheVariants.{InputTooLong, BadLine, NumberTooLarge, TooManyBlocks, TooManyOperations, NoMemory}
 use Rattle.iloc_text.specs.Files as files
 use Rattle.iloc_text.specs.Files.{AreLines}
-use Rattle.iloc_text.specs.ScheduleLines.{SaysSomething, SaysSomethingWidely, IsScheduleLine}
+use Rattle.iloc_text.specs.ScheduleLines.{IsScheduleLine}
 use Rattle.iloc_rows.specs.declared.fault.RowsFault.{RowsFault}
 use Rattle.iloc_rows.specs.declared.fault.RowsFault.TheVariants.{Read, NoBlocks, NoSuchBlock}
 use Rattle.iloc_rows.specs.declared.proposal.Proposed.{Proposed}
-use Rattle.iloc_rows.specs.Told.{Told, OpensRow, Tells}
+use Rattle.iloc_rows.specs.Told.{Told, Tells, is_unread}
 use Rattle.iloc_rows.specs.Proposing.{proposals_of, is_of_block, op_count, AllFit}
 
--- the lines tell this, one by one
-abbrev pub TellAll : List (List ℕ) → List Told → Type 0
-TellAll [] [] = Unit {0}
-TellAll [] (t ∷ ts) = ⊥
-TellAll (line ∷ lines) [] = ⊥
-TellAll (line ∷ lines) (t ∷ ts) = Tells line t × TellAll lines ts
+-- the lines after line n tell this, one by one
+abbrev pub TellAll : ℕ → List (List ℕ) → List Told → Type 0
+TellAll n [] [] = Unit {0}
+TellAll n [] (t ∷ ts) = ⊥
+TellAll n (line ∷ lines) [] = ⊥
+TellAll n (line ∷ lines) (t ∷ ts) = Tells (n + 1) line t × TellAll (n + 1) lines ts
 
 abbrev pub StartWithSchedule : List (List ℕ) → Type 0
 StartWithSchedule [] = Unit {0}
@@ -32,10 +32,10 @@ pub record BlocksEnd (before after : List (List ℕ)) : Type 0 where
 
 -- What is proposed
 
--- the lines propose these schedules for the blocks
-pub record Propose (blocks : List Block) (lines : List (List ℕ)) (proposals : List Proposed) : Type 0 where
+-- the lines after line n propose these schedules for the blocks
+pub record Propose (blocks : List Block) (n : ℕ) (lines : List (List ℕ)) (proposals : List Proposed) : Type 0 where
   pub told : List Told
-  pub tell : TellAll lines told
+  pub tell : TellAll n lines told
   pub fit : AllFit blocks [] told
   pub are : proposals ≡ proposals_of (length blocks) told
 
@@ -48,14 +48,14 @@ pub record Denotes (input : List ℕ) (blocks : List Block) (proposals : List Pr
   pub ends : BlocksEnd before after
   pub file : files.Denotes (join_with_byte 10 before) blocks
   pub some : 0 < length blocks
-  pub propose : Propose blocks after proposals
+  pub propose : Propose blocks (length before) after proposals
 
 -- the bytes, which name no blocks, denote what is proposed for these
 pub record ProposeApart (blocks : List Block) (input : List ℕ) (proposals : List Proposed) : Type 0 where
   pub short : length input ≤ MAX_INPUT
   pub lines : List (List ℕ)
   pub are_lines : AreLines input lines
-  pub propose : Propose blocks lines proposals
+  pub propose : Propose blocks 0 lines proposals
 
 -- the bytes denote the blocks, of which there is one at least
 pub record IsTask (input : List ℕ) (blocks : List Block) : Type 0 where
@@ -69,29 +69,30 @@ pub record DenoteApart (text input : List ℕ) (blocks : List Block) (proposals 
 
 -- Refusals
 
--- after lines that tell this a line speaks of no block that is there, or makes too many operations of its block
-pub record SpeaksOfNoBlock (blocks : List Block) (lines : List Told) (line : List ℕ) : Type 0 where
+-- after lines that tell this line n is of no block that is there, and can't be read or can
+pub record IsOfNoBlock (blocks : List Block) (lines : List Told) (line : List ℕ) (n : ℕ) (unread : Bool) : Type 0 where
   pub told : Told
-  pub tells : Tells line told
+  pub tells : Tells n line told
+  pub is : is_unread told ≡ unread
   pub of_none : is_of_block blocks lines told ≡ false
 
-pub record HoldsTooManyOperations (blocks : List Block) (lines : List Told) (line : List ℕ) : Type 0 where
+-- after lines that tell this line n makes too many operations of its block
+pub record HoldsTooManyOperations (blocks : List Block) (lines : List Told) (line : List ℕ) (n : ℕ) : Type 0 where
   pub told : Told
-  pub tells : Tells line told
+  pub tells : Tells n line told
   pub of_block : is_of_block blocks lines told ≡ true
   pub many : MAX_OPS < op_count lines told
 
--- line n, after lines that tell this, has this fault; one that opens a row is never misunderstood
+-- line n, after lines that tell this, has this fault; one that can't be read is bad only where it is of no block
 abbrev pub IsFaulty : List Block → List Told → List ℕ → ℕ → RowsFault → Type 0
 IsFaulty blocks lines line n (Read InputTooLong) = ⊥
-IsFaulty blocks lines line n (Read (BadLine k)) = (k ≡ n) × (OpensRow line → ⊥) × (SaysSomethingWidely line → ⊥)
-IsFaulty blocks lines line n (Read (NumberTooLarge k)) =
-    (k ≡ n) × (OpensRow line → ⊥) × SaysSomethingWidely line × (SaysSomething line → ⊥)
+IsFaulty blocks lines line n (Read (BadLine k)) = (k ≡ n) × IsOfNoBlock blocks lines line n true
+IsFaulty blocks lines line n (Read (NumberTooLarge k)) = ⊥
 IsFaulty blocks lines line n (Read (TooManyBlocks k)) = ⊥
-IsFaulty blocks lines line n (Read (TooManyOperations k)) = (k ≡ n) × HoldsTooManyOperations blocks lines line
+IsFaulty blocks lines line n (Read (TooManyOperations k)) = (k ≡ n) × HoldsTooManyOperations blocks lines line n
 IsFaulty blocks lines line n (Read NoMemory) = ⊥
 IsFaulty blocks lines line n NoBlocks = ⊥
-IsFaulty blocks lines line n (NoSuchBlock k) = (k ≡ n) × SpeaksOfNoBlock blocks lines line
+IsFaulty blocks lines line n (NoSuchBlock k) = (k ≡ n) × IsOfNoBlock blocks lines line n false
 
 -- the first faulty one of the lines after line n has this fault
 pub record HaveFirstFault (blocks : List Block) (n : ℕ) (lines : List (List ℕ)) (fault : RowsFault) : Type 0 where
@@ -100,7 +101,7 @@ pub record HaveFirstFault (blocks : List Block) (n : ℕ) (lines : List (List �
   pub after : List (List ℕ)
   pub whole : lines ≡ before ++ line ∷ after
   pub told : List Told
-  pub tell : TellAll before told
+  pub tell : TellAll n before told
   pub fit : AllFit blocks [] told
   pub faulty : IsFaulty blocks told line (n + length before + 1) fault
 
@@ -138,8 +139,7 @@ pub record RowsAreRefused (input : List ℕ) (fault : RowsFault) : Type 0 where
 abbrev pub IsRefused : List ℕ → RowsFault → Type 0
 IsRefused input (Read InputTooLong) = MAX_INPUT < length input
 IsRefused input (Read (BadLine n)) = BlocksAreRefused input (BadLine n) ⊎ RowsAreRefused input (Read (BadLine n))
-IsRefused input (Read (NumberTooLarge n)) =
-    BlocksAreRefused input (NumberTooLarge n) ⊎ RowsAreRefused input (Read (NumberTooLarge n))
+IsRefused input (Read (NumberTooLarge n)) = BlocksAreRefused input (NumberTooLarge n)
 IsRefused input (Read (TooManyBlocks n)) = BlocksAreRefused input (TooManyBlocks n)
 IsRefused input (Read (TooManyOperations n)) =
     BlocksAreRefused input (TooManyOperations n) ⊎ RowsAreRefused input (Read (TooManyOperations n))
@@ -158,7 +158,7 @@ pub record HaveFault (blocks : List Block) (input : List ℕ) (fault : RowsFault
 abbrev pub AreRefusedFor : List Block → List ℕ → RowsFault → Type 0
 AreRefusedFor blocks input (Read InputTooLong) = MAX_INPUT < length input
 AreRefusedFor blocks input (Read (BadLine n)) = HaveFault blocks input (Read (BadLine n))
-AreRefusedFor blocks input (Read (NumberTooLarge n)) = HaveFault blocks input (Read (NumberTooLarge n))
+AreRefusedFor blocks input (Read (NumberTooLarge n)) = ⊥
 AreRefusedFor blocks input (Read (TooManyBlocks n)) = ⊥
 AreRefusedFor blocks input (Read (TooManyOperations n)) = HaveFault blocks input (Read (TooManyOperations n))
 AreRefusedFor blocks input (Read NoMemory) = ⊥

@@ -9,8 +9,8 @@ use std::fmt::{self, Display, Formatter};
 /// Why a text denotes no blocks with proposals. Lines are counted from 1.
 #[derive(Clone, Copy, Debug, Drop, PartialEq, Eq)]
 pub enum RowsFault {
-    /// As a file of blocks is refused; of a schedule line, that it isn't understood, that it would be if numbers had no
-    /// limit, or that it has operation 10,001 of its block's rows.
+    /// As a file of blocks is refused; of a line below them, that it can't be read and is of no block, or that it has
+    /// operation 10,001 of its block's rows.
     Read(ReadFault),
     /// There is no block.
     NoBlocks,

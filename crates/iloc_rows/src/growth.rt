@@ -4,11 +4,13 @@ ghost use Rattle.std.specs.Option.{option_copied};
 ghost use Rattle.iloc_text.specs.ScheduleLines.{said_of};
 ghost use Rattle.iloc_rows.specs.Told.{Told, told_of};
 ghost use Rattle.iloc_rows.specs.Told.Told.{read};
+ghost use Rattle.iloc_text.specs.declared.fault.ReadFault.TheVariants.{BadLine as bad_line};
+ghost use Rattle.iloc_rows.specs.declared.fault.RowsFault.TheVariants.{Read as read_fault, NoSuchBlock as no_such_block};
 ghost use Rattle.iloc_rows.specs.Proposing.{is_empty, filled, slot, is_same_name, is_named, proposals_of};
 ghost use Rattle.iloc_rows.specs.Steps.Growth.{none_proposed, with_row, with_cycles, with_unread, or_this, place, at_place, HasProposed, Adds, Becomes, RowAdds, Turns};
 
 use crate::fault::RowsFault;
-use crate::proposal::{Proposed, RowOps, RowText, Rows, Unread};
+use crate::proposal::{LineText, Proposed, RowOps, Rows, Unread};
 use crate::proposing::Proposing;
 use crate::told::ToldLine;
 use iloc_text::{Block, MAX_OPS, Name, NoMemory, Op, ReadFault, ScheduleLine};
@@ -81,27 +83,27 @@ impl Proposed {
         Ok(())
     }
 
-    /// Notes the row that comes next as one that can't be read, unless there is one already.
-    fn note_unread(&mut self, alloc: Global, text: &[u8]) -> Result<(), NoMemory>
+    /// Notes the row that comes next as a line that can't be read, unless there is one already.
+    fn note_unread(&mut self, alloc: Global, text: &[u8], line: u32) -> Result<(), NoMemory>
         requires { length self.old.rows < MAX_ROWS }
         ensures { OnOk result (self.new ≡ record self.old {
-          unread = or_this self.old.unread record { row = length self.old.rows; text = text.now };
+          unread = or_this self.old.unread record { line = line; row = length self.old.rows; text = text.now };
         }) }
     {
         if self.unread.is_none() {
-            let text = RowText::of(alloc, text)?;
+            let text = LineText::of(alloc, text)?;
             let row = self.rows.as_slice().len() as u32;
-            self.unread = Some(Unread { row, text });
+            self.unread = Some(Unread { line, row, text });
         }
         Ok(())
     }
 
-    /// Adds a row that can't be read.
-    fn push_unread(&mut self, alloc: Global, text: &[u8]) -> Result<(), NoMemory>
+    /// Adds a line that can't be read, as an empty row.
+    fn push_unread(&mut self, alloc: Global, text: &[u8], line: u32) -> Result<(), NoMemory>
         requires { length self.old.rows < MAX_ROWS }
-        ensures { OnOk result (self.new ≡ with_unread self.old text.now) }
+        ensures { OnOk result (self.new ≡ with_unread self.old line text.now) }
     {
-        self.note_unread(alloc, text)?;
+        self.note_unread(alloc, text, line)?;
         self.rows.push(Row {
             zero: None,
             one: None,
@@ -149,15 +151,21 @@ impl Proposing {
         Ok(())
     }
 
-    /// Adds a row that can't be read to what is proposed for the block at this place.
-    fn push_unread(&mut self, alloc: Global, i: usize, text: &[u8]) -> Result<(), NoMemory>
+    /// Adds a line that can't be read to what is proposed for the block at this place.
+    fn push_unread(
+        &mut self,
+        alloc: Global,
+        i: usize,
+        text: &[u8],
+        line: u32,
+    ) -> Result<(), NoMemory>
         requires within { i < vec_len self.old.proposals }
         requires few { length (at_place self.old.proposals.items i).rows < MAX_ROWS }
         ensures proposals { OnOk result (self.new.proposals.items
-            ≡ slice_set self.old.proposals.items i (with_unread (at_place self.old.proposals.items i) text.now)) }
+            ≡ slice_set self.old.proposals.items i (with_unread (at_place self.old.proposals.items i) line text.now)) }
         ensures last { self.new.last ≡ self.old.last }
     {
-        self.proposals[i].push_unread(alloc, text)?;
+        self.proposals[i].push_unread(alloc, text, line)?;
         Ok(())
     }
 
@@ -189,7 +197,7 @@ impl Proposing {
 
     /// Adds a claim on the line with this number.
     fn add_cycles(&mut self, cycles: u32, number: u32) -> Result<(), RowsFault>
-        ensures { Becomes self.old (λ p. with_cycles p cycles) number self.new result }
+        ensures { Becomes self.old (λ p. with_cycles p cycles) (no_such_block number) self.new result }
     {
         let Some(i) = self.place() else {
             return Err(RowsFault::NoSuchBlock(number));
@@ -199,15 +207,15 @@ impl Proposing {
         Ok(())
     }
 
-    /// Adds a row that can't be read, on the line with this number.
+    /// Adds a line that can't be read, with its number.
     fn add_unread(&mut self, alloc: Global, text: &[u8], number: u32) -> Result<(), RowsFault>
         requires { (i : ℕ) → length (at_place self.old.proposals.items i).rows < MAX_ROWS }
-        ensures { Becomes self.old (λ p. with_unread p text.now) number self.new result }
+        ensures { Becomes self.old (λ p. with_unread p number text.now) (read_fault (bad_line number)) self.new result }
     {
         let Some(i) = self.place() else {
-            return Err(RowsFault::NoSuchBlock(number));
+            return Err(RowsFault::Read(ReadFault::BadLine(number)));
         };
-        self.push_unread(alloc, i, text)?;
+        self.push_unread(alloc, i, text, number)?;
         self.last = self.last.max(1);
         Ok(())
     }
@@ -262,7 +270,7 @@ impl Proposing {
     ) -> Result<(), RowsFault>
         requires { (lines : List Told) × HasProposed blocks.now lines self.old × (length lines < MAX_ROWS) }
         ensures { (lines : List Told) → HasProposed blocks.now lines self.old →
-            Adds blocks.now lines (told_of line.entry) number self.new result }
+            Adds blocks.now lines (told_of number line.entry) number self.new result }
     {
         match line {
             ToldLine::Reads(line) => self.add_read(blocks, line, number),

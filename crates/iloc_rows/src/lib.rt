@@ -11,5 +11,5 @@ mod reader;
 mod told;
 
 pub use fault::RowsFault;
-pub use proposal::{Proposal, Proposals, RowText, Unread};
+pub use proposal::{LineText, Proposal, Proposals, Unread};
 pub use reader::{Submission, read_rows, read_submission, read_task};

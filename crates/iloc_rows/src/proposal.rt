@@ -14,7 +14,7 @@ use iloc_ops::{NoMemory, Op};
 use iloc_timed::{MAX_ROWS, Row, Schedule};
 use std::alloc::Global;
 use std::marker::Model;
-pub use unread::{RowText, Unread};
+pub use unread::{LineText, Unread};
 
 /// The rows that are proposed for a block, the first for cycle 0, no more than a schedule may have.
 #[derive(Debug, Drop)]
@@ -112,13 +112,13 @@ pub struct Proposed {
     pub rows: Rows,
     /// The last number of cycles that is claimed for the block.
     pub claimed: Option<u32>,
-    /// The first row that can't be read.
+    /// The first line that can't be read.
     pub unread: Option<Unread>,
 }
 
 /// What is proposed for a block: the operations of its rows in order, in each row that on unit 0 first; the rows, with
-/// each operation in its own slot; how many cycles are claimed, if any are; and the first row that can't be read, if there is
-/// one. Such a row is there without operations.
+/// each operation in its own slot; how many cycles are claimed, if any are; and the first line that can't be read, if there
+/// is one. Such a line is there as a row without operations.
 ///
 /// Promise: each number in a row is an operation's, and each operation is in exactly one slot.
 #[derive(Debug, Drop)]
@@ -162,7 +162,7 @@ impl Proposal {
         self.proposed.claimed
     }
 
-    /// Promise: lends the first row that can't be read.
+    /// Promise: lends the first line that can't be read.
     pub fn unread(&self) -> Option<&Unread>
         ensures { option_copied result ≡ self.now.unread }
     {

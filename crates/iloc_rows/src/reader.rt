@@ -10,7 +10,7 @@ use crate::fault::RowsFault;
 use crate::proposal::Proposals;
 use crate::proposing::Proposing;
 use crate::told::read_told_line;
-use iloc_text::{Block, Blocks, MAX_INPUT, ParseFault, ReadFault, read_file, split_line};
+use iloc_text::{Block, Blocks, MAX_INPUT, ReadFault, read_file, split_line};
 use std::alloc::Global;
 
 /// Blocks, and what is proposed for each.
@@ -30,7 +30,7 @@ fn read_proposals(
     lines: u32,
 ) -> Result<Proposals, RowsFault>
     requires { lines + length (lines_left rows) ≤ MAX_INPUT + 1 }
-    ensures ok { IfOk result (Propose blocks.now (lines_left rows.entry)) }
+    ensures ok { IfOk result (Propose blocks.now lines (lines_left rows.entry)) }
     ensures err { IfErr result (λ fault. fault ≢ read no_memory →
         HaveFirstFault blocks.now lines (lines_left rows.entry) fault) }
 {
@@ -40,14 +40,7 @@ fn read_proposals(
     while let Some(text) = rest {
         number += 1;
         let (bytes, after) = split_line(text);
-        let line = match read_told_line(bytes) {
-            Ok(line) => line,
-            Err(ParseFault::Bad) => return Err(RowsFault::Read(ReadFault::BadLine(number))),
-            Err(ParseFault::NumberTooLarge) => {
-                return Err(RowsFault::Read(ReadFault::NumberTooLarge(number)));
-            }
-        };
-        proposing.add(alloc, blocks, line, number)?;
+        proposing.add(alloc, blocks, read_told_line(bytes), number)?;
         rest = after;
     }
     Ok(Proposals::of(alloc, proposing.proposals)?)
@@ -59,9 +52,8 @@ fn read_proposals(
 ///
 /// The blocks end before the first schedule line, and what precedes it is read as `iloc_text::read_file` reads it. If that
 /// has no block, the text is refused whatever follows. A text that is too long is refused before any line is looked at;
-/// otherwise the earliest faulty line is named. On one line `BadLine` comes before `NumberTooLarge`, `NoSuchBlock` and
-/// `TooManyOperations`. A line below the blocks that begins with `[` and can't be read is a row without operations, and
-/// neither bad nor too large. `NoMemory` may come instead, if a growth is refused.
+/// otherwise the earliest faulty line is named. A line below the blocks that can't be read is a row without operations of its
+/// block, and bad only where there is no block of which it could be. `NoMemory` may come instead, if a growth is refused.
 pub fn read_submission(alloc: Global, input: &[u8]) -> Result<Submission, RowsFault>
     ensures ok { IfOk result (λ found. Denotes input.now found.blocks found.proposals) }
     ensures err { IfErr result (λ fault. fault ≢ read no_memory → IsRefused input.now fault) }

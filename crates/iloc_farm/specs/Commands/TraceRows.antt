@@ -11,7 +11,7 @@ use Rattle.iloc_rows.specs.declared.proposal.unread.Unread.{Unread}
 use Rattle.iloc_rows.specs.EitherSlot.{placed}
 use Rattle.iloc_args.specs.declared.request.Request.{Request}
 use Rattle.iloc_judge.specs.Listing.{bad_row}
-use Rattle.iloc_judge.specs.Unread.{unread_told}
+use Rattle.iloc_judge.specs.Unread.{IsUnreadLine}
 use Rattle.iloc_trace.specs.Events.{events}
 use Rattle.iloc_trace.specs.Listing.{trace_lines}
 use Rattle.iloc_farm.specs.Commands.Run.{initial_memory}
@@ -30,17 +30,12 @@ pub record BreakTheUnits (ops : List Op) (rows : List Row) (text : List ℕ) : T
   pub first : IsFirstBadRow ops rows row
   pub listed : text ≡ bad_row ops rows row
 
--- the line names this row, which can't be read, and has some words for what is wrong with it
-pub record IsUnreadLine (row : ℕ) (text : List ℕ) : Type 0 where
-  pub words : List ℕ
-  pub listed : text ≡ unread_told row words
-
--- what is listed of rows, the first of which that can't be read is this one, if there is one: what they do, if they are traced
+-- what is listed of rows, of which this is the first line that can't be read, if there is one: what they do, if they are traced
 abbrev pub IsTraceOf : Option Unread → Bool → Latencies → List ℤ → List Op → List Row → List ℕ → Type 0
 IsTraceOf None true lat memory ops rows text = AreTraced lat memory ops rows text
 IsTraceOf None false lat memory ops rows text = BreakTheUnits ops rows text
 IsTraceOf (Some unread) true lat memory ops rows text = ⊥
-IsTraceOf (Some unread) false lat memory ops rows text = IsUnreadLine unread.row text
+IsTraceOf (Some unread) false lat memory ops rows text = IsUnreadLine unread text
 
 -- the entry of block k and its proposal: the block's number and its name, and what the rows do, or why they aren't traced
 pub record IsRowsTraceEntry (lat : Latencies) (memory : List ℤ) (k : ℕ) (of : Block × Proposed) (entry : List ℕ)

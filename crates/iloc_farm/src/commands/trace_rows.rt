@@ -7,7 +7,7 @@ use crate::lister::initial_memory;
 use crate::listing::push_block_head;
 use crate::rows::RowLister;
 use iloc_args::Request;
-use iloc_judge::{push_bad_row, push_unread_row};
+use iloc_judge::{push_bad_row, push_unread_line};
 use iloc_rows::Proposal;
 use iloc_text::{Block, NoMemory};
 use iloc_timed::Latencies;
@@ -18,8 +18,8 @@ use std::alloc::Global;
 #[derive(Drop)]
 pub(crate) struct RowsTracer(Tracer);
 
-/// Appends what a proposal does, and answers `true`; of one with a row that can't be read, or that breaks the rules of the units,
-/// it appends the line that `check` has for the first such row.
+/// Appends what a proposal does, and answers `true`; of one with a line that can't be read, or a row that breaks the rules of
+/// the units, it appends the line that `check` has for the first.
 fn push_traced(
     alloc: Global,
     text: &mut Vec<u8>,
@@ -33,7 +33,7 @@ fn push_traced(
         × (text.new.items ≡ text.old.items ++ entry)) }
 {
     if let Some(unread) = proposal.unread() {
-        push_unread_row(alloc, text, unread)?;
+        push_unread_line(alloc, text, unread)?;
         return Ok(false);
     }
     if let Some(row) = proposal.bad_row() {

@@ -6,6 +6,7 @@ ghost use Rattle.iloc_judge.specs.Listing as listed;
 ghost use Rattle.iloc_judge.specs.Steps.Counted.{IsCounted, CanBeCompared, CanBeListed};
 
 use super::reason::push_reasons;
+use super::unit_rule::push_broken_rule;
 use crate::comparison::Comparison;
 use crate::difference::Difference;
 use crate::refutation::probe::Probe;
@@ -111,7 +112,7 @@ fn push_comparison(text: &mut Vec<u8>, comparison: &Comparison) -> Result<(), No
     Ok(text.extend_from_slice(b"\n")?)
 }
 
-/// Promise: appends the line of this row, as one that breaks the rules of the units.
+/// Promise: appends the line of this row, as one that breaks the rules of the units, with the rule.
 pub fn push_bad_row(
     text: &mut Vec<u8>,
     ops: &[Op],
@@ -125,7 +126,18 @@ pub fn push_bad_row(
     push_number(text, row as u64)?;
     text.extend_from_slice(b": ")?;
     push_row(text, ops, &rows[row])?;
+    push_broken_rule(text, ops, &rows[row])?;
     Ok(text.extend_from_slice(b"\n")?)
+}
+
+/// Appends that a proposal has no rows, if it has none.
+fn push_no_rows(text: &mut Vec<u8>, rows: &[Row]) -> Result<(), NoMemory>
+    ensures { OnOk result (text.new.items ≡ text.old.items ++ listed.no_rows_told rows.now) }
+{
+    if rows.is_empty() {
+        text.extend_from_slice(b"  no rows\n")?;
+    }
+    Ok(())
 }
 
 /// Appends that it isn't decided whether rows are by the book, unless this is the verdict.
@@ -154,10 +166,12 @@ pub(crate) fn push_detail(
         Verdict::Units(row) => push_bad_row(text, ops, rows, *row),
         Verdict::Lawful => Ok(()),
         Verdict::Unlawful(reasons, comparison) => {
+            push_no_rows(text, rows)?;
             push_comparison(text, comparison)?;
             push_reasons(text, reasons)
         }
         Verdict::Undecided(comparison) => {
+            push_no_rows(text, rows)?;
             push_comparison(text, comparison)?;
             push_undecided(text, lawful)
         }

@@ -1,5 +1,5 @@
 -- How what is proposed grows by one line.
-use Rattle.std.specs.Prelude.{◌≡◌, ℕ, ◌+◌, ◌-◌, ◌≤◌, ◌<◌, nat_lt, max, ◌==◌, ◌&&◌, true, false, if◌then◌else◌, Option, Some, None, Result, Ok, Err, List, [], ◌∷◌, ◌++◌, length, slice_index_or, slice_set}
+use Rattle.std.specs.Prelude.{◌≡◌, ◌≢◌, ℕ, ◌+◌, ◌-◌, ◌≤◌, ◌<◌, nat_lt, max, ◌==◌, ◌&&◌, true, false, if◌then◌else◌, Option, Some, None, Result, Ok, Err, List, [], ◌∷◌, ◌++◌, length, slice_index_or, slice_set}
 use Rattle.iloc_ops.specs.Limits.{MAX_OPS}
 use Rattle.iloc_ops.specs.declared.op.Op.{Op}
 use Rattle.iloc_ops.specs.declared.file.Block.{Block}
@@ -9,7 +9,7 @@ use Rattle.iloc_rows.specs.declared.fault.RowsFault.TheVariants.{Read, NoBlocks,
 use Rattle.iloc_rows.specs.declared.proposal.Proposed.{Proposed}
 use Rattle.iloc_rows.specs.declared.proposal.unread.Unread.{Unread}
 use Rattle.iloc_rows.specs.declared.proposing.Proposing.{Proposing}
-use Rattle.iloc_rows.specs.Told.{Told}
+use Rattle.iloc_rows.specs.Told.{Told, is_unread}
 use Rattle.iloc_rows.specs.Proposing.{last_block, filled, slot, is_named, proposals_of, is_of_block, op_count, Fits}
 
 -- nothing is proposed
@@ -30,13 +30,13 @@ abbrev pub or_this : Option Unread → Unread → Option Unread
 or_this None u = Some u
 or_this (Some first) u = Some first
 
--- one more row is proposed that can't be read
-abbrev pub with_unread : Proposed → List ℕ → Proposed
-with_unread p text = record {
+-- one more row is proposed, a line that can't be read, with its number
+abbrev pub with_unread : Proposed → ℕ → List ℕ → Proposed
+with_unread p n text = record {
   ops = p.ops;
   rows = p.rows ++ record { zero = None; one = None } ∷ [];
   claimed = p.claimed;
-  unread = or_this p.unread record { row = length p.rows; text = text };
+  unread = or_this p.unread record { line = n; row = length p.rows; text = text };
 }
 
 -- so many cycles are claimed
@@ -59,14 +59,16 @@ pub record HasProposed (blocks : List Block) (lines : List Told) (state : Propos
 abbrev pub Adds : List Block → List Told → Told → ℕ → Proposing → Result (Unit {0}) RowsFault → Type 0
 Adds blocks lines told number state (Ok done) = Fits blocks lines told × HasProposed blocks (lines ++ told ∷ []) state
 Adds blocks lines told number state (Err (Read InputTooLong)) = ⊥
-Adds blocks lines told number state (Err (Read (BadLine n))) = ⊥
+Adds blocks lines told number state (Err (Read (BadLine n))) =
+    (n ≡ number) × (is_unread told ≡ true) × (is_of_block blocks lines told ≡ false)
 Adds blocks lines told number state (Err (Read (NumberTooLarge n))) = ⊥
 Adds blocks lines told number state (Err (Read (TooManyBlocks n))) = ⊥
 Adds blocks lines told number state (Err (Read (TooManyOperations n))) =
     (n ≡ number) × (is_of_block blocks lines told ≡ true) × (MAX_OPS < op_count lines told)
 Adds blocks lines told number state (Err (Read NoMemory)) = Unit {0}
 Adds blocks lines told number state (Err NoBlocks) = ⊥
-Adds blocks lines told number state (Err (NoSuchBlock n)) = (n ≡ number) × (is_of_block blocks lines told ≡ false)
+Adds blocks lines told number state (Err (NoSuchBlock n)) =
+    (n ≡ number) × (is_unread told ≡ false) × (is_of_block blocks lines told ≡ false)
 
 -- so does a row in this state
 abbrev pub RowAdds : Proposing → Op → Op → ℕ → Proposing → Result (Unit {0}) RowsFault → Type 0
@@ -86,21 +88,15 @@ RowAdds old zero one number new (Err NoBlocks) = ⊥
 RowAdds old zero one number new (Err (NoSuchBlock n)) =
     (n ≡ number) × (place old.last (length old.proposals.items) ≡ None)
 
--- so does a line without operations by which the proposal becomes another: a number of cycles, or a row that can't be read
-abbrev pub Becomes : Proposing → (Proposed → Proposed) → ℕ → Proposing → Result (Unit {0}) RowsFault → Type 0
-Becomes old change number new (Ok done) =
+-- So does a line without operations by which the proposal becomes another: a number of cycles, or a line that can't be read.
+-- Where there is no block of which it could be, it has this fault.
+abbrev pub Becomes : Proposing → (Proposed → Proposed) → RowsFault → Proposing → Result (Unit {0}) RowsFault → Type 0
+Becomes old change homeless new (Ok done) =
     (i : ℕ) × (place old.last (length old.proposals.items) ≡ Some i)
     × (new.proposals.items ≡ slice_set old.proposals.items i (change (at_place old.proposals.items i)))
     × (new.last ≡ max 1 old.last)
-Becomes old change number new (Err (Read InputTooLong)) = ⊥
-Becomes old change number new (Err (Read (BadLine n))) = ⊥
-Becomes old change number new (Err (Read (NumberTooLarge n))) = ⊥
-Becomes old change number new (Err (Read (TooManyBlocks n))) = ⊥
-Becomes old change number new (Err (Read (TooManyOperations n))) = ⊥
-Becomes old change number new (Err (Read NoMemory)) = Unit {0}
-Becomes old change number new (Err NoBlocks) = ⊥
-Becomes old change number new (Err (NoSuchBlock n)) =
-    (n ≡ number) × (place old.last (length old.proposals.items) ≡ None)
+Becomes old change homeless new (Err fault) =
+    fault ≢ Read NoMemory → (fault ≡ homeless) × (place old.last (length old.proposals.items) ≡ None)
 
 -- so does a head
 abbrev pub Turns : List Block → Proposing → ℕ → Option (List ℕ) → ℕ → Proposing → Result (Unit {0}) RowsFault → Type 0

@@ -1,17 +1,17 @@
-//! A row that can't be read.
+//! A line that can't be read.
 ghost use Rattle.std.specs.Prelude.{◌≡◌, IfOk};
 
 use iloc_ops::NoMemory;
 use std::alloc::Global;
 use std::marker::Model;
 
-/// The text of a row, as it is written.
+/// The text of a line, as it is written.
 #[derive(Debug, Drop)]
-pub struct RowText {
+pub struct LineText {
     bytes: Vec<u8>,
 }
 
-impl Model for RowText {
+impl Model for LineText {
     ghost use Rattle.std.specs.Prelude.{ℕ, List};
 
     ghost Value = { List ℕ };
@@ -19,12 +19,12 @@ impl Model for RowText {
     ghost view = { λ text. text.bytes.items };
 }
 
-impl RowText {
+impl LineText {
     /// These bytes.
-    pub(crate) fn of(alloc: Global, bytes: &[u8]) -> Result<RowText, NoMemory>
+    pub(crate) fn of(alloc: Global, bytes: &[u8]) -> Result<LineText, NoMemory>
         ensures { IfOk result (λ text. text ≡ bytes.now) }
     {
-        Ok(RowText {
+        Ok(LineText {
             bytes: Vec::from_slice(alloc, bytes)?,
         })
     }
@@ -37,11 +37,13 @@ impl RowText {
     }
 }
 
-/// A row that can't be read.
+/// A line among rows that can't be read.
 #[derive(Debug, Drop)]
 pub struct Unread {
+    /// Its number, counted from the first line of the text.
+    pub line: u32,
     /// How many rows of its block precede it.
     pub row: u32,
     /// Its text.
-    pub text: RowText,
+    pub text: LineText,
 }

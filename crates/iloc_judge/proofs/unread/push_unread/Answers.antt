@@ -31,6 +31,7 @@ returns c =
         is_found =
             rw (c.cycles_of.ensures, c.ops-ops.ensures, c.rows-rows.ensures.rows, c.cycles.ensures, bound) refl;
         words = words;
+        are_words = c.in_ok-words.ensures;
         listed = refl;
       },
       rw (c.deref.ensures.value, c.claimed-claimed.ensures) at c.in_ok-push_unread_as.ensures,

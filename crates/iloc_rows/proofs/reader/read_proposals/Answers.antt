@@ -1,10 +1,7 @@
-use Rattle.std.proofs.Common.{◌∙◌, ◌+◌, Some, None, Err, refl, ap, length, arith, subst, sym}
+use Rattle.std.proofs.Common.{◌∙◌, ◌+◌, Some, None, Err, ap, length, arith, subst, sym}
 use Rattle.std.proofs.lemmas.Result.{err_from_is_err_and}
-use Rattle.iloc_text.specs.declared.fault.ReadFault.TheVariants.{BadLine, NumberTooLarge}
-use Rattle.iloc_text.specs.ScheduleLines.{SaysSomething, SaysSomethingWidely}
-use Rattle.iloc_rows.specs.Told.{OpensRow, Tells, told_of}
+use Rattle.iloc_rows.specs.Told.{told_of}
 use Rattle.iloc_text.specs.Lines.{lines_left}
-use Rattle.iloc_rows.specs.declared.fault.RowsFault.TheVariants.{Read}
 use Rattle.iloc_rows.specs.Submissions.{Propose, HaveFirstFault}
 use Rattle.iloc_rows.proofs.Reading.{Progress, progress_begins, progress_step, progress_number, progress_room, progress_ends, fault_here, added_faulty, err_is}
 use Rattle.iloc_rows.proofs.Within.{proposed_numbered}
@@ -17,24 +14,6 @@ loop-rest-init c = progress_begins c.args.blocks.now c.args.lines c.in_ok-propos
 pub overflow_add-number : goal.overflow_add-number
 overflow_add-number c = omega (arith, progress_number c.loop-rest.invariant, c.requires)
 
-pub returns-in-Err-Bad-clause-err : goal.returns-in-Err-Bad-clause-err
-returns-in-Err-Bad-clause-err c = λ memory.
-    let here : Progress c.args.blocks.now c.args.lines (lines_left c.args.rows) c.loop-rest.proposing
-    c.loop-rest.number (Some c.in-Some.text) = rw c.in-Some.is at c.loop-rest.invariant in
-    let bad : (OpensRow c.split_line.result.0.now → ⊥) × (SaysSomethingWidely c.split_line.result.0.now → ⊥) =
-    rw (c.in-Err-Bad.is, c.in-Err-Bad.field-0-is) at c.read_told_line.ensures in
-    fault_here here c.split_line.result.0.now c.split_line.result.1 (Read (BadLine (c.loop-rest.number + 1)))
-    c.split_line.ensures (refl, bad.0, bad.1)
-
-pub returns-in-Err-NumberTooLarge-clause-err : goal.returns-in-Err-NumberTooLarge-clause-err
-returns-in-Err-NumberTooLarge-clause-err c = λ memory.
-    let here : Progress c.args.blocks.now c.args.lines (lines_left c.args.rows) c.loop-rest.proposing
-    c.loop-rest.number (Some c.in-Some.text) = rw c.in-Some.is at c.loop-rest.invariant in
-    let large : (OpensRow c.split_line.result.0.now → ⊥) × SaysSomethingWidely c.split_line.result.0.now × (SaysSomething c.split_line.result.0.now → ⊥) =
-    rw (c.in-Err-NumberTooLarge.is, c.in-Err-NumberTooLarge.field-0-is) at c.read_told_line.ensures in
-    fault_here here c.split_line.result.0.now c.split_line.result.1 (Read (NumberTooLarge (c.loop-rest.number + 1)))
-    c.split_line.ensures (refl, large.0, large.1, large.2)
-
 pub add-requires : goal.add-requires
 add-requires c =
     (c.loop-rest.invariant.told, c.loop-rest.invariant.proposed, progress_room c.loop-rest.invariant c.requires)
@@ -43,23 +22,22 @@ pub returns-in_err-add-clause-err : goal.returns-in_err-add-clause-err
 returns-in_err-add-clause-err c =
     let here : Progress c.args.blocks.now c.args.lines (lines_left c.args.rows) c.loop-rest.proposing
     c.loop-rest.number (Some c.in-Some.text) = rw c.in-Some.is at c.loop-rest.invariant in
-    let says : Tells c.split_line.result.0.now (told_of c.in-Ok.line) = rw c.in-Ok.is at c.read_told_line.ensures in
     let exit = err_from_is_err_and c.from_residual-in_err-add.result c.from_residual-in_err-add.ensures.1 in
     err_is (HaveFirstFault c.args.blocks.now c.args.lines (lines_left c.args.rows)) c.from_residual-in_err-add.result
     c.in_err-add.field-0.0 (exit.1 ∙ ap (λ e. Err e) exit.2)
     (λ memory. fault_here here c.split_line.result.0.now c.split_line.result.1 c.in_err-add.field-0.0
     c.split_line.ensures
-    (added_faulty c.args.blocks.now here.told c.split_line.result.0.now (told_of c.in-Ok.line)
-    (c.loop-rest.number + 1) c.add.new.self c.in_err-add.field-0.0 says
+    (added_faulty c.args.blocks.now here.told c.split_line.result.0.now (told_of (c.loop-rest.number + 1) c.read_told_line.result)
+    (c.loop-rest.number + 1) c.add.new.self c.in_err-add.field-0.0
+    (c.read_told_line.ensures (c.loop-rest.number + 1))
     (c.in_err-add.ensures here.told here.proposed) memory))
 
 pub loop-rest-preserved : goal.loop-rest-preserved
 loop-rest-preserved c =
     let here : Progress c.args.blocks.now c.args.lines (lines_left c.args.rows) c.loop-rest.proposing
     c.loop-rest.number (Some c.in-Some.text) = rw c.in-Some.is at c.loop-rest.invariant in
-    let says : Tells c.split_line.result.0.now (told_of c.in-Ok.line) = rw c.in-Ok.is at c.read_told_line.ensures in
-    progress_step here c.split_line.result.0.now c.split_line.result.1 (told_of c.in-Ok.line) c.add.new.self
-    c.split_line.ensures says (c.in_ok-add.ensures here.told here.proposed)
+    progress_step here c.split_line.result.0.now c.split_line.result.1 (told_of (c.loop-rest.number + 1) c.read_told_line.result) c.add.new.self
+    c.split_line.ensures (c.read_told_line.ensures (c.loop-rest.number + 1)) (c.in_ok-add.ensures here.told here.proposed)
 
 pub loop-rest-smaller : goal.loop-rest-smaller
 loop-rest-smaller c =
@@ -69,10 +47,10 @@ pub of-requires : goal.of-requires
 of-requires c =
     let here : Progress c.args.blocks.now c.args.lines (lines_left c.args.rows) c.loop-rest.proposing
     c.loop-rest.number None = rw c.in_default.is at c.loop-rest.invariant in
-    proposed_numbered c.args.blocks.now (lines_left c.args.rows) _ (progress_ends here)
+    proposed_numbered c.args.blocks.now c.args.lines (lines_left c.args.rows) _ (progress_ends here)
 
 pub returns-clause-ok : goal.returns-clause-ok
 returns-clause-ok c =
     let here : Progress c.args.blocks.now c.args.lines (lines_left c.args.rows) c.loop-rest.proposing
     c.loop-rest.number None = rw c.in_default.is at c.loop-rest.invariant in
-    subst (Propose c.args.blocks.now (lines_left c.args.rows)) (sym c.in_ok-of.ensures) (progress_ends here)
+    subst (Propose c.args.blocks.now c.args.lines (lines_left c.args.rows)) (sym c.in_ok-of.ensures) (progress_ends here)

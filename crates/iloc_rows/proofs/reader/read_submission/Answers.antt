@@ -55,5 +55,5 @@ returns-clause-ok c =
     c.if-input-gt-MAX_INPUT.false c.in_ok-file.ensures.ok
     (some_block c.is_empty.result c.in_ok-file.file.blocks c.as_slice-blocks.result.now c.is_empty.ensures c.if-is_empty.false
     c.as_slice-blocks.ensures)
-    (subst (λ blocks. Propose blocks (lines_left c.cut_before_rows-cut.result.rows) c.in_ok-proposals.proposals)
+    (subst (λ blocks. Propose blocks c.cut_before_rows-cut.result.lines (lines_left c.cut_before_rows-cut.result.rows) c.in_ok-proposals.proposals)
     c.as_slice-blocks.ensures c.in_ok-proposals.ensures.ok)
