@@ -4,7 +4,7 @@ from handins import shown
 USUAL = {"load": 5, "store": 5, "mult": 3}      # latencies
 VERDICTS = {
     "lawful": "Right, a schedule of the block.", "same": "Right on every memory.", "prints": "Prints what it should.",
-    "differs": "Wrong.", "units": "Wrong: a row breaks the rules of the units.", "unread": "A row can't be read.",
+    "differs": "Wrong.", "units": "Wrong: a row breaks the rules of the units.", "unread": "A line can't be read.",
     "agrees": "Perhaps right: no difference was found, nor a proof that there is none. Ask the staff.",
     "undecided": "It isn't known whether this is a schedule by the book. Ask the staff.",
     "void": "Nothing can be said of this task. Tell the staff.",

@@ -6,7 +6,7 @@ from harness.program import COMMANDS, listed
 from harness.suite import table
 from oracle.drawn import made_block
 from oracle.graph import OPENING, cluster
-from oracle.machine import outcome, row_text, signed, words_from
+from oracle.machine import fault_place, outcome, row_text, signed, words_from
 from oracle.operations import text_of, words_for
 from oracle.reader import read
 from oracle.scheduler import ORDERS, Schedule
@@ -97,6 +97,15 @@ def outputs(ops):
     return map(signed, end.outputs) if end else ["fault"]
 
 
+def places(blocks):
+    """What `run --where` lists."""
+    lines = []
+    for k, ops in enumerate(blocks, 1):
+        place = fault_place(ops, words_from(0, WORDS))
+        lines += [f"block {k} B{k}", *([place] if place else outputs(ops))]
+    return "\n".join(map(str, [*lines, ""])).encode()
+
+
 def drawn_cases():
     for seed in range(20):
         chance = random.Random(seed)
@@ -118,6 +127,7 @@ def made(name, blocks, latencies):
         words = [] if command == "run" else words_for(latencies)
         words += ["--at", "0", *map(str, WORDS)] if command in ("run", "simulate", "trace") else []
         yield listed(f"drawn/{name}/{command}", text_of(blocks), listing(command, blocks, latencies), [command, *words])
+    yield listed(f"drawn/{name}/run_where", text_of(blocks), places(blocks), ["run", "--where", "--at", "0", *map(str, WORDS)])
     yield from by_orders(name, blocks, latencies)
 
 

@@ -6,6 +6,7 @@ from harness.program import TOP, Run, ending, folder, stored, told
 from harness.suite import Check, table
 from judged.test_rows import LISTED, SAME, UNLIKE, VERDICTS, WORDS, spread
 from limits import MOST_BYTES
+from oracle.reader import NO_SUCH_BLOCK
 
 ROW_STARTS = ("[", "block ", "cycles", "total")
 CLASS = f"{TOP}/examples/class"
@@ -30,6 +31,26 @@ CHEATS = {
                  + b"[ output 1032 ; nop ]\n[ output 1036 ; nop ]\n",
     "operation": b"nop\n",
     "zero_byte": b"\x00[ nop ; nop ]\n",
+}
+
+# What is handed in for blocks a and b, each `output 4`, and what is said of it: lines that can't be read cost their block alone.
+SAID = {
+    "hello": ("block 1 a\nhello\n[ output 4 ]\nblock 2 b\n[ output 4 ]\n",
+              "block 1 a unread cycles 2 ours 1 least 1\n  line 2, row 0: expected [, found hello\n"
+              "block 2 b lawful cycles 1 ours 1 least 1\ntotal 3 ours 2 least 2\n"),
+    "numbers": ("block 1 a\n[ output 4 ]\n// so\nblock 2 b\n0: [ output 4 ]\n1: [ nop ]\ncycles 1\n",
+                "block 1 a lawful cycles 1 ours 1 least 1\nblock 2 b unread cycles 0 ours 1 least 1 claimed 1\n"
+                "  line 5, row 0: expected [, found 0\ntotal 1 ours 2 least 2\n"),
+    "operation": ("block 1 a\n[ nop ]\noutput 4\nblock 2 b\noutput 4\n",
+                  "block 1 a unread cycles 0 ours 1 least 1\n  line 3, row 1: expected [, found output\n"
+                  "block 2 b unread cycles 0 ours 1 least 1\n  line 5, row 0: expected [, found output\ntotal 0 ours 2 least 2\n"),
+    "nothing": ("", "block 1 a differs cycles 0 ours 1 least 1\n  no rows\n  output 1: none for 9\n  left out 1: output 4\n"
+                "block 2 b differs cycles 0 ours 1 least 1\n  no rows\n  output 1: none for 9\n  left out 1: output 4\n"
+                "total 0 ours 2 least 2\n"),
+    "nothing_for_one": ("block 2 b\n[ nop ; nop ]\n",
+                        "block 1 a differs cycles 0 ours 1 least 1\n  no rows\n  output 1: none for 9\n  left out 1: output 4\n"
+                        "block 2 b differs cycles 0 ours 1 least 1\n  output 1: none for 9\n  left out 1: output 4\n"
+                        "total 0 ours 2 least 2\n"),
 }
 
 
@@ -76,9 +97,9 @@ def faults():
     task, none = stored("task.iloc", b"output 0\n"), os.path.join(folder(), "none")
     long = stored("long", b" " * (MOST_BYTES + 1))
     most = stored("most", b"output 0\n".ljust(MOST_BYTES, b" "))
-    bad_rows = b"output 0\n"
+    bad_rows = b"block 2 b\n"
     for name, file, rows, said, status in (
-            ("most", most, bad_rows, "line 1: not understood", NOT_READ),
+            ("most", most, bad_rows, f"line 1: {NO_SUCH_BLOCK}", NOT_READ),
             ("long", long, bad_rows, "task: input longer than 16777216 bytes", NOT_READ),
             ("long_rows", task, b" " * (MOST_BYTES + 1), "input longer than 16777216 bytes", NOT_READ),
             ("missing", none, bad_rows, "task: no such file", NO_DEVICE),
@@ -104,6 +125,11 @@ def apart_cases():
     yield Check("apart/as_together", all_as_together)
     yield from (Check(f"apart/cheat_{name}", is_refused, rows) for name, rows in CHEATS.items())
     yield Check("apart/cut_anywhere", cut_anywhere)
+    two = stored("two.iloc", b"a: output 4\nb: output 4\n")
+    for name, (rows, out) in SAID.items():
+        yield Run(f"apart/said_of_{name}", [*WORDS, "--task", two], rows.encode(), out.encode(), b"", FAILED)
+    yield Run("apart/before_a_head", [*WORDS, "--task", two], b"// 9\nhello\nblock 1 a\n", b"",
+              b"ilocfarm: line 2: not understood\n", NOT_READ)
     yield from faults()
 
 

@@ -6,7 +6,7 @@ UNITS = {"load": (0,), "store": (0,), "mult": (1,)}     # those that take a kind
 
 
 class Fault(Exception):
-    """An address isn't good."""
+    """This address isn't good."""
 
 
 def signed(word):
@@ -27,7 +27,7 @@ class Machine:
 
     def word(self, address):
         if address % 4 or address >= 4 * WORDS:
-            raise Fault
+            raise Fault(address)
         number = address // 4
         return self.written[number] if number in self.written else self.start(number)
 
@@ -81,6 +81,17 @@ def outcome(start, run):
     except Fault:
         return None
     return machine
+
+
+def fault_place(ops, start):
+    """Where a block faults on a memory, as `run --where` lists it, or None."""
+    machine = Machine(start)
+    for number, op in enumerate(ops, 1):
+        try:
+            machine.run([op])
+        except Fault as fault:
+            return f"fault at {number}: {op}: word {signed(*fault.args)}"
+    return None
 
 
 def difference(ops, rows, latencies, start, outputs=False):

@@ -37,6 +37,7 @@ pub record IsFit (rules : List Rule) : Type 0 where
   pub operations : Takes vp.Bool (codes "operations") rules
   pub outputs : Takes vp.Bool (codes "outputs") rules
   pub either_slot : Takes vp.Bool (codes "either-slot") rules
+  pub fault_place : Takes vp.Bool (codes "where") rules
 
 -- ---- the test
 
@@ -73,7 +74,9 @@ takes_latencies rules =
     && (takes_in 1 LONGEST_LATENCY (codes "store") rules && takes_in 1 LONGEST_LATENCY (codes "mult") rules)
 
 abbrev takes_last_flags : List Rule → Bool
-takes_last_flags rules = takes is_flag_parser (codes "outputs") rules && takes is_flag_parser (codes "either-slot") rules
+takes_last_flags rules =
+    takes is_flag_parser (codes "outputs") rules
+    && (takes is_flag_parser (codes "either-slot") rules && takes is_flag_parser (codes "where") rules)
 
 abbrev takes_passing_flags : List Rule → Bool
 takes_passing_flags rules =
@@ -164,7 +167,9 @@ fits rules e =
     let passing = and_parts (takes is_flag_parser (codes "lawful") rules)
     (takes is_flag_parser (codes "operations") rules) rest.0 in
     let flags = and_parts (takes is_flag_parser (codes "outputs") rules)
-    (takes is_flag_parser (codes "either-slot") rules) rest.1 in
+    (takes is_flag_parser (codes "either-slot") rules && takes is_flag_parser (codes "where") rules) rest.1 in
+    let last = and_parts (takes is_flag_parser (codes "either-slot") rules) (takes is_flag_parser (codes "where") rules)
+    flags.1 in
     let number : (low high : ℕ) (id : Text) → takes_in low high id rules ≡ true → TakesIn low high id rules =
     λ low high id. has_parser (is_number_parser low high) (vp.Signed (pos low) (pos high)) (number_parser low high) id
     rules in
@@ -184,5 +189,6 @@ fits rules e =
       lawful = flag (codes "lawful") passing.0;
       operations = flag (codes "operations") passing.1;
       outputs = flag (codes "outputs") flags.0;
-      either_slot = flag (codes "either-slot") flags.1;
+      either_slot = flag (codes "either-slot") last.0;
+      fault_place = flag (codes "where") last.1;
     }

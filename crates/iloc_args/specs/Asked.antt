@@ -29,6 +29,7 @@ pub record Asked : Type 0 where
   pub operations : Bool
   pub outputs : Bool
   pub either_slot : Bool
+  pub fault_place : Bool
 
 -- what a request asks for
 abbrev pub asked_in : Request → Asked
@@ -49,6 +50,7 @@ asked_in r = record {
   operations = r.operations;
   outputs = r.outputs;
   either_slot = r.either_slot;
+  fault_place = r.fault_place;
 }
 
 -- the number that a text of digits writes, where a plus may stand first
@@ -90,6 +92,7 @@ asked_as task rows = record {
   operations = flag_in (codes "operations") rows;
   outputs = flag_in (codes "outputs") rows;
   either_slot = flag_in (codes "either-slot") rows;
+  fault_place = flag_in (codes "where") rows;
 }
 
 -- the task of the first of these commands that has this name

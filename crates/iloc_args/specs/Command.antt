@@ -85,6 +85,10 @@ operations_rule = flag_rule (codes "operations")
 abbrev pub outputs_rule : Rule
 outputs_rule = flag_rule (codes "outputs")
 
+-- `--where`
+abbrev pub where_rule : Rule
+where_rule = flag_rule (codes "where")
+
 -- `--either-slot`
 abbrev pub either_slot_rule : Rule
 either_slot_rule = flag_rule (codes "either-slot")
@@ -95,9 +99,9 @@ pub record Subcommand : Type 0 where
   pub task : Task
   pub rules : List Rule
 
--- `run [--at N] [WORD]..`
+-- `run [--at N] [WORD].. [--where]`
 abbrev pub run_entry : Subcommand
-run_entry = record { name = codes "run"; task = Run; rules = at_rule ∷ words_rule ∷ [] }
+run_entry = record { name = codes "run"; task = Run; rules = at_rule ∷ words_rule ∷ where_rule ∷ [] }
 
 -- `simulate [--at N] [WORD].. [--load N] [--store N] [--mult N] [--priority NAME]`
 abbrev pub simulate_entry : Subcommand

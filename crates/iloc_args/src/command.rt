@@ -4,8 +4,9 @@ ghost use Rattle.clap.specs.Simple.{new_shape};
 ghost use Rattle.std.specs.Str.{bytes_eq};
 ghost use Rattle.iloc_args.specs.declared.command.Entry.{Entry as entry_value};
 ghost use Rattle.iloc_args.specs.Asked.{task_among, task_named};
-ghost use Rattle.iloc_args.specs.Command.{at_rule, csv_rule, either_slot_rule, farm_app, flag_rule, json_rule, latency_rule, lawful_rule};
-ghost use Rattle.iloc_args.specs.Command.{nodes_rule, operations_rule, outputs_rule, priority_rule, task_rule, text_rule, top_shape, words_rule, workers_rule};
+ghost use Rattle.iloc_args.specs.Command.{at_rule, csv_rule, either_slot_rule, farm_app, flag_rule, json_rule, latency_rule, lawful_rule, nodes_rule};
+ghost use Rattle.iloc_args.specs.Command.{operations_rule, outputs_rule, priority_rule, task_rule, text_rule, top_shape, words_rule, workers_rule};
+ghost use Rattle.iloc_args.specs.Command.{where_rule};
 ghost use Rattle.iloc_args.specs.Steps.Building.{HasApp, HasRule, alone, option_rule, rule_for, app_for, app_with, subcommand_for};
 
 use crate::priority::HELP;
@@ -250,6 +251,17 @@ fn outputs_arg<'a>(alloc: Global) -> Arg<'a>
     )
 }
 
+/// `--where`
+fn where_arg<'a>(alloc: Global) -> Arg<'a>
+    ensures { HasRule where_rule result }
+{
+    flag_arg(
+        alloc,
+        "where",
+        "Print which operation faults, and the address that it reaches",
+    )
+}
+
 /// `--either-slot`
 fn either_slot_arg<'a>(alloc: Global, help: &'a str) -> Arg<'a>
     ensures { HasRule either_slot_rule result }
@@ -274,6 +286,7 @@ enum Argument {
     Lawful,
     Operations,
     Outputs,
+    Where,
     EitherSlot,
     /// `--either-slot` of a command that reads rows with `--task` alone.
     EitherSlotWithTask,
@@ -296,7 +309,7 @@ const COMMANDS: [Entry; 11] = [
         name: "run",
         about: "Run each block, one operation after the other",
         usage: "ilocfarm run [OPTIONS] [WORD]... < BLOCKS",
-        arguments: &[Argument::At, Argument::Words],
+        arguments: &[Argument::At, Argument::Words, Argument::Where],
     },
     Entry {
         task: Task::Simulate,
@@ -451,6 +464,7 @@ impl Argument {
             Argument::Lawful => lawful_arg(alloc),
             Argument::Operations => operations_arg(alloc),
             Argument::Outputs => outputs_arg(alloc),
+            Argument::Where => where_arg(alloc),
             Argument::EitherSlot => either_slot_arg(
                 alloc,
                 "Accept rows whose operations fit only when swapped",

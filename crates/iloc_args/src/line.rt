@@ -113,6 +113,7 @@ fn request_in(alloc: Global, task: Task, given: &ArgMatches<'_>) -> Result<Reque
         operations: flag_in(given, "operations"),
         outputs: flag_in(given, "outputs"),
         either_slot: flag_in(given, "either-slot"),
+        fault_place: flag_in(given, "where"),
     })
 }
 

@@ -64,6 +64,8 @@ pub struct Request {
     pub outputs: bool,
     /// Whether a row that breaks the rules of the units, and keeps them with its operations exchanged, is read so.
     pub either_slot: bool,
+    /// Whether it is listed where a block faults.
+    pub fault_place: bool,
     ghost some_worker: { 1 ≤ workers },
     ghost few_workers: { workers ≤ 8 },
     ghost aligned: { at % 4 ≡ 0 },

@@ -1,9 +1,13 @@
 -- What the commands list of a block, and that requests that ask alike list one text.
-use Rattle.std.proofs.Common.{◌≡◌, ◌≢◌, ℕ, ℤ, List, [], ◌++◌, Option, Some, None, Result, Ok, Err, OnOk, IfOk, refl, sym, ap, ap₂, ◌∙◌, subst, append_assoc, append-nil}
-use Rattle.std.specs.Prelude.{codes}
+use Rattle.std.proofs.Common.{◌≡◌, ◌≢◌, ◌&&◌, ℕ, ℤ, Bool, true, false, List, [], ◌++◌, Option, Some, None, Result, Ok, Err, OnOk, IfOk, refl, sym, ap, ap₂, ◌∙◌, subst, append_assoc, append-nil}
+use Rattle.std.specs.Prelude.{codes, is_none}
 use Rattle.std.specs.declared.alloc.Global.{Global}
 use Rattle.std.specs.declared.string.String.{String}
 use Rattle.iloc_ops.specs.declared.file.Block.{Block}
+use Rattle.iloc_ops.specs.declared.op.Op.{Op}
+use Rattle.iloc_fault.specs.Place.{IsFaultPlace}
+use Rattle.iloc_fault.specs.declared.place.FaultPlace.{FaultPlace}
+use Rattle.iloc_fault.proofs.Places.{one_place}
 use Rattle.iloc_timed.specs.declared.latencies.Latencies.{Latencies}
 use Rattle.iloc_timed.specs.Schedule.{Table}
 use Rattle.iloc_sched.specs.declared.ranking.heuristic.Heuristic.{Heuristic}
@@ -15,6 +19,8 @@ use Rattle.iloc_graph.specs.Listing.{IsCluster}
 use Rattle.iloc_graph.proofs.OneText.{one_cluster}
 use Rattle.iloc_meaning.specs.Memory.{words_from}
 use Rattle.iloc_meaning.specs.Outcome.{outcome, shown}
+use Rattle.iloc_meaning.specs.declared.outcome.Outcome.{Outcome}
+use Rattle.iloc_meaning.specs.declared.outcome.Outcome.TheVariants.{Finished, Fault}
 use Rattle.iloc_timed.specs.Timed.{timed_outcome}
 use Rattle.iloc_sched.proofs.Outcome.LawfulOutcomes.{lawful_same_outcome}
 use Rattle.iloc_trace.specs.Events.{events}
@@ -28,12 +34,12 @@ use Rattle.iloc_farm.specs.Commands.Counts.{IsCountEntry, IsCountListing, count_
 use Rattle.iloc_farm.specs.Commands.Explain.{IsExplainEntry}
 use Rattle.iloc_farm.specs.Commands.Graph.{IsGraphEntry, drawing_end, opening_at}
 use Rattle.iloc_farm.specs.Commands.Optimize.{IsOptimizeEntry}
-use Rattle.iloc_farm.specs.Commands.Run.{IsRunEntry, initial_memory, no_ending}
+use Rattle.iloc_farm.specs.Commands.Run.{IsRunEntry, IsShownOf, initial_memory, no_ending, place_line}
 use Rattle.iloc_farm.specs.Commands.Schedule.{IsScheduleEntry}
 use Rattle.iloc_farm.specs.Commands.Simulate.{IsSimulateEntry}
 use Rattle.iloc_farm.specs.Commands.Trace.{IsTraceEntry}
 use Rattle.iloc_farm.specs.Laws.{AskAlike, SimulatingListsRuns}
-use Rattle.iloc_farm.specs.Listing.{block_head, bound_comment, cycles_of, entries, opening_as, outcome_entry, schedule_entry, shown_entry, total_of_all}
+use Rattle.iloc_farm.specs.Listing.{block_head, bound_comment, cycles_of, entries, opening_as, outcome_entry, schedule_entry, shown_entry, total_of_all, words_or_fault}
 use Rattle.iloc_farm.specs.Run.{IsListingFor, ListsAs, ListsFrom}
 use Rattle.iloc_farm.specs.Schedules.{IsCount, IsGreedyAs, IsTheGreedy}
 use Rattle.iloc_farm.specs.Entries.{AreListed, ListsRead}
@@ -59,13 +65,40 @@ the_greedy heuristic lat b s greedy = record {
 
 -- what a call has appended is the entry, by the name and the words or cycles that it was handed
 
+-- the words, or that there is a fault, are what is shown, unless the place of the fault is asked for
+shown_plainly : (asked : Bool) (ops : List Op) (memory : List ℤ) (came : Outcome) (words : Option (List ℤ))
+    → words ≡ shown came → (asked && is_none words) ≡ false → IsShownOf asked ops memory came (words_or_fault words)
+shown_plainly asked ops memory (Finished words left) words' are none = ap words_or_fault are
+shown_plainly false ops memory Fault words are none = ap words_or_fault are
+shown_plainly true ops memory Fault words are none =
+    let some : is_none words ≡ true = ap is_none are in cc
+
+-- and else the place
+shown_placed : (asked : Bool) (ops : List Op) (memory : List ℤ) (came : Outcome) (place : FaultPlace) → came ≡ Fault
+    → asked ≡ true → IsFaultPlace ops memory place → IsShownOf asked ops memory came (place_line ops place)
+shown_placed asked ops memory came place faults is place_is = rw (faults, is) (place, place_is, refl)
+
+-- one text is shown
+one_shown : (asked : Bool) (ops : List Op) (memory : List ℤ) (came : Outcome) (text text' : List ℕ)
+    → IsShownOf asked ops memory came text → IsShownOf asked ops memory came text' → text ≡ text'
+one_shown asked ops memory (Finished words left) text text' is is' = is ∙ sym is'
+one_shown false ops memory Fault text text' is is' = is ∙ sym is'
+one_shown true ops memory Fault text text' is is' =
+    is.2 ∙ ap (place_line ops) (one_place.one ops memory is.0 is'.0 is.1 is'.1) ∙ sym is'.2
+
 module _ (request : Request) (k : ℕ) (b : Block) (text more : List ℕ) (name : Option (List ℕ)) (named : name ≡ b.name) where
   pub run_listed : (words : Option (List ℤ)) → words ≡ shown (outcome b.ops (initial_memory request))
-      → more ≡ text ++ shown_entry k name words → Adds (IsRunEntry request k b) text more tt
-  run_listed words are added = record {
-    entry = outcome_entry k b.name (outcome b.ops (initial_memory request));
-    right = refl;
-    added = added ∙ ap₂ (λ n w. text ++ shown_entry k n w) named are;
+      → (request.fault_place && is_none words) ≡ false → more ≡ text ++ shown_entry k name words
+      → Adds (IsRunEntry request k b) text more tt
+  run_listed words are plain added = record {
+    entry = shown_entry k b.name words;
+    right = record {
+      text = words_or_fault words;
+      shows = shown_plainly request.fault_place b.ops (initial_memory request) (outcome b.ops (initial_memory request)) words are
+          plain;
+      listed = refl;
+    };
+    added = added ∙ ap (λ n. text ++ shown_entry k n words) named;
   }
 
   pub graph_listed : (cluster : List ℕ) → IsCluster request.latencies k b.name b.ops cluster
@@ -200,7 +233,18 @@ one_memory r q alike = ap (λ at. words_from at r.words.items) alike.at ∙ ap (
 module _ (r q : Request) (alike : AskAlike r q) (k : ℕ) (b : Block) where
   run_same : (e e' : List ℕ) (f f' : Unit {0}) → IsRunEntry r k b e f → IsRunEntry q k b e' f' → (e ≡ e') × (f ≡ f')
   run_same e e' f f' is is' =
-      (is ∙ (ap (λ m. outcome_entry k b.name (outcome b.ops m)) (one_memory r q alike) ∙ sym is'), refl)
+      let P : Bool → Type 0 = λ asked. IsShownOf asked b.ops (initial_memory r) (outcome b.ops (initial_memory r)) is.text in
+      let Q : List ℤ → Type 0 = λ m. IsShownOf q.fault_place b.ops m (outcome b.ops m) is.text in
+      let moved : IsShownOf q.fault_place b.ops (initial_memory q) (outcome b.ops (initial_memory q)) is.text =
+      subst Q (one_memory r q alike) (subst P alike.fault_place is.shows) in
+      let same = one_shown q.fault_place b.ops (initial_memory q) (outcome b.ops (initial_memory q)) is.text is'.text moved
+      is'.shows in
+      (is.listed ∙ ap (λ text. block_head k b.name ++ codes "\n" ++ text) same ∙ sym is'.listed, refl)
+
+  simulate_same : (e e' : List ℕ) (f f' : Unit {0}) → IsSimulateEntry r k b e f → IsSimulateEntry q k b e' f'
+      → (e ≡ e') × (f ≡ f')
+  simulate_same e e' f f' is is' =
+      (is.plain ∙ (ap (λ m. outcome_entry k b.name (outcome b.ops m)) (one_memory r q alike) ∙ sym is'.plain), refl)
 
   -- a schedule that is the greedy one for the one request is so for the other
   same_schedule : (s s' : Table) → IsTheGreedy r.priority r.latencies b s → IsTheGreedy q.priority q.latencies b s'
@@ -279,8 +323,7 @@ pub of_one_task : (t : Task) (r q : Request) → AskAlike r q → t ≢ task.Opt
 of_one_task task.Run r q alike settled blocks text text' lists lists' =
     one_listing (IsRunEntry r) (IsRunEntry q) (run_same r q alike) no_ending blocks text text' lists lists'
 of_one_task task.Simulate r q alike settled blocks text text' lists lists' =
-    one_listing (IsSimulateEntry r) (IsSimulateEntry q)
-    (λ k b e e' f f' is is'. run_same r q alike k b e e' f f' is.plain is'.plain) no_ending blocks text text' lists lists'
+    one_listing (IsSimulateEntry r) (IsSimulateEntry q) (simulate_same r q alike) no_ending blocks text text' lists lists'
 of_one_task task.Trace r q alike settled blocks text text' lists lists' =
     one_listing (IsTraceEntry r) (IsTraceEntry q) (trace_same r q alike) no_ending blocks text text' lists lists'
 of_one_task task.Schedule r q alike settled blocks text text' lists lists' =
@@ -303,8 +346,15 @@ of_one_task task.Check r q alike settled blocks text text' lists lists' = absurd
 of_one_task task.Lint r q alike settled blocks text text' lists lists' = absurd lists
 
 pub simulating_lists_runs : SimulatingListsRuns
-simulating_lists_runs request blocks text is =
-    listing_also (IsSimulateEntry request) (IsRunEntry request) (λ k b e f entry. entry.plain) no_ending blocks text is
+simulating_lists_runs request blocks text plain is =
+    listing_also (IsSimulateEntry request) (IsRunEntry request) (λ k b e f entry.
+    let came = outcome b.ops (initial_memory request) in
+    let P : Bool → Type 0 = λ asked. IsShownOf asked b.ops (initial_memory request) came (words_or_fault (shown came)) in
+    record {
+      text = words_or_fault (shown came);
+      shows = subst P (sym plain) (shown_plainly false b.ops (initial_memory request) came (shown came) refl refl);
+      listed = entry.plain;
+    }) no_ending blocks text is
 
 -- what is listed as a request with this task and this file, or none, asks is what the request lists
 pub listed_as : (held : Held) (request : Request) (old new : Option (List ℕ)) (finding : Finding) (text : List ℕ) (t : Task)

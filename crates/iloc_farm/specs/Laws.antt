@@ -1,5 +1,5 @@
 -- What holds of listings as a whole.
-use Rattle.std.specs.Prelude.{◌≡◌, ◌≢◌, ℕ, ℤ, ◌<◌, ◌^◌, Bool, List, length, Option, Some, None, Result, IsTrue}
+use Rattle.std.specs.Prelude.{◌≡◌, ◌≢◌, ℕ, ℤ, ◌<◌, ◌^◌, Bool, false, List, length, Option, Some, None, Result, IsTrue}
 use Rattle.std.specs.List.{AllZip}
 use Rattle.std.specs.declared.io.Error.{Error}
 use Rattle.iloc_ops.specs.declared.file.Block.{Block}
@@ -44,6 +44,7 @@ pub record AskAlike (r q : Request) : Type 0 where
   pub lawful : r.lawful ≡ q.lawful
   pub operations : r.operations ≡ q.operations
   pub outputs : r.outputs ≡ q.outputs
+  pub fault_place : r.fault_place ≡ q.fault_place
 
 -- What such requests list of one file is one text, but where schedules are searched for: which of them is found is not settled.
 -- Where rows are read no file is listed: which of two right verdicts is given, and by which pairing rows are explained, is not
@@ -64,9 +65,10 @@ ListedOptimaAreOptimal = (lat : Latencies) (k : ℕ) (b : Block) (entry : List �
     → (is : IsOptimizeEntry lat k b entry cycles) → cycles ≡ is.best.bound
     → IsOptimal lat b.ops is.best.schedule.ops is.best.schedule.rows
 
--- what is listed of blocks as what comes of their schedules is what is listed as what comes of them
+-- what is listed of blocks as what comes of their schedules is what is listed as what comes of them, where it isn't asked at
+-- which place they fault
 abbrev pub SimulatingListsRuns : Type 0
-SimulatingListsRuns = (request : Request) (blocks : List Block) (text : List ℕ)
+SimulatingListsRuns = (request : Request) (blocks : List Block) (text : List ℕ) → request.fault_place ≡ false
     → IsListingFor task.Simulate request blocks text → IsListingFor task.Run request blocks text
 
 -- what one of such requests may list where rows are read, so may the other

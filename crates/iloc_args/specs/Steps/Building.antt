@@ -6,10 +6,11 @@ use Rattle.clap.specs.declared.builder.command.Command.TheViews.{out-Command}
 use Rattle.clap.specs.declared.builder.value_parser.ValueParser.{ValueParser}
 use Rattle.clap.specs.Words.{App, Rule, Shape, Text, app_of, new_rule, rule_of, with_subcommand}
 use Rattle.clap.specs.Simple.{new_shape}
-use Rattle.iloc_args.specs.Command.{Subcommand, at_rule, csv_rule, either_slot_rule, json_rule, latency_rule, lawful_rule, nodes_rule, operations_rule, outputs_rule, priority_rule, shape, top_shape}
-use Rattle.iloc_args.specs.Command.{task_rule, words_rule, workers_rule}
+use Rattle.iloc_args.specs.Command.{Subcommand, at_rule, csv_rule, either_slot_rule, json_rule, latency_rule, lawful_rule, nodes_rule}
+use Rattle.iloc_args.specs.Command.{operations_rule, outputs_rule, priority_rule, shape, top_shape, task_rule, words_rule, workers_rule, where_rule}
 use Rattle.iloc_args.specs.declared.command.Argument.{Argument}
-use Rattle.iloc_args.specs.declared.command.Argument.TheVariants.{At, Words, Workers, Load, Store, Mult, Priority, Nodes, Csv, Json, Task, Lawful, Operations, Outputs, EitherSlot, EitherSlotWithTask}
+use Rattle.iloc_args.specs.declared.command.Argument.TheVariants.{At, Words, Workers, Load, Store, Mult, Priority, Nodes, Csv, Json, Task, Lawful}
+use Rattle.iloc_args.specs.declared.command.Argument.TheVariants.{Operations, Outputs, EitherSlot, EitherSlotWithTask, Where}
 use Rattle.iloc_args.specs.declared.command.Entry.{Entry}
 
 -- `--NAME N`, a number that this parser takes, and this one where it is not given
@@ -54,6 +55,7 @@ rule_for Task = task_rule
 rule_for Lawful = lawful_rule
 rule_for Operations = operations_rule
 rule_for Outputs = outputs_rule
+rule_for Where = where_rule
 rule_for EitherSlot = either_slot_rule
 rule_for EitherSlotWithTask = either_slot_rule
 

@@ -44,3 +44,4 @@ pub record HoldValues (rows : List Row) : Type 0 where
   pub operations : HoldsFlag (codes "operations") rows
   pub outputs : HoldsFlag (codes "outputs") rows
   pub either_slot : HoldsFlag (codes "either-slot") rows
+  pub fault_place : HoldsFlag (codes "where") rows

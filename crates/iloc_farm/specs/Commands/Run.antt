@@ -1,10 +1,18 @@
 -- `run` lists what comes of each block, one operation after another.
-use Rattle.std.specs.Prelude.{◌≡◌, ℕ, List, [], ℤ}
+use Rattle.std.specs.Prelude.{◌≡◌, ◌+◌, ◌++◌, ℕ, Bool, true, false, List, [], Some, None, ℤ, codes}
+use Rattle.std.specs.Fmt.{decimal, signed_decimal}
+use Rattle.iloc_ops.specs.Spelling.{spelling}
+use Rattle.iloc_ops.specs.declared.op.Op.{Op}
 use Rattle.iloc_ops.specs.declared.file.Block.{Block}
+use Rattle.iloc_fault.specs.Place.{IsFaultPlace}
+use Rattle.iloc_fault.specs.declared.place.FaultPlace.{FaultPlace}
 use Rattle.iloc_meaning.specs.Memory.{words_from}
 use Rattle.iloc_meaning.specs.Outcome.{outcome}
+use Rattle.iloc_meaning.specs.Trace.{op_at}
+use Rattle.iloc_meaning.specs.declared.outcome.Outcome.{Outcome}
+use Rattle.iloc_meaning.specs.declared.outcome.Outcome.TheVariants.{Finished, Fault}
 use Rattle.iloc_args.specs.declared.request.Request.{Request}
-use Rattle.iloc_farm.specs.Listing.{outcome_entry}
+use Rattle.iloc_farm.specs.Listing.{block_head, words_or_fault}
 use Rattle.iloc_farm.specs.Command.{Command, of_files}
 use Rattle.iloc_farm.specs.Entries.{IsListingOf}
 
@@ -12,10 +20,25 @@ use Rattle.iloc_farm.specs.Entries.{IsListingOf}
 abbrev pub initial_memory : Request → List ℤ
 initial_memory request = words_from request.at request.words.items
 
--- The entry of block k: its number and its name, and what it emits on the request's memory, or that it faults. No more is
--- found of it.
-abbrev pub IsRunEntry : Request → ℕ → Block → List ℕ → Unit {0} → Type 0
-IsRunEntry request k b entry found = entry ≡ outcome_entry k b.name (outcome b.ops (initial_memory request))
+-- `fault at N: OP: word A`, where operations count from 1
+abbrev pub place_line : List Op → FaultPlace → List ℕ
+place_line ops place =
+    codes "fault at " ++ decimal (place.operation + 1) ++ codes ": " ++ spelling (op_at ops place.operation) ++ codes ": word "
+    ++ signed_decimal place.address ++ codes "\n"
+
+-- This is shown of operations with this outcome on a memory: the words that they emit, or that they fault, with the place if
+-- that is asked for.
+abbrev pub IsShownOf : Bool → List Op → List ℤ → Outcome → List ℕ → Type 0
+IsShownOf place_asked ops memory (Finished words left) text = text ≡ words_or_fault (Some words)
+IsShownOf false ops memory Fault text = text ≡ words_or_fault None
+IsShownOf true ops memory Fault text =
+    (place : FaultPlace) × IsFaultPlace ops memory place × (text ≡ place_line ops place)
+
+-- The entry of block k: its number and its name, and what is shown of it on the request's memory. No more is found of it.
+pub record IsRunEntry (request : Request) (k : ℕ) (block : Block) (entry : List ℕ) (found : Unit {0}) : Type 0 where
+  pub text : List ℕ
+  pub shows : IsShownOf request.fault_place block.ops (initial_memory request) (outcome block.ops (initial_memory request)) text
+  pub listed : entry ≡ block_head k block.name ++ codes "\n" ++ text
 
 -- there is no ending
 abbrev pub no_ending : List (Unit {0}) → List ℕ

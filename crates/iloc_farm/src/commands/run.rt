@@ -1,10 +1,69 @@
 //! `run`: what comes of blocks, one operation after another.
+ghost use Rattle.std.specs.Prelude.{◌≡◌, ◌≤◌, ◌<◌, ◌+◌, ◌^◌, ◌++◌, List, ℕ, length, IfOk, OnOk, codes};
+ghost use Rattle.iloc_fault.specs.Place.{IsFaultPlace};
+ghost use Rattle.iloc_fault.specs.declared.place.FaultPlace.{FaultPlace as place_value};
+ghost use Rattle.iloc_meaning.specs.Outcome.{outcome};
+ghost use Rattle.iloc_meaning.specs.declared.outcome.Outcome.TheVariants.{Fault};
+ghost use Rattle.iloc_ops.specs.Limits.{MAX_OPS};
+ghost use Rattle.iloc_farm.specs.Commands.Run.{initial_memory, place_line};
+ghost use Rattle.iloc_farm.specs.Listing.{block_head};
+
 use crate::lister::{Lister, initial_memory};
-use crate::listing::push_outcome;
+use crate::listing::{push_block_head, push_outcome};
 use iloc_args::Request;
+use iloc_fault::{FaultFinder, FaultPlace};
 use iloc_meaning::Interpreter;
+use iloc_ops::{push_number, push_op};
 use iloc_text::{Block, NoMemory};
 use std::alloc::Global;
+
+/// Where a block faults that does so on the request's memory.
+fn fault_place(alloc: Global, request: &Request, block: &Block) -> Result<FaultPlace, NoMemory>
+    requires { outcome block.now.ops (initial_memory request.now) ≡ Fault }
+    ensures { IfOk result (IsFaultPlace block.now.ops (initial_memory request.now)) }
+{
+    let memory = initial_memory(alloc, request)?;
+    let mut finder = FaultFinder::new(alloc, memory)?;
+    let Some(place) = finder.find(block)? else {
+        unreachable!()
+    };
+    Ok(place)
+}
+
+/// Appends where a block faults.
+fn push_place(text: &mut Vec<u8>, block: &Block, place: FaultPlace) -> Result<(), NoMemory>
+    requires short { length block.now.ops ≤ MAX_OPS }
+    requires within { place.operation < length block.now.ops }
+    ensures { OnOk result (text.new.items ≡ text.old.items ++ place_line block.now.ops place) }
+{
+    text.extend_from_slice(b"fault at ")?;
+    push_number(text, place.operation as u64 + 1)?;
+    text.extend_from_slice(b": ")?;
+    push_op(text, &block.ops.as_slice()[place.operation])?;
+    text.extend_from_slice(b": word ")?;
+    push_number(text, place.address)?;
+    Ok(text.extend_from_slice(b"\n")?)
+}
+
+/// Appends the entry of a block that faults on the request's memory, with the place.
+fn push_faulting(
+    alloc: Global,
+    text: &mut Vec<u8>,
+    request: &Request,
+    number: usize,
+    block: &Block,
+) -> Result<(), NoMemory>
+    requires faults { outcome block.now.ops (initial_memory request.now) ≡ Fault }
+    requires short { length block.now.ops ≤ MAX_OPS }
+    requires number { number < 2 ^ 63 }
+    ensures { OnOk result ((place : place_value) × IsFaultPlace block.now.ops (initial_memory request.now) place
+        × (text.new.items ≡ text.old.items ++ (block_head number block.now.name ++ codes "\n" ++ place_line block.now.ops place))) }
+{
+    let place = fault_place(alloc, request, block)?;
+    push_block_head(text, number, block.name.as_ref())?;
+    text.extend_from_slice(b"\n")?;
+    push_place(text, block, place)
+}
 
 /// Runs each block, and lists what comes of it.
 #[derive(Drop)]
@@ -28,13 +87,16 @@ impl Lister for RunLister {
 
     fn list(
         &mut self,
-        _alloc: Global,
-        _request: &Request,
+        alloc: Global,
+        request: &Request,
         number: usize,
         block: &Block,
         text: &mut Vec<u8>,
     ) -> Result<(), NoMemory> {
         self.0.run(block)?;
+        if request.fault_place && self.0.outputs().is_none() {
+            return push_faulting(alloc, text, request, number, block);
+        }
         push_outcome(text, number, block.name.as_ref(), self.0.outputs())
     }
 
