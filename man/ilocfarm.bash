@@ -11,7 +11,7 @@ _ilocfarm() {
     *,trace,*) words="--at --load --store --mult --priority --task --either-slot --help" ;;
     *,schedule,*) words="--workers --load --store --mult --priority --help" ;;
     *,counts,*) words="--workers --load --store --mult --priority --csv --help" ;;
-    *,compare,*) words="--workers --load --store --mult --csv --help" ;;
+    *,compare,*) words="--nodes --workers --load --store --mult --csv --help" ;;
     *,optimize,*) words="--nodes --workers --load --store --mult --help" ;;
     *,explain,*) words="--load --store --mult --priority --task --either-slot --help" ;;
     *,check,*) words="--at --load --store --mult --task --either-slot --lawful --operations --outputs --csv --json --help" ;;

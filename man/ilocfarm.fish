@@ -42,6 +42,7 @@ complete -c ilocfarm -n '__fish_seen_subcommand_from counts' -l mult -x -d 'Cycl
 complete -c ilocfarm -n '__fish_seen_subcommand_from counts' -l priority -x -a 'chain slack descendants successors latency order' -d 'What goes first: chain, slack, descendants, successors, latency or order [default: chain]'
 complete -c ilocfarm -n '__fish_seen_subcommand_from counts' -l csv -d 'Print a table of comma-separated values, a row for each block'
 complete -c ilocfarm -n '__fish_seen_subcommand_from counts' -l help -d 'Print help'
+complete -c ilocfarm -n '__fish_seen_subcommand_from compare' -l nodes -x -d 'Search for the best schedule too, with N nodes for each number of cycles that is tried, 0 to 100000'
 complete -c ilocfarm -n '__fish_seen_subcommand_from compare' -l workers -x -d 'How many workers share the blocks, 1 to 8 [default: 2]'
 complete -c ilocfarm -n '__fish_seen_subcommand_from compare' -l load -x -d 'Cycles that load and loadAI take, 1 to 16 [default: 5]'
 complete -c ilocfarm -n '__fish_seen_subcommand_from compare' -l store -x -d 'Cycles that store and storeAI take, 1 to 16 [default: 5]'

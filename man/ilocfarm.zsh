@@ -54,7 +54,8 @@ counts) shift words; (( CURRENT-- ))
         '--csv[Print a table of comma-separated values, a row for each block]' \
         '--help[Print help]' ;;
 compare) shift words; (( CURRENT-- ))
-    _arguments '--workers[How many workers share the blocks, 1 to 8 \[default\: 2\]]:N:' \
+    _arguments '--nodes[Search for the best schedule too, with N nodes for each number of cycles that is tried, 0 to 100000]:N:' \
+        '--workers[How many workers share the blocks, 1 to 8 \[default\: 2\]]:N:' \
         '--load[Cycles that load and loadAI take, 1 to 16 \[default\: 5\]]:N:' \
         '--store[Cycles that store and storeAI take, 1 to 16 \[default\: 5\]]:N:' \
         '--mult[Cycles that mult and multI take, 1 to 16 \[default\: 3\]]:N:' \

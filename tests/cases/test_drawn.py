@@ -28,6 +28,8 @@ PRIORITIES = [
     (SEVEN_OPERATIONS, SHORT, [5, 5, 4, 4, 3, 2, 1]), (PRODUCTS_BESIDE_A_LOAD, USUAL, [7, 6, 3, 5]),
     (IMMEDIATE_FORMS, USUAL, [22, 22, 21, 16, 11, 8, 7, 2, 1]),
 ]
+# What `compare` lists before the cycles by each order, without a search and with one.
+COMPARED_TO = (("least",), ("least", "bound", "best"))
 FOUR_CONSTANTS = "loadI 1 => r1\nloadI 2 => r2\nloadI 3 => r3\nloadI 4 => r4\n"
 # Blocks, latencies, and the lower bound: by the longest path, and by what a row can hold.
 LEAST = [
@@ -67,24 +69,34 @@ def best_of_orders(blocks, latencies):
     return "\n".join([*lines, f"total {total}", ""]).encode()
 
 
-def compared(blocks, latencies):
-    """The bound and the cycles by each order, of each block."""
+def compared(blocks, latencies, sought=None):
+    """Of each block `least`, with the bound and the best cycles if they were sought, and the cycles by each order."""
     schedules = [[Schedule(ops, latencies, by) for by in ORDERS] for ops in blocks]
-    return [[row[0].least(), *(it.cycles() for it in row)] for row in schedules]
+    return [[row[0].least(), *limits, *(it.cycles() for it in row)]
+            for row, limits in zip(schedules, sought or [()] * len(blocks), strict=True)]
+
+
+def unsearched(blocks, latencies):
+    """What is known without a search: `least`, and the best of the orders."""
+    return [(row[0], min(row[1:])) for row in compared(blocks, latencies)]
 
 
 def columns(numbers, names=ORDERS):
     return "".join(f" {name} {number}" for name, number in zip(names, numbers))
 
 
-def comparison(blocks, latencies):
-    rows = compared(blocks, latencies)
-    lines = [f"block {k} B{k}" + columns(row, ("least", *ORDERS)) for k, row in enumerate(rows, 1)]
-    lines.append("total" + columns(map(sum, zip(*rows)), ("least", *ORDERS)))
-    for name, best in (("fewest", lambda row: min(row[1:])), ("optimal", lambda row: row[0])):
-        counts = [sum(row[at] == best(row) for row in rows) for at in range(1, len(ORDERS) + 1)]
+def comparison(blocks, latencies, sought=None):
+    rows, names = compared(blocks, latencies, sought), COMPARED_TO[bool(sought)]
+    lines = [f"block {k} B{k}" + columns(row, (*names, *ORDERS)) for k, row in enumerate(rows, 1)]
+    lines.append("total" + columns(map(sum, zip(*rows)), (*names, *ORDERS)))
+    for name, best in (("fewest", lambda row: min(row[len(names):])), ("optimal", lambda row: row[1 if sought else 0])):
+        counts = [sum(row[at] == best(row) for row in rows) for at in range(len(names), len(names) + len(ORDERS))]
         lines.append(f"{name}{columns(counts)} of {len(rows)}")
     return "\n".join([*lines, ""]).encode()
+
+
+def comparison_table(blocks, latencies, sought=None):
+    return table_of((*COMPARED_TO[bool(sought)], *ORDERS), compared(blocks, latencies, sought))
 
 
 def table_of(head, rows):
@@ -133,9 +145,10 @@ def made(name, blocks, latencies):
 
 def by_orders(name, blocks, latencies):
     text, words = text_of(blocks), words_for(latencies)
-    yield listed(f"drawn/{name}/compare", text, comparison(blocks, latencies), ["compare", *words])
-    yield listed(f"drawn/{name}/compare_csv", text, table_of(("least", *ORDERS), compared(blocks, latencies)),
-                 ["compare", "--csv", *words])
+    for tag, sought, more in (("", None, []), ("_unsearched", unsearched(blocks, latencies), ["--nodes", "0"])):
+        yield listed(f"drawn/{name}/compare{tag}", text, comparison(blocks, latencies, sought), ["compare", *more, *words])
+        yield listed(f"drawn/{name}/compare_csv{tag}", text, comparison_table(blocks, latencies, sought),
+                     ["compare", "--csv", *more, *words])
     yield listed(f"drawn/{name}/optimize", text, best_of_orders(blocks, latencies), ["optimize", "--nodes", "0", *words])
     by = random.Random(name).choice(ORDERS)
     rows = [[Schedule(ops, latencies, by).cycles()] for ops in blocks]

@@ -1,8 +1,10 @@
-"""`optimize`: beside an exact search, beside `check`, and on blocks that are hard to search or aren't searched."""
+"""`optimize` and `compare --nodes`: beside an exact search, beside `check`, and on blocks that are hard to search or aren't
+searched."""
 import random
 import re
 import time
 
+from cases.test_drawn import comparison, comparison_table, unsearched
 from forms import USUAL
 from harness.program import TESTED, ending
 from harness.suite import Check, table
@@ -50,6 +52,35 @@ def exact(count):
             if not bound <= least <= cycles or optimal != (bound == cycles) or nodes == 1000 and not optimal:
                 yield f"{[*map(str, ops)]}, {latencies}, {nodes} nodes: {cycles}, bound {bound}, of {least}"
         yield from unlawful(end, blocks, latencies)
+
+
+def compared(blocks, latencies, sought, words):
+    """Where `compare` lists anything but these bounds and best cycles beside the orders', in lines or in a table."""
+    for due, form in ((comparison(blocks, latencies, sought), []), (comparison_table(blocks, latencies, sought), ["--csv"])):
+        end = ending(["compare", *words, *words_for(latencies), *form], text_of(blocks))
+        if end != (0, due, b""):
+            yield f"{[[*map(str, ops)] for ops in blocks]}, {words}, {latencies}: {end} in place of {due}"
+
+
+def exact_beside_orders(count):
+    """With ample nodes `compare` lists the fewest cycles for the bound and for the best, and counts the orders that reach them."""
+    chance = random.Random("compared optima")
+    for _ in range(0, count, TOGETHER):
+        latencies = odd_latencies(chance)
+        blocks = [small_block(chance) for _ in range(TOGETHER)]
+        sought = [(fewest(Schedule(ops, latencies)),) * 2 for ops in blocks]
+        yield from compared(blocks, latencies, sought, ["--nodes", "1000"])
+
+
+def as_optimized(count):
+    """`compare` lists the bounds and the cycles of `optimize` with as many nodes, whatever the workers."""
+    for seed in range(count):
+        chance = random.Random(f"as optimized {seed}")
+        latencies, nodes = chance.choice([USUAL, SLOWEST, odd_latencies(chance)]), chance.choice([0, 1, 10, 1000])
+        blocks = [lab_block(chance) for _ in range(TOGETHER)] + [hard_block(chance.randrange(10, 60))]
+        sought = [(bound, cycles) for cycles, bound, _ in found_in(listing_of(blocks, latencies, nodes), blocks)]
+        for workers in range(1, 9):
+            yield from compared(blocks, latencies, sought, ["--nodes", str(nodes), "--workers", str(workers)])
 
 
 def lawful(count):
@@ -122,6 +153,7 @@ def long_ones():
         end = listing_of(blocks, USUAL, 100_000)
         if end != listing_of(blocks, USUAL, 0):
             yield f"{count} operations are searched"
+        yield from compared(blocks, USUAL, unsearched(blocks, USUAL), ["--nodes", "100000"])
         yield from unlawful(end, blocks, USUAL)
 
 
@@ -151,6 +183,8 @@ def by_workers():
 
 def optimum_checks():
     yield Check("optima/exact", exact, 300 if TESTED.is_short else 3000)
+    yield Check("optima/exact_beside_orders", exact_beside_orders, 100 if TESTED.is_short else 1000)
+    yield Check("optima/as_optimized", as_optimized, 3 if TESTED.is_short else 20)
     yield Check("optima/lawful", lawful, 5 if TESTED.is_short else 50)
     for check in (known, by_one_node, long_ones, longest, by_workers):
         yield Check(f"optima/{check.__name__}", check)

@@ -115,6 +115,8 @@ def read_back(command):
 def table_checks():
     yield Check("tables/counts", columns, ["counts", "--csv"], ["block", "name", "cycles"])
     yield Check("tables/compare", columns, ["compare", "--csv"], ["block", "name", "least", *ORDERS])
+    yield Check("tables/compare_searched", columns, ["compare", "--csv", "--nodes", "9"],
+                ["block", "name", "least", "bound", "best", *ORDERS])
     yield Check("tables/cycles", cycles)
     yield Check("tables/check", checked)
     yield Check("tables/pandas", read_back, by_pandas)

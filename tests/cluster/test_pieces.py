@@ -6,7 +6,8 @@ import re
 from harness.place import Place
 
 COMMANDS = (["run", "--at", "0", "1", "2"], ["simulate", "--load", "2"], ["schedule", "--mult", "1"], ["counts"],
-            ["explain", "--load", "3"], ["compare"], ["compare", "--csv", "--store", "2"], ["counts", "--csv"], ["trace", "3", "4"])
+            ["explain", "--load", "3"], ["compare"], ["compare", "--csv", "--store", "2"], ["compare", "--nodes", "9"],
+            ["counts", "--csv"], ["trace", "3", "4"])
 JOINED = {"run", "simulate", "trace", "schedule", "counts", "compare", "optimize", "explain"}
 # What is given for an option's value.
 VALUES = {"priority": "slack", "task": "blocks"}

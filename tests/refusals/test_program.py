@@ -115,6 +115,7 @@ def runs(name, given, rows):
     for command in ("check", "explain", "trace"):
         yield Asked([command, "--task", stored(f"{name}.iloc", given)], f"rows for {name}", rows)
     yield Asked(["counts", "--csv", "--workers", "1"], name, given, 1)
+    yield Asked(["compare", "--nodes", "10", "--workers", "1"], name, given, 1)
     for command in ("schedule", "counts", "compare", "optimize"):
         for workers in (1, 8):
             yield Asked([command, "--workers", str(workers)], name, given, workers)

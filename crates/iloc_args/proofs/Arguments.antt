@@ -4,20 +4,33 @@ use Rattle.std.specs.Int.{int_max, int_min}
 use Rattle.clap.specs.Lexer.{usize_max}
 use Rattle.clap.specs.declared.builder.range.ValueRange.{ValueRange}
 use Rattle.clap.specs.Values.{NarrowsTo, signed_between}
-use Rattle.clap.specs.Words.{Text}
+use Rattle.clap.specs.Words.{Rule, Text}
 use Rattle.clap.specs.declared.builder.arg.Arg.{Arg}
 use Rattle.clap.specs.declared.builder.value_parser.ValueParser.{ValueParser}
 use Rattle.clap.specs.declared.builder.value_parser.ValueParser.TheVariants.{Signed}
 use Rattle.iloc_args.specs.Command.{number_rule, words_rule}
-use Rattle.iloc_args.specs.Steps.Building.{HasRule, option_rule}
+use Rattle.iloc_args.specs.Steps.Building.{HasRule, default_rule}
+
+-- the parser of numbers within these bounds
+pub narrowed : (low high : ℕ) (all p : ValueParser) (start end : ℤ) → all ≡ Signed (pos 0) (pos 4294967295) → start ≡ pos low
+    → end ≡ pos high → NarrowsTo all (Some start) (Some end) p
+    → signed_between (int_max (pos 0) (pos low)) (int_min (pos 4294967295) (pos high)) ≡ Signed (pos low) (pos high)
+    → p ≡ Signed (pos low) (pos high)
+narrowed low high all p start end of from to narrows fits =
+    let parser : p ≡ signed_between (int_max (pos 0) (pos low)) (int_min (pos 4294967295) (pos high)) = rw (of, from, to) at narrows in
+    parser ∙ fits
 
 pub within : (low high : ℕ) (all p : ValueParser) (start end : ℤ) (name default : Text) (a : Arg)
     → all ≡ Signed (pos 0) (pos 4294967295) → start ≡ pos low → end ≡ pos high → NarrowsTo all (Some start) (Some end) p
     → signed_between (int_max (pos 0) (pos low)) (int_min (pos 4294967295) (pos high)) ≡ Signed (pos low) (pos high)
-    → HasRule (option_rule name default p) a → HasRule (number_rule name default low high) a
+    → HasRule (default_rule name default p) a → HasRule (number_rule name default low high) a
 within low high all p start end name default a of from to narrows fits has =
-    let parser : p ≡ signed_between (int_max (pos 0) (pos low)) (int_min (pos 4294967295) (pos high)) = rw (of, from, to) at narrows in
-    subst (λ (q : ValueParser). HasRule (option_rule name default q) a) (parser ∙ fits) has
+    subst (λ (q : ValueParser). HasRule (default_rule name default q) a)
+    (narrowed low high all p start end of from to narrows fits) has
+
+-- what reads its numbers, by another name
+pub read_by : (rule : ValueParser → Rule) (p q : ValueParser) (a : Arg) → p ≡ q → HasRule (rule p) a → HasRule (rule q) a
+read_by rule p q a same has = subst (λ (x : ValueParser). HasRule (rule x) a) same has
 
 -- how many words there may be, and what each is
 pub words : (range : Option ValueRange) (parser : Option ValueParser) (a : Arg)

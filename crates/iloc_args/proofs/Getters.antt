@@ -8,7 +8,7 @@ use Rattle.clap.proofs.WalkLemmas.{one_text-rows, typed_values-rows}
 use Rattle.clap.specs.Matches.{ReadsOne, StepsValues, matched_of, one_text, typed_values}
 use Rattle.clap.specs.Walk.{Row, Text, many_of, one_of, rows_of}
 use Rattle.clap.specs.declared.parser.matches.Found.{Found}
-use Rattle.iloc_args.specs.Asked.{number_of, number_or, numbers_in}
+use Rattle.iloc_args.specs.Asked.{number_if, number_of, number_or, numbers_in}
 use Rattle.iloc_args.specs.Steps.Taken.{AreNumbersIn, HoldsIn, IsNumberIn}
 
 -- what `u32` reads from a text
@@ -21,31 +21,45 @@ number_read : (low high : ℕ) (text : Text) (r : Result ℕ ParseIntError) → 
 number_read low high text (Ok n) small h reads = (n, refl, sym reads.0.1)
 number_read low high text (Err e) small h reads = absurd (reads.0 (h.numeral, omega (arith, h.at_most)))
 
+-- `get_one`
+pub one_if_read : (id : Text) (f : Found) (low high : ℕ) (r : Option ℕ) → high < 2 ^ 32 → HoldsIn low high id (rows_of f)
+    → (one_text f id ≡ None → r ≡ None) → ((t : Text) → one_text f id ≡ Some t → ReadsOne ReadsWord t r)
+    → r ≡ number_if id (rows_of f)
+one_if_read id f low high r small holds none reads = go (one_of id (rows_of f)) (one_text-rows f id) holds
+  where
+    read : (t : Text) (r : Option ℕ) → IsNumberIn low high t → ReadsOne ReadsWord t r → r ≡ Some (number_of t)
+    read t (Some n) h reads = ap (λ x. Some x) reads.0.1
+    read t None h reads = absurd (reads.1.0 (h.numeral, omega (arith, h.at_most)))
+
+    go : (o : Option Text) → one_text f id ≡ o → IfSome o (IsNumberIn low high) → r ≡ option_map number_of o
+    go None is h = none is
+    go (Some t) is h = read t r h (reads t is)
+
 -- the number that was read for an option, or another where there is none, within bounds that both keep
 pub record IsNumberFor (low high otherwise : ℕ) (id : Text) (rows : List Row) (n : ℕ) : Type 0 where
   pub value : n ≡ number_or otherwise id rows
   pub at_least : low ≤ n
   pub at_most : n ≤ high
 
--- `get_one`
+-- that, or another
 pub one_read : (id : Text) (f : Found) (low high otherwise : ℕ) (r : Option ℕ) → high < 2 ^ 32 → low ≤ otherwise
     → otherwise ≤ high
     → HoldsIn low high id (rows_of f) → (one_text f id ≡ None → r ≡ None)
     → ((t : Text) → one_text f id ≡ Some t → ReadsOne ReadsWord t r)
     → IsNumberFor low high otherwise id (rows_of f) (unwrap_or r otherwise)
 one_read id f low high otherwise r small above below holds none reads =
-    let got = go (one_of id (rows_of f)) (one_text-rows f id) holds in
-    record { value = got.0; at_least = got.1; at_most = got.2 }
+    let is : r ≡ number_if id (rows_of f) = one_if_read id f low high r small holds none reads in
+    let kept = go (one_of id (rows_of f)) holds in
+    record {
+      value = ap (λ o. unwrap_or o otherwise) is;
+      at_least = subst (λ o. low ≤ unwrap_or o otherwise) (sym is) kept.0;
+      at_most = subst (λ o. unwrap_or o otherwise ≤ high) (sym is) kept.1;
+    }
   where
-    read : (t : Text) (r : Option ℕ) → IsNumberIn low high t → ReadsOne ReadsWord t r → r ≡ Some (number_of t)
-    read t (Some n) h reads = ap (λ x. Some x) reads.0.1
-    read t None h reads = absurd (reads.1.0 (h.numeral, omega (arith, h.at_most)))
-
-    go : (o : Option Text) → one_text f id ≡ o → IfSome o (IsNumberIn low high)
-        → (unwrap_or r otherwise ≡ unwrap_or (option_map number_of o) otherwise) × (low ≤ unwrap_or r otherwise)
-        × (unwrap_or r otherwise ≤ high)
-    go None is h = rw (none is) (refl, above, below)
-    go (Some t) is h = rw (read t r h (reads t is)) (refl, h.at_least, h.at_most)
+    go : (o : Option Text) → IfSome o (IsNumberIn low high)
+        → (low ≤ unwrap_or (option_map number_of o) otherwise) × (unwrap_or (option_map number_of o) otherwise ≤ high)
+    go None h = (above, below)
+    go (Some t) h = (h.at_least, h.at_most)
 
 -- a step of `get_many`'s values
 pub value_read : (before after : List Text) (x : Result ℕ ParseIntError) → StepsValues ReadsWord before after (Some x)

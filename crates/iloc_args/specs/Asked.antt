@@ -21,7 +21,7 @@ pub record Asked : Type 0 where
   pub store : ℕ
   pub mult : ℕ
   pub priority : Text
-  pub nodes : ℕ
+  pub nodes : Option ℕ
   pub csv : Bool
   pub json : Bool
   pub task_file : Option Text
@@ -57,9 +57,13 @@ asked_in r = record {
 abbrev pub number_of : Text → ℕ
 number_of text = digits_value 10 (without_leading_plus text)
 
--- the number that the matches have for an option, or this one where the command does not take it
+-- the number that the matches have for an option, where they have one
+abbrev pub number_if : Text → List Row → Option ℕ
+number_if id rows = option_map number_of (one_of id rows)
+
+-- or this one where the command does not take it
 abbrev pub number_or : ℕ → Text → List Row → ℕ
-number_or otherwise id rows = unwrap_or (option_map number_of (one_of id rows)) otherwise
+number_or otherwise id rows = unwrap_or (number_if id rows) otherwise
 
 -- the numbers that the matches have for an argument, none where it was not given
 abbrev pub numbers_in : Text → List Row → List ℕ
@@ -84,7 +88,7 @@ asked_as task rows = record {
   store = number_or 5 (codes "store") rows;
   mult = number_or 3 (codes "mult") rows;
   priority = text_or (codes "chain") (codes "priority") rows;
-  nodes = number_or 1000 (codes "nodes") rows;
+  nodes = number_if (codes "nodes") rows;
   csv = flag_in (codes "csv") rows;
   json = flag_in (codes "json") rows;
   task_file = first_of (codes "task") rows;

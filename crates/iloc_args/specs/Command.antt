@@ -10,14 +10,17 @@ use Rattle.iloc_timed.specs.Limits.{LONGEST_LATENCY}
 use Rattle.iloc_args.specs.declared.request.Task.{Task}
 use Rattle.iloc_args.specs.declared.request.Task.TheVariants.{Run, Simulate, Trace, Schedule, Counts, Compare, Optimize, Explain, Check, Graph, Lint}
 
--- `--NAME N`, a number within these bounds, and this one where it is not given
-abbrev pub number_rule : Text → Text → ℕ → ℕ → Rule
-number_rule name default low high = record (new_rule name) {
+-- `--NAME N`, a number within these bounds
+abbrev pub bounded_rule : Text → ℕ → ℕ → Rule
+bounded_rule name low high = record (new_rule name) {
   long = Some name;
   value_names = 1;
-  defaults = default ∷ [];
   parser = Some (Signed (pos low) (pos high));
 }
+
+-- the same, and this one where it is not given
+abbrev pub number_rule : Text → Text → ℕ → ℕ → Rule
+number_rule name default low high = record (bounded_rule name low high) { defaults = default ∷ [] }
 
 abbrev pub at_rule : Rule
 at_rule = number_rule (codes "at") (codes "1024") 0 LAST_ADDRESS
@@ -25,8 +28,13 @@ at_rule = number_rule (codes "at") (codes "1024") 0 LAST_ADDRESS
 abbrev pub workers_rule : Rule
 workers_rule = number_rule (codes "workers") (codes "2") 1 8
 
+-- `--nodes N` of a command that always searches
 abbrev pub nodes_rule : Rule
 nodes_rule = number_rule (codes "nodes") (codes "1000") 0 100000
+
+-- and of one that searches where it is given
+abbrev pub search_rule : Rule
+search_rule = bounded_rule (codes "nodes") 0 100000
 
 -- the latency of an operation, in cycles
 abbrev pub latency_rule : Text → Text → Rule
@@ -135,12 +143,12 @@ counts_entry = record {
   rules = workers_rule ∷ latency_rules ++ priority_rule ∷ csv_rule ∷ [];
 }
 
--- `compare [--workers N] [--load N] [--store N] [--mult N] [--csv]`
+-- `compare [--nodes N] [--workers N] [--load N] [--store N] [--mult N] [--csv]`
 abbrev pub compare_entry : Subcommand
 compare_entry = record {
   name = codes "compare";
   task = Compare;
-  rules = workers_rule ∷ latency_rules ++ csv_rule ∷ [];
+  rules = search_rule ∷ workers_rule ∷ latency_rules ++ csv_rule ∷ [];
 }
 
 -- `optimize [--nodes N] [--workers N] [--load N] [--store N] [--mult N]`

@@ -1,13 +1,14 @@
 //! The program's command line, as the parser reads it.
-ghost use Rattle.std.specs.Prelude.{◌≡◌, IfOk, codes, find, map};
+ghost use Rattle.std.specs.Prelude.{◌≡◌, IfOk, codes, find, map, pos};
+ghost use Rattle.clap.specs.declared.builder.value_parser.ValueParser.TheVariants.{Signed};
 ghost use Rattle.clap.specs.Simple.{new_shape};
 ghost use Rattle.std.specs.Str.{bytes_eq};
 ghost use Rattle.iloc_args.specs.declared.command.Entry.{Entry as entry_value};
 ghost use Rattle.iloc_args.specs.Asked.{task_among, task_named};
 ghost use Rattle.iloc_args.specs.Command.{at_rule, csv_rule, either_slot_rule, farm_app, flag_rule, json_rule, latency_rule, lawful_rule, nodes_rule};
 ghost use Rattle.iloc_args.specs.Command.{operations_rule, outputs_rule, priority_rule, task_rule, text_rule, top_shape, words_rule, workers_rule};
-ghost use Rattle.iloc_args.specs.Command.{where_rule};
-ghost use Rattle.iloc_args.specs.Steps.Building.{HasApp, HasRule, alone, option_rule, rule_for, app_for, app_with, subcommand_for};
+ghost use Rattle.iloc_args.specs.Command.{where_rule, search_rule};
+ghost use Rattle.iloc_args.specs.Steps.Building.{HasApp, HasRule, alone, option_rule, rule_for, app_for, app_with, subcommand_for, default_rule};
 
 use crate::priority::HELP;
 use crate::request::Task;
@@ -51,14 +52,20 @@ fn number_arg<'a>(
     parser: ValueParser<'a>,
     usual: &'a str,
 ) -> Arg<'a>
-    ensures { HasRule (option_rule name.entry.now usual.entry.now parser.entry) result }
+    ensures { HasRule (default_rule name.entry.now usual.entry.now parser.entry) result }
+{
+    option_arg(alloc, name, help, parser).default_value(usual)
+}
+
+/// `--NAME N`, such a number, which may be left out.
+fn option_arg<'a>(alloc: Global, name: &'a str, help: &'a str, parser: ValueParser<'a>) -> Arg<'a>
+    ensures { HasRule (option_rule name.entry.now parser.entry) result }
 {
     Arg::new(alloc, name)
         .long(name)
         .value_name("N")
         .help(help)
         .value_parser(parser)
-        .default_value(usual)
 }
 
 /// `--NAME`
@@ -175,6 +182,13 @@ fn priority_arg<'a>(alloc: Global) -> Arg<'a>
     text_arg(alloc, "priority", "NAME", HELP).default_value("chain")
 }
 
+/// How many nodes a search may have.
+fn nodes_parser<'a>() -> ValueParser<'a>
+    ensures { result ≡ Signed (pos 0) (pos 100000) }
+{
+    value_parser!(u32).range(0..=MOST_NODES as i64)
+}
+
 /// `--nodes N`
 fn nodes_arg<'a>(alloc: Global) -> Arg<'a>
     ensures { HasRule nodes_rule result }
@@ -183,8 +197,20 @@ fn nodes_arg<'a>(alloc: Global) -> Arg<'a>
         alloc,
         "nodes",
         "Nodes of a search for each number of cycles that is tried, 0 to 100000",
-        value_parser!(u32).range(0..=MOST_NODES as i64),
+        nodes_parser(),
         "1000",
+    )
+}
+
+/// `--nodes N`, which may be left out.
+fn search_arg<'a>(alloc: Global) -> Arg<'a>
+    ensures { HasRule search_rule result }
+{
+    option_arg(
+        alloc,
+        "nodes",
+        "Search for the best schedule too, with N nodes for each number of cycles that is tried, 0 to 100000",
+        nodes_parser(),
     )
 }
 
@@ -280,6 +306,8 @@ enum Argument {
     Mult,
     Priority,
     Nodes,
+    /// `--nodes` of a command that searches only where it is given.
+    NodesIfGiven,
     Csv,
     Json,
     Task,
@@ -374,6 +402,7 @@ const COMMANDS: [Entry; 11] = [
         about: "Schedule each block by each priority, and print the cycles beside their bound",
         usage: "ilocfarm compare [OPTIONS] < BLOCKS",
         arguments: &[
+            Argument::NodesIfGiven,
             Argument::Workers,
             Argument::Load,
             Argument::Store,
@@ -458,6 +487,7 @@ impl Argument {
             Argument::Mult => mult_arg(alloc),
             Argument::Priority => priority_arg(alloc),
             Argument::Nodes => nodes_arg(alloc),
+            Argument::NodesIfGiven => search_arg(alloc),
             Argument::Csv => csv_arg(alloc),
             Argument::Json => json_arg(alloc),
             Argument::Task => task_arg(alloc),

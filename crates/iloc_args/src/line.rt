@@ -3,7 +3,7 @@ ghost use Rattle.std.specs.Prelude.{◌≡◌, ◌≤◌, ◌&&◌, IfErr, IfOk,
 ghost use Rattle.std.specs.String.{string_bytes};
 ghost use Rattle.clap.specs.Words.{first_of, found_of, has_subcommand, rows_of, subcommand_of};
 ghost use Rattle.clap.specs.Words.{subcommand_rows_of};
-ghost use Rattle.iloc_args.specs.Asked.{asked_as, asked_in, flag_in, number_or, numbers_in, text_or};
+ghost use Rattle.iloc_args.specs.Asked.{asked_as, asked_in, flag_in, number_if, number_or, numbers_in, text_or};
 ghost use Rattle.iloc_args.specs.Command.{farm_app};
 ghost use Rattle.iloc_args.specs.Due.{Asks, IsDue, faults_in};
 ghost use Rattle.iloc_args.specs.Priority.{IsNoPriority, priority_word};
@@ -27,9 +27,6 @@ const DEFAULT_START: u32 = 1024;
 
 /// How many workers share the blocks where the command does not take the option.
 const DEFAULT_WORKERS: u32 = 2;
-
-/// How many nodes a search has where the command does not take the option.
-const DEFAULT_NODES: u32 = 1000;
 
 /// The priority where the command does not take the option.
 const DEFAULT_PRIORITY: &str = "chain";
@@ -134,12 +131,12 @@ fn workers_in(given: &ArgMatches<'_>) -> u32
     given.get_one("workers").unwrap_or(DEFAULT_WORKERS)
 }
 
-/// How many nodes a search has for each number of cycles that is tried.
-fn nodes_in(given: &ArgMatches<'_>) -> u32
+/// How many nodes a search has for each number of cycles that is tried, if there is one.
+fn nodes_in(given: &ArgMatches<'_>) -> Option<u32>
     requires { HoldValues (rows_of (found_of given.now)) }
-    ensures { result ≡ number_or 1000 (codes "nodes") (rows_of (found_of given.now)) }
+    ensures { result ≡ number_if (codes "nodes") (rows_of (found_of given.now)) }
 {
-    given.get_one("nodes").unwrap_or(DEFAULT_NODES)
+    given.get_one("nodes")
 }
 
 /// The latencies of loads, stores and products.

@@ -33,7 +33,7 @@ pub enum Task {
     Lint,
 }
 
-/// A command with its options; an option that the command does not take has its default.
+/// A command with its options; an option that the command does not take has its default, or none.
 #[derive(Debug, Drop, PartialEq, Eq)]
 pub struct Request {
     /// What is done.
@@ -48,8 +48,8 @@ pub struct Request {
     pub latencies: Latencies,
     /// By what the ready operations are ranked.
     pub priority: Heuristic,
-    /// How many nodes a search for a schedule has for each number of cycles that is tried.
-    pub nodes: u32,
+    /// How many nodes a search for the best schedule has for each number of cycles that is tried, if there is a search.
+    pub nodes: Option<u32>,
     /// Whether the listing is a table of comma-separated values.
     pub csv: bool,
     /// Whether the listing has a value of JSON for each block, on a line of its own; never beside `csv`.

@@ -132,14 +132,18 @@ module _ {F : Type 0} (lists lists' : ℕ → Block → List ℕ → F → Type 
   entries_also k (b ∷ blocks) (f ∷ found) text are =
       (are.0, are.1, also k b are.0 f are.2, entries_also (k + 1) blocks found are.1 are.3, are.4)
 
-  pub listing_also : (ending : List F → List ℕ) (blocks : List Block) (text : List ℕ)
-      → IsListingOf lists ending blocks text → IsListingOf lists' ending blocks text
-  listing_also ending blocks text is = record {
+  pub listing_after_also : (opening : List ℕ) (ending : List F → List ℕ) (blocks : List Block) (text : List ℕ)
+      → IsListingAfter lists opening ending blocks text → IsListingAfter lists' opening ending blocks text
+  listing_after_also opening ending blocks text is = record {
     found = is.found;
     entries = is.entries;
     listed = entries_also 1 blocks is.found is.entries is.listed;
     whole = is.whole;
   }
+
+  pub listing_also : (ending : List F → List ℕ) (blocks : List Block) (text : List ℕ)
+      → IsListingOf lists ending blocks text → IsListingOf lists' ending blocks text
+  listing_also ending blocks text is = listing_after_also [] ending blocks text is
 
 -- the listing of what was found of each block, where a line says it
 module _ {X : Type 0} (lists : ℕ → Block → List ℕ → X → Type 0) (Finds : Block → X → Type 0)

@@ -1,5 +1,6 @@
 -- What the commands list of a block, and that requests that ask alike list one text.
-use Rattle.std.proofs.Common.{◌≡◌, ◌≢◌, ◌&&◌, ℕ, ℤ, Bool, true, false, List, [], ◌++◌, Option, Some, None, Result, Ok, Err, OnOk, IfOk, refl, sym, ap, ap₂, ◌∙◌, subst, append_assoc, append-nil}
+use Rattle.std.proofs.Common.{◌≡◌, ℕ, ℤ, false, List, [], ◌++◌, Option, Some, None, Result, Ok, Err, OnOk, IfOk, refl, sym, ap, ap₂, ◌∙◌, subst}
+use Rattle.std.proofs.Common.{append_assoc, append-nil, ◌&&◌, Bool, true}
 use Rattle.std.specs.Prelude.{codes, is_none}
 use Rattle.std.specs.declared.alloc.Global.{Global}
 use Rattle.std.specs.declared.string.String.{String}
@@ -38,8 +39,9 @@ use Rattle.iloc_farm.specs.Commands.Run.{IsRunEntry, IsShownOf, initial_memory, 
 use Rattle.iloc_farm.specs.Commands.Schedule.{IsScheduleEntry}
 use Rattle.iloc_farm.specs.Commands.Simulate.{IsSimulateEntry}
 use Rattle.iloc_farm.specs.Commands.Trace.{IsTraceEntry}
-use Rattle.iloc_farm.specs.Laws.{AskAlike, SimulatingListsRuns}
-use Rattle.iloc_farm.specs.Listing.{block_head, bound_comment, cycles_of, entries, opening_as, outcome_entry, schedule_entry, shown_entry, total_of_all, words_or_fault}
+use Rattle.iloc_farm.specs.Laws.{AskAlike, SimulatingListsRuns, searches}
+use Rattle.iloc_farm.specs.Listing.{block_head, bound_comment, cycles_of, entries, opening_as, outcome_entry, schedule_entry, shown_entry}
+use Rattle.iloc_farm.specs.Listing.{total_of_all, words_or_fault}
 use Rattle.iloc_farm.specs.Run.{IsListingFor, ListsAs, ListsFrom}
 use Rattle.iloc_farm.specs.Schedules.{IsCount, IsGreedyAs, IsTheGreedy}
 use Rattle.iloc_farm.specs.Entries.{AreListed, ListsRead}
@@ -211,14 +213,15 @@ counted_listing request blocks found text are whole =
 
 -- and of what was compared
 pub compared_listing : (request : Request) (blocks : List Block) (found : List ComparedCycles) (text : List ℕ)
-    → AreListed (λ k b c. IsComparedCycles request.latencies b c) blocks found
-    → text ≡ (opening_as request.csv compare_header ++ entries (compare_line request.csv) 1 blocks found)
-    ++ compare_ending request.csv found
+    → AreListed (λ k b c. IsComparedCycles request.latencies request.nodes b c) blocks found
+    → text ≡ (opening_as request.csv (compare_header request.nodes) ++ entries (compare_line request.csv) 1 blocks found)
+    ++ compare_ending request.csv request.nodes found
     → IsCompareListing request blocks text
 compared_listing request blocks found text are whole =
-    lined_listing (IsCompareEntry request) (IsComparedCycles request.latencies) (compare_line request.csv)
-    (λ k b c compares. record { compares = compares; listed = refl }) (opening_as request.csv compare_header)
-    (compare_ending request.csv) blocks found text are whole
+    lined_listing (IsCompareEntry request) (IsComparedCycles request.latencies request.nodes) (compare_line request.csv)
+    (λ k b c compares. record { compares = compares; listed = refl })
+    (opening_as request.csv (compare_header request.nodes)) (compare_ending request.csv request.nodes) blocks found text are
+    whole
 
 -- what holds at `Ok` holds of what is answered
 pub if_ok : {T E P : Type 0} (Q : T → Type 0) (result : Result T E) → ((x : T) → P → Q x) → OnOk result P → IfOk result Q
@@ -277,11 +280,14 @@ module _ (r q : Request) (alike : AskAlike r q) (k : ℕ) (b : Block) where
         cycles,
       )
 
-  compare_same : (e e' : List ℕ) (c c' : ComparedCycles) → IsCompareEntry r k b e c → IsCompareEntry q k b e' c'
-      → (e ≡ e') × (c ≡ c')
-  compare_same e e' c c' is is' =
-      let P : Latencies → Type 0 = λ lat. IsComparedCycles lat b c in
-      let same : c ≡ c' = one_comparison q.latencies b c c' (subst P alike.latencies is.compares) is'.compares in
+  compare_same : r.nodes ≡ None → (e e' : List ℕ) (c c' : ComparedCycles) → IsCompareEntry r k b e c
+      → IsCompareEntry q k b e' c' → (e ≡ e') × (c ≡ c')
+  compare_same settled e e' c c' is is' =
+      let P : Latencies → Type 0 = λ lat. IsComparedCycles lat r.nodes b c in
+      let Q : Option ℕ → Type 0 = λ nodes. IsComparedCycles q.latencies nodes b c in
+      let R : Option ℕ → Type 0 = λ nodes. IsComparedCycles q.latencies nodes b c' in
+      let same : c ≡ c' = one_comparison q.latencies b c c' (subst Q settled (subst P alike.latencies is.compares))
+      (subst R (sym alike.nodes ∙ settled) is'.compares) in
       (is.listed ∙ (ap₂ (λ csv x. compare_line csv k b.name x) alike.csv same ∙ sym is'.listed), same)
 
   explain_same : (e e' : List ℕ) (c c' : ℕ) → IsExplainEntry r k b e c → IsExplainEntry q k b e' c'
@@ -318,7 +324,13 @@ module _ (r q : Request) (alike : AskAlike r q) (k : ℕ) (b : Block) where
       one_cluster q.latencies k b.name b.ops is.cluster is'.cluster (subst P alike.latencies is.draws) is'.draws in
       (is.listed ∙ (ap (λ c. opening_at k ++ c) same ∙ sym is'.listed), refl)
 
-pub of_one_task : (t : Task) (r q : Request) → AskAlike r q → t ≢ task.Optimize → (blocks : List Block) (text text' : List ℕ)
+-- a comparison without a search has no nodes
+without_nodes : (nodes : Option ℕ) → searches task.Compare nodes ≡ false → nodes ≡ None
+without_nodes None e = refl
+without_nodes (Some n) e = cc
+
+pub of_one_task : (t : Task) (r q : Request) → AskAlike r q → searches t r.nodes ≡ false
+    → (blocks : List Block) (text text' : List ℕ)
     → IsListingFor t r blocks text → IsListingFor t q blocks text' → text ≡ text'
 of_one_task task.Run r q alike settled blocks text text' lists lists' =
     one_listing (IsRunEntry r) (IsRunEntry q) (run_same r q alike) no_ending blocks text text' lists lists'
@@ -334,10 +346,12 @@ of_one_task task.Counts r q alike settled blocks text text' lists lists' =
     (opening_as q.csv count_header) (count_ending r.csv) (count_ending q.csv) blocks text text'
     (ap (λ csv. opening_as csv count_header) alike.csv) (ap count_ending alike.csv) lists lists'
 of_one_task task.Compare r q alike settled blocks text text' lists lists' =
-    one_listing_after (IsCompareEntry r) (IsCompareEntry q) (compare_same r q alike) (opening_as r.csv compare_header)
-    (opening_as q.csv compare_header) (compare_ending r.csv) (compare_ending q.csv) blocks text text'
-    (ap (λ csv. opening_as csv compare_header) alike.csv) (ap compare_ending alike.csv) lists lists'
-of_one_task task.Optimize r q alike settled blocks text text' lists lists' = absurd (settled refl)
+    one_listing_after (IsCompareEntry r) (IsCompareEntry q)
+    (λ k b. compare_same r q alike k b (without_nodes r.nodes settled)) (opening_as r.csv (compare_header r.nodes))
+    (opening_as q.csv (compare_header q.nodes)) (compare_ending r.csv r.nodes) (compare_ending q.csv q.nodes) blocks text text'
+    (ap₂ (λ csv nodes. opening_as csv (compare_header nodes)) alike.csv alike.nodes) (ap₂ compare_ending alike.csv alike.nodes)
+    lists lists'
+of_one_task task.Optimize r q alike settled blocks text text' lists lists' = absurd cc
 of_one_task task.Explain r q alike settled blocks text text' lists lists' =
     one_listing (IsExplainEntry r) (IsExplainEntry q) (explain_same r q alike) total_of_all blocks text text' lists lists'
 of_one_task task.Graph r q alike settled blocks text text' lists lists' =

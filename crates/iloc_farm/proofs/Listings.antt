@@ -1,5 +1,5 @@
 -- What is listed of one input does not depend on the workers, and greedy schedules can be listed.
-use Rattle.std.proofs.Common.{◌≡◌, ◌∙◌, ℕ, Bool, List, ℤ, None, Option, Some, IsTrue, sym, subst}
+use Rattle.std.proofs.Common.{◌≡◌, ◌∙◌, ℕ, Bool, List, ℤ, None, Option, Some, IsTrue, ap, sym, subst}
 use Rattle.std.specs.declared.alloc.Global.{Global}
 use Rattle.std.specs.declared.string.String.{String}
 use Rattle.iloc_ops.specs.declared.file.Block.{Block}
@@ -14,16 +14,19 @@ use Rattle.iloc_args.specs.declared.request.Request.{Request}
 use Rattle.iloc_args.specs.declared.request.Task.{Task}
 use Rattle.iloc_args.specs.declared.request.Task.TheVariants as task
 use Rattle.iloc_farm.specs.Commands.Check.{Checks, ListsChecked, form_as, options_of}
+use Rattle.iloc_farm.specs.declared.commands.compare.ComparedCycles.{ComparedCycles}
+use Rattle.iloc_farm.specs.Commands.Compare.{IsCompareEntry, IsComparedCycles, compare_ending, compare_header, compare_line}
 use Rattle.iloc_farm.specs.Commands.ExplainRows.{Explains, ExplainsRows}
 use Rattle.iloc_farm.specs.Commands.Run.{initial_memory}
 use Rattle.iloc_farm.specs.Commands.TraceRows.{Traces, TracesRows}
 use Rattle.iloc_farm.specs.Commands.Optimize.{IsOptimizeEntry}
-use Rattle.iloc_farm.specs.Entries.{IsListingOf}
+use Rattle.iloc_farm.specs.Entries.{IsListingAfter, IsListingOf}
 use Rattle.iloc_farm.specs.Laws.{AskAlike, ChecksIgnoreWorkers, GreedySchedulesCanBeListed, ListedOptimaAreOptimal, ListingsIgnoreWorkers, OptimaIgnoreWorkers}
-use Rattle.iloc_farm.specs.Listing.{total_of_all}
+use Rattle.iloc_farm.specs.Listing.{opening_as, total_of_all}
 use Rattle.iloc_farm.specs.Apart.{Held}
 use Rattle.iloc_farm.specs.Run.{IsListing, IsListingFor, Lists, ListsApart, ListsAs, ListsSubmission, takes_rows}
 use Rattle.iloc_farm.specs.declared.commands.Finding.{Finding}
+use Rattle.iloc_farm.proofs.Entries.{listing_after_also}
 use Rattle.iloc_farm.proofs.Listers.{of_one_task, one_memory}
 use Rattle.iloc_farm.proofs.Schedules.{greedy_long, total_small}
 
@@ -34,9 +37,30 @@ ignore_workers r q alike settled input blocks blocks' denotes denotes' text text
     let own : IsListing q blocks text' = subst P (sym (one_answer.file input blocks blocks' denotes denotes')) lists' in
     of_one_task r.task r q alike settled blocks text text' lists (subst Q (sym alike.task) own)
 
+-- a comparison of the one request is one of the other
+compares_alike : (r q : Request) → AskAlike r q → (k : ℕ) (b : Block) (entry : List ℕ) (found : ComparedCycles)
+    → IsCompareEntry r k b entry found → IsCompareEntry q k b entry found
+compares_alike r q alike k b entry found is =
+    let P : Latencies → Type 0 = λ lat. IsComparedCycles lat r.nodes b found in
+    let Q : Option ℕ → Type 0 = λ nodes. IsComparedCycles q.latencies nodes b found in
+    record {
+      compares = subst Q alike.nodes (subst P alike.latencies is.compares);
+      listed = is.listed ∙ ap (λ csv. compare_line csv k b.name found) alike.csv;
+    }
+
 pub optima_ignore_workers : OptimaIgnoreWorkers
-optima_ignore_workers r q alike blocks text lists =
+optima_ignore_workers r q alike task.Optimize searched blocks text lists =
     subst (λ lat. IsListingOf (IsOptimizeEntry lat) total_of_all blocks text) alike.latencies lists
+optima_ignore_workers r q alike task.Compare searched blocks text lists =
+    let also : IsListingAfter (IsCompareEntry q) (opening_as r.csv (compare_header r.nodes)) (compare_ending r.csv r.nodes)
+    blocks text = listing_after_also (IsCompareEntry r) (IsCompareEntry q) (compares_alike r q alike)
+    (opening_as r.csv (compare_header r.nodes)) (compare_ending r.csv r.nodes) blocks text lists in
+    let P : Bool → Type 0 = λ csv. IsListingAfter (IsCompareEntry q) (opening_as csv (compare_header r.nodes))
+    (compare_ending csv r.nodes) blocks text in
+    let Q : Option ℕ → Type 0 = λ nodes. IsListingAfter (IsCompareEntry q) (opening_as q.csv (compare_header nodes))
+    (compare_ending q.csv nodes) blocks text in
+    subst Q alike.nodes (subst P alike.csv also)
+optima_ignore_workers r q alike _ searched blocks text lists = absurd cc
 
 pub listed_optima : ListedOptimaAreOptimal
 listed_optima lat k b entry cycles is reached = record {

@@ -1,5 +1,5 @@
 -- What holds of listings as a whole.
-use Rattle.std.specs.Prelude.{◌≡◌, ◌≢◌, ℕ, ℤ, ◌<◌, ◌^◌, Bool, false, List, length, Option, Some, None, Result, IsTrue}
+use Rattle.std.specs.Prelude.{◌≡◌, ℕ, ℤ, ◌<◌, ◌^◌, Bool, true, false, is_some, List, length, Option, Some, None, Result, IsTrue}
 use Rattle.std.specs.List.{AllZip}
 use Rattle.std.specs.declared.io.Error.{Error}
 use Rattle.iloc_ops.specs.declared.file.Block.{Block}
@@ -17,17 +17,20 @@ use Rattle.iloc_rows.specs.EitherSlot.{placed}
 use Rattle.iloc_rows.specs.Submissions as submissions
 use Rattle.iloc_args.specs.Asked.{Asked}
 use Rattle.iloc_args.specs.declared.request.Request.{Request}
+use Rattle.iloc_args.specs.declared.request.Task.{Task}
 use Rattle.iloc_args.specs.declared.request.Task.TheVariants as task
 use Rattle.iloc_farm.specs.declared.commands.Finding.{Finding}
 use Rattle.iloc_farm.specs.declared.commands.Finding.TheVariants.{Passed}
 use Rattle.iloc_farm.specs.declared.program.Ending.{Ending}
 use Rattle.iloc_farm.specs.Apart.{Held, ReadsApart}
 use Rattle.iloc_farm.specs.Commands.Check.{ListsChecked, form_as}
+use Rattle.iloc_farm.specs.Commands.Compare.{IsComparedCycles, optimal_by}
 use Rattle.iloc_farm.specs.Commands.Optimize.{IsOptimizeEntry}
+use Rattle.iloc_farm.specs.declared.commands.compare.ComparedCycles.{ComparedCycles}
 use Rattle.iloc_farm.specs.Listing.{total_cycles}
 use Rattle.iloc_farm.specs.Program.{Args, AskFor, Ends}
 use Rattle.iloc_farm.specs.Run.{IsListing, IsListingFor, ListsFrom, takes_rows}
-use Rattle.iloc_farm.specs.Schedules.{AreGreedyAs}
+use Rattle.iloc_farm.specs.Schedules.{AreGreedyAs, IsGreedyAs}
 
 -- the requests ask for the same, but maybe of other workers
 pub record AskAlike (r q : Request) : Type 0 where
@@ -46,24 +49,36 @@ pub record AskAlike (r q : Request) : Type 0 where
   pub outputs : r.outputs ≡ q.outputs
   pub fault_place : r.fault_place ≡ q.fault_place
 
+-- whether a request with this task and these nodes searches for schedules of the blocks of a file
+abbrev pub searches : Task → Option ℕ → Bool
+searches task.Optimize nodes = true
+searches task.Compare nodes = is_some nodes
+searches _ nodes = false
+
 -- What such requests list of one file is one text, but where schedules are searched for: which of them is found is not settled.
 -- Where rows are read no file is listed: which of two right verdicts is given, and by which pairing rows are explained, is not
 -- settled either, so of one input more than one text may be listed.
 abbrev pub ListingsIgnoreWorkers : Type 0
-ListingsIgnoreWorkers = (r q : Request) → AskAlike r q → r.task ≢ task.Optimize → (input : List ℕ) (blocks blocks' : List Block)
-    → Denotes input blocks → Denotes input blocks'
+ListingsIgnoreWorkers = (r q : Request) → AskAlike r q → searches r.task r.nodes ≡ false
+    → (input : List ℕ) (blocks blocks' : List Block) → Denotes input blocks → Denotes input blocks'
     → (text text' : List ℕ) → IsListing r blocks text → IsListing q blocks' text' → text ≡ text'
 
 -- where schedules are searched for, what one of such requests may list of blocks, so may the other
 abbrev pub OptimaIgnoreWorkers : Type 0
-OptimaIgnoreWorkers = (r q : Request) → AskAlike r q → (blocks : List Block) (text : List ℕ)
-    → IsListingFor task.Optimize r blocks text → IsListingFor task.Optimize q blocks text
+OptimaIgnoreWorkers = (r q : Request) → AskAlike r q → (t : Task) → searches t r.nodes ≡ true
+    → (blocks : List Block) (text : List ℕ) → IsListingFor t r blocks text → IsListingFor t q blocks text
 
 -- a schedule that is listed with a bound which its cycles reach is optimal among the lawful ones of its block
 abbrev pub ListedOptimaAreOptimal : Type 0
 ListedOptimaAreOptimal = (lat : Latencies) (k : ℕ) (b : Block) (entry : List ℕ) (cycles : ℕ)
     → (is : IsOptimizeEntry lat k b entry cycles) → cycles ≡ is.best.bound
     → IsOptimal lat b.ops is.best.schedule.ops is.best.schedule.rows
+
+-- a greedy schedule that is counted as optimal beside its comparison is so among the lawful ones of its block
+abbrev pub CountedOptimaAreOptimal : Type 0
+CountedOptimaAreOptimal = (lat : Latencies) (nodes : Option ℕ) (b : Block) (c : ComparedCycles)
+    → IsComparedCycles lat nodes b c → (heuristic : Heuristic) → optimal_by heuristic c ≡ 1
+    → (s : Table) → IsGreedyAs heuristic lat b.ops s → IsOptimal lat b.ops s.ops s.rows
 
 -- what is listed of blocks as what comes of their schedules is what is listed as what comes of them, where it isn't asked at
 -- which place they fault
@@ -80,14 +95,14 @@ ChecksIgnoreWorkers = (r q : Request) → AskAlike r q → IsTrue (takes_rows r.
 -- where a check passed, the rows that are proposed for each block keep the rules of the units and have its outcome on
 -- every memory or, where outputs alone are compared, show what it shows
 abbrev pub PassedChecksKeepOutcomes : Type 0
-PassedChecksKeepOutcomes = (options : CheckOptions) (lat : Latencies) (memory : List ℤ) (blocks : List Block)
-    (proposals : List Proposed) (text : List ℕ) → ListsChecked options lat memory blocks proposals Passed text
+PassedChecksKeepOutcomes = (options : CheckOptions) (nodes : Option ℕ) (lat : Latencies) (memory : List ℤ)
+    (blocks : List Block) (proposals : List Proposed) (text : List ℕ) → ListsChecked options nodes lat memory blocks proposals Passed text
     → AllZip (λ (b : Block) (p : Proposed). DoTheSame options.outputs_alone lat b.ops p.ops p.rows) blocks proposals
 
 -- and they pass only if they may
 abbrev pub PassedChecksMayPass : Type 0
-PassedChecksMayPass = (options : CheckOptions) (lat : Latencies) (memory : List ℤ) (blocks : List Block)
-    (proposals : List Proposed) (text : List ℕ) → ListsChecked options lat memory blocks proposals Passed text
+PassedChecksMayPass = (options : CheckOptions) (nodes : Option ℕ) (lat : Latencies) (memory : List ℤ)
+    (blocks : List Block) (proposals : List Proposed) (text : List ℕ) → ListsChecked options nodes lat memory blocks proposals Passed text
     → AllZip (λ (b : Block) (p : Proposed). MayPass options lat memory b.ops p.ops p.rows) blocks proposals
 
 -- one input was read, which denotes blocks and the rows that are proposed for them

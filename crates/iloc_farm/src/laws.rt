@@ -1,19 +1,20 @@
 //! Laws of listings, as contracts of functions that do nothing.
 ghost use Rattle.iloc_farm.specs.Laws.{ChecksIgnoreWorkers, GreedySchedulesCanBeListed, HandInsDontChangeTheTask};
-ghost use Rattle.iloc_farm.specs.Laws.{ListedOptimaAreOptimal, ListingsIgnoreWorkers, OptimaIgnoreWorkers};
+ghost use Rattle.iloc_farm.specs.Laws.{CountedOptimaAreOptimal, ListedOptimaAreOptimal};
+ghost use Rattle.iloc_farm.specs.Laws.{ListingsIgnoreWorkers, OptimaIgnoreWorkers};
 ghost use Rattle.iloc_farm.specs.Laws.{PassedChecksKeepOutcomes, PassedChecksMayPass};
 ghost use Rattle.iloc_farm.specs.Laws.{SimulatingListsRuns, Status0MeansTheSame};
 
 /// The number of workers leaves no trace in a listing.
 ///
-/// Promise: requests that are equal but for their workers list one text of one file, unless they ask for optima.
+/// Promise: requests that are equal but for their workers list one text of one file, unless schedules are searched for.
 pub fn listings_ignore_workers()
     ensures { ListingsIgnoreWorkers }
 {}
 
-/// Which of several schedules `optimize` finds, no contract says.
+/// Which of several schedules a search finds, no contract says.
 ///
-/// Promise: what `optimize` may list of blocks doesn't depend on its workers.
+/// Promise: what `optimize` and `compare --nodes` may list of blocks doesn't depend on their workers.
 pub fn optima_ignore_workers()
     ensures { OptimaIgnoreWorkers }
 {}
@@ -23,6 +24,13 @@ pub fn optima_ignore_workers()
 /// Promise: a schedule that is listed with a bound which its cycles reach is optimal among the lawful ones of its block.
 pub fn listed_optima_are_optimal()
     ensures { ListedOptimaAreOptimal }
+{}
+
+/// Where `compare` counts a schedule as optimal, it is so.
+///
+/// Promise: a greedy schedule that is counted so is optimal among the lawful ones of its block.
+pub fn counted_optima_are_optimal()
+    ensures { CountedOptimaAreOptimal }
 {}
 
 /// `simulate` and `run` list the same.

@@ -12,6 +12,7 @@ use Rattle.iloc_sched.specs.Heuristics.{priorities_by}
 use Rattle.iloc_sched.specs.Lawful.{IsLawful}
 use Rattle.iloc_sched.specs.Least.{least}
 use Rattle.iloc_optimum.specs.declared.optimizer.Optimum.{Optimum}
+use Rattle.iloc_optimum.specs.declared.optimizer.Sought.{Sought}
 use Rattle.iloc_optimum.specs.Bound.{IsBound}
 
 abbrev pub cycles_of : Latencies → Table → ℕ
@@ -32,3 +33,10 @@ pub record IsOptimumOf (lat : Latencies) (block : List Op) (o : Optimum) : Type 
   -- No lawful schedule takes fewer cycles than the bound, which is `least` or more.
   pub bound : IsBound lat block o.bound
   pub least : least lat block ≤ o.bound
+
+-- These are the cycles of a schedule, and the bound, that are found of the block.
+pub record IsSought (lat : Latencies) (block : List Op) (s : Sought) : Type 0 where
+  pub optimum : Optimum
+  pub found : IsOptimumOf lat block optimum
+  pub best : s.best ≡ cycles_of lat optimum.schedule
+  pub bound : s.bound ≡ optimum.bound

@@ -2,12 +2,12 @@
 ghost use Rattle.std.specs.Prelude.{◌≡◌, ◌≤◌, ◌<◌, ◌+◌, ◌-◌, ◌^◌, ◌⊎◌, length, map, replicate, IfOk, OnOk};
 ghost use Rattle.iloc_sched.specs.Least.{tails};
 ghost use Rattle.iloc_sched.specs.Renaming.{renamed};
-ghost use Rattle.iloc_optimum.specs.Optimum.{IsOptimumOf, cycles_of};
+ghost use Rattle.iloc_optimum.specs.Optimum.{IsOptimumOf, IsSought, cycles_of};
 ghost use Rattle.iloc_optimum.specs.Steps.Improving.{IsShortened};
 
 use crate::search::{Found, search_windows};
 use crate::windows::Windows;
-use iloc_ops::{Block, MAX_OPS, NoMemory};
+use iloc_ops::{Block, NoMemory};
 use iloc_sched::{Graph, Heuristic, Scheduler};
 use iloc_timed::{Latencies, MAX_ROWS, Schedule, cycles};
 use std::alloc::Global;
@@ -181,11 +181,19 @@ fn search_upwards(
     Ok(())
 }
 
+/// What is found of how many cycles a block takes.
+#[derive(Clone, Copy, Debug, Drop, PartialEq, Eq)]
+pub struct Sought {
+    /// How many the best schedule takes that was found.
+    pub best: u32,
+    /// No lawful schedule of the block takes fewer.
+    pub bound: u32,
+}
+
 /// Finds the best schedules of blocks, one after another.
 #[derive(Drop)]
 pub struct Optimizer {
     alloc: Global,
-    graph: Graph,
     scheduler: Scheduler,
 }
 
@@ -194,38 +202,52 @@ impl Optimizer {
     pub fn new(alloc: Global) -> Optimizer {
         Optimizer {
             alloc,
-            graph: Graph::new(alloc),
             scheduler: Scheduler::new(alloc),
         }
     }
 
-    /// The best schedule that is found for a block, and a bound on the cycles of its lawful schedules: the shortest of the
-    /// greedy schedules by each heuristic, or one that a search finds with so many nodes, at most `MOST_NODES`, for each
-    /// number of cycles that is tried. A block of more than `MOST_SEARCHED` operations isn't searched. After a refusal the
-    /// next block is scheduled as after any other.
+    /// The best schedule that is found for a block, by its dependence graph, and a bound on the cycles of its lawful schedules:
+    /// the shortest of the greedy schedules by each heuristic, or one that a search finds with so many nodes, at most
+    /// `MOST_NODES`, for each number of cycles that is tried. A block of more than `MOST_SEARCHED` operations isn't searched.
+    /// After a refusal the next block is scheduled as after any other.
     ///
     /// Promise: The schedule is lawful, with the block's outcome on every memory, and takes at most as many cycles as each
     /// greedy one. No lawful schedule takes fewer cycles than the bound, which is at least that of `iloc_sched::least`.
     pub fn optimize(
         &mut self,
         block: &Block,
-        latencies: &Latencies,
+        graph: &Graph,
         nodes: u32,
     ) -> Result<Optimum, NoMemory>
-        requires { length block.now.ops ≤ MAX_OPS }
-        ensures { IfOk result (IsOptimumOf latencies.now block.now.ops) }
+        requires { graph.now.ops ≡ renamed block.now.ops }
+        ensures { IfOk result (IsOptimumOf graph.now.latencies block.now.ops) }
     {
-        self.graph.refill(block, latencies)?;
-        let mut optimum = best_of_orders(&mut self.scheduler, block, &self.graph)?;
+        let mut optimum = best_of_orders(&mut self.scheduler, block, graph)?;
         search_upwards(
             self.alloc,
             &mut self.scheduler,
             block,
-            &self.graph,
+            graph,
             &mut optimum,
             nodes.min(MOST_NODES),
         )?;
         Ok(optimum)
+    }
+
+    /// How many cycles the schedule takes that `optimize` finds, and the bound beside it.
+    ///
+    /// Promise: They are the numbers of a schedule and a bound of which `optimize` promises as much.
+    pub fn seek(&mut self, block: &Block, graph: &Graph, nodes: u32) -> Result<Sought, NoMemory>
+        requires { graph.now.ops ≡ renamed block.now.ops }
+        ensures { IfOk result (IsSought graph.now.latencies block.now.ops) }
+    {
+        let optimum = self.optimize(block, graph, nodes)?;
+        let sought = Sought {
+            best: count_of(&optimum.schedule, graph.latencies()) as u32,
+            bound: optimum.bound as u32,
+        };
+        self.take_back(optimum.schedule);
+        Ok(sought)
     }
 
     /// Takes back the buffers of a schedule, for the next block.

@@ -8,19 +8,19 @@ use Rattle.clap.specs.Words.{App, Rule, Shape, Text, app_of, new_rule, rule_of, 
 use Rattle.clap.specs.Simple.{new_shape}
 use Rattle.iloc_args.specs.Command.{Subcommand, at_rule, csv_rule, either_slot_rule, json_rule, latency_rule, lawful_rule, nodes_rule}
 use Rattle.iloc_args.specs.Command.{operations_rule, outputs_rule, priority_rule, shape, top_shape, task_rule, words_rule, workers_rule, where_rule}
+use Rattle.iloc_args.specs.Command.{search_rule}
 use Rattle.iloc_args.specs.declared.command.Argument.{Argument}
 use Rattle.iloc_args.specs.declared.command.Argument.TheVariants.{At, Words, Workers, Load, Store, Mult, Priority, Nodes, Csv, Json, Task, Lawful}
-use Rattle.iloc_args.specs.declared.command.Argument.TheVariants.{Operations, Outputs, EitherSlot, EitherSlotWithTask, Where}
+use Rattle.iloc_args.specs.declared.command.Argument.TheVariants.{Operations, Outputs, EitherSlot, EitherSlotWithTask, Where, NodesIfGiven}
 use Rattle.iloc_args.specs.declared.command.Entry.{Entry}
 
--- `--NAME N`, a number that this parser takes, and this one where it is not given
-abbrev pub option_rule : Text → Text → ValueParser → Rule
-option_rule name default parser = record (new_rule name) {
-  long = Some name;
-  value_names = 1;
-  defaults = default ∷ [];
-  parser = Some parser;
-}
+-- `--NAME N`, a number that this parser takes
+abbrev pub option_rule : Text → ValueParser → Rule
+option_rule name parser = record (new_rule name) { long = Some name; value_names = 1; parser = Some parser }
+
+-- the same, and this one where it is not given
+abbrev pub default_rule : Text → Text → ValueParser → Rule
+default_rule name default parser = record (option_rule name parser) { defaults = default ∷ [] }
 
 -- it has no commands below it
 abbrev pub alone : Shape → App
@@ -49,6 +49,7 @@ rule_for Store = latency_rule (codes "store") (codes "5")
 rule_for Mult = latency_rule (codes "mult") (codes "3")
 rule_for Priority = priority_rule
 rule_for Nodes = nodes_rule
+rule_for NodesIfGiven = search_rule
 rule_for Csv = csv_rule
 rule_for Json = json_rule
 rule_for Task = task_rule

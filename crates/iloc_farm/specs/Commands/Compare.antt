@@ -1,12 +1,14 @@
 -- `compare` lists the bound on each block's cycles, and the cycles of its schedules by each heuristic.
-use Rattle.std.specs.Prelude.{ℕ, ◌≡◌, ◌==◌, nat_le, Bool, true, false, if◌then◌else◌, List, [], ◌∷◌, ◌++◌, slice_index, sum_by, length, Option, codes}
+use Rattle.std.specs.Prelude.{ℕ, ◌≡◌, ◌==◌, nat_le, Bool, true, false, if◌then◌else◌, List, [], ◌∷◌, ◌++◌, slice_index, sum_by, length, Option, Some, None, codes}
 use Rattle.std.specs.List.{flat_map, list_all}
+use Rattle.std.specs.Option.{option_map_or}
 use Rattle.std.specs.Fmt.{decimal}
 use Rattle.iloc_ops.specs.declared.file.Block.{Block}
 use Rattle.iloc_timed.specs.declared.latencies.Latencies.{Latencies}
 use Rattle.iloc_sched.specs.Least.{least}
 use Rattle.iloc_sched.specs.declared.ranking.heuristic.Heuristic.{Heuristic}
 use Rattle.iloc_sched.specs.declared.ranking.heuristic.Heuristic.TheVariants.{Chain, Slack, Descendants, Successors, Latency, Order}
+use Rattle.iloc_optimum.specs.declared.optimizer.Sought.{Sought}
 use Rattle.iloc_args.specs.Priority.{priority_word}
 use Rattle.iloc_args.specs.declared.request.Request.{Request}
 use Rattle.iloc_farm.specs.declared.commands.compare.ComparedCycles.{ComparedCycles}
@@ -14,6 +16,7 @@ use Rattle.iloc_farm.specs.Entries.{IsListingAfter}
 use Rattle.iloc_farm.specs.Listing.{field, head_as, opening_as}
 use Rattle.iloc_farm.specs.Schedules.{IsCount}
 use Rattle.iloc_farm.specs.Command.{Command, Shared, of_files}
+use Rattle.iloc_farm.specs.Commands.Optimize.{IsSoughtIf}
 
 -- the heuristics, in the order in which they are listed
 abbrev pub heuristics : List Heuristic
@@ -32,11 +35,20 @@ place Order = 5
 abbrev pub cycles_by : Heuristic → ComparedCycles → ℕ
 cycles_by heuristic c = slice_index c.cycles (place heuristic)
 
--- the bound on the block's cycles, and those of its schedules
-pub record IsComparedCycles (lat : Latencies) (b : Block) (c : ComparedCycles) : Type 0 where
+-- the bound on the block's cycles, what is found of them where the request has nodes, and those of its schedules
+pub record IsComparedCycles (lat : Latencies) (nodes : Option ℕ) (b : Block) (c : ComparedCycles) : Type 0 where
   pub bound : c.least ≡ least lat b.ops
+  pub sought : IsSoughtIf nodes lat b.ops c.sought
   pub all : length c.cycles ≡ length heuristics
   pub each : (heuristic : Heuristic) → IsCount heuristic lat b (cycles_by heuristic c)
+
+-- the bound that is known: what a search proves, or else `least`
+abbrev pub bound_of : ComparedCycles → ℕ
+bound_of c = option_map_or (λ s. s.bound) c.sought c.least
+
+-- the cycles of the best schedule that a search finds, or else 0
+abbrev pub best_of : ComparedCycles → ℕ
+best_of c = option_map_or (λ s. s.best) c.sought 0
 
 -- whether the schedule by no heuristic takes fewer
 abbrev pub is_fewest : Heuristic → ComparedCycles → Bool
@@ -48,7 +60,7 @@ fewest_by heuristic c = if is_fewest heuristic c then 1 else 0
 
 -- 1 for a block whose schedule by this heuristic takes as many as the bound: then no lawful schedule takes fewer
 abbrev pub optimal_by : Heuristic → ComparedCycles → ℕ
-optimal_by heuristic c = if cycles_by heuristic c == c.least then 1 else 0
+optimal_by heuristic c = if cycles_by heuristic c == bound_of c then 1 else 0
 
 -- a number by its heuristic
 abbrev pub column : Bool → Heuristic → ℕ → List ℕ
@@ -58,29 +70,43 @@ column csv heuristic number = field csv (priority_word heuristic) number
 abbrev pub columns : Bool → (Heuristic → ℕ) → List Heuristic → List ℕ
 columns csv number each = flat_map (λ heuristic. column csv heuristic (number heuristic)) each
 
--- `block K NAME least L chain C ..`, or `K,NAME,L,C,..` in a table
+-- ` bound B best C`, or `,B,C` in a table, where that was sought
+abbrev pub sought_columns : Bool → Option Sought → List ℕ
+sought_columns csv None = []
+sought_columns csv (Some s) = field csv (codes "bound") s.bound ++ field csv (codes "best") s.best
+
+-- `block K NAME least L chain C ..`, or `K,NAME,L,C,..` in a table, with what was sought after the least
 abbrev pub compare_line : Bool → ℕ → Option (List ℕ) → ComparedCycles → List ℕ
 compare_line csv k name c =
-    head_as csv k name ++ field csv (codes "least") c.least ++ columns csv (λ heuristic. cycles_by heuristic c) heuristics
-    ++ codes "\n"
+    head_as csv k name ++ field csv (codes "least") c.least ++ sought_columns csv c.sought
+    ++ columns csv (λ heuristic. cycles_by heuristic c) heuristics ++ codes "\n"
 
 -- the entry of block k: its comparison, which is found
 pub record IsCompareEntry (request : Request) (k : ℕ) (b : Block) (entry : List ℕ) (found : ComparedCycles) : Type 0 where
-  pub compares : IsComparedCycles request.latencies b found
+  pub compares : IsComparedCycles request.latencies request.nodes b found
   pub listed : entry ≡ compare_line request.csv k b.name found
 
--- what a table begins with
-abbrev pub compare_header : List ℕ
-compare_header = codes "block,name,least,chain,slack,descendants,successors,latency,order\n"
+-- what a table begins with, by the nodes that the request has
+abbrev pub compare_header : Option ℕ → List ℕ
+compare_header None = codes "block,name,least,chain,slack,descendants,successors,latency,order\n"
+compare_header (Some nodes) =
+    codes "block,name,least,bound,best,chain,slack,descendants,successors,latency,order\n"
 
 -- the sums for each heuristic
 abbrev pub sums_of : (Heuristic → ComparedCycles → ℕ) → List ComparedCycles → List ℕ
 sums_of counted found = columns false (λ heuristic. sum_by (counted heuristic) found) heuristics
 
--- `total least L chain C ..`
-abbrev pub sums_line : List ComparedCycles → List ℕ
-sums_line found =
-    codes "total least " ++ decimal (sum_by (λ c. c.least) found) ++ sums_of cycles_by found ++ codes "\n"
+-- ` bound B best C` of all together, where the request has nodes
+abbrev pub sought_sums : Option ℕ → List ComparedCycles → List ℕ
+sought_sums None found = []
+sought_sums (Some nodes) found =
+    field false (codes "bound") (sum_by bound_of found) ++ field false (codes "best") (sum_by best_of found)
+
+-- `total least L chain C ..`, with those after the least
+abbrev pub sums_line : Option ℕ → List ComparedCycles → List ℕ
+sums_line nodes found =
+    codes "total least " ++ decimal (sum_by (λ c. c.least) found) ++ sought_sums nodes found ++ sums_of cycles_by found
+    ++ codes "\n"
 
 -- `LABEL chain N .. of B`, with the number of blocks
 abbrev pub tally_line : List ℕ → (Heuristic → ComparedCycles → ℕ) → List ComparedCycles → List ℕ
@@ -88,23 +114,23 @@ tally_line label counted found =
     label ++ sums_of counted found ++ codes " of " ++ decimal (length found) ++ codes "\n"
 
 -- the sums, and how many blocks have the fewest cycles or the bound
-abbrev pub compare_totals : List ComparedCycles → List ℕ
-compare_totals found =
-    sums_line found ++ tally_line (codes "fewest") fewest_by found ++ tally_line (codes "optimal") optimal_by found
+abbrev pub compare_totals : Option ℕ → List ComparedCycles → List ℕ
+compare_totals nodes found =
+    sums_line nodes found ++ tally_line (codes "fewest") fewest_by found ++ tally_line (codes "optimal") optimal_by found
 
 -- these, which a table has not
-abbrev pub compare_ending : Bool → List ComparedCycles → List ℕ
-compare_ending true found = []
-compare_ending false found = compare_totals found
+abbrev pub compare_ending : Bool → Option ℕ → List ComparedCycles → List ℕ
+compare_ending true nodes found = []
+compare_ending false nodes found = compare_totals nodes found
 
 -- the listing of these blocks for the request
 abbrev pub IsCompareListing : Request → List Block → List ℕ → Type 0
 IsCompareListing request blocks text =
-    IsListingAfter (IsCompareEntry request) (opening_as request.csv compare_header) (compare_ending request.csv) blocks
-    text
+    IsListingAfter (IsCompareEntry request) (opening_as request.csv (compare_header request.nodes))
+    (compare_ending request.csv request.nodes) blocks text
 
 -- workers hand back all that is compared
 abbrev pub compare_command : Command
 compare_command = record (of_files IsCompareListing) {
-  listers = Shared ComparedCycles (λ request k b c. IsComparedCycles request.latencies b c) (cycles_by Chain);
+  listers = Shared ComparedCycles (λ request k b c. IsComparedCycles request.latencies request.nodes b c) (cycles_by Chain);
 }

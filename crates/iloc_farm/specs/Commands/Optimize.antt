@@ -1,9 +1,11 @@
 -- `optimize` lists for each block the best schedule that is found, and a bound on the cycles of every one.
-use Rattle.std.specs.Prelude.{◌≡◌, ◌++◌, ℕ, List, Some}
+use Rattle.std.specs.Prelude.{◌≡◌, ◌++◌, ℕ, List, MatchOption, None, Option, Some}
 use Rattle.iloc_ops.specs.declared.file.Block.{Block}
+use Rattle.iloc_ops.specs.declared.op.Op.{Op}
 use Rattle.iloc_timed.specs.declared.latencies.Latencies.{Latencies}
 use Rattle.iloc_optimum.specs.declared.optimizer.Optimum.{Optimum}
-use Rattle.iloc_optimum.specs.Optimum.{IsOptimumOf}
+use Rattle.iloc_optimum.specs.declared.optimizer.Sought.{Sought}
+use Rattle.iloc_optimum.specs.Optimum.{IsOptimumOf, IsSought}
 use Rattle.iloc_farm.specs.Listing.{bound_comment, cycles_of, schedule_entry, total_of_all}
 use Rattle.iloc_farm.specs.Command.{Command, Shared, of_files}
 use Rattle.iloc_farm.specs.Entries.{IsListingOf}
@@ -16,6 +18,11 @@ pub record IsOptimizeEntry (lat : Latencies) (k : ℕ) (b : Block) (entry : List
   pub found : IsOptimumOf lat b.ops best
   pub listed : entry ≡ schedule_entry lat k b.name best.schedule ++ bound_comment (Some best.bound) cycles
   pub counted : cycles ≡ cycles_of lat best.schedule
+
+-- where a request has nodes, this is found of the cycles that a block takes, and else nothing is
+abbrev pub IsSoughtIf : Option ℕ → Latencies → List Op → Option Sought → Type 0
+IsSoughtIf None lat block sought = sought ≡ None
+IsSoughtIf (Some nodes) lat block sought = MatchOption sought ⊥ (IsSought lat block)
 
 -- workers hand back the entries
 abbrev pub optimize_command : Command

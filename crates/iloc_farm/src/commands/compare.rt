@@ -7,13 +7,15 @@ ghost use Rattle.iloc_timed.specs.declared.latencies.Latencies.{Latencies as lat
 ghost use Rattle.iloc_sched.specs.GraphOf.{of_block};
 ghost use Rattle.iloc_farm.specs.Commands.Compare as compare;
 ghost use Rattle.iloc_farm.specs.Schedules.{IsCount};
-ghost use Rattle.iloc_farm.specs.Steps.Tallies.{counted};
+ghost use Rattle.iloc_farm.specs.Steps.Tallies.{counted, limit_of};
 
+use crate::commands::optimize::sought_if;
 use crate::farmed::FarmedLister;
 use crate::listing::table::{push_field, push_head, push_opening};
 use crate::listing::text::Listing;
 use crate::listing::{count_of, push_numbered};
 use iloc_args::{Request, priority_name};
+use iloc_optimum::{Optimizer, Sought};
 use iloc_sched::{Graph, Heuristic, Scheduler};
 use iloc_text::{Block, Blocks, Name, NoMemory};
 use std::alloc::Global;
@@ -31,11 +33,17 @@ const HEURISTICS: [Heuristic; 6] = [
 /// What a table begins with.
 const HEADER: &[u8] = b"block,name,least,chain,slack,descendants,successors,latency,order\n";
 
+/// What it begins with where schedules are searched for.
+const SEARCHED_HEADER: &[u8] =
+    b"block,name,least,bound,best,chain,slack,descendants,successors,latency,order\n";
+
 /// The bound on a block's cycles, and the cycles of its schedules by each heuristic.
 #[derive(Clone, Copy, Debug, Drop)]
 pub struct ComparedCycles {
     /// How many cycles a lawful schedule takes at least.
     pub least: u32,
+    /// What a search finds of them, if there is one.
+    pub sought: Option<Sought>,
     /// How many each schedule takes, in the order in which the heuristics are listed.
     pub cycles: [u32; 6],
 }
@@ -61,6 +69,26 @@ fn cycles_by(heuristic: Heuristic, comparison: &ComparedCycles) -> u32
     comparison.cycles[place(heuristic)]
 }
 
+/// How many cycles a lawful schedule is known to take at least.
+fn bound_of(comparison: &ComparedCycles) -> u32
+    ensures { result ≡ compare.bound_of comparison.now }
+{
+    match &comparison.sought {
+        Some(sought) => sought.bound,
+        None => comparison.least,
+    }
+}
+
+/// How many the best schedule takes that a search finds, if there is one.
+fn best_of(comparison: &ComparedCycles) -> u32
+    ensures { result ≡ compare.best_of comparison.now }
+{
+    match &comparison.sought {
+        Some(sought) => sought.best,
+        None => 0,
+    }
+}
+
 /// Whether the schedule by no heuristic takes fewer.
 fn is_fewest(heuristic: Heuristic, comparison: &ComparedCycles) -> bool
     ensures { result ≡ compare.is_fewest heuristic comparison.now }
@@ -76,7 +104,7 @@ enum Tally {
     Cycles,
     /// In how many the schedule by no other heuristic takes fewer.
     Fewest,
-    /// In how many the schedule takes as many as the bound.
+    /// In how many the schedule takes as many as the bound that is known.
     Optimal,
 }
 
@@ -88,7 +116,7 @@ impl Tally {
         match self {
             Tally::Cycles => cycles_by(heuristic, comparison),
             Tally::Fewest => u32::from(is_fewest(heuristic, comparison)),
-            Tally::Optimal => u32::from(cycles_by(heuristic, comparison) == comparison.least),
+            Tally::Optimal => u32::from(cycles_by(heuristic, comparison) == bound_of(comparison)),
         }
     }
 
@@ -105,16 +133,40 @@ impl Tally {
     }
 }
 
-/// The bounds of all blocks together.
-fn sum_of_bounds(found: &[ComparedCycles]) -> u64
-    requires { length found.now ≤ MAX_BLOCKS }
-    ensures { result ≡ sum_by (λ c. c.least) found.now }
-{
-    let mut sum = 0;
-    for comparison in found {
-        sum += u64::from(comparison.least);
+/// What is summed over blocks, whatever the heuristic.
+#[derive(Clone, Copy)]
+enum Limit {
+    /// The bounds by the formula.
+    Least,
+    /// The bounds that are known.
+    Bound,
+    /// The cycles of the best schedules that are found.
+    Best,
+}
+
+impl Limit {
+    /// What one block adds.
+    fn of(self, comparison: &ComparedCycles) -> u32
+        ensures { result ≡ limit_of self comparison.now }
+    {
+        match self {
+            Limit::Least => comparison.least,
+            Limit::Bound => bound_of(comparison),
+            Limit::Best => best_of(comparison),
+        }
     }
-    sum
+
+    /// What all add.
+    fn sum(self, found: &[ComparedCycles]) -> u64
+        requires { length found.now ≤ MAX_BLOCKS }
+        ensures { result ≡ sum_by (limit_of self) found.now }
+    {
+        let mut sum = 0;
+        for comparison in found {
+            sum += u64::from(self.of(comparison));
+        }
+        sum
+    }
 }
 
 /// Appends a number by its heuristic.
@@ -164,6 +216,17 @@ fn push_sums(
     Ok(())
 }
 
+/// Appends the bound and the cycles that a search finds, if there is one.
+fn push_sought(text: &mut Vec<u8>, csv: bool, sought: &Option<Sought>) -> Result<(), NoMemory>
+    ensures { OnOk result (text.new.items ≡ text.old.items ++ compare.sought_columns csv sought.now) }
+{
+    if let Some(sought) = sought {
+        push_field(text, csv, "bound", u64::from(sought.bound))?;
+        push_field(text, csv, "best", u64::from(sought.best))?;
+    }
+    Ok(())
+}
+
 /// Appends the line of the block with this number, counted from 1, or its row in a table.
 fn push_comparison(
     text: &mut Vec<u8>,
@@ -178,17 +241,39 @@ fn push_comparison(
 {
     push_head(text, csv, number, name)?;
     push_field(text, csv, "least", u64::from(comparison.least))?;
+    push_sought(text, csv, &comparison.sought)?;
     push_cycles(text, csv, &HEURISTICS, comparison)?;
     text.push(b'\n')?;
     Ok(())
 }
 
-/// Appends the line of the bounds and the cycles of all blocks together.
-fn push_sums_line(text: &mut Vec<u8>, found: &[ComparedCycles]) -> Result<(), NoMemory>
+/// Appends the bounds and the cycles that a search finds of all blocks together, if there is one.
+fn push_sought_sums(
+    text: &mut Vec<u8>,
+    nodes: Option<u32>,
+    found: &[ComparedCycles],
+) -> Result<(), NoMemory>
     requires { length found.now ≤ MAX_BLOCKS }
-    ensures { OnOk result (text.new.items ≡ text.old.items ++ compare.sums_line found.now) }
+    ensures { OnOk result (text.new.items ≡ text.old.items ++ compare.sought_sums nodes found.now) }
 {
-    push_numbered(text, b"total least ", sum_of_bounds(found), b"")?;
+    if nodes.is_some() {
+        push_field(text, false, "bound", Limit::Bound.sum(found))?;
+        push_field(text, false, "best", Limit::Best.sum(found))?;
+    }
+    Ok(())
+}
+
+/// Appends the line of the bounds and the cycles of all blocks together.
+fn push_sums_line(
+    text: &mut Vec<u8>,
+    nodes: Option<u32>,
+    found: &[ComparedCycles],
+) -> Result<(), NoMemory>
+    requires { length found.now ≤ MAX_BLOCKS }
+    ensures { OnOk result (text.new.items ≡ text.old.items ++ compare.sums_line nodes found.now) }
+{
+    push_numbered(text, b"total least ", Limit::Least.sum(found), b"")?;
+    push_sought_sums(text, nodes, found)?;
     push_sums(text, &HEURISTICS, Tally::Cycles, found)?;
     text.push(b'\n')?;
     Ok(())
@@ -211,16 +296,31 @@ fn push_tally_line(
 }
 
 /// Appends what all blocks add up to, but in a table.
-fn push_totals(text: &mut Vec<u8>, csv: bool, found: &[ComparedCycles]) -> Result<(), NoMemory>
+fn push_totals(
+    text: &mut Vec<u8>,
+    csv: bool,
+    nodes: Option<u32>,
+    found: &[ComparedCycles],
+) -> Result<(), NoMemory>
     requires { length found.now ≤ MAX_BLOCKS }
-    ensures { OnOk result (text.new.items ≡ text.old.items ++ compare.compare_ending csv found.now) }
+    ensures { OnOk result (text.new.items ≡ text.old.items ++ compare.compare_ending csv nodes found.now) }
 {
     if csv {
         return Ok(());
     }
-    push_sums_line(text, found)?;
+    push_sums_line(text, nodes, found)?;
     push_tally_line(text, b"fewest", Tally::Fewest, found)?;
     push_tally_line(text, b"optimal", Tally::Optimal, found)
+}
+
+/// What a table begins with.
+fn header(nodes: Option<u32>) -> &'static [u8]
+    ensures { result.now ≡ compare.compare_header nodes }
+{
+    match nodes {
+        Some(_) => SEARCHED_HEADER,
+        None => HEADER,
+    }
 }
 
 /// Schedules each block by each heuristic, and answers how many cycles the schedules take.
@@ -228,6 +328,7 @@ fn push_totals(text: &mut Vec<u8>, csv: bool, found: &[ComparedCycles]) -> Resul
 pub(crate) struct CompareLister {
     graph: Graph,
     scheduler: Scheduler,
+    optimizer: Optimizer,
 }
 
 /// How many cycles the schedule of this graph's block by this heuristic takes.
@@ -248,7 +349,7 @@ impl FarmedLister for CompareLister {
 
     type Answer = ComparedCycles;
 
-    ghost answers = { λ request _ block found. IsComparedCycles request.latencies block found };
+    ghost answers = { λ request _ block found. IsComparedCycles request.latencies request.nodes block found };
 
     ghost cycles_in = { λ found. cycles_by Chain found };
 
@@ -258,6 +359,7 @@ impl FarmedLister for CompareLister {
         CompareLister {
             graph: Graph::new(alloc),
             scheduler: Scheduler::new(alloc),
+            optimizer: Optimizer::new(alloc),
         }
     }
 
@@ -270,6 +372,7 @@ impl FarmedLister for CompareLister {
     ) -> Result<ComparedCycles, NoMemory> {
         self.graph.refill(block, &request.latencies)?;
         let least = self.graph.least()?;
+        let sought = sought_if(&mut self.optimizer, block, &self.graph, request.nodes)?;
         let chain = count(&mut self.scheduler, &self.graph, Heuristic::Chain)?;
         let slack = count(&mut self.scheduler, &self.graph, Heuristic::Slack)?;
         let descendants = count(&mut self.scheduler, &self.graph, Heuristic::Descendants)?;
@@ -278,6 +381,7 @@ impl FarmedLister for CompareLister {
         let order = count(&mut self.scheduler, &self.graph, Heuristic::Order)?;
         Ok(ComparedCycles {
             least: least as u32,
+            sought,
             cycles: [chain, slack, descendants, successors, latency, order],
         })
     }
@@ -293,16 +397,17 @@ impl FarmedLister for CompareLister {
         found: Vec<ComparedCycles>,
     ) -> Result<Listing, NoMemory>
         requires few { length blocks ≤ MAX_BLOCKS }
-        requires right { AreListed (λ _ block each. IsComparedCycles request.now.latencies block each) blocks found.items }
+        requires right { AreListed
+            (λ _ block each. IsComparedCycles request.now.latencies request.now.nodes block each) blocks found.items }
         ensures { IfOk result (IsCompareListing request.now blocks) }
     {
         let mut text = Vec::new(alloc);
-        push_opening(&mut text, request.csv, HEADER)?;
+        push_opening(&mut text, request.csv, header(request.nodes))?;
         for (index, block) in blocks.as_slice().iter().enumerate() {
             let name = block.name.as_ref();
             push_comparison(&mut text, request.csv, index + 1, name, &found[index])?;
         }
-        push_totals(&mut text, request.csv, &found)?;
+        push_totals(&mut text, request.csv, request.nodes, &found)?;
         Ok(Listing::of_text(alloc, text))
     }
 }

@@ -1,18 +1,38 @@
 //! `optimize`: the best schedules that are found, with a bound on the cycles of every one.
-ghost use Rattle.std.specs.Prelude.{◌≤◌, length, IfOk};
+ghost use Rattle.std.specs.Prelude.{◌≡◌, ◌≤◌, length, IfOk};
 ghost use Rattle.iloc_ops.specs.Limits.{MAX_BLOCKS};
+ghost use Rattle.iloc_sched.specs.Renaming.{renamed};
+ghost use Rattle.iloc_farm.specs.Commands.Optimize.{IsSoughtIf};
 
 use crate::farmed::FarmedLister;
 use crate::listing::scheduled::{EntryMaker, with_total};
 use crate::listing::text::{Listing, ScheduleEntry};
 use iloc_args::Request;
-use iloc_optimum::Optimizer;
+use iloc_optimum::{Optimizer, Sought};
+use iloc_sched::Graph;
 use iloc_text::{Block, Blocks, NoMemory};
 use std::alloc::Global;
+
+/// What a search with so many nodes finds of a block's cycles, if there is to be one.
+pub(crate) fn sought_if(
+    optimizer: &mut Optimizer,
+    block: &Block,
+    graph: &Graph,
+    nodes: Option<u32>,
+) -> Result<Option<Sought>, NoMemory>
+    requires { graph.now.ops ≡ renamed block.now.ops }
+    ensures { IfOk result (IsSoughtIf nodes graph.now.latencies block.now.ops) }
+{
+    match nodes {
+        Some(nodes) => Ok(Some(optimizer.seek(block, graph, nodes)?)),
+        None => Ok(None),
+    }
+}
 
 /// Searches for the best schedule of each block, and lists it.
 #[derive(Drop)]
 pub(crate) struct OptimizeLister {
+    graph: Graph,
     optimizer: Optimizer,
     entries: EntryMaker,
 }
@@ -32,6 +52,7 @@ impl FarmedLister for OptimizeLister {
 
     fn new(alloc: Global) -> OptimizeLister {
         OptimizeLister {
+            graph: Graph::new(alloc),
             optimizer: Optimizer::new(alloc),
             entries: EntryMaker::new(alloc),
         }
@@ -45,7 +66,9 @@ impl FarmedLister for OptimizeLister {
         block: &Block,
     ) -> Result<ScheduleEntry, NoMemory> {
         let latencies = &request.latencies;
-        let optimum = self.optimizer.optimize(block, latencies, request.nodes)?;
+        let nodes = request.nodes.unwrap_or(0);
+        self.graph.refill(block, latencies)?;
+        let optimum = self.optimizer.optimize(block, &self.graph, nodes)?;
         let bound = Some(optimum.bound);
         let entry = self
             .entries

@@ -1,7 +1,7 @@
-use Rattle.std.proofs.Common.{refl}
-use Rattle.iloc_args.proofs.Arguments.{within}
+use Rattle.std.proofs.Common.{codes}
+use Rattle.iloc_args.specs.Steps.Building.{default_rule}
+use Rattle.iloc_args.proofs.Arguments.{read_by}
 use Rattle.iloc_args.proofs.command.nodes_arg.Goals as goal
 
 pub returns : goal.returns
-returns c = within 0 100000 _ _ _ _ _ _ _ c.value_parser.ensures c.new.ensures.start c.new.ensures.end c.range.ensures refl
-    c.number_arg.ensures
+returns c = read_by (default_rule (codes "nodes") (codes "1000")) _ _ _ c.nodes_parser.ensures c.number_arg.ensures

@@ -1,10 +1,9 @@
-use Rattle.std.proofs.Common.{◌∙◌, codes, lit<, lit≤}
+use Rattle.std.proofs.Common.{codes, lit<}
 use Rattle.clap.specs.Words.{found_of}
-use Rattle.iloc_args.proofs.Getters.{one_read}
+use Rattle.iloc_args.proofs.Getters.{one_if_read}
 use Rattle.iloc_args.proofs.line.nodes_in.Goals as goal
 
 pub returns : goal.returns
 returns c =
-    let got = one_read (codes "nodes") (found_of c.args.given.now) 0 100000 1000 c.get_one.result (lit< tt) (lit≤ tt)
-    (lit≤ tt) c.requires.nodes c.get_one.ensures.none c.get_one.ensures.value in
-    c.unwrap_or.ensures ∙ got.value
+    one_if_read (codes "nodes") (found_of c.args.given.now) 0 100000 c.get_one.result (lit< tt) c.requires.nodes
+    c.get_one.ensures.none c.get_one.ensures.value

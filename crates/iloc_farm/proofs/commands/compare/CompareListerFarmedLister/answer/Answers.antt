@@ -1,10 +1,14 @@
-use Rattle.std.proofs.Common.{◌≤◌, ap, arith, ◌∙◌}
+use Rattle.std.proofs.Common.{◌≤◌, ap, arith, subst, ◌∙◌}
 use Rattle.iloc_sched.specs.GraphOf.{GraphOf}
 use Rattle.iloc_sched.specs.Least.{least, least_of}
 use Rattle.iloc_sched.specs.declared.ranking.heuristic.Heuristic.TheVariants.{Chain}
+use Rattle.iloc_farm.specs.Commands.Optimize.{IsSoughtIf}
 use Rattle.iloc_farm.specs.Steps.Limits.{most_cycles}
 use Rattle.iloc_farm.proofs.Comparisons.{bound_small, compared}
 use Rattle.iloc_farm.proofs.commands.compare.CompareListerFarmedLister.answer.Goals as goal
+
+pub sought_if-requires : goal.sought_if-requires
+sought_if-requires c = ap (λ (g : GraphOf). g.ops) c.in_ok-refill.ensures.graph
 
 pub overflow_cast-result : goal.overflow_cast-result
 overflow_cast-result c =
@@ -18,9 +22,12 @@ overflow_cast-result c =
 pub returns : goal.returns
 returns c =
     let lat = c.args.request.now.latencies in
+    let nodes = c.args.request.now.nodes in
     let block = c.args.block.now in
     let graph = c.in_ok-refill.ensures.graph in
-    compared lat block _ _ _ _ _ _ _ (c.in_ok-least.ensures ∙ ap (λ (g : GraphOf). least_of g.latencies g.ops) graph)
+    compared lat nodes block _ _ _ _ _ _ _ _
+    (c.in_ok-least.ensures ∙ ap (λ (g : GraphOf). least_of g.latencies g.ops) graph)
+    (subst (λ (g : GraphOf). IsSoughtIf nodes g.latencies block.ops c.in_ok-sought.sought) graph c.in_ok-sought.ensures)
     (c.in_ok-chain.ensures lat block graph) (c.in_ok-slack.ensures lat block graph)
     (c.in_ok-descendants.ensures lat block graph) (c.in_ok-successors.ensures lat block graph)
     (c.in_ok-latency.ensures lat block graph) (c.in_ok-order.ensures lat block graph)

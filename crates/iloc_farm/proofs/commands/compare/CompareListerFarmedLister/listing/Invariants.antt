@@ -7,4 +7,5 @@ abbrev pub invariant-loop-index : goal.invariant-loop-index
 invariant-loop-index l =
     l.text.items
     ++ entries (compare_line l.request.csv) (l.index + 1) (drop l.index l.block-items) (drop l.index l.found.items)
-    ≡ opening_as l.request.csv compare_header ++ entries (compare_line l.request.csv) 1 l.block-items l.found.items
+    ≡ opening_as l.request.csv (compare_header l.request.nodes)
+    ++ entries (compare_line l.request.csv) 1 l.block-items l.found.items

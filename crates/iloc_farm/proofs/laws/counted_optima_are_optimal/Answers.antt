@@ -1,0 +1,5 @@
+use Rattle.iloc_farm.proofs.Comparisons.{counted_optima}
+use Rattle.iloc_farm.proofs.laws.counted_optima_are_optimal.Goals as goal
+
+pub returns : goal.returns
+returns c = counted_optima
