@@ -45,7 +45,7 @@ def parser(usage):
                        help="of those results [visible]")
     where.add_argument("--github", action="store_true", help="one student: print a workflow's annotations; status 1 if a task fails")
     where.add_argument("--exit-code", action="store_true", help="status 1 unless every task is passed by everybody")
-    where.add_argument("--pictures", choices=("none", "wrong", "all"), default="wrong", help="of schedules [wrong]")
+    where.add_argument("--pictures", choices=("none", "wrong", "all"), default="wrong", help="and pages, of schedules [wrong]")
     where.add_argument("--roster", metavar="CSV", type=Path, help="who has to be in the gradebook: its first column, below a header")
     add("-j", "--jobs", metavar="N", type=at_least(1, int), default=os.cpu_count(), help="hand-ins at a time [processors]")
     add("--ilocfarm", metavar="PROGRAM", default="ilocfarm", help="the program that judges [ilocfarm]")

@@ -77,23 +77,22 @@ def write_gradebook(path, marks, tasks):
 
 
 def write_feedback(folder, row, pictures, asked):
-    """What a student reads, and the pictures; gives the links to them by task."""
+    """What a student reads, and the pictures; gives the names of these by task."""
     folder.mkdir(parents=True, exist_ok=True)
     lines = [f"{total(row):g} of {asked.points * len(row):g} points"]
-    links = {}
+    names = {}
     for it in row:
         lines += ["", "\n  ".join(told(it))]
-        if picture := pictures.write(it, folder):
-            links[it.task] = picture
-            lines.append(f"  Picture: {picture}")
+        names[it.task] = pictures.write(it, folder)
+        lines += [f"  {'Picture' if name.endswith('.svg') else 'Cycle by cycle'}: {name}" for name in names[it.task]]
     with open(folder / "feedback.txt", "w", encoding="utf-8", errors="replace") as file:
         file.write("\n".join(lines) + "\n")
-    return links
+    return names
 
 
-def cell(mark, picture, home):
+def cell(mark, pictures, home):
     """A mark, with what is said of it below."""
-    at = f'<p><a href="feedback/{quote(home)}/{quote(picture)}">{escape(picture)}</a></p>' if picture else ""
+    at = "".join(f'<p><a href="feedback/{quote(home)}/{quote(it)}">{escape(it)}</a></p>' for it in pictures)
     said = "".join(f"<p>{escape(it)}</p>" for it in told(mark))
     return (f'<td class="{COLOURS.get(mark.verdict, "wrong")}"><details><summary>{mark.points:g}</summary>{said}{at}</details></td>')
 
@@ -103,8 +102,8 @@ def write_class(folder, marks, tasks, pictures, asked):
     lines = []
     for name, row in sorted(marks.items(), key=lambda it: (-total(it[1]), it[0])):
         home = folder_name(name)
-        links = write_feedback(folder / "feedback" / home, row, pictures, asked)
-        cells = "".join(cell(it, links.get(it.task), home) for it in row)
+        names = write_feedback(folder / "feedback" / home, row, pictures, asked)
+        cells = "".join(cell(it, names[it.task], home) for it in row)
         at = f'<a href="feedback/{quote(home)}/feedback.txt">{escape(shown(name))}</a>'
         lines.append(f"<tr><th>{at}</th><td>{total(row):g}</td>{cells}</tr>")
     heads = "".join(f"<th>{escape(shown(it.name))}<br><small>{it.ours} / {it.least}</small></th>" for it in tasks)

@@ -63,6 +63,19 @@ class Class(Graded):
             status, _, book = self.grade("--roster", "roster.csv", tasks=BOTH, submissions="examples/class/submissions")
             self.expect("gradebook", (status, len(book), book["zoe"]["both verdict"], book["ada"]["total"]), (0, 9, "missing", "10"))
 
+    def test_pages(self):
+        """Each drawn hand-in that is traced has the page that charts/page makes of its listings, and a link to it."""
+        self.call("ilocgrade", BOTH, "examples/class/submissions", "--check=--load=4")
+        report = self.text("grades/report.html")
+        for name in "ben", "eve":
+            rows, of_rows = self.read(f"examples/class/submissions/{name}/both.rows"), ("--task", f"{BOTH}/both.iloc", "3", "4")
+            listings = [self.call("ilocfarm", "graph", "--load", "4", given=self.read(f"{BOTH}/both.iloc"))[1]]
+            listings += [self.call("ilocfarm", it, "--load", "4", *of_rows, given=rows)[1] for it in ("trace", "check")]
+            self.expect(f"{name}'s page", self.read(f"grades/feedback/{name}/both.html"), self.call("charts/page", given=b"".join(listings))[1])
+            self.expect(f"{name}'s link", f'href="feedback/{name}/both.html"' in report, True)
+        for name in "ada", "cem", "gus":        # passes, breaks the rules of the units, can't be read
+            self.expect(f"{name}'s page", os.path.exists(self.path(f"grades/feedback/{name}/both.html")), False)
+
     def test_statuses(self):
         """A student's fault is none of the command's; what isn't graded is said in a line."""
         os.makedirs(self.path("empty"))

@@ -96,7 +96,7 @@ class Hostile(Graded):
         page = Links(self.text("grades/report.html"))
         self.expect("elements", page.tags & {"script", "img", "iframe"}, set())
         self.expect("dead links", [it for it in page.links if not os.path.exists(self.path(f"grades/{unquote(it)}"))], [])
-        self.expect("links", len(page.links), 2 * len(NAMES) + 1)
+        self.expect("links", len(page.links), 3 * len(NAMES) + 1)
         self.expect("control characters", [it for it in self.text("grades/report.html") if it < " " and it != "\n"], [])
 
     def test_files(self):
