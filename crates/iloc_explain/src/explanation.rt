@@ -14,7 +14,7 @@ use std::alloc::Global;
 
 /// One of the two units that issue operations.
 #[derive(Clone, Copy, Debug, PartialEq, Eq)]
-pub enum Unit {
+pub(crate) enum Unit {
     /// Unit 0.
     Zero,
     /// Unit 1.
@@ -23,7 +23,7 @@ pub enum Unit {
 
 /// When and where an operation of a schedule is issued, and why not before.
 #[derive(Debug, Drop)]
-pub struct Explained {
+pub(crate) struct Explained {
     /// The cycle at which it is issued.
     pub cycle: usize,
     /// The unit that issues it.
@@ -66,7 +66,7 @@ fn slack_of(total: u64, cycle: usize, chain: u64) -> u64
 /// Promise: Each operation is listed with its cycle of issue, its unit, its priority, the first cycle at which all that it
 /// waits for is over, just the operations for which it waited until then, its start, its slack, and what kept it out of the
 /// row before.
-pub fn explain(
+pub(crate) fn explain(
     alloc: Global,
     schedule: &Schedule,
     latencies: &Latencies,

@@ -8,7 +8,7 @@ use iloc_timed::{Kind, Row, Schedule};
 
 /// What kept an operation out of the row before its own.
 #[derive(Clone, Copy, Debug, PartialEq, Eq)]
-pub enum Holder {
+pub(crate) enum Holder {
     /// Its delays: it is issued as soon as it is ready.
     Delays,
     /// The operation of this number in that row: the units don't let the two be issued together, or the row is full.

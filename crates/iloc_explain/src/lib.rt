@@ -13,7 +13,4 @@ mod path_line;
 mod waited;
 
 pub use chain::longest_chain;
-pub use explanation::{Explained, Unit, explain};
-pub use holding::Holder;
 pub use listing::push_explanation;
-pub use path::{Stretch, path_of};

@@ -18,7 +18,7 @@ use std::alloc::Global;
 
 /// Some cycles of a path, by what binds there.
 #[derive(Clone, Copy, Debug, PartialEq, Eq)]
-pub enum Stretch {
+pub(crate) enum Stretch {
     /// The next operation of the path waits for the one of this number, so many cycles from its issue on; the last stretch is
     /// the latency of the last operation.
     Delay(usize, usize),
@@ -32,7 +32,7 @@ impl Stretch {
     ghost use Rattle.iloc_explain.specs.Path.{origin, span};
 
     /// How many cycles it takes.
-    pub fn span(self) -> usize
+    pub(crate) fn span(self) -> usize
         ensures { result ≡ span self }
     {
         match self {
@@ -125,7 +125,7 @@ fn arrivals(
 /// Promise: Back from the issue of the first operation whose result arrives last, each stretch is what keeps an operation from
 /// being issued earlier, and the last is that operation's latency; `laws::paths_sum_to_the_cycles` says that a lawful schedule
 /// takes just their cycles.
-pub fn path_of(
+pub(crate) fn path_of(
     alloc: Global,
     schedule: &Schedule,
     latencies: &Latencies,

@@ -2,7 +2,7 @@
 use Rattle.std.proofs.Common.{◌≡◌, ◌≤◌, ℕ, ◌+◌, ◌||◌, Bool, true, false, List, [], ◌∷◌, ◌++◌, map, Option, Some, None, option_to_list, Result, Ok, Err, OnOk, IfOk, ℤ, arith, refl, sym, ap, ap₂, ◌∙◌, append-nil, append_assoc, inl, inr}
 use Rattle.std.specs.Prelude.{not}
 use Rattle.std.specs.List.{All}
-use Rattle.std.proofs.lemmas.Bool.{or_cases, or_right, or_from, or_parts}
+use Rattle.std.proofs.lemmas.Bool.{or_cases, or_right, or_parts}
 use Rattle.std.proofs.lemmas.List.Concat.{flat_map-append}
 use Rattle.iloc_ops.specs.declared.op.Op.{Op}
 use Rattle.iloc_meaning.specs.Trace.{op_at}
@@ -17,7 +17,7 @@ use Rattle.iloc_timed.specs.Rows.{slots}
 use Rattle.iloc_timed.specs.Timed.{Issued, executed_in, issue, issue_all, register_in, word_in}
 use Rattle.iloc_timed.specs.Steps.Machine.{AllLand}
 use Rattle.iloc_timed.proofs.Landing.{landed-later}
-use Rattle.iloc_timed.proofs.WholeRuns.{some_latency, short_latency}
+use Rattle.iloc_timed.proofs.WholeRuns.{some_latency, short_latency, no_fault}
 use Rattle.iloc_trace.specs.declared.machine.Machine.{Machine}
 use Rattle.iloc_trace.specs.Events.{due_at, events_after, issue_of, issues, landed, writes, in_slot as issued_in}
 use Rattle.iloc_trace.specs.Listing.{event_line, trace_lines}
@@ -35,11 +35,6 @@ pub if_ok : {X E : Type 0} (P : Type 0) (Q R : X → Type 0) (r : Result X E) �
     → IfOk r Q → IfOk r R
 if_ok P Q R (Ok x) follows holds says = follows x holds says
 if_ok P Q R (Err e) follows holds says = tt
-
-no_fault : (n : ℕ) (log : List Issued) → AllLand n log → has_fault (executed_in log) ≡ false
-no_fault n [] all = refl
-no_fault n (e ∷ earlier) all =
-    or_from (is_fault e.executed.effect) (has_fault (executed_in earlier)) all.1.no_fault (no_fault n earlier all.2)
 
 -- the lines of a row
 pub row_listed : (lat : Latencies) (memory : List ℤ) (ops : List Op) (row : Row) (c : ℕ) (log : List Issued)

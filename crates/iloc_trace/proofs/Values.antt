@@ -1,7 +1,6 @@
 -- What is in a place of a log after one result more.
-use Rattle.std.proofs.Common.{◌≡◌, ◌<◌, ℕ, ◌+◌, nat_lt, Bool, false, if◌then◌else◌, List, [], ◌∷◌, Option, Some, None, IfSome, ℤ, arith, refl, ap, ◌∙◌}
+use Rattle.std.proofs.Common.{◌≡◌, ◌<◌, ℕ, ◌+◌, Bool, false, if◌then◌else◌, List, [], ◌∷◌, Option, Some, None, IfSome, ℤ, refl, ap, ◌∙◌}
 use Rattle.std.specs.Prelude.{filter}
-use Rattle.std.proofs.lemmas.Bool.{le-ltb}
 use Rattle.iloc_ops.specs.declared.op.Reg.{Reg}
 use Rattle.iloc_ops.specs.Registers.{defined}
 use Rattle.iloc_meaning.specs.declared.effect.Effect.{Effect}
@@ -11,15 +10,12 @@ use Rattle.iloc_meaning.specs.Trace.{Executed, result_of, written_by, is_registe
 use Rattle.iloc_meaning.specs.Outcome.{is_fault}
 use Rattle.iloc_meaning.specs.Results.{GoesTo}
 use Rattle.iloc_meaning.proofs.Cases.{by_bool}
-use Rattle.iloc_timed.specs.Timed.{Issued, later, last_due, last_that, register_in, word_in}
+use Rattle.iloc_timed.specs.Timed.{Issued, last_due, last_that, register_in, word_in}
 use Rattle.iloc_timed.specs.Steps.Machine.{Lands, AllLand}
+use Rattle.iloc_timed.proofs.Landing.{later_below, later_newest}
 use Rattle.iloc_trace.specs.declared.event.Place.{Place}
 use Rattle.iloc_trace.specs.declared.event.Place.TheVariants.{Register, Word}
 use Rattle.iloc_trace.specs.Places.{goes_to, is_place, sent, target_of, value_in}
-
-later_below : (n : ℕ) (e : Issued) (o : Option Issued) → e.due < n → IfSome o (λ f. f.due < n) → (later e o).due < n
-later_below n e None first rest = first
-later_below n e (Some f) first rest = by_bool (nat_lt e.due f.due) (λ t. rw t rest) (λ t. rw t first)
 
 last_below : (test : Executed → Bool) (n : ℕ) (log : List Issued) → AllLand n log
     → IfSome (last_due (filter (λ e. test e.executed) log)) (λ e. e.due < n)
@@ -27,11 +23,6 @@ last_below test n [] all = tt
 last_below test n (e ∷ earlier) all = by_bool (test e.executed)
     (λ passes. rw passes (later_below n e _ all.0 (last_below test n earlier all.2)))
     (λ fails. rw fails (last_below test n earlier all.2))
-
-later_newest : (e : Issued) (o : Option Issued) → IfSome o (λ f. f.due < e.due + 1) → later e o ≡ e
-later_newest e None below = refl
-later_newest e (Some f) below = let least : nat_lt e.due f.due ≡ false = le-ltb e.due f.due (omega arith) in
-    rw least refl
 
 -- the last one is the newest, if that passes the test and none is due later
 last_newest : (test : Executed → Bool) (e : Issued) (earlier : List Issued) → AllLand (e.due + 1) earlier

@@ -5,7 +5,7 @@ use iloc_ops::Reg;
 
 /// A register, or the word at an address.
 #[derive(Clone, Copy, Debug, PartialEq, Eq)]
-pub enum Place {
+pub(crate) enum Place {
     /// This register.
     Register(Reg),
     /// The word at this good address.
@@ -35,7 +35,7 @@ impl Default for Place {
 
 /// What was read, and the cycle at which the next result for it is due, if one is under way.
 #[derive(Clone, Copy, Debug, Default, PartialEq, Eq)]
-pub struct Read {
+pub(crate) struct Read {
     /// What was read.
     pub place: Place,
     /// What was there.
@@ -46,7 +46,7 @@ pub struct Read {
 
 /// A result arrives.
 #[derive(Clone, Copy, Debug, PartialEq, Eq)]
-pub struct Write {
+pub(crate) struct Write {
     /// When.
     pub cycle: u64,
     /// Where.

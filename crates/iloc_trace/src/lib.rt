@@ -8,5 +8,4 @@ mod machine;
 mod tracer;
 mod under_way;
 
-pub use event::{Place, Read, Write};
 pub use tracer::Tracer;
