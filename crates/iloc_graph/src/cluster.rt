@@ -1,17 +1,17 @@
 //! The text that draws blocks, in the language of Graphviz.
-ghost use Rattle.std.specs.Prelude.{◌≡◌, ◌++◌, ◌≤◌, List, ℕ, length, OnOk, codes};
+ghost use Rattle.std.specs.Prelude.{◌≡◌, ◌++◌, List, ℕ, length, OnOk, codes};
 ghost use Rattle.std.specs.Fmt.{decimal};
 ghost use Rattle.std.specs.List.{flat_map};
 ghost use Rattle.std.specs.Option.{option_copied};
-ghost use Rattle.iloc_sched.specs.Renaming.{without_nops};
+ghost use Rattle.iloc_sched.specs.Renaming.{renamed, without_nops};
 ghost use Rattle.iloc_graph.specs.Listing as listed;
 ghost use Rattle.iloc_graph.specs.Listing.{IsCluster};
 
 use crate::nearest::nearest_pairs;
 use iloc_explain::longest_chain;
-use iloc_ops::{Block, MAX_OPS, Name, NoMemory, Op, push_number, push_op};
+use iloc_ops::{Block, Name, NoMemory, Op, push_number, push_op};
 use iloc_sched::{Graph, Pair};
-use iloc_timed::{Kind, Latencies};
+use iloc_timed::Kind;
 use std::alloc::Global;
 
 /// Promise: Appends what comes before the first block, with the colours of the page.
@@ -226,7 +226,7 @@ fn push_chain(text: &mut Vec<u8>, number: usize, chain: &[usize]) -> Result<(), 
     }
 }
 
-/// Appends what draws the block with this number, counted from 1: a cluster with a node for each operation, an edge for
+/// Appends what draws the block of this graph, whose number is counted from 1: a cluster with a node for each operation, an edge for
 /// each nearest pair, labelled with its delay, and a longest chain of delays, which is marked. Where an allocation fails a
 /// part of it may follow the text.
 ///
@@ -236,18 +236,16 @@ pub fn push_cluster(
     text: &mut Vec<u8>,
     number: usize,
     block: &Block,
-    latencies: &Latencies,
+    graph: &Graph,
 ) -> Result<(), NoMemory>
-    requires { length block.now.ops ≤ MAX_OPS }
+    requires { graph.now.ops ≡ renamed block.now.ops }
     ensures { OnOk result ((cluster : List ℕ)
-        × IsCluster latencies.now number block.now.name block.now.ops cluster
+        × IsCluster graph.now.latencies number block.now.name block.now.ops cluster
         × (text.new.items ≡ text.old.items ++ cluster)) }
 {
-    let mut graph = Graph::new(alloc);
-    graph.refill(block, latencies)?;
     let mut chains = Vec::new(alloc);
     graph.chains(&mut chains)?;
-    let pairs = nearest_pairs(alloc, &graph)?;
+    let pairs = nearest_pairs(alloc, graph)?;
     let chain = longest_chain(alloc, graph.ops(), graph.latencies(), &chains)?;
     push_head(text, number, block.name.as_ref())?;
     push_operations(text, number, block.ops.as_slice(), &chains)?;

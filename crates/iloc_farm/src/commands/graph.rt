@@ -5,12 +5,15 @@ ghost use Rattle.iloc_farm.specs.Commands.Graph.{opening_at};
 use crate::lister::Lister;
 use iloc_args::Request;
 use iloc_graph::{push_closing, push_cluster, push_opening};
+use iloc_sched::Graph;
 use iloc_text::{Block, NoMemory};
 use std::alloc::Global;
 
 /// Draws each block.
 #[derive(Drop)]
-pub(crate) struct GraphLister;
+pub(crate) struct GraphLister {
+    graph: Graph,
+}
 
 /// Appends what comes before the block with this number: the first opens the drawing.
 fn push_opening_at(text: &mut Vec<u8>, number: usize) -> Result<(), NoMemory>
@@ -35,8 +38,10 @@ impl Lister for GraphLister {
 
     ghost memory = { λ request _. initial_memory request };
 
-    fn new(_alloc: Global, _request: &Request) -> Result<GraphLister, NoMemory> {
-        Ok(GraphLister)
+    fn new(alloc: Global, _request: &Request) -> Result<GraphLister, NoMemory> {
+        Ok(GraphLister {
+            graph: Graph::new(alloc),
+        })
     }
 
     fn list(
@@ -47,8 +52,9 @@ impl Lister for GraphLister {
         block: &Block,
         text: &mut Vec<u8>,
     ) -> Result<(), NoMemory> {
+        self.graph.refill(block, &request.latencies)?;
         push_opening_at(text, number)?;
-        push_cluster(alloc, text, number, block, &request.latencies)
+        push_cluster(alloc, text, number, block, &self.graph)
     }
 
     fn push_ending(text: &mut Vec<u8>, found: &[()]) -> Result<(), NoMemory> {

@@ -12,12 +12,12 @@ use Rattle.iloc_graph.proofs.cluster.push_cluster.Goals as goal
 
 pub push_operations-requires : goal.push_operations-requires
 push_operations-requires c =
-    rw (c.as_slice.ensures, c.deref-2.ensures.value, c.in_ok-chains.ensures, c.in_ok-refill.ensures.graph, length-priorities, length-renamed_by)
+    rw (c.as_slice.ensures, c.deref-2.ensures.value, c.in_ok-chains.ensures, c.requires, length-priorities, length-renamed_by)
     refl
 
 pub returns : goal.returns
 returns c =
-    let lat = c.args.latencies.now in
+    let lat = c.args.graph.now.latencies in
     let block = c.args.block.now.ops in (
       head_lines c.args.number c.args.block.now.name
           ++ node_lines c.args.number 0 (without_nops block) (priorities lat (renamed block))
@@ -25,7 +25,7 @@ returns c =
           ++ chain_lines c.args.number c.in_ok-chain.chain.items ++ codes "    }\n",
       record {
         chain = c.in_ok-chain.chain.items;
-        longest = rw (c.ops.ensures.ops, c.latencies.ensures, c.in_ok-refill.ensures.graph) at c.in_ok-chain.ensures.chosen;
+        longest = rw (c.ops.ensures.ops, c.latencies.ensures, c.requires) at c.in_ok-chain.ensures.chosen;
         listed = refl;
       },
       c.in_ok-extend_from_slice.ensures.items
@@ -41,7 +41,7 @@ returns c =
             c.deref-4.ensures.value,
             c.in_ok-chains.ensures,
             c.in_ok-pairs.ensures,
-            c.in_ok-refill.ensures.graph,
+            c.requires,
           )
           (cluster_joined c.args.text.now.items _ _ _ _ _),
     )
