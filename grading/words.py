@@ -14,8 +14,7 @@ VERDICTS = {
     "crashed": "Your program failed.", "unjudged": "This couldn't be judged, which isn't your fault. Tell the staff.",
 }
 REASONS = {
-    "units": "{Row} can't be issued: {rule}.",
-    "no_rows": "There is no row.",
+    "units": "{Row} can't be issued, since it has {rule}: {text}.",
     "under_way": "{Row} issues `{operation}` {early} too early: the store `{other_operation}` of row {other_row} is still under way.",
     "brings": "{Row} issues `{operation}` {early} too early: it has to wait for `{other_operation}` of row {other_row}.",
     "replaced": "{Row}, `{operation}`, reads in r{register} the result of row {other_row}, `{other_operation}`, and no longer {before}.",
@@ -54,10 +53,8 @@ def reason(it, mark):
     if it["kind"] == "undecided":
         return None
     if it["kind"] == "unread":
-        at = it.get("line") or mark.line_of(it["row"])
-        text = f": {shown(it['text'], 80)}" if it.get("text") else ""
-        return f"Line {at} can't be read: {shown(it['problem'])}{text}"
-    more = {"rule": it.get("text")} | it
+        return f"Line {it['line']} can't be read: {shown(it['problem'])}: {shown(it['text'], 80)}"
+    more = dict(it)
     if "row" in it:
         more["Row"] = f"Row {it['row']} (line {mark.line_of(it['row'])})"
     if "due" in it:
@@ -68,6 +65,8 @@ def reason(it, mark):
 
 
 def told_of(said, mark):
+    if mark.line_of(0) is None:
+        yield "There are no rows."
     if said["difference"]:
         yield difference(said)
     if left_out := said["left_out"]:

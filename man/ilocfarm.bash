@@ -6,7 +6,7 @@ _ilocfarm() {
     *,--priority) words="chain slack descendants successors latency order" ;;
     *,[\<\>]*|*,--at|*,--load|*,--mult|*,--nodes|*,--store|*,--task|*,--workers) return ;;
     1,*) words="run simulate trace schedule counts compare optimize explain check graph lint help --help --version" ;;
-    *,run,*) words="--at --help" ;;
+    *,run,*) words="--at --where --help" ;;
     *,simulate,*) words="--at --load --store --mult --priority --help" ;;
     *,trace,*) words="--at --load --store --mult --priority --task --either-slot --help" ;;
     *,schedule,*) words="--workers --load --store --mult --priority --help" ;;
@@ -14,7 +14,7 @@ _ilocfarm() {
     *,compare,*) words="--nodes --workers --load --store --mult --csv --help" ;;
     *,optimize,*) words="--nodes --workers --load --store --mult --help" ;;
     *,explain,*) words="--load --store --mult --priority --task --either-slot --help" ;;
-    *,check,*) words="--at --load --store --mult --task --either-slot --lawful --operations --outputs --csv --json --help" ;;
+    *,check,*) words="--at --load --store --mult --nodes --task --either-slot --lawful --operations --outputs --csv --json --help" ;;
     *,graph,*) words="--load --store --mult --help" ;;
     *,lint,*) words="--help" ;;
     2,help,*) words="run simulate trace schedule counts compare optimize explain check graph lint" ;;

@@ -21,6 +21,7 @@ fi
 case $words[2] in
 run) shift words; (( CURRENT-- ))
     _arguments '--at[Address of the first WORD, a multiple of 4 up to 65532 \[default\: 1024\]]:N:' \
+        '--where[Print which operation faults, and the address that it reaches]' \
         '--help[Print help]' ;;
 simulate) shift words; (( CURRENT-- ))
     _arguments '--at[Address of the first WORD, a multiple of 4 up to 65532 \[default\: 1024\]]:N:' \
@@ -81,6 +82,7 @@ check) shift words; (( CURRENT-- ))
         '--load[Cycles that load and loadAI take, 1 to 16 \[default\: 5\]]:N:' \
         '--store[Cycles that store and storeAI take, 1 to 16 \[default\: 5\]]:N:' \
         '--mult[Cycles that mult and multI take, 1 to 16 \[default\: 3\]]:N:' \
+        '--nodes[Search for the best schedule too, with N nodes for each number of cycles that is tried, 0 to 100000]:N:' \
         '--task[Read the blocks from FILE, and only rows from standard input]:FILE:_files' \
         '--either-slot[Accept rows whose operations fit only when swapped]' \
         '--lawful[Pass nothing but rows that are a schedule by the book]' \

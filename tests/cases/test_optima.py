@@ -1,5 +1,6 @@
-"""`optimize` and `compare --nodes`: beside an exact search, beside `check`, and on blocks that are hard to search or aren't
+"""`optimize`, `compare --nodes` and `check --nodes`: beside an exact search, beside `check`, and on blocks that are hard to search or aren't
 searched."""
+import json
 import random
 import re
 import time
@@ -81,6 +82,46 @@ def as_optimized(count):
         sought = [(bound, cycles) for cycles, bound, _ in found_in(listing_of(blocks, latencies, nodes), blocks)]
         for workers in range(1, 9):
             yield from compared(blocks, latencies, sought, ["--nodes", str(nodes), "--workers", str(workers)])
+
+
+def checked(count):
+    """`check` has the best cycles and the bound after ours, in each form: with ample nodes both are the fewest cycles, which the
+    rows take that are handed in."""
+    chance = random.Random("checked optima")
+    for _ in range(0, count, TOGETHER):
+        latencies = odd_latencies(chance)
+        blocks = [small_block(chance) for _ in range(TOGETHER)]
+        schedules = [Schedule(ops, latencies) for ops in blocks]
+        found = [(it.cycles(), *[fewest(it)] * 2, it.least()) for it in schedules]
+        words = ["--nodes", "1000", *words_for(latencies)]
+        given = text_of(blocks) + listing_of(blocks, latencies)[1]
+        for due, form in ((verdicts(found), []), (verdict_table(found), ["--csv"]), (verdict_objects(found), ["--json"])):
+            end = ending(["check", "--lawful", *words, *form], given)
+            if end != (0, due, b""):
+                yield f"{[[*map(str, ops)] for ops in blocks]}, {latencies}: {end} in place of {due}"
+
+
+def numbers_of(ours, best, bound, least):
+    return f"cycles {best} ours {ours} best {best} bound {bound} least {least}\n"
+
+
+def verdicts(found):
+    """The listing of rows that take the best cycles, beside ours, the best, the bound and the least of each block."""
+    lines = [f"block {k} B{k} lawful {numbers_of(*row)}" for k, row in enumerate(found, 1)]
+    return "".join([*lines, numbers_of(*map(sum, zip(*found))).replace("cycles", "total")]).encode()
+
+
+def verdict_table(found):
+    rows = [f"{k},B{k},lawful,{best},{ours},{best},{bound},{least},{best}\n" for k, (ours, best, bound, least) in enumerate(found, 1)]
+    return "".join(["block,name,verdict,cycles,ours,best,bound,least,claimed\n", *rows]).encode()
+
+
+def verdict_objects(found):
+    nothing = {"claimed": None, "void": None, "difference": None, "memory": None, "left_out": None, "added": None, "reasons": [],
+               "more": 0}
+    rows = [{"block": k, "name": f"B{k}", "verdict": "lawful", "cycles": best, "ours": ours, "best": best, "bound": bound,
+             "least": least, **nothing, "claimed": best} for k, (ours, best, bound, least) in enumerate(found, 1)]
+    return "".join(json.dumps(row, separators=(",", ":")) + "\n" for row in rows).encode()
 
 
 def lawful(count):
@@ -184,6 +225,7 @@ def by_workers():
 def optimum_checks():
     yield Check("optima/exact", exact, 300 if TESTED.is_short else 3000)
     yield Check("optima/exact_beside_orders", exact_beside_orders, 100 if TESTED.is_short else 1000)
+    yield Check("optima/checked", checked, 100 if TESTED.is_short else 1000)
     yield Check("optima/as_optimized", as_optimized, 3 if TESTED.is_short else 20)
     yield Check("optima/lawful", lawful, 5 if TESTED.is_short else 50)
     for check in (known, by_one_node, long_ones, longest, by_workers):

@@ -117,6 +117,8 @@ def table_checks():
     yield Check("tables/compare", columns, ["compare", "--csv"], ["block", "name", "least", *ORDERS])
     yield Check("tables/compare_searched", columns, ["compare", "--csv", "--nodes", "9"],
                 ["block", "name", "least", "bound", "best", *ORDERS])
+    yield Check("tables/check_searched", columns, ["check", "--csv", "--nodes", "9"],
+                [*CHECK_HEAD[:5], "best", "bound", *CHECK_HEAD[5:]])
     yield Check("tables/cycles", cycles)
     yield Check("tables/check", checked)
     yield Check("tables/pandas", read_back, by_pandas)

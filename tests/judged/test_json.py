@@ -12,8 +12,8 @@ NOTHING = '"void":null,"difference":null,"memory":null,"left_out":null,"added":n
 UNCOMPARED = '"void":null,"difference":null,"memory":null,"left_out":null,"added":null'
 
 
-def unread_reason(text, problem, row=0):
-    return f'{{"kind":"unread","row":{row},"text":"{text}","problem":"{problem}"}}'
+def unread_reason(text, problem, at=1, row=0):
+    return f'{{"kind":"unread","line":{at},"row":{row},"text":"{text}","problem":"{problem}"}}'
 
 
 # A text, and of each block what is due behind its number.
@@ -82,7 +82,7 @@ LINES = {
                      '"more":0'),
     "units": ("loadI 4 => r1\nload r1 => r2\n[ loadI 4 => r1 ; nop ]\n[ nop ; load r1 => r2 ]\n",
               f'"name":null,"verdict":"units","cycles":6,"ours":6,"least":6,"claimed":null,{UNCOMPARED},'
-              '"reasons":[{"kind":"units","row":1,"text":"[ nop ; load r1 => r2 ]"}],"more":0'),
+              '"reasons":[{"kind":"units","row":1,"text":"[ nop ; load r1 => r2 ]","rule":"a load or store on unit 1"}],"more":0'),
 }
 # A row that can't be read, as it is in JSON, and what is said of it.
 ESCAPED = {
@@ -127,7 +127,7 @@ def lines_of(said, is_lawful):
 
 def reason_of(it):
     forms = {
-        "unread": "row {row}: {problem}", "units": "row {row}: {text}", "undecided": "undecided",
+        "unread": "line {line}, row {row}: {problem}", "units": "row {row}: {text}: {rule}", "undecided": "undecided",
         "under_way": "{op} while {other} is under way to row {due}", "brings": "{op} reads r{register}, which {other} brings in row {due}",
         "replaced": "{op} reads r{register} of {other}, no longer of {lost}", "never_read": "{op}, whose result is never read",
         "order": "{op} {order} {other}", "for": "{op} for {wanted}", "like_none": "{op} like none of the block", "see": "see {op}"}
@@ -138,14 +138,15 @@ def reason_of(it):
 
 
 def are_the_same(texts, *words):
-    """With the same status, the same is listed in JSON as in lines, but for the totals."""
+    """With the same status, the same is listed in JSON as in lines, but for the totals, and that there are no rows."""
     kinds = set()
     for text in texts:
         status, out, err = ending([*WORDS, *words], text)
         got = ending([*WORDS, "--json", *words], text)
         said = [json.loads(it) for it in got[1].decode("ascii").splitlines()]
         lines = [it for one in said for it in lines_of(one, "--lawful" in words)]
-        if (got[0], got[2], lines) != (status, err, out.decode("latin-1").splitlines()[:-1]):
+        due = [it for it in out.decode("latin-1").splitlines()[:-1] if it != "  no rows"]
+        if (got[0], got[2], lines) != (status, err, due):
             yield f"{text!r}: {told(got)} beside {told((status, out, err))}"
         kinds |= {one["verdict"] for one in said}
     if len(kinds) < 3:
@@ -161,7 +162,7 @@ def json_cases():
         yield listed(name, *it)
     for number, (row, (text, problem)) in enumerate(ESCAPED.items()):
         yield listed(f"escaped_{number}", f"a:\noutput 0\n[ output 0 ]\n{row}", '"name":"a","verdict":"unread","cycles":1,"ours":1,"least":1,'
-                     f'"claimed":null,{UNCOMPARED},"reasons":[{unread_reason(text, problem, 1)}],"more":0')
+                     f'"claimed":null,{UNCOMPARED},"reasons":[{unread_reason(text, problem, 4, 1)}],"more":0')
     yield Run("judged/json/two_forms", ["check", "--json", "--csv"], b"a:", b"", b"ilocfarm: --csv and --json exclude each other\n", 2)
     yield Run("judged/json/other_commands", ["counts", "--json"], b"a:", b"", None, 2)
     yield Check("judged/json/tables", are_the_same, texts_of(SAME, VERDICTS, UNLIKE))

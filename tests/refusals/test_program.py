@@ -110,7 +110,7 @@ def runs(name, given, rows):
     yield Asked(["explain"], name, given)
     yield Asked(["graph"], name, given)
     yield Asked(["lint"], name, given)
-    for form in ([], ["--json"]):
+    for form in ([], ["--json"], ["--nodes", "10"]):
         yield Asked(["check", "--at", "0", "5", "6", *form], name, given + rows)
     for command in ("check", "explain", "trace"):
         yield Asked([command, "--task", stored(f"{name}.iloc", given)], f"rows for {name}", rows)

@@ -167,13 +167,13 @@ explain_entry = record {
   rules = latency_rules ++ priority_rule ∷ task_rule ∷ either_slot_rule ∷ [];
 }
 
--- `check [--at N] [WORD].. [--load N] [--store N] [--mult N] [--task FILE] [--either-slot] [--lawful] [--operations] [--outputs] [--csv] [--json]`
+-- `check [--at N] [WORD].. [--load N] [--store N] [--mult N] [--nodes N] [--task FILE] [--either-slot] [--lawful] [--operations] [--outputs] [--csv] [--json]`
 abbrev pub check_entry : Subcommand
 check_entry = record {
   name = codes "check";
   task = Check;
   rules = at_rule ∷ words_rule
-      ∷ (latency_rules ++ task_rule ∷ either_slot_rule ∷ lawful_rule ∷ operations_rule ∷ outputs_rule ∷ csv_rule
+      ∷ (latency_rules ++ search_rule ∷ task_rule ∷ either_slot_rule ∷ lawful_rule ∷ operations_rule ∷ outputs_rule ∷ csv_rule
       ∷ json_rule ∷ []);
 }
 

@@ -5,10 +5,10 @@ ghost use Rattle.clap.specs.Simple.{new_shape};
 ghost use Rattle.std.specs.Str.{bytes_eq};
 ghost use Rattle.iloc_args.specs.declared.command.Entry.{Entry as entry_value};
 ghost use Rattle.iloc_args.specs.Asked.{task_among, task_named};
-ghost use Rattle.iloc_args.specs.Command.{at_rule, csv_rule, either_slot_rule, farm_app, flag_rule, json_rule, latency_rule, lawful_rule, nodes_rule};
-ghost use Rattle.iloc_args.specs.Command.{operations_rule, outputs_rule, priority_rule, task_rule, text_rule, top_shape, words_rule, workers_rule};
-ghost use Rattle.iloc_args.specs.Command.{where_rule, search_rule};
-ghost use Rattle.iloc_args.specs.Steps.Building.{HasApp, HasRule, alone, option_rule, rule_for, app_for, app_with, subcommand_for, default_rule};
+ghost use Rattle.iloc_args.specs.Command.{at_rule, csv_rule, either_slot_rule, farm_app, flag_rule, latency_rule, lawful_rule, nodes_rule};
+ghost use Rattle.iloc_args.specs.Command.{operations_rule, outputs_rule, priority_rule, search_rule, task_rule, text_rule, top_shape, words_rule};
+ghost use Rattle.iloc_args.specs.Command.{workers_rule, json_rule, where_rule};
+ghost use Rattle.iloc_args.specs.Steps.Building.{HasApp, HasRule, alone, default_rule, option_rule, rule_for, app_for, app_with, subcommand_for};
 
 use crate::priority::HELP;
 use crate::request::Task;
@@ -448,6 +448,7 @@ const COMMANDS: [Entry; 11] = [
             Argument::Load,
             Argument::Store,
             Argument::Mult,
+            Argument::NodesIfGiven,
             Argument::Task,
             Argument::EitherSlot,
             Argument::Lawful,

@@ -23,6 +23,7 @@ use Rattle.iloc_judge.specs.declared.task.CheckOptions.{CheckOptions}
 use Rattle.iloc_judge.specs.declared.task.Form.{Form}
 use Rattle.iloc_judge.proofs.Sameness.{passed_is_same, passed_rows_may_pass, same_rows_do_the_same}
 use Rattle.iloc_farm.specs.Commands.Check.{IsCheckEntry, IsSaid, ListsChecked, check_head}
+use Rattle.iloc_farm.specs.Commands.Optimize.{IsSoughtIf}
 use Rattle.iloc_farm.specs.Entries.{AreEntries}
 use Rattle.iloc_farm.specs.Fault.{finding_of}
 use Rattle.iloc_farm.specs.Laws.{PassedChecksKeepOutcomes, PassedChecksMayPass}
@@ -56,18 +57,20 @@ small_check (Some unread) options lat memory block s p c entry check greedy shor
     (ap (λ (x : Checked). x.ours) check.is_found) (ap (λ (x : Checked). x.least) check.is_found) greedy short few
 
 -- what was appended is the entry
-pub check_listed : (options : CheckOptions) (lat : Latencies) (memory start : List ℤ) (k : ℕ) (b : Block) (s : Table)
-    (p : Proposed) (c : Checked) (text headed more said : List ℕ) (name : Option (List ℕ)) → IsGreedy lat b.ops s.ops s.rows
+pub check_listed : (options : CheckOptions) (nodes : Option ℕ) (lat : Latencies) (memory start : List ℤ) (k : ℕ) (b : Block)
+    (s : Table) (p : Proposed) (c : Checked) (text headed more said : List ℕ) (name : Option (List ℕ))
+    → IsGreedy lat b.ops s.ops s.rows → IsSoughtIf nodes lat b.ops c.sought
     → memory ≡ start → name ≡ b.name → headed ≡ text ++ check_head options.form k name
     → IsSaid p.unread options lat memory b.ops s p c said → more ≡ headed ++ said
-    → Adds (IsCheckEntry options lat start k (b, p)) text more c
-check_listed options lat memory start k b s p c text headed more said name greedy starts named opened is added =
+    → Adds (IsCheckEntry options nodes lat start k (b, p)) text more c
+check_listed options nodes lat memory start k b s p c text headed more said name greedy sought starts named opened is added =
     let P : List ℤ → Type 0 = λ m. IsSaid p.unread options lat m b.ops s p c said in
     record {
       entry = check_head options.form k b.name ++ said;
       right = record {
         ours = s;
         greedy = the_greedy Chain lat b s greedy;
+        sought = sought;
         text = said;
         right = subst P starts is;
         listed = refl;
@@ -92,12 +95,12 @@ rest_passes true b is = is
 rest_passes false b is = absurd (cc)
 
 -- what holds of whatever passes holds of all, where all pass
-module _ (options : CheckOptions) (lat : Latencies) (memory : List ℤ) (P : Block → Proposed → Type 0)
+module _ (options : CheckOptions) (nodes : Option ℕ) (lat : Latencies) (memory : List ℤ) (P : Block → Proposed → Type 0)
     (holds : (b : Block) (s : Table) (p : Proposed) (c : Checked) (text : List ℕ)
     → IsSaid p.unread options lat memory b.ops s p c text → passes options.lawful c ≡ true → P b p) where
   of_each : (k : ℕ) (blocks : List Block) (proposals : List Proposed) (found : List Checked) (text : List ℕ)
       → length proposals ≡ length blocks
-      → AreEntries (IsCheckEntry options lat memory) k (zip blocks proposals) found text
+      → AreEntries (IsCheckEntry options nodes lat memory) k (zip blocks proposals) found text
       → list_all (passes options.lawful) found ≡ true → AllZip P blocks proposals
   of_each k [] [] found text many are pass = tt
   of_each k [] (p ∷ proposals) found text many are pass = absurd (omega arith)
@@ -110,7 +113,7 @@ module _ (options : CheckOptions) (lat : Latencies) (memory : List ℤ) (P : Blo
   )
 
   of_passed : (blocks : List Block) (proposals : List Proposed) (text : List ℕ)
-      → ListsChecked options lat memory blocks proposals Passed text → AllZip P blocks proposals
+      → ListsChecked options nodes lat memory blocks proposals Passed text → AllZip P blocks proposals
   of_passed blocks proposals text lists =
       of_each 1 blocks proposals lists.found lists.entries lists.as_many lists.listed
       (all_pass (list_all (passes options.lawful) lists.found) lists.judged)
@@ -138,11 +141,11 @@ said_may (Some unread) options lat memory block s p c entry said pass =
     absurd (unread_fails options.lawful options.form lat block s p c entry said pass)
 
 pub passed_keep_outcomes : PassedChecksKeepOutcomes
-passed_keep_outcomes options lat memory = of_passed options lat memory
+passed_keep_outcomes options nodes lat memory = of_passed options nodes lat memory
     (λ b p. DoTheSame options.outputs_alone lat b.ops p.ops p.rows)
     (λ b s p c text right pass. said_keeps p.unread options lat memory b.ops s p c text right pass)
 
 pub passed_may_pass : PassedChecksMayPass
-passed_may_pass options lat memory = of_passed options lat memory
+passed_may_pass options nodes lat memory = of_passed options nodes lat memory
     (λ b p. MayPass options lat memory b.ops p.ops p.rows)
     (λ b s p c text right pass. said_may p.unread options lat memory b.ops s p c text right pass)

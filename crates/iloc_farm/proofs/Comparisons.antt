@@ -6,7 +6,6 @@ use Rattle.std.specs.Prelude.{slice_index}
 use Rattle.iloc_ops.specs.Limits.{MAX_OPS}
 use Rattle.iloc_ops.specs.declared.file.Block.{Block}
 use Rattle.iloc_timed.specs.declared.latencies.Latencies.{Latencies}
-use Rattle.iloc_timed.specs.Cycles.{cycles}
 use Rattle.iloc_timed.specs.Schedule.{Table}
 use Rattle.iloc_sched.specs.Heuristics.{priorities_by}
 use Rattle.iloc_sched.specs.Least.{least}
@@ -15,7 +14,7 @@ use Rattle.iloc_sched.specs.declared.ranking.heuristic.Heuristic.TheVariants.{Ch
 use Rattle.iloc_sched.proofs.Bounds.LeastBound.{least_bound}
 use Rattle.iloc_optimum.specs.declared.optimizer.Sought.{Sought}
 use Rattle.iloc_optimum.specs.Bound.{IsBound}
-use Rattle.iloc_farm.specs.Commands.Compare.{IsComparedCycles, bound_of, cycles_by, place}
+use Rattle.iloc_farm.specs.Commands.Compare.{IsComparedCycles, bound_of, cycles_by, optimal_by, place}
 use Rattle.iloc_farm.specs.Commands.Optimize.{IsSoughtIf}
 use Rattle.iloc_farm.specs.Laws.{CountedOptimaAreOptimal}
 use Rattle.iloc_farm.specs.Listing.{cycles_of}
@@ -93,24 +92,23 @@ bound_holds : (lat : Latencies) (nodes : Option ℕ) (b : Block) (c : ComparedCy
 bound_holds lat nodes b c is = go nodes c.sought is.sought
   where
     go : (nodes : Option ℕ) (sought : Option Sought) → IsSoughtIf nodes lat b.ops sought
-        → IsBound lat b.ops (option_map_or (λ s. s.bound) sought c.least)
-    go None None none ops rows lawful = subst (λ n. n ≤ cycles lat ops rows) (sym is.bound) (least_bound lat b.ops ops rows lawful)
-    go None (Some s) none = cc
+        → IsBound lat b.ops (option_map_or (λ (s : Sought). s.bound) sought c.least)
+    go None None none = subst (IsBound lat b.ops) (sym is.bound) (least_bound lat b.ops)
+    go None (Some s) none = absurd cc
     go (Some n) None none = absurd none
-    go (Some n) (Some s) seeks ops rows lawful =
-        subst (λ m. m ≤ cycles lat ops rows) (sym seeks.bound) (seeks.found.bound ops rows lawful)
+    go (Some n) (Some s) seeks = subst (IsBound lat b.ops) (sym seeks.bound) seeks.found.bound
 
 -- what counts as 1 holds
-is_one : (b : Bool) → (if b then 1 else 0) ≡ 1 → b ≡ true
-is_one true e = refl
-is_one false e = cc
+is_one : (b : Bool) (n : ℕ) → n ≡ 1 → n ≡ (if b then 1 else 0) → b ≡ true
+is_one true n one is = refl
+is_one false n one is = absurd (omega (arith, one, is))
 
 -- a schedule that is counted as optimal is
 pub counted_optima : CountedOptimaAreOptimal
 counted_optima lat nodes b c is heuristic counted s greedy =
     let count : IsCount heuristic lat b (cycles_by heuristic c) = is.each heuristic in
     let reached : cycles_by heuristic c ≡ bound_of c =
-    eqb-true (cycles_by heuristic c) (bound_of c) (is_one (cycles_by heuristic c == bound_of c) counted) in
+    eqb-true (cycles_by heuristic c) (bound_of c) (is_one (cycles_by heuristic c == bound_of c) (optimal_by heuristic c) counted refl) in
     let same : s ≡ count.schedule = count.greedy.only s greedy in
     let reaches : bound_of c ≡ cycles_of lat s = sym reached ∙ (count.counted ∙ ap (cycles_of lat) (sym same)) in
     record {

@@ -6,8 +6,6 @@ use Rattle.std.specs.declared.alloc.Global.{Global}
 use Rattle.std.specs.declared.string.String.{String}
 use Rattle.iloc_ops.specs.declared.file.Block.{Block}
 use Rattle.iloc_ops.specs.declared.op.Op.{Op}
-use Rattle.iloc_fault.specs.Place.{IsFaultPlace}
-use Rattle.iloc_fault.specs.declared.place.FaultPlace.{FaultPlace}
 use Rattle.iloc_fault.proofs.Places.{one_place}
 use Rattle.iloc_timed.specs.declared.latencies.Latencies.{Latencies}
 use Rattle.iloc_timed.specs.Schedule.{Table}
@@ -65,7 +63,7 @@ the_greedy heuristic lat b s greedy = record {
   only = λ t other. one_schedule heuristic lat b.ops s t greedy other;
 }
 
--- what a call has appended is the entry, by the name and the words or cycles that it was handed
+-- What `run` shows
 
 -- the words, or that there is a fault, are what is shown, unless the place of the fault is asked for
 shown_plainly : (asked : Bool) (ops : List Op) (memory : List ℤ) (came : Outcome) (words : Option (List ℤ))
@@ -75,11 +73,6 @@ shown_plainly false ops memory Fault words are none = ap words_or_fault are
 shown_plainly true ops memory Fault words are none =
     let some : is_none words ≡ true = ap is_none are in cc
 
--- and else the place
-shown_placed : (asked : Bool) (ops : List Op) (memory : List ℤ) (came : Outcome) (place : FaultPlace) → came ≡ Fault
-    → asked ≡ true → IsFaultPlace ops memory place → IsShownOf asked ops memory came (place_line ops place)
-shown_placed asked ops memory came place faults is place_is = rw (faults, is) (place, place_is, refl)
-
 -- one text is shown
 one_shown : (asked : Bool) (ops : List Op) (memory : List ℤ) (came : Outcome) (text text' : List ℕ)
     → IsShownOf asked ops memory came text → IsShownOf asked ops memory came text' → text ≡ text'
@@ -87,6 +80,8 @@ one_shown asked ops memory (Finished words left) text text' is is' = is ∙ sym 
 one_shown false ops memory Fault text text' is is' = is ∙ sym is'
 one_shown true ops memory Fault text text' is is' =
     is.2 ∙ ap (place_line ops) (one_place.one ops memory is.0 is'.0 is.1 is'.1) ∙ sym is'.2
+
+-- what a call has appended is the entry, by the name and the words or cycles that it was handed
 
 module _ (request : Request) (k : ℕ) (b : Block) (text more : List ℕ) (name : Option (List ℕ)) (named : name ≡ b.name) where
   pub run_listed : (words : Option (List ℤ)) → words ≡ shown (outcome b.ops (initial_memory request))

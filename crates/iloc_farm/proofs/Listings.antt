@@ -13,8 +13,8 @@ use Rattle.iloc_judge.specs.declared.task.CheckOptions.{CheckOptions}
 use Rattle.iloc_args.specs.declared.request.Request.{Request}
 use Rattle.iloc_args.specs.declared.request.Task.{Task}
 use Rattle.iloc_args.specs.declared.request.Task.TheVariants as task
-use Rattle.iloc_farm.specs.Commands.Check.{Checks, ListsChecked, form_as, options_of}
 use Rattle.iloc_farm.specs.declared.commands.compare.ComparedCycles.{ComparedCycles}
+use Rattle.iloc_farm.specs.Commands.Check.{Checks, ListsChecked, form_as, options_of}
 use Rattle.iloc_farm.specs.Commands.Compare.{IsCompareEntry, IsComparedCycles, compare_ending, compare_header, compare_line}
 use Rattle.iloc_farm.specs.Commands.ExplainRows.{Explains, ExplainsRows}
 use Rattle.iloc_farm.specs.Commands.Run.{initial_memory}
@@ -80,13 +80,16 @@ checks_alike r q alike blocks proposals finding text checks =
       form = form_as (alike.csv i) (alike.json i);
     } in
     let P : Latencies → Type 0 = λ lat.
-    ListsChecked (options_of r) lat (initial_memory r) blocks theirs finding text in
-    let Q : List ℤ → Type 0 = λ memory. ListsChecked (options_of r) q.latencies memory blocks theirs finding text in
+    ListsChecked (options_of r) r.nodes lat (initial_memory r) blocks theirs finding text in
+    let N : Option ℕ → Type 0 = λ nodes.
+    ListsChecked (options_of r) nodes q.latencies (initial_memory r) blocks theirs finding text in
+    let Q : List ℤ → Type 0 = λ memory. ListsChecked (options_of r) q.nodes q.latencies memory blocks theirs finding text in
     let R : CheckOptions → Type 0 = λ options.
-    ListsChecked options q.latencies (initial_memory q) blocks theirs finding text in
+    ListsChecked options q.nodes q.latencies (initial_memory q) blocks theirs finding text in
     let T : Bool → Type 0 = λ either_slot.
-    ListsChecked (options_of q) q.latencies (initial_memory q) blocks (placed either_slot proposals) finding text in
-    subst T alike.either_slot (subst R options (subst Q (one_memory r q alike) (subst P alike.latencies checks)))
+    ListsChecked (options_of q) q.nodes q.latencies (initial_memory q) blocks (placed either_slot proposals) finding text in
+    subst T alike.either_slot
+    (subst R options (subst Q (one_memory r q alike) (subst N alike.nodes (subst P alike.latencies checks))))
 
 -- so is an explanation of rows
 explains_alike : (r q : Request) → AskAlike r q → (blocks : List Block) (proposals : List Proposed) (finding : Finding)

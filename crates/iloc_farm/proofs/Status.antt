@@ -152,9 +152,9 @@ listed_same held words read_old read_new finding text a listed passed asks check
       store = ap (λ (x : Asked). x.store) same;
       mult = ap (λ (x : Asked). x.mult) same;
       same = subst T same
-          (passed_keep_outcomes (options_of request) request.latencies (initial_memory request)
+          (passed_keep_outcomes (options_of request) request.nodes request.latencies (initial_memory request)
           judged.blocks (placed request.either_slot judged.proposals) text (subst Q passed judged.checked));
-      told = subst S same (passed_may_pass (options_of request) request.latencies
+      told = subst S same (passed_may_pass (options_of request) request.nodes request.latencies
           (initial_memory request) judged.blocks (placed request.either_slot judged.proposals) text (subst Q passed judged.checked));
     }
 

@@ -1,8 +1,8 @@
 -- Operations of which none lacks a counterpart on either side are as many of each label.
-use Rattle.std.proofs.Common.{◌≡◌, ◌==◌, ◌&&◌, ◌<◌, ◌≤◌, ℕ, zero, suc, ◌+◌, Bool, true, false, List, length, take, get_or, refl, inl, inr, sym, ap, ◌∙◌, subst, arith}
-use Rattle.std.specs.Prelude.{count_by, nat_le}
+use Rattle.std.proofs.Common.{◌≡◌, ◌==◌, ◌<◌, ◌≤◌, ℕ, zero, suc, ◌+◌, Bool, true, false, List, length, take, get_or, inl, inr, sym, ap, ◌∙◌, subst, arith}
+use Rattle.std.specs.Prelude.{count_by}
 use Rattle.std.specs.List.{range_with_len}
-use Rattle.std.proofs.lemmas.Bool.{eqb-true, le-leb, cases_lt, true≢false}
+use Rattle.std.proofs.lemmas.Bool.{eqb-true, le-leb, cases_lt, true≢false, and_parts}
 use Rattle.std.proofs.Math.Seq.{take-length}
 use Rattle.std.proofs.lemmas.List.FromFn.{length-range_with_len, get_or-range_with_len}
 use Rattle.iloc_ops.specs.declared.op.Op.{Op}
@@ -12,15 +12,7 @@ use Rattle.iloc_sched.specs.Renaming.{without_nops}
 use Rattle.iloc_validation.specs.Counts.{are_alike, count_like, lacks_counterpart, lacking}
 use Rattle.iloc_validation.proofs.AlikeOps.{count_same}
 use Rattle.iloc_validation.proofs.CountsLike.{counted, one_more, no_more}
-use Rattle.iloc_judge.specs.Kept.{has_operations, keeps_operations, AreItsOperations}
-
-pub first_holds : (a b : Bool) → (a && b) ≡ true → a ≡ true
-first_holds true b both = refl
-first_holds false b both = absurd (cc)
-
-pub second_holds : (a b : Bool) → (a && b) ≡ true → b ≡ true
-second_holds true b both = both
-second_holds false b both = absurd (cc)
+use Rattle.iloc_judge.specs.Kept.{keeps_operations, AreItsOperations}
 
 module _ (ops others : List Op) (none : lacking ops others ≡ 0) (op : Op) where
   has_one : (i : ℕ) → i < length ops → lacks_counterpart ops others i ≡ true → ⊥
@@ -60,7 +52,7 @@ pub kept : (asked : Bool) (block ops : List Op) → keeps_operations asked block
 kept true block ops keeps is op =
     let left : ℕ = lacking (without_nops block) ops in
     let added : ℕ = lacking ops (without_nops block) in
-    let none : left ≡ 0 = eqb-true left 0 (first_holds (left == 0) (added == 0) keeps) in
-    let none_too : added ≡ 0 = eqb-true added 0 (second_holds (left == 0) (added == 0) keeps) in
+    let none : left ≡ 0 = eqb-true left 0 (and_parts (left == 0) (added == 0) keeps).0 in
+    let none_too : added ≡ 0 = eqb-true added 0 (and_parts (left == 0) (added == 0) keeps).1 in
     omega (arith, few (without_nops block) ops none op, few ops (without_nops block) none_too op)
 kept false block ops keeps is op = absurd (true≢false (sym is))

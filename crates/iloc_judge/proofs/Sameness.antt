@@ -1,7 +1,7 @@
 -- Rows that are found to be the same do what the block does, and rows pass only if they may.
 use Rattle.std.proofs.Common.{◌≡◌, ◌⊎◌, ◌&&◌, Bool, true, false, List, ℕ, refl, sym, ap, ◌∙◌, inl, inr}
 use Rattle.std.specs.Prelude.{ℤ}
-use Rattle.std.proofs.lemmas.Bool.{true≢false}
+use Rattle.std.proofs.lemmas.Bool.{true≢false, and_from, and_parts}
 use Rattle.iloc_ops.specs.declared.op.Op.{Op}
 use Rattle.iloc_meaning.specs.declared.outcome.Outcome.{Outcome}
 use Rattle.iloc_meaning.specs.Outcome.{shown}
@@ -23,10 +23,10 @@ use Rattle.iloc_judge.specs.declared.verdict.kind.VerdictKind.TheVariants as kin
 use Rattle.iloc_judge.specs.Void.{CanBeJudged}
 use Rattle.iloc_judge.specs.Verdict.{IsVerdict}
 use Rattle.iloc_judge.specs.declared.checked.Checked.{Checked}
-use Rattle.iloc_judge.specs.Checked.{compared_kind, is_passing, kind_of, passes, DoEnough, DoTheSame, IsCheck, MayPass}
+use Rattle.iloc_judge.specs.Checked.{compared_kind, is_passing, kind_of, passes, DoEnough, DoTheSame, IsCheck}
 use Rattle.iloc_judge.specs.declared.task.CheckOptions.{CheckOptions}
 use Rattle.iloc_judge.specs.Kept.{keeps_operations, AreItsOperations}
-use Rattle.iloc_judge.proofs.Kept.{first_holds, kept, second_holds}
+use Rattle.iloc_judge.proofs.Kept.{kept}
 use Rattle.iloc_judge.specs.Laws.{PassedRowsMayPass, SameRowsDoTheSame}
 
 -- equal outcomes are alike, whatever is compared
@@ -99,15 +99,11 @@ passing_too true kind.Lawful pass = refl
 passing_too true _ pass = absurd cc
 passing_too false word pass = pass
 
-both_hold : (a b : Bool) → a ≡ true → b ≡ true → (a && b) ≡ true
-both_hold true b first second = second
-both_hold false b first second = absurd (true≢false (sym first))
-
 pub passed_is_same : (lawful : Bool) (checked : Checked) → passes lawful checked ≡ true → passes false checked ≡ true
 passed_is_same lawful checked pass =
-    both_hold checked.keeps_operations (is_passing false checked.kind)
-    (first_holds checked.keeps_operations (is_passing lawful checked.kind) pass)
-    (passing_too lawful checked.kind (second_holds checked.keeps_operations (is_passing lawful checked.kind) pass))
+    and_from checked.keeps_operations (is_passing false checked.kind)
+    (and_parts checked.keeps_operations (is_passing lawful checked.kind) pass).0
+    (passing_too lawful checked.kind (and_parts checked.keeps_operations (is_passing lawful checked.kind) pass).1)
 
 module _ (options : CheckOptions) (lat : Latencies) (memory : List ℤ) (block : List Op) (ours : Table) (proposal : Proposed)
     (checked : Checked) (entry : List ℕ) (check : IsCheck options lat memory block ours proposal checked entry) where
@@ -124,11 +120,11 @@ module _ (options : CheckOptions) (lat : Latencies) (memory : List ℤ) (block :
       → PassesAs asked options.outputs_alone lat memory block proposal.ops proposal.rows
   passed_as asked pass =
       passes_as asked options.lawful options.outputs_alone lat memory block proposal.ops proposal.rows check.verdict check.right
-      (second_holds keeps (is_passing asked word) (passing asked pass))
+      (and_parts keeps (is_passing asked word) (passing asked pass)).1
 
   passed_kept : (asked : Bool) → passes asked checked ≡ true → options.operations ≡ true → AreItsOperations block proposal.ops
   passed_kept asked pass is =
-      kept options.operations block proposal.ops (first_holds keeps (is_passing asked word) (passing asked pass)) is
+      kept options.operations block proposal.ops (and_parts keeps (is_passing asked word) (passing asked pass)).0 is
 
 pub same_rows_do_the_same : SameRowsDoTheSame
 same_rows_do_the_same options lat memory block ours proposal checked entry check pass =

@@ -1,5 +1,5 @@
 -- What is found of the rows that are proposed for a block.
-use Rattle.std.specs.Prelude.{ℕ, ℤ, ◌≡◌, ◌⊎◌, ◌&&◌, not, Bool, true, false, List}
+use Rattle.std.specs.Prelude.{ℕ, ℤ, ◌≡◌, ◌⊎◌, ◌&&◌, not, Bool, true, false, List, Option}
 use Rattle.iloc_ops.specs.declared.op.Op.{Op}
 use Rattle.iloc_timed.specs.declared.latencies.Latencies.{Latencies}
 use Rattle.iloc_timed.specs.declared.row.Row.{Row}
@@ -8,6 +8,7 @@ use Rattle.iloc_timed.specs.Rows.{IsTable}
 use Rattle.iloc_timed.specs.Schedule.{Table}
 use Rattle.iloc_rows.specs.declared.proposal.Proposed.{Proposed}
 use Rattle.iloc_sched.specs.Least.{least}
+use Rattle.iloc_optimum.specs.declared.optimizer.Sought.{Sought}
 use Rattle.iloc_validation.specs.ByTheBook.{IsByTheBook, IssueTheSame}
 use Rattle.iloc_judge.specs.declared.comparison.Comparison.{Comparison}
 use Rattle.iloc_judge.specs.declared.comparison.Comparison.TheVariants as of
@@ -39,26 +40,28 @@ kind_of lawful (Unlawful reasons found) = compared_kind found
 kind_of true (Undecided found) = kind.Undecided
 kind_of false (Undecided found) = compared_kind found
 
--- what goes with a word: whether the block's operations are kept, the cycles of what is proposed, those of our schedule, and
--- the least
-abbrev pub found : VerdictKind → Bool → Latencies → List Op → Table → Proposed → Checked
-found word keeps lat block ours proposal = record {
+-- what goes with a word: whether the block's operations are kept, what was sought, the cycles of what is proposed, those of our
+-- schedule, and the least
+abbrev pub found : VerdictKind → Bool → Option Sought → Latencies → List Op → Table → Proposed → Checked
+found word keeps sought lat block ours proposal = record {
   kind = word;
   keeps_operations = keeps;
   cycles = cycles lat proposal.ops proposal.rows;
   ours = cycles lat ours.ops ours.rows;
+  sought = sought;
   least = least lat block;
 }
 
--- Of what is proposed for a block this is found, and this entry listed, as is asked for, by a verdict that is right. What our
--- schedule issues is lawful.
+-- Of what is proposed for a block this is found, whatever was sought, and this entry listed, as is asked for, by a verdict that
+-- is right. What our schedule issues is lawful.
 pub record IsCheck (options : CheckOptions) (lat : Latencies) (memory : List ℤ) (block : List Op) (ours : Table)
     (proposal : Proposed) (checked : Checked) (entry : List ℕ) : Type 0 where
   pub verdict : Verdict
   pub right : IsVerdict options.outputs_alone lat block proposal.ops proposal.rows memory verdict
   pub own : IssueTheSame ours.ops ours.rows proposal.ops proposal.rows → verdict ≡ Lawful
   pub is_found : checked
-      ≡ found (kind_of options.lawful verdict) (keeps_operations options.operations block proposal.ops) lat block ours proposal
+      ≡ found (kind_of options.lawful verdict) (keeps_operations options.operations block proposal.ops) checked.sought lat block
+      ours proposal
   pub listed : entry ≡ entry_as options.lawful options.form proposal.claimed proposal.ops proposal.rows verdict checked
 
 -- the operations in these rows keep the rules of the units, and on every memory of 16,384 words of 32 bits they have the

@@ -8,6 +8,8 @@ use Rattle.iloc_ops.specs.declared.op.Reg.{Reg}
 use Rattle.iloc_timed.specs.declared.row.Row.{Row}
 use Rattle.iloc_timed.specs.Rows.{row_at}
 use Rattle.iloc_timed.specs.Spelling.{row_spelling}
+use Rattle.iloc_rows.specs.declared.proposal.unread.Unread.{Unread}
+use Rattle.iloc_optimum.specs.declared.optimizer.Sought.{Sought}
 use Rattle.iloc_validation.specs.declared.lawfulness.Added.{Added}
 use Rattle.iloc_validation.specs.declared.lawfulness.Issue.{Issue}
 use Rattle.iloc_validation.specs.declared.lawfulness.LeftOut.{LeftOut}
@@ -24,7 +26,9 @@ use Rattle.iloc_judge.specs.declared.verdict.Verdict.{Verdict}
 use Rattle.iloc_judge.specs.declared.verdict.Verdict.TheVariants.{Units, Lawful, Unlawful, Undecided}
 use Rattle.iloc_judge.specs.declared.void.Void.{Void}
 use Rattle.iloc_judge.specs.declared.void.Void.TheVariants.{Faults, ShowsNothing}
+use Rattle.iloc_judge.specs.declared.checked.unit_rule.UnitRule.{UnitRule}
 use Rattle.iloc_judge.specs.Listing.{kind_word}
+use Rattle.iloc_judge.specs.UnitRule.{broken_rule, rule_words}
 
 -- Strings
 
@@ -81,10 +85,15 @@ abbrev pub claim_member : Option ℕ → List ℕ
 claim_member None = codes ",\"claimed\":null"
 claim_member (Some claim) = number_member (codes "claimed") claim
 
+-- `best` and `bound`, where a search found these
+abbrev pub sought_members : Option Sought → List ℕ
+sought_members None = []
+sought_members (Some s) = number_member (codes "best") s.best ++ number_member (codes "bound") s.bound
+
 abbrev pub counts_members : Checked → List ℕ
 counts_members checked =
     number_member (codes "cycles") checked.cycles ++ number_member (codes "ours") checked.ours
-    ++ number_member (codes "least") checked.least
+    ++ sought_members checked.sought ++ number_member (codes "least") checked.least
 
 abbrev pub verdict_members : Checked → Option ℕ → List ℕ
 verdict_members checked claimed =
@@ -234,11 +243,20 @@ before = codes ",\"left_out\":null,\"added\":null,\"reasons\":["
 abbrev pub after : List ℕ
 after = codes "],\"more\":0"
 
+-- what a row has that breaks a rule of the units
+abbrev pub rule_member : Option UnitRule → List ℕ
+rule_member None = []
+rule_member (Some rule) = text_member (codes "rule") (rule_words rule)
+
+-- the end of a row's text, and that
+abbrev pub rule_end : Option UnitRule → List ℕ
+rule_end rule = codes "\"" ++ rule_member rule ++ codes "}"
+
 -- a row that breaks the rules of the units
 abbrev pub units_value : List Op → List Row → ℕ → List ℕ
 units_value ops rows c =
     codes "{\"kind\":\"units\"" ++ number_member (codes "row") c ++ codes ",\"text\":\"" ++ row_spelling ops (row_at rows c)
-    ++ codes "\"}"
+    ++ rule_end (broken_rule ops (row_at rows c))
 
 abbrev pub units_members : List Op → List Row → ℕ → List ℕ
 units_members ops rows c = no_difference ++ before ++ units_value ops rows c ++ after
@@ -260,19 +278,21 @@ abbrev pub json_of : Option ℕ → List Op → List Row → Verdict → Checked
 json_of claimed ops rows verdict checked =
     verdict_members checked claimed ++ detail_members ops rows verdict ++ codes "}\n"
 
--- Rows of which one can't be read
+-- Rows among which a line can't be read
 
--- the text of the row and some words, and the end of their object
+-- the text of the line and some words, and the end of their object
 abbrev pub unread_texts : List ℕ → List ℕ → List ℕ
 unread_texts text words = text_member (codes "text") text ++ text_member (codes "problem") words ++ codes "}"
 
-abbrev pub unread_value : ℕ → List ℕ → List ℕ → List ℕ
-unread_value row text words =
-    codes "{\"kind\":\"unread\"" ++ number_member (codes "row") row ++ unread_texts text words
+-- where the line is, from 1, and which row it would be, from 0
+abbrev pub unread_value : Unread → List ℕ → List ℕ
+unread_value unread words =
+    codes "{\"kind\":\"unread\"" ++ number_member (codes "line") unread.line ++ number_member (codes "row") unread.row
+    ++ unread_texts unread.text words
 
-abbrev pub unread_members : ℕ → List ℕ → List ℕ → List ℕ
-unread_members row text words = no_difference ++ before ++ unread_value row text words ++ after
+abbrev pub unread_members : Unread → List ℕ → List ℕ
+unread_members unread words = no_difference ++ before ++ unread_value unread words ++ after
 
-abbrev pub unread_json_of : Option ℕ → ℕ → List ℕ → List ℕ → Checked → List ℕ
-unread_json_of claimed row text words checked =
-    verdict_members checked claimed ++ unread_members row text words ++ codes "}\n"
+abbrev pub unread_json_of : Option ℕ → Unread → List ℕ → Checked → List ℕ
+unread_json_of claimed unread words checked =
+    verdict_members checked claimed ++ unread_members unread words ++ codes "}\n"

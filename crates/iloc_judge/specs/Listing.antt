@@ -8,6 +8,7 @@ use Rattle.iloc_ops.specs.Spelling.{spelling}
 use Rattle.iloc_timed.specs.declared.row.Row.{Row}
 use Rattle.iloc_timed.specs.Rows.{row_at}
 use Rattle.iloc_timed.specs.Spelling.{row_spelling}
+use Rattle.iloc_optimum.specs.declared.optimizer.Sought.{Sought}
 use Rattle.iloc_judge.specs.declared.comparison.Comparison.{Comparison}
 use Rattle.iloc_judge.specs.declared.comparison.Comparison.TheVariants as of
 use Rattle.iloc_judge.specs.declared.difference.Difference.{Difference}
@@ -41,11 +42,21 @@ abbrev pub wrong_claim : ℕ → Option ℕ → List ℕ
 wrong_claim cycles None = []
 wrong_claim cycles (Some claim) = if claim == cycles then [] else column (codes "claimed") claim
 
--- ` WORD cycles C ours O least L`, and where a claim is wrong ` claimed X`
+-- ` best C bound B`, where a search found these
+abbrev pub sought_columns : Option Sought → List ℕ
+sought_columns None = []
+sought_columns (Some s) = column (codes "best") s.best ++ column (codes "bound") s.bound
+
+-- ` cycles C ours O least L`, with what was sought before the least
+abbrev pub counts_of : Checked → List ℕ
+counts_of checked =
+    column (codes "cycles") checked.cycles ++ column (codes "ours") checked.ours ++ sought_columns checked.sought
+    ++ column (codes "least") checked.least
+
+-- ` WORD` and these, and where a claim is wrong ` claimed X`
 abbrev pub line_of : Checked → Option ℕ → List ℕ
 line_of checked claimed =
-    codes " " ++ kind_word checked.kind ++ column (codes "cycles") checked.cycles ++ column (codes "ours") checked.ours
-    ++ column (codes "least") checked.least ++ wrong_claim checked.cycles claimed ++ codes "\n"
+    codes " " ++ kind_word checked.kind ++ counts_of checked ++ wrong_claim checked.cycles claimed ++ codes "\n"
 
 -- The row of a table
 
@@ -53,16 +64,24 @@ line_of checked claimed =
 abbrev pub value : ℕ → List ℕ
 value n = codes "," ++ decimal n
 
+-- `,C,B`, where a search found these
+abbrev pub sought_values : Option Sought → List ℕ
+sought_values None = []
+sought_values (Some s) = value s.best ++ value s.bound
+
 -- the number of cycles that is claimed, right or wrong; nothing behind the comma where none is
 abbrev pub claim_value : Option ℕ → List ℕ
 claim_value None = codes ","
 claim_value (Some claim) = value claim
 
--- `,WORD,C,O,L,X`, where X is the claim
+-- `,C,O,L`, with what was sought before the least
+abbrev pub values_of : Checked → List ℕ
+values_of checked = value checked.cycles ++ value checked.ours ++ sought_values checked.sought ++ value checked.least
+
+-- `,WORD`, these, and `,X`, where X is the claim
 abbrev pub row_of : Checked → Option ℕ → List ℕ
 row_of checked claimed =
-    codes "," ++ kind_word checked.kind ++ value checked.cycles ++ value checked.ours ++ value checked.least
-    ++ claim_value claimed ++ codes "\n"
+    codes "," ++ kind_word checked.kind ++ values_of checked ++ claim_value claimed ++ codes "\n"
 
 -- The line of how rows compare with their block
 

@@ -48,7 +48,7 @@ pub record IsUnread (form : Form) (lat : Latencies) (block : List Op) (ours : Ta
     (checked : Checked) (entry : List ℕ) : Type 0 where
   pub unread : Unread
   pub first : proposal.unread ≡ Some unread
-  pub is_found : checked ≡ found kind.Unread false lat block ours proposal
+  pub is_found : checked ≡ found kind.Unread false checked.sought lat block ours proposal
   pub words : List ℕ
   pub are_words : IsRowWording unread.text words
   pub listed : entry ≡ unread_as form checked proposal.claimed unread words

@@ -10,7 +10,7 @@ ghost use Rattle.iloc_judge.specs.Steps.Counted.{CanBeListed};
 pub mod detail;
 mod kept;
 pub mod reason;
-mod unit_rule;
+pub(crate) mod unit_rule;
 pub(crate) mod verdict_line;
 
 use crate::comparison::Comparison;
@@ -20,6 +20,7 @@ use crate::verdict::kind::VerdictKind;
 use crate::verdict::{Verdict, judge};
 use detail::push_detail;
 use iloc_ops::{NoMemory, Op};
+use iloc_optimum::Sought;
 use iloc_rows::Proposal;
 use iloc_timed::{Row, cycles, cycles_of};
 use kept::keeps_operations;
@@ -37,6 +38,8 @@ pub struct Checked {
     pub cycles: u64,
     /// How many cycles our schedule takes.
     pub ours: u64,
+    /// What a search finds of the block's cycles, if there is one.
+    pub sought: Option<Sought>,
     /// How many cycles each lawful schedule takes at least.
     pub least: u64,
 }
@@ -132,7 +135,8 @@ fn push_units(
 ) -> Result<Checked, NoMemory>
     requires bad { IsFirstBadRow proposal.now.ops proposal.now.rows row }
     requires keeps { keeps_operations ≡ kept judging.now.options.operations task.now.block.now.ops proposal.now.ops }
-    ensures { IfOk result (λ checked. (entry : List ℕ)
+    ensures sought { IfOk result (λ checked. checked.sought ≡ task.now.sought) }
+    ensures entry { IfOk result (λ checked. (entry : List ℕ)
         × IsCheck judging.now.options task.now.latencies.now judging.now.memory.now
         task.now.block.now.ops task.now.ours.now proposal.now checked entry
         × (text.new.items ≡ text.old.items ++ entry)) }
@@ -143,6 +147,7 @@ fn push_units(
         keeps_operations,
         cycles: cycles_of(ops, rows, task.latencies),
         ours: cycles(task.ours, task.latencies),
+        sought: task.sought,
         least: task.graph.least()?,
     };
     let verdict = Verdict::Units(row);
@@ -159,8 +164,9 @@ fn push_units(
 }
 
 /// Judges what is proposed for a block, beside our schedule of it, and appends what is listed of it after the block's head:
-/// the verdict with the cycles of the rows, ours and the least, and the lines that tell where the rows go wrong, if they do.
-/// In a table it is a row, with the cycles that are claimed and no lines below; in JSON it is one line that has all of it.
+/// the verdict with the cycles of the rows, ours, what is sought and the least, and the lines that tell where the rows go
+/// wrong, if they do. In a table it is a row, with the cycles that are claimed and no lines below; in JSON it is one line that
+/// has all of it.
 ///
 /// After a refusal a part of it may have been appended.
 ///
@@ -173,7 +179,8 @@ pub fn push_check(
     task: &Task<'_>,
     proposal: Proposal,
 ) -> Result<Checked, NoMemory>
-    ensures { IfOk result (λ checked. (entry : List ℕ)
+    ensures sought { IfOk result (λ checked. checked.sought ≡ task.now.sought) }
+    ensures entry { IfOk result (λ checked. (entry : List ℕ)
         × IsCheck judging.now.options task.now.latencies.now judging.now.memory.now
         task.now.block.now.ops task.now.ours.now proposal checked entry
         × (text.new.items ≡ text.old.items ++ entry)) }
@@ -192,6 +199,7 @@ pub fn push_check(
         keeps_operations,
         cycles: cycles(&theirs, task.latencies),
         ours: cycles(task.ours, task.latencies),
+        sought: task.sought,
         least: task.graph.least()?,
     };
     push_entry(text, judging, claimed, ops, rows, &verdict, checked)?;

@@ -2,15 +2,18 @@
 ghost use Rattle.std.specs.Prelude.{◌≡◌, ◌++◌, ◌<◌, length, OnOk};
 ghost use Rattle.iloc_judge.specs.Json as json;
 ghost use Rattle.iloc_judge.specs.Steps.Counted.{CanBeListed};
+ghost use Rattle.iloc_judge.specs.UnitRule.{broken_rule};
 
 mod comparison;
 mod reason;
 pub mod value;
 
 use crate::checked::Checked;
+use crate::checked::unit_rule::broken_rule;
 use crate::verdict::Verdict;
 use comparison::{push_comparison, push_no_difference};
 use iloc_ops::{NoMemory, Op};
+use iloc_optimum::Sought;
 use iloc_rows::Unread;
 use iloc_timed::{Row, push_row};
 use reason::push_reasons;
@@ -26,21 +29,29 @@ fn push_claim(text: &mut Vec<u8>, claimed: Option<u32>) -> Result<(), NoMemory>
     }
 }
 
-/// Appends the cycles of the rows, ours and the least.
+/// Appends the best cycles and the bound that a search finds, if there is one.
+fn push_sought(text: &mut Vec<u8>, sought: &Option<Sought>) -> Result<(), NoMemory>
+    ensures { OnOk result (text.new.items ≡ text.old.items ++ json.sought_members sought.now) }
+{
+    if let Some(sought) = sought {
+        push_number_member(text, "best", u64::from(sought.best))?;
+        push_number_member(text, "bound", u64::from(sought.bound))?;
+    }
+    Ok(())
+}
+
+/// Appends the cycles of the rows, ours, what is sought and the least.
 fn push_counts(text: &mut Vec<u8>, checked: Checked) -> Result<(), NoMemory>
     ensures { OnOk result (text.new.items ≡ text.old.items ++ json.counts_members checked) }
 {
     push_number_member(text, "cycles", checked.cycles)?;
     push_number_member(text, "ours", checked.ours)?;
+    push_sought(text, &checked.sought)?;
     push_number_member(text, "least", checked.least)
 }
 
 /// Appends the word for the verdict, and the numbers that go with it.
-fn push_verdict(
-    text: &mut Vec<u8>,
-    checked: Checked,
-    claimed: Option<u32>,
-) -> Result<(), NoMemory>
+fn push_verdict(text: &mut Vec<u8>, checked: Checked, claimed: Option<u32>) -> Result<(), NoMemory>
     ensures { OnOk result (text.new.items ≡ text.old.items ++ json.verdict_members checked claimed) }
 {
     push_text_member(text, "verdict", checked.kind.word().as_bytes())?;
@@ -62,6 +73,17 @@ fn push_after(text: &mut Vec<u8>) -> Result<(), NoMemory>
     push_literal(text, "],\"more\":0")
 }
 
+/// Appends the end of a row's text, and what it has that breaks the first rule that it breaks.
+fn push_rule(text: &mut Vec<u8>, ops: &[Op], row: &Row) -> Result<(), NoMemory>
+    ensures { OnOk result (text.new.items ≡ text.old.items ++ json.rule_end (broken_rule ops.now row.now)) }
+{
+    push_literal(text, "\"")?;
+    if let Some(rule) = broken_rule(ops, row) {
+        push_text_member(text, "rule", rule.words())?;
+    }
+    push_literal(text, "}")
+}
+
 /// Appends this row, as one that breaks the rules of the units.
 fn push_units_value(
     text: &mut Vec<u8>,
@@ -76,16 +98,11 @@ fn push_units_value(
     push_number_member(text, "row", row as u64)?;
     push_literal(text, ",\"text\":\"")?;
     push_row(text, ops, &rows[row])?;
-    push_literal(text, "\"}")
+    push_rule(text, ops, &rows[row])
 }
 
 /// Appends that this row breaks the rules of the units.
-fn push_units(
-    text: &mut Vec<u8>,
-    ops: &[Op],
-    rows: &[Row],
-    row: usize,
-) -> Result<(), NoMemory>
+fn push_units(text: &mut Vec<u8>, ops: &[Op], rows: &[Row], row: usize) -> Result<(), NoMemory>
     requires { row < length rows.now }
     ensures { OnOk result (text.new.items ≡ text.old.items ++ json.units_members ops.now rows.now row) }
 {
@@ -156,7 +173,7 @@ pub(crate) fn push_json(
     push_literal(text, "}\n")
 }
 
-/// Appends the text of a row that can't be read, and what is said of it.
+/// Appends the text of a line that can't be read, and what is said of it.
 fn push_unread_texts(text: &mut Vec<u8>, row: &[u8], words: &[u8]) -> Result<(), NoMemory>
     ensures { OnOk result (text.new.items ≡ text.old.items ++ json.unread_texts row.now words.now) }
 {
@@ -165,20 +182,19 @@ fn push_unread_texts(text: &mut Vec<u8>, row: &[u8], words: &[u8]) -> Result<(),
     push_literal(text, "}")
 }
 
-/// Appends a row that can't be read, with what is said of it.
+/// Appends a line that can't be read, with what is said of it.
 fn push_unread_value(text: &mut Vec<u8>, unread: &Unread, words: &[u8]) -> Result<(), NoMemory>
-    ensures { OnOk result (text.new.items
-        ≡ text.old.items ++ json.unread_value unread.now.row unread.now.text words.now) }
+    ensures { OnOk result (text.new.items ≡ text.old.items ++ json.unread_value unread.now words.now) }
 {
     push_literal(text, "{\"kind\":\"unread\"")?;
+    push_number_member(text, "line", u64::from(unread.line))?;
     push_number_member(text, "row", u64::from(unread.row))?;
     push_unread_texts(text, unread.text.as_bytes(), words)
 }
 
-/// Appends that a row can't be read.
+/// Appends that a line can't be read.
 fn push_unread_members(text: &mut Vec<u8>, unread: &Unread, words: &[u8]) -> Result<(), NoMemory>
-    ensures { OnOk result (text.new.items
-        ≡ text.old.items ++ json.unread_members unread.now.row unread.now.text words.now) }
+    ensures { OnOk result (text.new.items ≡ text.old.items ++ json.unread_members unread.now words.now) }
 {
     push_no_difference(text)?;
     push_before(text)?;
@@ -186,7 +202,7 @@ fn push_unread_members(text: &mut Vec<u8>, unread: &Unread, words: &[u8]) -> Res
     push_after(text)
 }
 
-/// Appends what is listed of rows of which this is the first that can't be read, with words for what is wrong with it.
+/// Appends what is listed of rows among which this is the first line that can't be read, with words for what is wrong with it.
 pub(crate) fn push_unread_json(
     text: &mut Vec<u8>,
     claimed: Option<u32>,
@@ -194,8 +210,8 @@ pub(crate) fn push_unread_json(
     words: &[u8],
     checked: Checked,
 ) -> Result<(), NoMemory>
-    ensures { OnOk result (text.new.items ≡ text.old.items
-        ++ json.unread_json_of claimed unread.now.row unread.now.text words.now checked) }
+    ensures { OnOk result
+        (text.new.items ≡ text.old.items ++ json.unread_json_of claimed unread.now words.now checked) }
 {
     push_verdict(text, checked, claimed)?;
     push_unread_members(text, unread, words)?;

@@ -6,6 +6,7 @@ ghost use Rattle.iloc_sched.specs.Lawful.{IsLawful};
 
 use iloc_meaning::Memory;
 use iloc_ops::Block;
+use iloc_optimum::Sought;
 use iloc_sched::Graph;
 use iloc_timed::{Latencies, Schedule};
 
@@ -18,6 +19,8 @@ pub struct Task<'a> {
     pub graph: &'a Graph,
     /// Our schedule of it.
     pub ours: &'a Schedule,
+    /// What a search finds of the cycles it takes, if there is one.
+    pub sought: Option<Sought>,
     /// The latencies of the machine.
     pub latencies: &'a Latencies,
     pub ghost few: { length block.now.ops ≤ MAX_OPS },

@@ -39,11 +39,7 @@ fn push_told(text: &mut Vec<u8>, unread: &Unread, words: &[u8]) -> Result<(), No
 }
 
 /// Promise: appends where a line is that can't be read, with `row_wording`'s words for its text.
-pub fn push_unread_line(
-    alloc: Global,
-    text: &mut Vec<u8>,
-    unread: &Unread,
-) -> Result<(), NoMemory>
+pub fn push_unread_line(alloc: Global, text: &mut Vec<u8>, unread: &Unread) -> Result<(), NoMemory>
     ensures { OnOk result ((told : List ℕ) × IsUnreadLine unread.now told
         × (text.new.items ≡ text.old.items ++ told)) }
 {
@@ -86,9 +82,9 @@ fn push_unread_as(
 }
 
 /// Appends what is listed of a proposal of which this is the first line that can't be read, beside our schedule of the block,
-/// after the block's head: the verdict `unread` with the cycles of the rows, ours and the least, and a line that says where
-/// it is and, in words, what is wrong with it. In a table it is a row, with no lines below; in JSON it is one line that has
-/// all of it, and the text of what can't be read.
+/// after the block's head: the verdict `unread` with the cycles of the rows, ours, what is sought and the least, and a line that
+/// says where it is and, in words, what is wrong with it. In a table it is a row, with no lines below; in JSON it is one line that
+/// has all of it, and the text of what can't be read.
 ///
 /// After a refusal a part of it may have been appended.
 ///
@@ -103,7 +99,8 @@ pub fn push_unread(
     unread: &Unread,
 ) -> Result<Checked, NoMemory>
     requires first { proposal.now.unread ≡ Some unread.now }
-    ensures { IfOk result (λ checked. (entry : List ℕ)
+    ensures sought { IfOk result (λ checked. checked.sought ≡ task.now.sought) }
+    ensures entry { IfOk result (λ checked. (entry : List ℕ)
         × IsUnread form task.now.latencies.now task.now.block.now.ops task.now.ours.now proposal.now checked entry
         × (text.new.items ≡ text.old.items ++ entry)) }
 {
@@ -113,6 +110,7 @@ pub fn push_unread(
         keeps_operations: false,
         cycles: cycles_of(ops, rows, task.latencies),
         ours: cycles(task.ours, task.latencies),
+        sought: task.sought,
         least: task.graph.least()?,
     };
     let words = row_wording(alloc, unread.text.as_bytes())?;

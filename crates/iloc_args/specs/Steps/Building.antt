@@ -6,12 +6,12 @@ use Rattle.clap.specs.declared.builder.command.Command.TheViews.{out-Command}
 use Rattle.clap.specs.declared.builder.value_parser.ValueParser.{ValueParser}
 use Rattle.clap.specs.Words.{App, Rule, Shape, Text, app_of, new_rule, rule_of, with_subcommand}
 use Rattle.clap.specs.Simple.{new_shape}
-use Rattle.iloc_args.specs.Command.{Subcommand, at_rule, csv_rule, either_slot_rule, json_rule, latency_rule, lawful_rule, nodes_rule}
-use Rattle.iloc_args.specs.Command.{operations_rule, outputs_rule, priority_rule, shape, top_shape, task_rule, words_rule, workers_rule, where_rule}
-use Rattle.iloc_args.specs.Command.{search_rule}
+use Rattle.iloc_args.specs.Command.{Subcommand, at_rule, csv_rule, either_slot_rule, latency_rule, lawful_rule, nodes_rule, operations_rule}
+use Rattle.iloc_args.specs.Command.{outputs_rule, priority_rule, search_rule, shape, top_shape, json_rule, task_rule, words_rule, workers_rule}
+use Rattle.iloc_args.specs.Command.{where_rule}
 use Rattle.iloc_args.specs.declared.command.Argument.{Argument}
-use Rattle.iloc_args.specs.declared.command.Argument.TheVariants.{At, Words, Workers, Load, Store, Mult, Priority, Nodes, Csv, Json, Task, Lawful}
-use Rattle.iloc_args.specs.declared.command.Argument.TheVariants.{Operations, Outputs, EitherSlot, EitherSlotWithTask, Where, NodesIfGiven}
+use Rattle.iloc_args.specs.declared.command.Argument.TheVariants.{At, Words, Workers, Load, Store, Mult, Priority, Nodes, NodesIfGiven, Csv, Task}
+use Rattle.iloc_args.specs.declared.command.Argument.TheVariants.{Lawful, Operations, Outputs, EitherSlot, EitherSlotWithTask, Json, Where}
 use Rattle.iloc_args.specs.declared.command.Entry.{Entry}
 
 -- `--NAME N`, a number that this parser takes

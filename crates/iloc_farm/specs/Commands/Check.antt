@@ -1,5 +1,6 @@
 -- The listing of what is said of the schedules that others proposed for a file's blocks.
 use Rattle.std.specs.Prelude.{ℕ, ◌≡◌, ℤ, Bool, true, false, Option, Some, None, List, [], ◌++◌, sum_by, codes}
+use Rattle.std.specs.Option.{option_map_or}
 use Rattle.std.specs.Fmt.{decimal}
 use Rattle.iloc_ops.specs.declared.file.Block.{Block}
 use Rattle.iloc_ops.specs.declared.op.Op.{Op}
@@ -22,6 +23,7 @@ use Rattle.iloc_farm.specs.declared.commands.Finding.{Finding}
 use Rattle.iloc_args.specs.declared.request.Request.{Request}
 use Rattle.iloc_rows.specs.EitherSlot.{placed}
 use Rattle.iloc_farm.specs.Command.{Command, OfRows, of_no_file}
+use Rattle.iloc_farm.specs.Commands.Optimize.{IsSoughtIf}
 use Rattle.iloc_farm.specs.Commands.Run.{initial_memory}
 
 -- the form of a listing for which a table is asked, or JSON
@@ -67,50 +69,65 @@ check_head forms.Table k name = head_as true k name
 check_head forms.Json k name = json_head k name
 
 -- The entry of block k and its proposal: the block's number and its name, and what is said of the proposal, beside the block's
--- greedy schedule.
-pub record IsCheckEntry (options : CheckOptions) (lat : Latencies) (memory : List ℤ) (k : ℕ) (of : Block × Proposed)
-    (entry : List ℕ) (checked : Checked) : Type 0 where
+-- greedy schedule and what a search finds, if it has nodes.
+pub record IsCheckEntry (options : CheckOptions) (nodes : Option ℕ) (lat : Latencies) (memory : List ℤ) (k : ℕ)
+    (of : Block × Proposed) (entry : List ℕ) (checked : Checked) : Type 0 where
   pub ours : Table
   pub greedy : IsTheGreedy Chain lat of.0 ours
+  pub sought : IsSoughtIf nodes lat of.0.ops checked.sought
   pub text : List ℕ
   pub right : IsSaid of.1.unread options lat memory of.0.ops ours of.1 checked text
   pub listed : entry ≡ check_head options.form k of.0.name ++ text
 
--- what a table begins with
-abbrev pub check_header : List ℕ
-check_header = codes "block,name,verdict,cycles,ours,least,claimed\n"
+-- what a table begins with, by the nodes that the request has
+abbrev pub check_header : Option ℕ → List ℕ
+check_header None = codes "block,name,verdict,cycles,ours,least,claimed\n"
+check_header (Some nodes) = codes "block,name,verdict,cycles,ours,best,bound,least,claimed\n"
 
 -- a table has its header before the first row
-abbrev pub check_opening : Form → List ℕ
-check_opening forms.Lines = []
-check_opening forms.Table = check_header
-check_opening forms.Json = []
+abbrev pub check_opening : Form → Option ℕ → List ℕ
+check_opening forms.Lines nodes = []
+check_opening forms.Table nodes = check_header nodes
+check_opening forms.Json nodes = []
 
--- `total C ours O least L`: the cycles that are proposed, those of our schedules and the least, each together
-abbrev pub totals_line : List Checked → List ℕ
-totals_line found =
+-- the best cycles that a search finds, and the bound, or else 0
+abbrev pub best_of : Checked → ℕ
+best_of c = option_map_or (λ s. s.best) c.sought 0
+
+abbrev pub bound_of : Checked → ℕ
+bound_of c = option_map_or (λ s. s.bound) c.sought 0
+
+-- ` best C bound B` of all together, where the request has nodes
+abbrev pub sought_totals : Option ℕ → List Checked → List ℕ
+sought_totals None found = []
+sought_totals (Some nodes) found =
+    codes " best " ++ decimal (sum_by best_of found) ++ codes " bound " ++ decimal (sum_by bound_of found)
+
+-- `total C ours O least L`: the cycles that are proposed, those of our schedules, what was sought and the least, each together
+abbrev pub totals_line : Option ℕ → List Checked → List ℕ
+totals_line nodes found =
     codes "total " ++ decimal (sum_by (λ c. c.cycles) found) ++ codes " ours " ++ decimal (sum_by (λ c. c.ours) found)
-    ++ codes " least " ++ decimal (sum_by (λ c. c.least) found) ++ codes "\n"
+    ++ sought_totals nodes found ++ codes " least " ++ decimal (sum_by (λ c. c.least) found) ++ codes "\n"
 
 -- the totals, which neither a table nor JSON has
-abbrev pub check_ending : Form → List Checked → List ℕ
-check_ending forms.Lines found = totals_line found
-check_ending forms.Table found = []
-check_ending forms.Json found = []
+abbrev pub check_ending : Form → Option ℕ → List Checked → List ℕ
+check_ending forms.Lines nodes found = totals_line nodes found
+check_ending forms.Table nodes found = []
+check_ending forms.Json nodes found = []
 
 -- The text says of each proposal, beside the greedy schedule of its block, what is right, in a table below its header, and
 -- in lines with the totals at the end. They passed exactly where each does.
-abbrev pub ListsChecked : CheckOptions → Latencies → List ℤ → List Block → List Proposed → Finding → List ℕ → Type 0
-ListsChecked options lat memory blocks proposals finding text =
-    ListsRows (IsCheckEntry options lat memory) (check_opening options.form) (check_ending options.form)
+abbrev pub ListsChecked : CheckOptions → Option ℕ → Latencies → List ℤ → List Block → List Proposed → Finding → List ℕ → Type 0
+ListsChecked options nodes lat memory blocks proposals finding text =
+    ListsRows (IsCheckEntry options nodes lat memory) (check_opening options.form nodes) (check_ending options.form nodes)
     (passes options.lawful) blocks proposals finding text
 
 -- The text is what the request says of what is proposed for blocks, with this finding: of the rows with leave for either slot,
 -- if it gives that.
 abbrev pub Checks : Request → List Block → List Proposed → Finding → List ℕ → Type 0
 Checks request blocks proposals finding text =
-    ListsChecked (options_of request) request.latencies (initial_memory request) blocks (placed request.either_slot proposals)
-    finding text
+    ListsChecked (options_of request) request.nodes request.latencies (initial_memory request) blocks
+    (placed request.either_slot proposals) finding text
 
 abbrev pub check_command : Command
 check_command = record of_no_file { input = OfRows; takes_task = true; says = Checks }

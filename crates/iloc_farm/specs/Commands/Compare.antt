@@ -1,6 +1,7 @@
 -- `compare` lists the bound on each block's cycles, and the cycles of its schedules by each heuristic.
-use Rattle.std.specs.Prelude.{ℕ, ◌≡◌, ◌==◌, nat_le, Bool, true, false, if◌then◌else◌, List, [], ◌∷◌, ◌++◌, slice_index, sum_by, length, Option, Some, None, codes}
-use Rattle.std.specs.List.{flat_map, list_all}
+use Rattle.std.specs.Prelude.{ℕ, ◌≡◌, ◌==◌, nat_le, Bool, true, false, if◌then◌else◌, List, [], ◌++◌, slice_index, sum_by, length, Option, Some}
+use Rattle.std.specs.Prelude.{None, codes}
+use Rattle.std.specs.List.{flat_map, list_all, join_by}
 use Rattle.std.specs.Option.{option_map_or}
 use Rattle.std.specs.Fmt.{decimal}
 use Rattle.iloc_ops.specs.declared.file.Block.{Block}
@@ -9,7 +10,7 @@ use Rattle.iloc_sched.specs.Least.{least}
 use Rattle.iloc_sched.specs.declared.ranking.heuristic.Heuristic.{Heuristic}
 use Rattle.iloc_sched.specs.declared.ranking.heuristic.Heuristic.TheVariants.{Chain, Slack, Descendants, Successors, Latency, Order}
 use Rattle.iloc_optimum.specs.declared.optimizer.Sought.{Sought}
-use Rattle.iloc_args.specs.Priority.{priority_word}
+use Rattle.iloc_args.specs.Priority.{priority_word, heuristics}
 use Rattle.iloc_args.specs.declared.request.Request.{Request}
 use Rattle.iloc_farm.specs.declared.commands.compare.ComparedCycles.{ComparedCycles}
 use Rattle.iloc_farm.specs.Entries.{IsListingAfter}
@@ -17,10 +18,6 @@ use Rattle.iloc_farm.specs.Listing.{field, head_as, opening_as}
 use Rattle.iloc_farm.specs.Schedules.{IsCount}
 use Rattle.iloc_farm.specs.Command.{Command, Shared, of_files}
 use Rattle.iloc_farm.specs.Commands.Optimize.{IsSoughtIf}
-
--- the heuristics, in the order in which they are listed
-abbrev pub heuristics : List Heuristic
-heuristics = Chain ∷ Slack ∷ Descendants ∷ Successors ∷ Latency ∷ Order ∷ []
 
 -- the place of a heuristic among them
 abbrev pub place : Heuristic → ℕ
@@ -75,11 +72,15 @@ abbrev pub sought_columns : Bool → Option Sought → List ℕ
 sought_columns csv None = []
 sought_columns csv (Some s) = field csv (codes "bound") s.bound ++ field csv (codes "best") s.best
 
--- `block K NAME least L chain C ..`, or `K,NAME,L,C,..` in a table, with what was sought after the least
+-- ` least L`, or `,L` in a table, with these
+abbrev pub bounds_columns : Bool → ComparedCycles → List ℕ
+bounds_columns csv c = field csv (codes "least") c.least ++ sought_columns csv c.sought
+
+-- `block K NAME least L chain C ..`, or `K,NAME,L,C,..` in a table
 abbrev pub compare_line : Bool → ℕ → Option (List ℕ) → ComparedCycles → List ℕ
 compare_line csv k name c =
-    head_as csv k name ++ field csv (codes "least") c.least ++ sought_columns csv c.sought
-    ++ columns csv (λ heuristic. cycles_by heuristic c) heuristics ++ codes "\n"
+    head_as csv k name ++ bounds_columns csv c ++ columns csv (λ heuristic. cycles_by heuristic c) heuristics
+    ++ codes "\n"
 
 -- the entry of block k: its comparison, which is found
 pub record IsCompareEntry (request : Request) (k : ℕ) (b : Block) (entry : List ℕ) (found : ComparedCycles) : Type 0 where
@@ -88,9 +89,8 @@ pub record IsCompareEntry (request : Request) (k : ℕ) (b : Block) (entry : Lis
 
 -- what a table begins with, by the nodes that the request has
 abbrev pub compare_header : Option ℕ → List ℕ
-compare_header None = codes "block,name,least,chain,slack,descendants,successors,latency,order\n"
-compare_header (Some nodes) =
-    codes "block,name,least,bound,best,chain,slack,descendants,successors,latency,order\n"
+compare_header None = codes "block,name,least," ++ join_by priority_word (codes ",") heuristics ++ codes "\n"
+compare_header (Some nodes) = codes "block,name,least,bound,best," ++ join_by priority_word (codes ",") heuristics ++ codes "\n"
 
 -- the sums for each heuristic
 abbrev pub sums_of : (Heuristic → ComparedCycles → ℕ) → List ComparedCycles → List ℕ
@@ -102,11 +102,13 @@ sought_sums None found = []
 sought_sums (Some nodes) found =
     field false (codes "bound") (sum_by bound_of found) ++ field false (codes "best") (sum_by best_of found)
 
--- `total least L chain C ..`, with those after the least
+-- `total least L` with these
+abbrev pub bounds_total : Option ℕ → List ComparedCycles → List ℕ
+bounds_total nodes found = codes "total least " ++ decimal (sum_by (λ c. c.least) found) ++ sought_sums nodes found
+
+-- and `chain C ..`
 abbrev pub sums_line : Option ℕ → List ComparedCycles → List ℕ
-sums_line nodes found =
-    codes "total least " ++ decimal (sum_by (λ c. c.least) found) ++ sought_sums nodes found ++ sums_of cycles_by found
-    ++ codes "\n"
+sums_line nodes found = bounds_total nodes found ++ sums_of cycles_by found ++ codes "\n"
 
 -- `LABEL chain N .. of B`, with the number of blocks
 abbrev pub tally_line : List ℕ → (Heuristic → ComparedCycles → ℕ) → List ComparedCycles → List ℕ

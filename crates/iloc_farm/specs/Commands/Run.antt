@@ -20,11 +20,14 @@ use Rattle.iloc_farm.specs.Entries.{IsListingOf}
 abbrev pub initial_memory : Request → List ℤ
 initial_memory request = words_from request.at request.words.items
 
--- `fault at N: OP: word A`, where operations count from 1
+-- `fault at N: OP`, where operations count from 1
+abbrev pub faulting_told : List Op → ℕ → List ℕ
+faulting_told ops i = codes "fault at " ++ decimal (i + 1) ++ codes ": " ++ spelling (op_at ops i)
+
+-- `fault at N: OP: word A`
 abbrev pub place_line : List Op → FaultPlace → List ℕ
 place_line ops place =
-    codes "fault at " ++ decimal (place.operation + 1) ++ codes ": " ++ spelling (op_at ops place.operation) ++ codes ": word "
-    ++ signed_decimal place.address ++ codes "\n"
+    faulting_told ops place.operation ++ codes ": word " ++ signed_decimal place.address ++ codes "\n"
 
 -- This is shown of operations with this outcome on a memory: the words that they emit, or that they fault, with the place if
 -- that is asked for.

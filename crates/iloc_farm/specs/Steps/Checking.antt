@@ -1,8 +1,9 @@
 -- What was found of several proposals together.
-use Rattle.std.specs.Prelude.{◌≤◌, List, ◌++◌, ℕ, codes, sum_by}
+use Rattle.std.specs.Prelude.{◌≤◌, List, [], ◌++◌, ℕ, Option, Some, None, codes, sum_by}
 use Rattle.std.specs.Fmt.{decimal}
 use Rattle.iloc_judge.specs.declared.checked.Checked.{Checked}
 use Rattle.iloc_farm.specs.declared.commands.totals.Totals.{Totals}
+use Rattle.iloc_farm.specs.Commands.Check.{best_of, bound_of}
 use Rattle.iloc_farm.specs.Steps.Limits.{most_cycles, most_proposed_cycles}
 
 -- what was found of these together
@@ -10,14 +11,21 @@ abbrev pub totals_of : List Checked → Totals
 totals_of found = record {
   cycles = sum_by (λ c. c.cycles) found;
   ours = sum_by (λ c. c.ours) found;
+  best = sum_by best_of found;
+  bound = sum_by bound_of found;
   least = sum_by (λ c. c.least) found;
 }
 
+-- of these what was sought, where the request has nodes
+abbrev pub sought_text : Option ℕ → Totals → List ℕ
+sought_text None t = []
+sought_text (Some nodes) t = codes " best " ++ decimal t.best ++ codes " bound " ++ decimal t.bound
+
 -- the line of the totals
-abbrev pub totals_text : Totals → List ℕ
-totals_text t =
-    codes "total " ++ decimal t.cycles ++ codes " ours " ++ decimal t.ours ++ codes " least " ++ decimal t.least
-    ++ codes "\n"
+abbrev pub totals_text : Option ℕ → Totals → List ℕ
+totals_text nodes t =
+    codes "total " ++ decimal t.cycles ++ codes " ours " ++ decimal t.ours ++ sought_text nodes t ++ codes " least "
+    ++ decimal t.least ++ codes "\n"
 
 -- the numbers of one proposal are small
 pub record IsSmall (c : Checked) : Type 0 where

@@ -9,6 +9,7 @@ ghost use Rattle.iloc_farm.specs.Run.{EndsReading, ListsFrom};
 ghost use Rattle.iloc_farm.specs.Steps.Checking.{IsSmall as IsSmallCheck};
 ghost use Rattle.iloc_ops.specs.Limits.{MAX_BLOCKS};
 
+use crate::commands::optimize::sought_if;
 use crate::commands::totals::Totals;
 use crate::commands::{Finding, Listed};
 use crate::fault::RunFault;
@@ -20,6 +21,7 @@ use crate::texts::Texts;
 use iloc_args::Request;
 use iloc_judge::{CheckOptions, Checked, Form, Judging, Task, push_check, push_unread};
 use iloc_meaning::Memory;
+use iloc_optimum::Optimizer;
 use iloc_rows::Proposal;
 use iloc_sched::{Graph, Heuristic, Scheduler};
 use iloc_text::{Block, Name, NoMemory};
@@ -30,14 +32,28 @@ use std::io::Read;
 /// What a table begins with.
 const HEADER: &[u8] = b"block,name,verdict,cycles,ours,least,claimed\n";
 
+/// What it begins with where schedules are searched for.
+const SEARCHED_HEADER: &[u8] = b"block,name,verdict,cycles,ours,best,bound,least,claimed\n";
+
 /// Judges what is proposed for each block, beside our schedule of it.
 #[derive(Drop)]
 pub(crate) struct CheckLister {
     graph: Graph,
     scheduler: Scheduler,
+    optimizer: Optimizer,
     memory: Memory,
     /// How many blocks are judged.
     blocks: usize,
+}
+
+/// What a table begins with, by the nodes that a search has.
+fn header(nodes: Option<u32>) -> &'static [u8]
+    ensures { result.now ≡ listed.check_header nodes }
+{
+    match nodes {
+        Some(_) => SEARCHED_HEADER,
+        None => HEADER,
+    }
 }
 
 /// The form of the listing that a request asks for.
@@ -82,12 +98,12 @@ fn push_check_head(
 }
 
 /// Appends the header of a table.
-fn push_check_opening(text: &mut Vec<u8>, form: Form) -> Result<(), NoMemory>
-    ensures { OnOk result (text.new.items ≡ text.old.items ++ listed.check_opening form) }
+fn push_check_opening(text: &mut Vec<u8>, form: Form, nodes: Option<u32>) -> Result<(), NoMemory>
+    ensures { OnOk result (text.new.items ≡ text.old.items ++ listed.check_opening form nodes) }
 {
     match form {
         Form::Lines | Form::Json => Ok(()),
-        Form::Table => Ok(text.extend_from_slice(HEADER)?),
+        Form::Table => Ok(text.extend_from_slice(header(nodes))?),
     }
 }
 
@@ -95,14 +111,15 @@ fn push_check_opening(text: &mut Vec<u8>, form: Form) -> Result<(), NoMemory>
 fn push_check_ending(
     text: &mut Vec<u8>,
     form: Form,
+    nodes: Option<u32>,
     found: &[Checked],
 ) -> Result<(), NoMemory>
     requires few { length found.now ≤ MAX_BLOCKS }
     requires small { All IsSmallCheck found.now }
-    ensures { OnOk result (text.new.items ≡ text.old.items ++ listed.check_ending form found.now) }
+    ensures { OnOk result (text.new.items ≡ text.old.items ++ listed.check_ending form nodes found.now) }
 {
     match form {
-        Form::Lines => Totals::of(found).push_line(text),
+        Form::Lines => Totals::of(found).push_line(text, nodes),
         Form::Table | Form::Json => Ok(()),
     }
 }
@@ -116,7 +133,8 @@ fn push_judged(
     task: &Task<'_>,
     proposal: Proposal,
 ) -> Result<Checked, NoMemory>
-    ensures { IfOk result (λ checked. (entry : List ℕ)
+    ensures sought { IfOk result (λ checked. checked.sought ≡ task.now.sought) }
+    ensures entry { IfOk result (λ checked. (entry : List ℕ)
         × IsSaid proposal.unread judging.now.options task.now.latencies.now
         judging.now.memory.now task.now.block.now.ops task.now.ours.now proposal checked entry
         × (text.new.items ≡ text.old.items ++ entry)) }
@@ -135,11 +153,12 @@ impl RowLister for CheckLister {
 
     type Found = Checked;
 
-    ghost lists = { λ request. IsCheckEntry (options_of request) request.latencies (initial_memory request) };
+    ghost lists = { λ request.
+        IsCheckEntry (options_of request) request.nodes request.latencies (initial_memory request) };
 
-    ghost opening = { λ request. check_opening (form_of request) };
+    ghost opening = { λ request. check_opening (form_of request) request.nodes };
 
-    ghost ending = { λ request. check_ending (form_of request) };
+    ghost ending = { λ request. check_ending (form_of request) request.nodes };
 
     ghost passes = { λ request. passes request.lawful };
 
@@ -151,13 +170,14 @@ impl RowLister for CheckLister {
         Ok(CheckLister {
             graph: Graph::new(alloc),
             scheduler: Scheduler::new(alloc),
+            optimizer: Optimizer::new(alloc),
             memory: initial_memory(alloc, request)?,
             blocks,
         })
     }
 
     fn push_opening(request: &Request, text: &mut Vec<u8>) -> Result<(), NoMemory> {
-        push_check_opening(text, form_of(request))
+        push_check_opening(text, form_of(request), request.nodes)
     }
 
     fn list(
@@ -172,6 +192,7 @@ impl RowLister for CheckLister {
         let latencies = &request.latencies;
         prove!(proposal.rows().len() <= MAX_ROWS);
         self.graph.refill(block, latencies)?;
+        let sought = sought_if(&mut self.optimizer, block, &self.graph, request.nodes)?;
         let ours = self.scheduler.lend_as(&self.graph, Heuristic::Chain)?;
         push_check_head(text, form_of(request), number, block.name.as_ref())?;
         let judging = Judging {
@@ -183,6 +204,7 @@ impl RowLister for CheckLister {
             block,
             graph: &self.graph,
             ours: &ours,
+            sought,
             latencies,
         };
         let checked = push_judged(alloc, text, &judging, &task, proposal)?;
@@ -195,7 +217,7 @@ impl RowLister for CheckLister {
         text: &mut Vec<u8>,
         found: &[Checked],
     ) -> Result<(), NoMemory> {
-        push_check_ending(text, form_of(request), found)
+        push_check_ending(text, form_of(request), request.nodes, found)
     }
 
     fn finding(request: &Request, found: &[Checked]) -> Finding {

@@ -14,21 +14,11 @@ use crate::farmed::FarmedLister;
 use crate::listing::table::{push_field, push_head, push_opening};
 use crate::listing::text::Listing;
 use crate::listing::{count_of, push_numbered};
-use iloc_args::{Request, priority_name};
+use iloc_args::{HEURISTICS, Request, priority_name};
 use iloc_optimum::{Optimizer, Sought};
 use iloc_sched::{Graph, Heuristic, Scheduler};
 use iloc_text::{Block, Blocks, Name, NoMemory};
 use std::alloc::Global;
-
-/// The heuristics, in the order in which they are listed.
-const HEURISTICS: [Heuristic; 6] = [
-    Heuristic::Chain,
-    Heuristic::Slack,
-    Heuristic::Descendants,
-    Heuristic::Successors,
-    Heuristic::Latency,
-    Heuristic::Order,
-];
 
 /// What a table begins with.
 const HEADER: &[u8] = b"block,name,least,chain,slack,descendants,successors,latency,order\n";
@@ -227,6 +217,14 @@ fn push_sought(text: &mut Vec<u8>, csv: bool, sought: &Option<Sought>) -> Result
     Ok(())
 }
 
+/// Appends ` least L`, or `,L` in a table, with these.
+fn push_bounds(text: &mut Vec<u8>, csv: bool, comparison: &ComparedCycles) -> Result<(), NoMemory>
+    ensures { OnOk result (text.new.items ≡ text.old.items ++ compare.bounds_columns csv comparison.now) }
+{
+    push_field(text, csv, "least", u64::from(comparison.least))?;
+    push_sought(text, csv, &comparison.sought)
+}
+
 /// Appends the line of the block with this number, counted from 1, or its row in a table.
 fn push_comparison(
     text: &mut Vec<u8>,
@@ -240,8 +238,7 @@ fn push_comparison(
         ++ compare.compare_line csv number (option_copied name.entry) comparison.now) }
 {
     push_head(text, csv, number, name)?;
-    push_field(text, csv, "least", u64::from(comparison.least))?;
-    push_sought(text, csv, &comparison.sought)?;
+    push_bounds(text, csv, comparison)?;
     push_cycles(text, csv, &HEURISTICS, comparison)?;
     text.push(b'\n')?;
     Ok(())
@@ -263,6 +260,19 @@ fn push_sought_sums(
     Ok(())
 }
 
+/// Appends `total least L`, with these.
+fn push_bounds_total(
+    text: &mut Vec<u8>,
+    nodes: Option<u32>,
+    found: &[ComparedCycles],
+) -> Result<(), NoMemory>
+    requires { length found.now ≤ MAX_BLOCKS }
+    ensures { OnOk result (text.new.items ≡ text.old.items ++ compare.bounds_total nodes found.now) }
+{
+    push_numbered(text, b"total least ", Limit::Least.sum(found), b"")?;
+    push_sought_sums(text, nodes, found)
+}
+
 /// Appends the line of the bounds and the cycles of all blocks together.
 fn push_sums_line(
     text: &mut Vec<u8>,
@@ -272,8 +282,7 @@ fn push_sums_line(
     requires { length found.now ≤ MAX_BLOCKS }
     ensures { OnOk result (text.new.items ≡ text.old.items ++ compare.sums_line nodes found.now) }
 {
-    push_numbered(text, b"total least ", Limit::Least.sum(found), b"")?;
-    push_sought_sums(text, nodes, found)?;
+    push_bounds_total(text, nodes, found)?;
     push_sums(text, &HEURISTICS, Tally::Cycles, found)?;
     text.push(b'\n')?;
     Ok(())

@@ -87,6 +87,7 @@ impl RowLister for RowsExplainer {
             block,
             graph: &self.graph,
             ours: &ours,
+            sought: None,
             latencies,
         };
         let found = push_rows_explanation(alloc, text, &task, proposal, priority)?;

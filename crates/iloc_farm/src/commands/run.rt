@@ -1,11 +1,13 @@
 //! `run`: what comes of blocks, one operation after another.
-ghost use Rattle.std.specs.Prelude.{◌≡◌, ◌≤◌, ◌<◌, ◌+◌, ◌^◌, ◌++◌, List, ℕ, length, IfOk, OnOk, codes};
+ghost use Rattle.std.specs.Option.{option_copied};
+ghost use Rattle.std.specs.Prelude.{◌&&◌, is_none, ◌≡◌, ◌≤◌, ◌<◌, ◌+◌, ◌^◌, ◌++◌, List, ℕ, length, IfOk, OnOk, codes};
 ghost use Rattle.iloc_fault.specs.Place.{IsFaultPlace};
 ghost use Rattle.iloc_fault.specs.declared.place.FaultPlace.{FaultPlace as place_value};
 ghost use Rattle.iloc_meaning.specs.Outcome.{outcome};
 ghost use Rattle.iloc_meaning.specs.declared.outcome.Outcome.TheVariants.{Fault};
 ghost use Rattle.iloc_ops.specs.Limits.{MAX_OPS};
-ghost use Rattle.iloc_farm.specs.Commands.Run.{initial_memory, place_line};
+ghost use Rattle.iloc_farm.specs.Commands.Run.{faulting_told, initial_memory, place_line};
+ghost use Rattle.iloc_meaning.specs.Trace.{op_at};
 ghost use Rattle.iloc_farm.specs.Listing.{block_head};
 
 use crate::lister::{Lister, initial_memory};
@@ -13,7 +15,7 @@ use crate::listing::{push_block_head, push_outcome};
 use iloc_args::Request;
 use iloc_fault::{FaultFinder, FaultPlace};
 use iloc_meaning::Interpreter;
-use iloc_ops::{push_number, push_op};
+use iloc_ops::{Op, push_number, push_op};
 use iloc_text::{Block, NoMemory};
 use std::alloc::Global;
 
@@ -30,16 +32,31 @@ fn fault_place(alloc: Global, request: &Request, block: &Block) -> Result<FaultP
     Ok(place)
 }
 
+/// Operation i.
+fn op_at(ops: &[Op], i: usize) -> Op
+    ensures { result ≡ op_at ops.now i }
+{
+    ops.get(i).copied().unwrap_or(Op::Nop)
+}
+
+/// Appends that operation i faults.
+fn push_operation(text: &mut Vec<u8>, ops: &[Op], i: usize) -> Result<(), NoMemory>
+    requires { i < MAX_OPS }
+    ensures { OnOk result (text.new.items ≡ text.old.items ++ faulting_told ops.now i) }
+{
+    text.extend_from_slice(b"fault at ")?;
+    push_number(text, i as u64 + 1)?;
+    text.extend_from_slice(b": ")?;
+    push_op(text, &op_at(ops, i))
+}
+
 /// Appends where a block faults.
 fn push_place(text: &mut Vec<u8>, block: &Block, place: FaultPlace) -> Result<(), NoMemory>
     requires short { length block.now.ops ≤ MAX_OPS }
     requires within { place.operation < length block.now.ops }
     ensures { OnOk result (text.new.items ≡ text.old.items ++ place_line block.now.ops place) }
 {
-    text.extend_from_slice(b"fault at ")?;
-    push_number(text, place.operation as u64 + 1)?;
-    text.extend_from_slice(b": ")?;
-    push_op(text, &block.ops.as_slice()[place.operation])?;
+    push_operation(text, block.ops.as_slice(), place.operation)?;
     text.extend_from_slice(b": word ")?;
     push_number(text, place.address)?;
     Ok(text.extend_from_slice(b"\n")?)
@@ -63,6 +80,13 @@ fn push_faulting(
     push_block_head(text, number, block.name.as_ref())?;
     text.extend_from_slice(b"\n")?;
     push_place(text, block, place)
+}
+
+/// Whether it is listed where a block faults that emitted these words, or none.
+fn is_placed(request: &Request, words: Option<&[i32]>) -> bool
+    ensures { result ≡ (request.now.fault_place && is_none (option_copied words.entry)) }
+{
+    request.fault_place && words.is_none()
 }
 
 /// Runs each block, and lists what comes of it.
@@ -94,10 +118,11 @@ impl Lister for RunLister {
         text: &mut Vec<u8>,
     ) -> Result<(), NoMemory> {
         self.0.run(block)?;
-        if request.fault_place && self.0.outputs().is_none() {
+        let words = self.0.outputs();
+        if is_placed(request, words) {
             return push_faulting(alloc, text, request, number, block);
         }
-        push_outcome(text, number, block.name.as_ref(), self.0.outputs())
+        push_outcome(text, number, block.name.as_ref(), words)
     }
 
     fn push_ending(_text: &mut Vec<u8>, _found: &[()]) -> Result<(), NoMemory> {

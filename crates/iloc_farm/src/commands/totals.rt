@@ -2,7 +2,8 @@
 ghost use Rattle.std.specs.Prelude.{◌≡◌, ◌≤◌, ◌++◌, length, OnOk};
 ghost use Rattle.std.specs.List.{All};
 ghost use Rattle.iloc_ops.specs.Limits.{MAX_BLOCKS};
-ghost use Rattle.iloc_farm.specs.Steps.Checking.{IsSmall, totals_of, totals_text};
+ghost use Rattle.iloc_farm.specs.Commands.Check as said;
+ghost use Rattle.iloc_farm.specs.Steps.Checking.{IsSmall, sought_text, totals_of, totals_text};
 
 use iloc_judge::Checked;
 use iloc_ops::{NoMemory, push_number};
@@ -14,8 +15,32 @@ pub(crate) struct Totals {
     pub cycles: u64,
     /// The cycles of our schedules together.
     pub ours: u64,
+    /// Those of the best schedules together that a search finds.
+    pub best: u64,
+    /// The bounds together that it proves.
+    pub bound: u64,
     /// The least cycles together.
     pub least: u64,
+}
+
+/// The cycles of the best schedule that a search finds, if there is one.
+fn best_of(checked: &Checked) -> u32
+    ensures { result ≡ said.best_of checked.now }
+{
+    match &checked.sought {
+        Some(sought) => sought.best,
+        None => 0,
+    }
+}
+
+/// The bound that it proves.
+fn bound_of(checked: &Checked) -> u32
+    ensures { result ≡ said.bound_of checked.now }
+{
+    match &checked.sought {
+        Some(sought) => sought.bound,
+        None => 0,
+    }
 }
 
 impl Totals {
@@ -28,24 +53,42 @@ impl Totals {
         let mut totals = Totals {
             cycles: 0,
             ours: 0,
+            best: 0,
+            bound: 0,
             least: 0,
         };
         for checked in found {
             totals.cycles += checked.cycles;
             totals.ours += checked.ours;
+            totals.best += u64::from(best_of(checked));
+            totals.bound += u64::from(bound_of(checked));
             totals.least += checked.least;
         }
         totals
     }
 
-    /// Appends `total C ours O least L`.
-    pub(crate) fn push_line(self, text: &mut Vec<u8>) -> Result<(), NoMemory>
-        ensures { OnOk result (text.new.items ≡ text.old.items ++ totals_text self) }
+    /// Appends ` best C bound B`, where a search has nodes.
+    fn push_sought(self, text: &mut Vec<u8>, nodes: Option<u32>) -> Result<(), NoMemory>
+        ensures { OnOk result (text.new.items ≡ text.old.items ++ sought_text nodes self) }
+    {
+        if nodes.is_some() {
+            text.extend_from_slice(b" best ")?;
+            push_number(text, self.best)?;
+            text.extend_from_slice(b" bound ")?;
+            push_number(text, self.bound)?;
+        }
+        Ok(())
+    }
+
+    /// Appends `total C ours O least L`, with what was sought before the least.
+    pub(crate) fn push_line(self, text: &mut Vec<u8>, nodes: Option<u32>) -> Result<(), NoMemory>
+        ensures { OnOk result (text.new.items ≡ text.old.items ++ totals_text nodes self) }
     {
         text.extend_from_slice(b"total ")?;
         push_number(text, self.cycles)?;
         text.extend_from_slice(b" ours ")?;
         push_number(text, self.ours)?;
+        self.push_sought(text, nodes)?;
         text.extend_from_slice(b" least ")?;
         push_number(text, self.least)?;
         text.push(b'\n')?;

@@ -1,10 +1,10 @@
 -- Two runs whose terms agree have the same outcome, or show the same.
 use Rattle.std.proofs.Common.{◌≡◌, ◌<◌, ℕ, ◌*◌, Bool, true, false, List, length, map, IsTrue, ℤ, pos, arith, refl, sym, ap, ◌∙◌, inl, inr}
-use Rattle.std.proofs.lemmas.Bool.Decides.{nat_tests}
 use Rattle.std.proofs.lemmas.List.FromFn.{get_or-map-range_with_len, length-map-range_with_len, fill_by_all}
 use Rattle.iloc_meaning.specs.Address.{is_good}
 use Rattle.iloc_meaning.specs.Memory.{WORDS, with_words}
 use Rattle.iloc_meaning.specs.Outcome.{has_fault, emitted}
+use Rattle.iloc_meaning.proofs.MemoryWords.{good_word}
 use Rattle.iloc_timed.specs.Timed.{Issued, word_in, executed_in, timed_outcome_of}
 use Rattle.iloc_judge.specs.declared.symbols.Symbols.{Symbols}
 use Rattle.iloc_judge.specs.Difference.{AreAlike}
@@ -12,9 +12,6 @@ use Rattle.iloc_judge.specs.Steps.Terms.{Meaning}
 use Rattle.iloc_judge.specs.Steps.Symbols.{some_bad}
 use Rattle.iloc_judge.specs.Steps.Tracking.{Stands, Ends}
 use Rattle.iloc_judge.specs.Steps.Agreement.{AreSame}
-
-good_word : (k : ℕ) → k < WORDS → is_good (pos (4 * k)) ≡ true
-good_word k within = grind (arith, nat_tests)
 
 -- memories with the same words at good addresses
 same_words : (memory : List ℤ) (word other : ℕ → ℤ) → length memory ≡ WORDS

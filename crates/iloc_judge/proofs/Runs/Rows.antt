@@ -1,11 +1,10 @@
 -- Rows in terms, and the run of a schedule from its start to its end.
-use Rattle.std.proofs.Common.{◌≡◌, ◌<◌, ◌≤◌, ℕ, ◌+◌, true, false, List, [], ◌∷◌, length, get_or, Option, Some, option_to_list, Result, Ok, Err, OnOk, IfSome, ℤ, arith, refl, sym, ap, ◌∙◌, subst, inl, inr}
-use Rattle.std.proofs.lemmas.Bool.{or_from}
+use Rattle.std.proofs.Common.{◌≡◌, ◌<◌, ◌≤◌, ℕ, ◌+◌, true, false, List, length, get_or, Option, Some, option_to_list, Result, Ok, Err, OnOk, IfSome, ℤ, arith, sym, ap, ◌∙◌, subst, inl, inr}
 use Rattle.std.proofs.lemmas.List.{get_or_default}
 use Rattle.iloc_ops.specs.declared.op.Op.{Op}
 use Rattle.iloc_ops.specs.declared.op.Op.TheVariants.{Nop}
 use Rattle.iloc_meaning.specs.Trace.{op_at}
-use Rattle.iloc_meaning.specs.Outcome.{is_fault, has_fault}
+use Rattle.iloc_meaning.specs.Outcome.{has_fault}
 use Rattle.iloc_timed.specs.declared.latencies.Latencies.{Latencies}
 use Rattle.iloc_timed.specs.declared.row.Row.{Row}
 use Rattle.iloc_timed.specs.Latency.{latency, IsLatency}
@@ -13,7 +12,7 @@ use Rattle.iloc_timed.specs.Rows.{row_at, slots}
 use Rattle.iloc_timed.specs.Timed.{Issued, word_in, issue_all, issued_before, executed_in}
 use Rattle.iloc_timed.specs.Steps.Machine.{AllLand, then_issued}
 use Rattle.iloc_timed.proofs.Landing.{landed_all}
-use Rattle.iloc_timed.proofs.WholeRuns.{slot_issued, row_more}
+use Rattle.iloc_timed.proofs.WholeRuns.{slot_issued, row_more, no_fault}
 use Rattle.iloc_judge.specs.declared.symbols.Symbols.{Symbols}
 use Rattle.iloc_judge.specs.Steps.Terms.{Meaning}
 use Rattle.iloc_judge.specs.Steps.Tracking.{Tracks, Keeps, Stands, Ends}
@@ -49,12 +48,6 @@ pub keeps_more : (lat : Latencies) (memory : List ℤ) (d : Meaning) (ops : List
     → Keeps memory d (c + 1) (issued_before lat memory ops rows (c + 1)) new
 keeps_more lat memory d ops rows c new keeps =
     subst (λ l. Keeps memory d (c + 1) l new) (row_more lat memory ops rows c) keeps
-
--- what lands hasn't faulted
-no_fault : (c : ℕ) (log : List Issued) → AllLand c log → has_fault (executed_in log) ≡ false
-no_fault c [] all = refl
-no_fault c (e ∷ earlier) all = or_from (is_fault e.executed.effect) (has_fault (executed_in earlier)) all.1.no_fault
-    (no_fault c earlier all.2)
 
 -- all has landed
 stands : (memory : List ℤ) (d : Meaning) (n : ℕ) (log : List Issued) (it : Symbols) → AllLand n log

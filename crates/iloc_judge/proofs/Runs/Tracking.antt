@@ -18,9 +18,10 @@ use Rattle.iloc_timed.specs.Timed.{Issued, register_in, word_in, executed_in}
 use Rattle.iloc_timed.specs.Steps.Pending.{sent_by, landed_in_register, landed_in_word}
 use Rattle.iloc_timed.specs.Wheel.{list_at}
 use Rattle.iloc_timed.specs.Steps.Wheel.{due_at, AreUnderWay}
-use Rattle.iloc_timed.specs.Steps.Machine.{landed, AllLand, then_issued}
+use Rattle.iloc_timed.specs.Steps.Machine.{landed, then_issued}
 use Rattle.iloc_timed.proofs.Turning.{cleared, pushed, not_pushed}
 use Rattle.iloc_timed.proofs.Landing.{register_more, word_more, landed-later}
+use Rattle.iloc_timed.proofs.Following.{all_land_later}
 use Rattle.iloc_judge.specs.declared.symbols.registers.TermRegisters.{TermRegisters}
 use Rattle.iloc_judge.specs.declared.symbols.sent.Sent.{Sent}
 use Rattle.iloc_judge.specs.declared.symbols.sent.Sent.TheVariants as S
@@ -40,10 +41,6 @@ lists_meant d lists c count =
 
 length_meant : (d : Meaning) (lists : List (List Sent)) → length (map (map (meant d)) lists) ≡ length lists
 length_meant d lists = length-map lists (map (meant d))
-
-all_land_later : (c d : ℕ) (log : List Issued) → c ≤ d → AllLand c log → AllLand d log
-all_land_later c d [] later all = tt
-all_land_later c d (e ∷ earlier) later all = (omega (arith, all.0), all.1, all_land_later c d earlier later all.2)
 
 -- what is due at cycle c has landed
 pub keeps_landing : (memory : List ℤ) (d : Meaning) (c : ℕ) (log : List Issued) (it : Symbols) (registers : TermRegisters)

@@ -58,7 +58,7 @@ impl UnitRule {
     }
 
     /// What a row has that breaks the rule.
-    fn words(self) -> &'static [u8]
+    pub(crate) fn words(self) -> &'static [u8]
         ensures { result.now ≡ rule_words self }
     {
         match self {
@@ -72,7 +72,7 @@ impl UnitRule {
 }
 
 /// The first rule that a row breaks.
-fn broken_rule(ops: &[Op], row: &Row) -> Option<UnitRule>
+pub(crate) fn broken_rule(ops: &[Op], row: &Row) -> Option<UnitRule>
     ensures { result ≡ broken_rule ops.now row.now }
 {
     let (zero, one) = (kind_in(ops, row.zero), kind_in(ops, row.one));

@@ -32,11 +32,7 @@ fn push_void(text: &mut Vec<u8>, why: &Void) -> Result<(), NoMemory>
 }
 
 /// Appends what came and what was wanted, and the end of their object.
-fn push_both(
-    text: &mut Vec<u8>,
-    got: Option<i32>,
-    wanted: Option<i32>,
-) -> Result<(), NoMemory>
+fn push_both(text: &mut Vec<u8>, got: Option<i32>, wanted: Option<i32>) -> Result<(), NoMemory>
     ensures { OnOk result (text.new.items ≡ text.old.items ++ json.both_members got wanted) }
 {
     push_word_member(text, "got", got)?;
@@ -160,10 +156,7 @@ fn push_memory_member(text: &mut Vec<u8>, probe: &Probe) -> Result<(), NoMemory>
 }
 
 /// Appends how rows compare with their block.
-pub(crate) fn push_comparison(
-    text: &mut Vec<u8>,
-    comparison: &Comparison,
-) -> Result<(), NoMemory>
+pub(crate) fn push_comparison(text: &mut Vec<u8>, comparison: &Comparison) -> Result<(), NoMemory>
     requires { CanBeCompared comparison.now }
     ensures { OnOk result (text.new.items ≡ text.old.items ++ json.comparison_members comparison.now) }
 {

@@ -44,12 +44,7 @@ fn push_results(text: &mut Vec<u8>, from: Issue, lost: Option<Issue>) -> Result<
 }
 
 /// Appends that an operation reads a register.
-fn push_reads(
-    text: &mut Vec<u8>,
-    kind: &str,
-    issue: Issue,
-    register: Reg,
-) -> Result<(), NoMemory>
+fn push_reads(text: &mut Vec<u8>, kind: &str, issue: Issue, register: Reg) -> Result<(), NoMemory>
     ensures { OnOk result
         (text.new.items ≡ text.old.items ++ json.reads_members kind.now issue register) }
 {

@@ -102,11 +102,7 @@ pub(crate) fn push_op_member(text: &mut Vec<u8>, name: &str, op: &Op) -> Result<
 }
 
 /// Appends a member that is a text.
-pub(crate) fn push_text_member(
-    text: &mut Vec<u8>,
-    name: &str,
-    bytes: &[u8],
-) -> Result<(), NoMemory>
+pub(crate) fn push_text_member(text: &mut Vec<u8>, name: &str, bytes: &[u8]) -> Result<(), NoMemory>
     ensures { OnOk result (text.new.items ≡ text.old.items ++ json.text_member name.now bytes.now) }
 {
     push_key(text, name)?;

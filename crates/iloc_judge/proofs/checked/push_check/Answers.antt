@@ -14,8 +14,8 @@ push_entry-requires c =
     c.into_schedule-theirs.result.ops c.into_schedule-theirs.result.rows c.in_ok-verdict.verdict task.few c.rows-rows.ensures.few
     c.in_ok-verdict.ensures.right)
 
-pub returns : goal.returns
-returns c =
+pub returns-clause-entry : goal.returns-clause-entry
+returns-clause-entry c =
     let p = c.args.proposal in
     let task = c.args.task.now in
     let options = c.args.judging.now.options in
@@ -27,6 +27,7 @@ returns c =
       keeps_operations = c.in_ok-keeps_operations.keeps_operations;
       cycles = c.cycles.result;
       ours = c.cycles-2.result;
+      sought = c.args.task.now.sought;
       least = c.in_ok-least.field-0;
     } in (
       entry_as options.lawful options.form p.claimed p.ops p.rows c.in_ok-verdict.verdict checked,

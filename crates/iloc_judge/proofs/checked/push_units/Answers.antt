@@ -14,8 +14,8 @@ cycles_of-requires-clause-numbered c =
     rw (c.ops-ops.ensures, c.rows-rows.ensures.rows)
     (numbered_from c.args.proposal.now.ops c.args.proposal.now.rows c.rows-rows.ensures.in_range c.rows-rows.ensures.once)
 
-pub returns : goal.returns
-returns c =
+pub returns-clause-entry : goal.returns-clause-entry
+returns-clause-entry c =
     let p = c.args.proposal.now in
     let task = c.args.task.now in
     let options = c.args.judging.now.options in
@@ -25,6 +25,7 @@ returns c =
       keeps_operations = c.args.keeps_operations;
       cycles = c.cycles_of.result;
       ours = c.cycles.result;
+      sought = c.args.task.now.sought;
       least = c.in_ok-least.field-0;
     } in (
       entry_as options.lawful options.form p.claimed p.ops p.rows (Units c.args.row) checked,

@@ -12,8 +12,8 @@ cycles_of-requires-clause-numbered c =
     rw (c.ops-ops.ensures, c.rows-rows.ensures.rows)
     (numbered_from c.args.proposal.now.ops c.args.proposal.now.rows c.rows-rows.ensures.in_range c.rows-rows.ensures.once)
 
-pub returns : goal.returns
-returns c =
+pub returns-clause-entry : goal.returns-clause-entry
+returns-clause-entry c =
     let p = c.args.proposal.now in
     let bound = c.in_ok-least.ensures ∙ ap (λ (g : GraphOf). least_of g.latencies g.ops) c.args.task.now.drawn in
     let checked : Checked = record {
@@ -21,6 +21,7 @@ returns c =
       keeps_operations = false;
       cycles = c.cycles_of.result;
       ours = c.cycles.result;
+      sought = c.args.task.now.sought;
       least = c.in_ok-least.field-0;
     } in
     let words = c.in_ok-words.words.items in (
@@ -31,7 +32,7 @@ returns c =
         is_found =
             rw (c.cycles_of.ensures, c.ops-ops.ensures, c.rows-rows.ensures.rows, c.cycles.ensures, bound) refl;
         words = words;
-        are_words = c.in_ok-words.ensures;
+        are_words = rw c.as_bytes.ensures at c.in_ok-words.ensures;
         listed = refl;
       },
       rw (c.deref.ensures.value, c.claimed-claimed.ensures) at c.in_ok-push_unread_as.ensures,
