@@ -15,10 +15,10 @@ PRIORITIES = "chain slack descendants successors latency order"
 COMPLETIONS = (
     (["s"], "simulate schedule"),
     (["--v"], "--version"),
-    (["run", "--"], "--at --help"),
+    (["run", "--"], "--at --where --help"),
     (["counts", "--load", ""], ""),
     (["counts", "--load", "1", "--m"], "--mult"),
-    (["check", "--"], "--at --load --store --mult --task --either-slot --lawful --operations --outputs --csv --json --help"),
+    (["check", "--"], "--at --load --store --mult --nodes --task --either-slot --lawful --operations --outputs --csv --json --help"),
     (["help", "c"], "counts compare check"),
     (["counts", "--priority", ""], PRIORITIES),
     (["schedule", "--load", "1", "--priority", "s"], "slack successors"),

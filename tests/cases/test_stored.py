@@ -8,7 +8,7 @@ TAG).
 
 From these follow more cases, since a rule of the program says so:
 - NAME/spaced has blanks round each line end and no last line end, which change no answer;
-- what `run` prints, `simulate` prints, whatever the latencies;
+- what `run` prints without `--where`, `simulate` prints, whatever the latencies;
 - a text that is refused is refused by every command alike;
 - what `schedule`, `counts`, `compare` and `optimize` print doesn't depend on the number of workers.
 """
@@ -71,8 +71,8 @@ def spelled_twice(case):
 
 
 def as_simulated(case):
-    asks_for_help = {"-h", "--help"} & set(case.words)
-    if case.words[:1] == ["run"] and case.status == 0 and not asks_for_help:
+    is_of_run_alone = {"-h", "--help", "--where"} & set(case.words)
+    if case.words[:1] == ["run"] and case.status == 0 and not is_of_run_alone:
         yield again(case, "simulated", ["simulate", *case.words[1:]])
         slow = ["simulate", *case.words[1:], "--load", "16", "--store", "1", "--mult", "16"]
         yield again(case, "simulated_slowly", slow)

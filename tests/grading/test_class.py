@@ -65,16 +65,17 @@ class Class(Graded):
 
     def test_pages(self):
         """Each drawn hand-in that is traced has the page that charts/page makes of its listings, and a link to it."""
-        self.call("ilocgrade", BOTH, "examples/class/submissions", "--check=--load=4")
-        report = self.text("grades/report.html")
-        for name in "ben", "eve":
-            rows, of_rows = self.read(f"examples/class/submissions/{name}/both.rows"), ("--task", f"{BOTH}/both.iloc", "3", "4")
-            listings = [self.call("ilocfarm", "graph", "--load", "4", given=self.read(f"{BOTH}/both.iloc"))[1]]
-            listings += [self.call("ilocfarm", it, "--load", "4", *of_rows, given=rows)[1] for it in ("trace", "check")]
-            self.expect(f"{name}'s page", self.read(f"grades/feedback/{name}/both.html"), self.call("charts/page", given=b"".join(listings))[1])
-            self.expect(f"{name}'s link", f'href="feedback/{name}/both.html"' in report, True)
-        for name in "ada", "cem", "gus":        # passes, breaks the rules of the units, can't be read
-            self.expect(f"{name}'s page", os.path.exists(self.path(f"grades/feedback/{name}/both.html")), False)
+        for words in (), ("--load=6",):
+            self.call("ilocgrade", BOTH, "examples/class/submissions", *(f"--check={it}" for it in words))
+            for name in "ben", "eve":
+                page = f"feedback/{name}/both.html"
+                rows, of_rows = self.read(f"examples/class/submissions/{name}/both.rows"), ("--task", f"{BOTH}/both.iloc", "3", "4")
+                listings = [self.call("ilocfarm", "graph", *words, given=self.read(f"{BOTH}/both.iloc"))[1]]
+                listings += [self.call("ilocfarm", it, *words, *of_rows, given=rows)[1] for it in ("trace", "check")]
+                self.expect(f"{name}'s page", self.read(f"grades/{page}"), self.call("charts/page", given=b"".join(listings))[1])
+                self.expect(f"{name}'s link", f'href="{page}"' in self.text("grades/report.html"), True)
+            for name in ("cem", "gus") if words else ("ada", "cem", "gus"):     # with --load=6 hers is wrong too
+                self.expect(f"{name}'s page", os.path.exists(self.path(f"grades/feedback/{name}/both.html")), False)
 
     def test_statuses(self):
         """A student's fault is none of the command's; what isn't graded is said in a line."""

@@ -10,13 +10,14 @@ TWICE = "loadI 2 => r1\nloadI 4 => r2\nstore r1 => r2\n"
 # A block and rows that are exchanged, the first that has to be, and the cycles of both.
 EXCHANGED = {
     "one_operation": (SQUARE, "[ loadI 4 => r1 ]\n[ ; load r1 => r2 ]\n" + "[]\n" * 4 + "[ mult r2, r2 => r3 ; nop ]\n[]\n[]\n"
-                      "[ nop ; store r3 => r1 ]\n", "row 1: [ nop ; load r1 => r2 ]", 14),
+                      "[ nop ; store r3 => r1 ]\n", "row 1: [ nop ; load r1 => r2 ]: a load or store on unit 1", 14),
     "two_operations": (PRODUCT, "[ loadI 4 => r1 ]\n[ mult r1, r1 => r3 ; load r1 => r2 ]\n[]\n[]\n[ ; store r3 => r1 ]\n",
-                       "row 1: [ mult r1, r1 => r3 ; load r1 => r2 ]", 9),
+                       "row 1: [ mult r1, r1 => r3 ; load r1 => r2 ]: a product on unit 0", 9),
 }
-# Rows that break the rules of the units in either order are shown as they are written.
-LEFT = ["[ load r1 => r2 ; store r3 => r4 ]", "[ mult r1, r1 => r2 ; multI r1, 3 => r3 ]", "[ output 4 ; output 8 ]",
-        "[ nop ; load r1 => r2 ]\n[ store r1 => r2 ; loadAI r1, 4 => r2 ]"]
+# Rows that break the rules of the units in either order are shown as they are written, each with the rule.
+LEFT = {"[ load r1 => r2 ; store r3 => r4 ]": "two loads or stores", "[ mult r1, r1 => r2 ; multI r1, 3 => r3 ]": "two products",
+        "[ output 4 ; output 8 ]": "two outputs",
+        "[ nop ; load r1 => r2 ]\n[ store r1 => r2 ; loadAI r1, 4 => r2 ]": "two loads or stores"}
 
 
 def either_cases():
@@ -29,18 +30,18 @@ def either_cases():
     kept = TWICE + "[ loadI 1 => r1 ; loadI 2 => r1 ]\n[ loadI 4 => r2 ]\n[ store r1 => r2 ]\n"
     yield case("kept", ["--either-slot"], kept, "block 1 - same cycles 7 ours 6 least 6\n  added 1: row 0: loadI 1 => r1\n"
                "  row 0: loadI 1 => r1 like none of the block\ntotal 7 ours 6 least 6\n", 0)
-    for rows in LEFT:
+    for rows, rule in LEFT.items():
         last = rows.rsplit("\n", 1)[-1]
-        yield units(rows, rows.count("\n"), last)
+        yield units(rows, rows.count("\n"), last, rule)
 
 
 def case(name, words, text, out, status):
     return Run(f"either_slot/{name}", ["check", *words], text.encode(), out.encode(), b"", status)
 
 
-def units(rows, number, bad):
+def units(rows, number, bad, rule):
     cycles = number + (3 if "mult" in bad else 1 if "output" in bad else 5)
-    out = f"block 1 - units cycles {cycles} ours 0 least 0\n  row {number}: {bad}\ntotal {cycles} ours 0 least 0\n"
+    out = f"block 1 - units cycles {cycles} ours 0 least 0\n  row {number}: {bad}: {rule}\ntotal {cycles} ours 0 least 0\n"
     return case(f"left: {bad}", ["--either-slot"], f"nop\n{rows}\n", out, NOT_SAME)
 
 

@@ -12,7 +12,7 @@ from oracle.operations import text_of
 
 PASSED, FAILED = 0, 5
 UNLAWFUL = b"  not lawful"
-REASON = re.compile(rb"  (?:left out|added|see|and|row) ")
+REASON = re.compile(rb"  (?:left out|added|see|and|line|row) ")
 PATH = re.compile(rb"[+=~](\d+)")
 
 

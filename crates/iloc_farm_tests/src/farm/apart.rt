@@ -54,7 +54,7 @@ const CASES: &[Case] = &[
         Err(RunFault::Task(TaskFault::Text(RowsFault::NoBlocks))),
         0,
     ),
-    // A line of rows is none of a task, and one of a task is none of rows.
+    // A line of rows is none of a task. One of a task is an unread one among rows, which costs its block.
     (
         (Ok(b"output 4\n[ output 4 ; nop ]\n"), None),
         (ROWS, None),
@@ -64,7 +64,13 @@ const CASES: &[Case] = &[
     (
         (Ok(TASK), None),
         (b"// mine\noutput 1\n[ output 1 ; nop ]\n", None),
-        Err(RunFault::Rows(BAD_LINE)),
+        Ok(Finding::Failed),
+        2,
+    ),
+    (
+        (Ok(TASK), None),
+        (b"// mine\nblock 2 -\n", None),
+        Err(RunFault::Rows(RowsFault::NoSuchBlock(2))),
         2,
     ),
     (

@@ -162,6 +162,7 @@ total 6
 ";
 
 const CHECKED: &[u8] = b"block 1 - void cycles 0 ours 1 least 1
+  no rows
   the block shows nothing
   left out 1: loadI 4 => r1
 block 2 B same cycles 1 ours 1 least 1 claimed 7
@@ -202,9 +203,9 @@ block 2 B
 ";
 
 const CHECKED_APART: &[u8] = b"block 1 A units cycles 1 ours 1 least 1
-  row 0: [ output 4 ; output 4 ]
+  row 0: [ output 4 ; output 4 ]: two outputs
 block 2 B units cycles 5 ours 6 least 6
-  row 0: [ nop ; load r1 => r2 ]
+  row 0: [ nop ; load r1 => r2 ]: a load or store on unit 1
 total 6 ours 7 least 7
 ";
 
