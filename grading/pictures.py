@@ -1,6 +1,5 @@
 """Pictures of hand-ins, and pages of what they do on the machine, by the charts beside this folder."""
 import os
-import subprocess
 import sys
 
 import judge
@@ -15,6 +14,7 @@ sys.path.append(CHARTS)
 try:
     import lanes
     import listing
+    import stepper
     import svg
 except ImportError:     # a course that copies this folder alone has no pictures
     lanes = None
@@ -65,7 +65,6 @@ class Pictures:
             listings = [judge.call(asked, given)[1] for asked, given in (
                 (["graph", *latencies], mark.task.path.read_bytes()),
                 (["trace", *traced, *of_rows], mark.rows), (["check", *self.check, *of_rows], mark.rows))]
-            done = subprocess.run([f"{CHARTS}/page"], input=b"".join(listings), capture_output=True, timeout=judge.SECONDS, check=False)
-        except (judge.NoAnswer, OSError, subprocess.TimeoutExpired):
+            return stepper.drawn(b"".join(listings).decode("utf-8", "replace").removesuffix("\n").split("\n")).encode()
+        except (judge.NoAnswer, OSError, svg.Unread):
             return None
-        return done.stdout if done.returncode == 0 else None

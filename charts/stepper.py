@@ -1,0 +1,75 @@
+"""The page on which a reader steps through what the timed machine does, of listings of blocks."""
+import base64
+import hashlib
+import os
+import re
+from html import escape
+
+from forms import kind_of
+from lanes import HEIGHT, TOP, Chart
+from layers import Drawing
+from listing import COLOURS
+from traced import read_traces
+
+MOST = 60           # operations of a graph that is drawn
+PARTS = os.path.join(os.path.dirname(os.path.realpath(__file__)), "steps")
+
+
+def part(name):
+    with open(os.path.join(PARTS, name), encoding="utf-8") as file:
+        return file.read()
+
+
+def source_of(block):
+    """The block's operations, each marked by where it is issued; where they aren't known, those that are issued."""
+    if block.source:
+        places = {it.number: f"{it.cycle}.{it.unit}" for it in block.operations}
+        lines = sorted(block.source.items())
+    else:
+        places = {k: f"{it.cycle}.{it.unit}" for k, it in enumerate(block.operations)}
+        lines = [(k, it.spelling) for k, it in enumerate(block.operations)]
+    return "".join(f'<li value="{k}" data-op="{places.get(k, "")}">{escape(it)}</li>' for k, it in lines)
+
+
+def drawing_of(block):
+    """The dependence graph; edges for which rows come too early stand out."""
+    cycles = {it.number: it.cycle for it in block.operations}
+    early = {(i, j) for i, j, d in block.edges
+             if block.is_wrong() and i in cycles and j in cycles and cycles[j] < cycles[i] + d}
+    opcodes = [block.source[k].split()[0] for k in range(len(block.source))]
+    kinds = [kind_of(it) if kind_of(it) in COLOURS else "other" for it in opcodes]
+    places = {it.number: f"{it.cycle}.{it.unit}" for it in block.operations}
+    drawing = Drawing([f"{k} {it}" for k, it in enumerate(opcodes)], block.edges)
+    return drawing.picture(f"dependence graph of block {block.number}", kinds, places, block.chain, early)
+
+
+def graph_of(block):
+    if not block.edges:
+        return ""
+    if len(block.source) > MOST:
+        return f"<p>Its graph isn't drawn: it has more than {MOST} operations.</p>"
+    return ('<div class="panel graph"><h2>What waits for what</h2><div class="scroll" tabindex="0" role="group" '
+            f'aria-label="the graph">{drawing_of(block)}</div></div>')
+
+
+def said_of(block):
+    """What `check` says, in which a row leads to its cycle."""
+    lines = (re.sub(r"\brow (\d+)", rf'<a href="#{block.number}.\1">\g<0></a>', escape(it)) for it in block.said)
+    return "".join(f"<li>{it}</li>" for it in lines)
+
+
+def section(block):
+    chart = Chart(block, block.shown)
+    return part("section.html").format(
+        number=block.number, title=escape(chart.title()), said=said_of(block), judged="wrong" if block.is_wrong() else "",
+        last=block.last(), top=TOP, height=HEIGHT, source=source_of(block), timeline=chart.picture(),
+        graph=graph_of(block), trace=escape("\n".join(block.trace)))
+
+
+def drawn(lines):
+    blocks, script = read_traces(lines), part("script.js")
+    links = " ".join(f'<a href="#{it.number}.0">{it.number} {escape(it.name)}</a>' for it in blocks)
+    digest = base64.b64encode(hashlib.sha256(script.encode()).digest()).decode()
+    return part("page.html").format(digest=digest, style=part("style.css"), script=script,
+                                    links=f"<nav>{links}</nav>" if len(blocks) > 1 else "",
+                                    sections="".join(map(section, blocks)))
