@@ -1,0 +1,29 @@
+use Rattle.std.proofs.Common.{◌≡◌, ◌+◌, ◌*◌, ◌%◌, ◌≤◌, ◌∙◌, true, length, arith, w64}
+use Rattle.std.specs.Int.{trailing_zeros}
+use Rattle.iloc_sched.proofs.Ranks.WordBits.{cleared_less, clear_same, clear_other}
+use Rattle.iloc_sched.proofs.Ranks.Firsts.{low_set, low_one, found_here, next_search}
+use Rattle.iloc_sched.proofs.cycle.words.first_of_block.Goals as goal
+
+pub first_of_word-requires-clause-there : goal.first_of_word-requires-clause-there
+first_of_word-requires-clause-there c =
+    let low = trailing_zeros w64 c.loop-left.left % 64 in
+    c.requires.there low (omega arith)
+    (c.loop-left.invariant.within low (omega arith) (low_set c.loop-left.left (omega arith) c.loop-left-test.true))
+
+pub returns-in-Some : goal.returns-in-Some
+returns-in-Some c =
+    found_here c.args.words.now c.args.beside c.args.block c.args.some c.loop-left.left c.loop-left.invariant (omega arith)
+    c.loop-left-test.true c.in-Some.rank c.in-Some.ensures
+
+pub loop-left-smaller : goal.loop-left-smaller
+loop-left-smaller c =
+    cleared_less c.loop-left.left (trailing_zeros w64 c.loop-left.left % 64) (omega arith)
+    (low_one c.loop-left.left (omega arith) c.loop-left-test.true)
+
+pub loop-left-preserved : goal.loop-left-preserved
+loop-left-preserved c =
+    let left = c.loop-left.left in
+    let low = trailing_zeros w64 left % 64 in
+    next_search c.args.words.now c.args.beside c.args.block c.args.some left c.loop-left.invariant (omega arith)
+    c.loop-left-test.true _ c.in_default.ensures (clear_same left low (omega arith) true ∙ omega arith)
+    (λ i within apart. clear_other left low (omega arith) true i within apart)
