@@ -1,22 +1,19 @@
 -- The tables and the calendar after a choice was issued, or released; for `Waiting::issue_first`, `release`.
-use Rattle.std.proofs.Common.{◌≡◌, ◌≢◌, ℕ, ◌+◌, ◌%◌, ◌<◌, ◌≤◌, ◌&&◌, not, Bool, true, false, List, length, set, get_or, Option, Some, None, refl, sym, ◌∙◌, ap, subst, arith}
+use Rattle.std.proofs.Common.{◌≡◌, ◌≢◌, ℕ, ◌+◌, ◌%◌, ◌<◌, not, true, false, List, length, set, get_or, Option, Some, None, refl, sym, ◌∙◌, ap, subst, arith}
 use Rattle.std.proofs.lemmas.Bool.{false≢true, and_parts}
 use Rattle.std.proofs.lemmas.List.{get_or-set_same, get_or-set_other}
-use Rattle.iloc_sched.specs.declared.cycle.Choice.{Choice}
 use Rattle.iloc_sched.specs.declared.cycle.calendar.Calendar.{Calendar}
 use Rattle.iloc_sched.specs.declared.cycle.class.Class.{Class}
 use Rattle.iloc_sched.specs.declared.cycle.plan.Plan.{Plan}
-use Rattle.iloc_sched.specs.declared.cycle.waiting.OperationState.{OperationState}
 use Rattle.iloc_sched.specs.declared.cycle.waiting.Waiting.{Waiting}
-use Rattle.iloc_sched.specs.Steps.Calendar.{has, offers, IsFirst, Puts, KeepsRoom, Releases}
+use Rattle.iloc_sched.specs.Steps.Calendar.{has, offers, HasSameSets, IsFirst, Puts, KeepsRoom, Releases}
 use Rattle.iloc_sched.specs.Steps.Classes.{place_of}
-use Rattle.iloc_sched.specs.Steps.Graph.{IsGraph}
 use Rattle.iloc_sched.specs.Steps.Progress.{Waits, CanIssue, KeepsPlaces}
-use Rattle.iloc_sched.specs.Steps.Views.{graph_of, issued_list, progress_with, progress_of, bucket_of, IsSized}
-use Rattle.iloc_sched.specs.Steps.SoFar.{class_at, rank_of, IsRanked, IsPlan, IsCalendar, IsQueued, IsUnderWay, IsBest, Issues}
+use Rattle.iloc_sched.specs.Steps.Views.{graph_of, issued_list, progress_of, bucket_of, IsSized}
+use Rattle.iloc_sched.specs.Steps.SoFar.{class_at, rank_of, IsRanked, IsPlan, IsCalendar, IsUnderWay, IsBest, Issues}
 use Rattle.iloc_sched.proofs.Basics.Cases.{by_lt}
 use Rattle.iloc_sched.proofs.Choice.EnteringReady.{queued_with_due, queued_after}
-use Rattle.iloc_sched.proofs.Ranks.Calendars.{ranks_apart, calendar_put, calendar_released}
+use Rattle.iloc_sched.proofs.Ranks.Calendars.{ranks_apart, same_has, same_room, room_kept, calendar_put, calendar_released}
 use Rattle.iloc_sched.proofs.Walking.TableReads.{issued_size}
 use Rattle.iloc_sched.proofs.Walking.BucketOfCycle.{empties, same_buckets}
 
@@ -39,6 +36,30 @@ released p w k' c plan under releases keeps = record {
       (λ b j small apart. releases.others b (rank_of p j) (omega arith) (λ same. absurd (omega arith)) apart);
   queued = queued_with_due p.ranks.now (graph_of p.tables.now.edges) (progress_of p.ranks.now w) c w.calendar k' (bucket_of p.ranks.now k')
       plan.graph.is_graph (λ j. refl) under.waits under.queued releases;
+}
+
+-- the calendar has the same sets
+pub same_under_way : (p : Plan) (w : Waiting) (k : Calendar) (f : ℕ) → HasSameSets w.calendar k → IsUnderWay p w f
+    → IsUnderWay p (record { states = w.states; calendar = k }) f
+same_under_way p w k f same under = record {
+  sized = under.sized;
+  calendar = record {
+    room = room_kept w.calendar k (length p.tables.now.ops.items) (same_room w.calendar k same) under.calendar.room;
+    ranked = λ s r low held. under.calendar.ranked s r low (sym (same_has w.calendar k same s r) ∙ held);
+    kept = record {
+      each = λ class j low. same_has w.calendar k same (33 + place_of class) (rank_of p j) ∙ under.calendar.kept.each class j low;
+      only = λ class r held. under.calendar.kept.only class r (sym (same_has w.calendar k same (33 + place_of class) r) ∙ held);
+    };
+  };
+  waits = same_buckets (graph_of p.tables.now.edges) (progress_of p.ranks.now w) f 0 None (bucket_of p.ranks.now k) under.waits
+      (λ b j small. same_has w.calendar k same b (rank_of p j));
+  queued = record {
+    ready = λ j can. same_has w.calendar k same 32 (rank_of p j)
+        ∙ under.queued.ready j (record { there = can.there; waiting = can.waiting; past_all = can.past_all; soon = can.soon });
+    only = λ j low held.
+        let can = under.queued.only j low (sym (same_has w.calendar k same 32 (rank_of p j)) ∙ held) in
+        record { there = can.there; waiting = can.waiting; past_all = can.past_all; soon = can.soon };
+  };
 }
 
 -- the first rank that is offered is that of the best operation

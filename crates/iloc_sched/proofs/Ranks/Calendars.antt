@@ -1,13 +1,14 @@
 -- The calendar of a plan, as ranks are put into it, released and taken.
-use Rattle.std.proofs.Common.{◌≡◌, ◌≢◌, ℕ, ◌+◌, ◌*◌, ◌/◌, ◌<◌, ◌≤◌, ◌⊎◌, ◌||◌, Bool, true, false, length, get_or, inl, inr, refl, sym, ◌∙◌, ap, ap₂, subst, arith}
+use Rattle.std.proofs.Common.{◌≡◌, ◌≢◌, ℕ, ◌+◌, ◌/◌, ◌<◌, ◌≤◌, ◌⊎◌, ◌||◌, Bool, true, false, eqb, length, get_or, inl, inr, refl, sym, ◌∙◌, ap, subst, arith}
 use Rattle.std.proofs.lemmas.Bool.{true≢false}
 use Rattle.iloc_sched.specs.declared.cycle.calendar.Calendar.{Calendar}
 use Rattle.iloc_sched.specs.declared.cycle.class.Class.{Class}
 use Rattle.iloc_sched.specs.declared.cycle.class.Class.TheVariants as C
 use Rattle.iloc_sched.specs.declared.cycle.plan.Plan.{Plan}
-use Rattle.iloc_sched.specs.Steps.Calendar.{has, IsWithin, HasRoom, KeepsRoom, Puts, Releases}
+use Rattle.iloc_sched.specs.Steps.Calendar.{has, IsWithin, HasRoom, KeepsRoom, HasSameSets, Puts, Releases}
 use Rattle.iloc_sched.specs.Steps.Classes.{place_of, excludes}
-use Rattle.iloc_sched.specs.Steps.SoFar.{class_at, rank_of, IsRanked, KeepsOut, IsPlan, IsCalendar}
+use Rattle.iloc_sched.specs.Steps.RankSets.{rank_bit}
+use Rattle.iloc_sched.specs.Steps.SoFar.{class_at, rank_of, KeepsOut, IsPlan, IsCalendar}
 use Rattle.iloc_sched.specs.Steps.Views.{bucket_of}
 use Rattle.iloc_meaning.proofs.Cases.{by_bool}
 use Rattle.iloc_sched.proofs.Basics.Cases.{by_eq}
@@ -85,6 +86,19 @@ room_none c n room = record { ranks = λ r low. absurd (omega arith); first = ro
 
 pub room_trans : (a b c : Calendar) → KeepsRoom a b → KeepsRoom b c → KeepsRoom a c
 room_trans a b c first second = record { words = second.words ∙ first.words; blocks = second.blocks ∙ first.blocks }
+
+-- the sets are the same
+pub same_has : (c c' : Calendar) → HasSameSets c c' → (s r : ℕ) → has c' s r ≡ has c s r
+same_has c c' same s r = ap (λ ws. eqb (rank_bit ws s r) 1) same.words
+
+pub same_room : (c c' : Calendar) → HasSameSets c c' → KeepsRoom c c'
+same_room c c' same = record { words = ap (length {A = ℕ}) same.words; blocks = same.blocks }
+
+pub puts_same : (c c' d : Calendar) (s k : ℕ) (b : Bool) → HasSameSets c c' → Puts c' d s k b → Puts c d s k b
+puts_same c c' d s k b same puts = record {
+  here = puts.here;
+  others = λ t r low apart. puts.others t r low apart ∙ same_has c c' same t r;
+}
 
 -- what a class keeps out is known as before
 pub kept_put : (p : Plan) (c c' : Calendar) (n s k : ℕ) (b : Bool) → s ≤ 32 → Puts c c' s k b → KeepsOut p n c → KeepsOut p n c'

@@ -1,11 +1,11 @@
 -- The first of what is ready and not kept out; for `Calendar::first`.
-use Rattle.std.proofs.Common.{◌≡◌, ◌≢◌, ℕ, ◌+◌, ◌-◌, ◌*◌, ◌/◌, ◌%◌, ◌^◌, ◌<◌, ◌≤◌, List, length, min, Option, Some, None, ap, ap₂, sym, ◌∙◌, arith, w64, bit_and}
+use Rattle.std.proofs.Common.{◌≡◌, ◌≢◌, ℕ, ◌+◌, ◌-◌, ◌*◌, ◌/◌, ◌%◌, ◌^◌, ◌<◌, ◌≤◌, List, length, min, Option, Some, None, ap, sym, ◌∙◌, arith, w64, bit_and}
 use Rattle.std.specs.Int.{bit_at, bit_not, trailing_zeros}
 use Rattle.std.specs.Int.Count.{count_trailing_zeros, trailing_of_zero}
 use Rattle.std.proofs.lemmas.Nat.{and_le_l}
-use Rattle.std.proofs.lemmas.Nat.Bits.{bit_at_and, bit_at_not, bit_at-trailing_zeros, bit_at-lt}
-use Rattle.iloc_sched.specs.Steps.RankSets.{word_at, rank_bit, open_bit, HoldsBits, IsFirstBit, IsFirstWithin}
-use Rattle.iloc_sched.proofs.Basics.Cases.{by_eq, by_lt}
+use Rattle.std.proofs.lemmas.Nat.Bits.{bit_at_and, bit_at_not, bit_at-trailing_zeros}
+use Rattle.iloc_sched.specs.Steps.RankSets.{word_at, rank_bit, open_bit, HoldsBits, IsFirstBit, IsFirstWithin, IsSearched}
+use Rattle.iloc_sched.proofs.Basics.Cases.{by_eq}
 use Rattle.iloc_sched.proofs.Ranks.WordBits.{no_bit}
 
 -- of one word
@@ -54,11 +54,6 @@ first_of_bit words k w bit is =
 -- nothing is open where nothing is ready
 pub none_open : (words : List ℕ) (k r : ℕ) → word_at words 32 (r / 64) ≡ 0 → open_bit words k r ≡ 0
 none_open words k r none = let e : rank_bit words 32 r ≡ 0 = no_bit (word_at words 32 (r / 64)) (r % 64) none in omega arith
-
--- the words of a block whose bits aren't left have nothing open
-pub record IsSearched (words : List ℕ) (k block some left : ℕ) : Type 0 where
-  pub passed : (r : ℕ) → r / 64 / 64 ≡ block → bit_at left (r / 64 % 64) ≡ 0 → open_bit words k r ≡ 0
-  pub within : (i : ℕ) → i < 64 → bit_at left i ≢ 0 → bit_at some i ≢ 0
 
 module _ (left : ℕ) (fits : left < 2 ^ 64) (more : left ≢ 0) where
   lowest : (trailing_zeros w64 left < 64) × (bit_at left (trailing_zeros w64 left) ≡ 1)

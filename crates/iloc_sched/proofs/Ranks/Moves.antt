@@ -1,11 +1,10 @@
 -- Words are moved from a bucket to what is ready; for `Calendar::release`.
-use Rattle.std.proofs.Common.{◌≡◌, ◌≢◌, ℕ, zero, suc, ◌+◌, ◌*◌, ◌/◌, ◌%◌, ◌<◌, ◌≤◌, List, length, set, min, max, eqb, ◌||◌, ap, ap₂, sym, ◌∙◌, refl, inl, inr, arith, bit_or, eq-eqb, length-set}
+use Rattle.std.proofs.Common.{◌≡◌, ◌≢◌, ℕ, zero, suc, ◌+◌, ◌-◌, ◌*◌, ◌/◌, ◌%◌, ◌<◌, ◌≤◌, List, length, set, min, max, eqb, ◌||◌, ap, ap₂, sym, ◌∙◌, refl, inl, inr, arith, bit_or, eq-eqb, length-set}
 use Rattle.std.specs.Int.{bit_at}
 use Rattle.std.proofs.lemmas.Bool.{cases_eq}
-use Rattle.std.proofs.lemmas.Nat.{le_or_l}
 use Rattle.std.proofs.lemmas.Nat.Bits.{bit_at_or, bit_at-lt}
 use lib.Bits.{or_zero_r}
-use Rattle.iloc_sched.specs.Steps.RankSets.{word_at, rank_bit, IsSummary, MovesAt}
+use Rattle.iloc_sched.specs.Steps.RankSets.{word_at, rank_bit, open_bit, IsSummary, MovesAt, NotesMoved, HoldsBits}
 use Rattle.iloc_sched.proofs.Basics.Cases.{by_eq}
 use Rattle.iloc_sched.proofs.Ranks.WordBits.{no_bit}
 use Rattle.iloc_sched.proofs.Ranks.Cells.{cell_same, cell_other}
@@ -106,10 +105,6 @@ test_or zero b p q = let e : max 0 b ≡ b = omega arith in ap (λ x. eqb x 1) e
 test_or (suc zero) b p q = eq-eqb (max 1 b) 1 (omega arith)
 test_or (suc (suc a)) b p q = absurd (omega arith)
 
-some_or : (a b : ℕ) → min 1 (bit_or a b) ≡ max (min 1 a) (min 1 b)
-some_or zero b = omega arith
-some_or (suc a) b = omega (arith, le_or_l (suc a) b)
-
 -- what ranks of a word that was moved are ready
 pub moved_ready : (words words' : List ℕ) (b r : ℕ) → MovesAt words words' b (r / 64)
     → eqb (rank_bit words' 32 r) 1 ≡ (eqb (rank_bit words 32 r) 1 || eqb (rank_bit words b r) 1)
@@ -119,35 +114,105 @@ moved_ready words words' b r moved =
     ap (λ v. eqb (bit_at v (r % 64)) 1) moved.1 ∙ ap (λ v. eqb v 1) (bit_at_or x y (r % 64))
     ∙ test_or (bit_at x (r % 64)) (bit_at y (r % 64)) (bit_at-lt x (r % 64)) (bit_at-lt y (r % 64))
 
--- the summary of a block that was moved
-module _ (summary summary' words words' : List ℕ) (block b : ℕ) (small : b < 32) (right : IsSummary summary words)
-    (above : MovesAt summary summary' b block) (above_else : KeepsElse (λ w. w ≡ block) summary summary' b)
-    (below : (w : ℕ) → w / 64 ≡ block → MovesAt words words' b w)
-    (below_else : KeepsElse (λ w. w / 64 ≡ block) words words' b) where
-  same_bits : (t w : ℕ) → t < 37 → (w / 64 ≡ block → (t ≢ 32) × (t ≢ b)) → rank_bit summary' t w ≡ min 1 (word_at words' t w)
-  same_bits t w low apart =
-      ap (λ x. bit_at x (w % 64)) (above_else t (w / 64) low apart) ∙ right t w low ∙ ap (min 1) (sym (below_else t w low apart))
+-- the summary, class after class
+pub noting_start : (xs : List ℕ) (some block b : ℕ) → b < 32 → block * 37 + 37 ≤ length xs
+    → NotesMoved xs (set xs (block * 37 + b) 0) some block b 0
+noting_start xs some block b small there = record {
+  empty = cell_same xs b block 0 (omega arith);
+  noted = λ k low. absurd (omega arith);
+  others = λ s w low apart beyond. cell_other xs b block 0 (omega arith) s w low (λ same at. apart at same);
+  size = length-set xs (block * 37 + b) 0;
+}
 
-  ready_bits : (w : ℕ) → w / 64 ≡ block → rank_bit summary' 32 w ≡ min 1 (word_at words' 32 w)
-  ready_bits w here =
-      let x = word_at summary 32 block in
-      let y = word_at summary b block in
-      ap (λ v. bit_at (word_at summary' 32 v) (w % 64)) here ∙ ap (λ v. bit_at v (w % 64)) above.1 ∙ bit_at_or x y (w % 64)
-      ∙ ap₂ max
-      (ap (λ v. bit_at (word_at summary 32 v) (w % 64)) (sym here) ∙ right 32 w (omega arith))
-      (ap (λ v. bit_at (word_at summary b v) (w % 64)) (sym here) ∙ right b w (omega arith))
-      ∙ sym (some_or (word_at words 32 w) (word_at words b w)) ∙ ap (min 1) (sym (below w here).1)
+module _ (xs ys : List ℕ) (some block b n : ℕ) (small : b < 32) (low : n < 4) (there : block * 37 + 37 ≤ length xs)
+    (before : NotesMoved xs ys some block b n) where
+  abbrev noted_more : List ℕ
+  noted_more = set ys (block * 37 + (33 + n)) (bit_or (word_at ys (33 + n) block) some)
+
+  pub noting_more : NotesMoved xs noted_more some block b (n + 1)
+  noting_more = record {
+    empty = cell_other ys (33 + n) block (bit_or (word_at ys (33 + n) block) some) (omega arith) b block (omega arith) (λ same _. absurd (omega arith))
+        ∙ before.empty;
+    noted = λ k less. by_eq k n
+        (λ same. ap (λ m. word_at noted_more (33 + m) block) same
+        ∙ cell_same ys (33 + n) block (bit_or (word_at ys (33 + n) block) some) (omega (arith, before.size))
+        ∙ ap (λ x. bit_or x some) (before.others (33 + n) block (omega arith) (λ _ is. absurd (omega arith)) (λ _ _. omega arith))
+        ∙ ap (λ m. bit_or (word_at xs (33 + m) block) some) (sym same))
+        (λ other. cell_other ys (33 + n) block (bit_or (word_at ys (33 + n) block) some) (omega arith) (33 + k) block (omega arith)
+        (λ same _. other (omega arith)) ∙ before.noted k (omega arith));
+    others = λ s w s_low apart beyond.
+        cell_other ys (33 + n) block (bit_or (word_at ys (33 + n) block) some) (omega arith) s w s_low
+        (λ same at. let far = beyond at (omega arith) in absurd (omega arith))
+        ∙ before.others s w s_low apart (λ at high. let far = beyond at high in omega arith);
+    size = length-set ys (block * 37 + (33 + n)) (bit_or (word_at ys (33 + n) block) some) ∙ before.size;
+  }
+
+-- the summary of a block that was moved
+module _ (summary summary' words words' : List ℕ) (block b some : ℕ) (small : b < 32) (right : IsSummary summary words)
+    (is : some ≡ word_at summary b block) (above : NotesMoved summary summary' some block b 4) (held : HoldsBits words some block)
+    (below : (w : ℕ) → w / 64 ≡ block → MovesAt words words' b w)
+    (below_else : KeepsElse (λ w. w / 64 ≡ block) words words' b) (size : length words' ≡ length words) where
+  same_bits : (t w : ℕ) → t < 32 → (w / 64 ≡ block → t ≢ b) → rank_bit summary' t w ≡ min 1 (word_at words' t w)
+  same_bits t w low apart =
+      ap (λ x. bit_at x (w % 64)) (above.others t (w / 64) (omega arith) apart (λ _ high. absurd (omega arith))) ∙ right.buckets t w low
+      ∙ ap (min 1) (sym (below_else t w (omega arith) (λ here. ((λ same. absurd (omega arith)), apart here))))
 
   bucket_bits : (w : ℕ) → w / 64 ≡ block → rank_bit summary' b w ≡ min 1 (word_at words' b w)
   bucket_bits w here =
-      ap (λ v. bit_at (word_at summary' b v) (w % 64)) here ∙ no_bit (word_at summary' b block) (w % 64) above.0
+      ap (λ v. bit_at (word_at summary' b v) (w % 64)) here ∙ no_bit (word_at summary' b block) (w % 64) above.empty
       ∙ ap (min 1) (sym (below w here).0)
 
+  class_bit : (k w : ℕ) → k < 4 → w / 64 ≡ block
+      → rank_bit summary' (33 + k) w ≡ max (rank_bit summary (33 + k) w) (bit_at some (w % 64))
+  class_bit k w low here =
+      ap (λ v. bit_at (word_at summary' (33 + k) v) (w % 64)) here ∙ ap (λ v. bit_at v (w % 64)) (above.noted k low)
+      ∙ bit_at_or (word_at summary (33 + k) block) some (w % 64)
+      ∙ ap (λ x. max x (bit_at some (w % 64))) (ap (λ v. bit_at (word_at summary (33 + k) v) (w % 64)) (sym here))
+
+  class_else : (k w : ℕ) → k < 4 → w / 64 ≢ block → rank_bit summary' (33 + k) w ≡ rank_bit summary (33 + k) w
+  class_else k w low other = ap (λ x. bit_at x (w % 64))
+      (above.others (33 + k) (w / 64) (omega arith) (λ here. absurd (other here)) (λ here. absurd (other here)))
+
+  due : (w : ℕ) → w / 64 ≡ block → bit_at some (w % 64) ≡ min 1 (word_at words b w)
+  due w here = ap (λ v. bit_at v (w % 64)) is ∙ ap (λ v. bit_at (word_at summary b v) (w % 64)) (sym here) ∙ right.buckets b w small
+
+  same_open : (k r : ℕ) → word_at words' 32 (r / 64) ≡ word_at words 32 (r / 64)
+      → word_at words' (33 + k) (r / 64) ≡ word_at words (33 + k) (r / 64) → open_bit words' k r ≡ open_bit words k r
+  same_open k r ready kept = ap₂ (λ a b. min (bit_at a (r % 64)) (1 - bit_at b (r % 64))) ready kept
+
+  closed_bits : (k r : ℕ) → k < 4 → rank_bit summary' (33 + k) (r / 64) ≡ 0 → open_bit words' k r ≡ 0
+  closed_bits k r low none = by_eq (r / 64 / 64) block
+      (λ here.
+      let bits = class_bit k (r / 64) low here in
+      let was : rank_bit summary (33 + k) (r / 64) ≡ 0 = omega arith in
+      let none_due = due (r / 64) here in
+      let nothing : word_at words b (r / 64) ≡ 0 = omega arith in
+      same_open k r
+      ((below (r / 64) here).1 ∙ sym (or_none (word_at words 32 (r / 64)) (word_at words b (r / 64)) nothing))
+      (below_else (33 + k) (r / 64) (omega arith) (λ _. ((λ same. absurd (omega arith)), (λ same. absurd (omega arith)))))
+      ∙ right.closed k r low was)
+      (λ elsewhere.
+      same_open k r
+      (below_else 32 (r / 64) (omega arith) (λ here. absurd (elsewhere here)))
+      (below_else (33 + k) (r / 64) (omega arith) (λ here. absurd (elsewhere here)))
+      ∙ right.closed k r low (sym (class_else k (r / 64) low elsewhere) ∙ none))
+
+  there_bits : (k w : ℕ) → k < 4 → rank_bit summary' (33 + k) w ≢ 0 → w * 37 + 37 ≤ length words'
+  there_bits k w low set = by_eq (w / 64) block
+      (λ here.
+      let bits = class_bit k w low here in
+      by_eq (bit_at some (w % 64)) 0
+      (λ none. let h = right.there k w low (λ was. set (omega arith)) in omega arith)
+      (λ held_bit. let h = held (w % 64) (omega arith) held_bit in omega arith))
+      (λ elsewhere. let h = right.there k w low (λ was. set (class_else k w low elsewhere ∙ was)) in omega arith)
+
   pub summary_moved : IsSummary summary' words'
-  summary_moved t w low = by_eq (w / 64) block
-      (λ here. by_eq t 32
-      (λ same. ap (λ s. rank_bit summary' s w) same ∙ ready_bits w here ∙ ap (λ s. min 1 (word_at words' s w)) (sym same))
-      (λ other. by_eq t b
-      (λ same. ap (λ s. rank_bit summary' s w) same ∙ bucket_bits w here ∙ ap (λ s. min 1 (word_at words' s w)) (sym same))
-      (λ another. same_bits t w low (λ _. (other, another)))))
-      (λ elsewhere. same_bits t w low (λ at. absurd (elsewhere at)))
+  summary_moved = record {
+    buckets = λ t w low. by_eq (w / 64) block
+        (λ here. by_eq t b
+        (λ same. ap (λ s. rank_bit summary' s w) same ∙ bucket_bits w here ∙ ap (λ s. min 1 (word_at words' s w)) (sym same))
+        (λ other. same_bits t w low (λ _. other)))
+        (λ elsewhere. same_bits t w low (λ here. absurd (elsewhere here)));
+    closed = closed_bits;
+    there = there_bits;
+  }

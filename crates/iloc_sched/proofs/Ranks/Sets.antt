@@ -1,5 +1,5 @@
 -- What words say of sets: put, released, first; for the functions of `Calendar`.
-use Rattle.std.proofs.Common.{◌≡◌, ◌≢◌, ℕ, zero, suc, ◌+◌, ◌-◌, ◌*◌, ◌/◌, ◌%◌, ◌<◌, ◌≤◌, ◌&&◌, ◌||◌, not, Bool, true, false, eqb, List, length, get_or, min, max, Option, Some, None, refl, sym, ◌∙◌, ap, subst, arith}
+use Rattle.std.proofs.Common.{◌≡◌, ◌≢◌, ℕ, zero, suc, ◌+◌, ◌-◌, ◌*◌, ◌/◌, ◌%◌, ◌<◌, ◌≤◌, ◌&&◌, ◌||◌, not, Bool, true, false, eqb, List, length, min, Some, None, refl, sym, ◌∙◌, ap, subst, arith}
 use Rattle.std.specs.Int.{bit_at}
 use Rattle.std.proofs.lemmas.Nat.Bits.{bit_at-lt}
 use lib.ListN.{get_or-eq_default}
@@ -8,10 +8,11 @@ use Rattle.std.specs.Vec.{with_items}
 use Rattle.std.proofs.lemmas.List.{with_items_is}
 use Rattle.iloc_sched.specs.declared.cycle.calendar.Calendar.{Calendar}
 use Rattle.iloc_sched.specs.declared.cycle.class.Class.{Class}
-use Rattle.iloc_sched.specs.Steps.Calendar.{has, offers, IsFirst, HasRoom, KeepsRoom, Puts, Releases}
+use Rattle.iloc_sched.specs.Steps.Calendar.{has, offers, IsFirst, KeepsRoom, Puts, Releases}
 use Rattle.iloc_sched.specs.Steps.Classes.{place_of}
-use Rattle.iloc_sched.specs.Steps.RankSets.{word_at, rank_bit, IsSummary, AddsBit, TakesBit, MovesAt, HoldsBits, open_bit, IsFirstWithin}
+use Rattle.iloc_sched.specs.Steps.RankSets.{word_at, rank_bit, IsSummary, AddsBit, TakesBit, MovesAt, NotesMoved, HoldsBits, open_bit, IsFirstWithin}
 use Rattle.iloc_sched.proofs.Basics.Cases.{by_eq, by_lt}
+use Rattle.iloc_sched.proofs.Ranks.Calendars.{place_small}
 use Rattle.iloc_sched.proofs.Ranks.Firsts.{none_open}
 use Rattle.iloc_sched.proofs.Ranks.Moves.{KeepsElse, moved_ready}
 use Rattle.iloc_sched.proofs.Ranks.WordBits.{no_bit, test_added}
@@ -25,9 +26,9 @@ puts_from c c' s k b adds = record {
   others = λ t r low apart. ap (λ x. eqb x 1) (adds.others t r low apart);
 }
 
-pub takes_from : (c c' : Calendar) (s k : ℕ) → TakesBit c.words.items c'.words.items true s k → Puts c c' s k false
+pub takes_from : (c c' : Calendar) (s k : ℕ) → TakesBit c.words.items c'.words.items s k → Puts c c' s k false
 takes_from c c' s k takes = record {
-  here = let gone : rank_bit c'.words.items s k ≡ 0 = takes.here ∙ omega arith in ap (λ x. eqb x 1) gone;
+  here = ap (λ x. eqb x 1) takes.here;
   others = λ t r low apart. ap (λ x. eqb x 1) (takes.others t r low apart);
 }
 
@@ -36,7 +37,7 @@ pub past_end : (words : List ℕ) (s w : ℕ) → length words ≤ w * 37 + s �
 past_end words s w past = get_or-eq_default words 0 past
 
 -- a summary's bit leads to a word that is there
-pub leads_there : (summary words : List ℕ) (s block : ℕ) → s < 37 → IsSummary summary words
+pub leads_there : (summary words : List ℕ) (s block : ℕ) → s < 32 → IsSummary summary words
     → ((w : ℕ) → w * 37 < length words → w * 37 + 37 ≤ length words) → HoldsBits words (word_at summary s block) block
 leads_there summary words s block low right whole = λ i small set. by_lt ((block * 64 + i) * 37 + s) (length words)
     (λ there. whole (block * 64 + i) (omega arith))
@@ -45,22 +46,30 @@ leads_there summary words s block low right whole = λ i small set. by_lt ((bloc
     let column : (block * 64 + i) % 64 ≡ i = omega arith in
     let none : min 1 (word_at words s (block * 64 + i)) ≡ 0 = ap (min 1) (past_end words s (block * 64 + i) past) in
     absurd (set (ap (λ v. bit_at (word_at summary s v) i) (sym row) ∙ ap (bit_at (word_at summary s ((block * 64 + i) / 64))) (sym column)
-    ∙ right s (block * 64 + i) low ∙ none)))
+    ∙ right.buckets s (block * 64 + i) low ∙ none)))
+
+-- so does a class's
+pub open_there : (summary words : List ℕ) (k block : ℕ) → k < 4 → IsSummary summary words → HoldsBits words (word_at summary (33 + k) block) block
+open_there summary words k block low right = λ i small set.
+    let row : (block * 64 + i) / 64 ≡ block = omega arith in
+    let column : (block * 64 + i) % 64 ≡ i = omega arith in
+    right.there k (block * 64 + i) low (λ none. set (ap (λ v. bit_at (word_at summary (33 + k) v) i) (sym row)
+    ∙ ap (bit_at (word_at summary (33 + k) ((block * 64 + i) / 64))) (sym column) ∙ none))
 
 -- the words that a summary leaves out have nothing
-pub left_out : (summary words : List ℕ) (s block : ℕ) → s < 37 → IsSummary summary words → (w : ℕ) → w / 64 ≡ block
+pub left_out : (summary words : List ℕ) (s block : ℕ) → s < 32 → IsSummary summary words → (w : ℕ) → w / 64 ≡ block
     → bit_at (word_at summary s block) (w % 64) ≡ 0 → word_at words s w ≡ 0
 left_out summary words s block low right w here none =
     let bit : rank_bit summary s w ≡ 0 = ap (λ b. bit_at (word_at summary s b) (w % 64)) here ∙ none in
-    let least : min 1 (word_at words s w) ≡ 0 = sym (right s w low) ∙ bit in
+    let least : min 1 (word_at words s w) ≡ 0 = sym (right.buckets s w low) ∙ bit in
     omega arith
 
 -- nor have those that it has no bits for
-pub beyond : (summary words : List ℕ) (s blocks : ℕ) → s < 37 → IsSummary summary words → length summary ≡ blocks * 37 → (w : ℕ)
+pub beyond : (summary words : List ℕ) (s blocks : ℕ) → s < 32 → IsSummary summary words → length summary ≡ blocks * 37 → (w : ℕ)
     → blocks ≤ w / 64 → word_at words s w ≡ 0
 beyond summary words s blocks low right size w past =
     let none : rank_bit summary s w ≡ 0 = no_bit (word_at summary s (w / 64)) (w % 64) (past_end summary s (w / 64) (omega arith)) in
-    let least : min 1 (word_at words s w) ≡ 0 = sym (right s w low) ∙ none in
+    let least : min 1 (word_at words s w) ≡ 0 = sym (right.buckets s w low) ∙ none in
     omega arith
 
 no_member : (words : List ℕ) (s r : ℕ) → word_at words s (r / 64) ≡ 0 → eqb (rank_bit words s r) 1 ≡ false
@@ -186,8 +195,9 @@ module _ (c : Calendar) (beside : Class) where
 
   pub none_in_blocks : c.blocks ≢ 0 → ((r : ℕ) → r / 64 / 64 < c.blocks → open_bit words (place_of beside) r ≡ 0) → IsFirst (offers c beside) None
   none_in_blocks some none = λ r. is_offered r 0 (by_lt (r / 64 / 64) c.blocks (none r)
-      (λ past. none_open words (place_of beside) r
-      (beyond c.summary.items words 32 c.blocks (omega arith) (c.summarised some) c.sized (r / 64) past)))
+      (λ past. (c.summarised some).closed (place_of beside) r (place_small beside)
+      (no_bit (word_at c.summary.items (33 + place_of beside) (r / 64 / 64)) (r / 64 % 64)
+      (past_end c.summary.items (33 + place_of beside) (r / 64 / 64) (omega (arith, c.sized, place_small beside))))))
 
 -- what is written to a list's slice is in the list
 module _ (v : Vec ℕ) (xs ws : List ℕ) (same : xs ≡ v.items) where
@@ -197,8 +207,12 @@ module _ (v : Vec ℕ) (xs ws : List ℕ) (same : xs ≡ v.items) where
   pub adds_back : (b : Bool) (s k : ℕ) → AddsBit xs ws b s k → AddsBit v.items (with_items v ws).items b s k
   adds_back b s k adds = subst (λ ys. AddsBit v.items ys b s k) (sym (with_items_is v ws (long adds.size))) (subst (λ ys. AddsBit ys ws b s k) same adds)
 
-  pub takes_back : (b : Bool) (s k : ℕ) → TakesBit xs ws b s k → TakesBit v.items (with_items v ws).items b s k
-  takes_back b s k takes = subst (λ ys. TakesBit v.items ys b s k) (sym (with_items_is v ws (long takes.size))) (subst (λ ys. TakesBit ys ws b s k) same takes)
+  pub takes_back : (s k : ℕ) → TakesBit xs ws s k → TakesBit v.items (with_items v ws).items s k
+  takes_back s k takes = subst (λ ys. TakesBit v.items ys s k) (sym (with_items_is v ws (long takes.size))) (subst (λ ys. TakesBit ys ws s k) same takes)
+
+  pub notes_back : (some block b n : ℕ) → NotesMoved xs ws some block b n → NotesMoved v.items (with_items v ws).items some block b n
+  notes_back some block b n notes = subst (λ ys. NotesMoved v.items ys some block b n) (sym (with_items_is v ws (long notes.size)))
+      (subst (λ ys. NotesMoved ys ws some block b n) same notes)
 
   pub moves_back : (b w : ℕ) → length ws ≡ length xs → MovesAt xs ws b w → MovesAt v.items (with_items v ws).items b w
   moves_back b w size moved = subst (λ ys. MovesAt v.items ys b w) (sym (with_items_is v ws (long size))) (subst (λ ys. MovesAt ys ws b w) same moved)

@@ -1,5 +1,5 @@
 -- The walk along the edges out of an issued operation keeps what is known of what waits; for `Waiting::issue`.
-use Rattle.std.proofs.Common.{◌≡◌, ◌≢◌, ℕ, ◌+◌, ◌-◌, ◌%◌, ◌<◌, ◌≤◌, max, Bool, true, false, Option, Some, None, ◌⊎◌, inl, inr, refl, sym, ◌∙◌, ap, subst, arith}
+use Rattle.std.proofs.Common.{◌≡◌, ◌≢◌, ℕ, ◌+◌, ◌-◌, ◌%◌, ◌<◌, ◌≤◌, max, Bool, true, false, Option, Some, None, ◌⊎◌, inl, inr, sym, ◌∙◌, ap, subst, arith}
 use Rattle.iloc_sched.specs.Steps.Graph.{Graph, IsLast, IsGraph}
 use Rattle.iloc_sched.specs.Steps.Progress.{Progress, UpTo, Waits, CanIssue, count_from}
 use Rattle.iloc_meaning.proofs.Cases.{by_bool}

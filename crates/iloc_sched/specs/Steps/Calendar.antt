@@ -1,5 +1,5 @@
 -- What becomes ready in each cycle, and what is ready, by rank.
-use Rattle.std.specs.Prelude.{ℕ, ◌+◌, ◌*◌, ◌/◌, ◌%◌, ◌≡◌, ◌≢◌, ◌<◌, ◌≤◌, ◌==◌, ◌&&◌, ◌||◌, not, Bool, true, false, length, Option, Some, None}
+use Rattle.std.specs.Prelude.{ℕ, ◌+◌, ◌*◌, ◌/◌, ◌≡◌, ◌≢◌, ◌<◌, ◌≤◌, ◌==◌, ◌&&◌, ◌||◌, not, Bool, true, false, length, Option, Some, None}
 use Rattle.iloc_sched.specs.declared.cycle.class.Class.{Class}
 use Rattle.iloc_sched.specs.declared.cycle.calendar.Calendar.{Calendar}
 use Rattle.iloc_sched.specs.Steps.Classes.{place_of}
@@ -32,6 +32,11 @@ pub record HasRoom (c : Calendar) (n : ℕ) : Type 0 where
 -- the room is as it was
 pub record KeepsRoom (c c' : Calendar) : Type 0 where
   pub words : length c'.words.items ≡ length c.words.items
+  pub blocks : c'.blocks ≡ c.blocks
+
+-- sets and room are as they were
+pub record HasSameSets (c c' : Calendar) : Type 0 where
+  pub words : c'.words.items ≡ c.words.items
   pub blocks : c'.blocks ≡ c.blocks
 
 -- whether rank k is in set s is now b, and nothing else changed

@@ -1,5 +1,5 @@
 -- What holds as a schedule begins.
-use Rattle.std.specs.Prelude.{ℕ, ◌+◌, ◌-◌, ◌≡◌, ◌<◌, ◌≤◌, ◌==◌, true, List, length, map, replicate, slice_index, Option, None}
+use Rattle.std.specs.Prelude.{ℕ, ◌+◌, ◌-◌, ◌≡◌, ◌<◌, ◌≤◌, ◌==◌, true, length, map, replicate, slice_index, Option, None}
 use Rattle.std.specs.List.{range_with_len}
 use Rattle.iloc_sched.specs.declared.cycle.plan.Plan.{Plan}
 use Rattle.iloc_sched.specs.declared.cycle.waiting.Waiting.{Waiting}

@@ -6,8 +6,8 @@ use crate::cycle::keys::{place_by_keys, sort_keys};
 use iloc_ops::{MAX_OPS, NoMemory};
 use std::alloc::Global;
 
-/// Priorities below so many for each operation are counted, others are sorted: counting takes 20 to 40 instructions for an
-/// operation, sorting 50 to 150 and a mispredicted branch more.
+/// Priorities below so many for each operation are counted, others are sorted: counting takes 17 to 30 instructions for an
+/// operation, sorting 65 to 155 and at least half a mispredicted branch more.
 const COUNTED: usize = 16;
 
 /// The operations by rank, and the rank of each.

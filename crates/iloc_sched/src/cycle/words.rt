@@ -1,7 +1,7 @@
 //! The words of sets of ranks.
-ghost use Rattle.std.specs.Prelude.{ℕ, ◌≡◌, ◌≢◌, ◌+◌, ◌*◌, ◌/◌, ◌%◌, ◌<◌, ◌≤◌, ◌==◌, length, slice_index, OnOk, OnErr};
+ghost use Rattle.std.specs.Prelude.{ℕ, ◌≡◌, ◌≢◌, ◌+◌, ◌*◌, ◌/◌, ◌%◌, ◌<◌, ◌≤◌, length, slice_index, OnOk, OnErr};
 ghost use Rattle.std.specs.Int.{bit_at, trailing_zeros, w64};
-ghost use Rattle.iloc_sched.specs.Steps.RankSets.{word_at, AddsBit, TakesBit, MovesAt, HoldsBits, IsFirstBit, IsFirstWithin};
+ghost use Rattle.iloc_sched.specs.Steps.RankSets.{word_at, AddsBit, TakesBit, MovesAt, HoldsBits, IsFirstBit, IsFirstWithin, IsSearched, NotesMoved, open_bit};
 
 use crate::cycle::calendar::{KEPT_OUT, READY, SETS};
 use iloc_ops::NoMemory;
@@ -26,17 +26,14 @@ pub fn add_if(words: &mut [u64], condition: bool, set: usize, rank: usize)
     words[rank / 64 * SETS + set] |= u64::from(condition) << (rank % 64);
 }
 
-/// Takes a rank out of a set if the condition holds, and answers whether its word has none then.
+/// Takes a rank out of a set.
 #[inline(always)]
-pub fn take_out_if(words: &mut [u64], condition: bool, set: usize, rank: usize) -> bool
+pub fn take_out(words: &mut [u64], set: usize, rank: usize)
     requires set { set < 37 }
     requires there { rank / 64 * 37 + set < length words.old }
-    ensures takes { TakesBit words.old words.new condition set rank }
-    ensures empty { result ≡ (word_at words.new set (rank / 64) == 0) }
+    ensures { TakesBit words.old words.new set rank }
 {
-    let left = words[rank / 64 * SETS + set] & !(u64::from(condition) << (rank % 64));
-    words[rank / 64 * SETS + set] = left;
-    left == 0
+    words[rank / 64 * SETS + set] &= !(1 << (rank % 64));
 }
 
 /// Moves a word of a bucket to what is ready.
@@ -71,8 +68,8 @@ fn move_next(words: &mut [u64], left: u64, block: usize, bucket: usize) -> u64
     left & !(1 << low)
 }
 
-/// Moves the words of a block from a bucket to what is ready. Whether there is any is seldom predicted, and to move an empty
-/// word changes nothing, so the first step is untested.
+/// Moves the words of a block from a bucket to what is ready. Whether there is any is seldom predicted (a test costs 0.2
+/// mispredicted branches for each operation), and to move an empty word changes nothing, so the first step is untested.
 #[inline(always)]
 pub fn move_words(words: &mut [u64], some: u64, block: usize, bucket: usize)
     requires bucket { bucket < 32 }
@@ -86,6 +83,19 @@ pub fn move_words(words: &mut [u64], some: u64, block: usize, bucket: usize)
     let mut left = move_next(words, some, block, bucket);
     while left != 0 {
         left = move_next(words, left, block, bucket);
+    }
+}
+
+/// In the summary: the words of a bucket may have what is ready and not kept out now, whatever the class.
+#[inline(always)]
+pub fn move_summary(summary: &mut [u64], some: u64, block: usize, bucket: usize)
+    requires bucket { bucket < 32 }
+    requires there { block * 37 + 37 ≤ length summary.old }
+    ensures { NotesMoved summary.old summary.new some block bucket 4 }
+{
+    summary[block * SETS + bucket] = 0;
+    for class in 0..4 {
+        summary[block * SETS + (KEPT_OUT + class)] |= some;
     }
 }
 
@@ -117,22 +127,23 @@ pub fn first_of_word(words: &[u64], word: usize, beside: usize) -> Option<u32>
     Some(word as u32 * 64 + bit)
 }
 
-/// The first of a block, of which `some` says which words have any that is ready.
+/// The first of a block, of whose words `some` says which may have any. Says also which may have any still.
 #[inline(always)]
-pub fn first_of_block(words: &[u64], some: u64, block: usize, beside: usize) -> Option<u32>
+pub fn first_of_block(words: &[u64], some: u64, block: usize, beside: usize) -> (Option<u32>, u64)
     requires beside { beside < 4 }
     requires few { block < 10 }
     requires there { HoldsBits words.now some block }
-    requires summary { (w : ℕ) → w / 64 ≡ block → bit_at some (w % 64) ≡ 0 → word_at words.now 32 w ≡ 0 }
-    ensures { IsFirstWithin words.now beside (λ r. r / 64 / 64 ≡ block) result }
+    requires summary { (r : ℕ) → r / 64 / 64 ≡ block → bit_at some (r / 64 % 64) ≡ 0 → open_bit words.now beside r ≡ 0 }
+    ensures first { IsFirstWithin words.now beside (λ r. r / 64 / 64 ≡ block) result.0 }
+    ensures searched { IsSearched words.now beside block some result.1 }
 {
     let mut left = some;
     while left != 0 {
         let low = left.trailing_zeros() % 64;
         if let Some(rank) = first_of_word(words, block * 64 + low as usize, beside) {
-            return Some(rank);
+            return (Some(rank), left);
         }
         left &= !(1 << low);
     }
-    None
+    (None, left)
 }

@@ -1,9 +1,9 @@
-use Rattle.std.proofs.Common.{◌≡◌, ◌+◌, ◌<◌, ◌||◌, length, get_or, subst, refl, sym, ◌∙◌, arith}
+use Rattle.std.proofs.Common.{◌+◌, ◌||◌, subst, refl, sym, ◌∙◌, arith}
 use Rattle.std.proofs.lemmas.Bool.{true≢false}
 use Rattle.iloc_sched.specs.Steps.Calendar.{has, Puts}
 use Rattle.iloc_sched.specs.Steps.Classes.{place_of}
 use Rattle.iloc_sched.specs.Steps.SoFar.{rank_of}
-use Rattle.iloc_sched.proofs.Ranks.Calendars.{within_kept, room_trans, place_small, keeps_out_more}
+use Rattle.iloc_sched.proofs.Ranks.Calendars.{within_kept, room_trans, keeps_out_more}
 use Rattle.iloc_sched.proofs.cycle.waiting.keep_classes_out.Goals as goal
 
 pub loop-j-init : goal.loop-j-init

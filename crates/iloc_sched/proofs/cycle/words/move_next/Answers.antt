@@ -1,8 +1,8 @@
-use Rattle.std.proofs.Common.{◌≡◌, ◌%◌, true, ap, ◌∙◌, arith, w64}
+use Rattle.std.proofs.Common.{◌≡◌, ◌%◌, ap, ◌∙◌, arith, w64}
 use Rattle.std.specs.Int.{bit_at, trailing_zeros}
 use Rattle.std.proofs.lemmas.Nat.{and_le_l}
-use Rattle.std.proofs.lemmas.Nat.Bits.{bit_at-trailing_zeros}
-use Rattle.iloc_sched.proofs.Ranks.WordBits.{cleared_less, clear_same, clear_other}
+use Rattle.std.proofs.lemmas.Nat.Bits.{bit_at-trailing_zeros, bit_at_clear_same, bit_at_clear_other}
+use Rattle.iloc_sched.proofs.Ranks.WordBits.{cleared_less}
 use Rattle.iloc_sched.proofs.cycle.words.move_next.Goals as goal
 
 pub returns-clause-less : goal.returns-clause-less
@@ -18,9 +18,9 @@ returns-clause-most c = and_le_l c.args.left _
 pub returns-clause-gone : goal.returns-clause-gone
 returns-clause-gone c =
     let left = c.args.left in
-    clear_same left (trailing_zeros w64 left % 64) (omega arith) true ∙ omega arith
+    bit_at_clear_same w64 left (trailing_zeros w64 left % 64) (omega arith)
 
 pub returns-clause-stays : goal.returns-clause-stays
 returns-clause-stays c = λ i within apart.
     let left = c.args.left in
-    clear_other left (trailing_zeros w64 left % 64) (omega arith) true i within apart
+    bit_at_clear_other w64 left (trailing_zeros w64 left % 64) (omega arith) i within apart

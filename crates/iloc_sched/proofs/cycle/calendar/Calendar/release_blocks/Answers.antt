@@ -1,4 +1,4 @@
-use Rattle.std.proofs.Common.{◌≡◌, ◌<◌, subst, arith}
+use Rattle.std.proofs.Common.{◌≡◌, subst, arith}
 use Rattle.iloc_sched.proofs.Ranks.Sets.{none_released, one_released, all_released, IsReleased}
 use Rattle.iloc_sched.proofs.Ranks.Calendars.{room_kept}
 use Rattle.iloc_sched.proofs.cycle.calendar.Calendar.release_blocks.Goals as goal

@@ -1,4 +1,3 @@
-use Rattle.std.proofs.Common.{◌≡◌}
 use Rattle.iloc_sched.proofs.Ranks.Sets.{IsReleased}
 use Rattle.iloc_sched.proofs.cycle.calendar.Calendar.release_blocks.Given as goal
 
