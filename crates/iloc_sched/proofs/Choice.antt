@@ -5,11 +5,9 @@ pub mod ChosenRows
 pub mod RowAfterRow
 pub mod OneGreedy
 pub mod GreedyExists
-pub mod CandidateHeaps
-pub mod FourQueues
-pub mod EnteringQueues
+pub mod EnteringReady
 pub mod IssuableIsReady
-pub mod ChosenByQueues
+pub mod ChosenByRanks
 pub mod IssuedChoice
 pub mod NextRow
 pub mod Scheduled

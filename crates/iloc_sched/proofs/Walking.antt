@@ -3,7 +3,6 @@ pub mod UnmetEdges
 pub mod EdgeWalk
 pub mod WalkInTables
 pub mod TableReads
-pub mod LinkedBuckets
 pub mod BucketOfCycle
 pub mod FirstStates
 pub mod StillIssuable

@@ -11,8 +11,8 @@ ghost use Rattle.iloc_sched.specs.Scheduled.{IsTheSchedule};
 ghost use Rattle.iloc_sched.specs.Steps.SoFar.{IsPlan};
 
 use crate::cycle::calendar::LONGEST_DELAY;
+use crate::cycle::order::Order;
 use crate::cycle::plan::Plan;
-use crate::cycle::queues::Queues;
 use crate::cycle::waiting::Waiting;
 use crate::graph::Graph;
 use crate::ranking::heuristic::Heuristic;
@@ -27,8 +27,8 @@ use std::mem;
 pub struct Scheduler {
     alloc: Global,
     ranks: Vec<u32>,
+    order: Order,
     waiting: Waiting,
-    queues: Queues,
     ops: Vec<Op>,
     rows: Vec<Row>,
 }
@@ -39,8 +39,8 @@ impl Scheduler {
         Scheduler {
             alloc,
             ranks: Vec::new(alloc),
+            order: Order::new(alloc),
             waiting: Waiting::new(alloc),
-            queues: Queues::new(alloc),
             ops: Vec::new(alloc),
             rows: Vec::new(alloc),
         }
@@ -57,11 +57,15 @@ impl Scheduler {
         ensures { IfOk result (λ s. (lat : latencies_value) (block : List Op) → graph.now ≡ of_block lat block
             → IsTheSchedule (λ _. ranks.now) lat block s) }
     {
+        let tables = graph.tables();
+        self.order.fill(ranks)?;
         let plan = Plan {
-            tables: graph.tables(),
-            ranks,
+            tables,
+            priorities: ranks,
+            order: &self.order.by_rank,
+            ranks: &self.order.ranks,
         };
-        self.fill_rows(&plan)?;
+        fill_rows(&plan, &mut self.waiting, &mut self.rows)?;
         self.ops.clear();
         self.ops.extend_from_slice(graph.ops())?;
         let ops = mem::replace(&mut self.ops, Vec::new(self.alloc));
@@ -88,24 +92,22 @@ impl Scheduler {
     pub fn take_back(&mut self, schedule: Schedule) {
         (self.ops, self.rows) = schedule.into_parts();
     }
+}
 
-    /// Makes the rows of the greedy schedule.
-    fn fill_rows(&mut self, plan: &Plan) -> Result<(), NoMemory>
-        requires { IsPlan plan.now }
-        ensures greedy { OnOk result ((block : List Op) → plan.now.tables.now.ops.items ≡ renamed block
-            → IsGreedyBy plan.now.ranks.now plan.now.tables.now.latencies block plan.now.tables.now.ops.items
-            self.new.rows.items) }
-        ensures few { OnOk result (length self.new.rows.items ≤ LONGEST_DELAY * MAX_OPS + 1) }
-    {
-        self.waiting.open(&plan.tables.edges)?;
-        self.queues.clear();
-        self.rows.clear();
-        let mut left = plan.tables.ops.len();
-        while left > 0 {
-            left -= self.waiting.step(plan, &mut self.queues, &mut self.rows)?;
-        }
-        Ok(())
+/// Makes the rows of the greedy schedule.
+fn fill_rows(plan: &Plan, waiting: &mut Waiting, rows: &mut Vec<Row>) -> Result<(), NoMemory>
+    requires { IsPlan plan.now }
+    ensures greedy { OnOk result ((block : List Op) → plan.now.tables.now.ops.items ≡ renamed block
+        → IsGreedyBy plan.now.priorities.now plan.now.tables.now.latencies block plan.now.tables.now.ops.items rows.new.items) }
+    ensures few { OnOk result (length rows.new.items ≤ LONGEST_DELAY * MAX_OPS + 1) }
+{
+    waiting.open(plan)?;
+    rows.clear();
+    let mut left = plan.tables.ops.len();
+    while left > 0 {
+        left -= waiting.step(plan, rows)?;
     }
+    Ok(())
 }
 
 /// The schedule of a block, of at most `MAX_OPS` operations, that is greedy by a heuristic.

@@ -1,27 +1,21 @@
--- The tables and queues after a choice was issued, or released; for `Waiting::issue_first`, `release`.
-use Rattle.std.proofs.Common.{◌≡◌, ◌≢◌, ℕ, ◌+◌, ◌%◌, ◌<◌, ◌≤◌, List, [], ◌∷◌, ◌++◌, length, set, get_or, Option, Some, None, inl, inr, refl, sym, ◌∙◌, ap, subst, arith, append_assoc}
-use Rattle.std.proofs.lemmas.List.{get_or-set_same, get_or-set_other, append-nil}
-use Rattle.std.specs.Global.{Vec}
-use Rattle.iloc_sched.specs.declared.cycle.candidate.Candidate.{Candidate}
+-- The tables and the calendar after a choice was issued, or released; for `Waiting::issue_first`, `release`.
+use Rattle.std.proofs.Common.{◌≡◌, ◌≢◌, ℕ, ◌+◌, ◌%◌, ◌<◌, not, true, false, List, length, set, get_or, Option, Some, None, refl, sym, ◌∙◌, ap, subst, arith}
+use Rattle.std.proofs.lemmas.Bool.{false≢true, and_parts}
+use Rattle.std.proofs.lemmas.List.{get_or-set_same, get_or-set_other}
+use Rattle.iloc_sched.specs.declared.cycle.calendar.Calendar.{Calendar}
 use Rattle.iloc_sched.specs.declared.cycle.class.Class.{Class}
 use Rattle.iloc_sched.specs.declared.cycle.plan.Plan.{Plan}
-use Rattle.iloc_sched.specs.declared.cycle.queues.Queues.{Queues}
-use Rattle.iloc_sched.specs.declared.cycle.queues.Choice.{Choice}
-use Rattle.iloc_sched.specs.declared.cycle.waiting.OperationState.{OperationState}
 use Rattle.iloc_sched.specs.declared.cycle.waiting.Waiting.{Waiting}
-use Rattle.iloc_sched.specs.Steps.Members.{In, AreApart}
-use Rattle.iloc_sched.specs.Steps.Order.{candidate_at}
-use Rattle.iloc_sched.specs.Steps.Changes.{HasNone}
-use Rattle.iloc_sched.specs.Steps.Queued.{candidates, Takes, AddsTo}
-use Rattle.iloc_sched.specs.Steps.Graph.{IsGraph}
+use Rattle.iloc_sched.specs.Steps.Calendar.{has, offers, HasSameSets, IsFirst, Puts, KeepsRoom, Releases}
+use Rattle.iloc_sched.specs.Steps.Classes.{place_of}
 use Rattle.iloc_sched.specs.Steps.Progress.{Waits, CanIssue, KeepsPlaces}
-use Rattle.iloc_sched.specs.Steps.Calendar.{bucket_of}
-use Rattle.iloc_sched.specs.Steps.Views.{graph_of, issued_list, progress_with, progress_of, IsSized}
-use Rattle.iloc_sched.specs.Steps.SoFar.{class_at, IsPlan, IsQueued, Admits, IsReleasing, IsUnderWay, Issues}
-use Rattle.iloc_sched.proofs.Basics.Members.{in_right, split_apart}
-use Rattle.iloc_sched.proofs.Choice.EnteringQueues.{admits_more, due_is_new, queued_with_due, queued_after}
+use Rattle.iloc_sched.specs.Steps.Views.{graph_of, issued_list, progress_of, bucket_of, IsSized}
+use Rattle.iloc_sched.specs.Steps.SoFar.{class_at, rank_of, IsRanked, IsPlan, IsCalendar, IsUnderWay, IsBest, Issues}
+use Rattle.iloc_sched.proofs.Basics.Cases.{by_lt}
+use Rattle.iloc_sched.proofs.Choice.EnteringReady.{queued_with_due, queued_after}
+use Rattle.iloc_sched.proofs.Ranks.Calendars.{ranks_apart, same_has, same_room, room_kept, calendar_put, calendar_released}
 use Rattle.iloc_sched.proofs.Walking.TableReads.{issued_size}
-use Rattle.iloc_sched.proofs.Walking.BucketOfCycle.{empties}
+use Rattle.iloc_sched.proofs.Walking.BucketOfCycle.{empties, same_buckets}
 
 pub issued_at : (xs ys : List (Option ℕ)) (n c : ℕ) → ys ≡ set xs n (Some c) → n < length xs → get_or ys n None ≡ Some c
 issued_at xs ys n c is below = ap (λ zs. get_or zs n None) is ∙ get_or-set_same xs n (Some c) None below
@@ -30,102 +24,152 @@ pub issued_other : (xs ys : List (Option ℕ)) (n c k : ℕ) → ys ≡ set xs n
     → get_or ys k None ≡ get_or xs k None
 issued_other xs ys n c k is apart = ap (λ zs. get_or zs k None) is ∙ get_or-set_other xs n k (Some c) None apart
 
-pub issues_choice : (p : Plan) (w w' : Waiting) (q q' : Queues) (c : ℕ) (choice : Choice) → IsGraph (graph_of p.tables.now.edges)
-    → IsUnderWay p w q (c + 1) → In (candidates q choice.class) choice.candidate → Takes q q' choice
-    → Waits (graph_of p.tables.now.edges) (progress_of w') (c + 1) 0 None
-    → (issued_list w') ≡ set (issued_list w) choice.candidate.number (Some c)
-    → KeepsPlaces (progress_of w) (progress_of w') → IsSized p.tables.now.edges w'
-    → Issues p w w' q q' c choice
-issues_choice p w w' q q' c choice is under held takes waits' issued keeps sized' =
-    let can : CanIssue (graph_of p.tables.now.edges) (progress_of w) (c + 1) choice.candidate.number =
-    (under.queued.only choice.class choice.candidate held).0 in
-    let size : length (issued_list w) ≡ length p.tables.now.edges.heads.items = issued_size p.tables.now.edges w under.sized in
-    let among : choice.candidate.number < length p.tables.now.edges.heads.items = can.there in
-    let below : choice.candidate.number < length (issued_list w) = omega arith in
-    record {
-      under_way = record {
-        sized = sized';
-        waits = waits';
-        queued = queued_after p.tables.now.ops.items p.ranks.now (graph_of p.tables.now.edges) (progress_of w) (progress_of w') c q q'
-            choice is under.waits waits'
-            (issued_at (issued_list w) (issued_list w') choice.candidate.number c issued below)
-            (λ k apart. issued_other (issued_list w) (issued_list w') choice.candidate.number c k issued apart)
-            keeps held takes under.queued;
-      };
-      takes = takes;
-      there = below;
-      waiting = can.waiting;
-      issued = issued;
-    }
+-- what becomes ready at cycle c is ready
+pub released : (p : Plan) (w : Waiting) (k' : Calendar) (c : ℕ) → IsPlan p → IsUnderWay p w c
+    → Releases w.calendar k' (c % 32) → KeepsRoom w.calendar k'
+    → IsUnderWay p (record { states = w.states; calendar = k' }) (c + 1)
+released p w k' c plan under releases keeps = record {
+  sized = under.sized;
+  calendar = calendar_released p plan w.calendar k' under.calendar (c % 32) (omega arith) releases keeps;
+  waits = empties (graph_of p.tables.now.edges) (progress_of p.ranks.now w) c (bucket_of p.ranks.now k') plan.graph.is_graph under.waits
+      (λ j. releases.empty (rank_of p j))
+      (λ b j small apart. releases.others b (rank_of p j) (omega arith) (λ same. absurd (omega arith)) apart);
+  queued = queued_with_due p.ranks.now (graph_of p.tables.now.edges) (progress_of p.ranks.now w) c w.calendar k' (bucket_of p.ranks.now k')
+      plan.graph.is_graph (λ j. refl) under.waits under.queued releases;
+}
 
-module _ (p : Plan) (w w1 : Waiting) (q q1 : Queues) (c : ℕ) (plan : IsPlan p) (under : IsUnderWay p w q c)
-    (so_far : IsReleasing p w w1 q q1 c) where
-  -- what stands in the bucket still stood in it before
-  still_due : (j : ℕ) → In ((progress_of w1).bucket (c % 32)) j → In ((progress_of w).bucket (c % 32)) j
-  still_due j held = subst (λ js. In js j) (sym so_far.bucket)
-      (in_right so_far.done ((progress_of w1).bucket (c % 32)) j held)
+-- the calendar has the same sets
+pub same_under_way : (p : Plan) (w : Waiting) (k : Calendar) (f : ℕ) → HasSameSets w.calendar k → IsUnderWay p w f
+    → IsUnderWay p (record { states = w.states; calendar = k }) f
+same_under_way p w k f same under = record {
+  sized = under.sized;
+  calendar = record {
+    room = room_kept w.calendar k (length p.tables.now.ops.items) (same_room w.calendar k same) under.calendar.room;
+    ranked = λ s r low held. under.calendar.ranked s r low (sym (same_has w.calendar k same s r) ∙ held);
+    kept = record {
+      each = λ class j low. same_has w.calendar k same (33 + place_of class) (rank_of p j) ∙ under.calendar.kept.each class j low;
+      only = λ class r held. under.calendar.kept.only class r (sym (same_has w.calendar k same (33 + place_of class) r) ∙ held);
+    };
+  };
+  waits = same_buckets (graph_of p.tables.now.edges) (progress_of p.ranks.now w) f 0 None (bucket_of p.ranks.now k) under.waits
+      (λ b j small. same_has w.calendar k same b (rank_of p j));
+  queued = record {
+    ready = λ j can. same_has w.calendar k same 32 (rank_of p j)
+        ∙ under.queued.ready j (record { there = can.there; waiting = can.waiting; past_all = can.past_all; soon = can.soon });
+    only = λ j low held.
+        let can = under.queued.only j low (sym (same_has w.calendar k same 32 (rank_of p j)) ∙ held) in
+        record { there = can.there; waiting = can.waiting; past_all = can.past_all; soon = can.soon };
+  };
+}
 
-  pub due_there : (j : ℕ) → In ((progress_of w1).bucket (c % 32)) j → j < length p.tables.now.edges.heads.items
-  due_there j held = (under.waits.only (c % 32) j (omega arith) (still_due j held)).0
+-- the first rank that is offered is that of the best operation
+module _ (p : Plan) (w : Waiting) (f : ℕ) (beside : Class) (plan : IsPlan p) (under : IsUnderWay p w f) where
+  pub none_is_best : IsFirst (offers w.calendar beside) None → IsBest p w beside None
+  none_is_best none = λ j is. absurd (false≢true (sym (none (rank_of p j)) ∙ is.1))
 
-  pub due_linked : (j : ℕ) → In ((progress_of w1).bucket (c % 32)) j → j < length w1.calendar.behind.items
-  due_linked j held =
-      let there : j < length p.tables.now.edges.heads.items = due_there j held in
-      let links : length p.tables.now.edges.heads.items ≤ length w.calendar.behind.items = under.sized.links in
-      let same : length w1.calendar.behind.items ≡ length w.calendar.behind.items = so_far.links in
-      omega arith
+  module _ (r : ℕ) (first : IsFirst (offers w.calendar beside) (Some r)) where
+    pub is_ready : has w.calendar 32 r ≡ true
+    is_ready = (and_parts (has w.calendar 32 r) (not (has w.calendar (33 + place_of beside) r)) first.0).0
 
-  module _ (w2 : Waiting) (j : ℕ) (taken : (progress_of w1).bucket (c % 32) ≡ j ∷ (progress_of w2).bucket (c % 32))
-    where
-      first_due : In ((progress_of w1).bucket (c % 32)) j
-      first_due = subst (λ js. In js j) (sym taken) (inl refl)
+    who : IsRanked p (length p.tables.now.ops.items) r
+    who = under.calendar.ranked 32 r (omega arith) is_ready
 
-      pub taken_there : j < length p.tables.now.ops.items
-      taken_there = subst (λ n. j < n) plan.graph.size (due_there j first_due)
+    pub rank_there : r < length p.order.now
+    rank_there =
+        let size = plan.ranked.places in
+        let count = plan.priorities in
+        let below : who.0 < length p.tables.now.ops.items = who.1 in
+        let within = plan.ranked.within who.0 (omega arith) in
+        let is : rank_of p who.0 ≡ r = who.2 in
+        omega arith
 
-      pub taken_new : (k : Class) → HasNone (candidates q1 k) j
-      taken_new k d held same = elim (so_far.admits.was k d held) [
-        | inl old ↦ due_is_new p.tables.now.ops.items p.ranks.now (graph_of p.tables.now.edges) (progress_of w) c q
-            plan.graph.is_graph under.waits under.queued j k (still_due j first_due) d old same
-        | inr come ↦ split_apart so_far.done j ((progress_of w2).bucket (c % 32))
-            (subst AreApart (so_far.bucket ∙ ap (λ js. so_far.done ++ js) taken)
-            (under.waits.apart (c % 32) (omega arith)))
-            (subst (λ n. In so_far.done n) same come.0)
-      ]
+    pub rank_below : r < length p.tables.now.ops.items
+    rank_below =
+        let size = plan.ranked.places in
+        let count = plan.priorities in
+        let low = rank_there in
+        omega arith
 
-      pub releasing_more : (q2 : Queues) (k : Class) (d : Candidate)
-          → ((b : ℕ) → b < 32 → b ≢ c % 32 → (progress_of w2).bucket b ≡ (progress_of w1).bucket b)
-          → w2.states ≡ w1.states → length w2.calendar.behind.items ≡ length w1.calendar.behind.items
-          → k ≡ class_at p.tables.now.ops.items j → d ≡ candidate_at p.ranks.now j → AddsTo q1 q2 k d
-          → IsReleasing p w w2 q q2 c
-      releasing_more q2 k d others states links class candidate adds = record {
-        done = so_far.done ++ j ∷ [];
-        bucket = so_far.bucket ∙ ap (λ js. so_far.done ++ js) taken
-            ∙ sym (append_assoc so_far.done (j ∷ []) ((progress_of w2).bucket (c % 32)));
-        admits = admits_more p.tables.now.ops.items p.ranks.now q q1 q2 so_far.done j k d so_far.admits class candidate adds;
-        others = λ b small apart. others b small apart ∙ so_far.others b small apart;
-        states = states ∙ so_far.states;
-        links = links ∙ so_far.links;
+    module _ (n : ℕ) (read : n ≡ get_or p.order.now r 0) where
+      n_is : n ≡ who.0
+      n_is =
+          let count = plan.priorities in
+          let below : who.0 < length p.tables.now.ops.items = who.1 in
+          read ∙ ap (λ s. get_or p.order.now s 0) (sym who.2) ∙ plan.ranked.operation_of who.0 (omega arith)
+
+      pub number_there : n < length p.tables.now.ops.items
+      number_there = subst (λ m. m < length p.tables.now.ops.items) (sym n_is) who.1
+
+      pub rank_is : rank_of p n ≡ r
+      rank_is = ap (rank_of p) n_is ∙ who.2
+
+      pub can_issue : CanIssue (graph_of p.tables.now.edges) (progress_of p.ranks.now w) f n
+      can_issue = under.queued.only n (subst (λ m. n < m) (sym plan.graph.size) number_there) (ap (has w.calendar 32) rank_is ∙ is_ready)
+
+      pub is_best : (k : Class) → k ≡ class_at p.tables.now.ops.items n → IsBest p w beside (Some (record { number = n; class = k }))
+      is_best k class = (
+        (number_there, ap (offers w.calendar beside) rank_is ∙ first.0),
+        sym class,
+        λ j is. by_lt (rank_of p j) (rank_of p n)
+            (λ before. absurd (false≢true (sym (first.1 (rank_of p j) (subst (λ s. rank_of p j < s) rank_is before)) ∙ is.1)))
+            (λ after. after),
+      )
+
+-- operation n is taken out of what is ready
+module _ (p : Plan) (w : Waiting) (k : Calendar) (c n : ℕ) (plan : IsPlan p) (under : IsUnderWay p w (c + 1))
+    (can : CanIssue (graph_of p.tables.now.edges) (progress_of p.ranks.now w) (c + 1) n)
+    (takes : Puts w.calendar k 32 (rank_of p n) false) where
+  abbrev left : Waiting
+  left = record { states = w.states; calendar = k }
+
+  pub taken_calendar : KeepsRoom w.calendar k → IsCalendar p k
+  taken_calendar keeps = calendar_put p plan w.calendar k under.calendar 32 n false (omega arith)
+      (subst (λ m. n < m) plan.graph.size can.there) takes keeps
+
+  pub taken_can : CanIssue (graph_of p.tables.now.edges) (progress_of p.ranks.now left) (c + 1) n
+  taken_can = record { there = can.there; waiting = can.waiting; past_all = can.past_all; soon = can.soon }
+
+  pub taken_waits : Waits (graph_of p.tables.now.edges) (progress_of p.ranks.now left) (c + 1) 0 None
+  taken_waits = same_buckets (graph_of p.tables.now.edges) (progress_of p.ranks.now w) (c + 1) 0 None (bucket_of p.ranks.now k) under.waits
+      (λ b j small. takes.others b (rank_of p j) (omega arith) (λ same _. absurd (omega arith)))
+
+-- operation n is taken out of what is ready, and issued at cycle c
+module _ (p : Plan) (w w' : Waiting) (k : Calendar) (c n : ℕ) (plan : IsPlan p) (under : IsUnderWay p w (c + 1))
+    (can : CanIssue (graph_of p.tables.now.edges) (progress_of p.ranks.now w) (c + 1) n)
+    (takes : Puts w.calendar k 32 (rank_of p n) false)
+    (kept : (r : ℕ) → has w'.calendar 32 r ≡ has k 32 r) where
+  there : n < length p.tables.now.ops.items
+  there = subst (λ m. n < m) plan.graph.size can.there
+
+  ready_others : (j : ℕ) → j < length p.tables.now.ops.items → j ≢ n
+      → has w'.calendar 32 (rank_of p j) ≡ has w.calendar 32 (rank_of p j)
+  ready_others j j_there apart = kept (rank_of p j)
+      ∙ takes.others 32 (rank_of p j) (omega arith) (λ _ same. apart (ranks_apart p plan j n j_there there same))
+
+  pub issues_choice : (class : Class) → Waits (graph_of p.tables.now.edges) (progress_of p.ranks.now w') (c + 1) 0 None
+      → issued_list w' ≡ set (issued_list w) n (Some c)
+      → KeepsPlaces (progress_of p.ranks.now w) (progress_of p.ranks.now w') → IsSized p.tables.now.edges w' → IsCalendar p w'.calendar
+      → Issues p w w' c (record { number = n; class = class })
+  issues_choice class waits' issued keeps sized' calendar' =
+      let size : length (issued_list w) ≡ length p.tables.now.edges.heads.items = issued_size p.tables.now.edges w under.sized in
+      let among : n < length p.tables.now.edges.heads.items = can.there in
+      let below : n < length (issued_list w) = omega arith in
+      record {
+        under_way = record {
+          sized = sized';
+          calendar = calendar';
+          waits = waits';
+          queued = queued_after p.ranks.now (graph_of p.tables.now.edges) (progress_of p.ranks.now w) (progress_of p.ranks.now w') c n
+              w.calendar w'.calendar plan.graph.is_graph under.waits waits'
+              (issued_at (issued_list w) (issued_list w') n c issued below)
+              (λ j apart. issued_other (issued_list w) (issued_list w') n c j issued apart)
+              keeps
+              (λ held. false≢true (sym takes.here ∙ sym (kept (rank_of p n)) ∙ held))
+              (λ j j_there apart. ready_others j (subst (λ m. j < m) plan.graph.size j_there) apart)
+              under.queued;
+        };
+        there = below;
+        waiting = can.waiting;
+        issued = issued;
+        ready = ready_others;
       }
-
--- the bucket of cycle c is empty, and what stood in it is in the queues
-pub released : (p : Plan) (w w' : Waiting) (q q' : Queues) (c : ℕ) → IsPlan p → IsUnderWay p w q c
-    → IsReleasing p w w' q q' c → (progress_of w').bucket (c % 32) ≡ [] → IsUnderWay p w' q' (c + 1)
-released p w w' q q' c plan under so_far empty =
-    let all : (progress_of w).bucket (c % 32) ≡ so_far.done =
-    so_far.bucket ∙ ap (λ js. so_far.done ++ js) empty ∙ append-nil so_far.done in
-    record {
-      sized = record {
-        states = ap (λ (states : Vec OperationState). length states.items) so_far.states ∙ under.sized.states;
-        links = omega (arith, so_far.links, under.sized.links);
-      };
-      waits = subst (λ (states : Vec OperationState).
-          Waits (graph_of p.tables.now.edges) (progress_with states.items (bucket_of w'.calendar)) (c + 1) 0 None) (sym so_far.states)
-          (empties (graph_of p.tables.now.edges) (progress_of w) c (bucket_of w'.calendar) plan.graph.is_graph under.waits empty
-          so_far.others);
-      queued = subst (λ (states : Vec OperationState). IsQueued p.tables.now.ops.items p.ranks.now (graph_of p.tables.now.edges)
-          (progress_with states.items (bucket_of w'.calendar)) (c + 1) q') (sym so_far.states)
-          (queued_with_due p.tables.now.ops.items p.ranks.now (graph_of p.tables.now.edges) (progress_of w) c q plan.graph.is_graph
-          under.waits under.queued q' (bucket_of w'.calendar)
-          (subst (λ js. Admits p.tables.now.ops.items p.ranks.now q q' js) (sym all) so_far.admits));
-    }

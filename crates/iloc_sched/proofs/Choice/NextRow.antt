@@ -11,15 +11,14 @@ use Rattle.iloc_timed.specs.Rows.{empty_row, row_at, slots, issue_cycle, holds}
 use Rattle.iloc_sched.specs.Renaming.{renamed}
 use Rattle.iloc_sched.specs.Greedy.{ready, chosen_with, IsGreedyBy}
 use Rattle.iloc_sched.specs.declared.cycle.plan.Plan.{Plan}
-use Rattle.iloc_sched.specs.declared.cycle.queues.Queues.{Queues}
-use Rattle.iloc_sched.specs.declared.cycle.queues.Choice.{Choice}
+use Rattle.iloc_sched.specs.declared.cycle.Choice.{Choice}
+use Rattle.iloc_sched.specs.declared.cycle.class.Class.TheVariants as C
 use Rattle.iloc_sched.specs.declared.cycle.waiting.Waiting.{Waiting}
 use Rattle.iloc_sched.specs.Steps.Members.{In}
 use Rattle.iloc_sched.specs.Steps.Classes.{is_product_class}
-use Rattle.iloc_sched.specs.Steps.Queued.{IsBest}
 use Rattle.iloc_sched.specs.Steps.Progress.{MatchesRows}
 use Rattle.iloc_sched.specs.Steps.Views.{issued_list, progress_of}
-use Rattle.iloc_sched.specs.Steps.SoFar.{IsPlan, IsUnderWay, IsSoFar, Issues, IssuesAny, number_of, is_memory_choice, row_with, slot_count, waiting_count}
+use Rattle.iloc_sched.specs.Steps.SoFar.{IsPlan, IsUnderWay, IsSoFar, IsBest, Issues, IssuesAny, number_of, is_memory_choice, row_with, slot_count, waiting_count}
 use Rattle.iloc_sched.proofs.Basics.IssueCycles.{issue_cycle_more, issue_cycle_last, issue_cycle_beyond}
 use Rattle.iloc_sched.proofs.Basics.Slots.{holds_from, from_holds}
 use Rattle.iloc_sched.proofs.Choice.RowAfterRow.{chosen_more, chosen_is_greedy}
@@ -28,7 +27,7 @@ use Rattle.iloc_meaning.proofs.Cases.{by_bool}
 use Rattle.iloc_sched.proofs.Basics.Cases.{by_option, not_both, same_some}
 use Rattle.iloc_sched.proofs.Choice.IssuedChoice.{issued_at, issued_other}
 use Rattle.iloc_sched.proofs.Walking.TableReads.{issued_size}
-use Rattle.iloc_sched.proofs.Choice.ChosenByQueues.{chosen_none, chosen_row}
+use Rattle.iloc_sched.proofs.Choice.ChosenByRanks.{chosen_none, chosen_row}
 use Rattle.iloc_timed.proofs.WholeRuns.{short_latency}
 
 by_slots : {P : Type 0} → (row : Row) (j : ℕ) → (In (slots row) j → P) → ((In (slots row) j → ⊥) → P) → P
@@ -71,89 +70,89 @@ two_of (Some x) a j (inr (inl is)) = inr (sym is)
 two_of (Some x) a j (inr (inr none)) = absurd none
 
 -- who stands in the row of a choice
-from_row : (a : Choice) (b : Option Choice) (j : ℕ) → In (slots (row_with a b)) j → (j ≡ a.candidate.number)
+from_row : (a : Choice) (b : Option Choice) (j : ℕ) → In (slots (row_with a b)) j → (j ≡ a.number)
     ⊎ (number_of b ≡ Some j)
 from_row a b j = by_bool (is_product_class a.class || is_memory_choice b)
     (λ t. rw t (λ held. elim held [ inl is ↦ inl (sym is) | inr rest ↦ inr (one_of (number_of b) j rest) ]))
-    (λ f. rw f (λ held. elim (two_of (number_of b) a.candidate.number j held) [ inl is ↦ inr is | inr is ↦ inl is ]))
+    (λ f. rw f (λ held. elim (two_of (number_of b) a.number j held) [ inl is ↦ inr is | inr is ↦ inl is ]))
 
 in_last : (o : Option ℕ) (a : ℕ) → In (option_to_list o ++ a ∷ []) a
 in_last None a = inl refl
 in_last (Some x) a = inr (inl refl)
 
-in_first : (a : Choice) (b : Option Choice) → In (slots (row_with a b)) a.candidate.number
+in_first : (a : Choice) (b : Option Choice) → In (slots (row_with a b)) a.number
 in_first a b = by_bool (is_product_class a.class || is_memory_choice b)
     (λ t. rw t (inl refl))
-    (λ f. rw f (in_last (number_of b) a.candidate.number))
+    (λ f. rw f (in_last (number_of b) a.number))
 
-in_second : (a b : Choice) → In (slots (row_with a (Some b))) b.candidate.number
+in_second : (a b : Choice) → In (slots (row_with a (Some b))) b.number
 in_second a b = by_bool (is_product_class a.class || is_memory_choice (Some b))
     (λ t. rw t (inr (inl refl)))
     (λ f. rw f (inl refl))
 
 -- nothing is ready
-pub so_far_none : (p : Plan) (w w1 w2 : Waiting) (q q1 q2 : Queues) (rows rows' : List Row) (row : Row) → IsPlan p
-    → IsSoFar p w q rows → issued_list w1 ≡ issued_list w → IsUnderWay p w1 q1 (length rows + 1)
-    → IsBest q1 None None → IssuesAny p w1 w2 q1 q2 (length rows) None → row ≡ empty_row → rows' ≡ rows ++ row ∷ []
-    → IsSoFar p w2 q2 rows'
-so_far_none p w w1 w2 q q1 q2 rows rows' row plan so_far same under best issues is_row is_rows =
+pub so_far_none : (p : Plan) (w w1 w2 : Waiting) (rows rows' : List Row) (row : Row) → IsPlan p
+    → IsSoFar p w rows → issued_list w1 ≡ issued_list w → IsUnderWay p w1 (length rows + 1)
+    → IsBest p w1 C.Rest None → IssuesAny p w1 w2 (length rows) None → row ≡ empty_row → rows' ≡ rows ++ row ∷ []
+    → IsSoFar p w2 rows'
+so_far_none p w w1 w2 rows rows' row plan so_far same under best issues is_row is_rows =
     let size : length (rows ++ empty_row ∷ []) ≡ length rows + 1 = length-append rows (empty_row ∷ []) in
-    let matches : MatchesRows (length p.tables.now.ops.items) rows (progress_of w1).issued =
+    let matches : MatchesRows (length p.tables.now.ops.items) rows (progress_of p.ranks.now w1).issued =
     subst (λ xs. MatchesRows (length p.tables.now.ops.items) rows (λ j. get_or xs j None))
     (sym same) so_far.matches in
     let is : rows ++ empty_row ∷ [] ≡ rows' = ap (λ r. rows ++ r ∷ []) (sym is_row) ∙ sym is_rows in
-    subst (λ rs. IsSoFar p w2 q2 rs) is (record {
-      under_way = subst (λ n. IsUnderWay p w2 q2 n) (sym size) issues.0;
-      matches = matches_more (length p.tables.now.ops.items) rows empty_row (progress_of w1).issued (progress_of w2).issued matches
+    subst (λ rs. IsSoFar p w2 rs) is (record {
+      under_way = subst (λ n. IsUnderWay p w2 n) (sym size) issues.0;
+      matches = matches_more (length p.tables.now.ops.items) rows empty_row (progress_of p.ranks.now w1).issued (progress_of p.ranks.now w2).issued matches
           (λ j stands. absurd stands) (λ j misses. ap (λ xs. get_or xs j None) issues.1);
-      each = chosen_more p.ranks.now p.tables.now.latencies p.tables.now.ops.items rows empty_row so_far.each
-          (sym (ap (chosen_with p.tables.now.ops.items p.ranks.now
+      each = chosen_more p.priorities.now p.tables.now.latencies p.tables.now.ops.items rows empty_row so_far.each
+          (sym (ap (chosen_with p.tables.now.ops.items p.priorities.now
           (ready p.tables.now.latencies p.tables.now.ops.items rows (length rows)))
-          (chosen_none p w1 q1 rows plan under matches so_far.each best)));
+          (chosen_none p w1 rows plan under matches so_far.each best)));
     })
 
 -- the choices of a cycle in the tables
-module _ (p : Plan) (w1 w2 w3 : Waiting) (q1 q2 q3 : Queues) (c : ℕ) (a : Choice) (first : Issues p w1 w2 q1 q2 c a)
+module _ (p : Plan) (w1 w2 w3 : Waiting) (c : ℕ) (a : Choice) (first : Issues p w1 w2 c a)
   where
-    at_first : (progress_of w2).issued a.candidate.number ≡ Some c
-    at_first = issued_at (issued_list w1) (issued_list w2) a.candidate.number c first.issued first.there
+    at_first : (progress_of p.ranks.now w2).issued a.number ≡ Some c
+    at_first = issued_at (issued_list w1) (issued_list w2) a.number c first.issued first.there
 
-    beside_first : (j : ℕ) → j ≢ a.candidate.number → (progress_of w2).issued j ≡ (progress_of w1).issued j
-    beside_first j apart = issued_other (issued_list w1) (issued_list w2) a.candidate.number c j first.issued apart
+    beside_first : (j : ℕ) → j ≢ a.number → (progress_of p.ranks.now w2).issued j ≡ (progress_of p.ranks.now w1).issued j
+    beside_first j apart = issued_other (issued_list w1) (issued_list w2) a.number c j first.issued apart
 
-    now_issued : (b : Option Choice) → IssuesAny p w2 w3 q2 q3 c b → (j : ℕ) → (j ≡ a.candidate.number)
-        ⊎ (number_of b ≡ Some j) → ((progress_of w1).issued j ≡ None) × ((progress_of w3).issued j ≡ Some c)
+    now_issued : (b : Option Choice) → IssuesAny p w2 w3 c b → (j : ℕ) → (j ≡ a.number)
+        ⊎ (number_of b ≡ Some j) → ((progress_of p.ranks.now w1).issued j ≡ None) × ((progress_of p.ranks.now w3).issued j ≡ Some c)
     now_issued None second j (inl is) = (
-      ap (progress_of w1).issued is ∙ first.waiting,
-      ap (λ xs. get_or xs j None) second.1 ∙ ap (progress_of w2).issued is ∙ at_first,
+      ap (progress_of p.ranks.now w1).issued is ∙ first.waiting,
+      ap (λ xs. get_or xs j None) second.1 ∙ ap (progress_of p.ranks.now w2).issued is ∙ at_first,
     )
     now_issued None second j (inr is) = cc
     now_issued (Some b) second j (inl is) =
-        let apart : j ≢ b.candidate.number =
-        (λ same. not_both ((progress_of w2).issued b.candidate.number) c second.waiting
-        (ap (progress_of w2).issued (sym same ∙ is) ∙ at_first)) in (
-          ap (progress_of w1).issued is ∙ first.waiting,
-          issued_other (issued_list w2) (issued_list w3) b.candidate.number
-              c j second.issued apart ∙ ap (progress_of w2).issued is ∙ at_first,
+        let apart : j ≢ b.number =
+        (λ same. not_both ((progress_of p.ranks.now w2).issued b.number) c second.waiting
+        (ap (progress_of p.ranks.now w2).issued (sym same ∙ is) ∙ at_first)) in (
+          ap (progress_of p.ranks.now w1).issued is ∙ first.waiting,
+          issued_other (issued_list w2) (issued_list w3) b.number
+              c j second.issued apart ∙ ap (progress_of p.ranks.now w2).issued is ∙ at_first,
         )
     now_issued (Some b) second j (inr is) =
-        let same : b.candidate.number ≡ j = same_some (Some j) b.candidate.number j (sym is) refl in
-        let apart : j ≢ a.candidate.number =
-        (λ e. not_both ((progress_of w2).issued b.candidate.number) c second.waiting
-        (ap (progress_of w2).issued (same ∙ e) ∙ at_first)) in (
-          sym (beside_first j apart) ∙ ap (progress_of w2).issued (sym same) ∙ second.waiting,
-          ap (progress_of w3).issued (sym same) ∙ issued_at (issued_list w2) (issued_list w3) b.candidate.number c
+        let same : b.number ≡ j = same_some (Some j) b.number j (sym is) refl in
+        let apart : j ≢ a.number =
+        (λ e. not_both ((progress_of p.ranks.now w2).issued b.number) c second.waiting
+        (ap (progress_of p.ranks.now w2).issued (same ∙ e) ∙ at_first)) in (
+          sym (beside_first j apart) ∙ ap (progress_of p.ranks.now w2).issued (sym same) ∙ second.waiting,
+          ap (progress_of p.ranks.now w3).issued (sym same) ∙ issued_at (issued_list w2) (issued_list w3) b.number c
               second.issued second.there,
         )
 
-    others_kept : (b : Option Choice) → IssuesAny p w2 w3 q2 q3 c b → (j : ℕ) → j ≢ a.candidate.number
-        → ((x : Choice) → b ≡ Some x → j ≢ x.candidate.number) → (progress_of w3).issued j ≡ (progress_of w1).issued j
+    others_kept : (b : Option Choice) → IssuesAny p w2 w3 c b → (j : ℕ) → j ≢ a.number
+        → ((x : Choice) → b ≡ Some x → j ≢ x.number) → (progress_of p.ranks.now w3).issued j ≡ (progress_of p.ranks.now w1).issued j
     others_kept None second j apart other = ap (λ xs. get_or xs j None) second.1 ∙ beside_first j apart
     others_kept (Some b) second j apart other =
-        issued_other (issued_list w2) (issued_list w3) b.candidate.number c j second.issued (other b refl)
+        issued_other (issued_list w2) (issued_list w3) b.number c j second.issued (other b refl)
         ∙ beside_first j apart
 
-    under_way_after : (b : Option Choice) → IssuesAny p w2 w3 q2 q3 c b → IsUnderWay p w3 q3 (c + 1)
+    under_way_after : (b : Option Choice) → IssuesAny p w2 w3 c b → IsUnderWay p w3 (c + 1)
     under_way_after None second = second.0
     under_way_after (Some b) second = second.under_way
 
@@ -170,100 +169,100 @@ count_issued xs ys n c is below none =
     omega arith
 
 -- how many wait after the choices of a cycle
-pub count_after : (p : Plan) (w w1 w2 w3 : Waiting) (q1 q2 q3 : Queues) (c : ℕ) (a : Choice) (b : Option Choice)
-    → issued_list w1 ≡ issued_list w → Issues p w1 w2 q1 q2 c a → IssuesAny p w2 w3 q2 q3 c b
+pub count_after : (p : Plan) (w w1 w2 w3 : Waiting) (c : ℕ) (a : Choice) (b : Option Choice)
+    → issued_list w1 ≡ issued_list w → Issues p w1 w2 c a → IssuesAny p w2 w3 c b
     → waiting_count w3 + slot_count b ≡ waiting_count w
-count_after p w w1 w2 w3 q1 q2 q3 c a None same first second =
+count_after p w w1 w2 w3 c a None same first second =
     let one : waiting_count w2 + 1 ≡ waiting_count w1 =
-    count_issued (issued_list w1) (issued_list w2) a.candidate.number c first.issued first.there first.waiting in
+    count_issued (issued_list w1) (issued_list w2) a.number c first.issued first.there first.waiting in
     let start : waiting_count w1 ≡ waiting_count w = ap (count_by is_none) same in
     let end : waiting_count w3 ≡ waiting_count w2 = ap (count_by is_none) second.1 in
     omega arith
-count_after p w w1 w2 w3 q1 q2 q3 c a (Some b) same first second =
+count_after p w w1 w2 w3 c a (Some b) same first second =
     let one : waiting_count w2 + 1 ≡ waiting_count w1 =
-    count_issued (issued_list w1) (issued_list w2) a.candidate.number c first.issued first.there first.waiting in
+    count_issued (issued_list w1) (issued_list w2) a.number c first.issued first.there first.waiting in
     let start : waiting_count w1 ≡ waiting_count w = ap (count_by is_none) same in
     let two : waiting_count w3 + 1 ≡ waiting_count w2 =
-    count_issued (issued_list w2) (issued_list w3) b.candidate.number c second.issued second.there second.waiting in
+    count_issued (issued_list w2) (issued_list w3) b.number c second.issued second.there second.waiting in
     omega arith
 
-pub count_none : (p : Plan) (w w1 w2 : Waiting) (q1 q2 : Queues) (c : ℕ) → issued_list w1 ≡ issued_list w
-    → IssuesAny p w1 w2 q1 q2 c None → waiting_count w2 + 0 ≡ waiting_count w
-count_none p w w1 w2 q1 q2 c same none =
+pub count_none : (p : Plan) (w w1 w2 : Waiting) (c : ℕ) → issued_list w1 ≡ issued_list w
+    → IssuesAny p w1 w2 c None → waiting_count w2 + 0 ≡ waiting_count w
+count_none p w w1 w2 c same none =
     let start : waiting_count w1 ≡ waiting_count w = ap (count_by is_none) same in
     let end : waiting_count w2 ≡ waiting_count w1 = ap (count_by is_none) none.1 in
     omega arith
 
 number_is : (b : Option Choice) (j : ℕ) → number_of b ≡ Some j → (x : Choice) × (b ≡ Some x)
-    × (j ≡ x.candidate.number)
+    × (j ≡ x.number)
 number_is None j is = cc
-number_is (Some x) j is = (x, refl, sym (same_some (Some j) x.candidate.number j (sym is) refl))
+number_is (Some x) j is = (x, refl, sym (same_some (Some j) x.number j (sym is) refl))
 
 -- a first choice, and perhaps a second
-pub so_far_row : (p : Plan) (w w1 w2 w3 : Waiting) (q q1 q2 q3 : Queues) (rows rows' : List Row) (row : Row)
-    (a : Choice) (b : Option Choice) → IsPlan p → IsSoFar p w q rows → issued_list w1 ≡ issued_list w
-    → IsUnderWay p w1 q1 (length rows + 1)
-    → IsBest q1 None (Some a) → Issues p w1 w2 q1 q2 (length rows) a → IsBest q2 (Some a.class) b
-    → IssuesAny p w2 w3 q2 q3 (length rows) b
-    → row ≡ row_with a b → rows' ≡ rows ++ row ∷ [] → IsSoFar p w3 q3 rows'
-so_far_row p w w1 w2 w3 q q1 q2 q3 rows rows' row a b plan so_far same under best_a issues_a best_b issues_b is_row
+pub so_far_row : (p : Plan) (w w1 w2 w3 : Waiting) (rows rows' : List Row) (row : Row)
+    (a : Choice) (b : Option Choice) → IsPlan p → IsSoFar p w rows → issued_list w1 ≡ issued_list w
+    → IsUnderWay p w1 (length rows + 1)
+    → IsBest p w1 C.Rest (Some a) → Issues p w1 w2 (length rows) a → IsBest p w2 a.class b
+    → IssuesAny p w2 w3 (length rows) b
+    → row ≡ row_with a b → rows' ≡ rows ++ row ∷ [] → IsSoFar p w3 rows'
+so_far_row p w w1 w2 w3 rows rows' row a b plan so_far same under best_a issues_a best_b issues_b is_row
     is_rows =
     let made : Row = row_with a b in
     let size : length (rows ++ row_with a b ∷ []) ≡ length rows + 1 = length-append rows (row_with a b ∷ []) in
-    let matches : MatchesRows (length p.tables.now.ops.items) rows (progress_of w1).issued =
+    let matches : MatchesRows (length p.tables.now.ops.items) rows (progress_of p.ranks.now w1).issued =
     subst (λ xs. MatchesRows (length p.tables.now.ops.items) rows (λ j. get_or xs j None))
     (sym same) so_far.matches in
     let is : rows ++ row_with a b ∷ [] ≡ rows' = ap (λ r. rows ++ r ∷ []) (sym is_row) ∙ sym is_rows in
-    subst (λ rs. IsSoFar p w3 q3 rs) is (record {
-      under_way = subst (λ n. IsUnderWay p w3 q3 n) (sym size)
-          (under_way_after p w1 w2 w3 q1 q2 q3 (length rows) a issues_a b issues_b);
-      matches = matches_more (length p.tables.now.ops.items) rows (row_with a b) (progress_of w1).issued (progress_of w3).issued
+    subst (λ rs. IsSoFar p w3 rs) is (record {
+      under_way = subst (λ n. IsUnderWay p w3 n) (sym size)
+          (under_way_after p w1 w2 w3 (length rows) a issues_a b issues_b);
+      matches = matches_more (length p.tables.now.ops.items) rows (row_with a b) (progress_of p.ranks.now w1).issued (progress_of p.ranks.now w3).issued
           matches
-          (λ j stands. now_issued p w1 w2 w3 q1 q2 q3 (length rows) a issues_a b issues_b j (from_row a b j stands))
-          (λ j misses. others_kept p w1 w2 w3 q1 q2 q3 (length rows) a issues_a b issues_b j
+          (λ j stands. now_issued p w1 w2 w3 (length rows) a issues_a b issues_b j (from_row a b j stands))
+          (λ j misses. others_kept p w1 w2 w3 (length rows) a issues_a b issues_b j
           (λ e. misses (subst (λ k. In (slots (row_with a b)) k) (sym e) (in_first a b)))
           (λ x some e. misses (subst (λ k. In (slots (row_with a b)) k) (sym e)
-          (subst (λ o. In (slots (row_with a o)) x.candidate.number) (sym some) (in_second a x)))));
-      each = chosen_more p.ranks.now p.tables.now.latencies p.tables.now.ops.items rows (row_with a b) so_far.each
-          (chosen_row p w1 q1 rows plan under matches so_far.each q2 a best_a.0.1 issues_a.takes b best_a best_b);
+          (subst (λ o. In (slots (row_with a o)) x.number) (sym some) (in_second a x)))));
+      each = chosen_more p.priorities.now p.tables.now.latencies p.tables.now.ops.items rows (row_with a b) so_far.each
+          (chosen_row p w1 rows plan under matches so_far.each w2 a best_a issues_a b best_b);
     })
 
 -- a cycle in which nothing is ready, as the code has it
-pub step_none : (p : Plan) (w w1 w2 : Waiting) (q q1 q2 : Queues) (rows rows' : List Row) (row : Row) (c : ℕ)
-    (first : Option Choice) → c ≡ length rows → IsPlan p → IsSoFar p w q rows → issued_list w1 ≡ issued_list w
-    → IsUnderWay p w1 q1 (c + 1)
-    → first ≡ None → IsBest q1 None first → IssuesAny p w1 w2 q1 q2 c first → row ≡ empty_row → rows' ≡ rows ++ row ∷ []
-    → IsSoFar p w2 q2 rows'
-step_none p w w1 w2 q q1 q2 rows rows' row c first now plan so_far same under none best issues is_row is_rows =
-    so_far_none p w w1 w2 q q1 q2 rows rows' row plan so_far same
-    (subst (λ n. IsUnderWay p w1 q1 (n + 1)) now under)
-    (subst (λ o. IsBest q1 None o) none best)
-    (subst (λ n. IssuesAny p w1 w2 q1 q2 n None) now (subst (λ o. IssuesAny p w1 w2 q1 q2 c o) none issues))
+pub step_none : (p : Plan) (w w1 w2 : Waiting) (rows rows' : List Row) (row : Row) (c : ℕ)
+    (first : Option Choice) → c ≡ length rows → IsPlan p → IsSoFar p w rows → issued_list w1 ≡ issued_list w
+    → IsUnderWay p w1 (c + 1)
+    → first ≡ None → IsBest p w1 C.Rest first → IssuesAny p w1 w2 c first → row ≡ empty_row → rows' ≡ rows ++ row ∷ []
+    → IsSoFar p w2 rows'
+step_none p w w1 w2 rows rows' row c first now plan so_far same under none best issues is_row is_rows =
+    so_far_none p w w1 w2 rows rows' row plan so_far same
+    (subst (λ n. IsUnderWay p w1 (n + 1)) now under)
+    (subst (λ o. IsBest p w1 C.Rest o) none best)
+    (subst (λ n. IssuesAny p w1 w2 n None) now (subst (λ o. IssuesAny p w1 w2 c o) none issues))
     is_row is_rows
 
 -- a cycle with a choice, as the code has it
-pub step_some : (p : Plan) (w w1 w2 w3 : Waiting) (q q1 q2 q3 : Queues) (rows rows' : List Row) (row : Row) (c : ℕ)
-    (first : Option Choice) (a : Choice) (b : Option Choice) → c ≡ length rows → IsPlan p → IsSoFar p w q rows
-    → issued_list w1 ≡ issued_list w → IsUnderWay p w1 q1 (c + 1)
-    → first ≡ Some a → IsBest q1 None first → IssuesAny p w1 w2 q1 q2 c first → IsBest q2 (Some a.class) b
-    → IssuesAny p w2 w3 q2 q3 c b → row ≡ row_with a b → rows' ≡ rows ++ row ∷ [] → IsSoFar p w3 q3 rows'
-step_some p w w1 w2 w3 q q1 q2 q3 rows rows' row c first a b now plan so_far same under some best issues best_b issues_b
+pub step_some : (p : Plan) (w w1 w2 w3 : Waiting) (rows rows' : List Row) (row : Row) (c : ℕ)
+    (first : Option Choice) (a : Choice) (b : Option Choice) → c ≡ length rows → IsPlan p → IsSoFar p w rows
+    → issued_list w1 ≡ issued_list w → IsUnderWay p w1 (c + 1)
+    → first ≡ Some a → IsBest p w1 C.Rest first → IssuesAny p w1 w2 c first → IsBest p w2 a.class b
+    → IssuesAny p w2 w3 c b → row ≡ row_with a b → rows' ≡ rows ++ row ∷ [] → IsSoFar p w3 rows'
+step_some p w w1 w2 w3 rows rows' row c first a b now plan so_far same under some best issues best_b issues_b
     is_row is_rows =
-    so_far_row p w w1 w2 w3 q q1 q2 q3 rows rows' row a b plan so_far same
-    (subst (λ n. IsUnderWay p w1 q1 (n + 1)) now under)
-    (subst (λ o. IsBest q1 None o) some best)
-    (subst (λ n. IssuesAny p w1 w2 q1 q2 n (Some a)) now (subst (λ o. IssuesAny p w1 w2 q1 q2 c o) some issues))
+    so_far_row p w w1 w2 w3 rows rows' row a b plan so_far same
+    (subst (λ n. IsUnderWay p w1 (n + 1)) now under)
+    (subst (λ o. IsBest p w1 C.Rest o) some best)
+    (subst (λ n. IssuesAny p w1 w2 n (Some a)) now (subst (λ o. IssuesAny p w1 w2 c o) some issues))
     best_b
-    (subst (λ n. IssuesAny p w2 w3 q2 q3 n b) now issues_b)
+    (subst (λ n. IssuesAny p w2 w3 n b) now issues_b)
     is_row is_rows
 
-pub step_count : (p : Plan) (w w1 w2 w3 : Waiting) (q1 q2 q3 : Queues) (c n : ℕ) (first : Option Choice) (a : Choice)
-    (b : Option Choice) → issued_list w1 ≡ issued_list w → first ≡ Some a → IssuesAny p w1 w2 q1 q2 c first
-    → IssuesAny p w2 w3 q2 q3 c b
+pub step_count : (p : Plan) (w w1 w2 w3 : Waiting) (c n : ℕ) (first : Option Choice) (a : Choice)
+    (b : Option Choice) → issued_list w1 ≡ issued_list w → first ≡ Some a → IssuesAny p w1 w2 c first
+    → IssuesAny p w2 w3 c b
     → n ≡ slot_count b → waiting_count w3 + n ≡ waiting_count w
-step_count p w w1 w2 w3 q1 q2 q3 c n first a b same some issues issues_b is =
-    ap (λ m. waiting_count w3 + m) is ∙ count_after p w w1 w2 w3 q1 q2 q3 c a b same
-    (subst (λ o. IssuesAny p w1 w2 q1 q2 c o) some issues) issues_b
+step_count p w w1 w2 w3 c n first a b same some issues issues_b is =
+    ap (λ m. waiting_count w3 + m) is ∙ count_after p w w1 w2 w3 c a b same
+    (subst (λ o. IssuesAny p w1 w2 c o) some issues) issues_b
 
 one_waits : (xs : List (Option ℕ)) → 0 < count_by is_none xs → (j : ℕ) × (j < length xs) × (get_or xs j None ≡ None)
 one_waits [] some = absurd (omega arith)
@@ -277,9 +276,9 @@ short_sum : (lat : Latencies) (ops : List Op) → sum_by (latency lat) ops ≤ l
 short_sum lat ops = sum_by-le (latency lat) 16 ops (λ k d below. short_latency lat (kind (get_or ops k d)))
 
 -- while one waits, there aren't more rows than cycles of latency
-pub few_rows : (p : Plan) (w : Waiting) (q : Queues) (rows : List Row) → IsPlan p → IsSoFar p w q rows
+pub few_rows : (p : Plan) (w : Waiting) (rows : List Row) → IsPlan p → IsSoFar p w rows
     → 0 < waiting_count w → length rows ≤ 160000
-few_rows p w q rows plan so_far some =
+few_rows p w rows plan so_far some =
     let found : (j : ℕ) × (j < length (issued_list w)) × (get_or (issued_list w) j None ≡ None) =
     one_waits (issued_list w) some in
     let below : found.0 < length (issued_list w) = found.1 in
@@ -287,7 +286,7 @@ few_rows p w q rows plan so_far some =
     let size : length p.tables.now.edges.heads.items ≡ length p.tables.now.ops.items = plan.graph.size in
     let short : length p.tables.now.edges.heads.items ≤ 10000 = p.tables.now.edges.short in
     let bound : length rows ≤ sum_by (latency p.tables.now.latencies) p.tables.now.ops.items =
-    rows_bound p.ranks.now p.tables.now.latencies p.tables.now.ops.items rows found.0 so_far.each (omega arith)
+    rows_bound p.priorities.now p.tables.now.latencies p.tables.now.ops.items rows found.0 so_far.each (omega arith)
     (so_far.matches.waiting found.0 (omega arith) found.2) in
     let sum : sum_by (latency p.tables.now.latencies) p.tables.now.ops.items ≤ length p.tables.now.ops.items * 16 = short_sum p.tables.now.latencies p.tables.now.ops.items in
     omega arith
@@ -306,14 +305,14 @@ none_waits xs none j below = by_option (get_or xs j None)
     (λ t is. (t, is))
 
 -- none waits, so the rows are the greedy schedule
-pub greedy_at_end : (p : Plan) (w : Waiting) (q : Queues) (rows : List Row) (block : List Op) → IsPlan p
-    → IsSoFar p w q rows → waiting_count w ≡ 0
+pub greedy_at_end : (p : Plan) (w : Waiting) (rows : List Row) (block : List Op) → IsPlan p
+    → IsSoFar p w rows → waiting_count w ≡ 0
     → ((c : ℕ) → length rows ≡ c + 1 → slots (row_at rows c) ≡ [] → ⊥) → p.tables.now.ops.items ≡ renamed block
-    → IsGreedyBy p.ranks.now p.tables.now.latencies block p.tables.now.ops.items rows
-greedy_at_end p w q rows block plan so_far none last is =
+    → IsGreedyBy p.priorities.now p.tables.now.latencies block p.tables.now.ops.items rows
+greedy_at_end p w rows block plan so_far none last is =
     let table : length (issued_list w) ≡ length p.tables.now.edges.heads.items = issued_size p.tables.now.edges w so_far.under_way.sized in
     let size : length p.tables.now.edges.heads.items ≡ length p.tables.now.ops.items = plan.graph.size in
-    chosen_is_greedy p.ranks.now p.tables.now.latencies block p.tables.now.ops.items rows is so_far.each
+    chosen_is_greedy p.priorities.now p.tables.now.latencies block p.tables.now.ops.items rows is so_far.each
     (λ i below.
     let found : (t : ℕ) × (get_or (issued_list w) i None ≡ Some t) = none_waits (issued_list w) none i (omega arith) in
     let at : (issue_cycle rows i ≡ found.0) × (found.0 < length rows) = so_far.matches.done i found.0 below found.1 in

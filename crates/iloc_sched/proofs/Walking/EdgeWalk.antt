@@ -1,6 +1,5 @@
 -- The walk along the edges out of an issued operation keeps what is known of what waits; for `Waiting::issue`.
-use Rattle.std.proofs.Common.{◌≡◌, ◌≢◌, ℕ, ◌+◌, ◌-◌, ◌%◌, ◌<◌, ◌≤◌, max, Bool, true, false, if◌then◌else◌, List, ◌∷◌, Option, Some, None, ◌⊎◌, inl, inr, refl, sym, ◌∙◌, ap, subst, arith}
-use Rattle.iloc_sched.specs.Steps.Members.{In, AreApart}
+use Rattle.std.proofs.Common.{◌≡◌, ◌≢◌, ℕ, ◌+◌, ◌-◌, ◌%◌, ◌<◌, ◌≤◌, max, Bool, true, false, Option, Some, None, ◌⊎◌, inl, inr, sym, ◌∙◌, ap, subst, arith}
 use Rattle.iloc_sched.specs.Steps.Graph.{Graph, IsLast, IsGraph}
 use Rattle.iloc_sched.specs.Steps.Progress.{Progress, UpTo, Waits, CanIssue, count_from}
 use Rattle.iloc_meaning.proofs.Cases.{by_bool}
@@ -56,18 +55,16 @@ begins graph w f i c issued' is waits can before at others =
           (λ same. let now : t ≡ c = same_some (issued' i) t c (ap issued' (sym same) ∙ was) at in omega arith)
           (λ apart. waits.times j t there (sym (others j apart) ∙ was));
       waits = λ j there none. waits.waits j there (sym (others j (not_i j none)) ∙ none);
-      only = λ b j small held.
-          let h = waits.only b j small held in
-          let later : f ≤ w.earliest j = h.3 in
+      only = λ b j small there held.
+          let h = waits.only b j small there held in
+          let later : f ≤ w.earliest j = h.2 in
           let soon : w.earliest i < f = can.soon in (
-            h.0,
             others j (λ same. let e : w.earliest j ≡ w.earliest i = ap w.earliest same in absurd (omega arith))
-                ∙ h.1,
+                ∙ h.0,
+            h.1,
             h.2,
             h.3,
-            h.4,
           );
-      apart = waits.apart;
     }
 
 -- of the edges out of i up to x those other than x are up to the one before it
@@ -118,20 +115,19 @@ module _ (graph : Graph) (w : Progress) (f i x : ℕ) (is : IsGraph graph) (wait
       (λ same. apart (sym (is.into k x within (subst (λ a. graph.start k ≤ a) same from)
       (subst (λ a. a < graph.start (k + 1)) same (omega arith)))))))
 
--- j goes into bucket b where it has come to its last edge
-pub record Enters (bucket bucket' : ℕ → List ℕ) (b j : ℕ) (at_end : Type 0) : Type 0 where
-  pub stays : (a k : ℕ) → a < 32 → In (bucket a) k → In (bucket' a) k
-  pub was : (a k : ℕ) → a < 32 → In (bucket' a) k → In (bucket a) k ⊎ ((k ≡ j) × (a ≡ b) × at_end)
-  pub comes : at_end → In (bucket' b) j
-  pub apart : (a : ℕ) → a < 32 → AreApart (bucket' a)
+-- of n operations j alone goes into bucket b, where it has come to its last edge
+pub record Enters (n : ℕ) (bucket bucket' : ℕ → ℕ → Bool) (b j : ℕ) (at_end : Type 0) : Type 0 where
+  pub comes : at_end → bucket' b j ≡ true
+  pub was : bucket' b j ≡ true → (bucket b j ≡ true) ⊎ at_end
+  pub others : (a k : ℕ) → a < 32 → k < n → (a ≡ b → k ≡ j → ⊥) → bucket' a k ≡ bucket a k
 
 -- edge x is over, and its target has one less to wait for
-pub moves : (graph : Graph) (w : Progress) (f i x c p t : ℕ) (unmet' earliest' : ℕ → ℕ) (bucket' : ℕ → List ℕ)
+pub moves : (graph : Graph) (w : Progress) (f i x c p t : ℕ) (unmet' earliest' : ℕ → ℕ) (bucket' : ℕ → ℕ → Bool)
     → IsGraph graph → Waits graph w f i (Some x) → x < graph.count → graph.from x ≡ i → f ≡ c + 1 → w.issued i ≡ Some c
     → w.unmet (graph.to x) ≡ p + 1 → t ≡ max (w.earliest (graph.to x)) (c + graph.delay x)
     → unmet' (graph.to x) ≡ p → ((k : ℕ) → k ≢ graph.to x → unmet' k ≡ w.unmet k)
     → earliest' (graph.to x) ≡ t → ((k : ℕ) → k ≢ graph.to x → earliest' k ≡ w.earliest k)
-    → Enters w.bucket bucket' (t % 32) (graph.to x) (p ≡ 0)
+    → Enters graph.ops w.bucket bucket' (t % 32) (graph.to x) (p ≡ 0)
     → Waits graph (record w { unmet = unmet'; earliest = earliest'; bucket = bucket' }) f i (graph.previous x)
 moves graph w f i x c p t unmet' earliest' bucket' is waits there from_i now at_i was_p is_t at_unmet other_unmet
     at_earliest other_earliest enters =
@@ -197,35 +193,48 @@ moves graph w f i x c p t unmet' earliest' bucket' is waits there from_i now at_
       waits = λ k within none all late_k. by_eq k j
           (λ same. let at_k : earliest' k ≡ t = ap earliest' same ∙ at_earliest in
           let at_end : p ≡ 0 = sym at_unmet ∙ ap unmet' (sym same) ∙ all in
-          subst (λ a. In (bucket' (a % 32)) k) (sym at_k)
-          (subst (λ a. In (bucket' (t % 32)) a) (sym same) (enters.comes at_end)))
+          subst (λ a. bucket' (a % 32) k ≡ true) (sym at_k)
+          (subst (λ a. bucket' (t % 32) a ≡ true) (sym same) (enters.comes at_end)))
           (λ apart. let is_e : earliest' k ≡ w.earliest k = other_earliest k apart in
-          subst (λ a. In (bucket' (a % 32)) k) (sym is_e)
-          (enters.stays _ k (omega arith) (waits.waits k within none (sym (other_unmet k apart) ∙ all)
-          (subst (λ a. f ≤ a) is_e late_k))));
-      only = λ b k small held. elim (enters.was b k small held) [
-        | inl old ↦
-            let h = waits.only b k small old in
-            let all : w.unmet k ≡ 0 = h.2 in
-            let apart : k ≢ j = (λ same. let none : w.unmet j ≡ 0 = ap w.unmet (sym same) ∙ all in absurd (omega arith)) in (
-              h.0,
-              h.1,
-              other_unmet k apart ∙ all,
-              subst (λ a. f ≤ a) (sym (other_earliest k apart)) h.3,
-              ap (λ a. a % 32) (other_earliest k apart) ∙ h.4,
-            )
-        | inr new ↦
-            let same : k ≡ j = new.0 in
-            let at_k : earliest' k ≡ t = ap earliest' same ∙ at_earliest in (
-              subst (λ a. a < graph.ops) (sym same) j_there,
-              subst (λ a. w.issued a ≡ None) (sym same) (none_of (w.issued j) waiting),
-              ap unmet' same ∙ at_unmet ∙ new.2,
-              omega arith,
-              ap (λ a. a % 32) at_k ∙ sym new.1,
-            )
-      ];
-      apart = enters.apart;
+          subst (λ a. bucket' (a % 32) k ≡ true) (sym is_e)
+          (enters.others (w.earliest k % 32) k (omega arith) within (λ _ same. apart same)
+          ∙ waits.waits k within none (sym (other_unmet k apart) ∙ all) (subst (λ a. f ≤ a) is_e late_k)));
+      only = λ b k small within held. by_eq k j
+          (λ same.
+          let at_k : earliest' k ≡ t = ap earliest' same ∙ at_earliest in
+          let new : (b ≡ t % 32) × (p ≡ 0) = entered b small (subst (λ a. bucket' b a ≡ true) same held) in (
+            subst (λ a. w.issued a ≡ None) (sym same) (none_of (w.issued j) waiting),
+            ap unmet' same ∙ at_unmet ∙ new.1,
+            omega arith,
+            ap (λ a. a % 32) at_k ∙ sym new.0,
+          ))
+          (λ apart.
+          let h = waits.only b k small within (sym (enters.others b k small within (λ _ same. apart same)) ∙ held) in (
+            h.0,
+            other_unmet k apart ∙ h.1,
+            subst (λ a. f ≤ a) (sym (other_earliest k apart)) h.2,
+            ap (λ a. a % 32) (other_earliest k apart) ∙ h.3,
+          ));
     }
+  where
+    j_below : graph.to x < graph.ops
+    j_below = (is.to_there x there).0
+
+    -- it was in no bucket
+    old_none : (b : ℕ) → b < 32 → w.bucket b (graph.to x) ≡ true → ⊥
+    old_none b small held =
+        let none : w.unmet (graph.to x) ≡ 0 = (waits.only b (graph.to x) small j_below held).1 in absurd (omega arith)
+
+    entered : (b : ℕ) → b < 32 → bucket' b (graph.to x) ≡ true → (b ≡ t % 32) × (p ≡ 0)
+    entered b small held = by_eq b (t % 32)
+        (λ same. (
+          same,
+          elim (enters.was (subst (λ a. bucket' a (graph.to x) ≡ true) same held)) [
+            | inl old ↦ absurd (old_none (t % 32) (omega arith) old)
+            | inr end ↦ end
+          ],
+        ))
+        (λ apart. absurd (old_none b small (sym (enters.others b (graph.to x) small j_below (λ same _. apart same)) ∙ held)))
 
 -- nothing is loose
 pub ends : (graph : Graph) (w : Progress) (f i : ℕ) → Waits graph w f i None → Waits graph w f 0 None
@@ -240,48 +249,4 @@ ends graph w f i waits = record {
   times = waits.times;
   waits = waits.waits;
   only = waits.only;
-  apart = waits.apart;
 }
-
--- j is put into bucket b, which does not have it
-enters_put : (bucket bucket' : ℕ → List ℕ) (b j : ℕ) (at_end : Type 0) → at_end
-    → ((a : ℕ) → a < 32 → AreApart (bucket a)) → (In (bucket b) j → ⊥) → bucket' b ≡ j ∷ bucket b
-    → ((a : ℕ) → a < 32 → a ≢ b → bucket' a ≡ bucket a) → Enters bucket bucket' b j at_end
-enters_put bucket bucket' b j at_end end apart new at others = record {
-  stays = λ a k small held. by_eq a b
-      (λ same. subst (λ a. In (bucket' a) k) (sym same)
-      (subst (λ xs. In xs k) (sym at) (inr (subst (λ a. In (bucket a) k) same held))))
-      (λ other. subst (λ xs. In xs k) (sym (others a small other)) held);
-  was = λ a k small held. by_eq a b
-      (λ same. elim (the_put k (subst (λ xs. In xs k) at (subst (λ a. In (bucket' a) k) same held))) [
-        | inl is ↦ inr (is, same, end)
-        | inr old ↦ inl (subst (λ a. In (bucket a) k) (sym same) old)
-      ])
-      (λ other. inl (subst (λ xs. In xs k) (others a small other) held));
-  comes = λ _. subst (λ xs. In xs j) (sym at) (inl refl);
-  apart = λ a small. by_eq a b
-      (λ same. subst (λ a. AreApart (bucket' a)) (sym same)
-      (subst AreApart (sym at) (new, apart b (subst (λ a. a < 32) same small))))
-      (λ other. subst AreApart (sym (others a small other)) (apart a small));
-}
-  where
-    the_put : (k : ℕ) → In (j ∷ bucket b) k → (k ≡ j) ⊎ In (bucket b) k
-    the_put k held = elim held [ inl is ↦ inl (sym is) | inr old ↦ inr old ]
-
--- the same if it has come to its last edge, and else no bucket changes
-pub enters_if : (ready : Bool) (bucket bucket' : ℕ → List ℕ) (b j : ℕ) (at_end : Type 0)
-    → (ready ≡ true → at_end) → (ready ≡ false → at_end → ⊥)
-    → ((a : ℕ) → a < 32 → AreApart (bucket a)) → (In (bucket b) j → ⊥)
-    → bucket' b ≡ (if ready then j ∷ bucket b else bucket b)
-    → ((a : ℕ) → a < 32 → a ≢ b → bucket' a ≡ bucket a) → Enters bucket bucket' b j at_end
-enters_if true bucket bucket' b j at_end end not apart new at others =
-    enters_put bucket bucket' b j at_end (end refl) apart new at others
-enters_if false bucket bucket' b j at_end end not apart new at others =
-    let same : (a : ℕ) → a < 32 → bucket' a ≡ bucket a = λ a small. by_eq a b
-    (λ is. subst (λ k. bucket' k ≡ bucket k) (sym is) at) (λ other. others a small other) in
-    record {
-      stays = λ a k small held. subst (λ xs. In xs k) (sym (same a small)) held;
-      was = λ a k small held. inl (subst (λ xs. In xs k) (same a small) held);
-      comes = λ over. absurd (not refl over);
-      apart = λ a small. subst AreApart (sym (same a small)) (apart a small);
-    }

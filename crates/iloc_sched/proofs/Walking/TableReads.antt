@@ -1,5 +1,5 @@
 -- What is read of the tables is what their views say; for `Waiting::pass`.
-use Rattle.std.proofs.Common.{◌≡◌, ℕ, ◌<◌, length, get_or, sym, ◌∙◌, ap, arith}
+use Rattle.std.proofs.Common.{◌≡◌, ℕ, ◌<◌, List, length, get_or, sym, ◌∙◌, ap, arith}
 use Rattle.std.proofs.lemmas.List.{length-map, get_or-map}
 use Rattle.iloc_sched.specs.declared.edges.Edge.{Edge}
 use Rattle.iloc_sched.specs.declared.edges.Edges.{Edges}
@@ -10,31 +10,31 @@ use Rattle.iloc_sched.specs.Steps.Views.{edge_at, graph_of, issued_list, unmet_l
 
 module _ (e : Edges) (w : Waiting) (sized : IsSized e w) where
   pub issued_size : length (issued_list w) ≡ length e.heads.items
-  issued_size = length-map w.states.items (λ (s : OperationState). s.issued) ∙ sized.states
+  issued_size = length-map w.states.items (λ (s : OperationState). s.issued) ∙ sized
 
   pub unmet_size : length (unmet_list w) ≡ length e.heads.items
-  unmet_size = length-map w.states.items (λ (s : OperationState). s.wait.unmet) ∙ sized.states
+  unmet_size = length-map w.states.items (λ (s : OperationState). s.wait.unmet) ∙ sized
 
   pub earliest_size : length (earliest_list w) ≡ length e.heads.items
-  earliest_size = length-map w.states.items (λ (s : OperationState). s.wait.earliest) ∙ sized.states
+  earliest_size = length-map w.states.items (λ (s : OperationState). s.wait.earliest) ∙ sized
 
 -- what is read of the state of operation j
-module _ (w : Waiting) (j : ℕ) (state : OperationState) (below : j < length w.states.items)
+module _ (ranks : List ℕ) (w : Waiting) (j : ℕ) (state : OperationState) (below : j < length w.states.items)
     (is : state ≡ get_or w.states.items j state) where
-  pub unmet_read : state.wait.unmet ≡ (progress_of w).unmet j
+  pub unmet_read : state.wait.unmet ≡ (progress_of ranks w).unmet j
   unmet_read = ap (λ (s : OperationState). s.wait.unmet) is
       ∙ sym (get_or-map (λ (s : OperationState). s.wait.unmet) w.states.items j state 0 below)
 
-  pub earliest_read : state.wait.earliest ≡ (progress_of w).earliest j
+  pub earliest_read : state.wait.earliest ≡ (progress_of ranks w).earliest j
   earliest_read = ap (λ (s : OperationState). s.wait.earliest) is
       ∙ sym (get_or-map (λ (s : OperationState). s.wait.earliest) w.states.items j state 0 below)
 
 -- what the target of an edge waits for
-pub target_read : (e : Edges) (w : Waiting) (x : ℕ) (edge : Edge) (state : OperationState) → IsGraph (graph_of e) → IsSized e w
+pub target_read : (ranks : List ℕ) (e : Edges) (w : Waiting) (x : ℕ) (edge : Edge) (state : OperationState) → IsGraph (graph_of e) → IsSized e w
     → x < length e.edges.items → edge ≡ edge_at e x → state ≡ get_or w.states.items edge.to state
-    → state.wait.unmet ≡ (progress_of w).unmet ((graph_of e).to x)
-target_read e w x edge state is sized below edge_is read =
+    → state.wait.unmet ≡ (progress_of ranks w).unmet ((graph_of e).to x)
+target_read ranks e w x edge state is sized below edge_is read =
     let to_is : edge.to ≡ (graph_of e).to x = ap (λ (d : Edge). d.to) edge_is in
     let there : (graph_of e).to x < length e.heads.items = (is.to_there x below).0 in
-    let size : length w.states.items ≡ length e.heads.items = sized.states in
-    unmet_read w edge.to state (omega arith) read ∙ ap (progress_of w).unmet to_is
+    let size : length w.states.items ≡ length e.heads.items = sized in
+    unmet_read ranks w edge.to state (omega arith) read ∙ ap (progress_of ranks w).unmet to_is

@@ -1,19 +1,15 @@
 -- The same walk in the tables of the code, step by step; for `Waiting::issue`, `pass`.
-use Rattle.std.proofs.Common.{◌≡◌, ◌≢◌, ℕ, ◌+◌, ◌%◌, ◌<◌, ◌≤◌, ◌∷◌, List, length, max, set, get_or, Option, Some, None, if◌then◌else◌, nat_eq, refl, sym, ◌∙◌, ap, subst, arith}
-use Rattle.std.proofs.lemmas.Bool.Decides.{nat_tests}
+use Rattle.std.proofs.Common.{◌≡◌, ◌≢◌, ℕ, ◌+◌, ◌%◌, ◌<◌, List, length, max, set, get_or, Option, Some, None, refl, sym, ◌∙◌, ap, subst, arith}
 use Rattle.std.proofs.lemmas.List.{get_or-set_same, get_or-set_other}
 use Rattle.iloc_sched.specs.declared.edges.Edge.{Edge}
 use Rattle.iloc_sched.specs.declared.edges.Edges.{Edges}
 use Rattle.iloc_sched.specs.declared.cycle.waiting.OperationState.{OperationState}
 use Rattle.iloc_sched.specs.declared.cycle.waiting.Waiting.{Waiting}
 use Rattle.iloc_sched.specs.declared.cycle.calendar.Calendar.{Calendar}
-use Rattle.iloc_sched.specs.Steps.Members.{In}
-use Rattle.iloc_sched.specs.Steps.Calendar.{bucket_of}
 use Rattle.iloc_sched.specs.Steps.Graph.{Graph, IsLast, IsGraph}
 use Rattle.iloc_sched.specs.Steps.Progress.{Progress, Waits, CanIssue, IsFrom, KeepsPlaces}
-use Rattle.iloc_sched.specs.Steps.Views.{edge_at, graph_of, issued_list, unmet_list, earliest_list, progress_of, IsSized}
-use Rattle.iloc_sched.proofs.Walking.EdgeWalk.{begins, some_unmet, moves, Enters, enters_if}
-use Rattle.iloc_sched.proofs.Walking.LinkedBuckets.{apart_few}
+use Rattle.iloc_sched.specs.Steps.Views.{edge_at, graph_of, issued_list, unmet_list, earliest_list, progress_of, bucket_of, IsSized}
+use Rattle.iloc_sched.proofs.Walking.EdgeWalk.{begins, some_unmet, moves, Enters}
 use Rattle.iloc_sched.proofs.Walking.TableReads.{issued_size, unmet_size, earliest_size, earliest_read}
 
 pub number_set_same : (xs : List ℕ) (i x : ℕ) → i < length xs → get_or (set xs i x) i 0 ≡ x
@@ -22,7 +18,7 @@ number_set_same xs i x below = get_or-set_same xs i x 0 below
 pub number_set_other : (xs : List ℕ) (i x k : ℕ) → k ≢ i → get_or (set xs i x) k 0 ≡ get_or xs k 0
 number_set_other xs i x k apart = get_or-set_other xs i k x 0 apart
 
-module _ (e : Edges) (w v : Waiting) (x p t : ℕ) (is : IsGraph (graph_of e)) (sized : IsSized e w)
+module _ (ranks : List ℕ) (e : Edges) (w v : Waiting) (x p t : ℕ) (is : IsGraph (graph_of e)) (sized : IsSized e w)
     (there : x < length e.edges.items)
     (issued : issued_list v ≡ issued_list w)
     (unmet : unmet_list v ≡ set (unmet_list w) ((graph_of e).to x) p)
@@ -30,105 +26,70 @@ module _ (e : Edges) (w v : Waiting) (x p t : ℕ) (is : IsGraph (graph_of e)) (
   target_there : (graph_of e).to x < length e.heads.items
   target_there = (is.to_there x there).0
 
-  unmet_at : (progress_of v).unmet ((graph_of e).to x) ≡ p
+  unmet_at : (progress_of ranks v).unmet ((graph_of e).to x) ≡ p
   unmet_at = let size : length (unmet_list w) ≡ length e.heads.items = unmet_size e w sized in
       let below : (graph_of e).to x < length e.heads.items = target_there in
       ap (λ xs. get_or xs ((graph_of e).to x) 0) unmet ∙ number_set_same (unmet_list w) ((graph_of e).to x) p
       (omega arith)
 
-  unmet_other : (k : ℕ) → k ≢ (graph_of e).to x → (progress_of v).unmet k ≡ (progress_of w).unmet k
+  unmet_other : (k : ℕ) → k ≢ (graph_of e).to x → (progress_of ranks v).unmet k ≡ (progress_of ranks w).unmet k
   unmet_other k apart = ap (λ xs. get_or xs k 0) unmet ∙ number_set_other (unmet_list w) ((graph_of e).to x) p k apart
 
-  earliest_at : (progress_of v).earliest ((graph_of e).to x) ≡ t
+  earliest_at : (progress_of ranks v).earliest ((graph_of e).to x) ≡ t
   earliest_at = let size : length (earliest_list w) ≡ length e.heads.items = earliest_size e w sized in
       let below : (graph_of e).to x < length e.heads.items = target_there in
       ap (λ xs. get_or xs ((graph_of e).to x) 0) earliest ∙ number_set_same (earliest_list w) ((graph_of e).to x) t
       (omega arith)
 
-  earliest_other : (k : ℕ) → k ≢ (graph_of e).to x → (progress_of v).earliest k ≡ (progress_of w).earliest k
+  earliest_other : (k : ℕ) → k ≢ (graph_of e).to x → (progress_of ranks v).earliest k ≡ (progress_of ranks w).earliest k
   earliest_other k apart = ap (λ xs. get_or xs k 0) earliest
       ∙ number_set_other (earliest_list w) ((graph_of e).to x) t k apart
 
   -- edge x is over
-  pub passed : (cycle : ℕ) → (progress_of w).issued ((graph_of e).from x) ≡ Some cycle
-      → Waits (graph_of e) (progress_of w) (cycle + 1) ((graph_of e).from x) (Some x)
-      → (progress_of w).unmet ((graph_of e).to x) ≡ p + 1
-      → t ≡ max ((progress_of w).earliest ((graph_of e).to x)) (cycle + (graph_of e).delay x)
-      → Enters (progress_of w).bucket (progress_of v).bucket (t % 32) ((graph_of e).to x) (p ≡ 0)
-      → Waits (graph_of e) (progress_of v) (cycle + 1) ((graph_of e).from x) ((graph_of e).previous x)
+  pub passed : (cycle : ℕ) → (progress_of ranks w).issued ((graph_of e).from x) ≡ Some cycle
+      → Waits (graph_of e) (progress_of ranks w) (cycle + 1) ((graph_of e).from x) (Some x)
+      → (progress_of ranks w).unmet ((graph_of e).to x) ≡ p + 1
+      → t ≡ max ((progress_of ranks w).earliest ((graph_of e).to x)) (cycle + (graph_of e).delay x)
+      → Enters (length e.heads.items) (progress_of ranks w).bucket (progress_of ranks v).bucket (t % 32) ((graph_of e).to x) (p ≡ 0)
+      → Waits (graph_of e) (progress_of ranks v) (cycle + 1) ((graph_of e).from x) ((graph_of e).previous x)
   passed cycle now waits was_p is_t enters =
-      subst (λ xs. Waits (graph_of e) (record (progress_of v) { issued = λ j. get_or xs j None }) (cycle + 1)
+      subst (λ xs. Waits (graph_of e) (record (progress_of ranks v) { issued = λ j. get_or xs j None }) (cycle + 1)
       ((graph_of e).from x) ((graph_of e).previous x)) (sym issued)
-      (moves (graph_of e) (progress_of w) (cycle + 1) ((graph_of e).from x) x cycle p t (progress_of v).unmet
-      (progress_of v).earliest (progress_of v).bucket
+      (moves (graph_of e) (progress_of ranks w) (cycle + 1) ((graph_of e).from x) x cycle p t (progress_of ranks v).unmet
+      (progress_of ranks v).earliest (progress_of ranks v).bucket
       is waits there refl refl now was_p is_t unmet_at unmet_other earliest_at earliest_other enters)
 
   -- who has no edge left keeps its place
-  pub places_kept : 0 < (progress_of w).unmet ((graph_of e).to x) → KeepsPlaces (progress_of w) (progress_of v)
+  pub places_kept : 0 < (progress_of ranks w).unmet ((graph_of e).to x) → KeepsPlaces (progress_of ranks w) (progress_of ranks v)
   places_kept some j done =
       let apart : j ≢ (graph_of e).to x = (λ same.
-      let none : (progress_of w).unmet ((graph_of e).to x) ≡ 0 = ap (progress_of w).unmet (sym same) ∙ done in
+      let none : (progress_of ranks w).unmet ((graph_of e).to x) ≡ 0 = ap (progress_of ranks w).unmet (sym same) ∙ done in
       absurd (omega arith)) in
       (unmet_other j apart ∙ done, earliest_other j apart)
 
--- who has an edge left stands in no bucket
-pub in_none : (graph : Graph) (w : Progress) (f i j : ℕ) (at : Option ℕ) → Waits graph w f i at
-    → 0 < w.unmet j → (b : ℕ) → b < 32 → In (w.bucket b) j → ⊥
-in_none graph w f i j at waits some b small held =
-    let done : w.unmet j ≡ 0 = (waits.only b j small held).2 in
-    absurd (omega arith)
-
--- a bucket has no more than all operations
-pub bucket_few : (graph : Graph) (w : Progress) (f i : ℕ) (at : Option ℕ) → Waits graph w f i at → (b : ℕ) → b < 32
-    → length (w.bucket b) ≤ graph.ops
-bucket_few graph w f i at waits b small =
-    apart_few (w.bucket b) graph.ops (waits.apart b small) (λ j held. (waits.only b j small held).0)
-
 -- the target of an edge that is gone through has an edge left
-pub target_waits : (e : Edges) (w : Waiting) (x cycle : ℕ) → IsGraph (graph_of e) → x < length e.edges.items
-    → Waits (graph_of e) (progress_of w) (cycle + 1) ((graph_of e).from x) (Some x)
-    → 0 < (progress_of w).unmet ((graph_of e).to x)
-target_waits e w x cycle is there waits =
-    some_unmet (graph_of e) (progress_of w) (cycle + 1) ((graph_of e).from x) x is waits there refl
+pub target_waits : (ranks : List ℕ) (e : Edges) (w : Waiting) (x cycle : ℕ) → IsGraph (graph_of e) → x < length e.edges.items
+    → Waits (graph_of e) (progress_of ranks w) (cycle + 1) ((graph_of e).from x) (Some x)
+    → 0 < (progress_of ranks w).unmet ((graph_of e).to x)
+target_waits ranks e w x cycle is there waits =
+    some_unmet (graph_of e) (progress_of ranks w) (cycle + 1) ((graph_of e).from x) x is waits there refl
 
 -- The same as the code has it.
-module _ (e : Edges) (w : Waiting) (x cycle : ℕ) (is : IsGraph (graph_of e)) (sized : IsSized e w)
+module _ (ranks : List ℕ) (e : Edges) (w : Waiting) (x cycle : ℕ) (is : IsGraph (graph_of e)) (sized : IsSized e w)
     (there : x < length e.edges.items) where
   -- when the target becomes ready at the earliest
   pub earliest_after : (edge : Edge) (state : OperationState) (t : ℕ) → edge ≡ edge_at e x
       → state ≡ get_or w.states.items edge.to state → t ≡ max state.wait.earliest (cycle + edge.delay)
-      → t ≡ max ((progress_of w).earliest ((graph_of e).to x)) (cycle + (graph_of e).delay x)
+      → t ≡ max ((progress_of ranks w).earliest ((graph_of e).to x)) (cycle + (graph_of e).delay x)
   earliest_after edge state t edge_is read greatest =
       let j : ℕ = (graph_of e).to x in
       let to_is : edge.to ≡ j = ap (λ (d : Edge). d.to) edge_is in
-      let size : length w.states.items ≡ length e.heads.items = sized.states in
+      let size : length w.states.items ≡ length e.heads.items = sized in
       let inside : j < length e.heads.items = (is.to_there x there).0 in
-      let early : state.wait.earliest ≡ (progress_of w).earliest j =
-      earliest_read w edge.to state (omega arith) read ∙ ap (progress_of w).earliest to_is in
+      let early : state.wait.earliest ≡ (progress_of ranks w).earliest j =
+      earliest_read ranks w edge.to state (omega arith) read ∙ ap (progress_of ranks w).earliest to_is in
       greatest ∙ ap (λ d. max state.wait.earliest (cycle + d)) (ap (λ (d : Edge). d.delay) edge_is)
       ∙ ap (λ u. max u (cycle + (graph_of e).delay x)) early
-
-module _ (e : Edges) (w : Waiting) (x cycle : ℕ) (is : IsGraph (graph_of e)) (sized : IsSized e w)
-    (there : x < length e.edges.items)
-    (now : (progress_of w).issued ((graph_of e).from x) ≡ Some cycle)
-    (waits : Waits (graph_of e) (progress_of w) (cycle + 1) ((graph_of e).from x) (Some x)) where
-  -- the target enters its bucket where it has no edge left
-  pub after_pass : (v : Waiting) (p t : ℕ) → issued_list v ≡ issued_list w
-      → unmet_list v ≡ set (unmet_list w) ((graph_of e).to x) p
-      → earliest_list v ≡ set (earliest_list w) ((graph_of e).to x) t
-      → (progress_of v).bucket (t % 32)
-      ≡ (if nat_eq p 0 then (graph_of e).to x ∷ (progress_of w).bucket (t % 32) else (progress_of w).bucket (t % 32))
-      → ((b : ℕ) → b < 32 → b ≢ t % 32 → (progress_of v).bucket b ≡ (progress_of w).bucket b)
-      → (progress_of w).unmet ((graph_of e).to x) ≡ p + 1
-      → t ≡ max ((progress_of w).earliest ((graph_of e).to x)) (cycle + (graph_of e).delay x)
-      → Waits (graph_of e) (progress_of v) (cycle + 1) ((graph_of e).from x) ((graph_of e).previous x)
-  after_pass v p t issued unmet earliest put others was_p is_t =
-      passed e w v x p t is sized there issued unmet earliest cycle now waits was_p is_t
-      (enters_if (nat_eq p 0) (progress_of w).bucket (progress_of v).bucket (t % 32) ((graph_of e).to x) (p ≡ 0)
-      (λ is. grind (arith, nat_tests)) (λ not none. grind (arith, nat_tests)) waits.apart
-      (in_none (graph_of e) (progress_of w) (cycle + 1) ((graph_of e).from x) ((graph_of e).to x) (Some x) waits
-      (target_waits e w x cycle is there waits) (t % 32) (omega arith))
-      put others)
 
 from_last : (graph : Graph) (i : ℕ) (head : Option ℕ) → IsLast (λ x. graph.from x ≡ i) graph.count head
     → IsFrom graph i head
@@ -141,42 +102,42 @@ pub from_previous : (graph : Graph) (i x : ℕ) (previous : Option ℕ) → x < 
 from_previous graph i x None there from_i is = tt
 from_previous graph i x (Some y) there from_i is = let below : y < x = is.0 in (omega arith, is.1 ∙ from_i)
 
-abbrev progress_by : List (Option ℕ) → List ℕ → List ℕ → Calendar → Progress
-progress_by issued unmet earliest calendar = record {
+abbrev progress_by : List ℕ → List (Option ℕ) → List ℕ → List ℕ → Calendar → Progress
+progress_by ranks issued unmet earliest calendar = record {
   issued = λ j. get_or issued j None;
   unmet = λ j. get_or unmet j 0;
   earliest = λ j. get_or earliest j 0;
-  bucket = bucket_of calendar;
+  bucket = bucket_of ranks calendar;
 }
 
 -- operation i is issued at this cycle
-pub started : (e : Edges) (w v : Waiting) (i cycle : ℕ) → IsGraph (graph_of e) → IsSized e w
-    → Waits (graph_of e) (progress_of w) (cycle + 1) 0 None → CanIssue (graph_of e) (progress_of w) (cycle + 1) i
+pub started : (ranks : List ℕ) (e : Edges) (w v : Waiting) (i cycle : ℕ) → IsGraph (graph_of e) → IsSized e w
+    → Waits (graph_of e) (progress_of ranks w) (cycle + 1) 0 None → CanIssue (graph_of e) (progress_of ranks w) (cycle + 1) i
     → issued_list v ≡ set (issued_list w) i (Some cycle) → unmet_list v ≡ unmet_list w
     → earliest_list v ≡ earliest_list w → v.calendar ≡ w.calendar
-    → Waits (graph_of e) (progress_of v) (cycle + 1) i ((graph_of e).head i)
+    → Waits (graph_of e) (progress_of ranks v) (cycle + 1) i ((graph_of e).head i)
     × IsFrom (graph_of e) i ((graph_of e).head i)
-started e w v i cycle is sized waits can issued unmet earliest calendar =
+started ranks e w v i cycle is sized waits can issued unmet earliest calendar =
     let size : length (issued_list w) ≡ length e.heads.items = issued_size e w sized in
     let there : i < length e.heads.items = can.there in
-    let begun : Waits (graph_of e) (progress_by (issued_list v) (unmet_list w) (earliest_list w) w.calendar) (cycle + 1) i
+    let begun : Waits (graph_of e) (progress_by ranks (issued_list v) (unmet_list w) (earliest_list w) w.calendar) (cycle + 1) i
     ((graph_of e).head i) =
-    begins (graph_of e) (progress_of w) (cycle + 1) i cycle (λ j. get_or (issued_list v) j None) is waits can
+    begins (graph_of e) (progress_of ranks w) (cycle + 1) i cycle (λ j. get_or (issued_list v) j None) is waits can
     (omega arith)
     (ap (λ xs. get_or xs i None) issued ∙ get_or-set_same (issued_list w) i (Some cycle) None (omega arith))
     (λ k apart. ap (λ xs. get_or xs k None) issued ∙ get_or-set_other (issued_list w) i k (Some cycle) None apart) in (
-      subst (λ xs. Waits (graph_of e) (progress_by (issued_list v) xs (earliest_list v) v.calendar) (cycle + 1) i
+      subst (λ xs. Waits (graph_of e) (progress_by ranks (issued_list v) xs (earliest_list v) v.calendar) (cycle + 1) i
           ((graph_of e).head i)) (sym unmet)
-          (subst (λ xs. Waits (graph_of e) (progress_by (issued_list v) (unmet_list w) xs v.calendar) (cycle + 1) i
+          (subst (λ xs. Waits (graph_of e) (progress_by ranks (issued_list v) (unmet_list w) xs v.calendar) (cycle + 1) i
           ((graph_of e).head i)) (sym earliest)
           (subst (λ (turned : Calendar). Waits (graph_of e)
-          (progress_by (issued_list v) (unmet_list w) (earliest_list w) turned) (cycle + 1) i ((graph_of e).head i))
+          (progress_by ranks (issued_list v) (unmet_list w) (earliest_list w) turned) (cycle + 1) i ((graph_of e).head i))
           (sym calendar) begun)),
       from_last (graph_of e) i ((graph_of e).head i) (is.heads i there),
     )
 
 -- the same places, since the same tables
-pub places_as_before : (w v : Waiting) → unmet_list v ≡ unmet_list w → earliest_list v ≡ earliest_list w
-    → KeepsPlaces (progress_of w) (progress_of v)
-places_as_before w v unmet earliest =
+pub places_as_before : (ranks : List ℕ) (w v : Waiting) → unmet_list v ≡ unmet_list w → earliest_list v ≡ earliest_list w
+    → KeepsPlaces (progress_of ranks w) (progress_of ranks v)
+places_as_before ranks w v unmet earliest =
     λ j done. (ap (λ xs. get_or xs j 0) unmet ∙ done, ap (λ xs. get_or xs j 0) earliest)

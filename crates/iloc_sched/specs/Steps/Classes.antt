@@ -1,5 +1,5 @@
 -- Classes of operations: which of them can be issued together.
-use Rattle.std.specs.Prelude.{Bool, true, false, Option, Some, None}
+use Rattle.std.specs.Prelude.{ℕ, Bool, true, false}
 use Rattle.iloc_timed.specs.declared.kind.Kind.{Kind}
 use Rattle.iloc_timed.specs.declared.kind.Kind.TheVariants as K
 use Rattle.iloc_sched.specs.declared.cycle.class.Class.{Class}
@@ -20,10 +20,12 @@ excludes C.Product C.Product = true
 excludes C.Output C.Output = true
 excludes _ _ = false
 
--- whether what stands in the row already keeps a class out of it
-abbrev pub is_excluded : Option Class → Class → Bool
-is_excluded None k = false
-is_excluded (Some a) k = excludes a k
+-- the place of a class among all
+abbrev pub place_of : Class → ℕ
+place_of C.Memory = 0
+place_of C.Product = 1
+place_of C.Output = 2
+place_of C.Rest = 3
 
 abbrev pub is_memory_class : Class → Bool
 is_memory_class C.Memory = true

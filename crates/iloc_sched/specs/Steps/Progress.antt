@@ -2,16 +2,15 @@
 use Rattle.std.specs.Prelude.{ℕ, zero, suc, ◌+◌, ◌-◌, ◌%◌, ◌≡◌, ◌<◌, ◌≤◌, ◌⊎◌, List, length, Option, Some, None, Bool, true, false, if◌then◌else◌}
 use Rattle.iloc_timed.specs.declared.row.Row.{Row}
 use Rattle.iloc_timed.specs.Rows.{issue_cycle}
-use Rattle.iloc_sched.specs.Steps.Members.{In, AreApart}
 use Rattle.iloc_sched.specs.Steps.Graph.{Graph}
 
 -- by operation the cycle at which it was issued, how many edges into it are unmet, and the earliest cycle by the others;
--- by cycle modulo 32 what becomes ready then
+-- by cycle modulo 32 whether it becomes ready then
 pub record Progress : Type 0 where
   pub issued : ℕ → Option ℕ
   pub unmet : ℕ → ℕ
   pub earliest : ℕ → ℕ
-  pub bucket : ℕ → List ℕ
+  pub bucket : ℕ → ℕ → Bool
 
 abbrev pub UpTo : Option ℕ → ℕ → Type 0
 UpTo None x = ⊥
@@ -36,9 +35,8 @@ pub record Waits (graph : Graph) (w : Progress) (f i : ℕ) (at : Option ℕ) : 
   pub reached : (j : ℕ) → j < graph.ops → (w.earliest j ≡ 0) ⊎ ((x : ℕ) × (u : ℕ) × (x < graph.count) × (graph.to x ≡ j) × (w.issued (graph.from x) ≡ Some u) × (w.earliest j ≡ u + graph.delay x))
   pub complete : (j t : ℕ) → j < graph.ops → w.issued j ≡ Some t → w.unmet j ≡ 0
   pub times : (j t : ℕ) → j < graph.ops → w.issued j ≡ Some t → t < f
-  pub waits : (j : ℕ) → j < graph.ops → w.issued j ≡ None → w.unmet j ≡ 0 → f ≤ w.earliest j → In (w.bucket (w.earliest j % 32)) j
-  pub only : (b j : ℕ) → b < 32 → In (w.bucket b) j → (j < graph.ops) × (w.issued j ≡ None) × (w.unmet j ≡ 0) × (f ≤ w.earliest j) × (w.earliest j % 32 ≡ b)
-  pub apart : (b : ℕ) → b < 32 → AreApart (w.bucket b)
+  pub waits : (j : ℕ) → j < graph.ops → w.issued j ≡ None → w.unmet j ≡ 0 → f ≤ w.earliest j → w.bucket (w.earliest j % 32) j ≡ true
+  pub only : (b j : ℕ) → b < 32 → j < graph.ops → w.bucket b j ≡ true → (w.issued j ≡ None) × (w.unmet j ≡ 0) × (f ≤ w.earliest j) × (w.earliest j % 32 ≡ b)
 
 -- operation j can be issued at a cycle from f - 1 on: what it waits for is over before cycle f
 pub record CanIssue (graph : Graph) (w : Progress) (f j : ℕ) : Type 0 where

@@ -1,12 +1,13 @@
 -- The scheduler's tables as functions of numbers.
-use Rattle.std.specs.Prelude.{ℕ, ◌≡◌, ◌≤◌, List, length, map, slice_index, slice_index_or, Option, None}
+use Rattle.std.specs.Prelude.{ℕ, Bool, ◌≡◌, List, length, map, slice_index, slice_index_or, Option, None}
 use Rattle.iloc_sched.specs.declared.edges.Edge.{Edge}
 use Rattle.iloc_sched.specs.declared.edges.Edges.{Edges}
 use Rattle.iloc_sched.specs.declared.cycle.waiting.OperationState.{OperationState}
 use Rattle.iloc_sched.specs.declared.cycle.waiting.Waiting.{Waiting}
 use Rattle.iloc_sched.specs.Steps.Graph.{Graph}
 use Rattle.iloc_sched.specs.Steps.Progress.{Progress}
-use Rattle.iloc_sched.specs.Steps.Calendar.{bucket_of}
+use Rattle.iloc_sched.specs.Steps.Calendar.{has}
+use Rattle.iloc_sched.specs.declared.cycle.calendar.Calendar.{Calendar}
 
 abbrev pub no_edge : Edge
 no_edge = record { from = 0; to = 0; delay = 0; previous = None }
@@ -42,7 +43,7 @@ abbrev pub earliest_in : List OperationState → List ℕ
 earliest_in states = map (λ (s : OperationState). s.wait.earliest) states
 
 -- these states, and these operations in the buckets
-abbrev pub progress_with : List OperationState → (ℕ → List ℕ) → Progress
+abbrev pub progress_with : List OperationState → (ℕ → ℕ → Bool) → Progress
 progress_with states bucket = record {
   issued = λ j. slice_index_or (issued_in states) j None;
   unmet = λ j. slice_index (unmet_in states) j;
@@ -59,10 +60,13 @@ unmet_list w = unmet_in w.states.items
 abbrev pub earliest_list : Waiting → List ℕ
 earliest_list w = earliest_in w.states.items
 
-abbrev pub progress_of : Waiting → Progress
-progress_of w = progress_with w.states.items (bucket_of w.calendar)
+-- whether an operation is in a bucket, by its rank
+abbrev pub bucket_of : List ℕ → Calendar → ℕ → ℕ → Bool
+bucket_of ranks c b j = has c b (slice_index ranks j)
 
--- the tables are as long as the operations need them
-pub record IsSized (e : Edges) (w : Waiting) : Type 0 where
-  pub states : length w.states.items ≡ length e.heads.items
-  pub links : length e.heads.items ≤ length w.calendar.behind.items
+abbrev pub progress_of : List ℕ → Waiting → Progress
+progress_of ranks w = progress_with w.states.items (bucket_of ranks w.calendar)
+
+-- there is a state for each operation
+abbrev pub IsSized : Edges → Waiting → Type 0
+IsSized e w = length w.states.items ≡ length e.heads.items

@@ -1,7 +1,17 @@
-//! Operations by the cycle at which they become ready.
-ghost use Rattle.std.specs.Prelude.{ℕ, ◌≡◌, ◌≢◌, ◌+◌, ◌^◌, ◌%◌, ◌<◌, ◌≤◌, if◌then◌else◌, [], ◌∷◌, length, IfNone, IfSome, OnOk};
+//! Operations by the cycle at which they become ready, and those that are ready, as sets of ranks.
+//!
+//! A rank is an operation's place in the order of choice, so the first of a set is its lowest bit, and no branch goes by how
+//! priorities compare: in blocks of a hundred operations heaps take 40 instructions and 3 mispredicted branches more for each
+//! operation, with ranking. Sets stand side by side: words w of all sets follow each other.
+ghost use Rattle.std.specs.Prelude.{ℕ, ◌≡◌, ◌≢◌, ◌+◌, ◌*◌, ◌/◌, ◌%◌, ◌<◌, ◌≤◌, length, OnOk};
+ghost use Rattle.iloc_sched.specs.Steps.RankSets.{IsSummary, IsFirstWithin};
 
-use iloc_ops::NoMemory;
+use crate::cycle::class::Class;
+use crate::cycle::words::{
+    add_if, fill_zeros, first_of_block, first_of_word, move_summary, move_word, move_words,
+    take_out,
+};
+use iloc_ops::{MAX_OPS, NoMemory};
 use std::alloc::Global;
 
 /// No delay is longer, since no latency is.
@@ -10,92 +20,189 @@ pub const LONGEST_DELAY: usize = 16;
 // More than the longest delay, so the operations of one bucket become ready at the same cycle.
 const BUCKETS: usize = 2 * LONGEST_DELAY;
 
-/// `count` operations, of which the first is known.
-#[derive(Clone, Copy, Debug)]
-struct Bucket {
-    first: u32,
-    count: u32,
-}
+// The set of what is ready comes after the buckets.
+pub const READY: usize = BUCKETS;
 
-/// The first number where it is chosen, else the other.
-fn one_of(chosen: bool, number: u32, other: u32) -> u32
-    ensures { result ≡ (if chosen then number else other) }
-{
-    if chosen { number } else { other }
-}
+// After it there is a set for each class: what an operation of the class keeps out of its row.
+pub const KEPT_OUT: usize = READY + 1;
 
-/// Operations in buckets, by a cycle modulo `BUCKETS`.
+/// How many sets there are.
+pub const SETS: usize = KEPT_OUT + 4;
+
+/// Sets of ranks. Where one word a set is enough there is no summary: with one, blocks of fifteen operations take 64 instructions
+/// more for each of them.
 #[derive(Debug, Drop)]
 pub struct Calendar {
-    buckets: [Bucket; BUCKETS],
-    // By operation the next in its bucket. It is as long as the longest block so far.
-    behind: Vec<u32>,
+    words: Vec<u64>,
+    /// By bucket a bit for each of its words: whether it has any. By class a bit for each word that may have what is ready and
+    /// not kept out: it is set with what becomes ready, and cleared where a choice finds that the word has none. If each
+    /// choice passed over such words anew, 10,000 loads would take 1,400 instructions each, and not 315.
+    summary: Vec<u64>,
+    /// How many words the summary of a set has.
+    blocks: usize,
+    ghost summarised: { blocks ≢ 0 → IsSummary summary.items words.items },
+    ghost sized: { length summary.items ≡ blocks * 37 },
+    ghost single: { blocks ≡ 0 → length words.items ≤ 37 },
+    ghost few: { blocks ≤ 3 },
+    ghost whole: { (w : ℕ) → w * 37 < length words.items → w * 37 + 37 ≤ length words.items },
 }
 
 impl Calendar {
-    ghost use Rattle.iloc_sched.specs.Steps.Members.{In};
-    ghost use Rattle.iloc_sched.specs.Steps.Calendar.{bucket_of};
+    ghost use Rattle.std.specs.Prelude.{◌||◌, true, false};
+    ghost use Rattle.iloc_sched.specs.Steps.Classes.{place_of};
+    ghost use Rattle.iloc_sched.specs.Steps.Calendar.{has, offers, IsWithin, HasRoom, KeepsRoom, HasSameSets, Puts, Releases, IsFirst};
 
-    /// No operation, and capacity for none.
+    /// No rank, and capacity for none.
     pub fn new(alloc: Global) -> Calendar
-        ensures { (b : ℕ) → bucket_of result b ≡ [] }
+        ensures { (s r : ℕ) → has result s r ≡ false }
     {
         Calendar {
-            buckets: [Bucket { first: 0, count: 0 }; BUCKETS],
-            behind: Vec::new(alloc),
+            words: Vec::new(alloc),
+            summary: Vec::new(alloc),
+            blocks: 0,
         }
     }
 
-    /// Takes out all operations, and has capacity for at least `count`.
+    /// Takes out all ranks, and has capacity for those below `count`.
     pub fn clear(&mut self, count: usize) -> Result<(), NoMemory>
-        ensures empty { (b : ℕ) → bucket_of self.new b ≡ [] }
-        ensures space { OnOk result (count ≤ length self.new.behind.items) }
+        requires { count ≤ MAX_OPS }
+        ensures empty { OnOk result ((s r : ℕ) → has self.new s r ≡ false) }
+        ensures room { OnOk result (HasRoom self.new count) }
     {
-        self.buckets = [Bucket { first: 0, count: 0 }; BUCKETS];
-        if self.behind.len() < count {
-            self.behind.resize(count, 0)?;
-        }
+        let blocks = if count < 64 { 0 } else { count / 4096 + 1 };
+        self.words.clear();
+        self.blocks = 0;
+        fill_zeros(&mut self.summary, blocks * SETS)?;
+        self.blocks = blocks;
+        fill_zeros(&mut self.words, (count / 64 + 1) * SETS)?;
         Ok(())
     }
 
-    /// Puts an operation that is in no bucket into that of a cycle, if it is ready then. It takes no branch, since whether an
-    /// operation is ready is seldom predicted: with one `counts` takes 3 to 4 % more processor time.
-    pub fn put_if(&mut self, ready: bool, j: u32, cycle: u32)
-        requires there { j < length self.old.behind.items }
-        requires new { (b : ℕ) → b < 32 → In (bucket_of self.old b) j → ⊥ }
-        requires few { length (bucket_of self.old (cycle % 32)) + 1 < 2 ^ 32 }
-        ensures put { bucket_of self.new (cycle % 32)
-            ≡ (if ready then j ∷ bucket_of self.old (cycle % 32) else bucket_of self.old (cycle % 32)) }
-        ensures others { (b : ℕ) → b < 32 → b ≢ cycle % 32 → bucket_of self.new b ≡ bucket_of self.old b }
-        ensures space { length self.new.behind.items ≡ length self.old.behind.items }
+    /// Takes a rank out of what is ready.
+    #[inline(always)]
+    pub fn remove(&mut self, rank: u32)
+        requires { IsWithin self.old rank }
+        ensures puts { Puts self.old self.new 32 rank false }
+        ensures room { KeepsRoom self.old self.new }
     {
-        let place = cycle as usize % BUCKETS;
-        let bucket = self.buckets[place];
-        self.behind[j as usize] = bucket.first;
-        self.buckets[place] = Bucket {
-            first: one_of(ready, j, bucket.first),
-            count: bucket.count + u32::from(ready),
-        };
+        take_out(&mut self.words, READY, rank as usize);
     }
 
-    /// Takes an operation out of the bucket of a cycle, if there is one.
-    pub fn take(&mut self, cycle: u32) -> Option<u32>
-        requires { (j : ℕ) → In (bucket_of self.old (cycle % 32)) j → j < length self.old.behind.items }
-        ensures none { IfNone result (bucket_of self.new (cycle % 32) ≡ []) }
-        ensures unchanged { IfNone result (self.new ≡ self.old) }
-        ensures taken { IfSome result (λ j. bucket_of self.old (cycle % 32) ≡ j ∷ bucket_of self.new (cycle % 32)) }
-        ensures others { (b : ℕ) → b < 32 → b ≢ cycle % 32 → bucket_of self.new b ≡ bucket_of self.old b }
-        ensures space { length self.new.behind.items ≡ length self.old.behind.items }
+    /// Puts a rank into the bucket of a cycle, if it is ready then.
+    #[inline(always)]
+    pub fn put_if(&mut self, ready: bool, rank: u32, cycle: u32)
+        requires { IsWithin self.old rank }
+        ensures puts { Puts self.old self.new (cycle % 32) rank (ready || has self.old (cycle % 32) rank) }
+        ensures room { KeepsRoom self.old self.new }
     {
-        let place = cycle as usize % BUCKETS;
-        let bucket = self.buckets[place];
-        if bucket.count == 0 {
-            return None;
+        let rank = rank as usize;
+        let bucket = cycle as usize % BUCKETS;
+        add_if(&mut self.words, ready, bucket, rank);
+        if self.blocks > 0 {
+            add_if(&mut self.summary, ready, bucket, rank / 64);
         }
-        self.buckets[place] = Bucket {
-            first: self.behind[bucket.first as usize],
-            count: bucket.count - 1,
-        };
-        Some(bucket.first)
+    }
+
+    /// An operation of the class keeps this rank out, if the condition holds.
+    #[inline(always)]
+    pub fn keep_out_if(&mut self, condition: bool, class: Class, rank: u32)
+        requires { IsWithin self.old rank }
+        ensures puts { Puts self.old self.new (33 + place_of class) rank (condition || has self.old (33 + place_of class) rank) }
+        ensures room { KeepsRoom self.old self.new }
+    {
+        add_if(
+            &mut self.words,
+            condition,
+            KEPT_OUT + class.place(),
+            rank as usize,
+        );
+    }
+
+    /// What is in the bucket of a cycle becomes ready, of the words that one word of the summary is for.
+    #[inline(always)]
+    fn release_block(&mut self, bucket: usize, block: usize)
+        requires bucket { bucket < 32 }
+        requires block { block < self.old.blocks }
+        requires room { HasRoom self.old 0 }
+        ensures released { (r : ℕ) → r / 4096 ≡ block → (has self.new 32 r ≡ (has self.old 32 r || has self.old bucket r)) }
+        ensures emptied { (r : ℕ) → r / 4096 ≡ block → has self.new bucket r ≡ false }
+        ensures others { (s r : ℕ) → s < 37 → (r / 4096 ≡ block → (s ≢ 32) × (s ≢ bucket)) → has self.new s r ≡ has self.old s r }
+        ensures room { KeepsRoom self.old self.new }
+    {
+        let some = self.summary[block * SETS + bucket];
+        move_words(&mut self.words, some, block, bucket);
+        move_summary(&mut self.summary, some, block, bucket);
+    }
+
+    /// What is in a bucket becomes ready, block after block.
+    #[inline(always)]
+    fn release_blocks(&mut self, bucket: usize)
+        requires bucket { bucket < 32 }
+        requires some { self.old.blocks ≢ 0 }
+        requires room { HasRoom self.old 0 }
+        ensures releases { Releases self.old self.new bucket }
+        ensures room { KeepsRoom self.old self.new }
+    {
+        for block in 0..self.blocks {
+            self.release_block(bucket, block);
+        }
+    }
+
+    /// What is in the bucket of a cycle becomes ready.
+    #[inline(always)]
+    pub fn release(&mut self, cycle: u32)
+        requires { HasRoom self.old 0 }
+        ensures releases { Releases self.old self.new (cycle % 32) }
+        ensures room { KeepsRoom self.old self.new }
+    {
+        let bucket = cycle as usize % BUCKETS;
+        if self.blocks == 0 {
+            move_word(&mut self.words, 0, bucket);
+        } else {
+            self.release_blocks(bucket);
+        }
+    }
+
+    /// The first of what is ready and not kept out, of the words that one word of the summary is for.
+    #[inline(always)]
+    fn first_in_block(&mut self, beside: Class, block: usize) -> Option<u32>
+        requires block { block < self.old.blocks }
+        ensures first { IsFirstWithin self.old.words.items (place_of beside) (λ r. r / 64 / 64 ≡ block) result }
+        ensures same { HasSameSets self.old self.new }
+    {
+        let class = beside.place();
+        let at = block * SETS + (KEPT_OUT + class);
+        let (first, left) = first_of_block(&self.words, self.summary[at], block, class);
+        self.summary[at] = left;
+        first
+    }
+
+    /// The first of what is ready and not kept out, block after block.
+    #[inline(always)]
+    fn first_of_blocks(&mut self, beside: Class) -> Option<u32>
+        requires some { self.old.blocks ≢ 0 }
+        ensures first { IsFirst (offers self.old beside) result }
+        ensures same { HasSameSets self.old self.new }
+    {
+        for block in 0..self.blocks {
+            if let Some(rank) = self.first_in_block(beside, block) {
+                return Some(rank);
+            }
+        }
+        None
+    }
+
+    /// The first of what is ready and what an operation of the class doesn't keep out. The rest keeps nothing out.
+    #[inline(always)]
+    pub fn first(&mut self, beside: Class) -> Option<u32>
+        requires { HasRoom self.old 0 }
+        ensures first { IsFirst (offers self.old beside) result }
+        ensures same { HasSameSets self.old self.new }
+    {
+        if self.blocks == 0 {
+            first_of_word(&self.words, 0, beside.place())
+        } else {
+            self.first_of_blocks(beside)
+        }
     }
 }

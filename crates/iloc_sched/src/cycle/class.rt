@@ -1,5 +1,5 @@
 //! Classes of operations, by which of them the units let be issued together.
-ghost use Rattle.std.specs.Prelude.{◌≡◌};
+ghost use Rattle.std.specs.Prelude.{◌≡◌, ◌<◌};
 
 use iloc_timed::Kind;
 
@@ -17,7 +17,7 @@ pub enum Class {
 }
 
 impl Class {
-    ghost use Rattle.iloc_sched.specs.Steps.Classes.{class_of, excludes};
+    ghost use Rattle.iloc_sched.specs.Steps.Classes.{class_of, excludes, place_of};
 
     /// The class of a kind of operations.
     pub fn of(kind: Kind) -> Class
@@ -31,13 +31,28 @@ impl Class {
         }
     }
 
-    /// Whether an operation of this class keeps those of the other out of its row.
-    pub fn excludes(self, other: Class) -> bool
-        ensures { result ≡ excludes self other }
+    /// Whether at most one operation of this class is issued in a cycle.
+    #[inline(always)]
+    pub fn is_limited(self) -> bool
+        ensures { result ≡ excludes self self }
     {
         match self {
-            Class::Memory | Class::Product | Class::Output => self == other,
+            Class::Memory | Class::Product | Class::Output => true,
             Class::Rest => false,
+        }
+    }
+
+    /// The place of the class among all.
+    #[inline(always)]
+    pub fn place(self) -> usize
+        ensures place { result ≡ place_of self }
+        ensures bound { result < 4 }
+    {
+        match self {
+            Class::Memory => 0,
+            Class::Product => 1,
+            Class::Output => 2,
+            Class::Rest => 3,
         }
     }
 }

@@ -3,10 +3,12 @@
 //! Each operation counts the edges into it whose sources aren't issued. When an operation is issued, the edges out of it
 //! are gone through. Whose last edge was one of them goes into the bucket of the cycle at which the last of its sources'
 //! results has arrived.
-ghost use Rattle.std.specs.Prelude.{ℕ, ◌≡◌, ◌≢◌, ◌+◌, ◌^◌, ◌%◌, ◌<◌, ◌∷◌, [], length, slice_set, IfNone, IfSome, OnOk};
+ghost use Rattle.std.specs.Prelude.{ℕ, false, ◌≡◌, ◌+◌, ◌^◌, ◌<◌, ◌≤◌, length, slice_set, OnOk};
+ghost use Rattle.iloc_sched.specs.Steps.Calendar.{has, HasRoom, KeepsRoom};
+ghost use Rattle.iloc_sched.specs.Steps.SoFar.{IsPlan, KeepsOut};
 
 use crate::cycle::calendar::{Calendar, LONGEST_DELAY};
-use crate::edges::Edges;
+use crate::cycle::plan::Plan;
 use iloc_ops::NoMemory;
 use std::alloc::Global;
 
@@ -32,16 +34,29 @@ struct OperationState {
 pub struct Waiting {
     states: Vec<OperationState>,
     /// The operations that wait for no edge any more, by the cycle at which they become ready.
-    calendar: Calendar,
+    pub calendar: Calendar,
+}
+
+/// Notes by class what an operation of it keeps out of its row.
+fn keep_classes_out(calendar: &mut Calendar, plan: &Plan)
+    requires plan { IsPlan plan.now }
+    requires room { HasRoom calendar.old (length plan.now.tables.now.ops.items) }
+    requires empty { (s r : ℕ) → has calendar.old s r ≡ false }
+    ensures kept { KeepsOut plan.now (length plan.now.tables.now.ops.items) calendar.new }
+    ensures others { (s r : ℕ) → s ≤ 32 → has calendar.new s r ≡ false }
+    ensures room { KeepsRoom calendar.old calendar.new }
+{
+    for j in 0..plan.ranks.len() {
+        let class = plan.class_of(j as u32);
+        calendar.keep_out_if(class.is_limited(), class, plan.ranks[j]);
+    }
 }
 
 impl Waiting {
     ghost use Rattle.std.specs.Prelude.{None, Some};
-    ghost use Rattle.iloc_sched.specs.Steps.Members.{In};
-    ghost use Rattle.iloc_sched.specs.Steps.Graph.{IsGraph};
     ghost use Rattle.iloc_sched.specs.Steps.Progress.{Waits, CanIssue, KeepsPlaces};
     ghost use Rattle.iloc_sched.specs.Steps.Views.{graph_of, issued_list, unmet_list, earliest_list, progress_of, IsSized};
-    ghost use Rattle.iloc_sched.specs.Steps.SoFar.{waiting_count};
+    ghost use Rattle.iloc_sched.specs.Steps.SoFar.{IsCalendar, waiting_count};
 
     /// No operation.
     pub fn new(alloc: Global) -> Waiting
@@ -54,15 +69,19 @@ impl Waiting {
     }
 
     /// Nothing is issued: each operation waits for all edges into it, and who has none becomes ready at once.
-    pub fn open(&mut self, edges: &Edges) -> Result<(), NoMemory>
-        requires graph { IsGraph (graph_of edges.now) }
-        ensures waits { OnOk result (Waits (graph_of edges.now) (progress_of self.new) 0 0 None) }
-        ensures sized { OnOk result (IsSized edges.now self.new) }
-        ensures none { OnOk result ((j : ℕ) → (progress_of self.new).issued j ≡ None) }
-        ensures count { OnOk result (waiting_count self.new ≡ length edges.now.heads.items) }
+    pub fn open(&mut self, plan: &Plan) -> Result<(), NoMemory>
+        requires plan { IsPlan plan.now }
+        ensures waits { OnOk result (Waits (graph_of plan.now.tables.now.edges) (progress_of plan.now.ranks.now self.new) 0 0 None) }
+        ensures sized { OnOk result (IsSized plan.now.tables.now.edges self.new) }
+        ensures calendar { OnOk result (IsCalendar plan.now self.new.calendar) }
+        ensures none { OnOk result ((j : ℕ) → (progress_of plan.now.ranks.now self.new).issued j ≡ None) }
+        ensures ready { OnOk result ((r : ℕ) → has self.new.calendar 32 r ≡ false) }
+        ensures count { OnOk result (waiting_count self.new ≡ length plan.now.tables.now.edges.heads.items) }
     {
+        let edges = &plan.tables.edges;
         let count = edges.op_count();
         self.calendar.clear(count)?;
+        keep_classes_out(&mut self.calendar, plan);
         self.states.clear();
         self.states.reserve(count)?;
         let mut place = edges.start(0);
@@ -75,7 +94,7 @@ impl Waiting {
                     earliest: 0,
                 },
             });
-            self.calendar.put_if(place == end, j as u32, 0);
+            self.calendar.put_if(place == end, plan.ranks[j], 0);
             place = end;
         }
         Ok(())
@@ -107,22 +126,25 @@ impl Waiting {
 
     /// Edge x is over, since its source was issued at this cycle: its target has one less to wait for. Answers the edge
     /// before x out of the same source.
-    fn pass(&mut self, edges: &Edges, x: u32, cycle: u32) -> Option<u32>
+    fn pass(&mut self, plan: &Plan, x: u32, cycle: u32) -> Option<u32>
         requires small { cycle + LONGEST_DELAY + 1 < 2 ^ 32 }
-        requires there { x < length edges.now.edges.items }
-        requires graph { IsGraph (graph_of edges.now) }
-        requires sized { IsSized edges.now self.old }
-        requires issued { (progress_of self.old).issued ((graph_of edges.now).from x) ≡ Some cycle }
-        requires waits { Waits (graph_of edges.now) (progress_of self.old) (cycle + 1)
-            ((graph_of edges.now).from x) (Some x) }
-        ensures previous { result ≡ (graph_of edges.now).previous x }
-        ensures waits { Waits (graph_of edges.now) (progress_of self.new) (cycle + 1)
-            ((graph_of edges.now).from x) result }
-        ensures keeps { KeepsPlaces (progress_of self.old) (progress_of self.new) }
+        requires plan { IsPlan plan.now }
+        requires there { x < length plan.now.tables.now.edges.edges.items }
+        requires sized { IsSized plan.now.tables.now.edges self.old }
+        requires calendar { IsCalendar plan.now self.old.calendar }
+        requires issued { (progress_of plan.now.ranks.now self.old).issued ((graph_of plan.now.tables.now.edges).from x) ≡ Some cycle }
+        requires waits { Waits (graph_of plan.now.tables.now.edges) (progress_of plan.now.ranks.now self.old) (cycle + 1)
+            ((graph_of plan.now.tables.now.edges).from x) (Some x) }
+        ensures previous { result ≡ (graph_of plan.now.tables.now.edges).previous x }
+        ensures waits { Waits (graph_of plan.now.tables.now.edges) (progress_of plan.now.ranks.now self.new) (cycle + 1)
+            ((graph_of plan.now.tables.now.edges).from x) result }
+        ensures keeps { KeepsPlaces (progress_of plan.now.ranks.now self.old) (progress_of plan.now.ranks.now self.new) }
         ensures issued { issued_list self.new ≡ issued_list self.old }
-        ensures sized { IsSized edges.now self.new }
+        ensures sized { IsSized plan.now.tables.now.edges self.new }
+        ensures calendar { IsCalendar plan.now self.new.calendar }
+        ensures ready { (r : ℕ) → has self.new.calendar 32 r ≡ has self.old.calendar 32 r }
     {
-        let edge = edges.get(x as usize);
+        let edge = plan.tables.edges.get(x as usize);
         let target = edge.to as usize;
         let state = self.states[target];
         let wait = Wait {
@@ -131,42 +153,30 @@ impl Waiting {
         };
         self.change(target, wait);
         self.calendar
-            .put_if(wait.unmet == 0, edge.to, wait.earliest);
+            .put_if(wait.unmet == 0, plan.ranks[target], wait.earliest);
         edge.previous
     }
 
     /// Issues operation i at this cycle.
     #[inline(always)]
-    pub fn issue(&mut self, edges: &Edges, i: usize, cycle: u32)
+    pub fn issue(&mut self, plan: &Plan, i: usize, cycle: u32)
         requires small { cycle + LONGEST_DELAY + 1 < 2 ^ 32 }
-        requires graph { IsGraph (graph_of edges.now) }
-        requires sized { IsSized edges.now self.old }
-        requires can { CanIssue (graph_of edges.now) (progress_of self.old) (cycle + 1) i }
-        requires waits { Waits (graph_of edges.now) (progress_of self.old) (cycle + 1) 0 None }
-        ensures waits { Waits (graph_of edges.now) (progress_of self.new) (cycle + 1) 0 None }
+        requires plan { IsPlan plan.now }
+        requires sized { IsSized plan.now.tables.now.edges self.old }
+        requires calendar { IsCalendar plan.now self.old.calendar }
+        requires can { CanIssue (graph_of plan.now.tables.now.edges) (progress_of plan.now.ranks.now self.old) (cycle + 1) i }
+        requires waits { Waits (graph_of plan.now.tables.now.edges) (progress_of plan.now.ranks.now self.old) (cycle + 1) 0 None }
+        ensures waits { Waits (graph_of plan.now.tables.now.edges) (progress_of plan.now.ranks.now self.new) (cycle + 1) 0 None }
         ensures issued { issued_list self.new ≡ slice_set (issued_list self.old) i (Some cycle) }
-        ensures keeps { KeepsPlaces (progress_of self.old) (progress_of self.new) }
-        ensures sized { IsSized edges.now self.new }
+        ensures keeps { KeepsPlaces (progress_of plan.now.ranks.now self.old) (progress_of plan.now.ranks.now self.new) }
+        ensures sized { IsSized plan.now.tables.now.edges self.new }
+        ensures calendar { IsCalendar plan.now self.new.calendar }
+        ensures ready { (r : ℕ) → has self.new.calendar 32 r ≡ has self.old.calendar 32 r }
     {
         self.mark(i, cycle);
-        let mut at = edges.last_from(i);
+        let mut at = plan.tables.edges.last_from(i);
         while let Some(x) = at {
-            at = self.pass(edges, x, cycle);
+            at = self.pass(plan, x, cycle);
         }
-    }
-
-    /// Takes out an operation that becomes ready at a cycle, if there is one.
-    pub fn take(&mut self, cycle: u32) -> Option<u32>
-        requires { (j : ℕ) → In ((progress_of self.old).bucket (cycle % 32)) j → j < length self.old.calendar.behind.items }
-        ensures none { IfNone result ((progress_of self.new).bucket (cycle % 32) ≡ []) }
-        ensures taken { IfSome result (λ j. (progress_of self.old).bucket (cycle % 32)
-            ≡ j ∷ (progress_of self.new).bucket (cycle % 32)) }
-        ensures unchanged { IfNone result (self.new ≡ self.old) }
-        ensures others { (b : ℕ) → b < 32 → b ≢ cycle % 32
-            → (progress_of self.new).bucket b ≡ (progress_of self.old).bucket b }
-        ensures states { self.new.states ≡ self.old.states }
-        ensures space { length self.new.calendar.behind.items ≡ length self.old.calendar.behind.items }
-    {
-        self.calendar.take(cycle)
     }
 }

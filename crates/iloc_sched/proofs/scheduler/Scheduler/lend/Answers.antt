@@ -9,26 +9,26 @@ use Rattle.iloc_sched.proofs.scheduler.Scheduler.lend.Goals as goal
 
 pub of_table-requires-clause-table : goal.of_table-requires-clause-table
 of_table-requires-clause-table c =
-    let p = c.tables.result.now in
-    let ops_are : c.args.graph.now.ops ≡ p.ops.items = ap (λ (g : GraphOf). g.ops) c.tables.ensures.graph in
+    let p = c.tables-tables.result.now in
+    let ops_are : c.args.graph.now.ops ≡ p.ops.items = ap (λ (g : GraphOf). g.ops) c.tables-tables.ensures.graph in
     let copied : c.replace-ops.result.items ≡ p.ops.items = ap (λ (v : Vec Op). v.items) c.replace-ops.ensures.value
     ∙ (c.in_ok-extend_from_slice.ensures.items ∙ (ap (λ xs. xs ++ c.ops.result.now) c.clear.ensures.items
     ∙ (c.ops.ensures.ops ∙ ops_are))) in
-    (handed_out c.args.ranks.now p.latencies c.tables.ensures.named.0 p.ops.items c.replace-ops.result.items
-    c.fill_rows.new.self.rows.items c.replace-rows.result.items copied
+    (handed_out c.args.ranks.now p.latencies c.tables-tables.ensures.named.0 p.ops.items c.replace-ops.result.items
+    c.fill_rows.new.rows.items c.replace-rows.result.items copied
     (ap (λ (v : Vec Row). v.items) c.replace-rows.ensures.value)
-    (c.in_ok-fill_rows.ensures.greedy c.tables.ensures.named.0 c.tables.ensures.named.1)).lawful.table
+    (c.in_ok-fill_rows.ensures.greedy c.tables-tables.ensures.named.0 c.tables-tables.ensures.named.1)).lawful.table
 
 pub returns : goal.returns
 returns c = λ lat block is.
-    let p = c.tables.result.now in
+    let p = c.tables-tables.result.now in
     let s = c.of_table.result in
-    let rows = c.fill_rows.new.self.rows.items in
-    let same = sym c.tables.ensures.graph ∙ is in
+    let rows = c.fill_rows.new.rows.items in
+    let same = sym c.tables-tables.ensures.graph ∙ is in
     let copied : s.ops ≡ p.ops.items =
     c.of_table.ensures.ops ∙ (ap (λ (v : Vec Op). v.items) c.replace-ops.ensures.value
     ∙ (c.in_ok-extend_from_slice.ensures.items ∙ (ap (λ xs. xs ++ c.ops.result.now) c.clear.ensures.items
-    ∙ (c.ops.ensures.ops ∙ ap (λ (g : GraphOf). g.ops) c.tables.ensures.graph)))) in
+    ∙ (c.ops.ensures.ops ∙ ap (λ (g : GraphOf). g.ops) c.tables-tables.ensures.graph)))) in
     the_schedule (λ _. c.args.ranks.now) lat block s
     (handed_out c.args.ranks.now lat block p.ops.items s.ops rows s.rows copied
     (c.of_table.ensures.rows ∙ ap (λ (v : Vec Row). v.items) c.replace-rows.ensures.value)

@@ -6,8 +6,8 @@ use Rattle.iloc_sched.proofs.cycle.waiting.Waiting.open.Given as goal
 
 abbrev pub invariant-loop-j : goal.invariant-loop-j
 invariant-loop-j l = record {
-  opening : IsOpening l.edges l.self l.j;
-  place : l.place ≡ (graph_of l.edges).start l.j;
+  opening : IsOpening l.plan l.self l.j;
+  place : l.place ≡ (graph_of l.plan.tables.now.edges).start l.j;
   size : vec_len l.self.states ≡ l.j;
   capacity : l.count ≤ vec_capacity l.self.states;
 }

@@ -5,25 +5,23 @@ use Rattle.iloc_sched.proofs.cycle.waiting.Waiting.step.Goals as goal
 
 pub returns-in_ok-push-in-None-clause-so_far : goal.returns-in_ok-push-in-None-clause-so_far
 returns-in_ok-push-in-None-clause-so_far c =
-    step_none c.args.plan.now c.args.self.now c.release.new.self c.issue_first-first.new.self c.args.queues.now
-    c.release.new.queues c.issue_first-first.new.queues c.args.rows.now.items c.push.new.self.items empty_row
+    step_none c.args.plan.now c.args.self.now c.release.new.self c.issue_first-first.new.self
+    c.args.rows.now.items c.push.new.self.items empty_row
     c.len-cycle.result c.issue_first-first.result (c.len-cycle.ensures ∙ c.args.rows.now.ok.0) c.requires.plan
-    c.requires.so_far c.in_ok-release.ensures.issued c.in_ok-release.ensures.under_way
+    c.requires.so_far c.release.ensures.issued c.release.ensures.under_way
     c.in-None.is c.issue_first-first.ensures.best c.issue_first-first.ensures.issues refl c.in_ok-push-in-None.ensures.items
 
 pub returns-in_ok-push-in-Some-clause-so_far : goal.returns-in_ok-push-in-Some-clause-so_far
 returns-in_ok-push-in-Some-clause-so_far c =
     step_some c.args.plan.now c.args.self.now c.release.new.self c.issue_first-first.new.self c.issue_first-b.new.self
-    c.args.queues.now c.release.new.queues c.issue_first-first.new.queues c.issue_first-b.new.queues
     c.args.rows.now.items c.push-in-Some.new.self.items c.row_of.result c.len-cycle.result c.issue_first-first.result
     c.in-Some.a c.issue_first-b.result (c.len-cycle.ensures ∙ c.args.rows.now.ok.0) c.requires.plan c.requires.so_far
-    c.in_ok-release.ensures.issued c.in_ok-release.ensures.under_way
+    c.release.ensures.issued c.release.ensures.under_way
     c.in-Some.is c.issue_first-first.ensures.best c.issue_first-first.ensures.issues c.issue_first-b.ensures.best
     c.issue_first-b.ensures.issues c.row_of.ensures c.in_ok-push-in-Some.ensures.items
 
 pub returns-in_ok-push-in-Some-clause-count : goal.returns-in_ok-push-in-Some-clause-count
 returns-in_ok-push-in-Some-clause-count c =
     step_count c.args.plan.now c.args.self.now c.release.new.self c.issue_first-first.new.self c.issue_first-b.new.self
-    c.release.new.queues c.issue_first-first.new.queues c.issue_first-b.new.queues c.len-cycle.result
-    c.slot_count.result c.issue_first-first.result c.in-Some.a c.issue_first-b.result c.in_ok-release.ensures.issued c.in-Some.is
-    c.issue_first-first.ensures.issues c.issue_first-b.ensures.issues c.slot_count.ensures
+    c.len-cycle.result c.slot_count.result c.issue_first-first.result c.in-Some.a c.issue_first-b.result c.release.ensures.issued
+    c.in-Some.is c.issue_first-first.ensures.issues c.issue_first-b.ensures.issues c.slot_count.ensures

@@ -1,0 +1,235 @@
+-- The choice of a cycle by ranks is the choice of the definition; for `Waiting::step`.
+use Rattle.std.proofs.Common.{◌≡◌, ◌<◌, ◌≤◌, ◌≢◌, ℕ, ◌+◌, ◌==◌, ◌&&◌, ◌||◌, not, Bool, true, false, if◌then◌else◌, List, length, Option, Some, None, refl, sym, ◌∙◌, ap, subst, arith}
+use Rattle.std.proofs.lemmas.Bool.Decides.{nat_tests}
+use Rattle.std.specs.Prelude.{filter}
+use Rattle.iloc_meaning.specs.Trace.{op_at}
+use Rattle.iloc_timed.specs.declared.kind.Kind.{Kind}
+use Rattle.iloc_timed.specs.declared.kind.Kind.TheVariants as K
+use Rattle.iloc_timed.specs.declared.row.Row.{Row}
+use Rattle.iloc_timed.specs.Kinds.{kind, is_mult, is_memory}
+use Rattle.iloc_timed.specs.Rows.{is_some_kind, kind_in}
+use Rattle.iloc_sched.specs.Greedy.{ready, first_of_all, may_stand_beside, on_units, chosen_with, chosen}
+use Rattle.iloc_sched.specs.declared.cycle.Choice.{Choice}
+use Rattle.iloc_sched.specs.declared.cycle.class.Class.{Class}
+use Rattle.iloc_sched.specs.declared.cycle.class.Class.TheVariants as C
+use Rattle.iloc_sched.specs.declared.cycle.plan.Plan.{Plan}
+use Rattle.iloc_sched.specs.declared.cycle.waiting.Waiting.{Waiting}
+use Rattle.iloc_sched.specs.Steps.Calendar.{has}
+use Rattle.iloc_sched.specs.Steps.Choosing.{GoesBefore, IsChosenSoFar}
+use Rattle.iloc_sched.specs.Steps.Members.{In}
+use Rattle.iloc_sched.specs.Steps.Classes.{class_of, excludes, is_memory_class, is_product_class}
+use Rattle.iloc_sched.specs.Steps.Progress.{MatchesRows}
+use Rattle.iloc_sched.specs.Steps.Views.{graph_of, progress_of}
+use Rattle.iloc_sched.specs.Steps.SoFar.{class_at, rank_of, IsPlan, IsUnderWay, IsOpen, IsBest, Issues, number_of, is_memory_choice, row_with}
+use Rattle.iloc_sched.proofs.Basics.Members.{in_filter, from_filter}
+use Rattle.iloc_sched.proofs.Basics.Ordered.{ordered_filter}
+use Rattle.iloc_sched.proofs.Choice.Ready.{IsReady, ready_means, ready_rises}
+use Rattle.iloc_sched.proofs.Choice.FirstOfAll.{first_is, first_none}
+use Rattle.iloc_meaning.proofs.Cases.{by_bool}
+use Rattle.iloc_sched.proofs.Basics.Cases.{not_both}
+use Rattle.iloc_sched.proofs.Choice.IssuableIsReady.{ready_when, when_ready}
+use Rattle.iloc_sched.proofs.Choice.IssuedChoice.{issued_at}
+
+beside_by_class : (a b : Kind) → may_stand_beside a b ≡ not (excludes (class_of a) (class_of b))
+beside_by_class K.Load K.Load = refl
+beside_by_class K.Load K.Store = refl
+beside_by_class K.Load K.Mult = refl
+beside_by_class K.Load K.Output = refl
+beside_by_class K.Load K.Other = refl
+beside_by_class K.Store K.Load = refl
+beside_by_class K.Store K.Store = refl
+beside_by_class K.Store K.Mult = refl
+beside_by_class K.Store K.Output = refl
+beside_by_class K.Store K.Other = refl
+beside_by_class K.Mult K.Load = refl
+beside_by_class K.Mult K.Store = refl
+beside_by_class K.Mult K.Mult = refl
+beside_by_class K.Mult K.Output = refl
+beside_by_class K.Mult K.Other = refl
+beside_by_class K.Output K.Load = refl
+beside_by_class K.Output K.Store = refl
+beside_by_class K.Output K.Mult = refl
+beside_by_class K.Output K.Output = refl
+beside_by_class K.Output K.Other = refl
+beside_by_class K.Other K.Load = refl
+beside_by_class K.Other K.Store = refl
+beside_by_class K.Other K.Mult = refl
+beside_by_class K.Other K.Output = refl
+beside_by_class K.Other K.Other = refl
+
+mult_by_class : (a : Kind) → is_mult a ≡ is_product_class (class_of a)
+mult_by_class K.Load = refl
+mult_by_class K.Store = refl
+mult_by_class K.Mult = refl
+mult_by_class K.Output = refl
+mult_by_class K.Other = refl
+
+memory_by_class : (a : Kind) → is_memory a ≡ is_memory_class (class_of a)
+memory_by_class K.Load = refl
+memory_by_class K.Store = refl
+memory_by_class K.Mult = refl
+memory_by_class K.Output = refl
+memory_by_class K.Other = refl
+
+-- what keeps none out of a row that is empty
+open_alone : (b : Bool) → not b ≡ true → b ≡ false
+open_alone true is = cc
+open_alone false is = refl
+
+apart_numbers : (a b : ℕ) → a ≢ b → not (a == b) ≡ true
+apart_numbers a b apart = by_bool (a == b) (λ t. let same : a ≡ b = grind (arith, nat_tests) in absurd (apart same))
+    (λ f. rw f refl)
+
+both_true : (a b : Bool) → a ≡ true → b ≡ true → (a && b) ≡ true
+both_true true b first second = second
+both_true false b first second = cc
+
+from_both : (a b : Bool) → (a && b) ≡ true → (a ≡ true) × (b ≡ true)
+from_both true b both = (refl, both)
+from_both false b both = cc
+
+not_equal : (b : Bool) → b ≡ true → not b ≡ true → ⊥
+not_equal true is other = cc
+not_equal false is other = cc
+
+abbrev row_one : Choice → Option Choice → Row
+row_one a b = record { zero = number_of b; one = Some a.number }
+
+abbrev row_zero : Choice → Option Choice → Row
+row_zero a b = record { zero = Some a.number; one = number_of b }
+
+none_excluded : (k : Class) → excludes C.Rest k ≡ false
+none_excluded C.Memory = refl
+none_excluded C.Product = refl
+none_excluded C.Output = refl
+none_excluded C.Rest = refl
+
+-- what is offered beside a class is ready and not excluded by it
+module _ (p : Plan) (w : Waiting) (f : ℕ) (under : IsUnderWay p w f) (k : Class) (j : ℕ) (there : j < length p.tables.now.ops.items) where
+  pub opens : has w.calendar 32 (rank_of p j) ≡ true → excludes k (class_at p.tables.now.ops.items j) ≡ false → IsOpen p w k j
+  opens held free = (
+    there,
+    both_true _ _ held (ap not (under.calendar.kept.each k j there ∙ free)),
+  )
+
+  pub open_ready : IsOpen p w k j → has w.calendar 32 (rank_of p j) ≡ true
+  open_ready is = (from_both _ _ is.1).0
+
+  pub open_free : IsOpen p w k j → excludes k (class_at p.tables.now.ops.items j) ≡ false
+  open_free is = sym (under.calendar.kept.each k j there) ∙ open_alone _ (from_both _ _ is.1).1
+
+module _ (p : Plan) (w : Waiting) (rows : List Row) (plan : IsPlan p)
+    (under : IsUnderWay p w (length rows + 1))
+    (matches : MatchesRows (length p.tables.now.ops.items) rows (progress_of p.ranks.now w).issued)
+    (each : IsChosenSoFar p.priorities.now p.tables.now.latencies p.tables.now.ops.items rows) where
+  abbrev all_ready : List ℕ
+  all_ready = ready p.tables.now.latencies p.tables.now.ops.items rows (length rows)
+
+  ready_there : (j : ℕ) → In all_ready j → j < length p.tables.now.ops.items
+  ready_there j held =
+      let means : IsReady p.tables.now.latencies p.tables.now.ops.items rows (length rows) j =
+      ready_means p.tables.now.latencies p.tables.now.ops.items rows (length rows) j held in
+      means.within
+
+  -- who is ready has its rank in the set
+  ready_queued : (j : ℕ) → In all_ready j → has w.calendar 32 (rank_of p j) ≡ true
+  ready_queued j held = under.queued.ready j (when_ready p.tables.now.latencies p.tables.now.ops.items (graph_of p.tables.now.edges)
+      (progress_of p.ranks.now w) rows plan.graph under.waits matches j held)
+
+  -- whose rank is in the set is ready
+  queued_ready : (j : ℕ) → j < length p.tables.now.ops.items → has w.calendar 32 (rank_of p j) ≡ true → In all_ready j
+  queued_ready j there held = ready_when p.tables.now.latencies p.tables.now.ops.items (graph_of p.tables.now.edges)
+      (progress_of p.ranks.now w) rows plan.graph under.waits matches p.priorities.now each j
+      (under.queued.only j (subst (λ n. j < n) (sym plan.graph.size) there) held)
+
+  -- who has the lower rank goes before
+  goes_before : (i j : ℕ) → i < length p.tables.now.ops.items → j < length p.tables.now.ops.items → rank_of p i ≤ rank_of p j
+      → GoesBefore p.priorities.now i j
+  goes_before i j i_there j_there low = let size = plan.priorities in plan.ranked.before i j (omega arith) (omega arith) low
+
+  open_all : (j : ℕ) → In all_ready j → IsOpen p w C.Rest j
+  open_all j held = opens p w (length rows + 1) under C.Rest j (ready_there j held) (ready_queued j held) (none_excluded (class_at p.tables.now.ops.items j))
+
+  pub chosen_none : IsBest p w C.Rest None → first_of_all p.priorities.now all_ready ≡ None
+  chosen_none none = first_none p.priorities.now all_ready (λ j held. none j (open_all j held))
+
+  pub chosen_first : (a : Choice) → IsBest p w C.Rest (Some a) → first_of_all p.priorities.now all_ready ≡ Some a.number
+  chosen_first a best =
+      first_is p.priorities.now all_ready a.number
+      (ready_rises p.tables.now.latencies p.tables.now.ops.items rows (length rows))
+      (queued_ready a.number best.0.0 (open_ready p w (length rows + 1) under C.Rest a.number best.0.0 best.0))
+      (λ j held. goes_before a.number j best.0.0 (ready_there j held) (best.2 j (open_all j held)))
+
+  module _ (w1 : Waiting) (a : Choice) (best_a : IsBest p w C.Rest (Some a)) (issues : Issues p w w1 (length rows) a) where
+    class_a : class_at p.tables.now.ops.items a.number ≡ a.class
+    class_a = best_a.1
+
+    abbrev beside : ℕ → Bool
+    beside b = not (a.number == b) && may_stand_beside (kind (op_at p.tables.now.ops.items a.number))
+        (kind (op_at p.tables.now.ops.items b))
+
+    open_beside : (j : ℕ) → may_stand_beside (kind (op_at p.tables.now.ops.items a.number))
+        (kind (op_at p.tables.now.ops.items j)) ≡ not (excludes a.class (class_at p.tables.now.ops.items j))
+    open_beside j = beside_by_class (kind (op_at p.tables.now.ops.items a.number)) (kind (op_at p.tables.now.ops.items j))
+        ∙ ap (λ k. not (excludes k (class_at p.tables.now.ops.items j))) class_a
+
+    -- a isn't ready any more
+    not_a : (j : ℕ) → IsOpen p w1 a.class j → a.number ≢ j
+    not_a j is same =
+        let held : has w1.calendar 32 (rank_of p j) ≡ true = open_ready p w1 (length rows + 1) issues.under_way a.class j is.0 is in
+        let none = (issues.under_way.queued.only j (subst (λ n. j < n) (sym plan.graph.size) is.0) held).waiting in
+        not_both ((progress_of p.ranks.now w1).issued j) (length rows) none
+        (ap (progress_of p.ranks.now w1).issued (sym same) ∙ issued_at _ _ a.number (length rows) issues.issued issues.there)
+
+    -- who is ready and can go beside a is open in what is left
+    left_open : (j : ℕ) → In (filter beside all_ready) j → IsOpen p w1 a.class j
+    left_open j held =
+        let found : In all_ready j × (beside j ≡ true) = from_filter beside all_ready j held in
+        let tests : (not (a.number == j) ≡ true)
+        × (may_stand_beside (kind (op_at p.tables.now.ops.items a.number)) (kind (op_at p.tables.now.ops.items j)) ≡ true) =
+        from_both _ _ found.1 in
+        let other : not (a.number == j) ≡ true = tests.0 in
+        let there = ready_there j found.0 in
+        opens p w1 (length rows + 1) issues.under_way a.class j there
+        (issues.ready j there (λ same. let equal : (a.number == j) ≡ true = grind (arith, nat_tests) in not_equal (a.number == j) equal other)
+        ∙ ready_queued j found.0)
+        (open_alone (excludes a.class (class_at p.tables.now.ops.items j)) (sym (open_beside j) ∙ tests.1))
+
+    -- who is open in it is ready and can go beside a
+    open_left : (j : ℕ) → IsOpen p w1 a.class j → In (filter beside all_ready) j
+    open_left j is =
+        let apart : a.number ≢ j = not_a j is in
+        in_filter beside all_ready j
+        (queued_ready j is.0 (sym (issues.ready j is.0 (λ same. apart (sym same)))
+        ∙ open_ready p w1 (length rows + 1) issues.under_way a.class j is.0 is))
+        (both_true _ _ (apart_numbers a.number j apart)
+        (open_beside j ∙ ap not (open_free p w1 (length rows + 1) issues.under_way a.class j is.0 is)))
+
+    pub chosen_second : (b : Option Choice) → IsBest p w1 a.class b
+        → first_of_all p.priorities.now (filter beside all_ready) ≡ number_of b
+    chosen_second None none = first_none p.priorities.now (filter beside all_ready) (λ j held. none j (left_open j held))
+    chosen_second (Some b) best =
+        first_is p.priorities.now (filter beside all_ready) b.number
+        (ordered_filter (λ (x y : ℕ). x < y) beside all_ready
+        (ready_rises p.tables.now.latencies p.tables.now.ops.items rows (length rows)))
+        (open_left b.number best.0)
+        (λ j held. let is : IsOpen p w1 a.class j = left_open j held in goes_before b.number j best.0.0 is.0 (best.2 j is))
+
+    memory_beside : (b : Option Choice) → IsBest p w1 a.class b
+        → is_some_kind is_memory (kind_in p.tables.now.ops.items (number_of b)) ≡ is_memory_choice b
+    memory_beside None none = refl
+    memory_beside (Some b) best = memory_by_class (kind (op_at p.tables.now.ops.items b.number)) ∙ ap is_memory_class best.1
+
+    pub chosen_row : (b : Option Choice) → IsBest p w1 a.class b
+        → row_with a b ≡ chosen p.tables.now.ops.items p.priorities.now all_ready
+    chosen_row b second =
+        let product : is_mult (kind (op_at p.tables.now.ops.items a.number)) ≡ is_product_class a.class =
+        mult_by_class (kind (op_at p.tables.now.ops.items a.number)) ∙ ap is_product_class class_a in
+        let row : on_units p.tables.now.ops.items a.number (number_of b) ≡ row_with a b =
+        ap (λ t. if t || is_some_kind is_memory (kind_in p.tables.now.ops.items (number_of b)) then row_one a b else row_zero a b)
+        product
+        ∙ ap (λ t. if is_product_class a.class || t then row_one a b else row_zero a b) (memory_beside b second) in
+        sym
+        (ap (chosen_with p.tables.now.ops.items p.priorities.now all_ready) (chosen_first a best_a)
+        ∙ ap (on_units p.tables.now.ops.items a.number) (chosen_second b second)
+        ∙ row)

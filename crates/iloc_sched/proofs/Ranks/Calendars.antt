@@ -1,0 +1,200 @@
+-- The calendar of a plan, as ranks are put into it, released and taken.
+use Rattle.std.proofs.Common.{◌≡◌, ◌≢◌, ℕ, ◌+◌, ◌/◌, ◌<◌, ◌≤◌, ◌⊎◌, ◌||◌, Bool, true, false, eqb, length, get_or, inl, inr, refl, sym, ◌∙◌, ap, subst, arith}
+use Rattle.std.proofs.lemmas.Bool.{true≢false}
+use Rattle.iloc_sched.specs.declared.cycle.calendar.Calendar.{Calendar}
+use Rattle.iloc_sched.specs.declared.cycle.class.Class.{Class}
+use Rattle.iloc_sched.specs.declared.cycle.class.Class.TheVariants as C
+use Rattle.iloc_sched.specs.declared.cycle.plan.Plan.{Plan}
+use Rattle.iloc_sched.specs.Steps.Calendar.{has, IsWithin, HasRoom, KeepsRoom, HasSameSets, Puts, Releases}
+use Rattle.iloc_sched.specs.Steps.Classes.{place_of, excludes}
+use Rattle.iloc_sched.specs.Steps.RankSets.{rank_bit}
+use Rattle.iloc_sched.specs.Steps.SoFar.{class_at, rank_of, KeepsOut, IsPlan, IsCalendar}
+use Rattle.iloc_sched.specs.Steps.Views.{bucket_of}
+use Rattle.iloc_meaning.proofs.Cases.{by_bool}
+use Rattle.iloc_sched.proofs.Basics.Cases.{by_eq}
+use Rattle.iloc_sched.proofs.Ranks.Cells.{by_both}
+use Rattle.iloc_sched.proofs.Walking.EdgeWalk.{Enters}
+
+pub place_small : (k : Class) → place_of k < 4
+place_small C.Memory = omega arith
+place_small C.Product = omega arith
+place_small C.Output = omega arith
+place_small C.Rest = omega arith
+
+same_class : (l k : Class) → place_of l ≡ place_of k → (excludes k k || false) ≡ excludes l k
+same_class C.Memory C.Memory same = refl
+same_class C.Product C.Product same = refl
+same_class C.Output C.Output same = refl
+same_class C.Rest C.Rest same = refl
+same_class C.Memory C.Product same = absurd (omega arith)
+same_class C.Memory C.Output same = absurd (omega arith)
+same_class C.Memory C.Rest same = absurd (omega arith)
+same_class C.Product C.Memory same = absurd (omega arith)
+same_class C.Product C.Output same = absurd (omega arith)
+same_class C.Product C.Rest same = absurd (omega arith)
+same_class C.Output C.Memory same = absurd (omega arith)
+same_class C.Output C.Product same = absurd (omega arith)
+same_class C.Output C.Rest same = absurd (omega arith)
+same_class C.Rest C.Memory same = absurd (omega arith)
+same_class C.Rest C.Product same = absurd (omega arith)
+same_class C.Rest C.Output same = absurd (omega arith)
+
+other_class : (l k : Class) → place_of l ≢ place_of k → excludes l k ≡ false
+other_class C.Memory C.Memory apart = absurd (apart refl)
+other_class C.Product C.Product apart = absurd (apart refl)
+other_class C.Output C.Output apart = absurd (apart refl)
+other_class C.Rest k apart = refl
+other_class C.Memory C.Product apart = refl
+other_class C.Memory C.Output apart = refl
+other_class C.Memory C.Rest apart = refl
+other_class C.Product C.Memory apart = refl
+other_class C.Product C.Output apart = refl
+other_class C.Product C.Rest apart = refl
+other_class C.Output C.Memory apart = refl
+other_class C.Output C.Product apart = refl
+other_class C.Output C.Rest apart = refl
+
+pub or_true : (a b : Bool) → (a || b) ≡ true → (a ≡ true) ⊎ (b ≡ true)
+or_true true b is = inl refl
+or_true false b is = inr is
+
+pub true_or : (a b : Bool) → (a ≡ true) ⊎ (b ≡ true) → (a || b) ≡ true
+true_or true b is = refl
+true_or false b (inl is) = cc
+true_or false b (inr is) = is
+
+-- the room is as it was
+pub within_kept : (c c' : Calendar) (r : ℕ) → KeepsRoom c c' → IsWithin c r → IsWithin c' r
+within_kept c c' r keeps is =
+    let long = keeps.words in
+    record {
+      word = let h = is.word in omega arith;
+      block = λ some. subst (λ b. r / 4096 < b) (sym keeps.blocks) (is.block (λ none. some (keeps.blocks ∙ none)));
+    }
+
+pub room_kept : (c c' : Calendar) (n : ℕ) → KeepsRoom c c' → HasRoom c n → HasRoom c' n
+room_kept c c' n keeps room =
+    let long = keeps.words in
+    record {
+      ranks = λ r low. within_kept c c' r keeps (room.ranks r low);
+      first = let h = room.first in omega arith;
+      blocks = λ b low. let h = room.blocks b (subst (λ m. b < m) keeps.blocks low) in omega arith;
+    }
+
+pub room_none : (c : Calendar) (n : ℕ) → HasRoom c n → HasRoom c 0
+room_none c n room = record { ranks = λ r low. absurd (omega arith); first = room.first; blocks = room.blocks }
+
+pub room_trans : (a b c : Calendar) → KeepsRoom a b → KeepsRoom b c → KeepsRoom a c
+room_trans a b c first second = record { words = second.words ∙ first.words; blocks = second.blocks ∙ first.blocks }
+
+-- the sets are the same
+pub same_has : (c c' : Calendar) → HasSameSets c c' → (s r : ℕ) → has c' s r ≡ has c s r
+same_has c c' same s r = ap (λ ws. eqb (rank_bit ws s r) 1) same.words
+
+pub same_room : (c c' : Calendar) → HasSameSets c c' → KeepsRoom c c'
+same_room c c' same = record { words = ap (length {A = ℕ}) same.words; blocks = same.blocks }
+
+pub puts_same : (c c' d : Calendar) (s k : ℕ) (b : Bool) → HasSameSets c c' → Puts c' d s k b → Puts c d s k b
+puts_same c c' d s k b same puts = record {
+  here = puts.here;
+  others = λ t r low apart. puts.others t r low apart ∙ same_has c c' same t r;
+}
+
+-- what a class keeps out is known as before
+pub kept_put : (p : Plan) (c c' : Calendar) (n s k : ℕ) (b : Bool) → s ≤ 32 → Puts c c' s k b → KeepsOut p n c → KeepsOut p n c'
+kept_put p c c' n s k b low puts kept = record {
+  each = λ class i there. puts.others (33 + place_of class) (rank_of p i) (omega (arith, place_small class)) (λ same _. absurd (omega arith))
+      ∙ kept.each class i there;
+  only = λ class r held. kept.only class r
+      (sym (puts.others (33 + place_of class) r (omega (arith, place_small class)) (λ same _. absurd (omega arith))) ∙ held);
+}
+
+module _ (p : Plan) (plan : IsPlan p) where
+  -- each operation has a rank of its own
+  pub ranks_apart : (j k : ℕ) → j < length p.tables.now.ops.items → k < length p.tables.now.ops.items → rank_of p j ≡ rank_of p k → j ≡ k
+  ranks_apart j k j_there k_there same =
+      let size = plan.priorities in
+      sym (plan.ranked.operation_of j (omega arith)) ∙ ap (λ r. get_or p.order.now r 0) same ∙ plan.ranked.operation_of k (omega arith)
+
+  module _ (c c' : Calendar) (is : IsCalendar p c) where
+    -- operation j goes into a set of operations, or out of it
+    pub calendar_put : (s j : ℕ) (b : Bool) → s ≤ 32 → j < length p.tables.now.ops.items → Puts c c' s (rank_of p j) b → KeepsRoom c c'
+        → IsCalendar p c'
+    calendar_put s j b low there puts keeps = record {
+      room = room_kept c c' (length p.tables.now.ops.items) keeps is.room;
+      ranked = λ t r t_low held. by_both t s r (rank_of p j)
+          (λ _ same. (j, there, sym same))
+          (λ other. is.ranked t r t_low (sym (puts.others t r (omega arith) other) ∙ held));
+      kept = kept_put p c c' (length p.tables.now.ops.items) s (rank_of p j) b low puts is.kept;
+    }
+
+    pub calendar_released : (b : ℕ) → b < 32 → Releases c c' b → KeepsRoom c c' → IsCalendar p c'
+    calendar_released b low released keeps = record {
+      room = room_kept c c' (length p.tables.now.ops.items) keeps is.room;
+      ranked = λ t r t_low held. by_eq t 32
+          (λ ready. elim (or_true (has c 32 r) (has c b r) (sym (released.union r) ∙ ap (λ u. has c' u r) (sym ready) ∙ held)) [
+            | inl old ↦ is.ranked 32 r (omega arith) old
+            | inr due ↦ is.ranked b r (omega arith) due
+          ])
+          (λ other. by_eq t b
+          (λ same. absurd (true≢false (sym held ∙ ap (λ u. has c' u r) same ∙ released.empty r)))
+          (λ another. is.ranked t r t_low (sym (released.others t r (omega arith) other another) ∙ held)));
+      kept = record {
+        each = λ k i i_there. released.others (33 + place_of k) (rank_of p i) (omega (arith, place_small k)) (λ same. absurd (omega arith))
+            (λ same. absurd (omega arith)) ∙ is.kept.each k i i_there;
+        only = λ k r held. is.kept.only k r
+            (sym (released.others (33 + place_of k) r (omega (arith, place_small k)) (λ same. absurd (omega arith))
+            (λ same. absurd (omega arith))) ∙ held);
+      };
+    }
+
+  -- operation j goes into bucket b if it has come to its last edge
+  pub puts_enters : (c c' : Calendar) (b j : ℕ) (ready : Bool) (at_end : Type 0) → b < 32 → j < length p.tables.now.ops.items
+      → Puts c c' b (rank_of p j) (ready || has c b (rank_of p j)) → (ready ≡ true → at_end) → (at_end → ready ≡ true)
+      → Enters (length p.tables.now.ops.items) (bucket_of p.ranks.now c) (bucket_of p.ranks.now c') b j at_end
+  puts_enters c c' b j ready at_end low there puts end begin = record {
+    comes = λ over. puts.here ∙ true_or ready (has c b (rank_of p j)) (inl (begin over));
+    was = λ held. elim (or_true ready (has c b (rank_of p j)) (sym puts.here ∙ held)) [ inl is ↦ inr (end is) | inr old ↦ inl old ];
+    others = λ a k a_low k_there apart. puts.others a (rank_of p k) (omega arith)
+        (λ same ranks. apart same (ranks_apart k j k_there there ranks));
+  }
+
+  -- what operation n keeps out is noted for its class
+  pub keeps_out_more : (c c' : Calendar) (n : ℕ) (k : Class) → n < length p.tables.now.ops.items → KeepsOut p n c
+      → k ≡ class_at p.tables.now.ops.items n
+      → Puts c c' (33 + place_of k) (rank_of p n) (excludes k k || has c (33 + place_of k) (rank_of p n)) → KeepsOut p (n + 1) c'
+  keeps_out_more c c' n k there kept class puts = record {
+    each = λ l i below. by_eq i n
+        (λ same. ap (λ m. has c' (33 + place_of l) (rank_of p m)) same ∙ noted l
+        ∙ ap (λ m. excludes l (class_at p.tables.now.ops.items m)) (sym same))
+        (λ apart. puts.others (33 + place_of l) (rank_of p i) (omega (arith, place_small l))
+        (λ _ same. apart (ranks_apart i n (omega arith) there same)) ∙ kept.each l i (omega arith));
+    only = λ l r held. by_both (33 + place_of l) (33 + place_of k) r (rank_of p n)
+        (λ _ same. (n, omega arith, sym same))
+        (λ other.
+        let was = kept.only l r (sym (puts.others (33 + place_of l) r (omega (arith, place_small l)) other) ∙ held) in
+        let before : was.0 < n = was.1 in
+        (was.0, omega arith, was.2));
+  }
+    where
+      new : (l : Class) → has c (33 + place_of l) (rank_of p n) ≡ false
+      new l = by_bool (has c (33 + place_of l) (rank_of p n))
+          (λ held.
+          let was = kept.only l (rank_of p n) held in
+          let before : was.0 < n = was.1 in
+          let same : was.0 ≡ n = ranks_apart was.0 n (omega arith) there was.2 in
+          absurd (omega arith))
+          (λ none. none)
+
+      noted : (l : Class) → has c' (33 + place_of l) (rank_of p n) ≡ excludes l (class_at p.tables.now.ops.items n)
+      noted l = by_eq (place_of l) (place_of k)
+          (λ same. ap (λ m. has c' (33 + m) (rank_of p n)) same ∙ puts.here ∙ ap (λ b. excludes k k || b) (new k) ∙ same_class l k same
+          ∙ ap (excludes l) class)
+          (λ apart. puts.others (33 + place_of l) (rank_of p n) (omega (arith, place_small l)) (λ same _. apart (omega arith)) ∙ new l
+          ∙ sym (other_class l k apart) ∙ ap (excludes l) class)
+
+-- the same with equals
+pub puts_as : (c1 c k : Calendar) (s r r' : ℕ) (ready : Bool) → c1 ≡ c → r ≡ r' → Puts c1 k s r (ready || has c1 s r)
+    → Puts c k s r' (ready || has c s r')
+puts_as c1 c k s r r' ready same rank puts =
+    subst (λ (d : Calendar). Puts d k s r' (ready || has d s r')) same (subst (λ n. Puts c1 k s n (ready || has c1 s n)) rank puts)

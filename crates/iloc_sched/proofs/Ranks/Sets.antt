@@ -1,0 +1,224 @@
+-- What words say of sets: put, released, first; for the functions of `Calendar`.
+use Rattle.std.proofs.Common.{◌≡◌, ◌≢◌, ℕ, zero, suc, ◌+◌, ◌-◌, ◌*◌, ◌/◌, ◌%◌, ◌<◌, ◌≤◌, ◌&&◌, ◌||◌, not, Bool, true, false, eqb, List, length, min, Some, None, refl, sym, ◌∙◌, ap, subst, arith}
+use Rattle.std.specs.Int.{bit_at}
+use Rattle.std.proofs.lemmas.Nat.Bits.{bit_at-lt}
+use lib.ListN.{get_or-eq_default}
+use Rattle.std.specs.Global.{Vec}
+use Rattle.std.specs.Vec.{with_items}
+use Rattle.std.proofs.lemmas.List.{with_items_is}
+use Rattle.iloc_sched.specs.declared.cycle.calendar.Calendar.{Calendar}
+use Rattle.iloc_sched.specs.declared.cycle.class.Class.{Class}
+use Rattle.iloc_sched.specs.Steps.Calendar.{has, offers, IsFirst, KeepsRoom, Puts, Releases}
+use Rattle.iloc_sched.specs.Steps.Classes.{place_of}
+use Rattle.iloc_sched.specs.Steps.RankSets.{word_at, rank_bit, IsSummary, AddsBit, TakesBit, MovesAt, NotesMoved, HoldsBits, open_bit, IsFirstWithin}
+use Rattle.iloc_sched.proofs.Basics.Cases.{by_eq, by_lt}
+use Rattle.iloc_sched.proofs.Ranks.Calendars.{place_small}
+use Rattle.iloc_sched.proofs.Ranks.Firsts.{none_open}
+use Rattle.iloc_sched.proofs.Ranks.Moves.{KeepsElse, moved_ready}
+use Rattle.iloc_sched.proofs.Ranks.WordBits.{no_bit, test_added}
+
+pub bit_small : (words : List ℕ) (s r : ℕ) → rank_bit words s r < 2
+bit_small words s r = bit_at-lt (word_at words s (r / 64)) (r % 64)
+
+pub puts_from : (c c' : Calendar) (s k : ℕ) (b : Bool) → AddsBit c.words.items c'.words.items b s k → Puts c c' s k (b || has c s k)
+puts_from c c' s k b adds = record {
+  here = ap (λ x. eqb x 1) adds.here ∙ test_added b (rank_bit c.words.items s k) (bit_small c.words.items s k);
+  others = λ t r low apart. ap (λ x. eqb x 1) (adds.others t r low apart);
+}
+
+pub takes_from : (c c' : Calendar) (s k : ℕ) → TakesBit c.words.items c'.words.items s k → Puts c c' s k false
+takes_from c c' s k takes = record {
+  here = ap (λ x. eqb x 1) takes.here;
+  others = λ t r low apart. ap (λ x. eqb x 1) (takes.others t r low apart);
+}
+
+-- a word past the end has nothing
+pub past_end : (words : List ℕ) (s w : ℕ) → length words ≤ w * 37 + s → word_at words s w ≡ 0
+past_end words s w past = get_or-eq_default words 0 past
+
+-- a summary's bit leads to a word that is there
+pub leads_there : (summary words : List ℕ) (s block : ℕ) → s < 32 → IsSummary summary words
+    → ((w : ℕ) → w * 37 < length words → w * 37 + 37 ≤ length words) → HoldsBits words (word_at summary s block) block
+leads_there summary words s block low right whole = λ i small set. by_lt ((block * 64 + i) * 37 + s) (length words)
+    (λ there. whole (block * 64 + i) (omega arith))
+    (λ past.
+    let row : (block * 64 + i) / 64 ≡ block = omega arith in
+    let column : (block * 64 + i) % 64 ≡ i = omega arith in
+    let none : min 1 (word_at words s (block * 64 + i)) ≡ 0 = ap (min 1) (past_end words s (block * 64 + i) past) in
+    absurd (set (ap (λ v. bit_at (word_at summary s v) i) (sym row) ∙ ap (bit_at (word_at summary s ((block * 64 + i) / 64))) (sym column)
+    ∙ right.buckets s (block * 64 + i) low ∙ none)))
+
+-- so does a class's
+pub open_there : (summary words : List ℕ) (k block : ℕ) → k < 4 → IsSummary summary words → HoldsBits words (word_at summary (33 + k) block) block
+open_there summary words k block low right = λ i small set.
+    let row : (block * 64 + i) / 64 ≡ block = omega arith in
+    let column : (block * 64 + i) % 64 ≡ i = omega arith in
+    right.there k (block * 64 + i) low (λ none. set (ap (λ v. bit_at (word_at summary (33 + k) v) i) (sym row)
+    ∙ ap (bit_at (word_at summary (33 + k) ((block * 64 + i) / 64))) (sym column) ∙ none))
+
+-- the words that a summary leaves out have nothing
+pub left_out : (summary words : List ℕ) (s block : ℕ) → s < 32 → IsSummary summary words → (w : ℕ) → w / 64 ≡ block
+    → bit_at (word_at summary s block) (w % 64) ≡ 0 → word_at words s w ≡ 0
+left_out summary words s block low right w here none =
+    let bit : rank_bit summary s w ≡ 0 = ap (λ b. bit_at (word_at summary s b) (w % 64)) here ∙ none in
+    let least : min 1 (word_at words s w) ≡ 0 = sym (right.buckets s w low) ∙ bit in
+    omega arith
+
+-- nor have those that it has no bits for
+pub beyond : (summary words : List ℕ) (s blocks : ℕ) → s < 32 → IsSummary summary words → length summary ≡ blocks * 37 → (w : ℕ)
+    → blocks ≤ w / 64 → word_at words s w ≡ 0
+beyond summary words s blocks low right size w past =
+    let none : rank_bit summary s w ≡ 0 = no_bit (word_at summary s (w / 64)) (w % 64) (past_end summary s (w / 64) (omega arith)) in
+    let least : min 1 (word_at words s w) ≡ 0 = sym (right.buckets s w low) ∙ none in
+    omega arith
+
+no_member : (words : List ℕ) (s r : ℕ) → word_at words s (r / 64) ≡ 0 → eqb (rank_bit words s r) 1 ≡ false
+no_member words s r none = ap (λ x. eqb x 1) (no_bit (word_at words s (r / 64)) (r % 64) none)
+
+or_none : (a b : Bool) → b ≡ false → a ≡ (a || b)
+or_none true b none = refl
+or_none false b none = sym none
+
+-- the ranks of the first blocks are released
+pub record IsReleased (c c' : Calendar) (b n : ℕ) : Type 0 where
+  pub union : (r : ℕ) → r / 4096 < n → has c' 32 r ≡ (has c 32 r || has c b r)
+  pub empty : (r : ℕ) → r / 4096 < n → has c' b r ≡ false
+  pub others : (s r : ℕ) → s < 37 → (r / 4096 < n → (s ≢ 32) × (s ≢ b)) → has c' s r ≡ has c s r
+  pub room : KeepsRoom c c'
+
+pub none_released : (c : Calendar) (b : ℕ) → IsReleased c c b 0
+none_released c b = record {
+  union = λ r low. absurd (omega arith);
+  empty = λ r low. absurd (omega arith);
+  others = λ s r low apart. refl;
+  room = record { words = refl; blocks = refl };
+}
+
+-- one block more
+module _ (c c1 c2 : Calendar) (b n : ℕ) (small : b < 32) (before : IsReleased c c1 b n)
+    (union : (r : ℕ) → r / 4096 ≡ n → has c2 32 r ≡ (has c1 32 r || has c1 b r))
+    (empty : (r : ℕ) → r / 4096 ≡ n → has c2 b r ≡ false)
+    (others : (s r : ℕ) → s < 37 → (r / 4096 ≡ n → (s ≢ 32) × (s ≢ b)) → has c2 s r ≡ has c1 s r)
+    (room : KeepsRoom c1 c2) where
+  pub one_released : IsReleased c c2 b (n + 1)
+  one_released = record {
+    union = λ r low. by_eq (r / 4096) n
+        (λ here. union r here ∙ ap (λ x. x || has c1 b r) (before.others 32 r (omega arith) (λ less. absurd (omega arith)))
+        ∙ ap (λ x. has c 32 r || x) (before.others b r (omega arith) (λ less. absurd (omega arith))))
+        (λ other. others 32 r (omega arith) (λ here. absurd (other here)) ∙ before.union r (omega arith));
+    empty = λ r low. by_eq (r / 4096) n (λ here. empty r here)
+        (λ other. others b r (omega arith) (λ here. absurd (other here)) ∙ before.empty r (omega arith));
+    others = λ s r low apart. others s r low (λ here. apart (omega arith)) ∙ before.others s r low (λ less. apart (omega arith));
+    room = record { words = room.words ∙ before.room.words; blocks = room.blocks ∙ before.room.blocks };
+  }
+
+-- all blocks
+pub all_released : (c c' : Calendar) (b : ℕ) → b < 32 → c.blocks ≢ 0 → IsReleased c c' b c.blocks → Releases c c' b
+all_released c c' b small some released = record {
+  union = λ r. by_lt (r / 4096) c.blocks (λ here. released.union r here)
+      (λ past. released.others 32 r (omega arith) (λ less. absurd (omega arith)) ∙ or_none (has c 32 r) (has c b r) (gone r past));
+  empty = λ r. by_lt (r / 4096) c.blocks (λ here. released.empty r here)
+      (λ past. released.others b r (omega arith) (λ less. absurd (omega arith)) ∙ gone r past);
+  others = λ s r low first second. released.others s r low (λ _. (first, second));
+}
+  where
+    gone : (r : ℕ) → c.blocks ≤ r / 4096 → has c b r ≡ false
+    gone r past = no_member c.words.items b r
+        (beyond c.summary.items c.words.items b c.blocks (omega arith) (c.summarised some) c.sized (r / 64) (omega arith))
+
+-- one word is all
+pub one_word_released : (c c' : Calendar) (b : ℕ) → b < 32 → length c.words.items ≤ 37 → MovesAt c.words.items c'.words.items b 0
+    → KeepsElse (λ w. w ≡ 0) c.words.items c'.words.items b → Releases c c' b
+one_word_released c c' b small single moved kept = record {
+  union = λ r. by_eq (r / 64) 0
+      (λ here. moved_ready c.words.items c'.words.items b r (subst (λ w. MovesAt c.words.items c'.words.items b w) (sym here) moved))
+      (λ other. same 32 r (omega arith) (λ here. absurd (other here)) ∙ or_none (has c 32 r) (has c b r)
+      (no_member c.words.items b r (past_end c.words.items b (r / 64) (omega arith))));
+  empty = λ r. by_eq (r / 64) 0
+      (λ here. no_member c'.words.items b r (ap (word_at c'.words.items b) here ∙ moved.0))
+      (λ other. same b r (omega arith) (λ here. absurd (other here))
+      ∙ no_member c.words.items b r (past_end c.words.items b (r / 64) (omega arith)));
+  others = λ s r low first second. same s r low (λ _. (first, second));
+}
+  where
+    same : (s r : ℕ) → s < 37 → (r / 64 ≡ 0 → (s ≢ 32) × (s ≢ b)) → has c' s r ≡ has c s r
+    same s r low apart = ap (λ x. eqb (bit_at x (r % 64)) 1) (kept s (r / 64) low apart)
+
+-- the words of a block
+module _ (xs ys : List ℕ) (b block : ℕ) (moved : (w : ℕ) → w / 64 ≡ block → MovesAt xs ys b w)
+    (kept : KeepsElse (λ w. w / 64 ≡ block) xs ys b) where
+  pub block_union : (r : ℕ) → r / 4096 ≡ block → eqb (rank_bit ys 32 r) 1 ≡ (eqb (rank_bit xs 32 r) 1 || eqb (rank_bit xs b r) 1)
+  block_union r here = moved_ready xs ys b r (moved (r / 64) (omega arith))
+
+  pub block_empty : (r : ℕ) → r / 4096 ≡ block → eqb (rank_bit ys b r) 1 ≡ false
+  block_empty r here = no_member ys b r (moved (r / 64) (omega arith)).0
+
+  pub block_others : (s r : ℕ) → s < 37 → (r / 4096 ≡ block → (s ≢ 32) × (s ≢ b)) → eqb (rank_bit ys s r) 1 ≡ eqb (rank_bit xs s r) 1
+  block_others s r low apart = ap (λ x. eqb (bit_at x (r % 64)) 1) (kept s (r / 64) low (λ here. apart (omega arith)))
+
+offers_bits : (a b : ℕ) → a < 2 → b < 2 → (eqb a 1 && not (eqb b 1)) ≡ eqb (min a (1 - b)) 1
+offers_bits zero zero p q = refl
+offers_bits zero (suc zero) p q = refl
+offers_bits (suc zero) zero p q = refl
+offers_bits (suc zero) (suc zero) p q = refl
+offers_bits (suc (suc a)) b p q = absurd (omega arith)
+offers_bits zero (suc (suc b)) p q = absurd (omega arith)
+offers_bits (suc zero) (suc (suc b)) p q = absurd (omega arith)
+
+-- what is offered is what is open
+module _ (c : Calendar) (beside : Class) where
+  abbrev words : List ℕ
+  words = c.words.items
+
+  is_offered : (r x : ℕ) → open_bit words (place_of beside) r ≡ x → offers c beside r ≡ eqb x 1
+  is_offered r x is = offers_bits (rank_bit words 32 r) (rank_bit words (33 + place_of beside) r) (bit_small words 32 r)
+      (bit_small words (33 + place_of beside) r) ∙ ap (λ y. eqb y 1) is
+
+  -- in the first word
+  pub first_in_word : (f : ℕ) → IsFirstWithin words (place_of beside) (λ r. r / 64 ≡ 0) (Some f) → IsFirst (offers c beside) (Some f)
+  first_in_word f first =
+      let row : f / 64 ≡ 0 = first.0 in
+      (is_offered f 1 first.1, λ r less. is_offered r 0 (first.2 r (omega arith) less))
+
+  pub none_in_word : length words ≤ 37 → IsFirstWithin words (place_of beside) (λ r. r / 64 ≡ 0) None → IsFirst (offers c beside) None
+  none_in_word single none = λ r. is_offered r 0 (by_eq (r / 64) 0 (none r)
+      (λ other. none_open words (place_of beside) r (past_end words 32 (r / 64) (omega arith))))
+
+  -- in a block after others
+  pub first_in_block : (block f : ℕ) → ((r : ℕ) → r / 64 / 64 < block → open_bit words (place_of beside) r ≡ 0)
+      → IsFirstWithin words (place_of beside) (λ r. r / 64 / 64 ≡ block) (Some f) → IsFirst (offers c beside) (Some f)
+  first_in_block block f before first =
+      let row : f / 64 / 64 ≡ block = first.0 in (
+        is_offered f 1 first.1,
+        λ r less. is_offered r 0 (by_eq (r / 64 / 64) block (λ here. first.2 r here less) (λ other. before r (omega arith))),
+      )
+
+  pub none_in_blocks : c.blocks ≢ 0 → ((r : ℕ) → r / 64 / 64 < c.blocks → open_bit words (place_of beside) r ≡ 0) → IsFirst (offers c beside) None
+  none_in_blocks some none = λ r. is_offered r 0 (by_lt (r / 64 / 64) c.blocks (none r)
+      (λ past. (c.summarised some).closed (place_of beside) r (place_small beside)
+      (no_bit (word_at c.summary.items (33 + place_of beside) (r / 64 / 64)) (r / 64 % 64)
+      (past_end c.summary.items (33 + place_of beside) (r / 64 / 64) (omega (arith, c.sized, place_small beside))))))
+
+-- what is written to a list's slice is in the list
+module _ (v : Vec ℕ) (xs ws : List ℕ) (same : xs ≡ v.items) where
+  pub long : length ws ≡ length xs → length ws ≡ v.len
+  long size = let stored = v.ok.0 in let e = ap (length {A = ℕ}) same in omega arith
+
+  pub adds_back : (b : Bool) (s k : ℕ) → AddsBit xs ws b s k → AddsBit v.items (with_items v ws).items b s k
+  adds_back b s k adds = subst (λ ys. AddsBit v.items ys b s k) (sym (with_items_is v ws (long adds.size))) (subst (λ ys. AddsBit ys ws b s k) same adds)
+
+  pub takes_back : (s k : ℕ) → TakesBit xs ws s k → TakesBit v.items (with_items v ws).items s k
+  takes_back s k takes = subst (λ ys. TakesBit v.items ys s k) (sym (with_items_is v ws (long takes.size))) (subst (λ ys. TakesBit ys ws s k) same takes)
+
+  pub notes_back : (some block b n : ℕ) → NotesMoved xs ws some block b n → NotesMoved v.items (with_items v ws).items some block b n
+  notes_back some block b n notes = subst (λ ys. NotesMoved v.items ys some block b n) (sym (with_items_is v ws (long notes.size)))
+      (subst (λ ys. NotesMoved ys ws some block b n) same notes)
+
+  pub moves_back : (b w : ℕ) → length ws ≡ length xs → MovesAt xs ws b w → MovesAt v.items (with_items v ws).items b w
+  moves_back b w size moved = subst (λ ys. MovesAt v.items ys b w) (sym (with_items_is v ws (long size))) (subst (λ ys. MovesAt ys ws b w) same moved)
+
+  pub kept_back : (Moved : ℕ → Type 0) (b : ℕ) → length ws ≡ length xs → KeepsElse Moved xs ws b → KeepsElse Moved v.items (with_items v ws).items b
+  kept_back Moved b size kept = subst (λ ys. KeepsElse Moved v.items ys b) (sym (with_items_is v ws (long size))) (subst (λ ys. KeepsElse Moved ys ws b) same kept)
+
+  pub size_back : length ws ≡ length xs → length (with_items v ws).items ≡ length v.items
+  size_back size = ap (length {A = ℕ}) (with_items_is v ws (long size)) ∙ size ∙ ap (length {A = ℕ}) same

@@ -1,0 +1,123 @@
+-- A rank is added to a set or taken out, or words are searched, and the summary stays right.
+use Rattle.std.proofs.Common.{◌≡◌, ℕ, ◌+◌, ◌-◌, ◌*◌, ◌/◌, ◌%◌, ◌^◌, ◌<◌, ◌≤◌, List, length, set, min, max, Bool, ap, ap₂, sym, ◌∙◌, arith, w64, bit_and, bit_or, length-set}
+use Rattle.std.specs.Int.{bit_at}
+use Rattle.std.proofs.lemmas.Nat.Bits.{bit_at_clear_same, bit_at_clear_other}
+use Rattle.iloc_sched.specs.Steps.RankSets.{word_at, rank_bit, open_bit, IsSummary, IsSearched, AddsBit, TakesBit}
+use Rattle.iloc_sched.proofs.Basics.Cases.{by_eq}
+use Rattle.iloc_sched.proofs.Ranks.WordBits.{one_if, or_same, or_other, or_some}
+use Rattle.iloc_sched.proofs.Ranks.Cells.{by_both, cell_same, cell_other, put_same, put_other}
+
+-- rank r is added to set s if b
+abbrev pub added : List ℕ → ℕ → ℕ → Bool → List ℕ
+added ws s r b = set ws (r / 64 * 37 + s) (bit_or (word_at ws s (r / 64)) (one_if b * 2 ^ (r % 64) % 2 ^ 64))
+
+-- rank r is taken out of set s
+abbrev pub removed : List ℕ → ℕ → ℕ → List ℕ
+removed ws s r = set ws (r / 64 * 37 + s) (bit_and (word_at ws s (r / 64)) (2 ^ 64 - 1 - 1 * 2 ^ (r % 64) % 2 ^ 64))
+
+module _ (words : List ℕ) (s k : ℕ) (small : s < 37) (word : k / 64 * 37 + s < length words) where
+  pub added_here : (b : Bool) → rank_bit (added words s k b) s k ≡ max (rank_bit words s k) (one_if b)
+  added_here b = put_same words s k _ small word ∙ or_same (word_at words s (k / 64)) (k % 64) (omega arith) b
+
+  pub added_others : (b : Bool) → (t r : ℕ) → t < 37 → (t ≡ s → r ≡ k → ⊥) → rank_bit (added words s k b) t r ≡ rank_bit words t r
+  added_others b = put_other words s k _ small word (λ i _ apart. or_other (word_at words s (k / 64)) (k % 64) (omega arith) b i apart)
+
+  pub adds_bit : (b : Bool) → AddsBit words (added words s k b) b s k
+  adds_bit b = record {
+    here = added_here b;
+    others = added_others b;
+    word = ap (min 1) (cell_same words s (k / 64) _ word) ∙ or_some (word_at words s (k / 64)) (k % 64) (omega arith) b;
+    words_kept = λ t w low apart. cell_other words s (k / 64) _ small t w low apart;
+    size = length-set words (k / 64 * 37 + s) _;
+  }
+
+  pub takes_bit : TakesBit words (removed words s k) s k
+  takes_bit = record {
+    here = put_same words s k _ small word ∙ bit_at_clear_same w64 (word_at words s (k / 64)) (k % 64) (omega arith);
+    others = put_other words s k _ small word
+        (λ i within apart. bit_at_clear_other w64 (word_at words s (k / 64)) (k % 64) (omega arith) i within apart);
+    words_kept = λ t w low apart. cell_other words s (k / 64) _ small t w low apart;
+    size = length-set words (k / 64 * 37 + s) _;
+  }
+
+-- a rank is added to a bucket
+module _ (summary summary' words words' : List ℕ) (s k : ℕ) (small : s < 32) (right : IsSummary summary words) where
+  pub IsSummary-added : (b : Bool) → AddsBit words words' b s k → AddsBit summary summary' b s (k / 64) → IsSummary summary' words'
+  IsSummary-added b below above = record {
+    buckets = λ t w low. by_both t s w (k / 64)
+        (λ same at. ap₂ (rank_bit summary') same at ∙ above.here ∙ ap (λ x. max x (one_if b)) (right.buckets s (k / 64) small) ∙ sym below.word
+        ∙ ap₂ (λ a b. min 1 (word_at words' a b)) (sym same) (sym at))
+        (λ other. above.others t w (omega arith) other ∙ right.buckets t w low ∙ ap (min 1) (sym (below.words_kept t w (omega arith) other)));
+    closed = λ c r low none.
+        let was = right.closed c r low (sym (above.others (33 + c) (r / 64) (omega arith) (λ same _. absurd (omega arith))) ∙ none) in
+        let ready = below.others 32 r (omega arith) (λ same _. absurd (omega arith)) in
+        let kept = below.others (33 + c) r (omega arith) (λ same _. absurd (omega arith)) in
+        omega arith;
+    there = λ c w low some.
+        let h = right.there c w low (λ none. some (above.others (33 + c) w (omega arith) (λ same _. absurd (omega arith)) ∙ none)) in
+        let size = below.size in
+        omega arith;
+  }
+
+-- where no more is open than before
+module _ (summary words words' : List ℕ) (right : IsSummary summary words) where
+  less_open : ((s w : ℕ) → s < 32 → word_at words' s w ≡ word_at words s w)
+      → ((c r : ℕ) → c < 4 → open_bit words' c r ≤ open_bit words c r) → length words' ≡ length words → IsSummary summary words'
+  less_open same less size = record {
+    buckets = λ s w low. right.buckets s w low ∙ ap (min 1) (sym (same s w low));
+    closed = λ c r low none. let was = right.closed c r low none in let most = less c r low in omega arith;
+    there = λ c w low some. let h = right.there c w low some in omega arith;
+  }
+
+  pub IsSummary-kept_out : (j k : ℕ) (b : Bool) → j < 4 → AddsBit words words' b (33 + j) k → IsSummary summary words'
+  IsSummary-kept_out j k b small adds = less_open
+      (λ s w low. adds.words_kept s w (omega arith) (λ same _. absurd (omega arith)))
+      (λ c r low.
+      let ready = adds.others 32 r (omega arith) (λ same _. absurd (omega arith)) in
+      by_both (33 + c) (33 + j) r k
+      (λ same at.
+      let now : rank_bit words' (33 + c) r ≡ max (rank_bit words (33 + j) k) (one_if b) = ap₂ (rank_bit words') same at ∙ adds.here in
+      let was : rank_bit words (33 + c) r ≡ rank_bit words (33 + j) k = ap₂ (rank_bit words) same at in
+      omega arith)
+      (λ other. let kept = adds.others (33 + c) r (omega arith) other in omega arith))
+      adds.size
+
+  pub IsSummary-taken : (k : ℕ) → TakesBit words words' 32 k → IsSummary summary words'
+  IsSummary-taken k takes = less_open
+      (λ s w low. takes.words_kept s w (omega arith) (λ same _. absurd (omega arith)))
+      (λ c r low.
+      let kept = takes.others (33 + c) r (omega arith) (λ same _. absurd (omega arith)) in
+      by_eq r k
+      (λ at. let gone : rank_bit words' 32 r ≡ 0 = ap (rank_bit words' 32) at ∙ takes.here in omega arith)
+      (λ apart. let ready = takes.others 32 r (omega arith) (λ _ at. apart at) in omega arith))
+      takes.size
+
+-- the words of a block were searched for what is open beside a class
+module _ (summary words : List ℕ) (k block some left : ℕ) (small : k < 4) (there : block * 37 + 37 ≤ length summary)
+    (right : IsSummary summary words) (is : some ≡ word_at summary (33 + k) block) (searched : IsSearched words k block some left) where
+  abbrev cleared : List ℕ
+  cleared = set summary (block * 37 + (33 + k)) left
+
+  bit_here : (t w : ℕ) → t ≡ 33 + k → w / 64 ≡ block → rank_bit cleared t w ≡ bit_at left (w % 64)
+  bit_here t w same at = ap₂ (λ a b. bit_at (word_at cleared a b) (w % 64)) same at
+      ∙ ap (λ x. bit_at x (w % 64)) (cell_same summary (33 + k) block left (omega arith))
+
+  bit_was : (t w : ℕ) → t ≡ 33 + k → w / 64 ≡ block → bit_at some (w % 64) ≡ rank_bit summary t w
+  bit_was t w same at = ap (λ x. bit_at x (w % 64)) is ∙ ap₂ (λ a b. bit_at (word_at summary a b) (w % 64)) (sym same) (sym at)
+
+  bit_else : (t w : ℕ) → t < 37 → (t ≡ 33 + k → w / 64 ≡ block → ⊥) → rank_bit cleared t w ≡ rank_bit summary t w
+  bit_else t w low other = ap (λ x. bit_at x (w % 64)) (cell_other summary (33 + k) block left (omega arith) t (w / 64) low other)
+
+  pub IsSummary-searched : IsSummary cleared words
+  IsSummary-searched = record {
+    buckets = λ s w low. bit_else s w (omega arith) (λ same _. absurd (omega arith)) ∙ right.buckets s w low;
+    closed = λ j r low none. by_both (33 + j) (33 + k) (r / 64 / 64) block
+        (λ same at.
+        let class : j ≡ k = omega arith in
+        ap (λ c. open_bit words c r) class ∙ searched.passed r at (sym (bit_here (33 + j) (r / 64) same at) ∙ none))
+        (λ other. right.closed j r low (sym (bit_else (33 + j) (r / 64) (omega arith) other) ∙ none));
+    there = λ j w low set. by_both (33 + j) (33 + k) (w / 64) block
+        (λ same at. right.there j w low
+        (λ none. searched.within (w % 64) (omega arith) (λ out. set (bit_here (33 + j) w same at ∙ out)) (bit_was (33 + j) w same at ∙ none)))
+        (λ other. right.there j w low (λ none. set (bit_else (33 + j) w (omega arith) other ∙ none)));
+  }

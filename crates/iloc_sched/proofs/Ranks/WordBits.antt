@@ -1,0 +1,44 @@
+-- One bit of a word.
+use Rattle.std.proofs.Common.{◌≡◌, ◌≢◌, ℕ, ◌-◌, ◌*◌, ◌%◌, ◌^◌, ◌<◌, set, min, max, Bool, true, false, eqb, ◌||◌, ap, ◌∙◌, inl, inr, arith, w64, bit_and, bit_or}
+use Rattle.std.specs.Int.{bit_at, from_bool}
+use Rattle.std.proofs.lemmas.Bool.{cases_eq, eq-eqb}
+use Rattle.std.proofs.lemmas.Nat.{one_shl, pow_pos, le_or_r, and_le_l}
+use Rattle.std.proofs.lemmas.Nat.Bits.{bit_at_set_same, bit_at_set_other, bit_at_clear_same, bit_at-lt, bit_at-zero}
+use lib.Bits.{or_zero_r}
+
+-- 1 for true, as `u64::from` gives it
+abbrev pub one_if : Bool → ℕ
+one_if b = from_bool b
+
+no_shift : (k : ℕ) → 0 * 2 ^ k % 2 ^ 64 ≡ 0
+no_shift k = omega arith
+
+-- n | b << k
+pub or_same : (n k : ℕ) → k < 64 → (b : Bool) → bit_at (bit_or n (one_if b * 2 ^ k % 2 ^ 64)) k ≡ max (bit_at n k) (one_if b)
+or_same n k small true = bit_at_set_same w64 n k small ∙ omega (arith, bit_at-lt n k)
+or_same n k small false = ap (λ m. bit_at (bit_or n m) k) (no_shift k) ∙ ap (λ m. bit_at m k) (or_zero_r n) ∙ omega arith
+
+pub or_other : (n k : ℕ) → k < 64 → (b : Bool) → (i : ℕ) → i ≢ k → bit_at (bit_or n (one_if b * 2 ^ k % 2 ^ 64)) i ≡ bit_at n i
+or_other n k small true i apart = bit_at_set_other w64 n k small i apart
+or_other n k small false i apart = ap (λ m. bit_at (bit_or n m) i) (no_shift k) ∙ ap (λ m. bit_at m i) (or_zero_r n)
+
+pub or_some : (n k : ℕ) → k < 64 → (b : Bool) → min 1 (bit_or n (one_if b * 2 ^ k % 2 ^ 64)) ≡ max (min 1 n) (one_if b)
+or_some n k small true = omega (arith, one_shl k 64 small, pow_pos k, le_or_r n (1 * 2 ^ k % 2 ^ 64))
+or_some n k small false = ap (λ m. min 1 (bit_or n m)) (no_shift k) ∙ ap (min 1) (or_zero_r n) ∙ omega arith
+
+pub test_added : (b : Bool) (x : ℕ) → x < 2 → eqb (max x (one_if b)) 1 ≡ (b || eqb x 1)
+test_added true x small = eq-eqb (max x 1) 1 (omega arith)
+test_added false x small = let e : max x 0 ≡ x = omega arith in ap (λ y. eqb y 1) e
+
+-- the set bit of a word that is cleared makes it smaller
+pub cleared_less : (n k : ℕ) → k < 64 → bit_at n k ≡ 1 → bit_and n (2 ^ 64 - 1 - 1 * 2 ^ k % 2 ^ 64) < n
+cleared_less n k small set =
+    let most = and_le_l n (2 ^ 64 - 1 - 1 * 2 ^ k % 2 ^ 64) in
+    elim (cases_eq (bit_and n (2 ^ 64 - 1 - 1 * 2 ^ k % 2 ^ 64)) n) [
+      | inl same ↦ let gone = bit_at_clear_same w64 n k small in absurd (omega (arith, ap (λ x. bit_at x k) same))
+      | inr other ↦ omega arith
+    ]
+
+-- a word that is 0 has no bit
+pub no_bit : (n i : ℕ) → n ≡ 0 → bit_at n i ≡ 0
+no_bit n i e = ap (λ x. bit_at x i) e ∙ bit_at-zero i
