@@ -1,9 +1,8 @@
 -- The priorities.
+pub mod Chains
 pub mod Longest
-pub mod Small
 pub mod Starts
-pub mod StartsFound
-pub mod Raised
+pub mod Found
 pub mod Dependents
 pub mod DependentsFound
 pub mod DependentsCounted

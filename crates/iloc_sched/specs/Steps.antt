@@ -1,6 +1,5 @@
 -- What the code does piece by piece, as steps of proof: no contract of a public function names them.
 pub mod Choosing
-pub mod Longest
 pub mod Members
 pub mod Graph
 pub mod Progress
@@ -12,7 +11,7 @@ pub mod Order
 pub mod Counting
 pub mod Packing
 pub mod Shares
-pub mod Starts
+pub mod Chains
 pub mod Tails
 pub mod Dependents
 pub mod Successors

@@ -1,7 +1,8 @@
 -- No lawful schedule takes fewer cycles than `least` says: `laws::least_bounds_the_cycles`.
-use Rattle.std.proofs.Common.{◌≡◌, ℕ, ◌+◌, ◌<◌, ◌≤◌, zero, suc, Bool, true, ◌&&◌, List, [], ◌∷◌, length, map, filter, refl, sym, ap, subst, inl, inr, arith}
+use Rattle.std.proofs.Common.{◌≡◌, ℕ, ◌+◌, ◌<◌, ◌≤◌, Bool, true, ◌&&◌, List, [], ◌∷◌, length, map, filter, refl, sym, ap, subst, inl, inr, arith}
 use Rattle.std.specs.Prelude.{nat_le}
 use Rattle.std.specs.List.{range_with_len}
+use Rattle.std.proofs.lemmas.Bool.{and_parts}
 use Rattle.iloc_ops.specs.declared.op.Op.{Op}
 use Rattle.iloc_meaning.proofs.Cases.{by_bool}
 use Rattle.iloc_timed.specs.declared.kind.Kind.{Kind}
@@ -10,36 +11,17 @@ use Rattle.iloc_timed.specs.declared.row.Row.{Row}
 use Rattle.iloc_timed.specs.Kinds.{is_load, is_memory, is_mult, is_output}
 use Rattle.iloc_timed.specs.Rows.{issue_cycle}
 use Rattle.iloc_timed.specs.Cycles.{cycles}
-use Rattle.iloc_sched.specs.Delays.{IsDelayPair}
 use Rattle.iloc_sched.specs.Starts.{start}
 use Rattle.iloc_sched.specs.Least.{needed, tail, of_kind, from_start, needed_after, needed_by, least_of}
 use Rattle.iloc_sched.specs.Lawful.{IsLawful}
 use Rattle.iloc_sched.specs.Laws.{LeastBoundsTheCycles, BoundsProveTheOptimum}
 use Rattle.iloc_sched.proofs.Basics.Members.{from_map, from_filter, from_range}
 use Rattle.iloc_sched.proofs.Basics.Maxima.{fold_max_reached}
-use Rattle.iloc_sched.proofs.PriorityValues.Starts.{is_start}
+use Rattle.iloc_sched.proofs.PriorityValues.Starts.{start_least}
 use Rattle.iloc_sched.proofs.Bounds.PriorityBound.{ends_within}
-use Rattle.iloc_sched.proofs.Bounds.Counting.{both_true, at_least}
+use Rattle.iloc_sched.proofs.Bounds.Counting.{at_least}
 use Rattle.iloc_sched.proofs.Bounds.RowsHold.{Holds, is_kind, holds_memory, holds_products, holds_outputs, holds_all, holds_loads}
 use Rattle.iloc_sched.proofs.Bounds.TailBound.{Fits, key, crowd_of, tail_within}
-
--- no operation is issued before its start
-start_before : (lat : Latencies) (ops : List Op) (t : ℕ → ℕ)
-    → ((i j d : ℕ) → IsDelayPair lat ops i j d → t i + d ≤ t j) → (n j : ℕ) → j ≤ n → j < length ops
-    → start lat ops j ≤ t j
-start_before lat ops t waits zero j few below = elim ((is_start lat ops).reached j below) [
-  | inl none ↦ let same : start lat ops j ≡ 0 = none in omega arith
-  | inr long ↦ let order : long.0 < j = long.2.order in absurd (omega arith)
-]
-start_before lat ops t waits (suc n) j few below = elim ((is_start lat ops).reached j below) [
-  | inl none ↦ let same : start lat ops j ≡ 0 = none in omega arith
-  | inr long ↦
-      let order : long.0 < j = long.2.order in
-      let rest : start lat ops long.0 ≤ t long.0 = start_before lat ops t waits n long.0 (omega arith) (omega arith) in
-      let wait : t long.0 + long.1 ≤ t j = waits long.0 j long.1 long.2 in
-      let same : start lat ops j ≡ long.1 + start lat ops long.0 = long.3 in
-      omega arith
-]
 
 filter_twice : {X : Type 0} → (p q : X → Bool) (xs : List X) → filter p (filter q xs) ≡ filter (λ x. q x && p x) xs
 filter_twice p q [] = refl
@@ -61,6 +43,8 @@ needed_bound test width lat block ops rows lawful holds some =
       waits = lawful.waits;
       crowd = crowd_of is_load 1 ops rows lawful.table (holds_loads ops);
     } in
+    let begun : (i : ℕ) → i < length ops → start lat ops i ≤ t i =
+    start_least lat ops t (λ i j d pair. omega (arith, lawful.waits i j d pair)) in
     let value : ℕ → ℕ = λ i. needed_after width test lat ops (start lat ops i) in
     elim (fold_max_reached 0 (map value (of_kind test ops))) [
       | inl none ↦ omega arith
@@ -70,7 +54,7 @@ needed_bound test width lat block ops rows lawful holds some =
           let kept = from_filter (is_kind test ops) range k found.1 in
           let below = (from_range 0 (length ops) k kept.0).1 in
           let a : ℕ = start lat ops k in
-          let issued : a ≤ t k = start_before lat ops t lawful.waits k k (omega arith) (omega arith) in
+          let issued : a ≤ t k = begun k (omega arith) in
           let left : t k + tail lat ops k ≤ limit = tail_within lat ops limit t fits k (omega arith) in
           let q : ℕ → Bool = λ i. is_kind test ops i && nat_le a (start lat ops i) in
           let one : from_start test lat ops a ≡ filter q range =
@@ -78,9 +62,9 @@ needed_bound test width lat block ops rows lawful holds some =
           let bound : a + needed width (map (tail lat ops) (filter q range)) ≤ limit =
           key width (is_kind test ops) q (length ops) t (tail lat ops) a limit some
           (crowd_of test width ops rows lawful.table holds) (λ i under passes.
-          let parts = both_true (is_kind test ops i) (nat_le a (start lat ops i)) passes in
+          let parts = and_parts (is_kind test ops i) (nat_le a (start lat ops i)) passes in
           let late : a ≤ start lat ops i = at_least a (start lat ops i) parts.1 in
-          let begins : start lat ops i ≤ t i = start_before lat ops t lawful.waits i i (omega arith) under in
+          let begins : start lat ops i ≤ t i = begun i under in
           (parts.0, omega arith, tail_within lat ops limit t fits i under)) (omega arith) in
           let same : needed_after width test lat ops a ≡ a + needed width (map (tail lat ops) (filter q range)) =
           ap (λ is. a + needed width (map (tail lat ops) is)) one in

@@ -11,7 +11,7 @@ use Rattle.iloc_meaning.proofs.Cases.{by_bool}
 use Rattle.iloc_sched.specs.Delays.{uses_result, reads_stored, keeps_order, when, memory_delays, delays}
 use Rattle.iloc_sched.specs.Steps.Members.{In}
 use Rattle.iloc_sched.proofs.Basics.Members.{in_from, from_append}
-use Rattle.iloc_timed.proofs.WholeRuns.{some_latency}
+use Rattle.iloc_timed.proofs.WholeRuns.{some_latency, short_latency}
 
 -- the delays by memory and outputs, from kind to kind
 abbrev pub kind_delays : Latencies → Kind → Kind → List ℕ
@@ -49,3 +49,6 @@ delay_at_most lat i j d there = elim (delay_is lat i j d there) [
   | inl is ↦ omega arith
   | inr is ↦ let some : 1 ≤ latency lat i = some_latency lat (kind i) in omega arith
 ]
+
+pub short_delay : (lat : Latencies) (i j : Op) (d : ℕ) → Contains (delays lat i j) d → d ≤ 16
+short_delay lat i j d there = omega (arith, delay_at_most lat i j d there, short_latency lat (kind i))

@@ -1,16 +1,21 @@
 -- A priority is the greatest of latency and d + prio(j) over the delay pairs; for `priorities` and the bounds.
-use Rattle.std.proofs.Common.{◌≡◌, ℕ, ◌+◌, ◌<◌, ◌≤◌, zero, suc, List, [], ◌∷◌, max, map, length, drop, ◌⊎◌, inl, inr, refl, ap, sym, subst, arith}
+use Rattle.std.proofs.Common.{◌≡◌, ℕ, ◌+◌, ◌-◌, ◌*◌, ◌<◌, ◌≤◌, zero, suc, List, [], ◌∷◌, max, map, length, drop, ◌⊎◌, inl, inr, refl, ap, sym, subst, arith}
 use Rattle.std.specs.Prelude.{fold, slice_index}
 use Rattle.iloc_ops.specs.declared.op.Op.{Op}
 use Rattle.iloc_meaning.specs.Trace.{op_at}
 use Rattle.iloc_timed.specs.declared.latencies.Latencies.{Latencies}
+use Rattle.iloc_timed.specs.Kinds.{kind}
 use Rattle.iloc_timed.specs.Latency.{latency}
+use Rattle.iloc_timed.proofs.WholeRuns.{short_latency}
+use Rattle.iloc_timed.proofs.Greatest.{le_fold_max}
 use Rattle.iloc_sched.specs.Delays.{delays, IsDelayPair}
 use Rattle.iloc_sched.specs.Priority.{reaches, priorities, priority}
-use Rattle.iloc_sched.specs.Steps.Longest.{IsPriority}
+use Rattle.iloc_sched.specs.Steps.Chains.{IsChainOut}
 use Rattle.iloc_sched.specs.Steps.Members.{In}
 use Rattle.iloc_sched.proofs.Basics.Members.{contains_from, in_from, in_left, in_right, from_append, in_map, from_map}
-use Rattle.iloc_sched.proofs.Basics.Maxima.{fold_max_start, fold_max_each, fold_max_reached}
+use Rattle.iloc_sched.proofs.Basics.Maxima.{fold_max_each, fold_max_reached}
+use Rattle.iloc_sched.proofs.DelayPairs.DelayBounds.{short_delay}
+use Rattle.iloc_sched.proofs.PriorityValues.Chains.{least}
 
 pub length-priorities : (lat : Latencies) (ops : List Op) → length (priorities lat ops) ≡ length ops
 length-priorities lat [] = refl
@@ -80,7 +85,7 @@ chain_of lat ops values i = fold max (latency lat (op_at ops i))
 
 pub chain_own : (lat : Latencies) (ops : List Op) (values : List ℕ) (i : ℕ)
     → latency lat (op_at ops i) ≤ chain_of lat ops values i
-chain_own lat ops values i = fold_max_start (latency lat (op_at ops i))
+chain_own lat ops values i = le_fold_max (latency lat (op_at ops i))
     (reaches lat (op_at ops i) (drop (suc i) ops) (drop (suc i) values))
 
 pub chain_pairs : (lat : Latencies) (ops : List Op) (values : List ℕ) → length values ≡ length ops → (i j d : ℕ)
@@ -134,7 +139,7 @@ priority_value lat [] i within = absurd (omega arith)
 priority_value lat (op ∷ later) zero within = refl
 priority_value lat (op ∷ later) (suc i) within = priority_value lat later i (omega arith)
 
-pub is_priority : (lat : Latencies) (ops : List Op) → IsPriority lat ops (priority lat ops)
+pub is_priority : (lat : Latencies) (ops : List Op) → IsChainOut lat ops (priority lat ops) (priority lat ops)
 is_priority lat ops =
     let size : length (priorities lat ops) ≡ length ops = length-priorities lat ops in
     record {
@@ -148,18 +153,22 @@ is_priority lat ops =
           let same = priority_value lat ops i (omega arith) in omega arith;
       reached = λ i within. subst (IsOne lat ops (priorities lat ops) i) (sym (priority_value lat ops i within))
           (chain_reached lat ops (priorities lat ops) size i within);
+      whole = λ i within. omega arith;
     }
 
-not_above : (lat : Latencies) (ops : List Op) (prio other : ℕ → ℕ) → IsPriority lat ops prio → IsPriority lat ops other
-    → (n i : ℕ) → i < length ops → length ops ≤ i + n → prio i ≤ other i
-not_above lat ops prio other is also zero i within far = absurd (omega arith)
-not_above lat ops prio other is also (suc n) i within far = elim (is.reached i within) [
-  | inl own ↦ let least : latency lat (op_at ops i) ≤ other i = also.own i within in omega arith
-  | inr pair ↦
-      let order : i < pair.0 = pair.2.order in
-      let rest : prio pair.0 ≤ other pair.0 =
-      not_above lat ops prio other is also n pair.0 pair.2.within (omega arith) in
-      let least : pair.1 + other pair.0 ≤ other i = also.pairs i pair.0 pair.1 pair.2 in
-      let same : prio i ≡ pair.1 + prio pair.0 = pair.3 in
-      omega arith
-]
+-- a priority is at most what is at least the latency and keeps the pairs
+pub priority_least : (lat : Latencies) (ops : List Op) (other : ℕ → ℕ)
+    → ((i : ℕ) → i < length ops → latency lat (op_at ops i) ≤ other i)
+    → ((i j d : ℕ) → IsDelayPair lat ops i j d → d + other j ≤ other i) → (i : ℕ) → i < length ops
+    → priority lat ops i ≤ other i
+priority_least lat ops other own pairs =
+    least (length ops) (IsDelayPair lat ops) (λ i. latency lat (op_at ops i)) (priority lat ops) (is_priority lat ops)
+    (λ i. length ops - i) (λ i j d pair. (pair.within, omega (arith, pair.order, pair.within))) other own pairs
+
+-- so it is at most 16 cycles for each operation
+pub priority_most : (lat : Latencies) (ops : List Op) (i : ℕ) → i < length ops → priority lat ops i ≤ 16 * length ops
+priority_most lat ops i below =
+    let most = priority_least lat ops (λ k. 16 * (length ops - k))
+    (λ k within. omega (arith, short_latency lat (kind (op_at ops k))))
+    (λ k j d pair. omega (arith, pair.order, pair.within, short_delay lat (op_at ops k) (op_at ops j) d pair.delay)) i below in
+    omega arith

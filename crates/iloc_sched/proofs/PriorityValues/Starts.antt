@@ -5,17 +5,15 @@ use Rattle.std.proofs.lemmas.List.{length_push, get_or_push, get_or_append_left}
 use Rattle.iloc_ops.specs.declared.op.Op.{Op}
 use Rattle.iloc_meaning.specs.Trace.{op_at}
 use Rattle.iloc_timed.specs.declared.latencies.Latencies.{Latencies}
-use Rattle.iloc_timed.specs.Kinds.{kind}
-use Rattle.iloc_timed.specs.Latency.{latency}
-use Rattle.iloc_timed.proofs.WholeRuns.{short_latency}
 use Rattle.iloc_sched.specs.Delays.{delays, IsDelayPair}
 use Rattle.iloc_sched.specs.Starts.{arrivals, starts_before, starts, start}
 use Rattle.iloc_sched.specs.Steps.Members.{In}
-use Rattle.iloc_sched.specs.Steps.Starts.{IsStart}
+use Rattle.iloc_sched.specs.Steps.Chains.{IsChainInto}
 use Rattle.std.proofs.lemmas.Bool.{cases_eq}
 use Rattle.iloc_sched.proofs.Basics.Members.{contains_from, in_from, in_left, in_right, from_append, in_map, from_map}
 use Rattle.iloc_sched.proofs.Basics.Maxima.{fold_max_each, fold_max_reached}
-use Rattle.iloc_sched.proofs.DelayPairs.DelayBounds.{delay_at_most}
+use Rattle.iloc_sched.proofs.DelayPairs.DelayBounds.{short_delay}
+use Rattle.iloc_sched.proofs.PriorityValues.Chains.{least}
 
 in_arrivals : (lat : Latencies) (ops : List Op) (at : List ℕ) (j n i d : ℕ) → i < n
     → In (delays lat (op_at ops i) (op_at ops j)) d → In (arrivals lat ops at j n) (d + slice_index at i)
@@ -135,23 +133,26 @@ start_reached lat ops j within =
           )
     ]
 
-pub is_start : (lat : Latencies) (ops : List Op) → IsStart lat ops (start lat ops)
-is_start lat ops = record { pairs = pair_starts lat ops; reached = start_reached lat ops }
+pub is_start : (lat : Latencies) (ops : List Op) → IsChainInto lat ops (start lat ops)
+is_start lat ops = record {
+  own = λ j within. omega arith;
+  pairs = λ j i d pair. pair_starts lat ops i j d pair;
+  reached = start_reached lat ops;
+  whole = λ j within. omega arith;
+}
 
--- a start is at most 16 cycles for each operation before
-pub start_most : (lat : Latencies) (ops : List Op) (n j : ℕ) → j ≤ n → j < length ops → start lat ops j ≤ 16 * n
-start_most lat ops zero j few below = elim ((is_start lat ops).reached j below) [
-  | inl none ↦ let same : start lat ops j ≡ 0 = none in omega arith
-  | inr long ↦ let order : long.0 < j = long.2.order in absurd (omega arith)
-]
-start_most lat ops (suc n) j few below = elim ((is_start lat ops).reached j below) [
-  | inl none ↦ let same : start lat ops j ≡ 0 = none in omega arith
-  | inr long ↦
-      let order : long.0 < j = long.2.order in
-      let rest : start lat ops long.0 ≤ 16 * n = start_most lat ops n long.0 (omega arith) (omega arith) in
-      let short : latency lat (op_at ops long.0) ≤ 16 = short_latency lat (kind (op_at ops long.0)) in
-      let most : long.1 ≤ latency lat (op_at ops long.0) =
-      delay_at_most lat (op_at ops long.0) (op_at ops j) long.1 long.2.delay in
-      let same : start lat ops j ≡ long.1 + start lat ops long.0 = long.3 in
-      omega arith
-]
+-- a start is at most what keeps the pairs
+pub start_least : (lat : Latencies) (ops : List Op) (other : ℕ → ℕ)
+    → ((i j d : ℕ) → IsDelayPair lat ops i j d → d + other i ≤ other j) → (j : ℕ) → j < length ops
+    → start lat ops j ≤ other j
+start_least lat ops other pairs =
+    least (length ops) (λ j i d. IsDelayPair lat ops i j d) (λ j. 0) (start lat ops) (is_start lat ops) (λ j. j)
+    (λ j i d pair. (omega (arith, pair.order, pair.within), pair.order)) other (λ j within. omega arith)
+    (λ j i d pair. pairs i j d pair)
+
+-- so it is at most 16 cycles for each operation
+pub start_most : (lat : Latencies) (ops : List Op) (j : ℕ) → j < length ops → start lat ops j ≤ 16 * length ops
+start_most lat ops j below =
+    let most = start_least lat ops (λ k. 16 * k)
+    (λ i k d pair. omega (arith, pair.order, short_delay lat (op_at ops i) (op_at ops k) d pair.delay)) j below in
+    omega arith

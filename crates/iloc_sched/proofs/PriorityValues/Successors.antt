@@ -3,7 +3,7 @@ use Rattle.std.proofs.Common.{◌≡◌, ◌≢◌, ℕ, suc, ◌+◌, ◌-◌, 
 use Rattle.std.specs.Prelude.{count_by, replicate, nat_lt, not}
 use Rattle.std.specs.List.{range_with_len}
 use Rattle.std.proofs.lemmas.Bool.{ltb-true, lt-ltb, and_parts, cases_lt, true≢false}
-use Rattle.std.proofs.lemmas.List.{get_or-set_same, get_or-set_other, get_or_past, length-set, get_or-replicate, length-replicate}
+use Rattle.std.proofs.lemmas.List.{ext_get_or, get_or-set_same, get_or-set_other, get_or_past, length-set, get_or-replicate, length-replicate}
 use Rattle.std.proofs.lemmas.List.FromFn.{length-map-range_with_len, get_or-map-range_with_len}
 use Rattle.iloc_ops.specs.declared.op.Op.{Op}
 use Rattle.iloc_meaning.specs.Trace.{op_at}
@@ -21,7 +21,6 @@ use Rattle.iloc_sched.specs.Steps.Successors.{waits_by_kind, waits_by_use, waiti
 use Rattle.iloc_sched.proofs.Basics.Cases.{by_eq}
 use Rattle.iloc_sched.proofs.Basics.CountedRanges.{count_first, count_range, none_in_range, count_sum, count_most}
 use Rattle.iloc_sched.proofs.Basics.Members.{contains_from, in_left}
-use Rattle.iloc_sched.proofs.PriorityValues.Raised.{same_numbers}
 
 -- there is a delay just where the result is used, or memory or outputs ask for one
 some_delay : (a b c : Bool) (d : ℕ) → nat_lt 0 (length (when a d ++ (when b d ++ when c 1))) ≡ (a || (b || c))
@@ -224,6 +223,6 @@ pub all_counted : (lat : Latencies) (ops : List Op) (found : List ℕ) → AreCo
 all_counted lat ops found counted =
     let size : length (map (successors lat ops) (range_with_len 0 (length ops))) ≡ length ops =
     length-map-range_with_len (successors lat ops) 0 (length ops) in
-    same_numbers found (map (successors lat ops) (range_with_len 0 (length ops))) (counted.size ∙ sym size)
+    ext_get_or 0 found (map (successors lat ops) (range_with_len 0 (length ops))) (counted.size ∙ sym size)
     (λ i below. counted.done i (omega arith) (omega arith)
     ∙ sym (get_or-map-range_with_len (successors lat ops) 0 (length ops) i i 0 (omega arith) (omega arith)))

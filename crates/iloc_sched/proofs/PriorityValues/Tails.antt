@@ -13,7 +13,8 @@ use Rattle.iloc_timed.specs.Latency.{latency, latency_of}
 use Rattle.iloc_sched.specs.Delays.{when}
 use Rattle.iloc_sched.specs.Least.{needed, load_tails, tails, tail}
 use Rattle.iloc_sched.specs.Steps.Members.{In}
-use Rattle.iloc_sched.specs.Steps.Tails.{loads_from, chain_tail, store_tail, tail_by, IsTail}
+use Rattle.iloc_sched.specs.Steps.Chains.{IsChainOut}
+use Rattle.iloc_sched.specs.Steps.Tails.{loads_from, chain_tail, store_tail, tail_by}
 use Rattle.iloc_sched.proofs.Basics.Members.{contains_from, from_append}
 use Rattle.iloc_sched.proofs.PriorityValues.Longest.{chain_own, chain_pairs, chain_reached}
 use Rattle.iloc_sched.proofs.Bounds.Swept.{in_drop, needed_most}
@@ -29,12 +30,12 @@ tail_value lat [] i within = absurd (omega arith)
 tail_value lat (op ∷ later) zero within = refl
 tail_value lat (op ∷ later) (suc i) within = tail_value lat later i (omega arith)
 
-pub is_tail : (lat : Latencies) (ops : List Op) → IsTail lat ops
+pub is_tail : (lat : Latencies) (ops : List Op) → IsChainOut lat ops (chain_tail lat ops) (tail lat ops)
 is_tail lat ops = record {
-  value = tail_value lat ops;
   own = λ i within. chain_own lat ops (tails lat ops) i;
   pairs = chain_pairs lat ops (tails lat ops) (length-tails lat ops);
   reached = chain_reached lat ops (tails lat ops) (length-tails lat ops);
+  whole = λ i within. omega (arith, tail_value lat ops i within);
 }
 
 -- The loads

@@ -1,11 +1,8 @@
 -- The kept edges between operations.
-use Rattle.std.specs.Prelude.{ℕ, ◌+◌, ◌≡◌, ◌<◌, ◌≤◌, List, length, map, slice_index, Option, Some, None}
+use Rattle.std.specs.Prelude.{ℕ, ◌+◌, ◌≡◌, ◌<◌, ◌≤◌, List, length, Option, Some, None}
 use Rattle.iloc_ops.specs.declared.op.Op.{Op}
-use Rattle.iloc_meaning.specs.Trace.{op_at}
 use Rattle.iloc_timed.specs.declared.latencies.Latencies.{Latencies}
-use Rattle.iloc_timed.specs.Latency.{latency}
 use Rattle.iloc_sched.specs.Delays.{IsDelayPair}
-use Rattle.iloc_sched.specs.Priority.{priority}
 use Rattle.iloc_sched.specs.declared.cycle.calendar.TheConstants.{LONGEST_DELAY}
 use Rattle.iloc_sched.specs.Near.{IsNear}
 
@@ -43,17 +40,3 @@ pub record IsGraphOf (lat : Latencies) (ops : List Op) (graph : Graph) : Type 0 
   pub sound : (x : ℕ) → x < graph.count → IsDelayPair lat ops (graph.from x) (graph.to x) (graph.delay x)
   pub near : (x : ℕ) → x < graph.count → IsNear lat ops (graph.from x) (graph.to x) (graph.delay x)
   pub all : (i j d : ℕ) → IsDelayPair lat ops i j d → IsNear lat ops i j d → (x : ℕ) × (x < graph.count) × (graph.to x ≡ j) × (graph.from x ≡ i) × (d ≤ graph.delay x)
-
--- the numbers are the latencies of operations between which these edges are kept
-pub record AreLatencies (graph : Graph) (own : List ℕ) : Type 0 where
-  pub lat : Latencies
-  pub ops : List Op
-  pub kept : IsGraphOf lat ops graph
-  pub each : own ≡ map (latency lat) ops
-
--- the priorities while the edges are gone through from the last: those from x on are done
-pub record IsRaised (lat : Latencies) (ops : List Op) (graph : Graph) (prios : List ℕ) (x : ℕ) : Type 0 where
-  pub size : length prios ≡ length ops
-  pub own : (i : ℕ) → i < length ops → latency lat (op_at ops i) ≤ slice_index prios i
-  pub upper : (i : ℕ) → i < length ops → slice_index prios i ≤ priority lat ops i
-  pub over : (y : ℕ) → x ≤ y → y < graph.count → graph.delay y + priority lat ops (graph.to y) ≤ slice_index prios (graph.from y)

@@ -1,11 +1,13 @@
-use Rattle.std.proofs.Common.{rules, ℕ, take, [], ◌++◌, ◌-◌, ◌≡◌, ◌+◌, ◌*◌, ◌<◌, ◌≤◌, List, length, get_or, set, max, ◌∙◌, ap, subst, arith}
+use Rattle.std.proofs.Common.{rules, ℕ, take, [], ◌++◌, ◌-◌, ◌≡◌, ◌<◌, List, length, ◌∙◌, subst, arith}
 use Rattle.std.specs.Prelude.{replicate}
 use Rattle.std.proofs.lemmas.List.{get_or_read}
 use Rattle.iloc_sched.specs.declared.edges.Edge.{Edge}
-use Rattle.iloc_sched.specs.Steps.Graph.{Graph, IsGraphOf}
-use Rattle.iloc_sched.specs.Steps.Starts.{IsStarted}
-use Rattle.iloc_sched.specs.Steps.Views.{graph_of, edge_at}
-use Rattle.iloc_sched.proofs.PriorityValues.StartsFound.{started_none, started_more, started_all, started_small}
+use Rattle.iloc_sched.specs.Starts.{start}
+use Rattle.iloc_sched.specs.Steps.Chains.{AreStartsBefore}
+use Rattle.iloc_sched.specs.Steps.Views.{graph_of}
+use Rattle.iloc_sched.proofs.PriorityValues.Chains.{raise_to}
+use Rattle.iloc_sched.proofs.PriorityValues.Found.{read_edge, starts_none, starts_found}
+use Rattle.iloc_sched.proofs.PriorityValues.Starts.{is_start, start_most}
 use Rattle.iloc_sched.proofs.lower_bound.starts.fill_starts.Goals as goal
 
 empty : (m : ℕ) → take {A = ℕ} m [] ++ replicate (m - 0) 0 ≡ replicate m 0
@@ -16,71 +18,40 @@ filled n m k xs none is isn = rw (none, is, isn) (empty m)
 
 pub loop-x-init : goal.loop-x-init
 loop-x-init c =
-    let zeros : c.resize.new.self.items ≡ replicate (length c.args.tables.now.edges.heads.items) 0 =
-    c.in_ok-resize.ensures.items ∙ filled c.op_count.result _ _ c.clear.new.self.items c.clear.ensures.items
-    c.op_count.ensures c.clear.ensures.len in
-    let graph : Graph = graph_of c.args.tables.now.edges in
-    started_none c.args.tables.now.latencies c.args.tables.now.ops.items graph
-    c.requires.graph
-    c.resize.new.self.items zeros
+    let t = c.args.tables.now in
+    starts_none t.latencies t.ops.items (graph_of t.edges) c.requires.graph c.resize.new.self.items
+    (c.in_ok-resize.ensures.items ∙ filled c.op_count.result _ _ c.clear.new.self.items c.clear.ensures.items
+    c.op_count.ensures c.clear.ensures.len)
 
 pub overflow_add-arrival : goal.overflow_add-arrival
 overflow_add-arrival c =
-    let v = c.args.tables.now in
-    let e = c.args.tables.now.edges in
-    let graph : Graph = graph_of e in
-    let kept : IsGraphOf v.latencies v.ops.items graph = c.requires.graph in
-    let x : ℕ = c.loop-x.x in
-    let below : x < length e.edges.items = omega arith in
-    let edge : c.get-edge.result ≡ edge_at e x = c.get-edge.ensures in
-    let from_is : c.get-edge.result.from ≡ graph.from x = ap (λ (d : Edge). d.from) edge in
-    let delay_is : c.get-edge.result.delay ≡ graph.delay x = ap (λ (d : Edge). d.delay) edge in
-    let short : graph.delay x ≤ 16 = (kept.is_graph.delays x below).1 in
-    let there : graph.to x < graph.ops = (kept.is_graph.to_there x below).0 in
-    let earlier : graph.from x < graph.to x = kept.is_graph.earlier x below in
-    let ops_size : graph.ops ≡ length v.ops.items = kept.size in
-    let size : length c.loop-x.found.items ≡ length v.ops.items = c.loop-x.invariant.size in
-    let few : graph.ops ≤ 10000 = e.short in
-    let read : c.index.result.now ≡ get_or c.loop-x.found.items c.get-edge.result.from 0 =
-    get_or_read c.loop-x.found.items c.get-edge.result.from c.index.result.now (omega arith) c.index.ensures 0 in
-    let small : get_or c.loop-x.found.items c.get-edge.result.from 0 ≤ 16 * length v.ops.items =
-    started_small v.latencies v.ops.items graph kept c.loop-x.found.items x c.get-edge.result.from c.loop-x.invariant (omega arith) in
-    omega arith
+    let t = c.args.tables.now in
+    let edge = c.get-edge.result in
+    let known = read_edge t c.requires c.loop-x.x edge (omega arith) c.get-edge.ensures in
+    let size : length c.loop-x.found.items ≡ length t.ops.items = c.loop-x.invariant.size in
+    let read = get_or_read c.loop-x.found.items edge.from c.index.result.now (omega arith) c.index.ensures 0 in
+    let upper = c.loop-x.invariant.upper edge.from (omega arith) (omega arith) in
+    omega (arith, start_most t.latencies t.ops.items edge.from (omega arith))
 
 pub loop-x-preserved : goal.loop-x-preserved
 loop-x-preserved c =
-    let v = c.args.tables.now in
-    let e = c.args.tables.now.edges in
-    let graph : Graph = graph_of e in
-    let kept : IsGraphOf v.latencies v.ops.items graph = c.requires.graph in
-    let x : ℕ = c.loop-x.x in
+    let t = c.args.tables.now in
+    let edge = c.get-edge.result in
     let found : List ℕ = c.loop-x.found.items in
-    let below : x < length e.edges.items = omega arith in
-    let edge : c.get-edge.result ≡ edge_at e x = c.get-edge.ensures in
-    let from_is : c.get-edge.result.from ≡ graph.from x = ap (λ (d : Edge). d.from) edge in
-    let to_is : c.get-edge.result.to ≡ graph.to x = ap (λ (d : Edge). d.to) edge in
-    let delay_is : c.get-edge.result.delay ≡ graph.delay x = ap (λ (d : Edge). d.delay) edge in
-    let there : graph.to x < graph.ops = (kept.is_graph.to_there x below).0 in
-    let earlier : graph.from x < graph.to x = kept.is_graph.earlier x below in
-    let ops_size : graph.ops ≡ length v.ops.items = kept.size in
-    let size : length found ≡ length v.ops.items = c.loop-x.invariant.size in
-    let read_from : c.index.result.now ≡ get_or found c.get-edge.result.from 0 =
-    get_or_read found c.get-edge.result.from c.index.result.now (omega arith) c.index.ensures 0 in
-    let read_to : c.index-in-loop-x.result.now ≡ get_or found c.get-edge.result.to 0 =
-    get_or_read found c.get-edge.result.to c.index-in-loop-x.result.now (omega arith) c.index-in-loop-x.ensures 0 in
-    let greatest : c.max.result ≡ max (get_or found c.get-edge.result.to 0)
-    (c.get-edge.result.delay + get_or found c.get-edge.result.from 0) =
-    c.max.ensures ∙ ap (λ v. max v (c.get-edge.result.delay + c.index.result.now)) read_to
-    ∙ ap (λ v. max (get_or found c.get-edge.result.to 0) (c.get-edge.result.delay + v)) read_from in
-    started_more v.latencies v.ops.items graph kept found (set found c.get-edge.result.to c.max.result) x
-    c.get-edge.result.from c.get-edge.result.to c.get-edge.result.delay c.loop-x.invariant
-    below from_is to_is delay_is (ap (set found c.get-edge.result.to) greatest)
+    let known = read_edge t c.requires c.loop-x.x edge (omega arith) c.get-edge.ensures in
+    let size : length found ≡ length t.ops.items = c.loop-x.invariant.size in
+    let first = get_or_read found edge.from c.index.result.now (omega arith) c.index.ensures 0 in
+    let second = get_or_read found edge.to c.index-in-loop-x.result.now (omega arith) c.index-in-loop-x.ensures 0 in
+    let value : ℕ → ℕ = start t.latencies t.ops.items in
+    rw (c.max.ensures, second, first, c.get-edge.ensures) (raise_to t.latencies t.ops.items (graph_of t.edges)
+    c.requires.graph (λ k. 0) value value found (length t.ops.items) c.loop-x.x (omega arith)
+    (is_start t.latencies t.ops.items) c.loop-x.invariant
+    (subst (λ (e : Edge). e.to < length t.ops.items) c.get-edge.ensures known.1))
 
 pub returns : goal.returns
 returns c =
-    let v = c.args.tables.now in
-    let graph : Graph = graph_of c.args.tables.now.edges in
-    let all : c.loop-x.x ≡ length c.args.tables.now.edges.edges.items = omega arith in
-    started_all v.latencies v.ops.items graph
-    c.requires.graph
-    c.loop-x.found.items (subst (λ y. IsStarted v.latencies v.ops.items graph c.loop-x.found.items y) all c.loop-x.invariant)
+    let t = c.args.tables.now in
+    let graph = graph_of t.edges in
+    let all : c.loop-x.x ≡ length t.edges.edges.items = omega arith in
+    starts_found t.latencies t.ops.items graph c.requires.graph c.loop-x.found.items
+    (subst (AreStartsBefore t.latencies t.ops.items graph c.loop-x.found.items) all c.loop-x.invariant)

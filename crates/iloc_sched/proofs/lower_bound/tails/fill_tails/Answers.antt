@@ -1,198 +1,126 @@
-use Rattle.std.proofs.Common.{◌≡◌, ◌∙◌, ◌+◌, ◌-◌, ◌*◌, ◌≤◌, ◌<◌, ◌∷◌, ◌++◌, [], ℕ, List, length, map, drop, set, get_or, refl, sym, ap, subst, arith}
-use Rattle.std.proofs.lemmas.List.{get_or_read, get_or_default, length-map, drop_all}
+use Rattle.std.proofs.Common.{◌≡◌, ◌∙◌, ◌+◌, ◌-◌, ◌*◌, ◌≤◌, ◌<◌, ◌∷◌, ◌++◌, [], ℕ, List, length, map, drop, set, get_or, sym, ap, subst, arith}
+use Rattle.std.proofs.lemmas.List.{get_or_read, length-map, drop_all}
 use Rattle.iloc_ops.specs.declared.op.Op.{Op}
 use Rattle.iloc_meaning.specs.Trace.{op_at}
 use Rattle.iloc_timed.specs.declared.kind.Kind.{Kind}
-use Rattle.iloc_timed.specs.declared.kind.Kind.TheVariants.{Other}
 use Rattle.iloc_timed.specs.declared.latencies.Latencies.{Latencies}
 use Rattle.iloc_timed.specs.Kinds.{kind, is_load}
 use Rattle.iloc_timed.specs.Latency.{latency}
 use Rattle.iloc_sched.specs.Delays.{when}
 use Rattle.iloc_sched.specs.Least.{needed, load_tails, tails, tail}
 use Rattle.iloc_sched.specs.declared.lower_bound.packing.Packing.{Packing}
-use Rattle.iloc_sched.specs.Steps.Graph.{Graph, IsGraphOf}
+use Rattle.iloc_sched.specs.declared.tables.Tables.{Tables}
 use Rattle.iloc_sched.specs.Steps.Packing.{IsPacking}
-use Rattle.iloc_sched.specs.Steps.Shares.{kind_at}
+use Rattle.iloc_sched.specs.Steps.SoundGraph.{IsSound}
 use Rattle.iloc_sched.specs.Steps.Tails.{loads_from, chain_tail, tail_by, IsTailed}
 use Rattle.iloc_sched.specs.Steps.Views.{graph_of}
 use Rattle.iloc_sched.proofs.KeptEdges.ListedKinds.{kind_listed}
-use Rattle.iloc_sched.proofs.PriorityValues.Tails.{loads_reach, tail_by_store, load_kept}
-use Rattle.iloc_sched.proofs.PriorityValues.TailsFound.{tailed_none, tailed_small, tailed_all, chain_found, tail_found}
+use Rattle.iloc_sched.proofs.PriorityValues.Found.{none_raised}
+use Rattle.iloc_sched.proofs.PriorityValues.Tails.{is_tail, loads_reach, tail_by_store, load_kept}
+use Rattle.iloc_sched.proofs.PriorityValues.TailsFound.{tailed_small, tails_found, chain_found, tail_found}
 use Rattle.iloc_sched.proofs.lower_bound.tails.fill_tails.Goals as goal
 
 none_packed : (lat : Latencies) (ops : List Op) (n : ℕ) → length ops ≤ n → [] ≡ loads_from lat ops n
 none_packed lat ops n all = ap (λ os. load_tails os (drop n (tails lat ops))) (sym (drop_all n ops all))
 
--- operation j, of which kind, chain and tail were read
-module _ (lat : Latencies) (ops : List Op) (kinds : List Kind) (graph : Graph) (kept : IsGraphOf lat ops graph)
-    (are : kinds ≡ map kind ops) (found : List ℕ) (j chain : ℕ) (k : Kind)
-    (tailed : IsTailed lat ops graph found (j + 1) (graph.start (j + 1))) (below : j < length ops)
-    (chain_is : chain ≡ get_or found j 0) (k_is : k ≡ kind_at kinds j) where
-  pub chain_left : chain ≡ chain_tail lat ops j
-  chain_left = chain_is ∙ chain_found lat ops graph kept found j tailed below
+abbrev AreTails : Tables → List ℕ → ℕ → Type 0
+AreTails t found j = IsTailed t.latencies t.ops.items (graph_of t.edges) found j ((graph_of t.edges).start j)
 
-  pub kind_known : k ≡ kind (op_at ops j)
-  kind_known = k_is ∙ kind_listed ops kinds j Other are below
+-- operation j, before `next`, of which kind and chain were read
+module _ (t : Tables) (sound : IsSound t) (found : List ℕ) (loads : Packing) (next j chain : ℕ) (k : Kind)
+    (is_next : next ≡ j + 1) (below : j < length t.ops.items) (tailed : AreTails t found next)
+    (packed : IsPacking (loads_from t.latencies t.ops.items next) loads) (chain_is : chain ≡ get_or found j chain)
+    (k_is : k ≡ get_or t.kinds.items j k) where
+  tailed_here : AreTails t found (j + 1)
+  tailed_here = subst (AreTails t found) is_next tailed
 
-  pub chain_small : chain ≤ 16 * length ops
-  chain_small =
-      let small = tailed_small lat ops graph kept found (j + 1) (graph.start (j + 1)) j tailed below in
-      omega arith
+  read : chain ≡ get_or found j 0
+  read = get_or_read found j chain (omega (arith, below, tailed.size)) chain_is 0
 
-  pub tail_is : (t : ℕ) → t ≡ tail_by k chain lat.store (loads_from lat ops (j + 1)) → t ≡ tail lat ops j
-  tail_is t is = is ∙ ap (λ n. tail_by n chain lat.store (loads_from lat ops (j + 1))) kind_known
-      ∙ ap (λ n. tail_by (kind (op_at ops j)) n lat.store (loads_from lat ops (j + 1))) chain_left
-      ∙ tail_by_store lat ops j below
+  chain_left : chain ≡ chain_tail t.latencies t.ops.items j
+  chain_left = read
+      ∙ chain_found t.latencies t.ops.items (graph_of t.edges) sound.graph found j tailed_here below
 
-  pub loads_are : when (is_load k) chain ++ loads_from lat ops (j + 1) ≡ loads_from lat ops j
-  loads_are = ap (λ n. when (is_load n) chain ++ loads_from lat ops (j + 1)) kind_known
-      ∙ ap (λ n. when (is_load (kind (op_at ops j))) n ++ loads_from lat ops (j + 1)) chain_left
-      ∙ load_kept lat ops j below
+  kind_known : k ≡ kind (op_at t.ops.items j)
+  kind_known = k_is ∙ kind_listed t.ops.items t.kinds.items j k sound.kinds below
+
+  pub loads_short : needed 1 (chain ∷ loads_from t.latencies t.ops.items next) ≤ 17 * length t.ops.items
+  loads_short =
+      let small = tailed_small t.latencies t.ops.items (graph_of t.edges) sound.graph found (j + 1)
+      ((graph_of t.edges).start (j + 1)) j tailed_here below in
+      subst (λ n. needed 1 (chain ∷ loads_from t.latencies t.ops.items n) ≤ 17 * length t.ops.items) (sym is_next)
+      (loads_reach t.latencies t.ops.items (j + 1) chain (omega (arith, read)))
+
+  pub tail_set : (v : ℕ) → ((xs : List ℕ) → IsPacking xs loads → v ≡ tail_by k chain t.latencies.store xs)
+      → IsTailed t.latencies t.ops.items (graph_of t.edges) (set found j v) j ((graph_of t.edges).start (j + 1))
+  tail_set v is = tail_found t.latencies t.ops.items (graph_of t.edges) sound.graph found j tailed_here below v
+      (is (loads_from t.latencies t.ops.items next) packed
+      ∙ rw (kind_known, chain_left, is_next) (tail_by_store t.latencies t.ops.items j below))
+
+  pub loads_are : when (is_load k) chain ++ loads_from t.latencies t.ops.items next ≡ loads_from t.latencies t.ops.items j
+  loads_are = rw (kind_known, chain_left, is_next) (load_kept t.latencies t.ops.items j below)
 
 pub loop-j-init : goal.loop-j-init
 loop-j-init c =
-    let p = c.args.tables.now in
-    let lat : Latencies = p.latencies in
-    let graph : Graph = graph_of p.edges in
-    let kinds : List Kind = p.kinds.items in
-    let ops : List Op = p.ops.items in
-    let kept = c.requires.graph in
-    let are = c.requires.kinds in
-    let ops_size : graph.ops ≡ length ops = kept.size in
-    let kinds_size : length kinds ≡ length ops = ap length are ∙ length-map ops kind in
-    let own : c.extend_from_slice.new.self.items ≡ map (latency lat) ops =
+    let t = c.args.tables.now in
+    let graph = graph_of t.edges in
+    let size = c.requires.graph.size in
+    let kinds_size : length t.kinds.items ≡ length t.ops.items = ap length c.requires.kinds ∙ length-map t.ops.items kind in
+    let own : c.extend_from_slice.new.self.items ≡ map (latency t.latencies) t.ops.items =
     c.in_ok-extend_from_slice.ensures.items ∙ (ap (λ xs. xs ++ c.deref.result.now) c.clear.ensures.items
     ∙ (c.deref.ensures.value ∙ c.requires.own)) in
-    let all : c.op_count-j.result ≡ graph.ops = c.op_count-j.ensures in
+    let none = none_raised t.latencies t.ops.items graph c.requires.graph (chain_tail t.latencies t.ops.items)
+    (tail t.latencies t.ops.items) (is_tail t.latencies t.ops.items) c.extend_from_slice.new.self.items own in
     record {
       space = omega (arith, c.in_ok-loads.ensures.size);
-      tailed = subst (λ n. IsTailed lat ops graph c.extend_from_slice.new.self.items n (graph.start n))
-          (sym all) (tailed_none lat ops graph kept c.extend_from_slice.new.self.items own);
-      packed = subst (λ xs. IsPacking xs c.in_ok-loads.loads) (none_packed lat ops c.op_count-j.result (omega arith))
-          c.in_ok-loads.ensures.empty;
+      tailed = rw (c.op_count-j.ensures) (subst (IsTailed t.latencies t.ops.items graph c.extend_from_slice.new.self.items
+          graph.ops) (sym c.requires.graph.is_graph.last) none);
+      packed = subst (λ xs. IsPacking xs c.in_ok-loads.loads) (none_packed t.latencies t.ops.items c.op_count-j.result
+          (omega (arith, c.op_count-j.ensures))) c.in_ok-loads.ensures.empty;
     }
 
 pub tail_of-tail-requires-clause-packed : goal.tail_of-tail-requires-clause-packed
 tail_of-tail-requires-clause-packed c =
-    let p = c.args.tables.now in
-    let lat : Latencies = p.latencies in
-    let graph : Graph = graph_of p.edges in
-    let kinds : List Kind = p.kinds.items in
-    let ops : List Op = p.ops.items in
-    let kept = c.requires.graph in
-    let are = c.requires.kinds in
-    let ops_size : graph.ops ≡ length ops = kept.size in
-    let kinds_size : length kinds ≡ length ops = ap length are ∙ length-map ops kind in
-    let found : List ℕ = c.loop-j.found.items in
-    let j : ℕ = c.loop-j.j - 1 in
-    let back : c.loop-j.j ≡ j + 1 = omega arith in
-    let size : length found ≡ length ops = c.loop-j.invariant.tailed.size in
-    let within : j < length kinds = omega arith in
-    let chain_is : c.index-chain.result.now ≡ get_or found j 0 =
-    get_or_read found j c.index-chain.result.now (omega arith) c.index-chain.ensures 0 in
-    let tailed : IsTailed lat ops graph found (j + 1) (graph.start (j + 1)) =
-    subst (λ n. IsTailed lat ops graph found n (graph.start n)) back c.loop-j.invariant.tailed in
-    let packed : IsPacking (loads_from lat ops (j + 1)) c.loop-j.loads =
-    subst (λ n. IsPacking (loads_from lat ops n) c.loop-j.loads) back c.loop-j.invariant.packed in
-    let small : get_or found j 0 ≤ 16 * length ops =
-    tailed_small lat ops graph kept found (j + 1) (graph.start (j + 1)) j tailed (omega arith) in
-    let reach = loads_reach lat ops (j + 1) c.index-chain.result.now (omega arith) in
-    let space : length c.loop-j.loads.links.items ≡ 17 * length kinds + 2 = c.loop-j.invariant.space in
-    let enough : needed 1 (c.index-chain.result.now ∷ loads_from lat ops (j + 1)) + 1 < length c.loop-j.loads.links.items =
-    omega arith in
-    (loads_from lat ops (j + 1), packed, enough)
+    let t = c.args.tables.now in
+    let before = c.loop-j.invariant in
+    let kinds_size : length t.kinds.items ≡ length t.ops.items = ap length c.requires.kinds ∙ length-map t.ops.items kind in
+    let short = loads_short t c.requires c.loop-j.found.items c.loop-j.loads c.loop-j.j (c.loop-j.j - 1)
+    c.index-chain.result.now _ (omega arith) (omega arith) before.tailed before.packed c.index-chain.ensures
+    c.index.ensures in
+    (loads_from t.latencies t.ops.items c.loop-j.j, before.packed, omega (arith, before.space))
 
 pub tail_of-tail-requires-clause-small : goal.tail_of-tail-requires-clause-small
 tail_of-tail-requires-clause-small c =
-    let p = c.args.tables.now in
-    let lat : Latencies = p.latencies in
-    let graph : Graph = graph_of p.edges in
-    let kinds : List Kind = p.kinds.items in
-    let ops : List Op = p.ops.items in
-    let kept = c.requires.graph in
-    let are = c.requires.kinds in
-    let ops_size : graph.ops ≡ length ops = kept.size in
-    let kinds_size : length kinds ≡ length ops = ap length are ∙ length-map ops kind in
-    let few : length p.edges.heads.items ≤ 10000 = p.edges.short in
-    let space = c.loop-j.invariant.space in
-    let short = p.latencies.short_store in
-    omega arith
-
--- the numbers once operation j - 1 has its tail
-settled : (lat : Latencies) (ops : List Op) (kinds : List Kind) (graph : Graph) (kept : IsGraphOf lat ops graph)
-    (are : kinds ≡ map kind ops) (found : List ℕ) (j chain t : ℕ) (k : Kind) (loads : Packing) → 0 < j → j ≤ length ops
-    → IsTailed lat ops graph found j (graph.start j) → IsPacking (loads_from lat ops j) loads
-    → chain ≡ get_or found (j - 1) 0 → k ≡ kind_at kinds (j - 1)
-    → ((xs : List ℕ) → IsPacking xs loads → t ≡ tail_by k chain lat.store xs)
-    → IsTailed lat ops graph (set found (j - 1) t) (j - 1) (graph.start ((j - 1) + 1))
-settled lat ops kinds graph kept are found j chain t k loads some within tailed packed chain_is k_is is =
-    let back : j ≡ (j - 1) + 1 = omega arith in
-    let tailed_here : IsTailed lat ops graph found ((j - 1) + 1) (graph.start ((j - 1) + 1)) =
-    subst (λ n. IsTailed lat ops graph found n (graph.start n)) back tailed in
-    let packed_here : IsPacking (loads_from lat ops ((j - 1) + 1)) loads =
-    subst (λ n. IsPacking (loads_from lat ops n) loads) back packed in
-    tail_found lat ops graph kept found (j - 1) (graph.start ((j - 1) + 1)) t tailed_here refl (omega arith)
-    (tail_is lat ops kinds graph kept are found (j - 1) chain k tailed_here (omega arith) chain_is k_is t
-    (is (loads_from lat ops ((j - 1) + 1)) packed_here))
+    let t = c.args.tables.now in
+    let kinds_size : length t.kinds.items ≡ length t.ops.items = ap length c.requires.kinds ∙ length-map t.ops.items kind in
+    omega (arith, c.requires.graph.size, t.edges.short, c.loop-j.invariant.space, t.latencies.short_store)
 
 pub raise_sources-requires-clause-tailed : goal.raise_sources-requires-clause-tailed
 raise_sources-requires-clause-tailed c =
-    let p = c.args.tables.now in
-    let lat : Latencies = p.latencies in
-    let graph : Graph = graph_of p.edges in
-    let kinds : List Kind = p.kinds.items in
-    let ops : List Op = p.ops.items in
-    let kept = c.requires.graph in
-    let are = c.requires.kinds in
-    let ops_size : graph.ops ≡ length ops = kept.size in
-    let kinds_size : length kinds ≡ length ops = ap length are ∙ length-map ops kind in
-    let found : List ℕ = c.loop-j.found.items in
-    let j : ℕ = c.loop-j.j - 1 in
-    let back : c.loop-j.j ≡ j + 1 = omega arith in
-    let size : length found ≡ length ops = c.loop-j.invariant.tailed.size in
-    let within : j < length kinds = omega arith in
-    let chain_is : c.index-chain.result.now ≡ get_or found j 0 =
-    get_or_read found j c.index-chain.result.now (omega arith) c.index-chain.ensures 0 in
-    settled lat ops kinds graph kept are found c.loop-j.j c.index-chain.result.now
-    c.tail_of-tail.result _ c.loop-j.loads (omega arith) (omega arith) c.loop-j.invariant.tailed c.loop-j.invariant.packed
-    chain_is (c.index.ensures ∙ get_or_default kinds j _ Other within) c.tail_of-tail.ensures.tail
+    let t = c.args.tables.now in
+    let size = c.requires.graph.size in
+    tail_set t c.requires c.loop-j.found.items c.loop-j.loads c.loop-j.j (c.loop-j.j - 1) c.index-chain.result.now _
+    (omega arith) (omega arith) c.loop-j.invariant.tailed c.loop-j.invariant.packed c.index-chain.ensures c.index.ensures
+    c.tail_of-tail.result c.tail_of-tail.ensures.tail
 
 pub loop-j-preserved : goal.loop-j-preserved
 loop-j-preserved c =
-    let p = c.args.tables.now in
-    let lat : Latencies = p.latencies in
-    let graph : Graph = graph_of p.edges in
-    let kinds : List Kind = p.kinds.items in
-    let ops : List Op = p.ops.items in
-    let kept = c.requires.graph in
-    let are = c.requires.kinds in
-    let ops_size : graph.ops ≡ length ops = kept.size in
-    let kinds_size : length kinds ≡ length ops = ap length are ∙ length-map ops kind in
-    let found : List ℕ = c.loop-j.found.items in
-    let j : ℕ = c.loop-j.j - 1 in
-    let back : c.loop-j.j ≡ j + 1 = omega arith in
-    let size : length found ≡ length ops = c.loop-j.invariant.tailed.size in
-    let within : j < length kinds = omega arith in
-    let chain_is : c.index-chain.result.now ≡ get_or found j 0 =
-    get_or_read found j c.index-chain.result.now (omega arith) c.index-chain.ensures 0 in
-    let tailed : IsTailed lat ops graph found (j + 1) (graph.start (j + 1)) =
-    subst (λ n. IsTailed lat ops graph found n (graph.start n)) back c.loop-j.invariant.tailed in
-    let packed : IsPacking (loads_from lat ops (j + 1)) c.loop-j.loads =
-    subst (λ n. IsPacking (loads_from lat ops n) c.loop-j.loads) back c.loop-j.invariant.packed in
+    let t = c.args.tables.now in
+    let before = c.loop-j.invariant in
+    let size = c.requires.graph.size in
     record {
-      space = c.tail_of-tail.ensures.size ∙ c.loop-j.invariant.space;
+      space = c.tail_of-tail.ensures.size ∙ before.space;
       tailed = c.raise_sources.ensures;
       packed = subst (λ xs. IsPacking xs c.tail_of-tail.new.loads)
-          (loads_are lat ops kinds graph kept are found j c.index-chain.result.now _ tailed
-          (omega arith) chain_is (c.index.ensures ∙ get_or_default kinds j _ Other within))
-          (c.tail_of-tail.ensures.packed (loads_from lat ops (j + 1)) packed);
+          (loads_are t c.requires c.loop-j.found.items c.loop-j.loads c.loop-j.j (c.loop-j.j - 1) c.index-chain.result.now _
+          (omega arith) (omega arith) before.tailed before.packed c.index-chain.ensures c.index.ensures)
+          (c.tail_of-tail.ensures.packed (loads_from t.latencies t.ops.items c.loop-j.j) before.packed);
     }
 
 pub returns : goal.returns
 returns c =
-    let p = c.args.tables.now in
-    let graph : Graph = graph_of p.edges in
+    let t = c.args.tables.now in
     let end : c.loop-j.j ≡ 0 = omega arith in
-    tailed_all p.latencies p.ops.items graph c.requires.graph c.loop-j.found.items (graph.start c.loop-j.j)
-    (subst (λ n. IsTailed p.latencies p.ops.items graph c.loop-j.found.items n (graph.start c.loop-j.j)) end
-    c.loop-j.invariant.tailed)
+    tails_found t.latencies t.ops.items (graph_of t.edges) c.requires.graph c.loop-j.found.items
+    ((graph_of t.edges).start c.loop-j.j) (subst (λ n. IsTailed t.latencies t.ops.items (graph_of t.edges)
+    c.loop-j.found.items n ((graph_of t.edges).start c.loop-j.j)) end c.loop-j.invariant.tailed)

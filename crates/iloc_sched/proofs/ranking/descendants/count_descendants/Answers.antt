@@ -2,12 +2,12 @@ use Rattle.std.proofs.Common.{ℕ, ◌≡◌, ◌+◌, ◌*◌, ◌/◌, ◌%◌
 use Rattle.std.specs.Prelude.{count_by}
 use Rattle.std.specs.List.{range_with_len}
 use Rattle.std.proofs.lemmas.Grind.{div_ceil_times}
+use Rattle.std.proofs.lemmas.List.{ext_get_or}
 use Rattle.std.proofs.lemmas.List.Sums.{count_by-le-length}
 use Rattle.std.proofs.lemmas.List.FromFn.{length-range_with_len, length-map-range_with_len, get_or-map-range_with_len}
 use Rattle.iloc_sched.specs.Heuristics.{depends_on, descendants}
 use Rattle.iloc_sched.specs.Steps.Dependents.{AreMarked}
 use Rattle.iloc_sched.proofs.PriorityValues.DependentsCounted.{counted_more, counted_all}
-use Rattle.iloc_sched.proofs.PriorityValues.Raised.{same_numbers}
 use Rattle.iloc_sched.proofs.ranking.descendants.count_descendants.Goals as goal
 
 pub add_counts-requires-clause-small : goal.add_counts-requires-clause-small
@@ -65,7 +65,7 @@ returns c =
     (div_ceil_times c.op_count-count.result 64 (omega arith)).0 in
     let count : c.op_count-count.result ≡ length c.args.tables.now.edges.heads.items = c.op_count-count.ensures in
     let end : c.div_ceil-chunk-end.result ≤ c.loop-chunk.chunk = omega arith in
-    same_numbers c.loop-chunk.found.items (map (descendants lat ops) (range_with_len 0 (length ops)))
+    ext_get_or 0 c.loop-chunk.found.items (map (descendants lat ops) (range_with_len 0 (length ops)))
     (c.loop-chunk.invariant.size ∙ sym goal_size)
     (λ i below.
     c.loop-chunk.invariant.counted i (omega arith)

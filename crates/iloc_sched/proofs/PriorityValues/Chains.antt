@@ -1,0 +1,169 @@
+-- Longest chains are the least numbers that keep all pairs, and numbers that edges raise become them; for priorities,
+-- starts, tails and the bounds.
+use Rattle.std.proofs.Common.{◌≡◌, ◌≢◌, ℕ, zero, suc, ◌+◌, ◌<◌, ◌≤◌, max, List, length, set, get_or, inl, inr, sym, ◌∙◌, ap, subst, arith}
+use Rattle.std.proofs.lemmas.List.{get_or-set_same, get_or-set_other, length-set}
+use Rattle.iloc_ops.specs.declared.op.Op.{Op}
+use Rattle.iloc_timed.specs.declared.latencies.Latencies.{Latencies}
+use Rattle.iloc_sched.specs.Delays.{IsDelayPair}
+use Rattle.iloc_sched.specs.Steps.Chains.{IsChain, IsRaised, IsFrom, IsBefore}
+use Rattle.iloc_sched.specs.Steps.Graph.{Graph, IsGraphOf}
+use Rattle.iloc_sched.proofs.Basics.Cases.{by_eq, by_lt}
+use Rattle.iloc_sched.proofs.KeptEdges.FarPairs.{near_or_by_way}
+
+-- what is at least the base and keeps the pairs is at least the chain, where pairs lead to a lower rank
+module _ (size : ℕ) (Pair : ℕ → ℕ → ℕ → Type 0) (base value : ℕ → ℕ) (is : IsChain size Pair base value value)
+    (rank : ℕ → ℕ) (falls : (i j d : ℕ) → Pair i j d → (j < size) × (rank j < rank i)) (other : ℕ → ℕ)
+    (own : (i : ℕ) → i < size → base i ≤ other i) (pairs : (i j d : ℕ) → Pair i j d → d + other j ≤ other i) where
+  least_below : (n i : ℕ) → rank i < n → i < size → value i ≤ other i
+  least_below zero i low below = absurd (omega arith)
+  least_below (suc n) i low below = elim (is.reached i below) [
+    | inl alone ↦ let least = own i below in let same : value i ≡ base i = alone in omega arith
+    | inr long ↦
+        let fall = falls i long.0 long.1 long.2 in
+        let rest : value long.0 ≤ other long.0 = least_below n long.0 (omega arith) fall.0 in
+        let least = pairs i long.0 long.1 long.2 in
+        let same : value i ≡ long.1 + value long.0 = long.3 in
+        omega arith
+  ]
+
+  pub least : (i : ℕ) → i < size → value i ≤ other i
+  least i below = least_below (suc (rank i)) i (omega arith) below
+
+-- the number of `at` is put to v, which is no less
+module _ (found : List ℕ) (at v : ℕ) (there : at < length found) (up : get_or found at 0 ≤ v) where
+  here : get_or (set found at v) at 0 ≡ v
+  here = get_or-set_same found at v 0 there
+
+  away : (k : ℕ) → k ≢ at → get_or (set found at v) k 0 ≡ get_or found k 0
+  away k apart = get_or-set_other found at k v 0 apart
+
+  grown : (k : ℕ) → get_or found k 0 ≤ get_or (set found at v) k 0
+  grown k = by_eq k at
+      (λ same. subst (λ n. get_or found n 0 ≤ get_or (set found at v) n 0) (sym same) (let is = here in omega arith))
+      (λ apart. let kept = away k apart in omega arith)
+
+module _ (size : ℕ) (base chain value place other delay : ℕ → ℕ) (Pair : ℕ → ℕ → ℕ → Type 0)
+    (is : IsChain size Pair base chain value) (Done : ℕ → Type 0) (found : List ℕ) where
+  pub at_most : (j i : ℕ) → IsRaised size base chain value place other delay Done found j → i < size
+      → get_or found i 0 ≤ value i
+  at_most j i raised below = by_lt i j
+      (λ before. let upper = raised.upper i before below in let whole = is.whole i below in omega arith)
+      (λ after. let done = raised.done i after below in omega arith)
+
+  -- edge x is done too
+  pub raise : (More : ℕ → Type 0) (j x : ℕ) → IsRaised size base chain value place other delay Done found j
+      → Pair (place x) (other x) (delay x) → place x < j → place x < size → other x < size
+      → ((y : ℕ) → More y → other y ≢ place x) → ((y : ℕ) → More y → y ≢ x → Done y)
+      → IsRaised size base chain value place other delay More
+      (set found (place x) (max (get_or found (place x) 0) (delay x + get_or found (other x) 0))) j
+  raise More j x raised pair early inside end apart rest =
+      let at : ℕ = place x in
+      let v : ℕ = max (get_or found at 0) (delay x + get_or found (other x) 0) in
+      let there : at < length found = omega (arith, raised.size) in
+      let more = grown found at v there (omega arith) in
+      let kept = away found at v there (omega arith) in
+      let is_v = here found at v there (omega arith) in
+      let most = at_most j (other x) raised end in
+      let sum = is.pairs at (other x) (delay x) pair in
+      let first = raised.upper at early inside in
+      record {
+        size = length-set found at v ∙ raised.size;
+        own = λ i below. omega (arith, raised.own i below, more i);
+        upper = λ i before below. by_eq i at
+            (λ same. subst (λ n. get_or (set found at v) n 0 ≤ chain n) (sym same) (omega arith))
+            (λ apart. omega (arith, kept i apart, raised.upper i before below));
+        done = λ i after below. kept i (λ same. absurd (omega arith)) ∙ raised.done i after below;
+        over = λ y now. by_eq y x
+            (λ same. subst (λ n. delay n + get_or (set found at v) (other n) 0 ≤ get_or (set found at v) (place n) 0)
+            (sym same) (omega (arith, kept (other x) (apart x (subst More same now)))))
+            (λ past. omega (arith, kept (other y) (apart y now), raised.over y (rest y now past), more (place y)));
+      }
+
+  -- the number of operation j is put to its value, which is no less
+  pub settle : (j v : ℕ) → IsRaised size base chain value place other delay Done found (j + 1) → j < size
+      → v ≡ value j → get_or found j 0 ≤ v → ((y : ℕ) → Done y → other y ≢ j)
+      → IsRaised size base chain value place other delay Done (set found j v) j
+  settle j v raised below v_is up apart =
+      let there : j < length found = omega (arith, raised.size) in
+      let more = grown found j v there up in
+      let kept = away found j v there up in
+      record {
+        size = length-set found j v ∙ raised.size;
+        own = λ i within. omega (arith, raised.own i within, more i);
+        upper = λ i before within. omega (arith, kept i (λ same. absurd (omega arith)), raised.upper i (omega arith) within);
+        done = λ i after within. by_eq i j
+            (λ same. subst (λ n. get_or (set found j v) n 0 ≡ value n) (sym same) (here found j v there up ∙ v_is))
+            (λ past. kept i past ∙ raised.done i (omega arith) within);
+        over = λ y now. omega (arith, kept (other y) (apart y now), raised.over y now, more (place y));
+      }
+
+module _ (lat : Latencies) (ops : List Op) (graph : Graph) (is : IsGraphOf lat ops graph) where
+  pub ends_within : (x : ℕ) → x < graph.count → (graph.from x < graph.to x) × (graph.to x < length ops)
+  ends_within x below =
+      let place = is.is_graph.to_there x below in
+      let size = is.size in
+      (is.is_graph.earlier x below, omega arith)
+
+  -- the edges into an operation precede those into later ones
+  pub to_rises : (y x : ℕ) → y ≤ x → y < graph.count → x < graph.count → graph.to y ≤ graph.to x
+  to_rises y x low y_below x_below = by_lt (graph.to x) (graph.to y)
+      (λ less.
+      let first = is.is_graph.to_there y y_below in
+      let second = is.is_graph.to_there x x_below in
+      let up : graph.start (graph.to x + 1) ≤ graph.start (graph.to y) =
+      is.is_graph.rises (graph.to x + 1) (graph.to y) (omega arith) (omega arith) in
+      absurd (omega arith))
+      (λ more. more)
+
+  module _ (base chain value : ℕ → ℕ) (found : List ℕ) (j x : ℕ) (below : x < graph.count) where
+    pub raise_from : IsChain (length ops) (IsDelayPair lat ops) base chain value
+        → IsRaised (length ops) base chain value graph.from graph.to graph.delay (IsFrom graph (x + 1)) found j
+        → graph.from x < j → IsRaised (length ops) base chain value graph.from graph.to graph.delay (IsFrom graph x)
+        (set found (graph.from x) (max (get_or found (graph.from x) 0) (graph.delay x + get_or found (graph.to x) 0))) j
+    raise_from chains raised early =
+        let ends = ends_within x below in
+        raise (length ops) base chain value graph.from graph.to graph.delay (IsDelayPair lat ops) chains
+        (IsFrom graph (x + 1)) found (IsFrom graph x) j x raised (is.sound x below) early (omega arith) ends.1
+        (λ y more same. let up = to_rises x y more.0 below more.1 in absurd (omega arith))
+        (λ y more away. (omega arith, more.1))
+
+    pub raise_to : IsChain (length ops) (λ k i d. IsDelayPair lat ops i k d) base chain value
+        → IsRaised (length ops) base chain value graph.to graph.from graph.delay (IsBefore graph x) found j
+        → graph.to x < j → IsRaised (length ops) base chain value graph.to graph.from graph.delay (IsBefore graph (x + 1))
+        (set found (graph.to x) (max (get_or found (graph.to x) 0) (graph.delay x + get_or found (graph.from x) 0))) j
+    raise_to chains raised early =
+        let ends = ends_within x below in
+        raise (length ops) base chain value graph.to graph.from graph.delay (λ k i d. IsDelayPair lat ops i k d) chains
+        (IsBefore graph x) found (IsBefore graph (x + 1)) j x raised (is.sound x below) early ends.1 (omega arith)
+        (λ y more same. let low = more.0 in let up = to_rises y x (omega arith) more.1 below in
+        let other = ends_within y more.1 in absurd (omega arith))
+        (λ y more away. let low = more.0 in (omega arith, more.1))
+
+  -- where all edges out of the operations from `low` on are kept, so are all delay pairs out of these
+  module _ (a b : ℕ → ℕ) (low : ℕ) (over : (y : ℕ) → y < graph.count → low ≤ graph.from y
+      → graph.delay y + a (graph.from y) + b (graph.to y) ≤ a (graph.to y) + b (graph.from y)) where
+    over_within : (n i j d : ℕ) → j ≤ i + n → low ≤ i → IsDelayPair lat ops i j d → d + a i + b j ≤ a j + b i
+    over_within zero i j d few high pair = let order : i < j = pair.order in absurd (omega arith)
+    over_within (suc n) i j d few high pair = elim (near_or_by_way lat ops i j d pair) [
+      | inl near ↦
+          let edge = is.all i j d pair near in
+          let long : d ≤ graph.delay edge.0 = edge.4 in
+          let from : graph.from edge.0 ≡ i = edge.3 in
+          let to : graph.to edge.0 ≡ j = edge.2 in
+          let sum = over edge.0 edge.1 (omega arith) in
+          let a_from : a (graph.from edge.0) ≡ a i = ap a from in
+          let b_from : b (graph.from edge.0) ≡ b i = ap b from in
+          let a_to : a (graph.to edge.0) ≡ a j = ap a to in
+          let b_to : b (graph.to edge.0) ≡ b j = ap b to in
+          omega arith
+      | inr by ↦
+          let order : i < by.way = by.first.order in
+          let later : by.way < j = by.second.order in
+          let first = over_within n i by.way by.first_delay (omega arith) high by.first in
+          let second = over_within n by.way j by.second_delay (omega arith) (omega arith) by.second in
+          let enough : d ≤ by.first_delay + by.second_delay = by.enough in
+          omega arith
+    ]
+
+    pub over_pairs : (i j d : ℕ) → low ≤ i → IsDelayPair lat ops i j d → d + a i + b j ≤ a j + b i
+    over_pairs i j d high pair = over_within j i j d (omega arith) high pair

@@ -1,0 +1,98 @@
+-- Numbers that the kept edges have raised are the priorities and the starts; for `chains`, `starts` and `tails`.
+use Rattle.std.proofs.Common.{◌≡◌, ℕ, ◌+◌, ◌<◌, ◌≤◌, max, List, length, map, set, get_or, sym, ◌∙◌, ap, subst, arith}
+use Rattle.std.specs.Prelude.{replicate}
+use Rattle.std.proofs.lemmas.List.{ext_get_or, get_or_read, get_or-map, get_or-replicate, length-map, length-replicate}
+use Rattle.iloc_ops.specs.declared.op.Op.{Op}
+use Rattle.iloc_ops.specs.declared.op.Op.TheVariants.{Nop}
+use Rattle.iloc_meaning.specs.Trace.{op_at}
+use Rattle.iloc_timed.specs.declared.latencies.Latencies.{Latencies}
+use Rattle.iloc_timed.specs.Latency.{latency}
+use Rattle.iloc_sched.specs.Priority.{priorities}
+use Rattle.iloc_sched.specs.Starts.{starts}
+use Rattle.iloc_sched.specs.declared.edges.Edge.{Edge}
+use Rattle.iloc_sched.specs.declared.tables.Tables.{Tables}
+use Rattle.iloc_sched.specs.Steps.Chains.{IsChainOut, AreRaised, ArePrioritiesFrom, AreStartsBefore}
+use Rattle.iloc_sched.specs.Steps.Graph.{Graph, IsGraphOf}
+use Rattle.iloc_sched.specs.Steps.SoundGraph.{IsSound}
+use Rattle.iloc_sched.specs.Steps.Views.{graph_of, edge_at}
+use Rattle.iloc_sched.proofs.PriorityValues.Chains.{ends_within, raise_from, over_pairs}
+use Rattle.iloc_sched.proofs.PriorityValues.Longest.{length-priorities, priority_least}
+use Rattle.iloc_sched.proofs.PriorityValues.Starts.{length-starts, start_least}
+
+-- what is known of an edge that was read
+pub read_edge : (t : Tables) → IsSound t → (x : ℕ) (edge : Edge) → x < length t.edges.edges.items
+    → edge ≡ edge_at t.edges x
+    → (edge.from < edge.to) × (edge.to < length t.ops.items) × (edge.delay ≤ 16) × (length t.ops.items ≤ 10000)
+read_edge t sound x edge below is =
+    let ends = ends_within t.latencies t.ops.items (graph_of t.edges) sound.graph x below in
+    let delay = sound.graph.is_graph.delays x below in
+    rw is (ends.0, ends.1, delay.1, omega (arith, t.edges.short, sound.graph.size))
+
+-- edge x was read, and raised the number of its first operation by that of its second
+pub raise_read : (t : Tables) → IsSound t → (chain value : ℕ → ℕ) → IsChainOut t.latencies t.ops.items chain value
+    → (found : List ℕ) (j x next : ℕ) (edge : Edge) (first second most : ℕ)
+    → AreRaised t.latencies t.ops.items (graph_of t.edges) chain value found j next → next ≡ x + 1
+    → x < length t.edges.edges.items → edge ≡ edge_at t.edges x → edge.from < j → second ≡ get_or found edge.to second
+    → first ≡ get_or found edge.from first → most ≡ max first (edge.delay + second)
+    → AreRaised t.latencies t.ops.items (graph_of t.edges) chain value (set found edge.from most) j x
+raise_read t sound chain value is found j x next edge first second most raised next_is below edge_is early second_is first_is
+    most_is =
+    let lat : Latencies = t.latencies in
+    let ops : List Op = t.ops.items in
+    let graph : Graph = graph_of t.edges in
+    let known = read_edge t sound x edge below edge_is in
+    let size : length found ≡ length ops = raised.size in
+    let read : second ≡ get_or found edge.to 0 = get_or_read found edge.to second (omega arith) second_is 0 in
+    let old : first ≡ get_or found edge.from 0 = get_or_read found edge.from first (omega arith) first_is 0 in
+    rw (most_is, old, read, edge_is) (raise_from lat ops graph sound.graph (λ i. latency lat (op_at ops i)) chain value
+    found j x below is (subst (AreRaised lat ops graph chain value found j) next_is raised)
+    (subst (λ e. e.from < j) edge_is early))
+
+module _ (lat : Latencies) (ops : List Op) (graph : Graph) (is : IsGraphOf lat ops graph) where
+  -- latencies, while no edge has raised them
+  pub none_raised : (chain value : ℕ → ℕ) → IsChainOut lat ops chain value → (own : List ℕ) → own ≡ map (latency lat) ops
+      → AreRaised lat ops graph chain value own graph.ops graph.count
+  none_raised chain value chains own own_is =
+      let at : (i : ℕ) → i < length ops → get_or own i 0 ≡ latency lat (op_at ops i) =
+      (λ i below. ap (λ xs. get_or xs i 0) own_is ∙ get_or-map (latency lat) ops i Nop 0 below) in
+      record {
+        size = ap length own_is ∙ length-map ops (latency lat);
+        own = λ i below. omega (arith, at i below);
+        upper = λ i before below. omega (arith, at i below, chains.own i below);
+        done = λ i after below. absurd (omega (arith, is.size));
+        over = λ y here. let after = here.0 in let below = here.1 in absurd (omega arith);
+      }
+
+  pub priorities_found : (found : List ℕ) → ArePrioritiesFrom lat ops graph found 0 → found ≡ priorities lat ops
+  priorities_found found raised =
+      let size : length (priorities lat ops) ≡ length ops = length-priorities lat ops in
+      ext_get_or 0 found (priorities lat ops) (raised.size ∙ sym size) (λ i below.
+      let within : i < length ops = omega (arith, raised.size) in
+      let least = priority_least lat ops (λ k. get_or found k 0) raised.own (λ k j d pair.
+      let over = over_pairs lat ops graph is (λ n. 0) (λ n. get_or found n 0) 0
+      (λ y there low. omega (arith, raised.over y (omega arith, there))) k j d (omega arith) pair in
+      omega arith) i within in
+      omega (arith, raised.upper i within within))
+
+  pub starts_none : (own : List ℕ) → own ≡ replicate graph.ops 0 → AreStartsBefore lat ops graph own 0
+  starts_none own own_is = record {
+    size = ap length own_is ∙ length-replicate graph.ops 0 ∙ is.size;
+    own = λ i below. omega arith;
+    upper = λ i before below.
+        let none : get_or own i 0 ≡ 0 =
+        ap (λ xs. get_or xs i 0) own_is ∙ get_or-replicate graph.ops i 0 0 (omega (arith, is.size)) in
+        omega arith;
+    done = λ i after below. absurd (omega arith);
+    over = λ y here. absurd (omega (arith, here.0));
+  }
+
+  pub starts_found : (found : List ℕ) → AreStartsBefore lat ops graph found graph.count → found ≡ starts lat ops
+  starts_found found raised =
+      let size : length (starts lat ops) ≡ length ops = length-starts lat ops in
+      ext_get_or 0 found (starts lat ops) (raised.size ∙ sym size) (λ j below.
+      let within : j < length ops = omega (arith, raised.size) in
+      let least = start_least lat ops (λ k. get_or found k 0) (λ i k d pair.
+      let over = over_pairs lat ops graph is (λ n. get_or found n 0) (λ n. 0) 0
+      (λ y there low. omega (arith, raised.over y (there, there))) i k d (omega arith) pair in
+      omega arith) j within in
+      omega (arith, raised.upper j within within))

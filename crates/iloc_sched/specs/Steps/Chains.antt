@@ -1,0 +1,57 @@
+-- What pins longest chains down without a recursion, and what holds while they are found: of the priorities, from the last
+-- operation on, of the starts, from the first, and of the tails.
+use Rattle.std.specs.Prelude.{ℕ, ◌+◌, ◌≡◌, ◌<◌, ◌≤◌, ◌⊎◌, List, length, slice_index}
+use Rattle.iloc_ops.specs.declared.op.Op.{Op}
+use Rattle.iloc_meaning.specs.Trace.{op_at}
+use Rattle.iloc_timed.specs.declared.latencies.Latencies.{Latencies}
+use Rattle.iloc_timed.specs.Latency.{latency}
+use Rattle.iloc_sched.specs.Delays.{IsDelayPair}
+use Rattle.iloc_sched.specs.Priority.{priority}
+use Rattle.iloc_sched.specs.Starts.{start}
+use Rattle.iloc_sched.specs.Steps.Graph.{Graph}
+
+-- the chain of an operation is at least its base and each d + value(j) over its pairs (i, j, d), and it is one of these;
+-- its value is at least the chain
+pub record IsChain (size : ℕ) (Pair : ℕ → ℕ → ℕ → Type 0) (base chain value : ℕ → ℕ) : Type 0 where
+  pub own : (i : ℕ) → i < size → base i ≤ chain i
+  pub pairs : (i j d : ℕ) → Pair i j d → d + value j ≤ chain i
+  pub reached : (i : ℕ) → i < size → (chain i ≡ base i) ⊎ ((j : ℕ) × (d : ℕ) × Pair i j d × (chain i ≡ d + value j))
+  pub whole : (i : ℕ) → i < size → chain i ≤ value i
+
+-- chains from latencies over the pairs out of operations, and chains from 0 over the pairs into them
+abbrev pub IsChainOut : Latencies → List Op → (ℕ → ℕ) → (ℕ → ℕ) → Type 0
+IsChainOut lat ops = IsChain (length ops) (IsDelayPair lat ops) (λ i. latency lat (op_at ops i))
+
+abbrev pub IsChainInto : Latencies → List Op → (ℕ → ℕ) → Type 0
+IsChainInto lat ops at = IsChain (length ops) (λ j i d. IsDelayPair lat ops i j d) (λ j. 0) at at
+
+-- Numbers while edges raise them, each edge the number at its place by that at its other end: those of the operations from
+-- j on are values, the others at most the chains, and the edges that are done are kept.
+pub record IsRaised (count : ℕ) (base chain value place other delay : ℕ → ℕ) (Done : ℕ → Type 0) (found : List ℕ) (j : ℕ) : Type 0 where
+  pub size : length found ≡ count
+  pub own : (i : ℕ) → i < count → base i ≤ slice_index found i
+  pub upper : (i : ℕ) → i < j → i < count → slice_index found i ≤ chain i
+  pub done : (i : ℕ) → j ≤ i → i < count → slice_index found i ≡ value i
+  pub over : (y : ℕ) → Done y → delay y + slice_index found (other y) ≤ slice_index found (place y)
+
+-- the edges from x on, and those before x
+abbrev pub IsFrom : Graph → ℕ → ℕ → Type 0
+IsFrom graph x y = (x ≤ y) × (y < graph.count)
+
+abbrev pub IsBefore : Graph → ℕ → ℕ → Type 0
+IsBefore graph x y = (y < x) × (y < graph.count)
+
+-- the numbers while the edges from x on have raised them along the chains out of operations
+abbrev pub AreRaised : Latencies → List Op → Graph → (ℕ → ℕ) → (ℕ → ℕ) → List ℕ → ℕ → ℕ → Type 0
+AreRaised lat ops graph chain value found j x =
+    IsRaised (length ops) (λ i. latency lat (op_at ops i)) chain value graph.from graph.to graph.delay (IsFrom graph x) found j
+
+-- the priorities while the edges are gone through from the last: those from x on are done
+abbrev pub ArePrioritiesFrom : Latencies → List Op → Graph → List ℕ → ℕ → Type 0
+ArePrioritiesFrom lat ops graph found x = AreRaised lat ops graph (priority lat ops) (priority lat ops) found (length ops) x
+
+-- the starts while the edges are gone through from the first: those before x are done
+abbrev pub AreStartsBefore : Latencies → List Op → Graph → List ℕ → ℕ → Type 0
+AreStartsBefore lat ops graph found x =
+    IsRaised (length ops) (λ j. 0) (start lat ops) (start lat ops) graph.to graph.from graph.delay (IsBefore graph x) found
+    (length ops)
