@@ -55,7 +55,7 @@ pub(crate) fn fill_ranks(
         Heuristic::Descendants => count_descendants(found, alloc, tables),
         Heuristic::Successors => {
             fill_zeros(found, tables.edges.op_count())?;
-            count_successors(found, &tables.kinds, &tables.edges);
+            count_successors(found, tables);
             Ok(())
         }
         Heuristic::Latency => copy_latencies(found, tables),

@@ -4,14 +4,6 @@ use Rattle.std.proofs.lemmas.Simd.{splat_is_map}
 use Rattle.iloc_sched.specs.Heuristics.{priorities_by}
 use Rattle.iloc_sched.proofs.ranking.heuristic.fill_ranks.Goals as goal
 
-pub count_successors-requires-clause-kept : goal.count_successors-requires-clause-kept
-count_successors-requires-clause-kept c = (
-  c.args.tables.now.latencies,
-  c.args.tables.now.ops.items,
-  c.requires.graph,
-  c.deref.ensures.value ∙ c.requires.kinds,
-)
-
 pub returns-in-Order : goal.returns-in-Order
 returns-in-Order c = on_ok_weaker c.fill_zeros-in-Order.result
     (λ are. are ∙ (splat_is_map c.args.tables.now.ops.items c.len.result 0 (sym (c.len.ensures ∙ c.args.tables.now.ops.ok.0))

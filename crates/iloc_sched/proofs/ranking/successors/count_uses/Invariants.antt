@@ -1,17 +1,11 @@
-use Rattle.std.proofs.Common.{◌≡◌, ◌+◌, ◌≤◌, List, length, map}
-use Rattle.iloc_ops.specs.declared.op.Op.{Op}
-use Rattle.iloc_timed.specs.Kinds.{kind}
-use Rattle.iloc_timed.specs.declared.latencies.Latencies.{Latencies}
-use Rattle.iloc_sched.specs.Steps.Graph.{IsGraphOf}
+use Rattle.std.proofs.Common.{◌+◌, ◌≤◌}
 use Rattle.iloc_sched.specs.Steps.Successors.{IsCounting}
 use Rattle.iloc_sched.specs.Steps.Views.{graph_of}
 use Rattle.iloc_sched.proofs.ranking.successors.count_uses.Given as goal
 
 abbrev pub invariant-loop-x : goal.invariant-loop-x
 invariant-loop-x l = record {
-  size : length l.found.items ≡ length l.fn.found.items;
-  low : (graph_of l.edges).start l.j ≤ l.x;
-  high : l.x ≤ (graph_of l.edges).start (l.j + 1);
-  counting : (lat : Latencies) (ops : List Op) → IsGraphOf lat ops (graph_of l.edges) → l.kinds ≡ map kind ops
-      → IsCounting ops (graph_of l.edges) l.fn.found.items l.found.items l.j l.x;
+  low : (graph_of l.tables.edges).start l.j ≤ l.x;
+  high : l.x ≤ (graph_of l.tables.edges).start (l.j + 1);
+  counting : IsCounting l.tables.ops.items (graph_of l.tables.edges) l.fn.found.items l.found.items l.j l.x;
 }
