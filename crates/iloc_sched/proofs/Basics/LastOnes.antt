@@ -3,9 +3,6 @@ use Rattle.std.proofs.Common.{◌≡◌, ℕ, ◌+◌, ◌<◌, Option, Some, No
 use Rattle.iloc_sched.specs.Steps.Graph.{IsLast}
 use Rattle.iloc_sched.proofs.Basics.Cases.{by_eq, by_lt}
 
-pub last_none : (P : ℕ → Type 0) → IsLast P 0 None
-last_none P = λ k below here. absurd (omega arith)
-
 -- it depends only on what holds below n
 pub last_same : (P Q : ℕ → Type 0) (n : ℕ) (o : Option ℕ) → ((k : ℕ) → k < n → P k → Q k)
     → ((k : ℕ) → k < n → Q k → P k) → IsLast P n o → IsLast Q n o

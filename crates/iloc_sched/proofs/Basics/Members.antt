@@ -4,7 +4,7 @@ use Rattle.std.specs.Prelude.{slice_index_or, Contains, filter}
 use Rattle.std.specs.List.{list_any, list_all, range_with_len}
 use Rattle.std.proofs.lemmas.Bool.{or_cases, and_cases, true≢false, cases_eq}
 use Rattle.iloc_meaning.proofs.Cases.{by_bool}
-use Rattle.iloc_sched.specs.Steps.Members.{In, AreApart}
+use Rattle.iloc_sched.specs.Steps.Members.{In}
 
 pub contains_from : {X : Type 0} → (xs : List X) (x : X) → In xs x → Contains xs x
 contains_from [] x there = absurd there
@@ -130,9 +130,3 @@ from_range a zero k there = absurd there
 from_range a (suc n) k (inl here) = omega arith
 from_range a (suc n) k (inr there) = let rest : (a + 1 ≤ k) × (k < a + 1 + n) = from_range (a + 1) n k there in
     omega arith
-
--- what stands before x isn't x
-pub split_apart : (xs : List ℕ) (x : ℕ) (ys : List ℕ) → AreApart (xs ++ x ∷ ys) → In xs x → ⊥
-split_apart [] x ys apart held = held
-split_apart (z ∷ xs) x ys apart (inl same) = apart.0 (in_right xs (x ∷ ys) z (inl (sym same)))
-split_apart (z ∷ xs) x ys apart (inr held) = split_apart xs x ys apart.1 held

@@ -1,12 +1,12 @@
 -- In which slots of a table its operations stand, each in one; for the laws on lawful schedules.
 use Rattle.std.proofs.Common.{◌≡◌, ℕ, ◌+◌, ◌<◌, ◌≤◌, zero, suc, Bool, true, false, cond, List, [], ◌∷◌, ◌++◌, length, Some, inl, inr, refl, ap, sym, ◌∙◌, subst, arith, add-one}
 use Rattle.std.specs.Prelude.{option_to_list, count_by, ◌==◌}
-use Rattle.std.specs.List.{list_any}
-use Rattle.std.proofs.lemmas.Bool.{cases_eq, or_parts, eq-eqb, eqb-true}
+use Rattle.std.proofs.lemmas.Bool.{cases_eq, eq-eqb, eqb-true}
 use Rattle.std.proofs.lemmas.List.Sums.{sum_by-cons}
 use Rattle.iloc_ops.specs.declared.op.Op.{Op}
 use Rattle.iloc_timed.specs.declared.row.Row.{Row}
 use Rattle.iloc_timed.specs.Rows.{row_at, slots, holds, issue_cycle, times_issued, IsTable}
+use Rattle.iloc_timed.proofs.Counts.{count_by_some, count_by_none}
 use Rattle.iloc_meaning.proofs.Cases.{by_bool}
 use Rattle.iloc_sched.specs.Steps.Members.{In}
 use Rattle.iloc_sched.proofs.Basics.Members.{contains_from, from_append, in_left, in_right, any_at, from_any}
@@ -16,21 +16,8 @@ pub count_by-cons : {X : Type 0} → (p : X → Bool) (x : X) (xs : List X)
     → count_by p (x ∷ xs) ≡ cond (p x) 1 0 + count_by p xs
 count_by-cons p x xs = sum_by-cons (λ y. cond (p y) 1 0) x xs
 
-pub count_none : {X : Type 0} → (p : X → Bool) (xs : List X) → list_any p xs ≡ false → count_by p xs ≡ 0
-count_none p [] none = refl
-count_none p (x ∷ xs) none =
-    let parts = or_parts (p x) (list_any p xs) none in
-    count_by-cons p x xs ∙ rw (parts.0, count_none p xs parts.1) refl
-
 pub count_some : {X : Type 0} → (p : X → Bool) (xs : List X) (x : X) → In xs x → p x ≡ true → 1 ≤ count_by p xs
-count_some p [] x there passes = absurd there
-count_some p (y ∷ xs) x (inl here) passes =
-    let same : p y ≡ true = ap p here ∙ passes in
-    let one : cond {A = ℕ} (p y) 1 0 ≡ 1 = rw same refl in
-    subst (λ n. 1 ≤ n) (sym (count_by-cons p y xs)) (omega arith)
-count_some p (y ∷ xs) x (inr there) passes =
-    let rest : 1 ≤ count_by p xs = count_some p xs x there passes in
-    subst (λ n. 1 ≤ n) (sym (count_by-cons p y xs)) (omega arith)
+count_some p xs x there passes = count_by_some p xs (any_at p xs x there passes)
 
 -- in how many slots of the row operation i stands
 abbrev pub count_in : Row → ℕ → ℕ
@@ -52,7 +39,7 @@ pub count_in_some : (row : Row) (i : ℕ) → In (slots row) i → 1 ≤ count_i
 count_in_some row i there = count_some (λ j. i == j) (slots row) i there (eq-eqb i i refl)
 
 pub count_in_none : (row : Row) (i : ℕ) → holds row i ≡ false → count_in row i ≡ 0
-count_in_none row i none = count_none (λ j. i == j) (slots row) none
+count_in_none row i none = count_by_none (λ j. i == j) (slots row) none
 
 pub count_in_twice : (row : Row) (i : ℕ) → row.one ≡ Some i → row.zero ≡ Some i → 2 ≤ count_in row i
 count_in_twice row i one two =

@@ -1,13 +1,17 @@
 -- How many numbers pass a test; for `laws::least_bounds_the_cycles`.
 use Rattle.std.proofs.Common.{◌≡◌, ◌∙◌, ℕ, ◌+◌, ◌<◌, ◌≤◌, ◌/◌, zero, suc, Bool, true, false, cond, ◌&&◌, ◌||◌, ◌==◌, List, [], ◌∷◌, ◌++◌, length, map, filter, get_or, refl, sym, ap, ap₂, subst₂, inl, inr, arith}
 use Rattle.std.specs.Prelude.{count_by, nat_le}
-use Rattle.std.specs.List.{range_with_len}
+use Rattle.std.specs.List.{list_any, range_with_len}
 use Rattle.std.specs.List.Sorted.{IsPermutation}
 use Rattle.std.proofs.Math.Nat.{div-mul-le_self}
 use Rattle.std.proofs.lemmas.Nat.{le-div}
 use Rattle.std.proofs.lemmas.Bool.Decides.{nat_tests}
 use Rattle.std.proofs.lemmas.List.Sorted.{sum_by-IsPermutation}
+use Rattle.std.proofs.lemmas.List.Sums.{sum_by-append}
+use Rattle.iloc_meaning.proofs.Cases.{by_bool}
+use Rattle.iloc_timed.proofs.Counts.{count_by_none}
 use Rattle.iloc_sched.specs.Steps.Members.{In}
+use Rattle.iloc_sched.proofs.Basics.Members.{from_any}
 use Rattle.iloc_sched.proofs.Basics.Slots.{count_by-cons}
 
 pub count-permutation : {X : Type 0} → (p : X → Bool) (xs ys : List X) → IsPermutation xs ys
@@ -15,25 +19,14 @@ pub count-permutation : {X : Type 0} → (p : X → Bool) (xs ys : List X) → I
 count-permutation p xs ys h = sum_by-IsPermutation (λ y. cond (p y) 1 0) xs ys h
 
 pub count-append : {X : Type 0} → (p : X → Bool) (xs ys : List X) → count_by p (xs ++ ys) ≡ count_by p xs + count_by p ys
-count-append p [] ys = omega arith
-count-append p (x ∷ xs) ys =
-    let rest = count-append p xs ys in
-    let both = count_by-cons p x (xs ++ ys) in
-    let mine = count_by-cons p x xs in omega arith
+count-append p xs ys = sum_by-append (λ x. cond (p x) 1 0) xs ys
 
 -- none is counted that fails
 pub count-never : {X : Type 0} → (p : X → Bool) (xs : List X) → ((x : X) → In xs x → p x ≡ true → ⊥)
     → count_by p xs ≤ 0
-count-never p [] h = omega arith
-count-never {X} p (x ∷ xs) h =
-    let rest : count_by p xs ≤ 0 = count-never p xs (λ y there. h y (inr there)) in
-    let first : cond {A = ℕ} (p x) 1 0 ≤ 0 = by (p x) (h x (inl refl)) in
-    let here = count_by-cons p x xs in
-    omega arith
-  where
-    by : (a : Bool) → (a ≡ true → ⊥) → cond {A = ℕ} a 1 0 ≤ 0
-    by false h = omega arith
-    by true h = absurd (h refl)
+count-never p xs h = by_bool (list_any p xs)
+    (λ some. let found = from_any p xs some in absurd (h found.0 found.1 found.2))
+    (λ none. omega (arith, count_by_none p xs none))
 
 -- the tests of counts
 
@@ -45,10 +38,6 @@ is_at_least q p le = grind (arith, nat_tests)
 
 pub both : (a b : Bool) → a ≡ true → b ≡ true → (a && b) ≡ true
 both a b one other = rw (one, other) refl
-
-pub both_true : (a b : Bool) → (a && b) ≡ true → (a ≡ true) × (b ≡ true)
-both_true true b h = (refl, h)
-both_true false b h = cc
 
 pub count-map : {X Y : Type 0} → (p : Y → Bool) (f : X → Y) (xs : List X)
     → count_by p (map f xs) ≡ count_by (λ x. p (f x)) xs

@@ -3,7 +3,7 @@ use Rattle.std.proofs.Common.{◌≡◌, ◌∙◌, ℕ, ◌+◌, ◌-◌, ◌*�
 use Rattle.std.specs.Prelude.{count_by, nat_le, nat_lt, slice_index, fold}
 use Rattle.std.specs.List.{range_with_len}
 use Rattle.std.proofs.Math.Nat.{mul-suc, mul-div-le, mul-le-mul_left}
-use Rattle.std.proofs.lemmas.Bool.{cases_lt}
+use Rattle.std.proofs.lemmas.Bool.{and_parts, cases_lt}
 use Rattle.std.proofs.lemmas.Bool.Decides.{nat_tests}
 use Rattle.std.proofs.lemmas.List.Sums.{length-filter}
 use Rattle.iloc_ops.specs.declared.op.Op.{Op}
@@ -25,7 +25,7 @@ use Rattle.iloc_sched.proofs.Basics.Maxima.{fold_max_reached}
 use Rattle.iloc_sched.proofs.Basics.Slots.{numbers_before, early_issued, issued_early, count_by-cons}
 use Rattle.iloc_sched.proofs.DelayPairs.DelayBounds.{in_when, delay_at_most}
 use Rattle.iloc_sched.proofs.PriorityValues.Longest.{Reached, from_reaches, outer_pair}
-use Rattle.iloc_sched.proofs.Bounds.Counting.{count-append, count-never, count-map, count-filter, count-mono, both_true, among, in_among, among-short, both, at_least}
+use Rattle.iloc_sched.proofs.Bounds.Counting.{count-append, count-never, count-map, count-filter, count-mono, among, in_among, among-short, both, at_least}
 use Rattle.iloc_sched.proofs.Bounds.Packing.{needed_mono}
 use Rattle.iloc_sched.proofs.Bounds.RowsHold.{Holds, is_kind}
 
@@ -51,7 +51,7 @@ between a c x = nat_le a x && nat_lt x c
 
 is_between : (a c x : ℕ) → between a c x ≡ true → (a ≤ x) × (x < c)
 is_between a c x h =
-    let parts = both_true (nat_le a x) (nat_lt x c) h in
+    let parts = and_parts (nat_le a x) (nat_lt x c) h in
     let low : nat_le a x ≡ true = parts.0 in
     let high : nat_lt x c ≡ true = parts.1 in
     (at_least a x low, grind (arith, nat_tests))
@@ -94,7 +94,7 @@ key width p q n t f a limit some crowd each start =
           let inside : count_by (λ i. q i && nat_le b (f i)) range
           ≤ count_by (λ i. p i && between a (limit - b + 1) (t i)) range =
           count-mono (λ i. q i && nat_le b (f i)) (λ i. p i && between a (limit - b + 1) (t i)) range (λ i inn passes.
-          let parts = both_true (q i) (nat_le b (f i)) passes in
+          let parts = and_parts (q i) (nat_le b (f i)) passes in
           let under = (from_range 0 n i inn).1 in
           let its = each i (omega arith) parts.0 in
           let reach : b ≤ f i = at_least b (f i) parts.1 in
@@ -126,7 +126,7 @@ numbers_few test width ops rows table holds a (suc c) =
       | inl early ↦
           (let none : count_by p (numbers_before rows (suc c)) ≤ 0 =
           count-never p (numbers_before rows (suc c)) (λ i there passes.
-          let parts = both_true (is_kind test ops i) (nat_le a (issue_cycle rows i)) passes in
+          let parts = and_parts (is_kind test ops i) (nat_le a (issue_cycle rows i)) passes in
           let late : a ≤ issue_cycle rows i = at_least a (issue_cycle rows i) parts.1 in
           let soon : issue_cycle rows i < suc c = (issued_early ops rows table (suc c) i there).1 in
           absurd (omega arith)) in
@@ -136,7 +136,7 @@ numbers_few test width ops rows table holds a (suc c) =
           numbers_few test width ops rows table holds a c in
           let fewer : count_by p (slots (row_at rows c)) ≤ count_by (is_kind test ops) (slots (row_at rows c)) =
           count-mono p (is_kind test ops) (slots (row_at rows c)) (λ i there passes.
-          (both_true (is_kind test ops i) (nat_le a (issue_cycle rows i)) passes).0) in
+          (and_parts (is_kind test ops i) (nat_le a (issue_cycle rows i)) passes).0) in
           let here : count_by (is_kind test ops) (slots (row_at rows c)) ≤ width =
           holds (row_at rows c) (table.units c) in
           let sum = count-append p (slots (row_at rows c)) (numbers_before rows c) in
@@ -155,8 +155,8 @@ crowd_of test width ops rows table holds a c =
     let early : List ℕ = filter p (numbers_before rows c) in
     let inside : count_by q range ≤ count_by (among early) range =
     count-mono q (among early) range (λ i there passes.
-    let parts = both_true (is_kind test ops i) (between a c (issue_cycle rows i)) passes in
-    let when_issued = both_true (nat_le a (issue_cycle rows i)) (nat_lt (issue_cycle rows i) c) parts.1 in
+    let parts = and_parts (is_kind test ops i) (between a c (issue_cycle rows i)) passes in
+    let when_issued = and_parts (nat_le a (issue_cycle rows i)) (nat_lt (issue_cycle rows i) c) parts.1 in
     let time = is_between a c (issue_cycle rows i) parts.1 in
     let below = (from_range 0 (length ops) i there).1 in
     in_among early i (in_filter p (numbers_before rows c) i
@@ -316,7 +316,7 @@ serial_few p a c k (suc n) =
     by_bool (q k)
     (λ is.
     let one : cond {A = ℕ} (q k) 1 0 ≡ 1 = ap (λ b. cond {A = ℕ} b 1 0) is in
-    let time = is_between a c (16 * k) (both_true (p k) (between a c (16 * k)) is).1 in
+    let time = is_between a c (16 * k) (and_parts (p k) (between a c (16 * k)) is).1 in
     let low : a ≤ 16 * k = time.0 in
     let high : 16 * k < c = time.1 in
     omega arith)

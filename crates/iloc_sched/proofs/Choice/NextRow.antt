@@ -186,18 +186,6 @@ count_after p w w1 w2 w3 c a (Some b) same first second =
     count_issued (issued_list w2) (issued_list w3) b.number c second.issued second.there second.waiting in
     omega arith
 
-pub count_none : (p : Plan) (w w1 w2 : Waiting) (c : ℕ) → issued_list w1 ≡ issued_list w
-    → IssuesAny p w1 w2 c None → waiting_count w2 + 0 ≡ waiting_count w
-count_none p w w1 w2 c same none =
-    let start : waiting_count w1 ≡ waiting_count w = ap (count_by is_none) same in
-    let end : waiting_count w2 ≡ waiting_count w1 = ap (count_by is_none) none.1 in
-    omega arith
-
-number_is : (b : Option Choice) (j : ℕ) → number_of b ≡ Some j → (x : Choice) × (b ≡ Some x)
-    × (j ≡ x.number)
-number_is None j is = cc
-number_is (Some x) j is = (x, refl, sym (same_some (Some j) x.number j (sym is) refl))
-
 -- a first choice, and perhaps a second
 pub so_far_row : (p : Plan) (w w1 w2 w3 : Waiting) (rows rows' : List Row) (row : Row)
     (a : Choice) (b : Option Choice) → IsPlan p → IsSoFar p w rows → issued_list w1 ≡ issued_list w

@@ -1,7 +1,6 @@
 -- What stands last before the next operation, once one more is noted; for `Lasts::note`.
-use Rattle.std.proofs.Common.{◌≡◌, ℕ, ◌+◌, ◌<◌, ◌≤◌, Bool, true, false, List, [], ◌∷◌, ◌++◌, length, Option, Some, inl, inr, refl, sym, ◌∙◌, ap, subst, arith}
+use Rattle.std.proofs.Common.{◌≡◌, ℕ, ◌+◌, ◌<◌, Bool, true, false, List, [], ◌∷◌, ◌++◌, Option, Some, inl, inr, refl, sym, ◌∙◌, ap, subst, arith}
 use Rattle.std.proofs.lemmas.Bool.{false≢true}
-use Rattle.std.proofs.lemmas.List.{length-append}
 use Rattle.iloc_ops.specs.declared.op.Reg.{Reg}
 use Rattle.iloc_ops.specs.declared.op.Op.{Op}
 use Rattle.iloc_ops.specs.Registers.{defined}
@@ -14,7 +13,7 @@ use Rattle.iloc_sched.specs.Steps.ByRegister.{number_at}
 use Rattle.iloc_sched.specs.declared.edges.lasts.Lasts.{Lasts}
 use Rattle.iloc_sched.specs.Steps.Members.{In}
 use Rattle.iloc_sched.specs.Steps.Graph.{IsLast}
-use Rattle.iloc_sched.specs.Steps.Lasts.{NotesDefiner, NotesKind, IsLasts, NoStoreBetween, loads_before}
+use Rattle.iloc_sched.specs.Steps.Lasts.{NotesDefiner, NotesKind, IsLasts, NoStoreBetween}
 use Rattle.iloc_sched.proofs.Basics.Registers.{is_register_same, is_register_from}
 use Rattle.iloc_meaning.proofs.Cases.{by_bool}
 use Rattle.iloc_sched.proofs.Basics.Cases.{by_eq}
@@ -170,12 +169,3 @@ noted_in_turn ops j old mid new op k is op_is kind_is notes same rest definers =
     (subst (λ o. NotesDefiner o mid.definers new.definers j) op_is definers))
     (subst (λ q. NotesKind q old new j) (kind_is ∙ ap kind op_is)
     (subst (λ (n : Lasts). NotesKind k old n j) (sym rest) (same_kind k old mid new.definers j notes)))
-
--- the loads since the last store are one more at most, and at a store they are gone
-pub loads_noted : (k : Kind) (j : ℕ) (old new : Lasts) → NotesKind k old new j
-    → length new.loads.items + loads_before k old ≤ length old.loads.items + 1
-loads_noted K.Load j old new notes = let size : length new.loads.items ≡ length (old.loads.items ++ j ∷ []) =
-    ap (length {A = ℕ}) notes.2 in omega (arith, length-append old.loads.items (j ∷ []))
-loads_noted K.Store j old new notes = let size : length new.loads.items ≡ 0 = ap (length {A = ℕ}) notes.2 in omega arith
-loads_noted _ j old new notes = let size : length new.loads.items ≡ length old.loads.items =
-    ap (length {A = ℕ}) notes.2 in omega arith
