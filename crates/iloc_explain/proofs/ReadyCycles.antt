@@ -13,10 +13,11 @@ use Rattle.iloc_timed.specs.declared.row.Row.{Row}
 use Rattle.iloc_timed.specs.Kinds.{kind, is_load, is_memory, is_store, is_output}
 use Rattle.iloc_timed.specs.Latency.{latency}
 use Rattle.iloc_timed.specs.Rows.{issue_cycle}
+use Rattle.iloc_timed.proofs.Greatest.{le_fold_max}
 use Rattle.iloc_sched.specs.Delays.{uses_result, reads_stored, keeps_order, when, memory_delays, delays}
 use Rattle.iloc_sched.specs.Steps.Members.{In}
 use Rattle.iloc_sched.proofs.Basics.Members.{contains_from, in_from, in_left, in_right, from_append, in_map, from_map, any_at, from_any}
-use Rattle.iloc_sched.proofs.Basics.Maxima.{fold_max_start, fold_max_each, fold_max_reached, max_is}
+use Rattle.iloc_sched.proofs.Basics.Maxima.{fold_max_each, fold_max_reached, max_is}
 use Rattle.iloc_sched.proofs.DelayPairs.DelayBounds.{in_when, from_when}
 use Rattle.iloc_explain.specs.declared.latest.Latest.{Latest}
 use Rattle.iloc_explain.specs.Waiting.{IsReadyAt}
@@ -182,12 +183,12 @@ module _ (lat : Latencies) (ops : List Op) (rows : List Row) (j : ℕ) (l : Late
   over op i d before (Reads reads at) =
       let low : arrival lat ops rows i ≤ by_kind l (kind op) = stored_by (kind op) i before reads in
       let most : by_kind l (kind op) ≤ ready_after l op =
-      fold_max_start (by_kind l (kind op)) (map (result_of l) (used op)) in
+      le_fold_max (by_kind l (kind op)) (map (result_of l) (used op)) in
       omega arith
   over op i d before (Keeps keeps at) =
       let low : next_cycle lat ops rows i ≤ by_kind l (kind op) = ordered_by (kind op) i before keeps in
       let most : by_kind l (kind op) ≤ ready_after l op =
-      fold_max_start (by_kind l (kind op)) (map (result_of l) (used op)) in
+      le_fold_max (by_kind l (kind op)) (map (result_of l) (used op)) in
       omega arith
 
   pub is_ready : j < length ops → IsReadyAt lat ops rows j (ready_after l (op_at ops j))

@@ -8,9 +8,10 @@ use Rattle.iloc_timed.specs.declared.kind.Kind.{Kind}
 use Rattle.iloc_timed.specs.declared.kind.Kind.TheVariants as K
 use Rattle.iloc_timed.specs.declared.latencies.Latencies.{Latencies}
 use Rattle.iloc_timed.specs.Kinds.{kind}
+use Rattle.iloc_timed.proofs.Greatest.{le_fold_max}
 use Rattle.iloc_sched.specs.Steps.Members.{In}
 use Rattle.iloc_sched.proofs.Basics.Members.{in_map, from_map}
-use Rattle.iloc_sched.proofs.Basics.Maxima.{fold_max_start, fold_max_each, fold_max_reached}
+use Rattle.iloc_sched.proofs.Basics.Maxima.{fold_max_each, fold_max_reached}
 use Rattle.iloc_validation.specs.declared.waits.Waits.{Waits}
 use Rattle.iloc_validation.specs.Steps.Waits.{memory_by, earliest, wait_of, noted}
 
@@ -30,7 +31,7 @@ module _ (lat : Latencies) (block : List Op) (cycle : ℕ → ℕ) where
   waited_for zero k c over i d before there = absurd (omega arith)
   waited_for (suc j) k c over i d before there =
       let earlier : earliest lat block cycle j k ≤ earliest lat block cycle (suc j) k =
-      fold_max_start (earliest lat block cycle j k) (map (λ e. cycle j + e) (memory_by lat (kind (op_at block j)) k)) in
+      le_fold_max (earliest lat block cycle j k) (map (λ e. cycle j + e) (memory_by lat (kind (op_at block j)) k)) in
       elim (cases_eq i j) [
         | inl last ↦
             let here : In (memory_by lat (kind (op_at block j)) k) d =

@@ -2,15 +2,12 @@
 use Rattle.std.proofs.Common.{◌≡◌, ℕ, ◌≤◌, List, [], ◌∷◌, ◌⊎◌, inl, inr, refl, sym, ◌∙◌, arith}
 use Rattle.std.specs.Prelude.{max, fold}
 use Rattle.std.proofs.lemmas.Bool.{cases_lt}
+use Rattle.iloc_timed.proofs.Greatest.{le_fold_max}
 use Rattle.iloc_sched.specs.Steps.Members.{In}
-
-pub fold_max_start : (a : ℕ) (xs : List ℕ) → a ≤ fold max a xs
-fold_max_start a [] = omega arith
-fold_max_start a (x ∷ xs) = let rest : max a x ≤ fold max (max a x) xs = fold_max_start (max a x) xs in omega arith
 
 pub fold_max_each : (a : ℕ) (xs : List ℕ) (x : ℕ) → In xs x → x ≤ fold max a xs
 fold_max_each a [] x there = absurd there
-fold_max_each a (y ∷ ys) x (inl here) = let rest : max a y ≤ fold max (max a y) ys = fold_max_start (max a y) ys in
+fold_max_each a (y ∷ ys) x (inl here) = let rest : max a y ≤ fold max (max a y) ys = le_fold_max (max a y) ys in
     omega arith
 fold_max_each a (y ∷ ys) x (inr there) = fold_max_each (max a y) ys x there
 
