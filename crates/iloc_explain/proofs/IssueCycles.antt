@@ -61,10 +61,6 @@ pub slot_known : (slot : Option ℕ) (n m : ℕ) → n ≡ m → IfSome slot (λ
 slot_known None n m same known = tt
 slot_known (Some i) n m same known = let below : i < m = known in omega arith
 
--- nothing of so many operations was noted before the first row
-pub none_issued : (rows : List Row) (cycles : List ℕ) (count : ℕ) → length cycles ≡ count → AreIssued rows count 0 cycles
-none_issued rows cycles count size = record { size = size; each = λ i within before. absurd (omega arith) }
-
 module _ (ops : List Op) (rows : List Row) (table : IsTable ops rows) (c : ℕ) (here : c < length rows) where
   at_here : (i : ℕ) → i < length ops → holds (row_at rows c) i ≡ true → issue_cycle rows i ≡ c
   at_here i within there = issued_there rows c i (table.once i within) here there

@@ -1,9 +1,7 @@
 -- How many operations are like one, and like it so far.
-use Rattle.std.proofs.Common.{◌≡◌, ◌<◌, ◌≤◌, ℕ, suc, ◌+◌, Bool, true, false, cond, List, [], ◌∷◌, length, take, get_or, inl, inr, refl, sym, ap, ◌∙◌, subst, arith}
+use Rattle.std.proofs.Common.{◌≡◌, ◌<◌, ◌≤◌, ℕ, suc, ◌+◌, Bool, true, false, cond, List, [], ◌∷◌, length, take, get_or, refl, sym, ap, ◌∙◌, subst, arith}
 use Rattle.std.specs.Prelude.{count_by}
-use Rattle.std.proofs.lemmas.Bool.{cases_lt}
-use Rattle.std.proofs.lemmas.List.{take-take}
-use Rattle.std.proofs.lemmas.List.Sums.{count_by_more_yes, count_by_more_no, sum_by-take-le, sum_by_more_le, sum_by-cons}
+use Rattle.std.proofs.lemmas.List.Sums.{count_by_more_yes, count_by_more_no, sum_by_more_le, sum_by-cons}
 use Rattle.iloc_ops.specs.declared.op.Op.{Op}
 use Rattle.iloc_ops.specs.declared.op.Op.TheVariants.{Nop}
 use Rattle.iloc_meaning.specs.Trace.{op_at}
@@ -16,11 +14,6 @@ counted p xs i d within passes =
     let one : cond {A = ℕ} (p (get_or xs i d)) 1 0 ≡ 1 = ap (λ b. cond {A = ℕ} b 1 0) passes in
     let all = sum_by_more_le (λ x. cond {A = ℕ} (p x) 1 0) xs i d within in
     subst (λ n. count_by p (take i xs) + n ≤ count_by p xs) one all
-
-pub count_so_far : {X : Type 0} → (p : X → Bool) (xs : List X) (i j : ℕ) → i ≤ j → count_by p (take i xs) ≤ count_by p (take j xs)
-count_so_far p xs i j before =
-    subst (λ (ys : List _). count_by p ys ≤ count_by p (take j xs)) (take-take i j xs before)
-    (sum_by-take-le (λ x. cond {A = ℕ} (p x) 1 0) (take j xs) i)
 
 -- lists that pass the same tests at the same places count the same
 pub counts_same : {X Y : Type 0} → (p : X → Bool) (q : Y → Bool) (xs : List X) (ys : List Y) (d : X) (e : Y)
@@ -45,20 +38,3 @@ module _ (op : Op) (ops : List Op) (k : ℕ) (within : k < length ops) where
 
   pub one_counted : are_alike op (op_at ops k) ≡ true → count_like op (take k ops) + 1 ≤ count_like op ops
   one_counted alike = counted (are_alike op) ops k Nop within alike
-
--- of those like an operation only one has so many before it
-pub one_place : (op : Op) (ops : List Op) (j k : ℕ) → j < length ops → k < length ops → are_alike op (op_at ops j) ≡ true
-    → are_alike op (op_at ops k) ≡ true → count_like op (take j ops) ≡ count_like op (take k ops) → j ≡ k
-one_place op ops j k here there alike alike_too same = elim (cases_lt j k) [
-  | inl before ↦
-      let more = one_more op ops j here alike in
-      let far : count_like op (take (j + 1) ops) ≤ count_like op (take k ops) = count_so_far (are_alike op) ops (j + 1) k (omega arith) in
-      absurd (omega (arith, more, far))
-  | inr later ↦ elim (cases_lt k j) [
-    | inl before ↦
-        let more = one_more op ops k there alike_too in
-        let far : count_like op (take (k + 1) ops) ≤ count_like op (take j ops) = count_so_far (are_alike op) ops (k + 1) j (omega arith) in
-        absurd (omega (arith, more, far))
-    | inr other ↦ omega arith
-  ]
-]

@@ -1,6 +1,6 @@
 -- Of the operations like one the one that has so many before it: chains of them, and counterparts.
 use Rattle.std.proofs.Common.{◌≡◌, ◌<◌, ◌≤◌, ℕ, ◌+◌, true, false, List, length, take, get_or, Option, Some, None, inl, inr, refl, sym, ap, ◌∙◌, subst, arith, get_or-set_same, get_or-set_other}
-use Rattle.std.specs.Prelude.{is_none, count_by, slice_set, slice_index, unwrap_or, IfNone, IfSome}
+use Rattle.std.specs.Prelude.{is_none, count_by, slice_set, IfNone, IfSome}
 use Rattle.std.specs.List.{range_with_len}
 use Rattle.std.proofs.lemmas.Bool.{cases_eq, le-leb, lt-leb, true≢false}
 use Rattle.std.proofs.Math.Seq.{take-length}
@@ -14,7 +14,7 @@ use Rattle.iloc_validation.specs.declared.counterparts.unpaired.Unpaired.{Unpair
 use Rattle.iloc_validation.specs.Counts.{are_alike, count_like, lacks_counterpart, lacking, IsShort}
 use Rattle.iloc_validation.specs.Steps.Counterparts.{first_like, SetsLike, noted_at, IsNth, AreChained, IsCounterpart, AreCounterparts}
 use Rattle.iloc_validation.proofs.AlikeOps.{alike_itself, alike_same, alike_back, count_same}
-use Rattle.iloc_validation.proofs.CountsLike.{counts_same, counted, one_more, no_more, one_counted}
+use Rattle.iloc_validation.proofs.CountsLike.{counts_same, one_more, no_more, one_counted}
 
 -- where two operations are alike, the same is true of the other
 nth_like : (ops : List Op) (a b : Op) (n : ℕ) (o : Option ℕ) → are_alike a b ≡ true → IsNth ops a n o → IsNth ops b n o
@@ -169,30 +169,3 @@ module _ (ops others : List Op) (counterparts : List (Option ℕ)) (are : AreCou
       subst (IsCounterpart ops others i) none (are.each i within) in
       let one = one_counted (op_at ops i) ops i within (alike_itself (op_at ops i)) in
       omega (arith, few, one)
-
-  pub found_some : (i : ℕ) → i < length ops → lacking ops others ≡ 0 → (k : ℕ) × (noted_at counterparts i ≡ Some k)
-  found_some i within none = of_option (noted_at counterparts i) refl
-    where
-      of_option : (o : Option ℕ) → noted_at counterparts i ≡ o → (k : ℕ) × (noted_at counterparts i ≡ Some k)
-      of_option None is =
-          let one = counted is_none counterparts i None (omega (arith, are.size)) (ap is_none is) in
-          let all : count_by is_none counterparts ≡ 0 = lacking_is ∙ none in
-          absurd (omega (arith, one, all))
-      of_option (Some k) is = (k, is)
-
--- each operation of one side leads to one of the other from which it is led back to
-module _ (ops others : List Op) (there back : List (Option ℕ)) (are : AreCounterparts ops others there)
-    (are_too : AreCounterparts others ops back) (numbers numbers_back : List ℕ)
-    (each : (k : ℕ) → k < length ops → slice_index numbers k ≡ unwrap_or (noted_at there k) 0)
-    (each_back : (k : ℕ) → k < length others → slice_index numbers_back k ≡ unwrap_or (noted_at back k) 0)
-    (none : lacking ops others ≡ 0) (none_back : lacking others ops ≡ 0) where
-  pub led : (k : ℕ) → k < length ops
-      → (slice_index numbers k < length others) × (are_alike (op_at ops k) (op_at others (slice_index numbers k)) ≡ true)
-      × (count_like (op_at ops k) (take (slice_index numbers k) others) ≡ count_like (op_at ops k) (take k ops))
-  led k within =
-      let found = found_some ops others there are k within none in
-      let is : slice_index numbers k ≡ found.0 = each k within ∙ ap (λ o. unwrap_or o 0) found.1 in
-      let nth : IsNth others (op_at ops k) (count_like (op_at ops k) (take k ops)) (Some found.0) =
-      subst (IsNth others (op_at ops k) (count_like (op_at ops k) (take k ops))) found.1 (are.each k within) in
-      subst (λ n. (n < length others) × (are_alike (op_at ops k) (op_at others n) ≡ true)
-      × (count_like (op_at ops k) (take n others) ≡ count_like (op_at ops k) (take k ops))) (sym is) nth

@@ -68,10 +68,6 @@ slot_known None n m same known = tt
 slot_known (Some i) n m same known = let below : i < m = known in omega arith
 
 module _ (lat : Latencies) (ops : List Op) (rows : List Row) where
-  -- before the first row nothing is noted
-  pub none_noted : (readings : List Reading) → length readings ≡ length ops → AreNoted lat ops rows 0 readings
-  none_noted readings size = record { size = size; each = λ k within before. absurd (omega arith) }
-
   module _ (table : IsTable ops rows) (c : ℕ) where
     stands : (k : ℕ) → k < length ops → issue_cycle rows k ≡ c
         → ((row_at rows c).zero ≡ Some k) ⊎ ((row_at rows c).one ≡ Some k)
