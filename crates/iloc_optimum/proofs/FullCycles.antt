@@ -1,34 +1,20 @@
 -- Windows that fill their cycles keep the other operations of the share out.
-use Rattle.std.proofs.Common.{◌≡◌, ◌∙◌, ℕ, ◌+◌, ◌-◌, ◌*◌, ◌<◌, ◌≤◌, zero, suc, Bool, true, false, cond, ◌&&◌, List, [], ◌∷◌, length, get_or, refl, sym, ap, subst, add-one, ◌⊎◌, inl, inr, arith}
+use Rattle.std.proofs.Common.{◌≡◌, ◌∙◌, ℕ, ◌+◌, ◌-◌, ◌*◌, ◌<◌, ◌≤◌, zero, suc, Bool, true, false, cond, ◌&&◌, List, [], length, get_or, refl, sym, ap, subst, add-one, ◌⊎◌, inl, inr, arith}
 use Rattle.std.specs.Prelude.{count_by, nat_le, nat_lt}
 use Rattle.std.specs.List.{range_with_len}
-use Rattle.std.proofs.lemmas.Bool.{cases_lt}
+use Rattle.std.proofs.lemmas.Bool.{and_parts, cases_lt}
 use Rattle.std.proofs.lemmas.Bool.Decides.{nat_tests}
-use Rattle.std.proofs.lemmas.List.Sums.{sum_by-cons}
 use Rattle.iloc_timed.specs.declared.kind.Kind.{Kind}
 use Rattle.iloc_sched.specs.declared.lower_bound.share.Share.{Share}
 use Rattle.iloc_optimum.specs.Timing.{Within, Crowd, between, belongs}
 use Rattle.iloc_optimum.specs.Steps.Inside.{is_inside, count_inside}
 use Rattle.iloc_sched.specs.Shares.{width}
-
-pub count-cons : {X : Type 0} → (p : X → Bool) (x : X) (xs : List X) → count_by p (x ∷ xs) ≡ cond (p x) 1 0 + count_by p xs
-count-cons p x xs = sum_by-cons (λ y. cond (p y) 1 0) x xs
-
-pub both : (a b : Bool) → a ≡ true → b ≡ true → (a && b) ≡ true
-both a b one other = rw (one, other) refl
-
-pub both_true : (a b : Bool) → (a && b) ≡ true → (a ≡ true) × (b ≡ true)
-both_true true b h = (refl, h)
-both_true false b h = cc
-
-at_least : (q p : ℕ) → nat_le q p ≡ true → q ≤ p
-at_least q p h = grind (arith, nat_tests)
+use Rattle.iloc_sched.proofs.Basics.CountedRanges.{count_range}
+use Rattle.iloc_sched.proofs.Basics.Slots.{count_by-cons}
+use Rattle.iloc_sched.proofs.Bounds.Counting.{both, at_least}
 
 pub is_less : (q p : ℕ) → nat_lt q p ≡ true → q < p
 is_less q p h = grind (arith, nat_tests)
-
-pub is_at_least : (q p : ℕ) → q ≤ p → nat_le q p ≡ true
-is_at_least q p le = grind (arith, nat_tests)
 
 pub in_between : (a c x : ℕ) → a ≤ x → x < c → between a c x ≡ true
 in_between a c x low high =
@@ -38,17 +24,12 @@ in_between a c x low high =
 
 range_step : (p : ℕ → Bool) (a n j : ℕ) → a + n ≡ j
     → count_by p (range_with_len a (suc n)) ≡ count_by p (range_with_len a n) + cond (p j) 1 0
-range_step p a zero j e =
-    let same : a ≡ j = omega arith in
-    let here = count-cons p a [] in
+range_step p a n j e =
+    let more = count_range p a n 1 j e in
+    let size : count_by p (range_with_len a (suc n)) ≡ count_by p (range_with_len a (n + 1)) =
+    ap (λ k. count_by p (range_with_len a k)) (sym (add-one n)) in
+    let one = count_by-cons p j [] in
     let none : count_by p [] ≡ 0 = refl in
-    let value : cond {A = ℕ} (p a) 1 0 ≡ cond (p j) 1 0 = ap (λ k. cond {A = ℕ} (p k) 1 0) same in
-    omega arith
-range_step p a (suc n) j e =
-    let rest : count_by p (range_with_len (a + 1) (suc n)) ≡ count_by p (range_with_len (a + 1) n) + cond (p j) 1 0 =
-    range_step p (a + 1) n j (omega arith) in
-    let first = count-cons p a (range_with_len (a + 1) (suc n)) in
-    let short = count-cons p a (range_with_len (a + 1) n) in
     omega arith
 
 -- one more operation is counted where it passes
@@ -77,8 +58,8 @@ count_grows p q a zero each = omega arith
 count_grows p q a (suc n) each =
     let rest : count_by p (range_with_len (a + 1) n) ≤ count_by q (range_with_len (a + 1) n) =
     count_grows p q (a + 1) n (λ i low high. each i (omega arith) (omega arith)) in
-    let mine = count-cons p a (range_with_len (a + 1) n) in
-    let other = count-cons q a (range_with_len (a + 1) n) in
+    let mine = count_by-cons p a (range_with_len (a + 1) n) in
+    let other = count_by-cons q a (range_with_len (a + 1) n) in
     let first : cond {A = ℕ} (p a) 1 0 ≤ cond (q a) 1 0 = by (p a) (q a) (each a (omega arith) (omega arith)) in
     omega arith
   where
@@ -93,8 +74,8 @@ count_more : (p q : ℕ → Bool) (a n k : ℕ) → ((i : ℕ) → a ≤ i → i
     → count_by p (range_with_len a n) + 1 ≤ count_by q (range_with_len a n)
 count_more p q a zero k each low high out inn = absurd (omega arith)
 count_more p q a (suc n) k each low high out inn =
-    let mine = count-cons p a (range_with_len (a + 1) n) in
-    let other = count-cons q a (range_with_len (a + 1) n) in
+    let mine = count_by-cons p a (range_with_len (a + 1) n) in
+    let other = count_by-cons q a (range_with_len (a + 1) n) in
     elim (cases_lt a k) [
       | inl later ↦
           (let rest : count_by p (range_with_len (a + 1) n) + 1 ≤ count_by q (range_with_len (a + 1) n) =
@@ -125,8 +106,8 @@ module _ (kinds : List Kind) (firsts lasts : List ℕ) (s : Share) (a e : ℕ) (
       → (i : ℕ) → i < length kinds → is_inside kinds firsts lasts s a e i ≡ true
       → (belongs kinds s i ≡ true) × (a ≤ t i) × (t i ≤ e)
   issued_inside same_firsts same_lasts w i below passes =
-      let parts = both_true (belongs kinds s i) (nat_le a (get_or firsts i 0) && nat_le (get_or lasts i 0) e) passes in
-      let ends = both_true (nat_le a (get_or firsts i 0)) (nat_le (get_or lasts i 0) e) parts.1 in
+      let parts = and_parts (belongs kinds s i) (nat_le a (get_or firsts i 0) && nat_le (get_or lasts i 0) e) passes in
+      let ends = and_parts (nat_le a (get_or firsts i 0)) (nat_le (get_or lasts i 0) e) parts.1 in
       let low : a ≤ get_or firsts i 0 = at_least a (get_or firsts i 0) ends.0 in
       let high : get_or lasts i 0 ≤ e = at_least (get_or lasts i 0) e ends.1 in
       let from : get_or firsts i 0 ≤ t i = w.from i (omega arith) in
@@ -189,8 +170,8 @@ module _ (kinds : List Kind) (firsts lasts : List ℕ) (s : Share) (a e : ℕ) (
     where
       out : (b : Bool) → is_inside kinds firsts lasts s a e k ≡ b → (a ≤ get_or firsts k 0 → get_or lasts k 0 ≤ e → ⊥) → b ≡ false
       out true is never =
-          let parts = both_true (belongs kinds s k) (nat_le a (get_or firsts k 0) && nat_le (get_or lasts k 0) e) is in
-          let ends = both_true (nat_le a (get_or firsts k 0)) (nat_le (get_or lasts k 0) e) parts.1 in
+          let parts = and_parts (belongs kinds s k) (nat_le a (get_or firsts k 0) && nat_le (get_or lasts k 0) e) is in
+          let ends = and_parts (nat_le a (get_or firsts k 0)) (nat_le (get_or lasts k 0) e) parts.1 in
           absurd (never (at_least a (get_or firsts k 0) ends.0) (at_least (get_or lasts k 0) e ends.1))
       out false is never = refl
 

@@ -5,7 +5,7 @@ use Rattle.std.specs.Prelude.{count_by}
 use Rattle.std.specs.List.{range_with_len}
 use Rattle.std.proofs.lemmas.List.{length-map}
 use Rattle.std.proofs.Math.ListN as lists
-use Rattle.std.proofs.lemmas.Bool.{cases_lt}
+use Rattle.std.proofs.lemmas.Bool.{and_parts, cases_lt}
 use Rattle.std.proofs.lemmas.List.{get_or-map}
 use Rattle.std.proofs.lemmas.List.Elements.{All-weaker}
 use Rattle.iloc_ops.specs.declared.op.Op.{Op}
@@ -23,6 +23,7 @@ use Rattle.iloc_sched.specs.Lawful.{IsLawful}
 use Rattle.iloc_sched.specs.Least.{tails, tail}
 use Rattle.iloc_sched.specs.Renaming.{renamed}
 use Rattle.iloc_sched.specs.Shares.{shares, width}
+use Rattle.iloc_sched.proofs.Bounds.Counting.{both}
 use Rattle.iloc_sched.proofs.Bounds.PriorityBound.{ends_within}
 use Rattle.iloc_sched.proofs.Bounds.RowsHold.{Holds, holds_memory, holds_products, holds_outputs, holds_all, holds_loads}
 use Rattle.iloc_sched.proofs.Bounds.TailBound.{Fits, crowd_of, tail_within}
@@ -32,7 +33,7 @@ use Rattle.iloc_optimum.specs.declared.windows.Windows.{Windows}
 use Rattle.iloc_optimum.specs.Bound.{IsBound}
 use Rattle.iloc_optimum.specs.Laws.{AreDelayPairs, LawfulSchedulesAreTimings, NothingLeftRaisesTheBound, ReachedBoundsAreOptimal}
 use Rattle.iloc_optimum.specs.Timing.{Within, IsTiming, Crowd, belongs, between}
-use Rattle.iloc_optimum.proofs.FullCycles.{count_grows, both, both_true}
+use Rattle.iloc_optimum.proofs.FullCycles.{count_grows}
 
 holds_of : (s : Share) (ops : List Op) → Holds (shares s) (width s) ops
 holds_of Memory ops = holds_memory ops
@@ -52,7 +53,7 @@ crowd_by_kinds ops s t crowd a c =
     let q : ℕ → Bool = λ i. shares s (kind (op_at ops i)) && between a c (t i) in
     let fewer : count_by p (range_with_len 0 (length ops)) ≤ count_by q (range_with_len 0 (length ops)) =
     count_grows p q 0 (length ops) (λ i low high passes.
-    let parts = both_true (belongs (map kind ops) s i) (between a c (t i)) passes in
+    let parts = and_parts (belongs (map kind ops) s i) (between a c (t i)) passes in
     both (shares s (kind (op_at ops i))) (between a c (t i)) (sym (same_share ops s i) ∙ parts.0) parts.1) in
     let most : count_by q (range_with_len 0 (length ops)) ≤ width s * (c - a) = crowd a c in
     let both_most : count_by p (range_with_len 0 (length ops)) ≤ width s * (c - a) = omega arith in

@@ -1,25 +1,19 @@
 -- A narrower window, where no operation is issued outside it.
-use Rattle.std.proofs.Common.{◌≡◌, ◌≢◌, ℕ, ◌+◌, ◌≤◌, ◌<◌, List, length, get_or, set, get_or-set_other, get_or-set_same, sym, subst, inl, inr, arith}
+use Rattle.std.proofs.Common.{ℕ, ◌+◌, ◌≤◌, ◌<◌, List, length, get_or, set, get_or-set_other, get_or-set_same, sym, subst, arith}
 use Rattle.std.specs.Prelude.{slice_index_or}
 use Rattle.std.proofs.lemmas.List.{length-set}
 use Rattle.std.proofs.lemmas.List.Elements.{All-get_or}
-use Rattle.std.proofs.lemmas.Bool.{cases_lt}
 use Rattle.iloc_sched.specs.declared.edges.Edge.{Edge}
 use Rattle.iloc_sched.specs.Steps.Views.{no_edge}
+use Rattle.iloc_sched.proofs.Basics.Cases.{by_eq}
 use Rattle.iloc_optimum.specs.Timing.{Within, WaitsFor, LeadsBetween}
 
 pub raised : (firsts lasts : List ℕ) (t : ℕ → ℕ) (k v : ℕ) → k < length firsts → v ≤ t k → Within firsts lasts t
     → Within (set firsts k v) lasts t
 raised firsts lasts t k v there low w = record {
-  from = λ i below. let under : i < length firsts = omega (arith, length-set firsts k v) in
-      elim (cases_lt i k) [
-        | inl less ↦ (let ne : i ≢ k = omega arith in rw get_or-set_other (w.from i under))
-        | inr more ↦ elim (cases_lt k i) [
-          | inl less ↦ (let ne : i ≢ k = omega arith in rw get_or-set_other (w.from i under))
-          | inr same ↦ (let e : i ≡ k = omega arith in
-              subst (λ j. get_or (set firsts k v) j 0 ≤ t j) (sym e) (rw get_or-set_same low))
-        ]
-      ];
+  from = λ i below. let under : i < length firsts = omega (arith, length-set firsts k v) in by_eq i k
+      (λ e. subst (λ j. get_or (set firsts k v) j 0 ≤ t j) (sym e) (rw get_or-set_same low))
+      (λ ne. rw get_or-set_other (w.from i under));
   to = w.to;
 }
 
@@ -27,15 +21,9 @@ pub lowered : (firsts lasts : List ℕ) (t : ℕ → ℕ) (k v : ℕ) → k < le
     → Within firsts (set lasts k v) t
 lowered firsts lasts t k v there low w = record {
   from = w.from;
-  to = λ i below. let under : i < length lasts = omega (arith, length-set lasts k v) in
-      elim (cases_lt i k) [
-        | inl less ↦ (let ne : i ≢ k = omega arith in rw get_or-set_other (w.to i under))
-        | inr more ↦ elim (cases_lt k i) [
-          | inl less ↦ (let ne : i ≢ k = omega arith in rw get_or-set_other (w.to i under))
-          | inr same ↦ (let e : i ≡ k = omega arith in
-              subst (λ j. t j ≤ get_or (set lasts k v) j 0) (sym e) (rw get_or-set_same low))
-        ]
-      ];
+  to = λ i below. let under : i < length lasts = omega (arith, length-set lasts k v) in by_eq i k
+      (λ e. subst (λ j. t j ≤ get_or (set lasts k v) j 0) (sym e) (rw get_or-set_same low))
+      (λ ne. rw get_or-set_other (w.to i under));
 }
 
 abbrev pub edge_at : List Edge → ℕ → Edge

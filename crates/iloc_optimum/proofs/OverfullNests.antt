@@ -6,10 +6,12 @@ use Rattle.std.proofs.lemmas.Bool.{cases_lt}
 use Rattle.iloc_timed.specs.declared.kind.Kind.{Kind}
 use Rattle.iloc_sched.specs.declared.lower_bound.share.Share.{Share}
 use Rattle.iloc_sched.specs.declared.lower_bound.share.Share.TheVariants.{All}
+use Rattle.iloc_sched.proofs.Basics.Slots.{count_by-cons}
+use Rattle.iloc_sched.proofs.Bounds.Counting.{both}
 use Rattle.iloc_optimum.specs.Timing.{Within, FitsShares, between, belongs}
 use Rattle.iloc_optimum.specs.Steps.Inside.{is_inside, count_inside}
 use Rattle.iloc_sched.specs.Shares.{width}
-use Rattle.iloc_optimum.proofs.FullCycles.{both, in_between, count-cons, issued_inside}
+use Rattle.iloc_optimum.proofs.FullCycles.{in_between, issued_inside}
 
 abbrev one : Bool → ℕ
 one b = cond {A = ℕ} b 1 0
@@ -26,12 +28,12 @@ by_four p q u v w x a (suc n) each =
     + count_by x (range_with_len (a + 1) n) =
     by_four p q u v w x (a + 1) n (λ i low high. each i (omega arith) (omega arith)) in
     let first : one (p a) + one (q a) ≤ one (u a) + one (v a) + one (w a) + one (x a) = each a (omega arith) (omega arith) in
-    let ps = count-cons p a (range_with_len (a + 1) n) in
-    let qs = count-cons q a (range_with_len (a + 1) n) in
-    let us = count-cons u a (range_with_len (a + 1) n) in
-    let vs = count-cons v a (range_with_len (a + 1) n) in
-    let ws = count-cons w a (range_with_len (a + 1) n) in
-    let xs = count-cons x a (range_with_len (a + 1) n) in
+    let ps = count_by-cons p a (range_with_len (a + 1) n) in
+    let qs = count_by-cons q a (range_with_len (a + 1) n) in
+    let us = count_by-cons u a (range_with_len (a + 1) n) in
+    let vs = count_by-cons v a (range_with_len (a + 1) n) in
+    let ws = count_by-cons w a (range_with_len (a + 1) n) in
+    let xs = count_by-cons x a (range_with_len (a + 1) n) in
     omega arith
 
 at_one : (b : Bool) → b ≡ true → one b ≡ 1
