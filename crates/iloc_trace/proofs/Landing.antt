@@ -16,6 +16,7 @@ use Rattle.iloc_meaning.specs.Registers.{value_of}
 use Rattle.iloc_meaning.proofs.Cases.{by_bool}
 use Rattle.iloc_timed.specs.declared.latencies.Latencies.{Latencies}
 use Rattle.iloc_timed.specs.Latency.{latency}
+use Rattle.iloc_timed.specs.declared.wheel.Pending.{Pending}
 use Rattle.iloc_timed.specs.Timed.{Issued}
 use Rattle.iloc_timed.specs.Steps.Pending.{sent_by as pending_by, landed_in_register, landed_in_word}
 use Rattle.iloc_timed.specs.Steps.Wheel.{due_at as pending_at}
@@ -35,10 +36,13 @@ use Rattle.iloc_trace.proofs.OnTheirWay.{due_now_of_log, due_later_of_log}
 use Rattle.iloc_trace.proofs.Values.{value_then}
 
 -- what an effect sends changes a register as it does on the timed machine, and a word
-register_lands : (r : Reg) (due issued : ℕ) (d : Option Reg) (effect : Effect) (v : ℤ)
-    → fold (arrived_in (Register r)) v (option_to_list (option_map
-    (λ place. record { place = place; value = sent effect; due = due; issued = issued }) (target_of d effect)))
-    ≡ fold (landed_in_register r) v (option_to_list (pending_by d effect))
+abbrev AreLanded : Place → (ℤ → Pending → ℤ) → Type 0
+AreLanded place landed = (due issued : ℕ) (d : Option Reg) (effect : Effect) (v : ℤ)
+    → fold (arrived_in place) v (option_to_list (option_map
+    (λ to. record { place = to; value = sent effect; due = due; issued = issued }) (target_of d effect)))
+    ≡ fold landed v (option_to_list (pending_by d effect))
+
+register_lands : (r : Reg) → AreLanded (Register r) (landed_in_register r)
 register_lands r due issued d Faults v = refl
 register_lands r due issued None (Gives result) v = refl
 register_lands r due issued (Some s) (Gives result) v = refl
@@ -46,10 +50,7 @@ register_lands r due issued d (Writes a w) v = refl
 register_lands r due issued d (Emits w) v = refl
 register_lands r due issued d Nothing v = refl
 
-word_lands : (a due issued : ℕ) (d : Option Reg) (effect : Effect) (v : ℤ)
-    → fold (arrived_in (Word a)) v (option_to_list (option_map
-    (λ place. record { place = place; value = sent effect; due = due; issued = issued }) (target_of d effect)))
-    ≡ fold (landed_in_word a) v (option_to_list (pending_by d effect))
+word_lands : (a : ℕ) → AreLanded (Word a) (landed_in_word a)
 word_lands a due issued d Faults v = refl
 word_lands a due issued None (Gives result) v = refl
 word_lands a due issued (Some s) (Gives result) v = refl
@@ -57,41 +58,25 @@ word_lands a due issued d (Writes b w) v = refl
 word_lands a due issued d (Emits w) v = refl
 word_lands a due issued d Nothing v = refl
 
-registers_land : (lat : Latencies) (c : ℕ) (r : Reg) (v : ℤ) (log : List Issued)
-    → fold (arrived_in (Register r)) v (arrivals_of lat (due_at c log)) ≡ fold (landed_in_register r) v (pending_at c log)
-registers_land lat c r v [] = refl
-registers_land lat c r v (e ∷ earlier) =
-    let piece : (x : ℤ) → fold (arrived_in (Register r)) x (arrivals_of lat (if e.due == c then e ∷ [] else []))
-    ≡ fold (landed_in_register r) x (if e.due == c then option_to_list (pending_by (defined e.executed.op) e.executed.effect) else []) =
+-- so does all that is due
+all_land : (lat : Latencies) (c : ℕ) (place : Place) (landed : ℤ → Pending → ℤ) → AreLanded place landed → (v : ℤ)
+    (log : List Issued)
+    → fold (arrived_in place) v (arrivals_of lat (due_at c log)) ≡ fold landed v (pending_at c log)
+all_land lat c place landed lands v [] = refl
+all_land lat c place landed lands v (e ∷ earlier) =
+    let pending = if e.due == c then option_to_list (pending_by (defined e.executed.op) e.executed.effect) else [] in
+    let piece : (x : ℤ) → fold (arrived_in place) x (arrivals_of lat (if e.due == c then e ∷ [] else []))
+    ≡ fold landed x pending =
     λ x. by_bool (e.due == c)
-    (λ here. rw here (ap (fold (arrived_in (Register r)) x) (append-nil (option_to_list (arrival_of lat e)))
-    ∙ register_lands r e.due _ (defined e.executed.op) e.executed.effect x))
+    (λ here. rw here (ap (fold (arrived_in place) x) (append-nil (option_to_list (arrival_of lat e)))
+    ∙ lands e.due _ (defined e.executed.op) e.executed.effect x))
     (λ apart. rw apart refl) in
-    ap (fold (arrived_in (Register r)) v)
+    ap (fold (arrived_in place) v)
     (flat_map-append (λ (f : Issued). option_to_list (arrival_of lat f)) (due_at c earlier) _)
-    ∙ fold-append (arrived_in (Register r)) v (arrivals_of lat (due_at c earlier)) _
-    ∙ piece (fold (arrived_in (Register r)) v (arrivals_of lat (due_at c earlier)))
-    ∙ ap (λ x. fold (landed_in_register r) x (if e.due == c then option_to_list (pending_by (defined e.executed.op) e.executed.effect) else []))
-    (registers_land lat c r v earlier)
-    ∙ sym (fold-append (landed_in_register r) v (pending_at c earlier) _)
-
-words_land : (lat : Latencies) (c a : ℕ) (v : ℤ) (log : List Issued)
-    → fold (arrived_in (Word a)) v (arrivals_of lat (due_at c log)) ≡ fold (landed_in_word a) v (pending_at c log)
-words_land lat c a v [] = refl
-words_land lat c a v (e ∷ earlier) =
-    let piece : (x : ℤ) → fold (arrived_in (Word a)) x (arrivals_of lat (if e.due == c then e ∷ [] else []))
-    ≡ fold (landed_in_word a) x (if e.due == c then option_to_list (pending_by (defined e.executed.op) e.executed.effect) else []) =
-    λ x. by_bool (e.due == c)
-    (λ here. rw here (ap (fold (arrived_in (Word a)) x) (append-nil (option_to_list (arrival_of lat e)))
-    ∙ word_lands a e.due _ (defined e.executed.op) e.executed.effect x))
-    (λ apart. rw apart refl) in
-    ap (fold (arrived_in (Word a)) v)
-    (flat_map-append (λ (f : Issued). option_to_list (arrival_of lat f)) (due_at c earlier) _)
-    ∙ fold-append (arrived_in (Word a)) v (arrivals_of lat (due_at c earlier)) _
-    ∙ piece (fold (arrived_in (Word a)) v (arrivals_of lat (due_at c earlier)))
-    ∙ ap (λ x. fold (landed_in_word a) x (if e.due == c then option_to_list (pending_by (defined e.executed.op) e.executed.effect) else []))
-    (words_land lat c a v earlier)
-    ∙ sym (fold-append (landed_in_word a) v (pending_at c earlier) _)
+    ∙ fold-append (arrived_in place) v (arrivals_of lat (due_at c earlier)) _
+    ∙ piece (fold (arrived_in place) v (arrivals_of lat (due_at c earlier)))
+    ∙ ap (λ x. fold landed x pending) (all_land lat c place landed lands v earlier)
+    ∙ sym (fold-append landed v (pending_at c earlier) _)
 
 -- what is due at cycle c has arrived
 pub after_landing : (lat : Latencies) (memory : List ℤ) (c : ℕ) (log : List Issued) (m m' : Machine)
@@ -108,13 +93,13 @@ after_landing lat memory c log m m' follows register word under_way =
       registers = λ r.
           register r
           ∙ ap (fold (arrived_in (Register r)) (value_of m.registers r)) due
-          ∙ registers_land lat c r (value_of m.registers r) log
+          ∙ all_land lat c (Register r) (landed_in_register r) (register_lands r) (value_of m.registers r) log
           ∙ ap (λ v. fold (landed_in_register r) v (pending_at c log)) (follows.registers r)
           ∙ sym (register_more r (c + 16) c log follows.all_land);
       words = λ a good.
           word a good
           ∙ ap (fold (arrived_in (Word a)) (word_at m.memory.words a)) due
-          ∙ words_land lat c a (word_at m.memory.words a) log
+          ∙ all_land lat c (Word a) (landed_in_word a) (word_lands a) (word_at m.memory.words a) log
           ∙ ap (λ v. fold (landed_in_word a) v (pending_at c log)) (follows.words a good)
           ∙ sym (word_more memory a (c + 16) c log follows.all_land);
       under_way = under_way ∙ ap (due_later c) follows.under_way ∙ due_later_of_log lat c log;
