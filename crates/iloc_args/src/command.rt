@@ -1,13 +1,12 @@
 //! The program's command line, as the parser reads it.
-ghost use Rattle.std.specs.Prelude.{◌≡◌, IfOk, codes, find, map, pos};
+ghost use Rattle.std.specs.Prelude.{◌≡◌, IfOk, find, map, pos};
 ghost use Rattle.clap.specs.declared.builder.value_parser.ValueParser.TheVariants.{Signed};
 ghost use Rattle.clap.specs.Simple.{new_shape};
 ghost use Rattle.std.specs.Str.{bytes_eq};
 ghost use Rattle.iloc_args.specs.declared.command.Entry.{Entry as entry_value};
 ghost use Rattle.iloc_args.specs.Asked.{task_among, task_named};
-ghost use Rattle.iloc_args.specs.Command.{at_rule, csv_rule, either_slot_rule, farm_app, flag_rule, latency_rule, lawful_rule, nodes_rule};
-ghost use Rattle.iloc_args.specs.Command.{operations_rule, outputs_rule, priority_rule, search_rule, task_rule, text_rule, top_shape, words_rule};
-ghost use Rattle.iloc_args.specs.Command.{workers_rule, json_rule, where_rule};
+ghost use Rattle.iloc_args.specs.Command.{at_rule, farm_app, flag_rule, latency_rule, nodes_rule, priority_rule, search_rule};
+ghost use Rattle.iloc_args.specs.Command.{task_rule, text_rule, top_shape, words_rule, workers_rule};
 ghost use Rattle.iloc_args.specs.Steps.Building.{HasApp, HasRule, alone, default_rule, option_rule, rule_for, app_for, app_with, subcommand_for};
 
 use crate::priority::HELP;
@@ -139,42 +138,6 @@ fn latency_arg<'a>(alloc: Global, name: &'a str, help: &'a str, usual: &'a str) 
     )
 }
 
-/// `--load N`
-fn load_arg<'a>(alloc: Global) -> Arg<'a>
-    ensures { HasRule (latency_rule (codes "load") (codes "5")) result }
-{
-    latency_arg(
-        alloc,
-        "load",
-        "Cycles that load and loadAI take, 1 to 16",
-        "5",
-    )
-}
-
-/// `--store N`
-fn store_arg<'a>(alloc: Global) -> Arg<'a>
-    ensures { HasRule (latency_rule (codes "store") (codes "5")) result }
-{
-    latency_arg(
-        alloc,
-        "store",
-        "Cycles that store and storeAI take, 1 to 16",
-        "5",
-    )
-}
-
-/// `--mult N`
-fn mult_arg<'a>(alloc: Global) -> Arg<'a>
-    ensures { HasRule (latency_rule (codes "mult") (codes "3")) result }
-{
-    latency_arg(
-        alloc,
-        "mult",
-        "Cycles that mult and multI take, 1 to 16",
-        "3",
-    )
-}
-
 /// `--priority NAME`
 fn priority_arg<'a>(alloc: Global) -> Arg<'a>
     ensures { HasRule priority_rule result }
@@ -214,24 +177,6 @@ fn search_arg<'a>(alloc: Global) -> Arg<'a>
     )
 }
 
-/// `--csv`
-fn csv_arg<'a>(alloc: Global) -> Arg<'a>
-    ensures { HasRule csv_rule result }
-{
-    flag_arg(
-        alloc,
-        "csv",
-        "Print a table of comma-separated values, a row for each block",
-    )
-}
-
-/// `--json`
-fn json_arg<'a>(alloc: Global) -> Arg<'a>
-    ensures { HasRule json_rule result }
-{
-    flag_arg(alloc, "json", "Print a line of JSON for each block")
-}
-
 /// `--task FILE`
 fn task_arg<'a>(alloc: Global) -> Arg<'a>
     ensures { HasRule task_rule result }
@@ -244,81 +189,70 @@ fn task_arg<'a>(alloc: Global) -> Arg<'a>
     )
 }
 
-/// `--lawful`
-fn lawful_arg<'a>(alloc: Global) -> Arg<'a>
-    ensures { HasRule lawful_rule result }
-{
-    flag_arg(
-        alloc,
-        "lawful",
-        "Pass nothing but rows that are a schedule by the book",
-    )
-}
-
-/// `--operations`
-fn operations_arg<'a>(alloc: Global) -> Arg<'a>
-    ensures { HasRule operations_rule result }
-{
-    flag_arg(
-        alloc,
-        "operations",
-        "Pass no rows that leave operations of their block out or add some",
-    )
-}
-
-/// `--outputs`
-fn outputs_arg<'a>(alloc: Global) -> Arg<'a>
-    ensures { HasRule outputs_rule result }
-{
-    flag_arg(
-        alloc,
-        "outputs",
-        "Compare emitted words and faults alone, and not memory",
-    )
-}
-
-/// `--where`
-fn where_arg<'a>(alloc: Global) -> Arg<'a>
-    ensures { HasRule where_rule result }
-{
-    flag_arg(
-        alloc,
-        "where",
-        "Print which operation faults, and the address that it reaches",
-    )
-}
-
-/// `--either-slot`
-fn either_slot_arg<'a>(alloc: Global, help: &'a str) -> Arg<'a>
-    ensures { HasRule either_slot_rule result }
-{
-    flag_arg(alloc, "either-slot", help)
-}
-
 /// An argument of a command.
 #[derive(Clone, Copy)]
 enum Argument {
     At,
     Words,
     Workers,
-    Load,
-    Store,
-    Mult,
+    /// A latency: the option, its help, and what it is where it isn't given.
+    Latency(&'static str, &'static str, &'static str),
     Priority,
     Nodes,
     /// `--nodes` of a command that searches only where it is given.
     NodesIfGiven,
-    Csv,
-    Json,
     Task,
-    Lawful,
-    Operations,
-    Outputs,
-    Where,
-    EitherSlot,
-    /// `--either-slot` of a command that reads rows with `--task` alone.
-    EitherSlotWithTask,
+    /// A flag and its help.
+    Flag(&'static str, &'static str),
 }
+
+const LOAD: Argument = Argument::Latency("load", "Cycles that load and loadAI take, 1 to 16", "5");
+
+const STORE: Argument = Argument::Latency(
+    "store",
+    "Cycles that store and storeAI take, 1 to 16",
+    "5",
+);
+
+const MULT: Argument = Argument::Latency("mult", "Cycles that mult and multI take, 1 to 16", "3");
+
+const CSV: Argument = Argument::Flag(
+    "csv",
+    "Print a table of comma-separated values, a row for each block",
+);
+
+const JSON: Argument = Argument::Flag("json", "Print a line of JSON for each block");
+
+const LAWFUL: Argument = Argument::Flag(
+    "lawful",
+    "Pass nothing but rows that are a schedule by the book",
+);
+
+const OPERATIONS: Argument = Argument::Flag(
+    "operations",
+    "Pass no rows that leave operations of their block out or add some",
+);
+
+const OUTPUTS: Argument = Argument::Flag(
+    "outputs",
+    "Compare emitted words and faults alone, and not memory",
+);
+
+const WHERE: Argument = Argument::Flag(
+    "where",
+    "Print which operation faults, and the address that it reaches",
+);
+
+const EITHER_SLOT: Argument = Argument::Flag(
+    "either-slot",
+    "Accept rows whose operations fit only when swapped",
+);
+
+/// `--either-slot` of a command that reads rows with `--task` alone.
+const EITHER_SLOT_WITH_TASK: Argument = Argument::Flag(
+    "either-slot",
+    "With --task, accept rows whose operations fit only when swapped",
+);
 
 /// A command: the task that it asks for, its name, what it is about, how it is used, and its arguments.
 #[derive(Clone, Copy)]
@@ -337,7 +271,7 @@ const COMMANDS: [Entry; 11] = [
         name: "run",
         about: "Run each block, one operation after the other",
         usage: "ilocfarm run [OPTIONS] [WORD]... < BLOCKS",
-        arguments: &[Argument::At, Argument::Words, Argument::Where],
+        arguments: &[Argument::At, Argument::Words, WHERE],
     },
     Entry {
         task: Task::Simulate,
@@ -347,9 +281,9 @@ const COMMANDS: [Entry; 11] = [
         arguments: &[
             Argument::At,
             Argument::Words,
-            Argument::Load,
-            Argument::Store,
-            Argument::Mult,
+            LOAD,
+            STORE,
+            MULT,
             Argument::Priority,
         ],
     },
@@ -361,12 +295,12 @@ const COMMANDS: [Entry; 11] = [
         arguments: &[
             Argument::At,
             Argument::Words,
-            Argument::Load,
-            Argument::Store,
-            Argument::Mult,
+            LOAD,
+            STORE,
+            MULT,
             Argument::Priority,
             Argument::Task,
-            Argument::EitherSlotWithTask,
+            EITHER_SLOT_WITH_TASK,
         ],
     },
     Entry {
@@ -374,13 +308,7 @@ const COMMANDS: [Entry; 11] = [
         name: "schedule",
         about: "Schedule each block, and print the schedule",
         usage: "ilocfarm schedule [OPTIONS] < BLOCKS",
-        arguments: &[
-            Argument::Workers,
-            Argument::Load,
-            Argument::Store,
-            Argument::Mult,
-            Argument::Priority,
-        ],
+        arguments: &[Argument::Workers, LOAD, STORE, MULT, Argument::Priority],
     },
     Entry {
         task: Task::Counts,
@@ -389,11 +317,11 @@ const COMMANDS: [Entry; 11] = [
         usage: "ilocfarm counts [OPTIONS] < BLOCKS",
         arguments: &[
             Argument::Workers,
-            Argument::Load,
-            Argument::Store,
-            Argument::Mult,
+            LOAD,
+            STORE,
+            MULT,
             Argument::Priority,
-            Argument::Csv,
+            CSV,
         ],
     },
     Entry {
@@ -404,10 +332,10 @@ const COMMANDS: [Entry; 11] = [
         arguments: &[
             Argument::NodesIfGiven,
             Argument::Workers,
-            Argument::Load,
-            Argument::Store,
-            Argument::Mult,
-            Argument::Csv,
+            LOAD,
+            STORE,
+            MULT,
+            CSV,
         ],
     },
     Entry {
@@ -415,13 +343,7 @@ const COMMANDS: [Entry; 11] = [
         name: "optimize",
         about: "Search for the best schedule of each block, and print it with a bound on the cycles",
         usage: "ilocfarm optimize [OPTIONS] < BLOCKS",
-        arguments: &[
-            Argument::Nodes,
-            Argument::Workers,
-            Argument::Load,
-            Argument::Store,
-            Argument::Mult,
-        ],
+        arguments: &[Argument::Nodes, Argument::Workers, LOAD, STORE, MULT],
     },
     Entry {
         task: Task::Explain,
@@ -429,12 +351,12 @@ const COMMANDS: [Entry; 11] = [
         about: "Schedule each block, and print why the schedule takes its cycles",
         usage: "ilocfarm explain [OPTIONS] < BLOCKS",
         arguments: &[
-            Argument::Load,
-            Argument::Store,
-            Argument::Mult,
+            LOAD,
+            STORE,
+            MULT,
             Argument::Priority,
             Argument::Task,
-            Argument::EitherSlotWithTask,
+            EITHER_SLOT_WITH_TASK,
         ],
     },
     Entry {
@@ -445,17 +367,17 @@ const COMMANDS: [Entry; 11] = [
         arguments: &[
             Argument::At,
             Argument::Words,
-            Argument::Load,
-            Argument::Store,
-            Argument::Mult,
+            LOAD,
+            STORE,
+            MULT,
             Argument::NodesIfGiven,
             Argument::Task,
-            Argument::EitherSlot,
-            Argument::Lawful,
-            Argument::Operations,
-            Argument::Outputs,
-            Argument::Csv,
-            Argument::Json,
+            EITHER_SLOT,
+            LAWFUL,
+            OPERATIONS,
+            OUTPUTS,
+            CSV,
+            JSON,
         ],
     },
     Entry {
@@ -463,7 +385,7 @@ const COMMANDS: [Entry; 11] = [
         name: "graph",
         about: "Print the dependence graph of each block, for Graphviz",
         usage: "ilocfarm graph [OPTIONS] < BLOCKS",
-        arguments: &[Argument::Load, Argument::Store, Argument::Mult],
+        arguments: &[LOAD, STORE, MULT],
     },
     Entry {
         task: Task::Lint,
@@ -483,27 +405,12 @@ impl Argument {
             Argument::At => at_arg(alloc),
             Argument::Words => words_arg(alloc),
             Argument::Workers => workers_arg(alloc),
-            Argument::Load => load_arg(alloc),
-            Argument::Store => store_arg(alloc),
-            Argument::Mult => mult_arg(alloc),
+            Argument::Latency(name, help, usual) => latency_arg(alloc, name, help, usual),
             Argument::Priority => priority_arg(alloc),
             Argument::Nodes => nodes_arg(alloc),
             Argument::NodesIfGiven => search_arg(alloc),
-            Argument::Csv => csv_arg(alloc),
-            Argument::Json => json_arg(alloc),
             Argument::Task => task_arg(alloc),
-            Argument::Lawful => lawful_arg(alloc),
-            Argument::Operations => operations_arg(alloc),
-            Argument::Outputs => outputs_arg(alloc),
-            Argument::Where => where_arg(alloc),
-            Argument::EitherSlot => either_slot_arg(
-                alloc,
-                "Accept rows whose operations fit only when swapped",
-            ),
-            Argument::EitherSlotWithTask => either_slot_arg(
-                alloc,
-                "With --task, accept rows whose operations fit only when swapped",
-            ),
+            Argument::Flag(name, help) => flag_arg(alloc, name, help),
         }
     }
 }

@@ -1,17 +1,15 @@
 -- The parser in the making: its arguments and its commands, one by one.
-use Rattle.std.specs.Prelude.{◌≡◌, List, [], ◌∷◌, Some, codes, false, fold, map}
+use Rattle.std.specs.Prelude.{◌≡◌, List, [], ◌∷◌, Some, false, fold, map}
 use Rattle.clap.specs.declared.builder.arg.Arg.{Arg}
 use Rattle.clap.specs.declared.builder.command.Command.{Command}
 use Rattle.clap.specs.declared.builder.command.Command.TheViews.{out-Command}
 use Rattle.clap.specs.declared.builder.value_parser.ValueParser.{ValueParser}
 use Rattle.clap.specs.Words.{App, Rule, Shape, Text, app_of, new_rule, rule_of, with_subcommand}
 use Rattle.clap.specs.Simple.{new_shape}
-use Rattle.iloc_args.specs.Command.{Subcommand, at_rule, csv_rule, either_slot_rule, latency_rule, lawful_rule, nodes_rule, operations_rule}
-use Rattle.iloc_args.specs.Command.{outputs_rule, priority_rule, search_rule, shape, top_shape, json_rule, task_rule, words_rule, workers_rule}
-use Rattle.iloc_args.specs.Command.{where_rule}
+use Rattle.iloc_args.specs.Command.{Subcommand, at_rule, flag_rule, latency_rule, nodes_rule, priority_rule, search_rule, shape, top_shape}
+use Rattle.iloc_args.specs.Command.{task_rule, words_rule, workers_rule}
 use Rattle.iloc_args.specs.declared.command.Argument.{Argument}
-use Rattle.iloc_args.specs.declared.command.Argument.TheVariants.{At, Words, Workers, Load, Store, Mult, Priority, Nodes, NodesIfGiven, Csv, Task}
-use Rattle.iloc_args.specs.declared.command.Argument.TheVariants.{Lawful, Operations, Outputs, EitherSlot, EitherSlotWithTask, Json, Where}
+use Rattle.iloc_args.specs.declared.command.Argument.TheVariants.{At, Words, Workers, Latency, Priority, Nodes, NodesIfGiven, Task, Flag}
 use Rattle.iloc_args.specs.declared.command.Entry.{Entry}
 
 -- `--NAME N`, a number that this parser takes
@@ -44,21 +42,12 @@ abbrev pub rule_for : Argument → Rule
 rule_for At = at_rule
 rule_for Words = words_rule
 rule_for Workers = workers_rule
-rule_for Load = latency_rule (codes "load") (codes "5")
-rule_for Store = latency_rule (codes "store") (codes "5")
-rule_for Mult = latency_rule (codes "mult") (codes "3")
+rule_for (Latency name help usual) = latency_rule name.now usual.now
 rule_for Priority = priority_rule
 rule_for Nodes = nodes_rule
 rule_for NodesIfGiven = search_rule
-rule_for Csv = csv_rule
-rule_for Json = json_rule
 rule_for Task = task_rule
-rule_for Lawful = lawful_rule
-rule_for Operations = operations_rule
-rule_for Outputs = outputs_rule
-rule_for Where = where_rule
-rule_for EitherSlot = either_slot_rule
-rule_for EitherSlotWithTask = either_slot_rule
+rule_for (Flag name help) = flag_rule name.now
 
 -- the command that an entry of the table stands for
 abbrev pub subcommand_for : Entry → Subcommand
