@@ -7,7 +7,8 @@ use Rattle.iloc_ops.specs.declared.op.Op.TheVariants.{Nop}
 use Rattle.iloc_timed.specs.declared.latencies.Latencies.{Latencies}
 use Rattle.iloc_timed.specs.declared.row.Row.{Row}
 use Rattle.iloc_timed.specs.Latency.{latency}
-use Rattle.iloc_timed.specs.Rows.{row_at, issue_cycle}
+use Rattle.iloc_timed.specs.Rows.{row_at, issue_cycle, IsTable}
+use Rattle.iloc_timed.proofs.Arrivals.{issued_within}
 use Rattle.iloc_meaning.specs.Trace.{op_at}
 use Rattle.iloc_sched.specs.Starts.{start}
 use Rattle.iloc_explain.specs.declared.explanation.Explained.{Explained}
@@ -56,10 +57,19 @@ one_explained prios lat ops rows n old new explained more e so_far are is added 
 }
 
 -- a noted cycle of issue, read from the list of all
-pub noted_cycle : (cycles : List ℕ) (rows : List Row) (count j c : ℕ) → c ≡ get_or cycles j c → length cycles ≡ count
+noted_cycle : (cycles : List ℕ) (rows : List Row) (count j c : ℕ) → c ≡ get_or cycles j c → length cycles ≡ count
     → j < count → ((i : ℕ) → i < count → slice_index cycles i ≡ issue_cycle rows i) → c ≡ issue_cycle rows j
 noted_cycle cycles rows count j c read size within each =
     read ∙ (get_or_default cycles j c 0 (rw size within) ∙ each j within)
+
+-- so it is one of the rows' cycles
+pub noted_row : (cycles : List ℕ) (ops lent : List Op) (rows : List Row) (j c : ℕ) → c ≡ get_or cycles j c
+    → length cycles ≡ length ops → ((i : ℕ) → i < length ops → slice_index cycles i ≡ issue_cycle rows i) → lent ≡ ops
+    → IsTable ops rows → j < length lent → (j < length ops) × (c ≡ issue_cycle rows j) × (c < length rows)
+noted_row cycles ops lent rows j c read size each same table inside =
+    let known : j < length ops = rw same at inside in
+    let at = noted_cycle cycles rows (length ops) j c read size known each in
+    (known, at, rw at (issued_within ops rows j known table))
 
 -- what is read of an operation explains it
 pub is_explained : (prios : List ℕ) (lat : Latencies) (ops lent : List Op) (rows : List Row) (j : ℕ) (latest : Latest) (other : Op) (row : Row)
