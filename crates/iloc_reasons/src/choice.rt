@@ -6,8 +6,9 @@
 
 mod counts;
 mod doubts;
-mod graph;
+pub(crate) mod graph;
 mod guesses;
+mod lines;
 mod missing;
 mod side;
 mod standing_out;
@@ -16,16 +17,16 @@ mod walk;
 
 use self::counts::Counts;
 use self::graph::Graph;
-use self::guesses::Definers;
+use self::lines::Lines;
 use self::missing::Missing;
-use self::side::{Counterparts, Side, effects};
+use self::side::{Side, effects, matched};
 use self::standing_out::odd;
 use self::strays::Strays;
 use self::walk::Walk;
 use crate::claim::{Claim, What};
 use crate::sides::Sides;
 use iloc_ops::NoMemory;
-use iloc_timed::{Kind, Row};
+use iloc_timed::Kind;
 use std::alloc::Global;
 use std::collections::BTreeMap;
 
@@ -40,27 +41,6 @@ pub(crate) struct Choice {
     pub added: Option<usize>,
 }
 
-/// Rows that issue a block's operations one by one.
-fn one_by_one(alloc: Global, count: usize) -> Result<Vec<Row>, NoMemory> {
-    let mut rows = Vec::with_capacity(alloc, count)?;
-    for i in 0..count {
-        rows.push(Row {
-            zero: Some(i),
-            one: None,
-        })?;
-    }
-    Ok(rows)
-}
-
-/// The operations of the rows with what they read.
-fn rows_graph<'a>(alloc: Global, sides: &Sides<'a>) -> Result<Graph<'a>, NoMemory> {
-    let mut reads = Vec::with_capacity(alloc, sides.readings.len())?;
-    for reading in sides.readings {
-        reads.push(reading.sources)?;
-    }
-    Graph::of(alloc, sides.schedule.ops(), sides.schedule.rows(), reads)
-}
-
 /// By operation whether there are more of its label than among others.
 fn short(alloc: Global, graph: &Graph, others: &Graph) -> Result<Vec<bool>, NoMemory> {
     let here = Counts::of(alloc, &graph.labels)?;
@@ -73,15 +53,11 @@ fn short(alloc: Global, graph: &Graph, others: &Graph) -> Result<Vec<bool>, NoMe
 }
 
 /// The operations of a kind, as they are issued.
-fn issued(alloc: Global, graph: &Graph, kind: Kind) -> Result<Vec<usize>, NoMemory> {
+fn of_kind(alloc: Global, graph: &Graph, kind: Kind) -> Result<Vec<usize>, NoMemory> {
     let mut found = Vec::new(alloc);
-    for row in graph.rows {
-        for slot in [row.zero, row.one] {
-            if let Some(k) = slot
-                && graph.kind(k) == kind
-            {
-                found.push(k)?;
-            }
+    for k in &graph.issued {
+        if graph.kind(*k) == kind {
+            found.push(*k)?;
         }
     }
     Ok(found)
@@ -93,44 +69,41 @@ fn begun<'a>(
     sides: &'a Sides<'a>,
     block: &'a Side<'a>,
     rows: &'a Side<'a>,
-    counterparts: &'a Counterparts,
     read: &'a BTreeMap<usize, usize>,
 ) -> Result<Walk<'a>, NoMemory> {
     let short = short(alloc, &block.graph, &rows.graph)?;
+    let counterparts = matched(alloc, rows, block)?;
     Ok(Walk {
         alloc,
         sides,
         block,
         rows,
-        counterparts: counterparts.rows.as_slice(),
-        missing: Missing::of(alloc, block, short, &counterparts.block)?,
-        definers: Definers::none(alloc, rows.terms.len())?,
+        missing: Missing::of(alloc, block, short, &matched(alloc, block, rows)?)?,
+        definers: Lines::new(alloc, rows.terms.len())?,
         meant: Vec::from_slice(alloc, &rows.terms)?,
-        strays: Strays::none(alloc, &rows.graph, &counterparts.rows, read)?,
+        strays: Strays::none(alloc, &rows.graph, &counterparts, read)?,
+        counterparts,
         store: None,
-        stores: issued(alloc, &rows.graph, Kind::Store)?,
-        outputs: issued(alloc, &rows.graph, Kind::Output)?,
+        stores: of_kind(alloc, &rows.graph, Kind::Store)?,
+        outputs: of_kind(alloc, &rows.graph, Kind::Output)?,
         claims: Vec::new(alloc),
         doubts: Vec::new(alloc),
         unlike: None,
     })
 }
 
-/// What is claimed of rows.
+/// What is claimed of rows, whose operations and those of the block are these.
 pub(crate) fn chosen(
     alloc: Global,
     sides: &Sides,
+    here: Graph,
+    there: Graph,
     read: &BTreeMap<usize, usize>,
 ) -> Result<Choice, NoMemory> {
-    let in_order = one_by_one(alloc, sides.block.len())?;
-    let givens = Vec::from_slice(alloc, sides.givens)?;
-    let here = Graph::of(alloc, sides.block, &in_order, givens)?;
-    let there = rows_graph(alloc, sides)?;
     let places_count = effects(&here) == effects(&there);
     let block = Side::of(alloc, here, places_count)?;
     let rows = Side::of(alloc, there, places_count)?;
-    let counterparts = Counterparts::of(alloc, &block, &rows)?;
-    let mut walk = begun(alloc, sides, &block, &rows, &counterparts, read)?;
+    let mut walk = begun(alloc, sides, &block, &rows, read)?;
     for row in sides.schedule.rows() {
         walk.pass(row)?;
     }

@@ -7,10 +7,10 @@ ghost use Rattle.iloc_reasons.specs.Steps.Likeness.{TellApart};
 ghost use Rattle.iloc_reasons.specs.Steps.Sides.{AreSides};
 ghost use Rattle.iloc_reasons.specs.Steps.Terms.{AreTerms};
 
+use crate::choice::graph::Graph;
 use crate::sides::Sides;
 use crate::terms::{Values, at, label_number};
 use iloc_ops::{NoMemory, Op};
-use iloc_timed::Row;
 use iloc_validation::{Reading, Sources};
 use std::alloc::Global;
 use std::collections::BTreeMap;
@@ -36,7 +36,7 @@ fn are_terms(ops: &[Op], sources: &[Sources], terms: &[u64]) -> bool
 }
 
 /// What the operations of rows read.
-fn sources_of(alloc: Global, readings: &[Reading]) -> Result<Vec<Sources>, NoMemory>
+pub(crate) fn sources_of(alloc: Global, readings: &[Reading]) -> Result<Vec<Sources>, NoMemory>
     ensures { IfOk result (λ sources. sources.items ≡ map (λ (r : Noted). r.sources) readings.now) }
 {
     let mut sources = Vec::with_capacity(alloc, readings.len())?;
@@ -57,45 +57,14 @@ fn looked_up(alloc: Global, terms: &[u64], count: usize) -> Result<BTreeMap<u64,
     Ok(found)
 }
 
-/// Puts the term of operation k in its place.
-fn put_term(terms: &mut Vec<u64>, ops: &[Op], sources: &[Sources], k: usize) {
-    if let Some(op) = ops.get(k)
-        && k < terms.len()
-    {
-        let read = sources.get(k).copied().unwrap_or(Sources::Nothing);
-        terms[k] = Values::of(terms, read).behind(label_number(op));
-    }
-}
-
-/// The terms of the operations of a block, in order.
-fn block_terms(alloc: Global, ops: &[Op], sources: &[Sources]) -> Result<Vec<u64>, NoMemory> {
-    let mut terms = vec![in alloc; 0; ops.len()]?;
-    for i in 0..ops.len() {
-        put_term(&mut terms, ops, sources, i);
-    }
-    Ok(terms)
-}
-
-/// The terms of the operations of rows, in the order of issue.
-fn row_terms(
+/// The terms of both sides, whose operations are these. Where they couldn't be relied on, which doesn't happen, each operation
+/// has a term of the block.
+pub(crate) fn terms_of(
     alloc: Global,
-    ops: &[Op],
-    rows: &[Row],
-    sources: &[Sources],
-) -> Result<Vec<u64>, NoMemory> {
-    let mut terms = vec![in alloc; 0; ops.len()]?;
-    for row in rows {
-        for slot in [row.zero, row.one] {
-            if let Some(k) = slot {
-                put_term(&mut terms, ops, sources, k);
-            }
-        }
-    }
-    Ok(terms)
-}
-
-/// The terms of both sides. Where they couldn't be relied on, which doesn't happen, each operation has a term of the block.
-pub(crate) fn terms_of(alloc: Global, sides: &Sides) -> Result<Terms, NoMemory>
+    sides: &Sides,
+    block: &Graph,
+    rows: &Graph,
+) -> Result<Terms, NoMemory>
     requires { AreSides sides.now.latencies.now sides.now.block.now sides.now.givens.now sides.now.schedule.now
         sides.now.readings.now }
     ensures { IfOk result (TellApart sides.now.latencies.now sides.now.block.now sides.now.schedule.now.ops
@@ -103,8 +72,8 @@ pub(crate) fn terms_of(alloc: Global, sides: &Sides) -> Result<Terms, NoMemory>
 {
     let ops = sides.schedule.ops();
     let sources = sources_of(alloc, sides.readings)?;
-    let block = block_terms(alloc, sides.block, sides.givens)?;
-    let rows = row_terms(alloc, ops, sides.schedule.rows(), &sources)?;
+    let block = block.forwards(alloc, &block.labels)?;
+    let rows = rows.forwards(alloc, &rows.labels)?;
     if are_terms(sides.block, sides.givens, &block) && are_terms(ops, &sources, &rows) {
         let block = looked_up(alloc, &block, sides.block.len())?;
         return Ok(Terms { rows, block });

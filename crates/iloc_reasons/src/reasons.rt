@@ -7,10 +7,11 @@ ghost use Rattle.iloc_reasons.specs.Reasons.{AreReasons};
 ghost use Rattle.iloc_reasons.specs.Steps.Likeness.{TellApart};
 ghost use Rattle.iloc_reasons.specs.Steps.Sides.{AreNoted, AreRead};
 
+use crate::choice::graph::Graph;
 use crate::choice::{Choice, chosen};
 use crate::claim::Claim;
 use crate::fact::Fact;
-use crate::likeness::{Terms, terms_of};
+use crate::likeness::{Terms, sources_of, terms_of};
 use crate::read::read_by_some;
 use crate::sides::Sides;
 use iloc_ops::{Block, NoMemory, Op};
@@ -35,28 +36,21 @@ pub struct Reasons {
     pub more: usize,
 }
 
-/// Facts, and how many more there are.
-#[derive(Drop)]
-struct FirstFacts {
-    facts: Vec<Fact>,
-    more: usize,
-}
-
-/// The first facts of what is claimed.
+/// The first facts of what is claimed, and how many more there are.
 fn first_facts(
     alloc: Global,
     sides: &Sides,
     terms: &Terms,
     read: &BTreeMap<usize, usize>,
     claims: &[Claim],
-) -> Result<FirstFacts, NoMemory>
+) -> Result<(Vec<Fact>, usize), NoMemory>
     requires terms { TellApart sides.now.latencies.now sides.now.block.now sides.now.schedule.now.ops
         sides.now.schedule.now.rows terms.now }
     requires readings { AreRead sides.now.latencies.now sides.now.schedule.now.ops sides.now.schedule.now.rows sides.now.readings.now }
     requires noted { AreNoted sides.now.readings.now read.now }
     ensures facts { IfOk result (λ listed. All (IsFact sides.now.latencies.now sides.now.block.now sides.now.schedule.now.ops
-        sides.now.schedule.now.rows) listed.facts.items) }
-    ensures few { IfOk result (λ listed. length listed.facts.items ≤ 8) }
+        sides.now.schedule.now.rows) listed.0.items) }
+    ensures few { IfOk result (λ listed. length listed.0.items ≤ 8) }
 {
     let mut facts = Vec::new(alloc);
     let mut more: usize = 0;
@@ -69,7 +63,7 @@ fn first_facts(
             }
         }
     }
-    Ok(FirstFacts { facts, more })
+    Ok((facts, more))
 }
 
 /// The operations of the block that have no counterpart, named by this one, if it is short.
@@ -121,14 +115,17 @@ pub fn reasons_of(
         readings: &readings,
         latencies,
     };
-    let terms = terms_of(alloc, &sides)?;
+    let here = Graph::of_block(alloc, &ops, &givens)?;
+    let sources = sources_of(alloc, &readings)?;
+    let there = Graph::of(alloc, theirs.ops(), theirs.rows(), &sources)?;
+    let terms = terms_of(alloc, &sides, &here, &there)?;
     let read = read_by_some(alloc, &readings)?;
     let Choice {
         claims,
         left_out: missing,
         added: extra,
-    } = chosen(alloc, &sides, &read)?;
-    let FirstFacts { facts, more } = first_facts(alloc, &sides, &terms, &read, &claims)?;
+    } = chosen(alloc, &sides, here, there, &read)?;
+    let (facts, more) = first_facts(alloc, &sides, &terms, &read, &claims)?;
     Ok(Reasons {
         left_out: left_out(alloc, &sides, missing)?,
         added: added(alloc, &sides, extra)?,

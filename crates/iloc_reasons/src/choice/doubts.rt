@@ -17,40 +17,7 @@ pub(crate) enum Cause {
 }
 
 /// Why an operation reads otherwise than it is meant to, left to right.
-#[derive(Clone, Copy, Debug)]
-pub(crate) struct Causes {
-    left: Option<Cause>,
-    right: Option<Cause>,
-}
-
-impl Causes {
-    /// Nothing is known.
-    pub(crate) fn none() -> Causes {
-        Causes {
-            left: None,
-            right: None,
-        }
-    }
-
-    /// The same with one at a place.
-    pub(crate) fn put(&mut self, place: usize, cause: Cause) {
-        if place == 0 {
-            self.left = Some(cause);
-        } else {
-            self.right = Some(cause);
-        }
-    }
-
-    /// Whether something is known.
-    pub(crate) fn are_known(self) -> bool {
-        self.left.is_some() || self.right.is_some()
-    }
-
-    /// Both, left to right.
-    pub(crate) fn both(self) -> [Option<Cause>; 2] {
-        [self.left, self.right]
-    }
-}
+pub(crate) type Causes = (Option<Cause>, Option<Cause>);
 
 /// What is claimed unless others are found to read wrongly what this operation brings.
 #[derive(Clone, Copy, Debug)]

@@ -1,5 +1,6 @@
 //! The operations of a block or of rows, with numbers for what they compute and for who reads them.
 
+use crate::claim::source_at;
 use crate::terms::{Values, at, label_number, mix};
 use iloc_ops::{NoMemory, Op};
 use iloc_timed::{Kind, Row};
@@ -50,7 +51,8 @@ impl Place {
 #[derive(Drop)]
 pub(crate) struct Graph<'a> {
     pub ops: &'a [Op],
-    pub rows: &'a [Row],
+    /// As they are issued.
+    pub issued: Vec<usize>,
     /// By operation what it reads.
     pub sources: Vec<Sources>,
     pub places: Vec<Place>,
@@ -83,13 +85,42 @@ fn places(alloc: Global, ops: &[Op], rows: &[Row]) -> Result<Vec<Place>, NoMemor
     Ok(places)
 }
 
+/// The operations of rows as they are issued.
+fn issued(alloc: Global, rows: &[Row]) -> Result<Vec<usize>, NoMemory> {
+    let mut issued = Vec::new(alloc);
+    for row in rows {
+        for slot in [row.zero, row.one] {
+            if let Some(k) = slot {
+                issued.push(k)?;
+            }
+        }
+    }
+    Ok(issued)
+}
+
 impl<'a> Graph<'a> {
-    /// The operations of one side, of which each reads these.
+    /// The operations of a block, issued one by one, of which each reads these.
+    pub(crate) fn of_block(
+        alloc: Global,
+        ops: &'a [Op],
+        sources: &[Sources],
+    ) -> Result<Graph<'a>, NoMemory> {
+        let mut rows = Vec::with_capacity(alloc, ops.len())?;
+        for i in 0..ops.len() {
+            rows.push(Row {
+                zero: Some(i),
+                one: None,
+            })?;
+        }
+        Graph::of(alloc, ops, &rows, sources)
+    }
+
+    /// The operations of rows, of which each reads these.
     pub(crate) fn of(
         alloc: Global,
         ops: &'a [Op],
-        rows: &'a [Row],
-        sources: Vec<Sources>,
+        rows: &[Row],
+        sources: &[Sources],
     ) -> Result<Graph<'a>, NoMemory> {
         let mut labels = Vec::with_capacity(alloc, ops.len())?;
         for op in ops {
@@ -97,8 +128,8 @@ impl<'a> Graph<'a> {
         }
         Ok(Graph {
             ops,
-            rows,
-            sources,
+            issued: issued(alloc, rows)?,
+            sources: Vec::from_slice(alloc, sources)?,
             places: places(alloc, ops, rows)?,
             labels,
         })
@@ -122,13 +153,9 @@ impl<'a> Graph<'a> {
     /// By operation its number and those of what it reads.
     pub(crate) fn forwards(&self, alloc: Global, numbers: &[u64]) -> Result<Vec<u64>, NoMemory> {
         let mut out = vec![in alloc; 0; self.ops.len()]?;
-        for row in self.rows {
-            for slot in [row.zero, row.one] {
-                if let Some(k) = slot {
-                    let number = Values::of(&out, self.sources(k)).behind(at(numbers, k));
-                    put(&mut out, k, number);
-                }
-            }
+        for k in &self.issued {
+            let number = Values::of(&out, self.sources(*k)).behind(at(numbers, *k));
+            put(&mut out, *k, number);
         }
         Ok(out)
     }
@@ -137,14 +164,10 @@ impl<'a> Graph<'a> {
     pub(crate) fn backwards(&self, alloc: Global, numbers: &[u64]) -> Result<Vec<u64>, NoMemory> {
         let mut out = vec![in alloc; 0; self.ops.len()]?;
         let mut heard = vec![in alloc; 0; self.ops.len()]?;
-        for row in self.rows.iter().rev() {
-            for slot in [row.zero, row.one] {
-                if let Some(k) = slot {
-                    let number = mix(at(numbers, k), at(&heard, k));
-                    put(&mut out, k, number);
-                    tell(&mut heard, self.sources(k), number);
-                }
-            }
+        for k in self.issued.iter().rev() {
+            let number = mix(at(numbers, *k), at(&heard, *k));
+            put(&mut out, *k, number);
+            tell(&mut heard, self.sources(*k), number);
         }
         Ok(out)
     }
@@ -152,17 +175,10 @@ impl<'a> Graph<'a> {
 
 /// Tells those that are read who reads them.
 fn tell(heard: &mut Vec<u64>, sources: Sources, number: u64) {
-    let (left, right) = match sources {
-        Sources::Nothing => (None, None),
-        Sources::One(only) => (only, None),
-        Sources::Two(left, right) => (left, right),
-    };
-    if let Some(s) = left {
-        let sum = at(heard.as_slice(), s).wrapping_add(mix(number, 1));
-        put(heard, s, sum);
-    }
-    if let Some(s) = right {
-        let sum = at(heard.as_slice(), s).wrapping_add(mix(number, 2));
-        put(heard, s, sum);
+    for place in 0..2 {
+        if let Some(s) = source_at(sources, place) {
+            let sum = at(heard, s).wrapping_add(mix(number, place as u64 + 1));
+            put(heard, s, sum);
+        }
     }
 }

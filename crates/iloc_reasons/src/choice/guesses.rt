@@ -1,16 +1,13 @@
 //! What an operation may have been meant to read.
 
 use super::graph::Graph;
+use super::lines::Lines;
 use crate::claim::{What, source_at};
 use crate::sides::Sides;
 use crate::terms::{Values, at, value};
-use iloc_ops::{NoMemory, Op, Reg, defines, uses};
+use iloc_ops::{NoMemory, Op, Reg, uses};
 use iloc_validation::Sources;
 use std::alloc::Global;
-use std::collections::BTreeMap;
-
-/// How far it is looked back for what defined a register.
-const LOOKS: usize = 64;
 
 /// How many results are thought of, of those under way and of those that were there.
 const MOST: usize = 3;
@@ -26,53 +23,6 @@ pub(crate) struct Guess {
     pub what: Option<What>,
 }
 
-/// By register the operations that defined it so far, the last first.
-#[derive(Drop)]
-pub(crate) struct Definers {
-    last: BTreeMap<u32, usize>,
-    // By operation the one before it.
-    before: Vec<Option<usize>>,
-}
-
-impl Definers {
-    /// None, of so many operations.
-    pub(crate) fn none(alloc: Global, count: usize) -> Result<Definers, NoMemory> {
-        Ok(Definers {
-            last: BTreeMap::new(alloc),
-            before: vec![in alloc; None; count]?,
-        })
-    }
-
-    /// Operation k is issued.
-    pub(crate) fn note(&mut self, ops: &[Op], k: usize) -> Result<(), NoMemory> {
-        if let Some(op) = ops.get(k)
-            && let Some(register) = defines(op)
-            && k < self.before.len()
-        {
-            self.before[k] = self.last.get(&register.0).copied();
-            self.last.insert(register.0, k)?;
-        }
-        Ok(())
-    }
-
-    /// The last ones, up to a count.
-    fn last_of(&self, alloc: Global, register: Reg) -> Result<Vec<usize>, NoMemory> {
-        let mut found = Vec::new(alloc);
-        let mut here = self.last.get(&register.0).copied();
-        for _ in 0..LOOKS {
-            let Some(k) = here else {
-                break;
-            };
-            found.push(k)?;
-            here = match self.before.get(k) {
-                Some(before) => *before,
-                None => None,
-            };
-        }
-        Ok(found)
-    }
-}
-
 /// The first use of an operation that reads the register of a use.
 fn first_use(op: &Op, place: usize) -> Option<(usize, Reg)> {
     let registers = uses(op);
@@ -85,7 +35,8 @@ fn first_use(op: &Op, place: usize) -> Option<(usize, Reg)> {
 #[derive(Clone, Copy)]
 pub(crate) struct Looking<'a> {
     pub sides: &'a Sides<'a>,
-    pub definers: &'a Definers,
+    /// By register the operations that defined it so far, the last first.
+    pub definers: &'a Lines,
     /// By operation of the rows what it is meant to bring.
     pub meant: &'a [u64],
 }
@@ -120,7 +71,7 @@ impl Looking<'_> {
         let Some((place, register)) = first_use(op, place) else {
             return Ok(guesses);
         };
-        let last = self.definers.last_of(alloc, register)?;
+        let last = self.definers.first_few(alloc, u64::from(register.0))?;
         self.push_later(&mut guesses, &last, k, place)?;
         self.push_older(alloc, &mut guesses, &last, k, place, read)?;
         if read.is_some() {

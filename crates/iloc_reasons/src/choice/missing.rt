@@ -1,75 +1,15 @@
 //! The operations of a block that have no counterpart in rows, as long as nobody is found to be one.
 
 use super::graph::put;
+use super::lines::Lines;
 use super::side::{Side, has};
 use crate::terms::{Values, at, mix, one_if};
 use iloc_ops::NoMemory;
 use iloc_validation::Sources;
 use std::alloc::Global;
-use std::collections::BTreeMap;
-
-/// How many of a line are looked at.
-const LOOKS: usize = 64;
 
 /// What differs in two things that it reads is so far.
 const FAR: u32 = 12;
-
-/// Operations in lines, one for each key, in order.
-#[derive(Drop)]
-struct Lines {
-    first: BTreeMap<u64, usize>,
-    // By operation the one behind it.
-    next: Vec<Option<usize>>,
-}
-
-impl Lines {
-    /// Lines for so many operations.
-    fn new(alloc: Global, count: usize) -> Result<Lines, NoMemory> {
-        Ok(Lines {
-            first: BTreeMap::new(alloc),
-            next: vec![in alloc; None; count]?,
-        })
-    }
-
-    /// The one behind an operation.
-    fn behind(&self, i: usize) -> Option<usize> {
-        match self.next.get(i) {
-            Some(next) => *next,
-            None => None,
-        }
-    }
-
-    /// Puts an operation first.
-    fn put_first(&mut self, key: u64, i: usize) -> Result<(), NoMemory> {
-        put(&mut self.next, i, self.first.get(&key).copied());
-        self.first.insert(key, i)?;
-        Ok(())
-    }
-
-    /// The first one that is free; those before it leave the line.
-    fn first_free(&mut self, key: u64, free: &[bool]) -> Result<Option<usize>, NoMemory> {
-        let Some(first) = self.first.get(&key).copied() else {
-            return Ok(None);
-        };
-        let mut found = Some(first);
-        for _ in 0..self.next.len() {
-            match found {
-                Some(i) if !has(free, i) => found = self.behind(i),
-                _ => break,
-            }
-        }
-        match found {
-            Some(i) if i == first => {}
-            Some(i) => {
-                self.first.insert(key, i)?;
-            }
-            None => {
-                self.first.remove(&key);
-            }
-        }
-        Ok(found)
-    }
-}
 
 /// What an operation of the rows is meant to be, besides its label.
 #[derive(Clone, Copy, Debug)]
@@ -194,16 +134,12 @@ impl Missing {
 
     /// Those of a label, of which so many are looked at.
     pub(crate) fn of_label(&mut self, alloc: Global, label: u64) -> Result<Vec<usize>, NoMemory> {
+        self.by_label.first_free(label, &self.free)?;
         let mut found = Vec::new(alloc);
-        let mut here = self.by_label.first_free(label, &self.free)?;
-        for _ in 0..LOOKS {
-            let Some(i) = here else {
-                break;
-            };
-            if has(&self.free, i) {
-                found.push(i)?;
+        for i in &self.by_label.first_few(alloc, label)? {
+            if has(&self.free, *i) {
+                found.push(*i)?;
             }
-            here = self.by_label.behind(i);
         }
         Ok(found)
     }

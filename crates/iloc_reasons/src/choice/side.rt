@@ -66,7 +66,7 @@ pub(crate) fn effects(graph: &Graph) -> u64 {
 }
 
 /// Which operations of a side have a counterpart of the same term and readers on the other.
-fn matched(alloc: Global, side: &Side, other: &Side) -> Result<Vec<bool>, NoMemory> {
+pub(crate) fn matched(alloc: Global, side: &Side, other: &Side) -> Result<Vec<bool>, NoMemory> {
     let mut there = Counts::none(alloc);
     for k in 0..other.terms.len() {
         there.add(other.both(k))?;
@@ -76,23 +76,6 @@ fn matched(alloc: Global, side: &Side, other: &Side) -> Result<Vec<bool>, NoMemo
         are.push(there.take(side.both(k))?)?;
     }
     Ok(are)
-}
-
-/// Which operations have a counterpart of the same term and readers.
-#[derive(Drop)]
-pub(crate) struct Counterparts {
-    pub block: Vec<bool>,
-    pub rows: Vec<bool>,
-}
-
-impl Counterparts {
-    /// Those of a block and of rows.
-    pub(crate) fn of(alloc: Global, block: &Side, rows: &Side) -> Result<Counterparts, NoMemory> {
-        Ok(Counterparts {
-            block: matched(alloc, block, rows)?,
-            rows: matched(alloc, rows, block)?,
-        })
-    }
 }
 
 /// Whether there is such a place, and it holds.

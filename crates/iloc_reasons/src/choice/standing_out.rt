@@ -3,9 +3,9 @@
 use super::counts::Counts;
 use super::graph::{Graph, put};
 use super::side::has;
+use crate::claim::source_at;
 use crate::terms::mix;
 use iloc_ops::NoMemory;
-use iloc_validation::Sources;
 use std::alloc::Global;
 
 /// How many passes of numbers are made, forwards and backwards in turn.
@@ -79,34 +79,18 @@ pub(crate) fn odd(alloc: Global, block: &Graph, rows: &Graph) -> Result<Vec<usiz
     };
     let mut are_read = vec![in alloc; false; are.len()]?;
     for (k, sources) in rows.sources.iter().enumerate() {
-        if has(&are, k) {
-            note_read(&mut are_read, *sources);
-        }
-    }
-    for row in rows.rows {
-        for slot in [row.zero, row.one] {
-            if let Some(k) = slot
-                && has(&are, k)
-                && !has(&are_read, k)
+        for place in 0..2 {
+            if has(&are, k)
+                && let Some(s) = source_at(*sources, place)
             {
-                found.push(k)?;
+                put(&mut are_read, s, true);
             }
         }
     }
+    for k in &rows.issued {
+        if has(&are, *k) && !has(&are_read, *k) {
+            found.push(*k)?;
+        }
+    }
     Ok(found)
-}
-
-/// Notes that these are read.
-fn note_read(are_read: &mut Vec<bool>, sources: Sources) {
-    let (left, right) = match sources {
-        Sources::Nothing => (None, None),
-        Sources::One(only) => (only, None),
-        Sources::Two(left, right) => (left, right),
-    };
-    if let Some(s) = left {
-        put(are_read, s, true);
-    }
-    if let Some(s) = right {
-        put(are_read, s, true);
-    }
 }

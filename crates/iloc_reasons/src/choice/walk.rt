@@ -3,14 +3,15 @@
 use super::Choice;
 use super::doubts::{Cause, Causes, Doubt, undoubted};
 use super::graph::{Place, put};
-use super::guesses::{Definers, Guesses, Looking, Pick};
+use super::guesses::{Guesses, Looking, Pick};
+use super::lines::Lines;
 use super::missing::{Missing, Wanted};
 use super::side::{Side, has};
 use super::strays::{Stray, Strays};
 use crate::claim::{Claim, What, source_at};
 use crate::sides::Sides;
 use crate::terms::{Values, at, mix};
-use iloc_ops::{NoMemory, uses};
+use iloc_ops::{NoMemory, defines, uses};
 use iloc_timed::{Kind, Row};
 use std::alloc::Global;
 
@@ -22,6 +23,11 @@ const FEW: usize = 8;
 
 /// How much less likely it is that an operation is in another place.
 const MOVED: u32 = 2;
+
+/// Whether one is known.
+fn are_known(causes: Causes) -> bool {
+    causes.0.is_some() || causes.1.is_some()
+}
 
 /// The cheapest change that makes an operation one that is missing.
 #[derive(Clone, Copy, Debug)]
@@ -41,9 +47,10 @@ pub(crate) struct Walk<'a> {
     pub block: &'a Side<'a>,
     pub rows: &'a Side<'a>,
     /// By operation of the rows whether it has a counterpart of its term.
-    pub counterparts: &'a [bool],
+    pub counterparts: Vec<bool>,
     pub missing: Missing,
-    pub definers: Definers,
+    /// By register the operations that defined it so far, the last first.
+    pub definers: Lines,
     /// By operation of the rows what it is meant to bring.
     pub meant: Vec<u64>,
     pub strays: Strays<'a>,
@@ -82,9 +89,13 @@ impl Walk<'_> {
 
     /// Goes on to what is issued in a row.
     pub(crate) fn pass(&mut self, row: &Row) -> Result<(), NoMemory> {
+        let ops = self.sides.schedule.ops();
         for slot in [row.zero, row.one] {
-            if let Some(k) = slot {
-                self.definers.note(self.sides.schedule.ops(), k)?;
+            if let Some(k) = slot
+                && let Some(op) = ops.get(k)
+                && let Some(register) = defines(op)
+            {
+                self.definers.put_first(u64::from(register.0), k)?;
             }
         }
         for slot in [row.zero, row.one] {
@@ -121,7 +132,7 @@ impl Walk<'_> {
     fn step(&mut self, k: usize) -> Result<(), NoMemory> {
         let values = Values::of(&self.meant, self.rows.graph.sources(k));
         let own = self.rows.term(k, self.place(k), values);
-        if own == at(&self.rows.terms, k) && has(self.counterparts, k) {
+        if own == at(&self.rows.terms, k) && has(&self.counterparts, k) {
             put(&mut self.meant, k, own);
             return Ok(());
         }
@@ -177,7 +188,7 @@ impl Walk<'_> {
         }
         for i in found.iter().take(FEW) {
             let causes = self.causes(k, values, *i, &guesses);
-            if at(&self.block.places, *i) == wanted.place && causes.are_known() {
+            if at(&self.block.places, *i) == wanted.place && are_known(causes) {
                 return Ok(Some((*i, causes)));
             }
         }
@@ -187,15 +198,20 @@ impl Walk<'_> {
     /// Why operation k reads otherwise than operation i of the block; nothing unless it is known at each place where it does.
     fn causes(&self, k: usize, values: Values, i: usize, guesses: &Guesses) -> Causes {
         let theirs = Values::of(&self.block.terms, self.block.graph.sources(i));
-        let mut causes = Causes::none();
+        let mut causes = (None, None);
         for place in 0..2 {
             if let Some(wanted) = theirs.at(place)
                 && values.at(place) != Some(wanted)
             {
                 let what = guesses.what(place, wanted);
-                match self.cause(k, place, i, what) {
-                    Some(cause) => causes.put(place, cause),
-                    None => return Causes::none(),
+                let cause = self.cause(k, place, i, what);
+                if cause.is_none() {
+                    return (None, None);
+                }
+                if place == 0 {
+                    causes.0 = cause;
+                } else {
+                    causes.1 = cause;
                 }
             }
         }
@@ -211,10 +227,7 @@ impl Walk<'_> {
                 Some(Cause::Said(Claim { k: u, what }))
             }
             Some(Stray::Read(u)) => Some(Cause::Elsewhere(u)),
-            None => match what {
-                Some(what) => Some(Cause::Said(Claim { k, what })),
-                None => None,
-            },
+            None => Some(Cause::Said(Claim { k, what: what? })),
         }
     }
 
@@ -228,7 +241,7 @@ impl Walk<'_> {
 
     /// Operation k stands for operation i of the block: says why or, where nothing is known, that it does.
     fn stand_for(&mut self, k: usize, i: usize, causes: Causes) -> Result<(), NoMemory> {
-        for cause in causes.both() {
+        for cause in [causes.0, causes.1] {
             if let Some(Cause::Said(claim)) = cause {
                 self.claim(claim.k, claim.what)?;
             }
@@ -237,10 +250,10 @@ impl Walk<'_> {
             k,
             what: What::For { op: i },
         };
-        if !causes.are_known() {
+        if !are_known(causes) {
             return self.claim(k, claim.what);
         }
-        for cause in causes.both() {
+        for cause in [causes.0, causes.1] {
             if let Some(Cause::Elsewhere(brought)) = cause {
                 self.doubts.push(Doubt { claim, brought })?;
             }
@@ -379,27 +392,10 @@ impl Walk<'_> {
         let undoubted = undoubted(alloc, &rows.graph, &self.doubts, &self.claims)?;
         self.claims.extend_from_slice(&undoubted)?;
         let claims = self.by_row()?;
-        let Walk {
-            alloc: _,
-            sides: _,
-            block: _,
-            strays: _,
-            rows: _,
-            counterparts: _,
-            missing,
-            definers: _,
-            meant: _,
-            store: _,
-            stores: _,
-            outputs: _,
-            claims: _,
-            doubts: _,
-            unlike,
-        } = self;
         Ok(Choice {
             claims,
-            left_out: missing.first_short(),
-            added: unlike,
+            left_out: self.missing.first_short(),
+            added: self.unlike,
         })
     }
 }

@@ -23,7 +23,7 @@ returns-then-are_terms-2 c =
     λ k within. ap (λ ss. sources_at ss k) c.in_ok-sources.ensures ∙ reads_at sides.readings.now k
     ∙ ap (λ (r : Reading). r.sources) (c.requires.each k within) in
     let terms_here : AreTerms sides.block.now sides.givens.now c.in_ok-block.block.items =
-    rw c.deref-2.ensures.value at (c.are_terms.ensures c.if-are_terms.true) in
+    rw c.deref-3.ensures.value at (c.are_terms.ensures c.if-are_terms.true) in
     let terms_there : AreTerms schedule.ops reads c.in_ok-rows.rows.items =
     rw (c.ops-ops.ensures.ops, c.deref-then-are_terms.ensures.value, c.deref-then-are_terms-2.ensures.value)
     at (c.are_terms-then-are_terms.ensures c.if-are_terms-2.true) in
