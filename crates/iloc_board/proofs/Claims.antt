@@ -1,11 +1,10 @@
 -- A worker's steps towards a job.
-use Rattle.std.proofs.Common.{◌≡◌, ℕ, ◌<◌, ◌≤◌, true, [], ◌∷◌, ◌++◌, refl, ap, sym, ◌∙◌, subst, arith}
+use Rattle.std.proofs.Common.{◌≡◌, ℕ, ◌<◌, ◌≤◌, true, [], ◌∷◌, ◌++◌, refl, ap, sym, ◌∙◌, arith}
 use Rattle.std.proofs.lemmas.List.{append-nil, append_assoc, map-append}
 use Rattle.iloc_board.specs.declared.step.Step.{Step}
 use Rattle.iloc_board.specs.declared.step.Step.TheVariants.{Hand}
 use Rattle.iloc_board.specs.declared.step.Reply.{Reply}
 use Rattle.iloc_board.specs.declared.step.Reply.TheVariants.{Block, NoneLeft, Took, Stale, Handed}
-use Rattle.iloc_board.specs.declared.board.state.State.{State}
 use Rattle.iloc_board.specs.declared.board.state.State.TheVariants.{Free, Looked, Holding}
 use Rattle.iloc_board.specs.declared.journal.Journal.{Journal}
 use Rattle.iloc_board.specs.Core.{IsWithin}
@@ -51,7 +50,7 @@ module _ {J A : Type 0} where
     }
 
     pub hands_equal : (o p q : PassView J A) → HandsBack fits price o p → q ≡ p → HandsBack fits price o q
-    hands_equal o p q h e = let P : PassView J A → Type 0 = λ v. HandsBack fits price o v in subst P (sym e) h
+    hands_equal o p q h e = rw e h
 
     hands_one : (o p : PassView J A) (k : ℕ) (a : A) → HandsBack fits price o p → state p ≡ Holding k → fits k a
         → HandsBack fits price o (with_answer p k a (price a))
@@ -91,8 +90,7 @@ module _ {J A : Type 0} (count : ℕ) where
   pub none_claims : (p q : PassView J A) (x : Step) → q ≡ stepped p x NoneLeft → state p ≡ Free
       → Ended count p.journal q.journal × IsDone q.journal
   none_claims p q x e free =
-      let P : PassView J A → Type 0 = λ v. Ended count p.journal v.journal × IsDone v.journal in
-      subst P (sym e) (
+      rw e (
         works.none_ends count p.journal p.journal x (works.goes_none count p.journal) free,
         works.is_done p.journal x,
       )
@@ -100,20 +98,17 @@ module _ {J A : Type 0} (count : ℕ) where
   -- a step that hands nothing back
   pub hands_nothing : (o p q : PassView J A) (x : Step) (r : Reply) → HandsNothing o p → q ≡ stepped p x r
       → accepted (state p) x r ≡ [] → HandsNothing o q
-  hands_nothing o p q x r h e none = let P : PassView J A → Type 0 = λ v. HandsNothing o v in
-      subst P (sym e) (hands_none_more o p x r h none)
+  hands_nothing o p q x r h e none = rw e (hands_none_more o p x r h none)
 
   pub looks_first : (b : BoardView J) (p q : PassView J A) (x : Step) (k : ℕ) → p.board ≡ b → q ≡ stepped p x (Block k)
       → state p ≡ Free → seen count p.journal ≤ k → k < count → Tries b p q
   looks_first b p q x k own e free low lt =
-      let P : PassView J A → Type 0 = λ v. Tries b p v in
       let now : state_of (noted p.journal x (Block k)).entries ≡ Looked k =
       state_from-snoc Free p.journal.entries x (Block k) in
-      let Q : State → Type 0 = λ s. IsWithin count s in
-      subst P (sym e) record {
+      rw e record {
         own = own;
         looking = ap is_looking now;
-        within = subst Q (sym now) lt;
+        within = rw now lt;
         goes = works.block_goes count p.journal p.journal x k (works.goes_none count p.journal) free low lt;
         nothing = hands_none_more p p x (Block k) (hands_none p) refl;
       }
@@ -132,8 +127,7 @@ module _ {J A : Type 0} (count : ℕ) where
       let here = at b o p h in
       let lt : job_of (state p) < count = here.1 in
       let looked : state p ≡ Looked k = here.0 ∙ ap Looked (sym same) in
-      let P : PassView J A → Type 0 = λ v. Goes count o.journal v.journal × (state v ≡ Holding k) × (k < count) in
-      subst P (sym e) (
+      rw e (
         works.took_goes count o.journal p.journal x k h.goes looked (omega arith),
         state_from-snoc Free p.journal.entries x (Took k),
         omega arith,
@@ -145,12 +139,10 @@ module _ {J A : Type 0} (count : ℕ) where
       let here = at b o p h in
       let now : state_of (noted p.journal x (Stale n)).entries ≡ Looked n =
       state_from-snoc Free p.journal.entries x (Stale n) in
-      let P : PassView J A → Type 0 = λ v. Tries b o v in
-      let Q : State → Type 0 = λ s. IsWithin count s in
-      subst P (sym e) record {
+      rw e record {
         own = h.own;
         looking = ap is_looking now;
-        within = subst Q (sym now) capacity;
+        within = rw now capacity;
         goes = works.stale_goes count o.journal p.journal x (job_of (state p)) n h.goes here.0 lt capacity;
         nothing = hands_none_more o p x (Stale n) h.nothing refl;
       }
@@ -158,15 +150,13 @@ module _ {J A : Type 0} (count : ℕ) where
   pub tries_fall : (b : BoardView J) (o p q : PassView J A) (x : Step) (n : ℕ) → Tries b o p → q ≡ stepped p x (Stale n)
       → job_of (state p) < n → n < count → left count q.journal < left count p.journal
   tries_fall b o p q x n h e lt capacity =
-      let P : PassView J A → Type 0 = λ v. left count v.journal < left count p.journal in
-      subst P (sym e) (works.stale_falls count p.journal x (job_of (state p)) n (at b o p h).0 lt capacity)
+      rw e (works.stale_falls count p.journal x (job_of (state p)) n (at b o p h).0 lt capacity)
 
   pub late_claims : (b : BoardView J) (o p q : PassView J A) (x : Step) → Tries b o p → q ≡ stepped p x NoneLeft
       → Ended count o.journal q.journal × IsDone q.journal
   late_claims b o p q x h e =
       let here = at b o p h in
-      let P : PassView J A → Type 0 = λ v. Ended count o.journal v.journal × IsDone v.journal in
-      subst P (sym e) (
+      rw e (
         works.late_ends count o.journal p.journal x (job_of (state p)) h.goes here.0 here.1,
         works.is_done p.journal x,
       )
@@ -176,8 +166,7 @@ module _ {J A : Type 0} (count : ℕ) where
       → k < count → r ≡ with_answer q (job_of (state q)) a cost → left count r.journal < left count p.journal
   between_falls p q r k cost a g holding lt e =
       let x : Step = Hand q.journal.worker cost in
-      let P : PassView J A → Type 0 = λ v. left count v.journal < left count p.journal in
-      subst P (sym e) (works.hand_falls count p.journal q.journal x k g holding lt)
+      rw e (works.hand_falls count p.journal q.journal x k g holding lt)
 
   module _ (fits : ℕ → A → Type 0) (price : A → ℕ) where
     pub between_first : (b : BoardView J) (p : PassView J A) → p.board ≡ b → state p ≡ Free → IsBetween fits price b p p
@@ -195,12 +184,11 @@ module _ {J A : Type 0} (count : ℕ) where
     between_on b o p q r k a h g n holding lt own fit e =
         let x : Step = Hand q.journal.worker (price a) in
         let job : job_of (state q) ≡ k = ap job_of holding in
-        let P : PassView J A → Type 0 = λ v. IsBetween fits price b o v in
-        subst P (sym (e ∙ ap (λ j. with_answer q j a (price a)) job)) record {
+        rw (e ∙ ap (λ j. with_answer q j a (price a)) job) record {
           own = own;
           free = state_from-snoc Free q.journal.entries x Handed;
           goes = works.hand_goes count o.journal q.journal x k
-              (works.goes_on count o.journal p.journal q.journal h.goes g) holding lt;
+              (works.pays_on count o.journal p.journal q.journal _ _ h.goes g) holding lt;
           hands = hands_one fits price o q k a (hands_same fits price o p q h.hands n) holding fit;
         }
 
@@ -208,14 +196,13 @@ module _ {J A : Type 0} (count : ℕ) where
     pub runs_to : (b : BoardView J) (o p q : PassView J A) → state o ≡ Free → IsBetween fits price b o p
         → Goes count p.journal q.journal → Runs count o.journal q.journal
     runs_to b o p q free h g = works.runs count o.journal q.journal free
-        (works.ends_here count o.journal q.journal (works.goes_on count o.journal p.journal q.journal h.goes g))
+        (works.ends_here count o.journal q.journal (works.pays_on count o.journal p.journal q.journal _ _ h.goes g))
 
     pub runs_same : (b : BoardView J) (o p q r : PassView J A) → state o ≡ Free → IsBetween fits price b o p
         → Goes count p.journal q.journal → r ≡ q → Runs count o.journal r.journal
-    runs_same b o p q r free h g e = let P : PassView J A → Type 0 = λ v. Runs count o.journal v.journal in
-        subst P (sym e) (runs_to b o p q free h g)
+    runs_same b o p q r free h g e = rw e (runs_to b o p q free h g)
 
     pub runs_out : (b : BoardView J) (o p q : PassView J A) → state o ≡ Free → IsBetween fits price b o p
         → Ended count p.journal q.journal → Runs count o.journal q.journal
     runs_out b o p q free h g = works.runs count o.journal q.journal free
-        (works.ends_on count o.journal p.journal q.journal h.goes g)
+        (works.pays_on count o.journal p.journal q.journal 0 0 h.goes g)

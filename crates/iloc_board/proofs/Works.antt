@@ -1,5 +1,5 @@
 -- How a worker's run falls.
-use Rattle.std.proofs.Common.{◌≡◌, ℕ, suc, ◌+◌, ◌*◌, ◌-◌, ◌<◌, ◌≤◌, max, true, List, [], ◌∷◌, ◌++◌, length, refl, ap, sym, ◌∙◌, subst, arith, length-append}
+use Rattle.std.proofs.Common.{◌≡◌, ℕ, suc, ◌+◌, ◌-◌, ◌<◌, ◌≤◌, max, true, List, [], ◌∷◌, ◌++◌, length, refl, ap, ap₂, sym, ◌∙◌, arith, length-append}
 use Rattle.std.proofs.lemmas.Bool.{or_right}
 use Rattle.std.proofs.lemmas.List.{append-nil, append_assoc}
 use Rattle.iloc_board.specs.declared.step.Step.{Step}
@@ -13,7 +13,7 @@ use Rattle.iloc_board.specs.Core.{IsWithin, entry, state_after}
 use Rattle.iloc_board.specs.Journal.{state_of, state_from, shown, seen, seen_from, is_none_left, saw_none, noted}
 use Rattle.iloc_board.specs.Views.{is_looking}
 use Rattle.iloc_board.specs.Working.{one_if_stale, stales, Adds, Runs, IsDone}
-use Rattle.iloc_board.specs.Steps.Course.{left_in, left, slack_in, slack, Goes, Ended}
+use Rattle.iloc_board.specs.Steps.Course.{left_in, left, slack_in, slack, Pays, Goes, Ended}
 use Rattle.iloc_board.proofs.Parts.{state_from-snoc, seen_from-snoc}
 
 stales-snoc : (es : List Entry) (x : Step) (r : Reply) → stales (es ++ entry x r ∷ []) ≡ stales es + one_if_stale r
@@ -25,27 +25,18 @@ saw_none-snoc : (es : List Entry) (x : Step) → saw_none (es ++ entry x NoneLef
 saw_none-snoc [] x = refl
 saw_none-snoc (e ∷ es) x = or_right (is_none_left e.reply) _ (saw_none-snoc es x)
 
--- what is left after one entry more
-left_noted : (count : ℕ) (t : Journal) (x : Step) (r : Reply) (s : State) → state_of t.entries ≡ s
-    → left count (noted t x r) ≡ left_in count (max (seen count t) (shown count r)) (state_after s r)
-left_noted count t x r s e =
-    ap (λ q. left_in count (seen count (noted t x r)) q) (state_from-snoc Free t.entries x r
-    ∙ ap (λ q. state_after q r) e) ∙ ap (λ q. left_in count q (state_after s r))
-    (seen_from-snoc count t.start t.entries x r)
+-- what may be left and what may come too late, by the state, and the same after one entry more
+stands : (count : ℕ) (t : Journal) (s : State) → state_of t.entries ≡ s
+    → (left count t ≡ left_in count (seen count t) s) × (slack count t ≡ slack_in count (seen count t) s)
+stands count t s e = (ap (left_in count (seen count t)) e, ap (slack_in count (seen count t)) e)
 
-slack_noted : (count : ℕ) (t : Journal) (x : Step) (r : Reply) (s : State) → state_of t.entries ≡ s
-    → slack count (noted t x r) ≡ slack_in count (max (seen count t) (shown count r)) (state_after s r)
-slack_noted count t x r s e =
-    ap (λ q. slack_in count (seen count (noted t x r)) q) (state_from-snoc Free t.entries x r
-    ∙ ap (λ q. state_after q r) e) ∙ ap (λ q. slack_in count q (state_after s r))
-    (seen_from-snoc count t.start t.entries x r)
-
-left_is : (count : ℕ) (t : Journal) (s : State) → state_of t.entries ≡ s → left count t ≡ left_in count (seen count t) s
-left_is count t s e = ap (λ q. left_in count (seen count t) q) e
-
-slack_is : (count : ℕ) (t : Journal) (s : State) → state_of t.entries ≡ s
-    → slack count t ≡ slack_in count (seen count t) s
-slack_is count t s e = ap (λ q. slack_in count (seen count t) q) e
+stands_noted : (count : ℕ) (t : Journal) (x : Step) (r : Reply) (s : State) → state_of t.entries ≡ s
+    → (left count (noted t x r) ≡ left_in count (max (seen count t) (shown count r)) (state_after s r))
+    × (slack count (noted t x r) ≡ slack_in count (max (seen count t) (shown count r)) (state_after s r))
+stands_noted count t x r s e =
+    let low = seen_from-snoc count t.start t.entries x r in
+    let now = state_from-snoc Free t.entries x r ∙ ap (λ q. state_after q r) e in
+    (ap₂ (left_in count) low now, ap₂ (slack_in count) low now)
 
 adds_more : (j t : Journal) (added : List Entry) (x : Step) (r : Reply) → Adds j t added
     → Adds j (noted t x r) (added ++ entry x r ∷ [])
@@ -64,36 +55,18 @@ goes_none count j = record {
     entries = sym (append-nil j.entries);
   };
   few = omega arith;
-  late = omega arith;
+  stale = omega arith;
 }
 
-pub goes_more : (count : ℕ) (j t : Journal) (x : Step) (r : Reply) → Goes count j t
-    → 1 + left count (noted t x r) ≤ left count t → one_if_stale r + slack count (noted t x r) ≤ slack count t
-    → Goes count j (noted t x r)
-goes_more count j t x r h fall late =
-    let few : length h.added + left count t ≤ left count j = h.few in
-    let was : stales h.added + slack count t ≤ slack count j = h.late in
+pays_more : (count : ℕ) (j t : Journal) (x : Step) (r : Reply) (entries late : ℕ) → Goes count j t
+    → 1 + entries ≤ left count t → one_if_stale r + late ≤ slack count t → Pays count j (noted t x r) entries late
+pays_more count j t x r entries late h fall few =
     let long : length (h.added ++ entry x r ∷ []) ≡ length h.added + 1 = length-append h.added (entry x r ∷ []) in
-    let more : stales (h.added ++ entry x r ∷ []) ≡ stales h.added + one_if_stale r = stales-snoc h.added x r in
-    record {
+    let more : stales (h.added ++ entry x r ∷ []) ≡ stales h.added + one_if_stale r = stales-snoc h.added x r in record {
       added = h.added ++ entry x r ∷ [];
       adds = adds_more j t h.added x r h.adds;
       few = omega arith;
-      late = omega arith;
-    }
-
-pub ended_more : (count : ℕ) (j t : Journal) (x : Step) (r : Reply) → Goes count j t → 1 ≤ left count t
-    → one_if_stale r ≤ slack count t → Ended count j (noted t x r)
-ended_more count j t x r h fall late =
-    let few : length h.added + left count t ≤ left count j = h.few in
-    let was : stales h.added + slack count t ≤ slack count j = h.late in
-    let long : length (h.added ++ entry x r ∷ []) ≡ length h.added + 1 = length-append h.added (entry x r ∷ []) in
-    let more : stales (h.added ++ entry x r ∷ []) ≡ stales h.added + one_if_stale r = stales-snoc h.added x r in
-    record {
-      added = h.added ++ entry x r ∷ [];
-      adds = adds_more j t h.added x r h.adds;
-      few = omega arith;
-      late = omega arith;
+      stale = omega arith;
     }
 
 adds_join : (j t u : Journal) (xs ys : List Entry) → Adds j t xs → Adds t u ys → Adds j u (xs ++ ys)
@@ -109,97 +82,64 @@ stales-append [] ys = omega arith
 stales-append (e ∷ xs) ys = let h : stales (xs ++ ys) ≡ stales xs + stales ys = stales-append xs ys in omega arith
 
 -- one part of a run after another
-pub goes_on : (count : ℕ) (j t u : Journal) → Goes count j t → Goes count t u → Goes count j u
-goes_on count j t u h i =
-    let a : length h.added + left count t ≤ left count j = h.few in
-    let b : length i.added + left count u ≤ left count t = i.few in
-    let c : stales h.added + slack count t ≤ slack count j = h.late in
-    let d : stales i.added + slack count u ≤ slack count t = i.late in
+pub pays_on : (count : ℕ) (j t u : Journal) (entries late : ℕ) → Goes count j t → Pays count t u entries late
+    → Pays count j u entries late
+pays_on count j t u entries late h i =
     let long : length (h.added ++ i.added) ≡ length h.added + length i.added = length-append h.added i.added in
-    let more : stales (h.added ++ i.added) ≡ stales h.added + stales i.added = stales-append h.added i.added in
-    record {
+    let more : stales (h.added ++ i.added) ≡ stales h.added + stales i.added = stales-append h.added i.added in record {
       added = h.added ++ i.added;
       adds = adds_join j t u h.added i.added h.adds i.adds;
       few = omega arith;
-      late = omega arith;
-    }
-
-pub ends_on : (count : ℕ) (j t u : Journal) → Goes count j t → Ended count t u → Ended count j u
-ends_on count j t u h i =
-    let a : length h.added + left count t ≤ left count j = h.few in
-    let b : length i.added ≤ left count t = i.few in
-    let c : stales h.added + slack count t ≤ slack count j = h.late in
-    let d : stales i.added ≤ slack count t = i.late in
-    let long : length (h.added ++ i.added) ≡ length h.added + length i.added = length-append h.added i.added in
-    let more : stales (h.added ++ i.added) ≡ stales h.added + stales i.added = stales-append h.added i.added in
-    record {
-      added = h.added ++ i.added;
-      adds = adds_join j t u h.added i.added h.adds i.adds;
-      few = omega arith;
-      late = omega arith;
+      stale = omega arith;
     }
 
 pub ends_here : (count : ℕ) (j t : Journal) → Goes count j t → Ended count j t
-ends_here count j t h =
-    let a : length h.added + left count t ≤ left count j = h.few in
-    let c : stales h.added + slack count t ≤ slack count j = h.late in
-    record { added = h.added; adds = h.adds; few = omega arith; late = omega arith }
+ends_here count j t h = record { added = h.added; adds = h.adds; few = omega arith; stale = omega arith }
 
 -- from a free start
 pub runs : (count : ℕ) (j t : Journal) → state_of j.entries ≡ Free → Ended count j t → Runs count j t
-runs count j t free h =
-    let few : length h.added ≤ left count j = h.few in
-    let late : stales h.added ≤ slack count j = h.late in
-    let a : left count j ≡ 3 * (count - seen count j) + 1 = left_is count j Free free in
-    let b : slack count j ≡ count - seen count j = slack_is count j Free free in
+runs count j t free h = let a = stands count j Free free in
     record { added = h.added; adds = h.adds; few = omega arith; late = omega arith }
 
 -- the steps, each with what it costs
 pub block_goes : (count : ℕ) (j t : Journal) (x : Step) (k : ℕ) → Goes count j t → state_of t.entries ≡ Free
     → seen count t ≤ k → k < count → Goes count j (noted t x (Block k))
 block_goes count j t x k h free low lt =
-    let a : left count t ≡ 3 * (count - seen count t) + 1 = left_is count t Free free in
-    let b : left count (noted t x (Block k)) ≡ 3 * (count - k) = left_noted count t x (Block k) Free free in
-    let c : slack count t ≡ count - seen count t = slack_is count t Free free in
-    let d : slack count (noted t x (Block k)) ≡ count - k = slack_noted count t x (Block k) Free free in
-    goes_more count j t x (Block k) h (omega arith) (omega arith)
+    let a = stands count t Free free in
+    let b = stands_noted count t x (Block k) Free free in
+    pays_more count j t x (Block k) _ _ h (omega arith) (omega arith)
 
 pub took_goes : (count : ℕ) (j t : Journal) (x : Step) (k : ℕ) → Goes count j t → state_of t.entries ≡ Looked k
     → k < count → Goes count j (noted t x (Took k))
 took_goes count j t x k h looked lt =
-    let a : left count t ≡ 3 * (count - k) = left_is count t (Looked k) looked in
-    let b : left count (noted t x (Took k)) ≡ 3 * (count - k) - 1 = left_noted count t x (Took k) (Looked k) looked in
-    let c : slack count t ≡ count - k = slack_is count t (Looked k) looked in
-    let d : slack count (noted t x (Took k)) ≡ count - max (seen count t) (suc k) =
-    slack_noted count t x (Took k) (Looked k) looked in
-    goes_more count j t x (Took k) h (omega arith) (omega arith)
+    let a = stands count t (Looked k) looked in
+    let b = stands_noted count t x (Took k) (Looked k) looked in
+    pays_more count j t x (Took k) _ _ h (omega arith) (omega arith)
 
 pub stale_goes : (count : ℕ) (j t : Journal) (x : Step) (k n : ℕ) → Goes count j t → state_of t.entries ≡ Looked k
     → k < n → n < count → Goes count j (noted t x (Stale n))
 stale_goes count j t x k n h looked lt capacity =
-    let a : left count t ≡ 3 * (count - k) = left_is count t (Looked k) looked in
-    let b : left count (noted t x (Stale n)) ≡ 3 * (count - n) = left_noted count t x (Stale n) (Looked k) looked in
-    let c : slack count t ≡ count - k = slack_is count t (Looked k) looked in
-    let d : slack count (noted t x (Stale n)) ≡ count - n = slack_noted count t x (Stale n) (Looked k) looked in
-    goes_more count j t x (Stale n) h (omega arith) (omega arith)
+    let a = stands count t (Looked k) looked in
+    let b = stands_noted count t x (Stale n) (Looked k) looked in
+    pays_more count j t x (Stale n) _ _ h (omega arith) (omega arith)
 
 -- the measure of the loop of tries
 pub stale_falls : (count : ℕ) (t : Journal) (x : Step) (k n : ℕ) → state_of t.entries ≡ Looked k → k < n → n < count
     → left count (noted t x (Stale n)) < left count t
 stale_falls count t x k n looked lt capacity =
-    let a : left count t ≡ 3 * (count - k) = left_is count t (Looked k) looked in
-    let b : left count (noted t x (Stale n)) ≡ 3 * (count - n) = left_noted count t x (Stale n) (Looked k) looked in
+    let a = stands count t (Looked k) looked in
+    let b = stands_noted count t x (Stale n) (Looked k) looked in
     omega arith
 
 pub none_ends : (count : ℕ) (j t : Journal) (x : Step) → Goes count j t → state_of t.entries ≡ Free
     → Ended count j (noted t x NoneLeft)
-none_ends count j t x h free = let a : left count t ≡ 3 * (count - seen count t) + 1 = left_is count t Free free in
-    ended_more count j t x NoneLeft h (omega arith) (omega arith)
+none_ends count j t x h free = let a = stands count t Free free in
+    pays_more count j t x NoneLeft 0 0 h (omega arith) (omega arith)
 
 pub late_ends : (count : ℕ) (j t : Journal) (x : Step) (k : ℕ) → Goes count j t → state_of t.entries ≡ Looked k
     → k < count → Ended count j (noted t x NoneLeft)
-late_ends count j t x k h looked lt = let a : left count t ≡ 3 * (count - k) = left_is count t (Looked k) looked in
-    ended_more count j t x NoneLeft h (omega arith) (omega arith)
+late_ends count j t x k h looked lt = let a = stands count t (Looked k) looked in
+    pays_more count j t x NoneLeft 0 0 h (omega arith) (omega arith)
 
 pub is_done : (t : Journal) (x : Step) → IsDone (noted t x NoneLeft)
 is_done t x = record {
@@ -211,12 +151,9 @@ is_done t x = record {
 -- a job held was taken, which shows that the next is past it
 holds_step : (k start count : ℕ) (s : State) (r : Reply) → ((j : ℕ) → s ≡ Holding j → suc j ≤ start)
     → state_after s r ≡ Holding k → suc k ≤ max start (shown count r)
-holds_step k start count s (Block j) h e = absurd (cc)
-holds_step k start count s NoneLeft h e = absurd (cc)
 holds_step k start count s (Took j) h e = let same : j ≡ k = cc in omega arith
-holds_step k start count s (Stale j) h e = absurd (cc)
-holds_step k start count s Handed h e = absurd (cc)
 holds_step k start count s NotNow h e = let low : suc k ≤ start = h k e in omega arith
+holds_step k start count s r h e = absurd (cc)
 
 holds_seen : (k start count : ℕ) (s : State) (es : List Entry) → ((j : ℕ) → s ≡ Holding j → suc j ≤ start)
     → state_from s es ≡ Holding k → suc k ≤ seen_from count start es
@@ -231,28 +168,21 @@ pub hand_goes : (count : ℕ) (j t : Journal) (x : Step) (k : ℕ) → Goes coun
     → k < count → Goes count j (noted t x Handed)
 hand_goes count j t x k h holding lt =
     let s : suc k ≤ seen count t = held_seen k count t holding in
-    let a : left count t ≡ 3 * (count - k) - 1 = left_is count t (Holding k) holding in
-    let b : left count (noted t x Handed) ≡ 3 * (count - max (seen count t) 0) + 1 =
-    left_noted count t x Handed (Holding k) holding in
-    let c : slack count t ≡ count - seen count t = slack_is count t (Holding k) holding in
-    let d : slack count (noted t x Handed) ≡ count - max (seen count t) 0 =
-    slack_noted count t x Handed (Holding k) holding in
-    goes_more count j t x Handed h (omega arith) (omega arith)
+    let a = stands count t (Holding k) holding in
+    let b = stands_noted count t x Handed (Holding k) holding in
+    pays_more count j t x Handed _ _ h (omega arith) (omega arith)
 
 pub looking_at : (s : State) → is_looking s ≡ true → (k : ℕ) × (s ≡ Looked k)
 looking_at (Looked k) e = (k, refl)
-looking_at Free e = absurd (cc)
-looking_at (Holding k) e = absurd (cc)
+looking_at s e = absurd (cc)
 
 pub looked_within : (count k : ℕ) (s : State) → s ≡ Looked k → IsWithin count s → k < count
-looked_within count k s e h = let P : State → Type 0 = λ q. IsWithin count q in subst P e h
+looked_within count k s e h = rw e at h
 
 pub hand_falls : (count : ℕ) (j t : Journal) (x : Step) (k : ℕ) → Goes count j t → state_of t.entries ≡ Holding k
     → k < count → left count (noted t x Handed) < left count j
 hand_falls count j t x k h holding lt =
-    let few : length h.added + left count t ≤ left count j = h.few in
     let s : suc k ≤ seen count t = held_seen k count t holding in
-    let a : left count t ≡ 3 * (count - k) - 1 = left_is count t (Holding k) holding in
-    let b : left count (noted t x Handed) ≡ 3 * (count - max (seen count t) 0) + 1 =
-    left_noted count t x Handed (Holding k) holding in
+    let a = stands count t (Holding k) holding in
+    let b = stands_noted count t x Handed (Holding k) holding in
     omega arith

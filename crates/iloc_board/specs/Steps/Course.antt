@@ -26,19 +26,20 @@ slack_in count low (Holding k) = count - low
 abbrev pub slack : ℕ → Journal → ℕ
 slack count j = slack_in count (seen count j) (state_of j.entries)
 
--- on the way: what was added is paid from what was left
-pub record Goes (count : ℕ) (j t : Journal) : Type 0 where
+-- what was added is paid from what was left, and this much is over
+pub record Pays (count : ℕ) (j t : Journal) (entries late : ℕ) : Type 0 where
   pub added : List Entry
   pub adds : Adds j t added
-  pub few : length added + left count t ≤ left count j
-  pub late : stales added + slack count t ≤ slack count j
+  pub few : length added + entries ≤ left count j
+  pub stale : stales added + late ≤ slack count j
+
+-- on the way: what is left for the second journal is over
+abbrev pub Goes : ℕ → Journal → Journal → Type 0
+Goes count j t = Pays count j t (left count t) (slack count t)
 
 -- at the end: no more was added than was left
-pub record Ended (count : ℕ) (j t : Journal) : Type 0 where
-  pub added : List Entry
-  pub adds : Adds j t added
-  pub few : length added ≤ left count j
-  pub late : stales added ≤ slack count j
+abbrev pub Ended : ℕ → Journal → Journal → Type 0
+Ended count j t = Pays count j t 0 0
 
 -- nothing was handed back in between
 pub record HandsNothing {J A : Type 0} (p q : PassView J A) : Type 0 where
