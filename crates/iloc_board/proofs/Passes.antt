@@ -1,5 +1,5 @@
 -- From a value to what it keeps inside, and back.
-use Rattle.std.proofs.Common.{◌≡◌, ◌≢◌, ℕ, ◌<◌, ◌≤◌, true, false, cond, ◌==◌, List, [], ◌∷◌, ◌++◌, refl, ap, sym, ◌∙◌, subst, arith}
+use Rattle.std.proofs.Common.{◌≡◌, ◌≢◌, ℕ, ◌<◌, ◌≤◌, true, false, cond, ◌==◌, List, [], ◌∷◌, ◌++◌, refl, ap, sym, ◌∙◌, arith}
 use Rattle.std.proofs.lemmas.Bool.{lt-ltb, le-ltb, eq-eqb, ne_eqb}
 use Rattle.atomic_table.specs.Seated.{TableId}
 use Rattle.iloc_board.specs.declared.step.Step.{Step}
@@ -29,19 +29,22 @@ all_handed-snoc [] j = append-nil (handed j.entries)
 all_handed-snoc (i ∷ js) j = ap (λ t. handed i.entries ++ t) (all_handed-snoc js j)
     ∙ sym (append_assoc (handed i.entries) (all_handed js) (handed j.entries))
 
-module _ {J A : Type 0} where
+module _ {J A : Type 0} {p q : PassView J A} {d : BoardView J} (inside : p ≡ q) (own : q.board ≡ d) where
   -- a pass of this board, seen from inside
-  pub same_table : (p q : PassView J A) (b d : BoardView J) → p ≡ q → b ≡ d → q.board ≡ d → p.board.table ≡ b.table
-  same_table p q b d e f own = ap (λ (v : PassView J A). v.board.table) e
-      ∙ (ap (λ (v : BoardView J). v.table) own ∙ ap (λ (v : BoardView J). v.table) (sym f))
+  pub same_table : {b : BoardView J} → b ≡ d → p.board.table ≡ b.table
+  same_table board = ap (λ (v : PassView J A). v.board.table) inside
+      ∙ (ap (λ (v : BoardView J). v.table) own ∙ ap (λ (v : BoardView J). v.table) (sym board))
 
-  pub same_jobs : (p q : PassView J A) (b d : BoardView J) → p ≡ q → b ≡ d → q.board ≡ d → p.board.jobs ≡ b.jobs
-  same_jobs p q b d e f own = ap (λ (v : PassView J A). v.board.jobs) e
-      ∙ (ap (λ (v : BoardView J). v.jobs) own ∙ ap (λ (v : BoardView J). v.jobs) (sym f))
+  pub own_jobs : p.board.jobs ≡ d.jobs
+  own_jobs = ap (λ (v : PassView J A). v.board.jobs) inside ∙ ap (λ (v : BoardView J). v.jobs) own
 
-  pub own_jobs : (p q : PassView J A) (d : BoardView J) → p ≡ q → q.board ≡ d → p.board.jobs ≡ d.jobs
-  own_jobs p q d e own = ap (λ (v : PassView J A). v.board.jobs) e ∙ ap (λ (v : BoardView J). v.jobs) own
+  pub same_jobs : {b : BoardView J} → b ≡ d → p.board.jobs ≡ b.jobs
+  same_jobs board = own_jobs ∙ ap (λ (v : BoardView J). v.jobs) (sym board)
 
+  pub same_count : {b : BoardView J} → b ≡ d → (number : J → ℕ) (count : ℕ) → count ≡ number b.jobs → count ≡ number p.board.jobs
+  same_count board number count is = is ∙ ap number (sym (same_jobs board))
+
+module _ {J A : Type 0} where
   -- the job that a state inside names
   pub job_is : (p q : PassView J A) (about : State) → p ≡ q → about ≡ state_of p.journal.entries
       → job_of (state q) ≡ job_of about
@@ -60,28 +63,33 @@ module _ {J A : Type 0} where
       → is_holding (state_of p.journal.entries) ≡ false
   free_inside p q e h = ap (λ (v : PassView J A). is_holding (state v)) e ∙ h
 
-  -- what a pass keeps inside, after a step that hands nothing back
-  pub steps_inside : (number : ℕ) (fits : ℕ → A → Type 0) (price : A → ℕ) (me new : Sat) (worker : ℕ)
-      (about next : State) (p : PassView J A) (id : TableId) (x : Step) (r : Reply)
-      → IsPass number fits price me worker about p → p.journal ≡ me.0.journal → new ≡ adds me x r
+-- a pass after a step that hands nothing back
+abbrev pub after_step : {J A : Type 0} → TableId → Sat → PassView J A → PassView J A
+after_step id new p = record {
+  board = record { table = id; jobs = p.board.jobs };
+  journal = new.0.journal;
+  answers = p.answers;
+}
+
+module _ {J A : Type 0} {number : ℕ} {fits : ℕ → A → Type 0} {price : A → ℕ} {me : Sat} {worker : ℕ} {about : State}
+    {p : PassView J A} (h : IsPass number fits price me worker about p) (j : p.journal ≡ me.0.journal) where
+  counts : me.0.count ≡ number
+  counts = ap (λ (v : Sat). v.0.count) h.seat
+
+  -- what it keeps inside
+  steps_inside : {new : Sat} {next : State} {id : TableId} (x : Step) (r : Reply) → new ≡ adds me x r
       → next ≡ state_after about r → IsWithin number next → accepted (state_of p.journal.entries) x r ≡ []
-      → IsPass number fits price new worker next record {
-        board = record { table = id; jobs = p.board.jobs };
-        journal = new.0.journal;
-        answers = p.answers;
-      }
-  steps_inside number fits price me new worker about next p id x r h j n s within none =
+      → IsPass number fits price new worker next (after_step id new p)
+  steps_inside {new} x r n s within none =
       let journal : new.0.journal ≡ noted p.journal x r = ap (λ (v : Sat). v.0.journal) n
       ∙ ap (λ v. noted v x r) (sym j) in
       let entries : new.0.journal.entries ≡ p.journal.entries ++ entry x r ∷ [] = ap (λ v. v.entries) journal in
-      let count : me.0.count ≡ number = ap (λ (v : Sat). v.0.count) h.seat in
       let empty : me.1 ≡ [] = ap (λ (v : Sat). v.1) h.seat in
       record {
         seat =
-            let e : new ≡ (pass_seat me.0.count (noted me.0.journal x r), me.1) = n in
             let f : (pass_seat me.0.count (noted me.0.journal x r), me.1) ≡ (pass_seat number new.0.journal, []) =
-            λ i. (pass_seat (count i) ((ap (λ (v : Sat). v.0.journal) (sym n)) i), empty i) in
-            e ∙ f;
+            λ i. (pass_seat (counts i) ((ap (λ (v : Sat). v.0.journal) (sym n)) i), empty i) in
+            n ∙ f;
         worker_is = h.worker_is ∙ ap (λ v. v.worker) (sym journal);
         state_is = s ∙ (ap (λ t. state_after t r) h.state_is
             ∙ (sym (state_from-snoc Free p.journal.entries x r) ∙ ap state_of (sym entries)));
@@ -92,125 +100,58 @@ module _ {J A : Type 0} where
             ∙ (sym (handed_from-snoc Free p.journal.entries x r) ∙ ap handed (sym entries))));
       }
 
-pub finds : (count n m : ℕ) → m ≡ count → n < count → found m n ≡ Block n
-finds count n m e lt = ap (λ q. found q n) e ∙ ap (λ b. cond b (Block n) NoneLeft) (lt-ltb n count lt)
+  module _ {new : Sat} {id : TableId} {n : ℕ} (w : ℕ) where
+    -- a look that finds the job n, and one that finds none
+    pub looked_inside : new ≡ adds me (Look w) (found me.0.count n) → n < number
+        → IsPass number fits price new worker (Looked n) (after_step id new p)
+    looked_inside e lt = steps_inside (Look w) (Block n)
+        (e ∙ ap (λ b. adds me (Look w) (cond b (Block n) NoneLeft)) (lt-ltb n me.0.count (rw counts lt))) refl lt refl
 
-pub finds_none : (count n m : ℕ) → m ≡ count → count ≤ n → found m n ≡ NoneLeft
-finds_none count n m e le = ap (λ q. found q n) e ∙ ap (λ b. cond b (Block n) NoneLeft) (le-ltb n count le)
+    pub free_again : new ≡ adds me (Look w) (found me.0.count n) → number ≤ n
+        → IsPass number fits price new worker Free (after_step id new p)
+    free_again e le = steps_inside (Look w) NoneLeft
+        (e ∙ ap (λ b. adds me (Look w) (cond b (Block n) NoneLeft)) (le-ltb n me.0.count (rw counts le))) refl tt refl
 
-pub misses : (count n m : ℕ) → m ≡ count → n < count → missed m n ≡ Stale n
-misses count n m e lt = ap (λ q. missed q n) e ∙ ap (λ b. cond b (Stale n) NoneLeft) (lt-ltb n count lt)
+    module _ (k : ℕ) (e : new ≡ adds me (Try w) (cond (n == k) (Took k) (missed me.0.count n))) where
+      -- a try that takes the job k
+      pub took_inside : {job : ℕ} → k ≡ job → n ≡ k → job < number
+          → IsPass number fits price new worker (Holding job) (after_step id new p)
+      took_inside {job} same here lt = steps_inside (Try w) (Took job)
+          (e ∙ ap (λ r. adds me (Try w) r)
+          (ap (λ b. cond b (Took k) (missed me.0.count n)) (eq-eqb n k here) ∙ ap Took same)) refl lt refl
 
-pub misses_none : (count n m : ℕ) → m ≡ count → count ≤ n → missed m n ≡ NoneLeft
-misses_none count n m e le = ap (λ q. missed q n) e ∙ ap (λ b. cond b (Stale n) NoneLeft) (le-ltb n count le)
+      -- a try that comes too late
+      pub late_inside : n ≢ k → n < number → IsPass number fits price new worker (Looked n) (after_step id new p)
+      late_inside ne lt = steps_inside (Try w) (Stale n)
+          (e ∙ ap (λ b. adds me (Try w) (cond b (Took k) (missed me.0.count n))) (ne_eqb n k ne)
+          ∙ ap (λ b. adds me (Try w) (cond b (Stale n) NoneLeft)) (lt-ltb n me.0.count (rw counts lt))) refl lt refl
 
--- a look that finds the job n
-module _ {J A : Type 0} (number : ℕ) (fits : ℕ → A → Type 0) (price : A → ℕ) where
-  pub looked_inside : (me new : Sat) (worker : ℕ) (about : State) (p : PassView J A) (id : TableId) (w n : ℕ)
-      → IsPass number fits price me worker about p → p.journal ≡ me.0.journal
-      → new ≡ adds me (Look w) (found me.0.count n) → n < number
-      → IsPass number fits price new worker (Looked n) record {
-        board = record { table = id; jobs = p.board.jobs };
-        journal = new.0.journal;
-        answers = p.answers;
-      }
-  looked_inside me new worker about p id w n h j e lt =
-      let f : found me.0.count n ≡ Block n = finds number n me.0.count (ap (λ (v : Sat). v.0.count) h.seat) lt in
-      steps_inside number fits price me new worker about (Looked n) p id (Look w) (Block n) h j
-      (e ∙ ap (λ r. adds me (Look w) r) f) refl lt refl
-
-  pub free_again : (me new : Sat) (worker : ℕ) (about : State) (p : PassView J A) (id : TableId) (w n : ℕ)
-      → IsPass number fits price me worker about p → p.journal ≡ me.0.journal
-      → new ≡ adds me (Look w) (found me.0.count n) → number ≤ n
-      → IsPass number fits price new worker Free record {
-        board = record { table = id; jobs = p.board.jobs };
-        journal = new.0.journal;
-        answers = p.answers;
-      }
-  free_again me new worker about p id w n h j e le =
-      let f : found me.0.count n ≡ NoneLeft = finds_none number n me.0.count (ap (λ (v : Sat). v.0.count) h.seat) le in
-      steps_inside number fits price me new worker about Free p id (Look w) NoneLeft h j
-      (e ∙ ap (λ r. adds me (Look w) r) f) refl tt refl
+      pub none_inside : n ≢ k → number ≤ n → IsPass number fits price new worker Free (after_step id new p)
+      none_inside ne le = steps_inside (Try w) NoneLeft
+          (e ∙ ap (λ b. adds me (Try w) (cond b (Took k) (missed me.0.count n))) (ne_eqb n k ne)
+          ∙ ap (λ b. adds me (Try w) (cond b (Stale n) NoneLeft)) (le-ltb n me.0.count (rw counts le))) refl tt refl
 
   -- what was told once, that none is left, holds of each later number found
-  pub none_stays : (p q : PassView J A) → p ≡ q → (me : Sat) (n : ℕ) → p.journal ≡ me.0.journal → me.0.count ≡ number
-      → seen me.0.count me.0.journal ≤ n → saw_none q.journal.entries ≡ true → number ≤ n
-  none_stays p q e me n j count low told =
+  pub none_stays : {q : PassView J A} {n : ℕ} → p ≡ q → seen me.0.count me.0.journal ≤ n
+      → saw_none q.journal.entries ≡ true → number ≤ n
+  none_stays {q} {n} e low told =
       let mine : saw_none me.0.journal.entries ≡ true = ap (λ (v : Journal). saw_none v.entries) (sym j)
       ∙ (ap (λ (v : PassView J A). saw_none v.journal.entries) e ∙ told) in
       let all : number ≤ seen number me.0.journal = told_none number me.0.journal mine in
-      let same : seen me.0.count me.0.journal ≡ seen number me.0.journal = ap (λ m. seen m me.0.journal) count in
+      let same : seen me.0.count me.0.journal ≡ seen number me.0.journal = ap (λ m. seen m me.0.journal) counts in
       omega arith
 
-  -- a try that takes the job k
-  pub took_inside : (me new : Sat) (worker : ℕ) (about : State) (p : PassView J A) (id : TableId) (w n k job : ℕ)
-      → k ≡ job
-      → IsPass number fits price me worker about p → p.journal ≡ me.0.journal
-      → new ≡ adds me (Try w) (cond (n == k) (Took k) (missed me.0.count n)) → n ≡ k → job < number
-      → IsPass number fits price new worker (Holding job) record {
-        board = record { table = id; jobs = p.board.jobs };
-        journal = new.0.journal;
-        answers = p.answers;
-      }
-  took_inside me new worker about p id w n k job same h j e here lt =
-      let f : cond (n == k) (Took k) (missed me.0.count n) ≡ Took job =
-      ap (λ b. cond b (Took k) (missed me.0.count n)) (eq-eqb n k here) ∙ ap Took same in
-      steps_inside number fits price me new worker about (Holding job) p id (Try w) (Took job) h j
-      (e ∙ ap (λ r. adds me (Try w) r) f) refl lt refl
-
-  -- a try that comes too late
-  pub late_inside : (me new : Sat) (worker : ℕ) (about : State) (p : PassView J A) (id : TableId) (w n k : ℕ)
-      → IsPass number fits price me worker about p → p.journal ≡ me.0.journal
-      → new ≡ adds me (Try w) (cond (n == k) (Took k) (missed me.0.count n)) → n ≢ k → n < number
-      → IsPass number fits price new worker (Looked n) record {
-        board = record { table = id; jobs = p.board.jobs };
-        journal = new.0.journal;
-        answers = p.answers;
-      }
-  late_inside me new worker about p id w n k h j e ne lt =
-      let f : cond (n == k) (Took k) (missed me.0.count n) ≡ Stale n =
-      ap (λ b. cond b (Took k) (missed me.0.count n)) (ne_eqb n k ne)
-      ∙ misses number n me.0.count (ap (λ (v : Sat). v.0.count) h.seat) lt in
-      steps_inside number fits price me new worker about (Looked n) p id (Try w) (Stale n) h j
-      (e ∙ ap (λ r. adds me (Try w) r) f) refl lt refl
-
-  pub none_inside : (me new : Sat) (worker : ℕ) (about : State) (p : PassView J A) (id : TableId) (w n k : ℕ)
-      → IsPass number fits price me worker about p → p.journal ≡ me.0.journal
-      → new ≡ adds me (Try w) (cond (n == k) (Took k) (missed me.0.count n)) → n ≢ k → number ≤ n
-      → IsPass number fits price new worker Free record {
-        board = record { table = id; jobs = p.board.jobs };
-        journal = new.0.journal;
-        answers = p.answers;
-      }
-  none_inside me new worker about p id w n k h j e ne le =
-      let f : cond (n == k) (Took k) (missed me.0.count n) ≡ NoneLeft =
-      ap (λ b. cond b (Took k) (missed me.0.count n)) (ne_eqb n k ne)
-      ∙ misses_none number n me.0.count (ap (λ (v : Sat). v.0.count) h.seat) le in
-      steps_inside number fits price me new worker about Free p id (Try w) NoneLeft h j
-      (e ∙ ap (λ r. adds me (Try w) r) f) refl tt refl
-
-  -- the state names this job
-  pub looked_below : (me : Sat) (worker : ℕ) (about : State) (p : PassView J A) (k : ℕ)
-      → IsPass number fits price me worker about p → about ≡ Looked k → k < number
-  looked_below me worker about p k h e = let P : State → Type 0 = λ s. IsWithin number s in subst P e h.within
-
-  pub held_below : (me : Sat) (worker : ℕ) (about : State) (p : PassView J A) (k : ℕ)
-      → IsPass number fits price me worker about p → about ≡ Holding k → k < number
-  held_below me worker about p k h e = let P : State → Type 0 = λ s. IsWithin number s in subst P e h.within
-
   -- what a try tells: the number found is no less than what was seen, which is no less than the job looked at
-  pub try_fresh : (p q : PassView J A) → p ≡ q → (me : Sat) (worker : ℕ) (about : State) (n k : ℕ)
-      → IsPass number fits price me worker about p → p.journal ≡ me.0.journal → about ≡ Looked k
-      → seen me.0.count me.0.journal ≤ n
+  pub try_fresh : {q : PassView J A} {n k : ℕ} → p ≡ q → about ≡ Looked k → seen me.0.count me.0.journal ≤ n
       → (seen number q.journal ≤ n) × (k ≤ seen number q.journal) × (job_of (state q) ≡ k)
-  try_fresh p q e me worker about n k h j looked low =
-      let count : me.0.count ≡ number = ap (λ (v : Sat). v.0.count) h.seat in
-      let same : seen me.0.count me.0.journal ≡ seen number q.journal = ap (λ m. seen m me.0.journal) count
+  try_fresh {q} {n} {k} e looked low =
+      let same : seen me.0.count me.0.journal ≡ seen number q.journal = ap (λ m. seen m me.0.journal) counts
       ∙ (ap (λ v. seen number v) (sym j) ∙ ap (λ (v : PassView J A). seen number v.journal) e) in
       let state : state_of q.journal.entries ≡ Looked k = ap (λ (v : PassView J A). state_of v.journal.entries) (sym e)
       ∙ (sym h.state_is ∙ looked) in
       (omega arith, looked_seen k number q.journal state, ap job_of state)
 
+module _ {J A : Type 0} (number : ℕ) (fits : ℕ → A → Type 0) (price : A → ℕ) where
   -- a hand-back
   pub handed_inside : (me new : Sat) (worker : ℕ) (about : State) (p : PassView J A) (id : TableId) (k cost w : ℕ)
       (a : A) (answers : List (ℕ × A))
@@ -231,16 +172,14 @@ module _ {J A : Type 0} (number : ℕ) (fits : ℕ → A → Type 0) (price : A 
       let state : state_of p.journal.entries ≡ Holding k = sym h.state_is ∙ holding in
       record {
         seat =
-            let e : new ≡ (pass_seat me.0.count (noted me.0.journal (Hand w cost) Handed), me.1) = n in
             let f : (pass_seat me.0.count (noted me.0.journal (Hand w cost) Handed), me.1)
             ≡ (pass_seat number new.0.journal, []) =
             λ i. (pass_seat (count i) ((ap (λ (v : Sat). v.0.journal) (sym n)) i), empty i) in
-            e ∙ f;
+            n ∙ f;
         worker_is = h.worker_is ∙ ap (λ v. v.worker) (sym journal);
         state_is = sym (state_from-snoc Free p.journal.entries (Hand w cost) Handed) ∙ ap state_of (sym entries);
         within = tt;
-        fit = let P : List (ℕ × A) → Type 0 = λ t. AllFit fits t in
-            subst P (sym more) (all_fit-append fits p.answers ((k, a) ∷ []) h.fit (fit, tt));
+        fit = rw more (all_fit-append fits p.answers ((k, a) ∷ []) h.fit (fit, tt));
         each =
             ap (λ t. priced price t) more
             ∙ (map-append (λ (x : ℕ × A). (x.0, price x.1)) p.answers ((k, a) ∷ [])
@@ -273,8 +212,7 @@ module _ {J A : Type 0} (number : ℕ) (fits : ℕ → A → Type 0) (price : A 
             let f : (gathers me.0 him.0, me.1) ≡ (root_seat number r.made new.0.gathered, []) =
             λ k. (root_seat (count k) (made k) ((ap (λ (v : Sat). v.0.gathered) (sym n)) k), empty k) in
             n ∙ f;
-        fit = let P : List (ℕ × A) → Type 0 = λ t. AllFit fits t in
-            subst P (sym more) (all_fit-append fits r.answers p.answers h.fit i.fit);
+        fit = rw more (all_fit-append fits r.answers p.answers h.fit i.fit);
         each =
             ap (λ t. priced price t) more
             ∙ (map-append (λ (x : ℕ × A). (x.0, price x.1)) r.answers p.answers

@@ -1,6 +1,4 @@
-use Rattle.std.proofs.Common.{ap, sym, ◌∙◌, arith, refl, subst, ◌≡◌}
-use Rattle.iloc_board.specs.Steps.Inside.{IsPass}
-use Rattle.iloc_board.specs.Views.{PassView}
+use Rattle.std.proofs.Common.{ap, sym, ◌∙◌, arith, refl, ◌≡◌}
 use Rattle.iloc_board.proofs.Keeps as keeps
 use Rattle.iloc_board.proofs.Passes as passes
 use Rattle.iloc_board.proofs.board.Board.gather.Goals as goal
@@ -8,7 +6,7 @@ use Rattle.iloc_board.proofs.board.Board.gather.Goals as goal
 pub join_seat-requires : goal.join_seat-requires
 join_seat-requires g c = (
   passes.root_table _ _ _ _ c.root.view_is c.self.view_is c.requires.root,
-  passes.same_table _ _ _ _ c.pass.view_is c.self.view_is c.requires.pass,
+  passes.same_table c.pass.view_is c.requires.pass c.self.view_is,
   ap (λ m. m.1) c.pass.invariant.seat,
   omega (arith, c.self.invariant.words),
   keeps.gathers_kept c.self.inside.table.shared.key c.root.inside.seat.id c.pass.inside.seat.id c.root.inside.seat.me.0
@@ -17,16 +15,10 @@ join_seat-requires g c = (
 
 pub invariant_of-root-2 : goal.invariant_of-root-2
 invariant_of-root-2 g c =
-    let p : PassView g.row.J.Denot g.row.J-Answer.Denot = record {
-      board = record { table = c.pass.inside.seat.table_id; jobs = c.pass.inside.jobs.now };
-      journal = c.pass.inside.seat.me.0.journal;
-      answers = c.pass.inside.answers.pairs;
-    } in
     let jobs : c.pass.inside.jobs.now ≡ c.root.inside.jobs.now =
-    passes.same_jobs _ _ _ _ c.pass.view_is c.self.view_is c.requires.pass
+    passes.same_jobs c.pass.view_is c.requires.pass c.self.view_is
     ∙ sym (passes.root_jobs _ _ _ _ c.root.view_is c.self.view_is c.requires.root) in
-    let inside = subst (λ (z : g.row.J.Denot). IsPass (g.J.Jobs.number z) (g.J.Jobs.fits z) (g.J.Jobs.price z)
-    c.pass.inside.seat.me c.pass.inside.worker c.pass.inside.state p) jobs c.pass.invariant in
+    let inside = rw jobs at c.pass.invariant in
     passes.gathered_inside (g.J.Jobs.number c.root.inside.jobs.now) (g.J.Jobs.fits c.root.inside.jobs.now)
-    (g.J.Jobs.price c.root.inside.jobs.now) _ _ c.pass.inside.seat.me _ _ _ p _ _ c.root.invariant refl inside refl
+    (g.J.Jobs.price c.root.inside.jobs.now) _ _ c.pass.inside.seat.me _ _ _ _ _ _ c.root.invariant refl inside refl
     c.join_seat.ensures.2 c.in_default.ensures.ok
