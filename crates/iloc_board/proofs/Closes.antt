@@ -12,7 +12,7 @@ use lib.ListN.{get_elem?}
 use Rattle.iloc_board.specs.declared.step.Step.{Step}
 use Rattle.iloc_board.specs.declared.step.Reply.{Reply}
 use Rattle.iloc_board.specs.declared.board.state.State.TheVariants.{Holding}
-use Rattle.iloc_board.specs.declared.step.Reply.TheVariants.{Block, NoneLeft, Took, Stale, Handed, NotNow}
+use Rattle.iloc_board.specs.declared.step.Reply.TheVariants.{Took}
 use Rattle.iloc_board.specs.declared.step.Entry.{Entry}
 use Rattle.iloc_board.specs.declared.journal.Journal.{Journal}
 use Rattle.iloc_board.specs.declared.board.seat_view.Role.TheVariants.{Root}
@@ -40,15 +40,13 @@ use Rattle.iloc_board.proofs.Retires.{Retired, retired_final}
 module _ {B : Type 0} where
   set_cases : (l : List B) (i j : ℕ) (b y : B) → slice_get (slice_set l i b) j ≡ Some y → ((j ≡ i) × (b ≡ y))
       ⊎ (slice_get l j ≡ Some y)
-  set_cases [] i j b y e = inr e
   set_cases (x ∷ xs) zero zero b y e = inl (refl, cc)
-  set_cases (x ∷ xs) zero (suc j) b y e = inr e
-  set_cases (x ∷ xs) (suc i) zero b y e = inr e
   set_cases (x ∷ xs) (suc i) (suc j) b y e = elim (set_cases xs i j b y e) [
     | inl h ↦ inl (ap suc h.0, h.1)
     | inr h ↦
         inr h
   ]
+  set_cases l i j b y e = inr e
 
   mapped : (xs : List B) (i : ℕ) (b : B) → slice_get xs i ≡ Some b → slice_get (map (λ x. Some x) xs) i ≡ Some (Some b)
   mapped [] i b e = absurd (cc)
@@ -100,9 +98,8 @@ module _ {A : Type 0} where
       ]
 
   pub none_placed : (n i : ℕ) (a : A) → slice_get (replicate n None) i ≡ Some (Some a) → ⊥
-  none_placed zero i a e = absurd (cc)
-  none_placed (suc n) zero a e = absurd (cc)
   none_placed (suc n) (suc i) a e = none_placed n i a e
+  none_placed n i a e = absurd (cc)
 
   -- an answer and its cost
   priced_has : (price : A → ℕ) (xs : List (ℕ × A)) (k c : ℕ) → Contains (priced price xs) (k, c)
@@ -129,7 +126,7 @@ module _ {A : Type 0} where
   fits_has fits [] k a f h = absurd (contains_none (k, a) h)
   fits_has fits (x ∷ xs) k a f h =
       elim (contains_cases x xs (k, a) h) [
-        | inl e ↦ let P : ℕ × A → Type 0 = λ z. fits z.0 z.1 in subst P e f.0
+        | inl e ↦ rw e at f.0
         | inr r ↦ fits_has fits xs k a f.1 r
       ]
 
@@ -144,7 +141,7 @@ module _ {A : Type 0} where
     where
       go : (b : Bool) → (k == x.0) ≡ b → FitsHandedBack fits k (handed_back_in xs k cost)
           → FitsHandedBack fits k (cond b (answer x.1) (handed_back_in xs k cost))
-      go true e rest = let P : ℕ → Type 0 = λ j. fits j x.1 in subst P (sym (eqb-true k x.0 e)) f.0
+      go true e rest = rw (eqb-true k x.0 e) f.0
       go false e rest = rest
 
 -- Journals by their places
@@ -207,8 +204,7 @@ has_all : (js : List Journal) (i : ℕ) (j : Journal) (p : ℕ × ℕ) → get_e
     → Contains (handed j.entries) p → Contains (all_handed js) p
 has_all [] i j p e h = absurd (some-ne-none j (sym e))
 has_all (k ∷ js) zero j p e h =
-    let P : Journal → Type 0 = λ z. Contains (handed z.entries) p in
-    Contains-append_left (handed k.entries) (all_handed js) p (subst P (sym (some-injective k j e)) h)
+    Contains-append_left (handed k.entries) (all_handed js) p (rw (some-injective k j e) h)
 has_all (k ∷ js) (suc i) j p e h = Contains-append_right (handed k.entries) (all_handed js) p (has_all js i j p e h)
 
 -- each job was handed back once
@@ -218,24 +214,20 @@ handed_once : (c : Core) (taken : List (ℕ × ℕ)) (es : List Entry) → Retir
 handed_once c taken es h [] apart own = tt
 handed_once c taken es h (j ∷ js) apart own =
     let mine : handed (entries_of j.worker es) ≡ handed j.entries = ap handed (own 0 j refl) in
-    let P : List (ℕ × ℕ) → Type 0 = λ q. NoneTwice (jobs_of q) in
-    none_twice-append (handed j.entries) (all_handed js) (subst P mine (h.twice j.worker))
+    none_twice-append (handed j.entries) (all_handed js)
+    (rw mine at (h.twice j.worker))
     (handed_once c taken es h js (λ a b x y e f g. let q : suc a ≡ suc b = apart (suc a) (suc b) x y e f g in
     omega arith) (λ i k e. own (suc i) k e))
     (λ k a b x y.
     let r = all_has js (k, b) y in
-    let Q : List (ℕ × ℕ) → Type 0 = λ q. Contains q (k, a) in
-    let R : List (ℕ × ℕ) → Type 0 = λ q. Contains q (k, b) in
-    let same : j.worker ≡ r.1.worker = h.one j.worker r.1.worker k a b (subst Q (sym mine) x)
-    (subst R (sym (ap handed (own (suc r.0) r.1 r.2))) r.3) in
+    let same : j.worker ≡ r.1.worker = h.one j.worker r.1.worker k a b (rw mine x)
+    (rw (ap handed (own (suc r.0) r.1 r.2)) r.3) in
     let q : 0 ≡ suc r.0 = apart 0 (suc r.0) j r.1 refl r.2 same in absurd (omega arith))
 
 -- who took a job
 took_from : (i : ℕ) (ps : List (ℕ × ℕ)) (a n : ℕ) → map (λ p. p.1) ps ≡ range_with_len a n → a ≤ i → i < a + n
     → (w : ℕ) × (is_out w i ps ≡ true)
-took_from i [] a zero e low high = absurd (omega arith)
 took_from i [] a (suc n) e low high = absurd (cc)
-took_from i (p ∷ ps) a zero e low high = absurd (omega arith)
 took_from i (p ∷ ps) a (suc n) e low high =
     let first : p.1 ≡ a = cc in
     let rest : map (λ (q : ℕ × ℕ). q.1) ps ≡ range_with_len (a + 1) n = cc in
@@ -248,6 +240,7 @@ took_from i (p ∷ ps) a (suc n) e low high =
       | inr ne ↦ let r = took_from i ps (a + 1) n rest (omega arith) (omega arith) in
           (r.0, or_right (is_pair r.0 i p) _ r.1)
     ]
+took_from i ps a zero e low high = absurd (omega arith)
 
 taker_is : (w k v : ℕ) (r : Reply) → is_out w k (taken_by v r) ≡ true → w ≡ v
 taker_is w k v (Took j) e = elim (or_cases (is_pair w k (v, j)) false e) [
@@ -255,11 +248,7 @@ taker_is w k v (Took j) e = elim (or_cases (is_pair w k (v, j)) false e) [
       eqb-true w v (and_parts (w == v) (k == j) p).0
   | inr p ↦ absurd (cc)
 ]
-taker_is w k v (Block j) e = absurd (cc)
-taker_is w k v NoneLeft e = absurd (cc)
-taker_is w k v (Stale j) e = absurd (cc)
-taker_is w k v Handed e = absurd (cc)
-taker_is w k v NotNow e = absurd (cc)
+taker_is w k v r e = absurd (cc)
 
 taker_made : (count made w k : ℕ) (xs : List Step) (c : Core) → AllMade made xs → is_out w k (takes (played count c xs))
     ≡ true → w < made
@@ -300,14 +289,12 @@ module _ {J A : Type 0} (count : ℕ) (fits : ℕ → A → Type 0) (price : A �
       let made : me.0.made ≡ r.made = ap (λ (m : Sat). m.0.made) h.seat in
       let gathered : me.0.gathered ≡ r.gathered = ap (λ (m : Sat). m.0.gathered) h.seat in
       let mine : FitsRoot count k.made k.steps s.views id me.0 = (k.fits id me.0 at).1 role in
-      let P : ℕ → Type 0 = λ n. AllMade n k.steps in
-      let Q : List Journal → Type 0 = λ js. Apart js in
-      let R : List Journal → Type 0 = λ js. (i : ℕ) (j : Journal) → get_elem? js i ≡ some j → Tells count k.steps j in
-      let tells = subst R gathered (λ i j e. (mine.gathered i j e).0) in
-      let apart : Apart r.gathered = subst Q gathered mine.apart in
+      let tells : (i : ℕ) (j : Journal) → get_elem? r.gathered i ≡ some j → Tells count k.steps j =
+      rw (← gathered) (λ i j e. (mine.gathered i j e).0) in
+      let apart : Apart r.gathered = rw gathered at mine.apart in
       record {
         one_list = record {
-          below = subst P (sym mine.made_is ∙ made) k.below;
+          below = rw (sym mine.made_is ∙ made) at k.below;
           answered = k.answered;
           journals = all_from (λ j. entries_of j.worker (played count (opening count) k.steps) ≡ j.entries) r.gathered
               (λ i j e. (tells i j e).entries);
@@ -334,8 +321,7 @@ module _ {J A : Type 0} (count : ℕ) (fits : ℕ → A → Type 0) (price : A �
 
     pub each_once : NoneTwice (jobs_of r.answers)
     each_once =
-        let P : List ℕ → Type 0 = λ q. NoneTwice q in
-        subst P (sym (ap (λ q. jobs_of q) c.fitting.each) ∙ jobs_priced price r.answers)
+        rw (sym (ap (λ q. jobs_of q) c.fitting.each) ∙ jobs_priced price r.answers) at
         (handed_once (final count steps) _ (played count (opening count) steps) (retired_final count steps)
         r.gathered c.apart (λ i j e. (c.tells i j e).entries))
 
@@ -427,8 +413,7 @@ module _ {J A : Type 0} (count : ℕ) (fits : ℕ → A → Type 0) (price : A �
     came_back_from k w all made taken =
         let its = place_of r.gathered w (all.all w made) in
         let idle = at_place (λ j. is_holding (state_of j.entries) ≡ false) r.gathered its.0 its.1 all.idle its.2 in
-        let P : ℕ → Type 0 = λ v. is_out v k (takes (played count (opening count) steps)) ≡ true in
-        came_back k its.0 its.1 its.2 idle ((retired_final count steps).fate its.1.worker k (subst P (sym its.3) taken))
+        came_back k its.0 its.1 its.2 idle ((retired_final count steps).fate its.1.worker k (rw its.3 taken))
 
     -- where all was gathered and all is known to be taken, every job has an answer
     pub none_missing : IsWhole r.made r.gathered → (i : ℕ) → i < count → (a : A) × Contains r.answers (i, a)
@@ -448,12 +433,10 @@ module _ {J A : Type 0} (count : ℕ) (fits : ℕ → A → Type 0) (price : A �
 
       pub own_below : All (λ x. x.0 < n) own
       own_below =
-          let P : List (ℕ × A) → Type 0 = λ t. All (λ x. x.0 < n) t in
-          let Q : ℕ → Type 0 = λ m. All (λ x. x.0 < m) r.answers in
-          subst P (sym its_own) (subst Q (sym same) all_below)
+          rw (its_own, same) all_below
 
       pub own_once : NoneTwice (jobs_of own)
-      own_once = let P : List (ℕ × A) → Type 0 = λ t. NoneTwice (jobs_of t) in subst P (sym its_own) each_once
+      own_once = rw its_own each_once
 
       pub ends_well : (answers : List A) (costs : List ℕ) → map (λ a. Some a) answers ≡ placed (replicate n None) own
           → (final count steps).costs ≡ costs
@@ -462,7 +445,7 @@ module _ {J A : Type 0} (count : ℕ) (fits : ℕ → A → Type 0) (price : A �
 
       -- the fault that an empty place makes
       pub fault_is : (e : CollectFault) → HoleOf (placed (replicate n None) own) e → MissingOf count r.answers e
-      fault_is (Missing i) h = let P : List (Option A) → Type 0 = λ t. IsFirstHole t i in missing i (subst P row_is h)
+      fault_is (Missing i) h = missing i (rw row_is at h)
       fault_is NoMemory h = tt
 
       pub whole_is : IsWhole r.made r.gathered → (e : CollectFault) → HoleOf (placed (replicate n None) own) e
@@ -493,14 +476,12 @@ module _ {J A : Type 0} (number : J → ℕ) (fits : J → ℕ → A → Type 0)
       let jobs : r.board.jobs ≡ d.jobs = ap (λ (v : RootView J A). v.board.jobs) e
       ∙ ap (λ (v : BoardView J). v.jobs) own in
       let same : count ≡ number d.jobs = count_is number b d count n f in
-      let P : J → Type 0 = λ j. IsRoot (number j) (fits j) (price j) me r in
-      let Q : ℕ → Type 0 = λ m. IsKept m s in
-      let R : RootView J A → Type 0 = λ z. Found d z s in
-      let kept : IsKept (number d.jobs) s = subst Q same k in
-      subst R e record {
+      let kept : IsKept (number d.jobs) s = rw same at k in
+      rw (← e) record {
         steps = kept.steps;
         words = kept.words;
-        closed = closes (number d.jobs) (fits d.jobs) (price d.jobs) id me r (subst P jobs h) s kept at;
+        closed = closes (number d.jobs) (fits d.jobs) (price d.jobs) id me r
+            (subst (λ (j : J). IsRoot (number j) (fits j) (price j) me r) jobs h) s kept at;
       }
 
   -- the costs that were read stand behind the next job

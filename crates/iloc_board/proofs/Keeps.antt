@@ -12,16 +12,14 @@ use Rattle.iloc_board.specs.declared.step.Step.{Step}
 use Rattle.iloc_board.specs.declared.step.Step.TheVariants.{Look, Try, Hand}
 use Rattle.iloc_board.specs.declared.step.Reply.{Reply}
 use Rattle.iloc_board.specs.declared.step.Reply.TheVariants.{Block, NoneLeft, Took, Stale, Handed, NotNow}
-use Rattle.iloc_board.specs.declared.step.Entry.{Entry}
 use Rattle.iloc_board.specs.declared.board.state.State.{State}
-use Rattle.iloc_board.specs.declared.board.state.State.TheVariants.{Free, Looked, Holding}
+use Rattle.iloc_board.specs.declared.board.state.State.TheVariants.{Looked, Holding}
 use Rattle.iloc_board.specs.declared.journal.Journal.{Journal}
 use Rattle.iloc_board.specs.declared.board.seat_view.Role.TheVariants.{Root, Pass, Spent}
 use Rattle.iloc_board.specs.declared.board.seat_view.SeatView.{SeatView}
 use Rattle.iloc_board.specs.Core.{Core, opening, worker_of, is_holding, found, missed, reply_to, look_reply, try_reply, hand_reply, next_after, costs_at, after, played}
-use Rattle.iloc_board.specs.Journal.{entries_of, state_of, seen, seen_in, noted}
+use Rattle.iloc_board.specs.Journal.{entries_of, state_of, seen, noted}
 use Rattle.iloc_board.specs.Play.{final}
-use Rattle.iloc_board.specs.Collecting.{AllAnswered}
 use Rattle.iloc_board.specs.Steps.Rule.{TableState, root_seat, pass_seat, spent_seat, Tells, FitsPass, FitsRoot, Fits, IsKept, Sat, looks, tells_all, tries, hands, makes, made_pass, gathers}
 use Rattle.iloc_board.proofs.Runs.{played-snoc, final-snoc}
 use Rattle.iloc_board.proofs.Parts.{state_final, made-snoc, made_more, answered-snoc, none_yet, tells_here, tells_else, seen_in_low}
@@ -60,8 +58,7 @@ begins count words e = record {
         → Fits count 0 [] (root_seat count 0 [] ∷ []) i v
     first zero v h =
         let is : root_seat count 0 [] ≡ v = some-injective _ _ h in
-        let P : SeatView → Type 0 = λ u. Fits count 0 [] (root_seat count 0 [] ∷ []) 0 u in
-        subst P is (
+        rw (← is) (
           (λ role. absurd (cc)),
           (λ role. record {
             place = refl;
@@ -100,16 +97,13 @@ adds_one count s k id v at role x w r e answered ws words =
       words = words ∙ ap (λ (q : Core). q.next ∷ q.costs) (sym final');
       below = made-snoc k.made k.steps x k.below (let p : id ≡ suc v.journal.worker = mine.place in
           let n : length s.views ≡ suc k.made = k.seats in omega arith);
-      answered = let P : List Entry → Type 0 = λ es. AllAnswered es in
-          subst P (sym (played-snoc count (opening count) k.steps x))
+      answered = rw (played-snoc count (opening count) k.steps x)
           (answered-snoc (played count (opening count) k.steps) x (reply_to count c x) k.answered
           (λ n. answered (sym e ∙ n)));
       fits = λ i u is.
           elim (at_set s.views id i new u is) [
             | inl p ↦
-                let P : ℕ → Type 0 = λ q. Fits count k.made steps (set s.views id new) q u in
-                let Q : SeatView → Type 0 = λ z. Fits count k.made steps (set s.views id new) id z in
-                subst P (sym p.0) (subst Q p.1 (
+                rw p.0 (rw (← p.1) (
                   (λ role. record {
                     place = mine.place;
                     counts = mine.counts;
@@ -132,8 +126,7 @@ adds_one count s k id v at role x w r e answered ws words =
                     gathered = λ g j is.
                         let h = f.gathered g j is in
                         let ne : suc j.worker ≢ id = λ q.
-                        let P : ℕ → Type 0 = λ z. get_elem? s.views z ≡ some spent_seat in
-                        let both : spent_seat ≡ v = some-injective _ _ (sym (subst P q h.1) ∙ at) in
+                        let both : spent_seat ≡ v = some-injective _ _ (sym (rw q at h.1) ∙ at) in
                         let roles : Spent ≡ v.role = ap (λ (z : SeatView). z.role) both in absurd (cc) in (
                           tells_else count k.steps j x (other (suc j.worker) ne j refl) h.0,
                           set_else s.views id (suc j.worker) new ne ∙ h.1,
@@ -177,9 +170,8 @@ missed_answers count next = go (nat_lt next count)
     go false e = absurd (cc)
 
 free_looks : (count next : ℕ) (s : State) → is_holding s ≡ false → look_reply count next s ≡ found count next
-free_looks count next Free e = refl
-free_looks count next (Looked k) e = refl
 free_looks count next (Holding k) e = absurd (cc)
+free_looks count next s e = refl
 
 -- the state that the core has for a live pass
 state_here : (count : ℕ) (s : TableState) (k : IsKept count s) (id : ℕ) (v : SeatView) → get_elem? s.views id ≡ some v
@@ -208,8 +200,7 @@ looks_kept count slots id m role free s k len at small =
     let ws : slice_set s.words 0 n ≡ (after count c x).next ∷ (after count c x).costs =
     ap (λ t. slice_set t 0 n) k.words ∙ (ap (λ q. q ∷ c.costs) word ∙ ap (λ q. q ∷ c.costs) (sym stays)) in
     let low : seen count v.journal ≤ c.next = mine.tells.seen_low in
-    let low' : seen v.count v.journal ≤ n = let P : ℕ → Type 0 = λ q. seen q v.journal ≤ n in
-    subst P (sym mine.counts) (omega arith) in (
+    let low' : seen v.count v.journal ≤ n = rw mine.counts (omega arith) in (
       pass_seat v.count (noted v.journal x r),
       keeps,
       tt,
@@ -224,7 +215,7 @@ put_again (x ∷ xs) zero a e = ap (λ y. y ∷ xs) (sym (some-injective x a e))
 put_again (x ∷ xs) (suc i) a e = ap (λ ys. x ∷ ys) (put_again xs i a e)
 
 read_again : (ws costs : List ℕ) (next : ℕ) → ws ≡ next ∷ costs → slice_set ws 0 (slice_index ws 0) ≡ ws
-read_again ws costs next e = let P : List ℕ → Type 0 = λ l. slice_set l 0 (slice_index l 0) ≡ l in subst P (sym e) refl
+read_again ws costs next e = rw e refl
 
 -- a load of word 0 by the root
 pub tells_kept : (count slots id : ℕ) (m : Sat) → m.0.role ≡ Root
@@ -234,15 +225,12 @@ tells_kept count slots id m role s k len at small =
     let mine : FitsRoot count k.made k.steps s.views id v = (k.fits id v at).1 role in
     let n : ℕ = slice_index s.words 0 in
     let words : s.words ≡ slice_set s.words 0 n = sym (read_again s.words (final count k.steps).costs (final count k.steps).next k.words) in
-    let views : s.views ≡ slice_set s.views id v = sym (put_again s.views id v at) in
-    let P : List ℕ → Type 0 = λ ws. IsKept count record { words = ws; homes = s.homes; views = s.views } in
-    let Q : List SeatView → Type 0 = λ vs. IsKept count record { words = slice_set s.words 0 n; homes = s.homes; views = vs } in
-    let R : ℕ → Type 0 = λ c. IsKept c s in (
+    let views : s.views ≡ slice_set s.views id v = sym (put_again s.views id v at) in (
       v,
       keeps,
       tt,
-      subst Q views (subst P words k),
-      (refl, s, subst R (sym mine.counts) k, id, at),
+      rw (← words, ← views) k,
+      (refl, s, rw mine.counts k, id, at),
     )
 
 -- a compare and exchange of word 0
@@ -283,8 +271,7 @@ tries_kept count slots id m j new role looked more s k len at small =
     let ws : slice_set s.words 0 (either (n == j) new n) ≡ (after count c x).next ∷ (after count c x).costs =
     ap (λ t. slice_set t 0 (either (n == j) new n)) k.words ∙ ap (λ q. q ∷ c.costs) (sym next) in
     let low : seen count v.journal ≤ c.next = mine.tells.seen_low in
-    let low' : seen v.count v.journal ≤ n = let P : ℕ → Type 0 = λ q. seen q v.journal ≤ n in
-    subst P (sym mine.counts) (omega arith) in (
+    let low' : seen v.count v.journal ≤ n = rw mine.counts (omega arith) in (
       pass_seat v.count (noted v.journal x r),
       keeps,
       tt,
@@ -329,8 +316,7 @@ makes_kept count id v role s k at =
       entries = ap (λ w. entries_of w (played count (opening count) k.steps)) mine.made_is
           ∙ none_yet count (opening count) k.steps k.made k.below;
       seen_low =
-          let P : ℕ → Type 0 = λ q. seen_in q v.gathered ≤ (final count k.steps).next in
-          subst P (sym mine.counts) (seen_in_low count (final count k.steps).next v.gathered
+          rw mine.counts (seen_in_low count (final count k.steps).next v.gathered
           (λ i j e. (mine.gathered i j e).0.seen_low));
     } in
     record {
@@ -345,9 +331,7 @@ makes_kept count id v role s k at =
           elim (at_snoc_place (set s.views id left) right u i is) [
             | inl p ↦ elim (at_set s.views id i left u p) [
               | inl q ↦
-                  let P : ℕ → Type 0 = λ z. Fits count (suc k.made) k.steps views z u in
-                  let Q : SeatView → Type 0 = λ z. Fits count (suc k.made) k.steps views id z in
-                  subst P (sym q.0) (subst Q q.1 (
+                  rw q.0 (rw (← q.1) (
                     (λ r. absurd (cc)),
                     (λ r. record {
                       place = mine.place;
@@ -372,8 +356,7 @@ makes_kept count id v role s k at =
                   )
             ]
             | inr p ↦
-                let Q : SeatView → Type 0 = λ z. Fits count (suc k.made) k.steps views i z in
-                subst Q p.1 (
+                rw (← p.1) (
                   (λ pass. record {
                     place = p.0 ∙ (long ∙ ap suc (sym mine.made_is));
                     counts = mine.counts;
@@ -400,8 +383,7 @@ gathers_kept count id other v w root pass s k at ne there =
     let spent : (j : Journal) → get_elem? s.views (suc j.worker) ≡ some spent_seat → get_elem? views (suc j.worker)
     ≡ some spent_seat = λ j h.
     elim (cases_eq (suc j.worker) other) [
-      | inl e ↦ let P : ℕ → Type 0 = λ z. get_elem? views z ≡ some spent_seat in
-          subst P (sym e) (set_here row other spent_seat reach)
+      | inl e ↦ rw e (set_here row other spent_seat reach)
       | inr e ↦ let n : suc j.worker ≢ id = λ z. absurd (omega arith) in set_else row other (suc j.worker) spent_seat e
           ∙ (set_else s.views id (suc j.worker) both n ∙ h)
     ] in
@@ -409,9 +391,8 @@ gathers_kept count id other v w root pass s k at ne there =
     let apart : (j : Journal) → get_elem? s.views (suc j.worker) ≡ some spent_seat → j.worker ≢ w.journal.worker =
     λ j h e.
     let place : other ≡ suc w.journal.worker = its.place in
-    let P : ℕ → Type 0 = λ z. get_elem? s.views z ≡ some spent_seat in
     let same : suc j.worker ≡ other = omega arith in
-    let one : spent_seat ≡ w = some-injective _ _ (sym (subst P same h) ∙ was) in
+    let one : spent_seat ≡ w = some-injective _ _ (sym (rw same at h) ∙ was) in
     let roles : Spent ≡ w.role = ap (λ (z : SeatView). z.role) one in
     absurd (cc) in
     record {
@@ -424,13 +405,10 @@ gathers_kept count id other v w root pass s k at ne there =
       fits = λ i u is.
           elim (at_set row other i spent_seat u is) [
             | inl p ↦
-                let Q : SeatView → Type 0 = λ z. Fits count k.made k.steps views i z in
-                subst Q p.1 ((λ r. absurd (cc)), (λ r. absurd (cc)))
+                rw (← p.1) ((λ r. absurd (cc)), (λ r. absurd (cc)))
             | inr p ↦ elim (at_set s.views id i both u p.1) [
               | inl q ↦
-                  let P : ℕ → Type 0 = λ z. Fits count k.made k.steps views z u in
-                  let Q : SeatView → Type 0 = λ z. Fits count k.made k.steps views id z in
-                  subst P (sym q.0) (subst Q q.1 (
+                  rw q.0 (rw (← q.1) (
                     (λ r. absurd (cc)),
                     (λ r. record {
                       place = mine.place;
@@ -440,12 +418,10 @@ gathers_kept count id other v w root pass s k at ne there =
                           elim (at_snoc_place v.gathered w.journal j a e) [
                             | inl old ↦ let h = mine.gathered a j old in (h.0, spent j h.1)
                             | inr new ↦
-                                let R : Journal → Type 0 = λ z. Tells count k.steps z
-                                × (get_elem? views (suc z.worker) ≡ some spent_seat) in
-                                let here : get_elem? views (suc w.journal.worker) ≡ some spent_seat = let P : ℕ
-                                → Type 0 = λ z. get_elem? views z ≡ some spent_seat in
-                                subst P its.place (set_here row other spent_seat reach) in
-                                subst R new.1 (its.tells, here)
+                                let here : get_elem? views (suc w.journal.worker) ≡ some spent_seat = subst
+                                (λ (z : ℕ). get_elem? views z ≡ some spent_seat) its.place
+                                (set_here row other spent_seat reach) in
+                                rw (← new.1) (its.tells, here)
                           ];
                       apart = λ a b j l ja lb same.
                           elim (at_snoc_place v.gathered w.journal j a ja) [

@@ -9,7 +9,7 @@ use Rattle.iloc_board.specs.declared.step.Step.{Step}
 use Rattle.iloc_board.specs.declared.step.Reply.{Reply}
 use Rattle.iloc_board.specs.declared.step.Reply.TheVariants.{Took, Handed}
 use Rattle.iloc_board.specs.declared.board.state.State.{State}
-use Rattle.iloc_board.specs.declared.board.state.State.TheVariants.{Free, Looked, Holding}
+use Rattle.iloc_board.specs.declared.board.state.State.TheVariants.{Looked, Holding}
 use Rattle.iloc_board.specs.Core.{Core, IsWithin, opening, is_holding, worker_of, reply_to, state_after, next_after, after, ends, played}
 use Rattle.iloc_board.specs.Sequential as sequential
 use Rattle.iloc_board.specs.Sequential.{Call, SequentialBoard, is_pair, is_out, has_out, without, opened, moved, board_after, Legal}
@@ -19,9 +19,8 @@ use Rattle.iloc_board.proofs.Effects.{finds, misses, none, wins, returns, waits,
 use Rattle.iloc_board.proofs.Taking.{Stands, begins, stands, state_by, looked_within}
 
 free_holds : (s : State) (k : ℕ) → is_holding s ≡ false → holds_job s k ≡ false
-free_holds Free k e = refl
-free_holds (Looked j) k e = refl
 free_holds (Holding j) k e = absurd (cc)
+free_holds s k e = refl
 
 -- a step after which the worker holds a job just if it did before
 same_held : (count : ℕ) (c : Core) (x : Step) (r : Reply) → reply_to count c x ≡ r
@@ -176,9 +175,7 @@ module _ {A : Type 0} where
         (answers : List (ℕ × A)) → Leads b calls count c taken answers
         → Leads b calls count c (taken ++ []) (answers ++ [])
     plain b calls count c taken answers h =
-        let P : List (ℕ × ℕ) → Type 0 = λ t. Leads b calls count c t (answers ++ []) in
-        let Q : List (ℕ × A) → Type 0 = λ a. Leads b calls count c taken a in
-        subst P (sym (append-nil taken)) (subst Q (sym (append-nil answers)) h)
+        rw (append-nil taken, append-nil answers) h
 
     pub leads : (count : ℕ) (c : Core) (taken : List (ℕ × ℕ)) (answers : List (ℕ × A)) (b : SequentialBoard A)
         → Stands count c taken → StandsAt count c taken answers b → (x : Step)
@@ -236,12 +233,8 @@ module _ {A : Type 0} where
                 };
               })
           | returns v cost k is holding by costs e ↦ subst P (sym e) (
-              let Q : List (ℕ × ℕ) → Type 0 = λ l. Leads b (map (λ p. sequential.Gave w p.0 (said p.0 p.1)) l) count d
-              (taken ++ []) (answers ++ map (given said) l) in
-              let R : List (ℕ × ℕ) → Type 0 = λ t. Leads b (sequential.Gave w k (said k cost) ∷ []) count d t
-              (answers ++ (k, said k cost) ∷ []) in
               let next : d.next ≡ c.next = ap (λ q. next_after c.next q) e in
-              subst Q (sym by) (subst R (sym (append-nil taken)) record {
+              rw (by, append-nil taken) record {
                 legal = λ rest l. (
                   (
                     ap (λ t. is_out w k t) at.out ∙ is_out_held c w k taken holding (h.has w k holding),
@@ -254,7 +247,7 @@ module _ {A : Type 0} where
                   out = ap (λ t. without w k t) at.out ∙ held_after_hand count c taken x k holding e;
                   done = ap (λ t. t ++ (k, said k cost) ∷ []) at.done;
                 };
-              }))
+              })
           | waits costs e ↦ subst P (sym e)
               (plain b [] count d taken answers record { legal = λ rest l. l; at = same _ e refl (λ k. refl) })
         ]
@@ -265,9 +258,7 @@ module _ {A : Type 0} where
         → Legal fits b (history said count c xs) × StandsAt count (ends count c xs) (taken ++ takes (played count c xs))
         (answers ++ map (given said) (hand_backs count c xs)) (board_after b (history said count c xs))
     law count [] c taken answers b h at =
-        let P : List (ℕ × ℕ) → Type 0 = λ t. StandsAt count c t (answers ++ []) b in
-        let Q : List (ℕ × A) → Type 0 = λ a. StandsAt count c taken a b in
-        (tt, subst P (sym (append-nil taken)) (subst Q (sym (append-nil answers)) at))
+        (tt, rw (append-nil taken, append-nil answers) at)
     law count (x ∷ xs) c taken answers b h at =
         let w : ℕ = worker_of x in
         let r : Reply = reply_to count c x in
@@ -284,31 +275,23 @@ module _ {A : Type 0} where
         ≡ answers ++ map (given said) (handed ++ hand_backs count d xs) =
         append_assoc answers (map (given said) handed) (map (given said) (hand_backs count d xs))
         ∙ ap (λ t. answers ++ t) (sym (map-append (given said) handed (hand_backs count d xs))) in
-        let P : List (ℕ × ℕ) → Type 0 = λ t. StandsAt count (ends count d xs) t
-        ((answers ++ map (given said) handed) ++ map (given said) (hand_backs count d xs))
-        (board_after (board_after b calls) (history said count d xs)) in
-        let Q : List (ℕ × A) → Type 0 = λ a. StandsAt count (ends count d xs)
-        (taken ++ (taken_by w r ++ takes (played count d xs))) a
-        (board_after (board_after b calls) (history said count d xs)) in
         let R : SequentialBoard A → Type 0 =
         λ q. StandsAt count (ends count d xs) (taken ++ (taken_by w r ++ takes (played count d xs)))
         (answers ++ map (given said) (handed ++ hand_backs count d xs)) q in (
           l.legal (history said count d xs) rest.0,
           subst R (sym (board_after-append b calls (history said count d xs)))
-              (subst Q same_answers (subst P same_taken rest.1)),
+              (rw same_answers at (rw same_taken at rest.1)),
         )
 
 -- what any steps keep, at their end
 pub stands_all : (count : ℕ) (xs : List Step) (c : Core) (taken : List (ℕ × ℕ)) → Stands count c taken
     → Stands count (ends count c xs) (taken ++ takes (played count c xs))
-stands_all count [] c taken h = let P : List (ℕ × ℕ) → Type 0 = λ t. Stands count c t in
-    subst P (sym (append-nil taken)) h
+stands_all count [] c taken h = rw (append-nil taken) h
 stands_all count (x ∷ xs) c taken h =
     let rest = stands_all count xs (after count c x) (taken ++ taken_by (worker_of x) (reply_to count c x))
     (stands count c taken h x) in
-    let P : List (ℕ × ℕ) → Type 0 = λ t. Stands count (ends count (after count c x) xs) t in
-    subst P (append_assoc taken (taken_by (worker_of x) (reply_to count c x))
-    (takes (played count (after count c x) xs))) rest
+    rw (append_assoc taken (taken_by (worker_of x) (reply_to count c x))
+    (takes (played count (after count c x) xs))) at rest
 
 pub exact_step : (count : ℕ) (c : Core) (taken : List (ℕ × ℕ)) → Stands count c taken → (x : Step)
     → IsExactReply count c (worker_of x) (reply_to count c x)

@@ -33,11 +33,9 @@ module _ {B : Type 0} where
   get_set_same (x ∷ xs) (suc i) b h = get_set_same xs i b (omega arith)
 
   pub get_set_other : (l : List B) (i j : ℕ) (b : B) → j ≢ i → slice_get (slice_set l i b) j ≡ slice_get l j
-  get_set_other [] i j b h = refl
   get_set_other (x ∷ xs) zero zero b h = absurd (h refl)
-  get_set_other (x ∷ xs) zero (suc j) b h = refl
-  get_set_other (x ∷ xs) (suc i) zero b h = refl
   get_set_other (x ∷ xs) (suc i) (suc j) b h = get_set_other xs i j b (λ e. h (ap suc e))
+  get_set_other l i j b h = refl
 
 -- no pair of the job k is there
 no_job : (ps : List (ℕ × ℕ)) (k : ℕ) → ((cost : ℕ) → Contains ps (k, cost) → ⊥) → list_any (λ y. k == y) (jobs_of ps)

@@ -6,7 +6,7 @@ use mathlib.Core.Option.{some}
 use lib.ListN.{get_elem?}
 use Rattle.iloc_board.specs.declared.step.Step.{Step}
 use Rattle.iloc_board.specs.declared.step.Reply.{Reply}
-use Rattle.iloc_board.specs.declared.step.Reply.TheVariants.{Block, NoneLeft, Took, Stale, Handed, NotNow}
+use Rattle.iloc_board.specs.declared.step.Reply.TheVariants.{Block, NoneLeft, Stale, NotNow}
 use Rattle.iloc_board.specs.declared.step.Entry.{Entry}
 use Rattle.iloc_board.specs.declared.board.state.State.{State}
 use Rattle.iloc_board.specs.declared.board.state.State.TheVariants.{Free, Looked}
@@ -179,11 +179,7 @@ seen_more count start (e ∷ es) = let h : max start (shown count e.reply) ≤ s
 
 shows_count : (count : ℕ) (r : Reply) → is_none_left r ≡ true → shown count r ≡ count
 shows_count count NoneLeft e = refl
-shows_count count (Block k) e = absurd (cc)
-shows_count count (Took k) e = absurd (cc)
-shows_count count (Stale k) e = absurd (cc)
-shows_count count Handed e = absurd (cc)
-shows_count count NotNow e = absurd (cc)
+shows_count count r e = absurd (cc)
 
 -- who was told that none is left has seen that all are taken
 none_seen : (count start : ℕ) (es : List Entry) → saw_none es ≡ true → count ≤ seen_from count start es
@@ -202,11 +198,9 @@ told_none count j h = none_seen count j.start j.entries h
 looks_step : (k start count : ℕ) (s : State) (r : Reply) → ((j : ℕ) → s ≡ Looked j → j ≤ start)
     → state_after s r ≡ Looked k → k ≤ max start (shown count r)
 looks_step k start count s (Block j) h e = let same : j ≡ k = cc in omega arith
-looks_step k start count s NoneLeft h e = absurd (cc)
-looks_step k start count s (Took j) h e = absurd (cc)
 looks_step k start count s (Stale j) h e = let same : j ≡ k = cc in omega arith
-looks_step k start count s Handed h e = absurd (cc)
 looks_step k start count s NotNow h e = let low : k ≤ start = h k e in omega arith
+looks_step k start count s r h e = absurd (cc)
 
 looks_seen : (k start count : ℕ) (s : State) (es : List Entry) → ((j : ℕ) → s ≡ Looked j → j ≤ start)
     → state_from s es ≡ Looked k → k ≤ seen_from count start es

@@ -91,11 +91,11 @@ idles count c taken es st h x r e clean rises costs gone later fate =
       gone = λ w v k cost t. gone w v k cost (old w k cost t);
       cost_stands = λ w k cost t. ap (λ q. slice_get q k) costs ∙ h.cost_stands w k cost (old w k cost t);
       one = λ w v k a b t u. h.one w v k a b (old w k a t) (old v k b u);
-      twice = λ w. let P : List (ℕ × ℕ) → Type 0 = λ q. NoneTwice (jobs_of q) in subst P (sym (same w)) (h.twice w);
+      twice = λ w. rw (same w) (h.twice w);
       fate = λ w k o. elim (fate w k o) [
         | inl p ↦ inl p
         | inr p ↦
-            inr (p.0, let P : List (ℕ × ℕ) → Type 0 = λ q. Contains q (k, p.0) in subst P (sym (same w)) p.1)
+            inr (p.0, rw (same w) p.1)
       ];
     }
 
@@ -125,24 +125,20 @@ hands_one count c taken es st h long x cost k holding by costs e =
     ⊎ ((w ≡ v) × (j ≡ k) × (a ≡ cost)) = λ w j a t.
     elim (cases_eq w v) [
       | inl same ↦
-          let P : ℕ → Type 0 = λ u. Contains (handed (entries_of u now)) (j, a) in
-          let Q : List (ℕ × ℕ) → Type 0 = λ q. Contains q (j, a) in
-          elim (Contains-push_cases (handed (entries_of v es)) (k, cost) (j, a) (subst Q mine (subst P same t))) [
-            | inl p ↦ let R : ℕ → Type 0 = λ u. Contains (handed (entries_of u es)) (j, a) in inl (subst R (sym same) p)
+          elim (Contains-push_cases (handed (entries_of v es)) (k, cost) (j, a)
+          (rw mine at (rw same at t))) [
+            | inl p ↦ inl (rw same p)
             | inr q ↦ inr (same, ap (λ (z : ℕ × ℕ). z.0) (sym q), ap (λ (z : ℕ × ℕ). z.1) (sym q))
           ]
-      | inr ne ↦ let Q : List (ℕ × ℕ) → Type 0 = λ q. Contains q (j, a) in inl (subst Q (other w ne) t)
+      | inr ne ↦ inl (rw (other w ne) at t)
     ] in
     let keep : (w j a : ℕ) → Contains (handed (entries_of w es)) (j, a) → Contains (handed (entries_of w now)) (j, a) =
     λ w j a t.
     elim (cases_eq w v) [
       | inl same ↦
-          let P : ℕ → Type 0 = λ u. Contains (handed (entries_of u now)) (j, a) in
-          let Q : List (ℕ × ℕ) → Type 0 = λ q. Contains q (j, a) in
-          let R : ℕ → Type 0 = λ u. Contains (handed (entries_of u es)) (j, a) in
-          subst P (sym same) (subst Q (sym mine) (Contains-append_left (handed (entries_of v es)) ((k, cost) ∷ [])
-          (j, a) (subst R same t)))
-      | inr ne ↦ let Q : List (ℕ × ℕ) → Type 0 = λ q. Contains q (j, a) in subst Q (sym (other w ne)) t
+          rw (same, mine) (Contains-append_left (handed (entries_of v es)) ((k, cost) ∷ [])
+          (j, a) (rw same at t))
+      | inr ne ↦ rw (other w ne) t
     ] in
     let held : (w j : ℕ) → d.state w ≡ Holding j → (w ≢ v) × (c.state w ≡ Holding j) = λ w j is.
     elim (state_by count c x Handed e w) [
@@ -167,8 +163,7 @@ hands_one count c taken es st h long x cost k holding by costs e =
       cost_stands = λ w j a t.
           ap (λ q. slice_get q j) costs ∙ elim (split w j a t) [
             | inl p ↦
-                let ne : j ≢ k = λ q. let P : ℕ → Type 0 = λ z. Contains (handed (entries_of w es)) (z, a) in
-                fresh w a (subst P q p) in
+                let ne : j ≢ k = λ q. fresh w a (rw q at p) in
                 get_set_other c.costs k j cost ne ∙ h.cost_stands w j a p
             | inr p ↦ ap (λ z. slice_get (slice_set c.costs k cost) z) p.1
                 ∙ (get_set_same c.costs k cost (omega arith) ∙ ap (λ z. Some z) (sym p.2))
@@ -177,27 +172,21 @@ hands_one count c taken es st h long x cost k holding by costs e =
           elim (split w j a t) [
             | inl p ↦ elim (split u j b s) [
               | inl q ↦ h.one w u j a b p q
-              | inr q ↦ let P : ℕ → Type 0 = λ z. Contains (handed (entries_of w es)) (z, a) in
-                  absurd (fresh w a (subst P q.1 p))
+              | inr q ↦ absurd (fresh w a (rw q.1 at p))
             ]
             | inr p ↦ elim (split u j b s) [
-              | inl q ↦ let P : ℕ → Type 0 = λ z. Contains (handed (entries_of u es)) (z, b) in
-                  absurd (fresh u b (subst P p.1 q))
+              | inl q ↦ absurd (fresh u b (rw p.1 at q))
               | inr q ↦ p.0 ∙ sym q.0
             ]
           ];
       twice = λ w.
           elim (cases_eq w v) [
             | inl same ↦
-                let P : ℕ → Type 0 = λ u. NoneTwice (jobs_of (handed (entries_of u now))) in
-                let Q : List (ℕ × ℕ) → Type 0 = λ q. NoneTwice (jobs_of q) in
-                subst P (sym same) (subst Q (sym mine) (none_twice-append (handed (entries_of v es)) ((k, cost) ∷ [])
+                rw (same, mine) (none_twice-append (handed (entries_of v es)) ((k, cost) ∷ [])
                 (h.twice v) (refl, tt)
                 (λ j a b x y. let is : k ≡ j = ap (λ (z : ℕ × ℕ). z.0) (contains_one (k, cost) (j, b) y) in
-                let R : ℕ → Type 0 = λ z. Contains (handed (entries_of v es)) (z, a) in
-                fresh v a (subst R (sym is) x))))
-            | inr ne ↦ let Q : List (ℕ × ℕ) → Type 0 = λ q. NoneTwice (jobs_of q) in
-                subst Q (sym (other w ne)) (h.twice w)
+                fresh v a (rw is x)))
+            | inr ne ↦ rw (other w ne) (h.twice w)
           ];
       fate = λ w j o.
           elim (h.fate w j o) [
@@ -205,12 +194,10 @@ hands_one count c taken es st h long x cost k holding by costs e =
               | inl same ↦
                   let is : Holding j ≡ Holding k = sym p ∙ (ap c.state same ∙ holding) in
                   let eq : j ≡ k = cc in
-                  let P : ℕ → Type 0 = λ u. Contains (handed (entries_of u now)) (j, cost) in
-                  let Q : List (ℕ × ℕ) → Type 0 = λ q. Contains q (j, cost) in
                   inr (
                     cost,
-                    subst P (sym same)
-                        (subst Q (sym mine) (Contains-append_right (handed (entries_of v es)) ((k, cost) ∷ []) (j, cost)
+                    rw same
+                        (rw mine (Contains-append_right (handed (entries_of v es)) ((k, cost) ∷ []) (j, cost)
                         (contains_here (k, cost) [] (j, cost) (ap (λ z. (z, cost)) (sym eq))))),
                   )
               | inr ne ↦ inl (state_else count c x w ne ∙ p)
@@ -293,19 +280,14 @@ pub retires_all : (count : ℕ) (xs : List Step) (c : Core) (taken : List (ℕ �
     → Stands count c taken → Retired c taken es → length c.costs ≡ count
     → Retired (ends count c xs) (taken ++ takes (played count c xs)) (es ++ played count c xs)
 retires_all count [] c taken es st h long =
-    let P : List (ℕ × ℕ) → Type 0 = λ t. Retired c t (es ++ []) in
-    let Q : List Entry → Type 0 = λ t. Retired c taken t in
-    subst P (sym (append-nil taken)) (subst Q (sym (append-nil es)) h)
+    rw (append-nil taken, append-nil es) h
 retires_all count (x ∷ xs) c taken es st h long =
     let r : Reply = reply_to count c x in
     let d : Core = after count c x in
     let rest = retires_all count xs d (taken ++ taken_by (worker_of x) r) (es ++ entry x r ∷ [])
     (stands count c taken st x) (retires count c taken es st h long x) (length-costs count c x ∙ long) in
-    let P : List (ℕ × ℕ) → Type 0 = λ t. Retired (ends count d xs) t ((es ++ entry x r ∷ []) ++ played count d xs) in
-    let Q : List Entry → Type 0 = λ t. Retired (ends count d xs)
-    (taken ++ (taken_by (worker_of x) r ++ takes (played count d xs))) t in
-    subst Q (append_assoc es (entry x r ∷ []) (played count d xs))
-    (subst P (append_assoc taken (taken_by (worker_of x) r) (takes (played count d xs))) rest)
+    rw (append_assoc es (entry x r ∷ []) (played count d xs)) at
+    (rw (append_assoc taken (taken_by (worker_of x) r) (takes (played count d xs))) at rest)
 
 pub retired_final : (count : ℕ) (xs : List Step) → Retired (final count xs) (takes (played count (opening count) xs))
     (played count (opening count) xs)

@@ -1,5 +1,5 @@
 -- One step more at the end of a list of steps.
-use Rattle.std.proofs.Common.{◌≡◌, ℕ, ◌+◌, ◌<◌, List, [], ◌∷◌, ◌++◌, length, map, take, get_or, refl, ap, sym, ◌∙◌, subst, length-set}
+use Rattle.std.proofs.Common.{◌≡◌, ℕ, ◌+◌, ◌<◌, List, [], ◌∷◌, ◌++◌, length, map, take, get_or, refl, ap, sym, ◌∙◌, length-set}
 use Rattle.std.proofs.lemmas.List.{map-append, length-replicate, take_more}
 use Rattle.iloc_board.specs.declared.step.Step.{Step}
 use Rattle.iloc_board.specs.declared.step.Reply.{Reply}
@@ -66,9 +66,7 @@ pub shows_more : (count n : ℕ) (xs : List Step) (i : ℕ) (d : Step) → i < l
     → Shows next costs states (after n (final count (take i xs)) (get_or xs i d))
     → Shows next costs states (final count (take (i + 1) xs))
 shows_more count n xs i d lt same next costs states h =
-    let P : Core → Type 0 = λ c. Shows next costs states c in
-    let Q : ℕ → Type 0 = λ m. Shows next costs states (after m (final count (take i xs)) (get_or xs i d)) in
-    subst P (sym (final_more count xs i d lt)) (subst Q same h)
+    rw (final_more count xs i d lt) (rw same at h)
 
 pub told_more : (count n : ℕ) (xs : List Step) (i : ℕ) (d : Step) → i < length xs → n ≡ count
     → (told : List Reply) (r : Reply)

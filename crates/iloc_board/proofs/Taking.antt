@@ -74,10 +74,10 @@ idles count c taken h x r e stays within holds =
     let old : (w k : ℕ) → (after count c x).state w ≡ Holding k → c.state w ≡ Holding k =
     holds_by count c x r e holds in
     record {
-      low = let P : ℕ → Type 0 = λ n. n ≤ count in subst P (sym next) h.low;
+      low = rw next h.low;
       within = within_by count c x r e h.within within;
       once = h.once ∙ ap (λ n. range_with_len 0 n) (sym next);
-      below = λ w k o. let P : ℕ → Type 0 = λ n. k < n in subst P (sym next) (h.below w k o);
+      below = λ w k o. rw next (h.below w k o);
       has = λ w k o. h.has w k (old w k o);
       one = λ w v k o p. h.one w v k (old w k o) (old v k p);
     }
@@ -87,7 +87,7 @@ range_more a zero j e = let same : a ≡ j = omega arith in ap (λ k. k ∷ []) 
 range_more a (suc n) j e = ap (λ t. a ∷ t) (range_more (a + 1) n j (omega arith))
 
 pub looked_within : (count k : ℕ) (s : State) → s ≡ Looked k → IsWithin count s → k < count
-looked_within count k s e h = let P : State → Type 0 = λ t. IsWithin count t in subst P e h
+looked_within count k s e h = rw e at h
 
 pair_self : (w k : ℕ) → is_pair w k (w, k) ≡ true
 pair_self w k = and_from (w == w) (k == k) (eq-eqb w w refl) (eq-eqb k k refl)
@@ -126,26 +126,22 @@ takes_one count c taken h x k looked at e =
       | inl p ↦ let q : Holding j ≡ Holding k = sym is ∙ p.1 in inl (p.0, cc)
       | inr p ↦ inr (p.0, sym p.1 ∙ is)
     ] in
-    let held : (v j : ℕ) → c.state v ≡ Holding j → j < k = λ v j is. let P : ℕ → Type 0 = λ n. j < n in
-    subst P at (h.below v j (h.has v j is)) in
+    let held : (v j : ℕ) → c.state v ≡ Holding j → j < k = λ v j is. subst (λ (n : ℕ). j < n) at (h.below v j (h.has v j is)) in
     record {
-      low = let P : ℕ → Type 0 = λ n. n ≤ count in subst P (sym next) (omega arith);
+      low = rw next (omega arith);
       within = within_by count c x (Took k) e h.within (λ s i. few);
       once =
           map-append (λ (p : ℕ × ℕ). p.1) taken ((w, k) ∷ [])
           ∙ (ap (λ t. t ++ k ∷ []) (h.once ∙ ap (λ n. range_with_len 0 n) at)
           ∙ (sym (range_more 0 k k (omega arith)) ∙ ap (λ n. range_with_len 0 n) (sym next)));
       below = λ v j o.
-          let P : ℕ → Type 0 = λ n. j < n in
-          subst P (sym next) (elim (out_split v j w k taken o) [
+          rw next (elim (out_split v j w k taken o) [
             | inl p ↦ let lt : j < c.next = h.below v j p in omega arith
             | inr p ↦ let lt : j ≡ k = p.1 in omega arith
           ]);
       has = λ v j is.
           elim (new v j is) [
-            | inl p ↦ let P : ℕ → Type 0 = λ u. is_out u j (taken ++ (w, k) ∷ []) ≡ true in
-                subst P (sym p.0) (let Q : ℕ → Type 0 = λ i. is_out w i (taken ++ (w, k) ∷ []) ≡ true in
-                subst Q (sym p.1) (out_at_end w k taken))
+            | inl p ↦ rw (p.0, p.1) (out_at_end w k taken)
             | inr p ↦ out_more v j w k taken (h.has v j p.1)
           ];
       one = λ v u j is same.
@@ -167,8 +163,7 @@ pub stands : (count : ℕ) (c : Core) (taken : List (ℕ × ℕ)) → Stands cou
 stands count c taken h x =
     let P : Reply → Type 0 = λ r. Stands count (after count c x) (taken ++ taken_by (worker_of x) r) in
     let same : Stands count (after count c x) taken → Stands count (after count c x) (taken ++ []) =
-    λ s. let Q : List (ℕ × ℕ) → Type 0 = λ t. Stands count (after count c x) t in
-    subst Q (sym (append-nil taken)) s in
+    λ s. rw (append-nil taken) s in
     elim (effect count c x) [
       | finds costs free lt e ↦ subst P (sym e)
           (same (idles count c taken h x _ e refl (λ s i. lt) (λ s k f. absurd (cc))))

@@ -1,6 +1,5 @@
-use Rattle.std.proofs.Common.{◌≡◌, ℕ, ap, sym, ◌∙◌, subst, length, take, ◌<◌, arith}
-use Rattle.iloc_board.specs.declared.board.state.State.{State}
-use Rattle.iloc_board.specs.Core.{Core, IsWithin}
+use Rattle.std.proofs.Common.{◌≡◌, ap, sym, ◌∙◌, length, take, ◌<◌, arith}
+use Rattle.iloc_board.specs.Core.{Core}
 use Rattle.iloc_board.specs.Play.{final}
 use Rattle.iloc_board.proofs.Runs.{length-costs_final, shows_more, told_more}
 use Rattle.iloc_board.proofs.Laws.{within_final}
@@ -12,11 +11,8 @@ step-requires-clause-costs c = ap length c.loop-step.invariant.shows.costs_are
 
 pub step-requires-clause-within : goal.step-requires-clause-within
 step-requires-clause-within c = λ q.
-    let P : State → Type 0 = λ s. IsWithin c.loop-step.core.count s in
-    let Q : ℕ → Type 0 = λ n. IsWithin n ((final c.args.count (take c.loop-step.step-index c.args.steps.now)).state
-    q) in
-    subst P (sym (c.loop-step.invariant.shows.states_are q))
-    (subst Q (sym c.loop-step.invariant.same)
+    rw (c.loop-step.invariant.shows.states_are q)
+    (rw c.loop-step.invariant.same
     (within_final c.args.count (take c.loop-step.step-index c.args.steps.now) q))
 
 pub loop-step-preserved : goal.loop-step-preserved

@@ -1,4 +1,4 @@
-use Rattle.std.proofs.Common.{◌≡◌, ap, subst}
+use Rattle.std.proofs.Common.{◌≡◌, ap}
 use Rattle.iloc_board.specs.Views.{BoardView}
 use Rattle.iloc_board.proofs.Claims as claims
 use Rattle.iloc_board.proofs.worker.work_at.Goals as goal
@@ -35,8 +35,7 @@ pub loop-job-preserved : goal.loop-job-preserved
 loop-job-preserved g c =
     let jobs : c.board.inside.jobs.now ≡ c.args.board.now.jobs =
     ap (λ (v : BoardView g.row.J.Denot). v.jobs) c.board.view_is in
-    let fit = subst (λ (z : g.row.J.Denot). g.J.Jobs.fits z c.in-Some.job c.in_ok-answer.answer) jobs
-    c.in_ok-answer.ensures in
+    let fit = rw jobs at c.in_ok-answer.ensures in
     claims.between_on (g.J.Jobs.number c.args.board.now.jobs) (g.J.Jobs.fits c.args.board.now.jobs)
     (g.J.Jobs.price c.args.board.now.jobs) c.args.board.now c.args.pass.now c.loop-job.pass c.claim.new.pass
     c.hand_back.new.pass c.in-Some.job

@@ -1,5 +1,5 @@
-use Rattle.std.proofs.Common.{◌≡◌, ◌∙◌, ℕ, ap, arith, subst, sym}
-use Rattle.iloc_board.specs.Steps.Rule.{IsKept, Sat}
+use Rattle.std.proofs.Common.{◌≡◌, ◌∙◌, ap, arith, sym}
+use Rattle.iloc_board.specs.Steps.Rule.{Sat}
 use Rattle.iloc_board.specs.Finished.{ReceiptView}
 use Rattle.iloc_board.specs.Views.{RootView}
 use Rattle.iloc_board.proofs.Closes as closes
@@ -30,8 +30,7 @@ returns-clause-list g c =
     let same : c.root.inside.seat.me.0.count ≡ c.self.inside.count = ap (λ (m : Sat). m.0.count) c.root.invariant.seat
     ∙ (ap g.J.Jobs.number (passes.root_jobs _ _ _ _ c.root.view_is c.self.view_is c.requires.own)
     ∙ sym c.self.invariant.count_is) in
-    let P : ℕ → Type 0 = λ n. IsKept n told.1 in
     let found = closes.finds_at g.J.Jobs.number g.J.Jobs.fits g.J.Jobs.price _ _ _ _ told.3 c.root.inside.seat.me
     c.self.inside.count c.root.view_is c.self.view_is c.requires.own c.self.invariant.count_is c.root.invariant told.1
-    (subst P same told.2) told.4 in
+    (rw same at told.2) told.4 in
     (found.steps, found.closed)
