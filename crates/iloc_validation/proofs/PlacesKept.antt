@@ -122,62 +122,24 @@ module _ (ops : List Op) (rows : List Row) (table : IsTable ops rows) (c : ℕ) 
 -- of two operations of these kinds each waits for the other, whichever comes first
 record KeepOrder (lat : Latencies) (a b : Kind) : Type 0 where
   ahead : ℕ
-  behind : ℕ
   is_ahead : In (memory_by lat a b) ahead
-  is_behind : In (memory_by lat b a) behind
   some : 1 ≤ ahead
-  some_too : 1 ≤ behind
+  behind : In (memory_by lat b a) 1
 
 abbrev IsPlaced : Kind → Type 0
 IsPlaced a = (a ≡ K.Load) ⊎ ((a ≡ K.Store) ⊎ (a ≡ K.Output))
 
-store_load : (lat : Latencies) → KeepOrder lat K.Store K.Load
-store_load lat = record {
-  ahead = lat.store;
-  behind = 1;
-  is_ahead = inl refl;
-  is_behind = inl refl;
-  some = lat.some_store;
-  some_too = omega arith;
-}
-
-store_store : (lat : Latencies) → KeepOrder lat K.Store K.Store
-store_store lat = record {
-  ahead = 1;
-  behind = 1;
-  is_ahead = inl refl;
-  is_behind = inl refl;
-  some = omega arith;
-  some_too = omega arith;
-}
-
-store_output : (lat : Latencies) → KeepOrder lat K.Store K.Output
-store_output lat = record {
-  ahead = lat.store;
-  behind = 1;
-  is_ahead = inl refl;
-  is_behind = inl refl;
-  some = lat.some_store;
-  some_too = omega arith;
-}
-
-output_output : (lat : Latencies) → KeepOrder lat K.Output K.Output
-output_output lat = record {
-  ahead = 1;
-  behind = 1;
-  is_ahead = inl refl;
-  is_behind = inl refl;
-  some = omega arith;
-  some_too = omega arith;
-}
-
 stores_keep : (lat : Latencies) (a b : Kind) → is_store a ≡ true → IsPlaced b → KeepOrder lat a b
-stores_keep lat a b store (inl load) = rw (store_is a store, load) (store_load lat)
-stores_keep lat a b store (inr (inl other)) = rw (store_is a store, other) (store_store lat)
-stores_keep lat a b store (inr (inr out)) = rw (store_is a store, out) (store_output lat)
+stores_keep lat a b store (inl load) = rw (store_is a store, load)
+    record { ahead = lat.store; is_ahead = inl refl; some = lat.some_store; behind = inl refl }
+stores_keep lat a b store (inr (inl other)) = rw (store_is a store, other)
+    record { ahead = 1; is_ahead = inl refl; some = omega arith; behind = inl refl }
+stores_keep lat a b store (inr (inr out)) = rw (store_is a store, out)
+    record { ahead = lat.store; is_ahead = inl refl; some = lat.some_store; behind = inl refl }
 
 outputs_keep : (lat : Latencies) (a b : Kind) → is_output a ≡ true → b ≡ K.Output → KeepOrder lat a b
-outputs_keep lat a b output out = rw (output_is a output, out) (output_output lat)
+outputs_keep lat a b output out = rw (output_is a output, out)
+    record { ahead = 1; is_ahead = inl refl; some = omega arith; behind = inl refl }
 
 apart_of : (rows : List Row) (ks : List ℕ) → Ordered (ComesLater rows) ks → Ordered Apart ks
 apart_of rows [] ordered = tt
@@ -205,8 +167,8 @@ module _ (lat : Latencies) (block ops : List Op) (rows : List Row) (origin partn
       | inl before ↦ before
       | inr not_before ↦ elim (cases_lt (origin k) (origin j)) [
         | inl after ↦
-            let over : issue_cycle rows k + keep.behind ≤ issue_cycle rows j =
-            waited lat block ops rows origin partner by k j keep.behind there here after keep.is_behind in
+            let over : issue_cycle rows k + 1 ≤ issue_cycle rows j =
+            waited lat block ops rows origin partner by k j 1 there here after keep.behind in
             absurd (omega arith)
         | inr not_after ↦
             let level : origin j ≡ origin k = omega arith in
@@ -282,8 +244,7 @@ module _ (lat : Latencies) (block ops : List Op) (rows : List Row) (origin partn
   same_place K.Store colour s s' o o' stores outputs = ap (mixed colour) (stores (inr (inl refl)))
   same_place K.Output colour s s' o o' stores outputs =
       ap₂ (λ m n. mixed (mixed colour m) n) (stores (inr (inr refl))) (outputs refl)
-  same_place K.Mult colour s s' o o' stores outputs = refl
-  same_place K.Other colour s s' o o' stores outputs = refl
+  same_place a colour s s' o o' stores outputs = refl
 
   first_same : (k : ℕ) → k < length ops → first_there ops rows k ≡ first_here block (origin k)
   first_same k inside =

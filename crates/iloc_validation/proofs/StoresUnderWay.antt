@@ -21,9 +21,7 @@ use Rattle.iloc_validation.proofs.SameIssues.{in_first, in_second}
 is_of_reader : (k : Kind) → reads_stored K.Store k ≡ true → (k ≡ K.Load) ⊎ (k ≡ K.Output)
 is_of_reader K.Load is = inl refl
 is_of_reader K.Output is = inr refl
-is_of_reader K.Store is = absurd (false≢true is)
-is_of_reader K.Mult is = absurd (false≢true is)
-is_of_reader K.Other is = absurd (false≢true is)
+is_of_reader k is = absurd (false≢true is)
 
 -- what stands in a slot, of a kind that passes
 record Passes (test : Kind → Bool) (ops : List Op) (slot : Option ℕ) : Type 0 where
@@ -44,26 +42,23 @@ record IssuesOne (test : Kind → Bool) (ops : List Op) (rows : List Row) (c : �
   passes : test (kind (op_at ops k)) ≡ true
 
 module _ (lat : Latencies) (ops : List Op) (rows : List Row) (table : IsTable ops rows) (c : ℕ) where
+  issues_it : (test : Kind → Bool) {slot : Option ℕ} (it : Passes test ops slot) → In (slots (row_at rows c)) it.k
+      → IssuesOne test ops rows c
+  issues_it test it there = record {
+    k = it.k;
+    within = within ops rows table c it.k there;
+    at = cycle_is ops rows table c it.k there;
+    passes = it.passes;
+  }
+
   issues_one : (test : Kind → Bool) → (is_some_kind test (kind_in ops (row_at rows c).zero) ≡ true)
       ⊎ (is_some_kind test (kind_in ops (row_at rows c).one) ≡ true) → IssuesOne test ops rows c
   issues_one test (inl zero) =
       let it = in_slot test ops (row_at rows c).zero zero in
-      let there : In (slots (row_at rows c)) it.k = in_second (row_at rows c).one (row_at rows c).zero it.k it.there in
-      record {
-        k = it.k;
-        within = within ops rows table c it.k there;
-        at = cycle_is ops rows table c it.k there;
-        passes = it.passes;
-      }
+      issues_it test it (in_second (row_at rows c).one (row_at rows c).zero it.k it.there)
   issues_one test (inr one) =
       let it = in_slot test ops (row_at rows c).one one in
-      let there : In (slots (row_at rows c)) it.k = in_first (row_at rows c).one (row_at rows c).zero it.k it.there in
-      record {
-        k = it.k;
-        within = within ops rows table c it.k there;
-        at = cycle_is ops rows table c it.k there;
-        passes = it.passes;
-      }
+      issues_it test it (in_first (row_at rows c).one (row_at rows c).zero it.k it.there)
 
   -- a row with a store
   pub stored : (until : ℕ) → until ≡ c + lat.store → (is_some_kind is_store (kind_in ops (row_at rows c).zero) ≡ true)
