@@ -21,20 +21,13 @@ use Rattle.iloc_validation.specs.Steps.Colours.{AreKept, IsBelow, AreBelow, Read
 use Rattle.iloc_validation.specs.Steps.Readings.{reading_at}
 use Rattle.iloc_validation.specs.Steps.Sides.{AreSides}
 use Rattle.iloc_validation.specs.Steps.Sources.{sources_of, sources_at, by_numbers}
+use Rattle.iloc_validation.proofs.Renumbered.{mapped_twice}
 use Rattle.iloc_validation.proofs.SourceLists.{by_numbers_of, sources_from_lists}
 
 by_numbers_twice : (f g : ℕ → ℕ) (s : Sources) → by_numbers f (by_numbers g s) ≡ by_numbers (λ k. f (g k)) s
 by_numbers_twice f g Nothing = refl
-by_numbers_twice f g (One only) = ap One (mapped_twice only)
-  where
-    mapped_twice : (o : Option ℕ) → option_map f (option_map g o) ≡ option_map (λ k. f (g k)) o
-    mapped_twice None = refl
-    mapped_twice (Some k) = refl
-by_numbers_twice f g (Two left right) = ap₂ Two (mapped_twice left) (mapped_twice right)
-  where
-    mapped_twice : (o : Option ℕ) → option_map f (option_map g o) ≡ option_map (λ k. f (g k)) o
-    mapped_twice None = refl
-    mapped_twice (Some k) = refl
+by_numbers_twice f g (One only) = ap One (mapped_twice f g only)
+by_numbers_twice f g (Two left right) = ap₂ Two (mapped_twice f g left) (mapped_twice f g right)
 
 -- what an operation of a block reads stands before it
 

@@ -22,7 +22,7 @@ use Rattle.iloc_sched.proofs.Renamed.RenamedBlocks.{renamed_is_renamed}
 use Rattle.iloc_validation.specs.ByTheBook.{label, read, given, ArePaired, IsScheduleUnder, IsByTheBook}
 use Rattle.iloc_validation.proofs.Labels.{kind-with_registers, label-with_registers}
 use Rattle.iloc_validation.proofs.GivenReads.{new, name_at, used_new, read_is_given}
-use Rattle.iloc_validation.proofs.Outcomes.{memory_by}
+use Rattle.iloc_validation.specs.Steps.Waits.{memory_by}
 
 itself : (o : Option ℕ) → option_map (λ i. i) o ≡ o
 itself None = refl

@@ -1,6 +1,6 @@
 -- What rows by the book have in common with the lawful schedule that has the block's own operations in their slots; for
 -- `laws::by_the_book_keeps_the_outcome`, `laws::by_the_book_takes_the_least`.
-use Rattle.std.proofs.Common.{◌≡◌, ℕ, zero, suc, ◌+◌, ◌<◌, ◌≤◌, ℤ, IsTrue, List, ◌++◌, map, length, Option, Some, None, option_map, inl, inr, refl, ap, ap₂, sym, ◌∙◌, subst, arith, leb-true}
+use Rattle.std.proofs.Common.{◌≡◌, ℕ, zero, suc, ◌+◌, ◌<◌, ◌≤◌, ℤ, IsTrue, List, map, length, Option, Some, None, option_map, inl, inr, refl, ap, ap₂, sym, ◌∙◌, subst, arith, leb-true}
 use Rattle.std.specs.List.{range_with_len}
 use Rattle.std.proofs.lemmas.Bool.{cases_eq}
 use Rattle.std.proofs.lemmas.Simd.{map-map}
@@ -11,7 +11,6 @@ use Rattle.iloc_meaning.specs.Effect.{effect}
 use Rattle.iloc_meaning.specs.Trace.{op_at, is_register, result_of}
 use Rattle.iloc_meaning.specs.Outcome.{outcome}
 use Rattle.iloc_meaning.proofs.Effects.{effect-with_registers}
-use Rattle.iloc_timed.specs.declared.kind.Kind.{Kind}
 use Rattle.iloc_timed.specs.declared.latencies.Latencies.{Latencies}
 use Rattle.iloc_timed.specs.declared.row.Row.{Row}
 use Rattle.iloc_timed.specs.Kinds.{kind}
@@ -20,7 +19,7 @@ use Rattle.iloc_timed.specs.Cycles.{cycles}
 use Rattle.iloc_timed.specs.Rows.{row_at, slots, issue_cycle, times_issued, keeps_units, IsTable}
 use Rattle.iloc_timed.specs.Timed as timed
 use Rattle.iloc_timed.specs.Timed.{Issued, register_in, word_in, timed_outcome, timed_outcome_of}
-use Rattle.iloc_sched.specs.Delays.{uses_result, reads_stored, keeps_order, when, memory_delays, delays}
+use Rattle.iloc_sched.specs.Delays.{uses_result, when, memory_delays, delays}
 use Rattle.iloc_sched.specs.Lawful.{IsLawful}
 use Rattle.iloc_sched.specs.Least.{least}
 use Rattle.iloc_sched.specs.Renaming.{source, numbering, name_of, without_nops, renamed, IsRenamed}
@@ -39,6 +38,7 @@ use Rattle.iloc_sched.proofs.Renamed.RenamedBlocks.{renamed_is_renamed}
 use Rattle.iloc_sched.proofs.DelayPairs.DelayBounds.{from_when}
 use Rattle.iloc_validation.specs.ByTheBook.{due, read, given, result_in, IsScheduleUnder, IsByTheBook}
 use Rattle.iloc_validation.specs.OwnRows.{renumber}
+use Rattle.iloc_validation.specs.Steps.Waits.{memory_by}
 use Rattle.iloc_validation.proofs.Labels.{kind-with_registers, same_kind, same_effect}
 use Rattle.iloc_validation.proofs.Alike.{AlikeAll, alike_map, words_alike, arrived_alike, outcome_alike}
 use Rattle.iloc_validation.proofs.Issues.{issued_at, log_is, numbers_from_issued}
@@ -49,10 +49,6 @@ use Rattle.iloc_validation.proofs.Renumbered.{length-renumber, row_at-map, slots
 some_mapped : (f : ℕ → ℕ) (o : Option ℕ) (i : ℕ) → option_map f o ≡ Some i → (k : ℕ) × (o ≡ Some k) × (f k ≡ i)
 some_mapped f None i is = absurd (let no : None ≡ Some i = is in cc)
 some_mapped f (Some k) i is = (k, refl, cc)
-
--- the delays by memory, of kinds
-abbrev pub memory_by : Latencies → Kind → Kind → List ℕ
-memory_by lat a b = when (reads_stored a b) (latency_of lat a) ++ when (keeps_order a b) 1
 
 moved : (e e' : ℕ → Issued) (f : ℕ → ℕ) (o : Option ℕ)
     → ((k : ℕ) → o ≡ Some k → (e k).executed.effect ≡ (e' (f k)).executed.effect)

@@ -14,7 +14,7 @@ use Rattle.iloc_sched.proofs.Basics.Members.{in_left, in_right}
 use Rattle.iloc_sched.proofs.Basics.Slots.{numbers_before, count_by-cons, times_issued-cons}
 use Rattle.iloc_validation.specs.OwnRows.{renumber}
 
-slots_of : (f : ℕ → ℕ) (one zero : Option ℕ)
+pub slots_of : (f : ℕ → ℕ) (one zero : Option ℕ)
     → option_to_list (option_map f one) ++ option_to_list (option_map f zero)
     ≡ map f (option_to_list one ++ option_to_list zero)
 slots_of f None None = refl
@@ -22,13 +22,16 @@ slots_of f None (Some z) = refl
 slots_of f (Some o) None = refl
 slots_of f (Some o) (Some z) = refl
 
+pub mapped_twice : (g f : ℕ → ℕ) (o : Option ℕ) → option_map g (option_map f o) ≡ option_map (λ k. g (f k)) o
+mapped_twice g f None = refl
+mapped_twice g f (Some k) = refl
+
 pub slots-renumber : (f : ℕ → ℕ) (row : Row) → slots (renumber f row) ≡ map f (slots row)
 slots-renumber f row = slots_of f row.one row.zero
 
 pub row_at-map : (f : ℕ → ℕ) (rows : List Row) (c : ℕ) → row_at (map (renumber f) rows) c ≡ renumber f (row_at rows c)
-row_at-map f [] c = refl
-row_at-map f (row ∷ rows) zero = refl
 row_at-map f (row ∷ rows) (suc c) = row_at-map f rows c
+row_at-map f rows c = refl
 
 pub length-renumber : (f : ℕ → ℕ) (rows : List Row) → length (map (renumber f) rows) ≡ length rows
 length-renumber f [] = refl
@@ -63,8 +66,7 @@ module _ (n : ℕ) (f : ℕ → ℕ) (apart : AreApartBelow n f) (k : ℕ) (belo
 
   any_same : (xs : List ℕ) → ((j : ℕ) → In xs j → j < n) → list_any (λ j. f k == j) (map f xs) ≡ list_any (λ j. k == j) xs
   any_same [] within = refl
-  any_same (x ∷ xs) within =
-      rw (test_same x (within x (inl refl)), any_same xs (λ j there. within j (inr there))) refl
+  any_same (x ∷ xs) within = rw (test_same x (within x (inl refl)), any_same xs (λ j there. within j (inr there))) refl
 
   count_same : (xs : List ℕ) → ((j : ℕ) → In xs j → j < n) → count_by (λ j. f k == j) (map f xs) ≡ count_by (λ j. k == j) xs
   count_same [] within = refl

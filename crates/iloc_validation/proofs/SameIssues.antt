@@ -24,19 +24,18 @@ use Rattle.iloc_validation.specs.OwnRows.{renumber}
 use Rattle.iloc_validation.specs.Steps.Numbers.{is_in, in_slot, number_in}
 use Rattle.iloc_validation.proofs.Issues.{numbers_from_issued}
 use Rattle.iloc_validation.proofs.Lawful.{lawful_by_the_book}
-use Rattle.iloc_validation.proofs.Renumbered.{length-renumber, row_at-map, cycle_same, units_same}
+use Rattle.iloc_validation.proofs.Renumbered.{slots_of, mapped_twice, length-renumber, row_at-map, cycle_same, units_same}
 
 -- Two tables that issue the same
 
 rows_same : (ops ops' : List Op) (rows rows' : List Row) → IssueTheSame ops rows ops' rows' → (c : ℕ)
     → issued_in ops (row_at rows c) ≡ issued_in ops' (row_at rows' c)
 rows_same ops ops' [] [] same c = refl
-rows_same ops ops' [] (row' ∷ rows') same c = absurd cc
-rows_same ops ops' (row ∷ rows) [] same c = absurd cc
 rows_same ops ops' (row ∷ rows) (row' ∷ rows') same zero = cc
 rows_same ops ops' (row ∷ rows) (row' ∷ rows') same (suc c) =
     let rest : map (issued_in ops) rows ≡ map (issued_in ops') rows' = cc in
     rows_same ops ops' rows rows' rest c
+rows_same ops ops' rows rows' same c = absurd cc
 
 pub slot_cases : (a b : Option ℕ) (k : ℕ) → In (option_to_list a ++ option_to_list b) k → (a ≡ Some k) ⊎ (b ≡ Some k)
 slot_cases None None k there = absurd there
@@ -78,9 +77,8 @@ module _ (ops ops' : List Op) (rows rows' : List Row) (numbered : AreNumbered op
   slot_moved : (z other : Option ℕ) → option_map (op_at ops) other ≡ option_map (op_at ops') z → (f : ℕ → ℕ)
       → ((k : ℕ) → z ≡ Some k → f k ≡ unwrap_or other 0) → other ≡ option_map f z
   slot_moved None None level f to = refl
-  slot_moved None (Some j) level f to = absurd cc
-  slot_moved (Some k) None level f to = absurd cc
   slot_moved (Some k) (Some j) level f to = ap Some (sym (to k refl))
+  slot_moved z other level f to = absurd cc
 
   pub zero_moved : (c k : ℕ) → (row_at rows' c).zero ≡ Some k → number_in rows rows' k ≡ unwrap_or (row_at rows c).zero 0
   zero_moved c k is =
@@ -190,20 +188,12 @@ module _ (ops ops' : List Op) (rows rows' : List Row) (first : AreNumbered ops r
 
 -- What is read
 
-order_moved : (f : ℕ → ℕ) (zero one : Option ℕ)
-    → option_to_list (option_map f zero) ++ option_to_list (option_map f one)
-    ≡ map f (option_to_list zero ++ option_to_list one)
-order_moved f None None = refl
-order_moved f None (Some o) = refl
-order_moved f (Some z) None = refl
-order_moved f (Some z) (Some o) = refl
-
 issued_moved : (f : ℕ → ℕ) (rows rows' : List Row) → ((c : ℕ) → row_at rows c ≡ renumber f (row_at rows' c)) → (c : ℕ)
     → issued_before rows c ≡ map f (issued_before rows' c)
 issued_moved f rows rows' row zero = refl
 issued_moved f rows rows' row (suc c) =
     ap₂ (λ xs ys. xs ++ ys) (issued_moved f rows rows' row c)
-    (ap in_order (row c) ∙ order_moved f (row_at rows' c).zero (row_at rows' c).one)
+    (ap in_order (row c) ∙ slots_of f (row_at rows' c).zero (row_at rows' c).one)
     ∙ sym (map-append f (issued_before rows' c) (in_order (row_at rows' c)))
 
 filter_moved : (f : ℕ → ℕ) (p p' : ℕ → Bool) (ks : List ℕ) → ((k : ℕ) → In ks k → p (f k) ≡ p' k)
@@ -274,10 +264,6 @@ module _ (lat : Latencies) (f : ℕ → ℕ) (ops ops' : List Op) (rows rows' : 
       (λ j is. absurd (let no : None ≡ Some j = is in cc))
       (λ k there. due_moved k (in_issued k
       (from_filter (λ j. nat_le (due lat ops' rows' j) c) defining' k there).0))
-
-mapped_twice : (g f : ℕ → ℕ) (o : Option ℕ) → option_map g (option_map f o) ≡ option_map (λ k. g (f k)) o
-mapped_twice g f None = refl
-mapped_twice g f (Some k) = refl
 
 -- By the book
 
