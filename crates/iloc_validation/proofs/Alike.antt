@@ -16,15 +16,13 @@ pub record Alike (x y : Issued) : Type 0 where
 
 abbrev pub AlikeAll : List Issued → List Issued → Type 0
 AlikeAll [] [] = Unit {0}
-AlikeAll [] (y ∷ ys) = ⊥
-AlikeAll (x ∷ xs) [] = ⊥
 AlikeAll (x ∷ xs) (y ∷ ys) = Alike x y × AlikeAll xs ys
+AlikeAll a b = ⊥
 
 abbrev AlikeOption : Option Issued → Option Issued → Type 0
 AlikeOption None None = Unit {0}
-AlikeOption None (Some y) = ⊥
-AlikeOption (Some x) None = ⊥
 AlikeOption (Some x) (Some y) = Alike x y
+AlikeOption a b = ⊥
 
 pub alike_map : (f g : ℕ → Issued) (ks : List ℕ) → ((k : ℕ) → In ks k → Alike (f k) (g k)) → AlikeAll (map f ks) (map g ks)
 alike_map f g [] each = tt
@@ -33,36 +31,32 @@ alike_map f g (k ∷ ks) each = (each k (inl refl), alike_map f g ks (λ j there
 filter_alike : (p : Issued → Bool) → ((x y : Issued) → Alike x y → p x ≡ p y) → (xs ys : List Issued) → AlikeAll xs ys
     → AlikeAll (filter p xs) (filter p ys)
 filter_alike p same [] [] all = tt
-filter_alike p same [] (y ∷ ys) all = absurd all
-filter_alike p same (x ∷ xs) [] all = absurd all
 filter_alike p same (x ∷ xs) (y ∷ ys) all =
     let rest = filter_alike p same xs ys all.1 in
     by_bool (p y)
     (λ t. rw (same x y all.0, t) (all.0, rest))
     (λ t. rw (same x y all.0, t) rest)
+filter_alike p same xs ys all = absurd all
 
 later_alike : (x y : Issued) (o o' : Option Issued) → Alike x y → AlikeOption o o' → Alike (later x o) (later y o')
 later_alike x y None None one others = one
-later_alike x y None (Some f) one others = absurd others
-later_alike x y (Some f) None one others = absurd others
 later_alike x y (Some f) (Some f') one others =
     let same : nat_lt x.due f.due ≡ nat_lt y.due f'.due = ap₂ (λ a b. nat_lt a b) one.due others.due in
     by_bool (nat_lt y.due f'.due)
     (λ t. let first : nat_lt x.due f.due ≡ true = same ∙ t in rw (first, t) others)
     (λ t. let first : nat_lt x.due f.due ≡ false = same ∙ t in rw (first, t) one)
+later_alike x y o o' one others = absurd others
 
 last_alike : (xs ys : List Issued) → AlikeAll xs ys → AlikeOption (last_due xs) (last_due ys)
 last_alike [] [] all = tt
-last_alike [] (y ∷ ys) all = absurd all
-last_alike (x ∷ xs) [] all = absurd all
 last_alike (x ∷ xs) (y ∷ ys) all = later_alike x y (last_due xs) (last_due ys) all.0 (last_alike xs ys all.1)
+last_alike xs ys all = absurd all
 
 written_alike : (word : ℤ) (o o' : Option Issued) → AlikeOption o o'
     → written_or word (option_map (λ (e : Issued). e.executed) o) ≡ written_or word (option_map (λ (e : Issued). e.executed) o')
 written_alike word None None same = refl
-written_alike word None (Some f) same = absurd same
-written_alike word (Some f) None same = absurd same
 written_alike word (Some f) (Some f') same = ap written_by same.effect
+written_alike word o o' same = absurd same
 
 pub words_alike : (memory : List ℤ) (xs ys : List Issued) (a : ℕ) → AlikeAll xs ys
     → word_in memory xs a ≡ word_in memory ys a
@@ -76,17 +70,15 @@ arrived_alike c xs ys all =
 
 faults_alike : (xs ys : List Issued) → AlikeAll xs ys → has_fault (executed_in xs) ≡ has_fault (executed_in ys)
 faults_alike [] [] all = refl
-faults_alike [] (y ∷ ys) all = absurd all
-faults_alike (x ∷ xs) [] all = absurd all
 faults_alike (x ∷ xs) (y ∷ ys) all =
     ap₂ (λ (b b' : Bool). b || b') (ap is_fault all.0.effect) (faults_alike xs ys all.1)
+faults_alike xs ys all = absurd all
 
 emitted_alike : (xs ys : List Issued) → AlikeAll xs ys → emitted (executed_in xs) ≡ emitted (executed_in ys)
 emitted_alike [] [] all = refl
-emitted_alike [] (y ∷ ys) all = absurd all
-emitted_alike (x ∷ xs) [] all = absurd all
 emitted_alike (x ∷ xs) (y ∷ ys) all =
     ap₂ (λ (ws ws' : List ℤ). ws ++ ws') (emitted_alike xs ys all.1) (ap emitted_by all.0.effect)
+emitted_alike xs ys all = absurd all
 
 pub outcome_alike : (memory : List ℤ) (xs ys : List Issued) → AlikeAll xs ys
     → timed_outcome_of memory xs ≡ timed_outcome_of memory ys

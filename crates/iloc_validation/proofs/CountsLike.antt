@@ -19,8 +19,6 @@ counted p xs i d within passes =
 pub counts_same : {X Y : Type 0} → (p : X → Bool) (q : Y → Bool) (xs : List X) (ys : List Y) (d : X) (e : Y)
     → length xs ≡ length ys → ((i : ℕ) → i < length xs → p (get_or xs i d) ≡ q (get_or ys i e)) → count_by p xs ≡ count_by q ys
 counts_same p q [] [] d e size same = refl
-counts_same p q [] (y ∷ ys) d e size same = absurd (omega arith)
-counts_same p q (x ∷ xs) [] d e size same = absurd (omega arith)
 counts_same p q (x ∷ xs) (y ∷ ys) d e size same =
     let first : p x ≡ q y = same 0 (omega arith) in
     let rest = counts_same p q xs ys d e (omega arith) (λ i within. same (suc i) (omega arith)) in
@@ -28,6 +26,7 @@ counts_same p q (x ∷ xs) (y ∷ ys) d e size same =
     ∙ ap (λ b. cond {A = ℕ} b 1 0 + count_by p xs) first
     ∙ ap (λ n. cond {A = ℕ} (q y) 1 0 + n) rest
     ∙ sym (sum_by-cons (λ z. cond {A = ℕ} (q z) 1 0) y ys)
+counts_same p q xs ys d e size same = absurd (omega arith)
 
 module _ (op : Op) (ops : List Op) (k : ℕ) (within : k < length ops) where
   pub one_more : are_alike op (op_at ops k) ≡ true → count_like op (take (k + 1) ops) ≡ count_like op (take k ops) + 1

@@ -23,8 +23,7 @@ nth_like ops a b n (Some k) same nth =
     (nth.0, sym (alike_same a b (op_at ops k) same) ∙ nth.1, sym (count_same a b (take k ops) same) ∙ nth.2)
 
 not_back : (a b : Op) → are_alike a b ≡ false → are_alike b a ≡ false
-not_back a b other =
-    by_bool (are_alike b a) (λ t. absurd (true≢false (sym (alike_back b a t) ∙ other))) (λ f. f)
+not_back a b other = by_bool (are_alike b a) (λ t. absurd (true≢false (sym (alike_back b a t) ∙ other))) (λ f. f)
 
 -- what waits, at another number
 moved : (ops : List Op) (op : Op) (n m : ℕ) (o : Option ℕ) → n ≡ m → IsNth ops op n o → IsNth ops op m o
@@ -38,7 +37,7 @@ none_chained ops k chains end size none = record {
   size = size;
   first = λ op.
       let few : count_like op ops ≤ count_like op (take k ops) =
-      subst (λ (os : List Op). count_like op ops ≤ count_like op os) (sym (ap (λ n. take n ops) end ∙ take-length ops)) (omega arith) in
+      rw (ap (λ n. take n ops) end ∙ take-length ops) (omega arith) in
       subst (IsNth ops op (count_like op (take k ops))) (sym (none op)) few;
   next = λ j past within. absurd (omega arith);
 }
@@ -135,7 +134,7 @@ pub taken : (ops others : List Op) (i : ℕ) → i < length ops → (old new : C
     → IfSome o (λ k. SetsLike old.waiting new.waiting (op_at ops i) (noted_at old.next.items k))
     → (op : Op) → IsNth others op (count_like op (take (i + 1) ops)) (first_like new.waiting op)
 taken ops others i within old new waits nexts None is none some op =
-    subst (λ (w : Unpaired). IsNth others op (count_like op (take (i + 1) ops)) (first_like w op)) (sym none)
+    rw none
     (none_left ops others i within old.waiting waits (sym is) op)
 taken ops others i within old new waits nexts (Some k) is none some op =
     let first : IsNth others (op_at ops i) (count_like (op_at ops i) (take i ops)) (Some k) =

@@ -1,5 +1,5 @@
 -- Where operations are paired by label, both sides have as many of each label; so where they haven't, none are paired.
-use Rattle.std.proofs.Common.{◌≡◌, ◌≢◌, ◌<◌, ◌≤◌, ℕ, suc, ◌+◌, Bool, true, false, cond, List, [], ◌∷◌, length, get_or, map, Option, Some, None, sym, ap, ◌∙◌, subst, arith}
+use Rattle.std.proofs.Common.{◌≡◌, ◌≢◌, ◌<◌, ◌≤◌, ℕ, suc, ◌+◌, Bool, true, false, cond, List, [], ◌∷◌, length, get_or, map, sym, ap, ◌∙◌, subst, arith}
 use Rattle.std.specs.Prelude.{count_by, slice_set}
 use Rattle.std.proofs.lemmas.List.{length-set, length-map, get_or-map, get_or-set_other}
 use Rattle.std.proofs.lemmas.List.Sums.{sum_by-cons, sum_by-set}

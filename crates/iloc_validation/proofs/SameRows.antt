@@ -13,22 +13,20 @@ use Rattle.iloc_validation.proofs.SameOps.{op_same}
 -- what stands in two slots is compared as what it is
 pub slot_same : (x y : Option Op) → Decides (option_eq of_ops.eq-value.it x y) (x ≡ y)
 slot_same None None = (λ same. refl, λ same. refl)
-slot_same None (Some b) = (λ same. absurd cc, λ same. absurd cc)
-slot_same (Some a) None = (λ same. absurd cc, λ same. absurd cc)
 slot_same (Some a) (Some b) = (
   λ same. ap Some ((op_same a b).0 same),
   λ same. let inner : a ≡ b = cc in (op_same a b).1 inner,
 )
+slot_same x y = (λ same. absurd cc, λ same. absurd cc)
 
 pub issue_each : (ops ops' : List Op) (rows rows' : List Row) → length rows ≡ length rows'
     → ((c : ℕ) → c < length rows' → issued_in ops (row_at rows c) ≡ issued_in ops' (row_at rows' c))
     → IssueTheSame ops rows ops' rows'
 issue_each ops ops' [] [] long each = refl
-issue_each ops ops' [] (row' ∷ rows') long each = absurd (omega arith)
-issue_each ops ops' (row ∷ rows) [] long each = absurd (omega arith)
 issue_each ops ops' (row ∷ rows) (row' ∷ rows') long each =
     ap₂ (λ x xs. x ∷ xs) (each 0 (omega arith))
     (issue_each ops ops' rows rows' (omega arith) (λ c within. each (suc c) (omega arith)))
+issue_each ops ops' rows rows' long each = absurd (omega arith)
 
 -- also where the rows are looked up with whatever stands for what is past the end
 pub each_there : (ops ops' : List Op) (rows rows' : List Row) (c : ℕ) (none : Row) → c < length rows'

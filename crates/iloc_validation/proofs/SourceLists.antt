@@ -41,12 +41,9 @@ lists_same f g (r ∷ q ∷ p ∷ rest) ss few short same = absurd (omega arith)
 
 pub sources_from_lists : (f g : Reg → Option ℕ) (rs ss : List Reg) → map f rs ≡ map g ss → sources_of f rs ≡ sources_of g ss
 sources_from_lists f g [] [] same = refl
-sources_from_lists f g [] (s ∷ ss) same = absurd cc
-sources_from_lists f g (r ∷ rs) [] same = absurd cc
 sources_from_lists f g (r ∷ []) (s ∷ []) same = let one : f r ≡ g s = cc in ap One one
-sources_from_lists f g (r ∷ []) (s ∷ t ∷ rest) same = absurd cc
-sources_from_lists f g (r ∷ q ∷ rest) (s ∷ []) same = absurd cc
 sources_from_lists f g (r ∷ q ∷ rest) (s ∷ t ∷ others) same =
     let one : f r ≡ g s = cc in
     let two : f q ≡ g t = cc in
     ap₂ Two one two
+sources_from_lists f g rs ss same = absurd cc
