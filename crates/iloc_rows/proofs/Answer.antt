@@ -47,20 +47,18 @@ one_told n line (unread m text) (unread m' text') h k = ap₂ unread (h.0 ∙ sy
 
 same_told : (n : ℕ) (lines : List (List ℕ)) (ss ts : List Told) → TellAll n lines ss → TellAll n lines ts → ss ≡ ts
 same_told n [] [] [] h k = refl
-same_told n [] [] (t ∷ ts) h k = absurd k
 same_told n [] (s ∷ ss) ts h k = absurd h
 same_told n (l ∷ ls) [] ts h k = absurd h
-same_told n (l ∷ ls) (s ∷ ss) [] h k = absurd k
 same_told n (l ∷ ls) (s ∷ ss) (t ∷ ts) h k =
     ap₂ (λ x xs. x ∷ xs) (one_told (n + 1) l s t h.0 k.0) (same_told (n + 1) ls ss ts h.1 k.1)
+same_told n lines ss ts h k = absurd k
 
 -- Faults
 
 -- a line that is of no block is of none, whatever it tells
 of_none : {blocks : List Block} {ss : List Told} {line : List ℕ} {n : ℕ} {b : Bool} (s : Told) → Tells n line s
     → IsOfNoBlock blocks ss line n b → is_of_block blocks ss s ≡ false
-of_none {blocks} {ss} {line} {n} {b} s h k =
-    ap (is_of_block blocks ss) (one_told n line s k.told h k.tells) ∙ k.of_none
+of_none {blocks} {ss} {line} {n} {b} s h k = ap (is_of_block blocks ss) (one_told n line s k.told h k.tells) ∙ k.of_none
 
 -- so it makes no operations of a block
 not_many : {blocks : List Block} {ss : List Told} {line : List ℕ} {n : ℕ} {b : Bool}
@@ -80,17 +78,13 @@ not_both {blocks} {ss} {line} {n} h k =
 -- a line that fits has no fault
 no_fault : (blocks : List Block) (ss : List Told) (line : List ℕ) (n : ℕ) (fault : RowsFault) (s : Told) → Tells n line s
     → Fits blocks ss s → IsFaulty blocks ss line n fault → ⊥
-no_fault blocks ss line n (Read InputTooLong) s h f k = k
 no_fault blocks ss line n (Read (BadLine m)) s h f k = let there = f.of_block in let none = of_none s h k.1 in cc
-no_fault blocks ss line n (Read (NumberTooLarge m)) s h f k = k
-no_fault blocks ss line n (Read (TooManyBlocks m)) s h f k = k
 no_fault blocks ss line n (Read (TooManyOperations m)) s h f k =
     let same = ap (op_count ss) (one_told n line s k.1.told h k.1.tells) in
     let few = f.few in
     let many = k.1.many in omega arith
-no_fault blocks ss line n (Read NoMemory) s h f k = k
-no_fault blocks ss line n NoBlocks s h f k = k
 no_fault blocks ss line n (NoSuchBlock m) s h f k = let there = f.of_block in let none = of_none s h k.1 in cc
+no_fault blocks ss line n fault s h f k = k
 
 -- one line has one fault at most
 same_fault : (blocks : List Block) (ss : List Told) (line : List ℕ) (n : ℕ) (fault fault' : RowsFault)
@@ -103,28 +97,14 @@ same_fault blocks ss line n NoBlocks g h k = absurd h
 same_fault blocks ss line n (Read (BadLine m)) (Read (BadLine j)) h k = ap (λ i. Read (BadLine i)) (h.0 ∙ sym k.0)
 same_fault blocks ss line n (Read (BadLine m)) (Read (TooManyOperations j)) h k = absurd (not_many k.1 h.1)
 same_fault blocks ss line n (Read (BadLine m)) (NoSuchBlock j) h k = absurd (not_both h.1 k.1)
-same_fault blocks ss line n (Read (BadLine m)) (Read InputTooLong) h k = absurd k
-same_fault blocks ss line n (Read (BadLine m)) (Read (NumberTooLarge j)) h k = absurd k
-same_fault blocks ss line n (Read (BadLine m)) (Read (TooManyBlocks j)) h k = absurd k
-same_fault blocks ss line n (Read (BadLine m)) (Read NoMemory) h k = absurd k
-same_fault blocks ss line n (Read (BadLine m)) NoBlocks h k = absurd k
 same_fault blocks ss line n (Read (TooManyOperations m)) (Read (BadLine j)) h k = absurd (not_many h.1 k.1)
 same_fault blocks ss line n (Read (TooManyOperations m)) (Read (TooManyOperations j)) h k =
     ap (λ i. Read (TooManyOperations i)) (h.0 ∙ sym k.0)
 same_fault blocks ss line n (Read (TooManyOperations m)) (NoSuchBlock j) h k = absurd (not_many h.1 k.1)
-same_fault blocks ss line n (Read (TooManyOperations m)) (Read InputTooLong) h k = absurd k
-same_fault blocks ss line n (Read (TooManyOperations m)) (Read (NumberTooLarge j)) h k = absurd k
-same_fault blocks ss line n (Read (TooManyOperations m)) (Read (TooManyBlocks j)) h k = absurd k
-same_fault blocks ss line n (Read (TooManyOperations m)) (Read NoMemory) h k = absurd k
-same_fault blocks ss line n (Read (TooManyOperations m)) NoBlocks h k = absurd k
 same_fault blocks ss line n (NoSuchBlock m) (Read (BadLine j)) h k = absurd (not_both k.1 h.1)
 same_fault blocks ss line n (NoSuchBlock m) (Read (TooManyOperations j)) h k = absurd (not_many k.1 h.1)
 same_fault blocks ss line n (NoSuchBlock m) (NoSuchBlock j) h k = ap (λ i. NoSuchBlock i) (h.0 ∙ sym k.0)
-same_fault blocks ss line n (NoSuchBlock m) (Read InputTooLong) h k = absurd k
-same_fault blocks ss line n (NoSuchBlock m) (Read (NumberTooLarge j)) h k = absurd k
-same_fault blocks ss line n (NoSuchBlock m) (Read (TooManyBlocks j)) h k = absurd k
-same_fault blocks ss line n (NoSuchBlock m) (Read NoMemory) h k = absurd k
-same_fault blocks ss line n (NoSuchBlock m) NoBlocks h k = absurd k
+same_fault blocks ss line n fault fault' h k = absurd k
 
 -- a line with a fault, after lines that fit after a front
 record Faulty (blocks : List Block) (front : List Told) (n : ℕ) (before : List (List ℕ)) (line : List ℕ)
@@ -217,8 +197,7 @@ none_first blocks front n (y ∷ ys) (s ∷ ss) (x ∷ xs) l a fault h f e g =
 
 faulty_of : {blocks : List Block} {n : ℕ} {lines : List (List ℕ)} {fault : RowsFault}
     (f : HaveFirstFault blocks n lines fault) → Faulty blocks [] n f.before f.line fault
-faulty_of {blocks} {n} {lines} {fault} f =
-    record { told = f.told; tell = f.tell; fit = f.fit; faulty = f.faulty }
+faulty_of {blocks} {n} {lines} {fault} f = record { told = f.told; tell = f.tell; fit = f.fit; faulty = f.faulty }
 
 -- Texts
 
@@ -230,14 +209,13 @@ Refusal input fault = ((fault ≡ Read InputTooLong) × (MAX_INPUT < length inpu
 refusal_is : (input : List ℕ) (fault : RowsFault) → IsRefused input fault → Refusal input fault
 refusal_is input (Read InputTooLong) h = inl (refl, h)
 refusal_is input (Read (BadLine n)) (inl b) = inr (inl (BadLine n, refl, b))
-refusal_is input (Read (BadLine n)) (inr r) = inr (inr (inr r))
 refusal_is input (Read (NumberTooLarge n)) h = inr (inl (NumberTooLarge n, refl, h))
 refusal_is input (Read (TooManyBlocks n)) h = inr (inl (TooManyBlocks n, refl, h))
 refusal_is input (Read (TooManyOperations n)) (inl b) = inr (inl (TooManyOperations n, refl, b))
-refusal_is input (Read (TooManyOperations n)) (inr r) = inr (inr (inr r))
 refusal_is input (Read NoMemory) h = absurd h
 refusal_is input NoBlocks h = inr (inr (inl (refl, h)))
 refusal_is input (NoSuchBlock n) h = inr (inr (inr h))
+refusal_is input fault (inr r) = inr (inr (inr r))
 
 long_and_short : (n : ℕ) → MAX_INPUT < n → n ≤ MAX_INPUT → ⊥
 long_and_short n h k = omega arith

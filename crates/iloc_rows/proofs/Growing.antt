@@ -6,7 +6,7 @@ use Rattle.std.proofs.lemmas.Bool.Decides.{nat_tests}
 use Rattle.std.proofs.lemmas.Bool.{lt-ltb}
 use Rattle.iloc_ops.specs.declared.op.Op.{Op}
 use Rattle.iloc_ops.specs.declared.file.Block.{Block}
-use Rattle.iloc_text.specs.declared.fault.ReadFault.TheVariants.{InputTooLong, BadLine, NumberTooLarge, TooManyBlocks, TooManyOperations, NoMemory}
+use Rattle.iloc_text.specs.declared.fault.ReadFault.TheVariants.{BadLine, TooManyOperations, NoMemory}
 use Rattle.iloc_text.specs.ScheduleLines.Said.{nothing, row, head, cycles, total}
 use Rattle.iloc_timed.specs.Limits.{MAX_ROWS}
 use Rattle.iloc_rows.specs.declared.fault.RowsFault.{RowsFault}
@@ -53,9 +53,8 @@ place_none : (last count : ℕ) → place last count ≡ None → (nat_lt 0 last
 place_none last count = by (nat_lt 0 last) (count == 1)
   where
     by : (a b : Bool) → ◌≡◌ {A = Option ℕ} (cond a (Some (last - 1)) (cond b (Some 0) None)) None → (a || b) ≡ false
-    by true b h = cc
-    by false true h = cc
     by false false h = refl
+    by a b h = cc
 
 -- a line is of the place in the state
 record IsAt (blocks : List Block) (ss : List Told) (i : ℕ) : Type 0 where
@@ -123,10 +122,7 @@ row_adds {blocks} {ss} {old} one two n new (Ok done) h r =
       record { of_block = a.there; few = let few = r.4 in omega arith },
       record { proposals = grown; last = r.3 ∙ ap (max 1) h.last ∙ sym (last_block-more ss (read (row one two)) refl refl) },
     )
-row_adds one two n new (Err (Read InputTooLong)) h r = r
 row_adds one two n new (Err (Read (BadLine k))) h r = absurd r
-row_adds one two n new (Err (Read (NumberTooLarge k))) h r = r
-row_adds one two n new (Err (Read (TooManyBlocks k))) h r = r
 row_adds {blocks} {ss} {old} one two n new (Err (Read (TooManyOperations k))) h r =
     let a = is_at r.1 h r.2 in
     let count = ap (λ ps. length (with_row (at_place ps r.1) one two).ops) h.proposals
@@ -134,8 +130,8 @@ row_adds {blocks} {ss} {old} one two n new (Err (Read (TooManyOperations k))) h 
     let many = r.3 in
     (r.0, a.there, omega arith)
 row_adds one two n new (Err (Read NoMemory)) h r = tt
-row_adds one two n new (Err NoBlocks) h r = r
 row_adds one two n new (Err (NoSuchBlock k)) h r = (r.0, refl, nowhere h r.1)
+row_adds one two n new a h r = r
 
 -- Claims, and lines that can't be read
 
@@ -162,14 +158,8 @@ change_grows {homeless} {number} blocks ss s change i c a =
     (λ k ne. proposal-else ss s k (λ e. ne (sym e ∙ here)))
 
 memory_or_not : (fault : RowsFault) → (fault ≡ Read NoMemory) ⊎ (fault ≢ Read NoMemory)
-memory_or_not (Read InputTooLong) = inr (λ e. cc)
-memory_or_not (Read (BadLine n)) = inr (λ e. cc)
-memory_or_not (Read (NumberTooLarge n)) = inr (λ e. cc)
-memory_or_not (Read (TooManyBlocks n)) = inr (λ e. cc)
-memory_or_not (Read (TooManyOperations n)) = inr (λ e. cc)
 memory_or_not (Read NoMemory) = inl refl
-memory_or_not NoBlocks = inr (λ e. cc)
-memory_or_not (NoSuchBlock n) = inr (λ e. cc)
+memory_or_not fault = inr (λ e. cc)
 
 change_adds : {blocks : List Block} {ss : List Told} {old : Proposing} (s : Told) (change : Proposed → Proposed)
     (homeless : RowsFault) (n : ℕ) (new : Proposing) (result : Result (Unit {0}) RowsFault)
@@ -268,8 +258,7 @@ total_adds {blocks} {ss} {old} t n h = (
 pub rows_few : {blocks : List Block} {ss : List Told} {old : Proposing} → HasProposed blocks ss old
     → length ss < MAX_ROWS → (i : ℕ) → length (at_place old.proposals.items i).rows < MAX_ROWS
 rows_few {blocks} {ss} {old} h few i =
-    let P : List Proposed → Type 0 = λ ps. length (at_place ps i).rows < MAX_ROWS in
-    subst P (sym h.proposals) (elim (split i (length blocks)) [
+    rw h.proposals (elim (split i (length blocks)) [
       | inl lt ↦ (let same = ap (λ p. length p.rows) (at-proposals (length blocks) ss i lt) in
           omega (arith, proposal-short ss (1 + i)))
       | inr le ↦ (let same = ap (λ p. length p.rows) (get_or_past (proposals_of (length blocks) ss) i none_proposed

@@ -47,9 +47,8 @@ unread-snoc n m (None ∷ us) line text e = unread-snoc (n + 1) m us line text (
 unread-snoc n m (Some first ∷ us) line text e = refl
 
 read-snoc : (n : ℕ) (us : List (Option (ℕ × List ℕ))) → first_unread n (us ++ None ∷ []) ≡ first_unread n us
-read-snoc n [] = refl
 read-snoc n (None ∷ us) = read-snoc (n + 1) us
-read-snoc n (Some first ∷ us) = refl
+read-snoc n us = refl
 
 -- it is told of each row whether it can be read
 as_many : (k : ℕ) (ts : List Told) → length (unread_of k ts) ≡ length (rows_of k ts)

@@ -17,14 +17,12 @@ fronts-snoc (x ∷ xs) s = ap (λ f. (x ∷ []) ∷ map (λ front. x ∷ front) 
     ∙ ap (λ f. (x ∷ []) ∷ f) (map-append (λ front. x ∷ front) (fronts xs) ((xs ++ s ∷ []) ∷ []))
 
 of_last-snoc : {A : Type 0} (pick : Told → Option A) (ss : List Told) (s : Told) → of_last pick (ss ++ s ∷ []) ≡ pick s
-of_last-snoc pick [] s = refl
-of_last-snoc pick (x ∷ []) s = refl
 of_last-snoc pick (x ∷ y ∷ xs) s = of_last-snoc pick (y ∷ xs) s
+of_last-snoc pick ss s = refl
 
 pub last_of-snoc : {A : Type 0} (xs : List A) (x : A) → last_of (xs ++ x ∷ []) ≡ Some x
-last_of-snoc [] x = refl
-last_of-snoc (y ∷ []) x = refl
 last_of-snoc (y ∷ z ∷ xs) x = last_of-snoc (z ∷ xs) x
+last_of-snoc xs x = refl
 
 picked-snoc : {A : Type 0} (pick : Told → Option A) (k : ℕ) (ss : List Told) (s : Told)
     → picked pick k (ss ++ s ∷ [])

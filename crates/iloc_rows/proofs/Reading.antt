@@ -11,7 +11,7 @@ use Rattle.iloc_text.specs.Lines.{lines_of, lines_left}
 use Rattle.iloc_text.proofs.Splitting.{lines_are, lines_few}
 use Rattle.iloc_timed.specs.Limits.{MAX_ROWS}
 use Rattle.iloc_rows.specs.declared.fault.RowsFault.{RowsFault}
-use Rattle.iloc_rows.specs.declared.fault.RowsFault.TheVariants.{Read, NoBlocks, NoSuchBlock}
+use Rattle.iloc_rows.specs.declared.fault.RowsFault.TheVariants.{Read, NoSuchBlock}
 use Rattle.iloc_rows.specs.declared.blocks_end.CutText.{CutText}
 use Rattle.iloc_rows.specs.declared.proposal.Proposed.{Proposed}
 use Rattle.iloc_rows.specs.declared.proposing.Proposing.{Proposing}
@@ -27,17 +27,15 @@ pub TellAll-snoc : (n : ℕ) (lines : List (List ℕ)) (ss : List Told) (line : 
     → Tells (n + length lines + 1) line s → TellAll n (lines ++ line ∷ []) (ss ++ s ∷ [])
 TellAll-snoc n [] [] line s h says =
     let number : n + 0 + 1 ≡ n + 1 = omega arith in (subst (λ m. Tells m line s) number says, tt)
-TellAll-snoc n [] (x ∷ xs) line s h says = absurd h
-TellAll-snoc n (l ∷ ls) [] line s h says = absurd h
 TellAll-snoc n (l ∷ ls) (x ∷ xs) line s h says =
     let number : n + length (l ∷ ls) + 1 ≡ n + 1 + length ls + 1 = omega arith in
     (h.0, TellAll-snoc (n + 1) ls xs line s h.1 (subst (λ m. Tells m line s) number says))
+TellAll-snoc n lines ss line s h says = absurd h
 
 pub length-TellAll : (n : ℕ) (lines : List (List ℕ)) (ss : List Told) → TellAll n lines ss → length ss ≡ length lines
 length-TellAll n [] [] h = refl
-length-TellAll n [] (s ∷ ss) h = absurd h
-length-TellAll n (l ∷ ls) [] h = absurd h
 length-TellAll n (l ∷ ls) (s ∷ ss) h = ap suc (length-TellAll (n + 1) ls ss h.1)
+length-TellAll n lines ss h = absurd h
 
 pub AllFit-snoc : (blocks : List Block) (lines ss : List Told) (s : Told) → AllFit blocks lines ss
     → Fits blocks (lines ++ ss) s → AllFit blocks lines (ss ++ s ∷ [])
@@ -131,23 +129,20 @@ fault_here {blocks} {lines} {all} {state} {number} {text} p line after fault spl
 pub added_faulty : (blocks : List Block) (ss : List Told) (line : List ℕ) (s : Told) (n : ℕ) (state : Proposing)
     (fault : RowsFault) → Tells n line s → Adds blocks ss s n state (Err fault) → fault ≢ Read NoMemory
     → IsFaulty blocks ss line n fault
-added_faulty blocks ss line s n state (Read InputTooLong) says a memory = a
 added_faulty blocks ss line s n state (Read (BadLine k)) says a memory =
     (a.0, record { told = s; tells = says; is = a.1; of_none = a.2 })
 added_faulty blocks ss line s n state (Read (NumberTooLarge k)) says a memory = absurd a
-added_faulty blocks ss line s n state (Read (TooManyBlocks k)) says a memory = a
 added_faulty blocks ss line s n state (Read (TooManyOperations k)) says a memory =
     (a.0, record { told = s; tells = says; of_block = a.1; many = a.2 })
 added_faulty blocks ss line s n state (Read NoMemory) says a memory = absurd (memory refl)
-added_faulty blocks ss line s n state NoBlocks says a memory = a
 added_faulty blocks ss line s n state (NoSuchBlock k) says a memory =
     (a.0, record { told = s; tells = says; is = a.1; of_none = a.2 })
+added_faulty blocks ss line s n state fault says a memory = a
 
 -- the fault that a call hands on
 pub err_is : {T : Type 0} (P : RowsFault → Type 0) (r : Result T RowsFault) (fault : RowsFault) → r ≡ Err fault
     → (fault ≢ Read NoMemory → P fault) → IfErr r (λ f. f ≢ Read NoMemory → P f)
-err_is {T} P r fault e h = let Q : Result T RowsFault → Type 0 = λ x. IfErr x (λ f. f ≢ Read NoMemory → P f) in
-    subst Q (sym e) h
+err_is {T} P r fault e h = rw e h
 
 -- The whole text
 
@@ -187,22 +182,17 @@ blocks_refuse input InputTooLong b =
     let front = front_short b.before b.after in
     let whole = ap length (b.are_lines.whole) in
     omega arith
-blocks_refuse input (BadLine n) b = inl b
 blocks_refuse input (NumberTooLarge n) b = b
 blocks_refuse input (TooManyBlocks n) b = b
-blocks_refuse input (TooManyOperations n) b = inl b
 blocks_refuse input NoMemory b = b.refused
+blocks_refuse input fault b = inl b
 
 -- and so does one of the schedule lines
 pub rows_refuse : (input : List ℕ) (fault : RowsFault) → RowsAreRefused input fault → IsRefused input fault
-rows_refuse input (Read InputTooLong) r = absurd r.first.faulty
 rows_refuse input (Read (BadLine n)) r = inr r
-rows_refuse input (Read (NumberTooLarge n)) r = absurd r.first.faulty
-rows_refuse input (Read (TooManyBlocks n)) r = absurd r.first.faulty
 rows_refuse input (Read (TooManyOperations n)) r = inr r
-rows_refuse input (Read NoMemory) r = absurd r.first.faulty
-rows_refuse input NoBlocks r = absurd r.first.faulty
 rows_refuse input (NoSuchBlock n) r = r
+rows_refuse input fault r = absurd r.first.faulty
 
 pub blocks_refused : {input : List ℕ} {cut : CutText} (a : IsCutOf input cut) (fault : ReadFault)
     → length input ≤ MAX_INPUT → files.IsRefused cut.blocks.now fault → IsRefused input (Read fault)
@@ -256,12 +246,9 @@ refused_for : (blocks : List Block) (input : List ℕ) (fault : RowsFault) → H
     → AreRefusedFor blocks input fault
 refused_for blocks input (Read InputTooLong) h = absurd h.first.faulty
 refused_for blocks input (Read (BadLine n)) h = h
-refused_for blocks input (Read (NumberTooLarge n)) h = h.first.faulty
-refused_for blocks input (Read (TooManyBlocks n)) h = h.first.faulty
 refused_for blocks input (Read (TooManyOperations n)) h = h
-refused_for blocks input (Read NoMemory) h = h.first.faulty
-refused_for blocks input NoBlocks h = h.first.faulty
 refused_for blocks input (NoSuchBlock n) h = h
+refused_for blocks input fault h = h.first.faulty
 
 pub refused_apart : (blocks : List Block) (input : List ℕ) (fault : RowsFault) → length input ≤ MAX_INPUT
     → HaveFirstFault blocks 0 (lines_of input) fault → AreRefusedFor blocks input fault
