@@ -46,17 +46,12 @@ abbrev Valued : Value → List ℕ → Type 0
 Valued value w = (n : ℕ) × (number_in (with_number value n) ≤ MAX_NUMBER) × ValueText (with_number value n) w
 
 text_value : (value : Value) (w : List ℕ) → PartText (value_part value) w → Valued value w
-text_value (Use r) w j = (
-  j.second.0,
-  j.second.1,
-  record { front = j.front; rest = j.rest; first = j.first; second = j.second.2; whole = j.whole },
-)
-text_value (Definition r) w j = (
-  j.second.0,
-  j.second.1,
-  record { front = j.front; rest = j.rest; first = j.first; second = j.second.2; whole = j.whole },
-)
 text_value (Constant n) w j = (j.0, j.1, j.2)
+text_value value w j = (
+  j.second.0,
+  j.second.1,
+  record { front = j.front; rest = j.rest; first = j.first; second = j.second.2; whole = j.whole },
+)
 
 with_first : {A B C : List ℕ → Type 0} → ((w : List ℕ) → A w → B w) → (w : List ℕ) → (A ⋅ C) w → (B ⋅ C) w
 with_first f w j =

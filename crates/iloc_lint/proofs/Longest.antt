@@ -493,9 +493,8 @@ slash_alone : (c d : ℕ) (cs : List ℕ) → c ≡ 47 → (d ≡ 47 → ⊥) �
 slash_alone c d cs e other = record { within = omega arith; goes_on = (47 ∷ [], (e, refl)); longest = further }
   where
     further : (j : ℕ) (tail : List ℕ) → j ≤ length (c ∷ d ∷ cs) → OptionalComment (take j (c ∷ d ∷ cs) ++ tail) → j ≤ 1
-    further zero tail h p = omega arith
-    further (suc zero) tail h p = omega arith
     further (suc (suc j)) tail h p = absurd (other p.1)
+    further j tail h p = omega arith
 
 whole_comment : (bytes : List ℕ) → OptionalComment bytes → Longest OptionalComment bytes (length bytes)
 whole_comment bytes is = record {

@@ -43,16 +43,14 @@ digit_no_blank : (c : ℕ) → is_ascii_digit c ≡ true → is_blank c ≡ fals
 digit_no_blank c h = grind (arith, nat_tests)
 
 blanks_no_digit : {Q : List ℕ → Type 0} → NoDigit Q → NoDigit (Blanks ⋅ Q)
-blanks_no_digit never c w digit j =
-    never c w digit (blanks_none c w (digit_no_blank c digit) j)
+blanks_no_digit never c w digit j = never c w digit (blanks_none c w (digit_no_blank c digit) j)
 
 text_no_digit : {Q : List ℕ → Type 0} (t : ℕ) (ts : List ℕ) → is_ascii_digit t ≡ false → NoDigit (Text (t ∷ ts) ⋅ Q)
 text_no_digit t ts other c w digit j =
     absurd (true≢false (sym digit ∙ ap is_ascii_digit (text_first t c ts w j) ∙ other))
 
 text_no_blank : {Q : List ℕ → Type 0} (t : ℕ) (ts : List ℕ) → is_blank t ≡ false → NoBlank (Text (t ∷ ts) ⋅ Q)
-text_no_blank t ts other c w blank j =
-    absurd (true≢false (sym blank ∙ ap is_blank (text_first t c ts w j) ∙ other))
+text_no_blank t ts other c w blank j = absurd (true≢false (sym blank ∙ ap is_blank (text_first t c ts w j) ∙ other))
 
 sign_no_digit : {Q : List ℕ → Type 0} (t : ℕ) (ts : List ℕ) → is_ascii_digit t ≡ false
     → NoDigit ((Blanks ⋅ Text (t ∷ ts) ⋅ Blanks) ⋅ Q)
@@ -60,13 +58,10 @@ sign_no_digit t ts other c w digit j =
     blanks_no_digit (text_no_digit t ts other) c w digit (with_rest grouped_right (c ∷ w) (grouped_right (c ∷ w) j))
 
 no_blank : (parts : List Part) → starts_with_value parts ≡ true → NoBlank (Rest parts)
-no_blank [] e c w blank j = absurd (true≢false (sym e))
 no_blank (part.Register ∷ more) e c w blank j = text_no_blank 114 [] refl c w blank (grouped_right (c ∷ w) j)
 no_blank (part.Constant ∷ more) e c w blank j =
     absurd (true≢false (sym blank ∙ digit_no_blank c (number_less {Q = Rest more} c w j).0))
-no_blank (part.Space ∷ more) e c w blank j = absurd (true≢false (sym e))
-no_blank (part.Comma ∷ more) e c w blank j = absurd (true≢false (sym e))
-no_blank (part.Arrow ∷ more) e c w blank j = absurd (true≢false (sym e))
+no_blank parts e c w blank j = absurd (true≢false (sym e))
 
 no_digit : (parts : List Part) → starts_with_value parts ≡ false → NoDigit (Rest parts)
 no_digit [] e c w digit j = blanks_no_digit comment_no_digit c w digit j
@@ -74,8 +69,7 @@ no_digit (part.Space ∷ more) e c w digit j =
     absurd (true≢false (sym (some_less {Q = Rest more} c w j).0 ∙ digit_no_blank c digit))
 no_digit (part.Comma ∷ more) e c w digit j = sign_no_digit {Q = Rest more} 44 [] refl c w digit j
 no_digit (part.Arrow ∷ more) e c w digit j = sign_no_digit {Q = Rest more} 61 (62 ∷ []) refl c w digit j
-no_digit (part.Register ∷ more) e c w digit j = absurd (true≢false e)
-no_digit (part.Constant ∷ more) e c w digit j = absurd (true≢false e)
+no_digit parts e c w digit j = absurd (true≢false e)
 
 -- Each list of parts has a text
 

@@ -188,8 +188,7 @@ with_label line name n k inside found l = record {
 }
   where
     before : Before (Blanks ⋅ OptionalLabel (Some name)) (drop n line) line
-    before = subst (λ (f : Option (List ℕ) × List ℕ). Before (Blanks ⋅ OptionalLabel f.0) f.1 line) found
-        (Before-join (blanks_read line) (label_read (after_blanks line)))
+    before = rw found at (Before-join (blanks_read line) (label_read (after_blanks line)))
 
     size : length before.front ≡ n
     size = omega (arith, ap length before.whole, length-append before.front (drop n line), length-drop n line)
