@@ -119,7 +119,7 @@ module _ {J A : Type 0} (count : ℕ) where
   at b o p h =
       let k = works.looking_at (state p) h.looking in
       let is : state p ≡ Looked (job_of (state p)) = k.1 ∙ ap Looked (ap job_of (sym k.1)) in
-      (is, works.looked_within count (job_of (state p)) (state p) is h.within)
+      (is, rw is at h.within)
 
   pub took_claims : (b : BoardView J) (o p q : PassView J A) (x : Step) (k : ℕ) → Tries b o p → q ≡ stepped p x (Took k)
       → k ≡ job_of (state p) → Goes count o.journal q.journal × (state q ≡ Holding k) × (k < count)

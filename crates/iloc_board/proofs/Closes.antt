@@ -203,8 +203,7 @@ all_has (j ∷ js) p h =
 has_all : (js : List Journal) (i : ℕ) (j : Journal) (p : ℕ × ℕ) → get_elem? js i ≡ some j
     → Contains (handed j.entries) p → Contains (all_handed js) p
 has_all [] i j p e h = absurd (some-ne-none j (sym e))
-has_all (k ∷ js) zero j p e h =
-    Contains-append_left (handed k.entries) (all_handed js) p (rw (some-injective k j e) h)
+has_all (k ∷ js) zero j p e h = Contains-append_left (handed k.entries) (all_handed js) p (rw (some-injective k j e) h)
 has_all (k ∷ js) (suc i) j p e h = Contains-append_right (handed k.entries) (all_handed js) p (has_all js i j p e h)
 
 -- each job was handed back once
@@ -432,8 +431,7 @@ module _ {J A : Type 0} (count : ℕ) (fits : ℕ → A → Type 0) (price : A �
       row_is = ap (λ m. placed (replicate m None) own) same ∙ ap (λ t. placed (replicate count None) t) its_own
 
       pub own_below : All (λ x. x.0 < n) own
-      own_below =
-          rw (its_own, same) all_below
+      own_below = rw (its_own, same) all_below
 
       pub own_once : NoneTwice (jobs_of own)
       own_once = rw its_own each_once

@@ -7,7 +7,7 @@ use lib.ListN.{get_elem?}
 use prog.Atomic.{either}
 use Rattle.atomic_table.specs.Table as table
 use Rattle.atomic_table.specs.Table.{keeps, step, Allows, Splits, Joins}
-use Rattle.atomic_table.proofs.Lists.{at_set, set_here, set_else, at_longer}
+use Rattle.atomic_table.proofs.Lists.{at_set, set_here, set_else, set_again, at_longer}
 use Rattle.iloc_board.specs.declared.step.Step.{Step}
 use Rattle.iloc_board.specs.declared.step.Step.TheVariants.{Look, Try, Hand}
 use Rattle.iloc_board.specs.declared.step.Reply.{Reply}
@@ -208,12 +208,6 @@ looks_kept count slots id m role free s k len at small =
       (refl, low'),
     )
 
--- what is put where it stands leaves the list
-put_again : {A : Type 0} (l : List A) (i : ℕ) (a : A) → get_elem? l i ≡ some a → slice_set l i a ≡ l
-put_again [] i a e = refl
-put_again (x ∷ xs) zero a e = ap (λ y. y ∷ xs) (sym (some-injective x a e))
-put_again (x ∷ xs) (suc i) a e = ap (λ ys. x ∷ ys) (put_again xs i a e)
-
 read_again : (ws costs : List ℕ) (next : ℕ) → ws ≡ next ∷ costs → slice_set ws 0 (slice_index ws 0) ≡ ws
 read_again ws costs next e = rw e refl
 
@@ -225,7 +219,7 @@ tells_kept count slots id m role s k len at small =
     let mine : FitsRoot count k.made k.steps s.views id v = (k.fits id v at).1 role in
     let n : ℕ = slice_index s.words 0 in
     let words : s.words ≡ slice_set s.words 0 n = sym (read_again s.words (final count k.steps).costs (final count k.steps).next k.words) in
-    let views : s.views ≡ slice_set s.views id v = sym (put_again s.views id v at) in (
+    let views : s.views ≡ slice_set s.views id v = sym (set_again s.views id v at) in (
       v,
       keeps,
       tt,

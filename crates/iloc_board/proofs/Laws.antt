@@ -174,8 +174,7 @@ module _ {A : Type 0} where
     plain : (b : SequentialBoard A) (calls : List (Call A)) (count : ℕ) (c : Core) (taken : List (ℕ × ℕ))
         (answers : List (ℕ × A)) → Leads b calls count c taken answers
         → Leads b calls count c (taken ++ []) (answers ++ [])
-    plain b calls count c taken answers h =
-        rw (append-nil taken, append-nil answers) h
+    plain b calls count c taken answers h = rw (append-nil taken, append-nil answers) h
 
     pub leads : (count : ℕ) (c : Core) (taken : List (ℕ × ℕ)) (answers : List (ℕ × A)) (b : SequentialBoard A)
         → Stands count c taken → StandsAt count c taken answers b → (x : Step)
@@ -257,8 +256,7 @@ module _ {A : Type 0} where
         (b : SequentialBoard A) → Stands count c taken → StandsAt count c taken answers b
         → Legal fits b (history said count c xs) × StandsAt count (ends count c xs) (taken ++ takes (played count c xs))
         (answers ++ map (given said) (hand_backs count c xs)) (board_after b (history said count c xs))
-    law count [] c taken answers b h at =
-        (tt, rw (append-nil taken, append-nil answers) at)
+    law count [] c taken answers b h at = (tt, rw (append-nil taken, append-nil answers) at)
     law count (x ∷ xs) c taken answers b h at =
         let w : ℕ = worker_of x in
         let r : Reply = reply_to count c x in

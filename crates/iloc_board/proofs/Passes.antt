@@ -32,8 +32,7 @@ all_handed-snoc (i ∷ js) j = ap (λ t. handed i.entries ++ t) (all_handed-snoc
 module _ {J A : Type 0} {p q : PassView J A} {d : BoardView J} (inside : p ≡ q) (own : q.board ≡ d) where
   -- a pass of this board, seen from inside
   pub same_table : {b : BoardView J} → b ≡ d → p.board.table ≡ b.table
-  same_table board = ap (λ (v : PassView J A). v.board.table) inside
-      ∙ (ap (λ (v : BoardView J). v.table) own ∙ ap (λ (v : BoardView J). v.table) (sym board))
+  same_table board = cc
 
   pub own_jobs : p.board.jobs ≡ d.jobs
   own_jobs = ap (λ (v : PassView J A). v.board.jobs) inside ∙ ap (λ (v : BoardView J). v.jobs) own
@@ -52,12 +51,10 @@ module _ {J A : Type 0} where
 
   -- the same of a root
   pub root_table : (p q : RootView J A) (b d : BoardView J) → p ≡ q → b ≡ d → q.board ≡ d → p.board.table ≡ b.table
-  root_table p q b d e f own = ap (λ (v : RootView J A). v.board.table) e
-      ∙ (ap (λ (v : BoardView J). v.table) own ∙ ap (λ (v : BoardView J). v.table) (sym f))
+  root_table p q b d e f own = cc
 
   pub root_jobs : (p q : RootView J A) (b d : BoardView J) → p ≡ q → b ≡ d → q.board ≡ d → p.board.jobs ≡ b.jobs
-  root_jobs p q b d e f own = ap (λ (v : RootView J A). v.board.jobs) e
-      ∙ (ap (λ (v : BoardView J). v.jobs) own ∙ ap (λ (v : BoardView J). v.jobs) (sym f))
+  root_jobs p q b d e f own = cc
 
   pub free_inside : (p q : PassView J A) → p ≡ q → is_holding (state q) ≡ false
       → is_holding (state_of p.journal.entries) ≡ false

@@ -279,8 +279,7 @@ retires count c taken es st h long x =
 pub retires_all : (count : ℕ) (xs : List Step) (c : Core) (taken : List (ℕ × ℕ)) (es : List Entry)
     → Stands count c taken → Retired c taken es → length c.costs ≡ count
     → Retired (ends count c xs) (taken ++ takes (played count c xs)) (es ++ played count c xs)
-retires_all count [] c taken es st h long =
-    rw (append-nil taken, append-nil es) h
+retires_all count [] c taken es st h long = rw (append-nil taken, append-nil es) h
 retires_all count (x ∷ xs) c taken es st h long =
     let r : Reply = reply_to count c x in
     let d : Core = after count c x in

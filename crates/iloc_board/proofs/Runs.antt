@@ -65,8 +65,7 @@ pub shows_more : (count n : ℕ) (xs : List Step) (i : ℕ) (d : Step) → i < l
     → (next : ℕ) (costs : List ℕ) (states : BTreeMap ℕ State)
     → Shows next costs states (after n (final count (take i xs)) (get_or xs i d))
     → Shows next costs states (final count (take (i + 1) xs))
-shows_more count n xs i d lt same next costs states h =
-    rw (final_more count xs i d lt) (rw same at h)
+shows_more count n xs i d lt same next costs states h = rw (final_more count xs i d lt) (rw same at h)
 
 pub told_more : (count n : ℕ) (xs : List Step) (i : ℕ) (d : Step) → i < length xs → n ≡ count
     → (told : List Reply) (r : Reply)

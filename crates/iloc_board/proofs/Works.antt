@@ -9,7 +9,7 @@ use Rattle.iloc_board.specs.declared.step.Entry.{Entry}
 use Rattle.iloc_board.specs.declared.board.state.State.{State}
 use Rattle.iloc_board.specs.declared.board.state.State.TheVariants.{Free, Looked, Holding}
 use Rattle.iloc_board.specs.declared.journal.Journal.{Journal}
-use Rattle.iloc_board.specs.Core.{IsWithin, entry, state_after}
+use Rattle.iloc_board.specs.Core.{entry, state_after}
 use Rattle.iloc_board.specs.Journal.{state_of, state_from, shown, seen, seen_from, is_none_left, saw_none, noted}
 use Rattle.iloc_board.specs.Views.{is_looking}
 use Rattle.iloc_board.specs.Working.{one_if_stale, stales, Adds, Runs, IsDone}
@@ -175,9 +175,6 @@ hand_goes count j t x k h holding lt =
 pub looking_at : (s : State) → is_looking s ≡ true → (k : ℕ) × (s ≡ Looked k)
 looking_at (Looked k) e = (k, refl)
 looking_at s e = absurd (cc)
-
-pub looked_within : (count k : ℕ) (s : State) → s ≡ Looked k → IsWithin count s → k < count
-looked_within count k s e h = rw e at h
 
 pub hand_falls : (count : ℕ) (j t : Journal) (x : Step) (k : ℕ) → Goes count j t → state_of t.entries ≡ Holding k
     → k < count → left count (noted t x Handed) < left count j
