@@ -94,7 +94,6 @@ large_verdict blocks line n wide none =
 
 faulty_verdict : (rs : List Reading) (line : List ℕ) (n : ℕ) (fault : ReadFault) → IsFaulty rs line n fault
     → verdict (file_of rs) line n ≡ Err fault
-faulty_verdict rs line n InputTooLong h = absurd h
 faulty_verdict rs line n (BadLine k) h =
     bad_verdict (file_of rs) line n h.1 ∙ ap (λ m. Err (BadLine m)) (sym h.0)
 faulty_verdict rs line n (NumberTooLarge k) h =
@@ -111,7 +110,7 @@ faulty_verdict rs line n (TooManyOperations k) h =
     file_verdict rs line n h.1.reading h.1.read
     ∙ many_operations (file_of all) n (omega (arith, length-file all)) (omega (arith, ap length (last-file all)))
     ∙ ap (λ m. Err (TooManyOperations m)) (sym h.0)
-faulty_verdict rs line n NoMemory h = absurd h
+faulty_verdict rs line n fault h = absurd h
 
 -- What is denoted is the answer
 
@@ -126,12 +125,11 @@ answered : (front rs : List Reading) (n : ℕ) (lines rest : List (List ℕ)) �
     → answer_from (file_of front) n (lines ++ rest) ≡ answer_from (file_of (front ++ rs)) (length lines + n) rest
 answered front [] n [] rest h w =
     ap₂ (λ f m. answer_from (file_of f) m rest) (sym (append-nil front)) (omega arith)
-answered front (r ∷ rs) n [] rest h w = absurd h
-answered front [] n (l ∷ ls) rest h w = absurd h
 answered front (r ∷ rs) n (l ∷ ls) rest h w =
     ap (on_verdict n (ls ++ rest)) (within_verdict front l n r h.0 w.0)
     ∙ answered (front ++ r ∷ []) rs (n + 1) ls rest h.1 (all-behind front r (fronts rs) w.1)
     ∙ ap₂ (λ f m. answer_from (file_of f) m rest) (append_assoc front (r ∷ []) rs) (omega arith)
+answered front rs n lines rest h w = absurd h
 
 pub file_answer : (input : List ℕ) (blocks : List Block) → Denotes input blocks → answer input ≡ Ok blocks
 file_answer input blocks d = answer_short input d.short

@@ -54,23 +54,20 @@ answer_of_both blocks out n (l ∷ ls) ms e = by (verdict blocks l n) e (λ grow
 
 with_op_behind : (op : Op) (front blocks : List Block) → 0 < length blocks
     → with_op op (front ++ blocks) ≡ front ++ with_op op blocks
-with_op_behind op [] blocks some = refl
 with_op_behind op (b ∷ []) [] some = absurd (omega arith)
-with_op_behind op (b ∷ []) (c ∷ cs) some = refl
 with_op_behind op (b ∷ c ∷ bs) blocks some = ap (λ rest. b ∷ rest) (with_op_behind op (c ∷ bs) blocks some)
+with_op_behind op front blocks some = refl
 
 last_ops_behind : (front blocks : List Block) → 0 < length blocks → last_ops (front ++ blocks) ≡ last_ops blocks
-last_ops_behind [] blocks some = refl
 last_ops_behind (b ∷ []) [] some = absurd (omega arith)
-last_ops_behind (b ∷ []) (c ∷ cs) some = refl
 last_ops_behind (b ∷ c ∷ bs) blocks some = last_ops_behind (c ∷ bs) blocks some
+last_ops_behind front blocks some = refl
 
 optional_op_behind : (op : Option Op) (front blocks : List Block) → 0 < length blocks
     → with_optional_op op (front ++ blocks) ≡ front ++ with_optional_op op blocks
-optional_op_behind None front blocks some = refl
 optional_op_behind (Some op) front [] some = absurd (omega arith)
-optional_op_behind (Some op) [] (c ∷ cs) some = refl
 optional_op_behind (Some op) (b ∷ bs) (c ∷ cs) some = with_op_behind op (b ∷ bs) (c ∷ cs) some
+optional_op_behind op front blocks some = refl
 
 -- a line has a label, or blocks stand before it
 abbrev Opens : Option (List ℕ) → List Block → Type 0
@@ -102,9 +99,8 @@ within blocks grown m e = by (nat_lt MAX_BLOCKS (length blocks)) (nat_lt MAX_OPS
     by : (many long : Bool) → nat_lt MAX_OPS (length (last_ops blocks)) ≡ long
         → cond many (Err (TooManyBlocks m)) (cond long (Err (TooManyOperations m)) (Ok blocks)) ≡ Ok grown
         → (blocks ≡ grown) × (nat_lt MAX_OPS (length (last_ops blocks)) ≡ false)
-    by true long l f = cc
-    by false true l f = cc
     by false false l f = (cc, l)
+    by many long l f = cc
 
 -- what is within the limits stays so behind others, if all are no more than a file may have
 limited_behind : (front blocks grown : List Block) (m n : ℕ) → limited blocks m ≡ Ok grown → 0 < length blocks

@@ -35,9 +35,8 @@ length-file rs = length-blocks 1 (block_names rs) rs ∙ length-names rs
 
 pub with_op-snoc : (op : Op) (bs : List Block) (b : Block)
     → with_op op (bs ++ b ∷ []) ≡ bs ++ record { name = b.name; ops = b.ops ++ op ∷ [] } ∷ []
-with_op-snoc op [] b = refl
-with_op-snoc op (x ∷ []) b = refl
 with_op-snoc op (x ∷ y ∷ bs) b = ap (λ l. x ∷ l) (with_op-snoc op (y ∷ bs) b)
+with_op-snoc op bs b = refl
 
 with_optional-snoc : (op : Option Op) (bs : List Block) (b : Block) → with_optional_op op (bs ++ b ∷ [])
     ≡ bs ++ record { name = b.name; ops = b.ops ++ option_to_list op } ∷ []
@@ -46,9 +45,8 @@ with_optional-snoc (Some op) [] b = refl
 with_optional-snoc (Some op) (x ∷ bs) b = with_op-snoc op (x ∷ bs) b
 
 pub last-snoc : (bs : List Block) (b : Block) → last_ops (bs ++ b ∷ []) ≡ b.ops
-last-snoc [] b = refl
-last-snoc (x ∷ []) b = refl
 last-snoc (x ∷ y ∷ bs) b = last-snoc (y ∷ bs) b
+last-snoc bs b = refl
 
 -- a list is empty or ends with an element
 data Ends {A : Type 0} (xs : List A) : Type 0 where

@@ -6,7 +6,7 @@ use Rattle.iloc_ops.specs.Limits.{MAX_INPUT, MAX_BLOCKS, MAX_OPS}
 use Rattle.iloc_ops.specs.declared.op.Op.{Op}
 use Rattle.iloc_ops.specs.declared.file.Block.{Block}
 use Rattle.iloc_text.specs.declared.fault.ReadFault.{ReadFault}
-use Rattle.iloc_text.specs.declared.fault.ReadFault.TheVariants.{InputTooLong, BadLine, NumberTooLarge, TooManyBlocks, TooManyOperations, NoMemory}
+use Rattle.iloc_text.specs.declared.fault.ReadFault.TheVariants.{InputTooLong, NumberTooLarge, TooManyBlocks, TooManyOperations, NoMemory}
 use Rattle.iloc_text.specs.Grammar.{Reads}
 use Rattle.iloc_text.specs.Files.{AreLines, Reading, ReadAs, fronts, file_of, IsWithin, NoneFaulty, Denotes, IsFaulty, HasFirstFault, IsRefused}
 use Rattle.iloc_text.specs.Laws.{TextsHaveAnAnswer}
@@ -90,17 +90,13 @@ NoneFaulty-snoc rs r h w = subst (AllByRecursion IsWithin) (sym (fronts-snoc rs 
 ReadAs-snoc : (lines : List (List ℕ)) (rs : List Reading) (line : List ℕ) (r : Reading)
     → ReadAs lines rs → Reads line r.label r.op → ReadAs (lines ++ line ∷ []) (rs ++ r ∷ [])
 ReadAs-snoc [] [] line r h reads = (reads, tt)
-ReadAs-snoc [] (x ∷ xs) line r h reads = absurd h
-ReadAs-snoc (l ∷ ls) [] line r h reads = absurd h
 ReadAs-snoc (l ∷ ls) (x ∷ xs) line r h reads = (h.0, ReadAs-snoc ls xs line r h.1 reads)
+ReadAs-snoc lines rs line r h reads = absurd h
 
 pub first_refused : (input : List ℕ) (fault : ReadFault) → HasFirstFault input fault → IsRefused input fault
 first_refused input InputTooLong h = absurd h.faulty
-first_refused input (BadLine n) h = h
-first_refused input (NumberTooLarge n) h = h
-first_refused input (TooManyBlocks n) h = h
-first_refused input (TooManyOperations n) h = h
 first_refused input NoMemory h = absurd h.faulty
+first_refused input fault h = h
 
 -- the text denotes these blocks, or this refusal
 abbrev pub Answers : List ℕ → Result (List Block) ReadFault → Type 0

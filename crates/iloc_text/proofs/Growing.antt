@@ -36,9 +36,8 @@ many_operations blocks line few many =
 -- The open block
 
 pub length-with_op : (op : Op) (bs : List Block) → length (with_op op bs) ≡ length bs
-length-with_op op [] = refl
-length-with_op op (x ∷ []) = refl
 length-with_op op (x ∷ y ∷ bs) = ap suc (length-with_op op (y ∷ bs))
+length-with_op op bs = refl
 
 no_blocks : (bs : List Block) → length bs ≡ 0 → bs ≡ []
 no_blocks [] none = refl
@@ -109,9 +108,8 @@ with_optional-none op [] none = refl
 with_optional-none op (b ∷ bs) none = absurd (omega arith)
 
 pub length-with_optional : (op : Option Op) (bs : List Block) → length bs ≤ length (with_optional_op op bs)
-length-with_optional None bs = omega arith
-length-with_optional (Some op) [] = omega arith
 length-with_optional (Some op) (b ∷ bs) = omega (arith, length-with_op op (b ∷ bs))
+length-with_optional op bs = omega arith
 
 -- where opening a block fails, the line as a whole has that fault
 first_fails : (name : Option (List ℕ)) (op : Option Op) (blocks : List Block) (line : ℕ) (fault : ReadFault)

@@ -37,14 +37,13 @@ ahead {P} {Q} {rest} {text} {after} inside b f = record {
 pub comment_first : (bytes line : List ℕ) (after : Option (Bor (List ℕ))) → 2 ≤ length bytes → get_or bytes 0 0 ≡ 47
     → get_or bytes 1 0 ≡ 47 → lines_of (take (length bytes - 2) (drop 2 bytes)) ≡ line ∷ lines_left after
     → FirstIs OptionalComment bytes after
-comment_first [] line after long first second e = absurd (omega arith)
-comment_first (c ∷ []) line after long first second e = absurd (omega arith)
 comment_first (c ∷ d ∷ cs) line after long first second e = rw (first, second) (record {
   line = 47 ∷ 47 ∷ line;
   split = ap (λ lines. onto_first 47 (onto_first 47 lines))
       (ap lines_of (sym (take_all (length (c ∷ d ∷ cs) - 2) cs (omega arith))) ∙ e);
   is = (refl, refl);
 })
+comment_first bytes line after long first second e = absurd (omega arith)
 
 pub operation_first : (start behind rest : List ℕ) (after : Option (Bor (List ℕ))) (o : Opcode) (op : Op)
     → start ≡ opcode_text o ++ behind → called_at o behind ≡ Some (op, rest) → is_within_limit op ≡ true

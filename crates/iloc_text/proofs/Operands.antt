@@ -33,9 +33,8 @@ FindsValue value bytes found = (n : ℕ) × Before (ValueText (with_number value
     × (found.0 ≡ capped (number_in (with_number value n)))
 
 value_read : (value : Value) (bytes : List ℕ) → IfSome (value_at value bytes) (FindsValue value bytes)
-value_read (Use r) bytes = some_map (λ found f. (f.0.0, f.1, f.2)) (register_at bytes) (register_read bytes)
-value_read (Definition r) bytes = some_map (λ found f. (f.0.0, f.1, f.2)) (register_at bytes) (register_read bytes)
 value_read (Constant n) bytes = number_read bytes
+value_read value bytes = some_map (λ found f. (f.0.0, f.1, f.2)) (register_at bytes) (register_read bytes)
 
 value_again : (value : Value) (rest bytes : List ℕ) → Before (ValueText value) rest bytes
     → starts is_ascii_digit rest ≡ false

@@ -269,7 +269,4 @@ nothing_line bytes r =
 
 pub line_again : (bytes : List ℕ) (said : Said) → SaysWidely bytes said → schedule_line_at bytes ≡ Some (capped_said said)
 line_again bytes nothing r = nothing_line bytes r
-line_again bytes (row zero one) r = something_line bytes (row zero one) (λ e. cc) r
-line_again bytes (head k name) r = something_line bytes (head k name) (λ e. cc) r
-line_again bytes (cycles c) r = something_line bytes (cycles c) (λ e. cc) r
-line_again bytes (total t) r = something_line bytes (total t) (λ e. cc) r
+line_again bytes said r = something_line bytes said (λ e. cc) r

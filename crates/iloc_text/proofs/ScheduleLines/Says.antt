@@ -112,7 +112,4 @@ nothing_alone bytes said r s = by said (sym (nothing_line bytes r) ∙ line_agai
   where
     by : (said : Said) → Some nothing ≡ Some (capped_said said) → said ≡ nothing
     by nothing e = refl
-    by (row zero one) e = cc
-    by (head k name) e = cc
-    by (cycles c) e = cc
-    by (total t) e = cc
+    by said e = cc
