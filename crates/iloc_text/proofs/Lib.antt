@@ -1,6 +1,7 @@
 pub mod Parts
 pub mod Tokens
 pub mod Opcodes
+pub mod OpcodeWords
 pub mod Starts
 pub mod Operands
 pub mod Names

@@ -16,7 +16,7 @@ use iloc_ops::{Op, Opcode, Operands, op_of};
 const MOST_PASSED: usize = 20;
 
 /// What follows an opcode on the fast path is no longer.
-const LONGEST: usize = 128;
+pub const LONGEST: usize = 128;
 
 /// The place at which the rest of the bytes begins; 0 if that is beyond `most`.
 fn place_of(bytes: &[u8], rest: &[u8], most: usize) -> usize
@@ -244,12 +244,10 @@ fn called_by_places(opcode: Opcode, bytes: &[u8]) -> Option<(Op, usize)>
 /// The operation whose opcode precedes the bytes, with the operands at their front, and what follows those.
 #[inline(always)]
 pub fn fast_called_at(opcode: Opcode, bytes: &[u8]) -> Option<(Op, &[u8])>
+    requires { LONGEST ≤ length bytes.now }
     ensures is { IfSome result (λ found. called_at opcode bytes.now ≡ Some (found.0, found.1.now)) }
     ensures small { IfSome result (λ found. is_within_limit found.0 ≡ true) }
 {
-    if bytes.len() < LONGEST {
-        return None;
-    }
     let (op, at) = called_by_places(opcode, bytes)?;
     Some((op, &bytes[at..]))
 }

@@ -3,7 +3,7 @@ ghost use Rattle.std.specs.Prelude.{None, Some, Ok, IfSome};
 ghost use Rattle.iloc_text.specs.Grammar.{◌⋅◌, Blanks, OptionalComment};
 ghost use Rattle.iloc_text.specs.Steps.LineReads.{FirstIs, FirstBody, FirstLine};
 
-use crate::line::fast_path::fast_called_at;
+use crate::line::fast_path::{LONGEST, fast_called_at};
 use crate::line::opcode::opcode_at;
 use crate::line::scan::after_blanks;
 use crate::line::{Line, optional_label_at};
@@ -40,6 +40,10 @@ fn behind_line_end(bytes: &[u8]) -> Option<Option<&[u8]>>
 fn fast_operation(bytes: &[u8]) -> Option<(Op, &[u8])>
     ensures { IfSome result (λ found. FirstBody bytes.now (Some found.0) (Some found.1)) }
 {
+    // Long enough for the eight bytes in which an opcode is looked for, and for what may follow it.
+    if bytes.len() < LONGEST + 8 {
+        return None;
+    }
     let (opcode, behind) = opcode_at(bytes)?;
     let (op, rest) = fast_called_at(opcode, behind)?;
     let after = behind_line_end(rest)??;

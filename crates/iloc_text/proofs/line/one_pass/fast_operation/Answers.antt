@@ -8,5 +8,5 @@ pub returns : goal.returns
 returns c =
     let rest = c.in_ok-op.rest.now in
     operation_first c.args.bytes.now c.in_ok-opcode.behind.now rest (Some c.in_ok-after.after) c.in_ok-opcode.opcode
-    c.in_ok-op.op c.in_ok-opcode.ensures c.in_ok-op.ensures.is c.in_ok-op.ensures.small
+    c.in_ok-op.op c.in_ok-opcode.ensures.is c.in_ok-op.ensures.is c.in_ok-op.ensures.small
     (subst (FirstIs (Blanks ⋅ OptionalComment) rest) c.in_ok-after.was c.in_ok-behind_line_end.ensures)
