@@ -216,6 +216,7 @@ impl Edges {
     }
 
     /// Adds an edge from each of some operations.
+    #[inline(always)]
     fn add_each(&mut self, from: &[u32], to: u32, delay: u32)
         requires space { length self.old.edges.items + length from.now ≤ 5 * length self.old.heads.items }
         requires capacity { HasCapacity self.old (length self.old.heads.items) }

@@ -86,6 +86,7 @@ impl Names {
     }
 
     /// Puts the next name in the place of a register that is defined.
+    #[inline(always)]
     fn rename_definition(&mut self, register: &mut Reg) -> Result<(), NoMemory>
         requires { self.old.given < 2 ^ 32 - 1 }
         ensures { OnOk result (NamesDefinition register.old register.new
@@ -98,6 +99,7 @@ impl Names {
     }
 
     /// The same for `=> defined`. Answers the names.
+    #[inline(always)]
     fn rename_dest(&mut self, dest: &mut Reg) -> Result<OperandRegisters, NoMemory>
         requires { self.old.given < 2 ^ 32 - 1 }
         ensures names { OnOk result (NamesDefinition dest.old dest.new
@@ -112,6 +114,7 @@ impl Names {
     }
 
     /// The same for `used => defined`.
+    #[inline(always)]
     fn rename_copied(
         &mut self,
         source: &mut Reg,
@@ -132,6 +135,7 @@ impl Names {
     }
 
     /// The same for `used => used`.
+    #[inline(always)]
     fn rename_stored(
         &mut self,
         value: &mut Reg,
@@ -152,6 +156,7 @@ impl Names {
     }
 
     /// The same for `used, used => defined`.
+    #[inline(always)]
     fn rename_sources(
         &mut self,
         left: &mut Reg,

@@ -2,7 +2,7 @@
 use Rattle.std.proofs.Common.{◌≡◌, ℕ, zero, suc, ◌+◌, ◌<◌, ◌≤◌, true, false, if◌then◌else◌, List, [], ◌∷◌, ◌++◌, length, map, take, get_or, not, cond, Option, Some, None, option_map, refl, sym, ap, ◌∙◌, arith, inl, inr, append-nil}
 use Rattle.std.proofs.lemmas.List.{map-append, take_all}
 use Rattle.std.specs.List.{list_any, range_with_len}
-use Rattle.std.proofs.lemmas.List.Elements.{filter_more}
+use Rattle.std.proofs.lemmas.List.Elements.{filter_more, filter-append}
 use Rattle.std.proofs.lemmas.List.FromFn.{map-range_with_len_more}
 use Rattle.iloc_ops.specs.declared.op.Reg.{Reg}
 use Rattle.iloc_ops.specs.declared.op.Op.{Op}
@@ -257,6 +257,12 @@ pub next_pushed : (done ops more : List Op) (op next : Op) → ops ≡ renamed_b
     → next ≡ next_renamed done op → more ≡ ops ++ next ∷ []
     → more ≡ renamed_by (done ++ op ∷ []) (numbering (done ++ op ∷ []))
 next_pushed done ops more op next before is pushed = rw (pushed, before, is) (sym (renamed_more done op))
+
+-- what comes after a block and is no `nop` isn't left out
+pub without_nops_more : (past : List Op) (op : Op) → is_nop op ≡ false → without_nops (past ++ op ∷ []) ≡ without_nops past ++ op ∷ []
+without_nops_more past op is_not =
+    filter-append (λ q. not (is_nop q)) past (op ∷ [])
+    ∙ ap (λ b. without_nops past ++ cond (not b) (op ∷ []) []) is_not
 
 -- a loop over a block passes a `nop`
 pub nop_passed : (block : List Op) (i : ℕ) (other : Op) → i < length block → is_nop (get_or block i other) ≡ true

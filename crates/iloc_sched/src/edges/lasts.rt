@@ -63,6 +63,7 @@ impl Lasts {
     }
 
     /// Operation j, of this kind, is one of the earlier ones from now on.
+    #[inline(always)]
     fn note_kind(&mut self, kind: Kind, j: u32) -> Result<(), NoMemory>
         ensures kind { OnOk result (NotesKind kind self.old self.new j) }
         ensures definers { self.new.definers ≡ self.old.definers }
