@@ -126,6 +126,22 @@ all_released c c' b small some released = record {
     gone r past = no_member c.words.items b r
         (beyond c.summary.items c.words.items b c.blocks (omega arith) (c.summarised some) c.sized (r / 64) (omega arith))
 
+-- a bucket has nothing in a block whose word of the summary is 0
+pub block_without : (c : Calendar) (b block : ℕ) → b < 32 → c.blocks ≢ 0 → word_at c.summary.items b block ≡ 0
+    → (r : ℕ) → r / 4096 ≡ block → has c b r ≡ false
+block_without c b block small some none r here =
+    let at : r / 64 / 64 ≡ block = omega arith in
+    let bit : rank_bit c.summary.items b (r / 64) ≡ 0 =
+    no_bit (word_at c.summary.items b (r / 64 / 64)) (r / 64 % 64) (ap (word_at c.summary.items b) at ∙ none) in
+    let is : rank_bit c.summary.items b (r / 64) ≡ min 1 (word_at c.words.items b (r / 64)) = (c.summarised some).buckets b (r / 64) small in
+    no_member c.words.items b r (omega arith)
+
+-- so to release it changes nothing
+pub block_as_released : (c : Calendar) (b block : ℕ) → b < 32 → c.blocks ≢ 0 → word_at c.summary.items b block ≡ 0
+    → (r : ℕ) → r / 4096 ≡ block → has c 32 r ≡ (has c 32 r || has c b r)
+block_as_released c b block small some none r here =
+    or_none (has c 32 r) (has c b r) (block_without c b block small some none r here)
+
 -- one word is all
 pub one_word_released : (c c' : Calendar) (b : ℕ) → b < 32 → length c.words.items ≤ 37 → MovesAt c.words.items c'.words.items b 0
     → KeepsElse (λ w. w ≡ 0) c.words.items c'.words.items b → Releases c c' b

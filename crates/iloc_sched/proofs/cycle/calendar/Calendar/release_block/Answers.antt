@@ -3,7 +3,7 @@ use Rattle.std.specs.Vec.{with_items}
 use Rattle.std.proofs.lemmas.List.{get_or_read}
 use Rattle.iloc_sched.specs.Steps.RankSets.{word_at, HoldsBits}
 use Rattle.iloc_sched.proofs.Ranks.Moves.{summary_moved}
-use Rattle.iloc_sched.proofs.Ranks.Sets.{leads_there, moves_back, kept_back, size_back, notes_back, block_union, block_empty, block_others}
+use Rattle.iloc_sched.proofs.Ranks.Sets.{leads_there, moves_back, kept_back, size_back, notes_back, block_as_released, block_without, block_union, block_empty, block_others}
 use Rattle.iloc_sched.proofs.cycle.calendar.Calendar.release_block.Goals as goal
 
 pub move_words-requires-clause-there : goal.move_words-requires-clause-there
@@ -42,6 +42,24 @@ invariant_of-self c =
       few = s.few;
       whole = λ w. subst (λ n. w * 37 < n → w * 37 + 37 ≤ n) (sym size) (s.whole w);
     }
+
+pub returns-then-some-eq0-clause-released : goal.returns-then-some-eq0-clause-released
+returns-then-some-eq0-clause-released c =
+    let s = c.args.self.now in
+    let some : s.blocks ≢ 0 = λ none. let more = c.requires.block in absurd (omega arith) in
+    let there : c.args.block * 37 + c.args.bucket < length s.summary.items = omega (arith, s.sized, c.requires.block, c.requires.bucket) in
+    let read : c.index-some.result.now ≡ word_at s.summary.items c.args.bucket c.args.block =
+    get_or_read s.summary.items (c.args.block * 37 + c.args.bucket) c.index-some.result.now there c.index-some.ensures 0 in
+    block_as_released s c.args.bucket c.args.block c.requires.bucket some (sym read ∙ c.if-some-eq0.true)
+
+pub returns-then-some-eq0-clause-emptied : goal.returns-then-some-eq0-clause-emptied
+returns-then-some-eq0-clause-emptied c =
+    let s = c.args.self.now in
+    let some : s.blocks ≢ 0 = λ none. let more = c.requires.block in absurd (omega arith) in
+    let there : c.args.block * 37 + c.args.bucket < length s.summary.items = omega (arith, s.sized, c.requires.block, c.requires.bucket) in
+    let read : c.index-some.result.now ≡ word_at s.summary.items c.args.bucket c.args.block =
+    get_or_read s.summary.items (c.args.block * 37 + c.args.bucket) c.index-some.result.now there c.index-some.ensures 0 in
+    block_without s c.args.bucket c.args.block c.requires.bucket some (sym read ∙ c.if-some-eq0.true)
 
 pub returns-clause-released : goal.returns-clause-released
 returns-clause-released c =
