@@ -85,10 +85,10 @@ class Manual(Place):
         self.expect("options", sorted(named), sorted(options))
 
     def test_page_has_the_words_of_listings(self):
-        """Each field, verdict and line in a table of docs/LANGUAGE.md on listings is on the page."""
+        """Each field, verdict and member that docs/LANGUAGE.md lists is on the page."""
         listings = self.text("docs/LANGUAGE.md").partition("\n## Listings\n")[2].partition("\n## Faults of the program\n")[0]
-        cells = re.findall(r"^\| (`.*?`) \|", listings, re.MULTILINE)
-        words = [word.strip() for cell in cells for word in re.findall("`([^`]+)`", cell) if not word.startswith("line n: ")]
+        named = re.findall(r"^- (`[^`]*`(?:, `[^`]*`)*): ", listings, re.MULTILINE)
+        words = [word for it in named for word in re.findall("`([^`]+)`", it) if not word.startswith("line n: ")]
         page = " ".join(re.sub(r'^\.\w+ |"|\\&', "", self.text(PAGE), flags=re.MULTILINE).split())
         self.expect("words that the page lacks", ([it for it in words if it not in page], len(words) > 20), ([], True))
 
