@@ -135,7 +135,7 @@ def drawn_cases():
 
 
 def made(name, blocks, latencies):
-    for command in (*COMMANDS, "graph", "trace"):
+    for command in (*COMMANDS, "explain", "graph", "trace"):
         words = [] if command == "run" else words_for(latencies)
         words += ["--at", "0", *map(str, WORDS)] if command in ("run", "simulate", "trace") else []
         yield listed(f"drawn/{name}/{command}", text_of(blocks), listing(command, blocks, latencies), [command, *words])

@@ -14,8 +14,8 @@ from harness.suite import Case
 TOP = os.path.dirname(os.path.dirname(os.path.dirname(os.path.abspath(__file__))))
 TESTED = SimpleNamespace(program=f"{TOP}/out/ilocfarm", is_short=False)     # as tests/run was asked
 SECONDS = 120
-COMMANDS = ("run", "simulate", "schedule", "counts", "explain")     # of the plain Rust program too
-ALL = (*COMMANDS, "compare", "optimize", "check", "graph", "trace")
+COMMANDS = ("run", "simulate", "schedule", "counts")     # of the plain Rust program too
+ALL = (*COMMANDS, "explain", "compare", "optimize", "check", "graph", "trace")
 
 
 def ending(words, given=b"", program=None, **how):

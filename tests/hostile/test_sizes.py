@@ -169,6 +169,10 @@ def as_the_plain_program(name, make):
         if got.shown() != measure.run([baseline(), command], path, f"{folder()}/due").shown():
             yield f"{command}: status {got.status} or {front(got.output)[:60]!r} is other than the plain program's"
         yield from wrong
+    explained, wrong = measured(name, ["explain"], path)
+    if explained.shown()[::2] != got.shown()[::2]:
+        yield f"explain: status {explained.status} is other than that of {command}"
+    yield from wrong
 
 
 def begins_so(name, make, start):
@@ -238,7 +242,7 @@ def slow_loads():
     """Chained loads that take 16 cycles each: the longest schedules that a text can have."""
     text = chained_loads()
     path = stored("given", text)
-    for command in COMMANDS[1:]:
+    for command in (*COMMANDS[1:], "explain"):
         got, wrong = measured("chained loads", [command, "--load", str(SLOWEST)], path)
         if got.status != 0 or not is_made_of(got.output, slow_listing(command, text.count(b":"))):
             yield f"{command}: status {got.status}, or another listing"

@@ -1,7 +1,6 @@
 //! What each command lists.
 
 use crate::digits;
-use crate::explain::Explainer;
 use crate::fault::Fault;
 use crate::machine::Machine;
 use crate::operation::Operation;
@@ -16,7 +15,6 @@ pub enum Command {
     Simulate,
     Schedule,
     Counts,
-    Explain,
 }
 
 impl Command {
@@ -26,13 +24,12 @@ impl Command {
             "simulate" => Some(Command::Simulate),
             "schedule" => Some(Command::Schedule),
             "counts" => Some(Command::Counts),
-            "explain" => Some(Command::Explain),
             _ => None,
         }
     }
 
     fn has_total(self) -> bool {
-        matches!(self, Command::Schedule | Command::Counts | Command::Explain)
+        matches!(self, Command::Schedule | Command::Counts)
     }
 }
 
@@ -41,7 +38,6 @@ struct Lister {
     command: Command,
     machine: Machine,
     scheduler: Scheduler,
-    explainer: Explainer,
     listing: Vec<u8>,
     blocks: u64,
     total: u64,
@@ -53,7 +49,6 @@ impl Lister {
             command,
             machine: Machine::new(),
             scheduler: Scheduler::new(),
-            explainer: Explainer::default(),
             listing: Vec::new(),
             blocks: 0,
             total: 0,
@@ -82,10 +77,6 @@ impl Lister {
                 self.listing.push(b'\n');
                 push_rows(&schedule, &mut self.listing);
                 push_line(&mut self.listing, b"cycles ", u64::from(schedule.cycles));
-            }
-            Command::Explain => {
-                self.listing.push(b'\n');
-                self.explainer.list(operations, &schedule, &mut self.listing);
             }
             Command::Run | Command::Simulate => {
                 self.listing.push(b'\n');

@@ -1,9 +1,7 @@
 //! What `ilocfarm` does on one worker, with the usual latencies and a memory of zeros, in plain Rust: the program that
 //! `bench/run` measures ilocfarm against. Its one argument is the command.
 
-mod bound;
 mod digits;
-mod explain;
 mod fault;
 mod graph;
 mod listing;
@@ -31,7 +29,7 @@ fn run(command: Command) -> Result<(), Fault> {
 
 fn main() -> ExitCode {
     let Some(command) = std::env::args().nth(1).and_then(|word| Command::named(&word)) else {
-        eprintln!("usage: baseline run|simulate|schedule|counts|explain");
+        eprintln!("usage: baseline run|simulate|schedule|counts");
         return ExitCode::from(2);
     };
     match run(command) {

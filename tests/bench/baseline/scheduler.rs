@@ -37,11 +37,6 @@ impl Row {
     pub fn numbers(self) -> impl Iterator<Item = u32> {
         self.0.into_iter().filter(|number| *number != NONE)
     }
-
-    /// The units that have an operation, and its number.
-    pub fn slots(self) -> impl Iterator<Item = (u32, u32)> {
-        (0..).zip(self.0).filter(|(_, number)| *number != NONE)
-    }
 }
 
 /// A block's renamed operations, in rows.
