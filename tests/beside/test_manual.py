@@ -28,7 +28,7 @@ COMPLETIONS = (
 )
 # How a shell is started, and what it reads the completions by; then what is typed, and what the line shows.
 SHELLS = {
-    "bash": (["bash", "--norc", "-i"], "source man/ilocfarm.bash"),
+    "bash": (["bash", "--norc", "-i"], "source made/ilocfarm.bash"),
     "zsh": (["zsh", "-f", "-i"], "unset zle_bracketed_paste; fpath=($PWD $fpath); autoload compinit; compinit -u -D"),
 }
 TYPED = (
@@ -65,13 +65,15 @@ class Manual(Place):
         out = self.call("ilocfarm", "--help")[1].decode()
         return re.findall(r"^  (\w+) ", out.partition("Commands:\n")[2].partition("\n\n")[0], re.MULTILINE)
 
-    def test_page_is_the_helps(self):
-        """The page and the completions are what man/make makes of the program's help."""
+    def make(self):
+        """Makes the page and the completions of the program's help."""
         os.mkdir(self.path("made"))
         self.expect("man/make", self.call("man/make", "bin/ilocfarm", "made"), (0, b"", b""))
-        for name in ("ilocfarm.1", "ilocfarm.bash", "ilocfarm.zsh", "ilocfarm.fish"):
-            if self.read(f"made/{name}") != self.read(f"{TOP}/man/{name}"):
-                self.fail(f"man/{name} is not what `man/make PROGRAM man` writes")
+
+    def test_page_is_the_helps(self):
+        self.make()
+        if self.read("made/ilocfarm.1") != self.read(PAGE):
+            self.fail("man/ilocfarm.1 is not what `man/make PROGRAM man` writes")
 
     def test_page_has_no_slips(self):
         self.needs("mandoc")
@@ -112,12 +114,14 @@ class Manual(Place):
                 self.expect(f"help {name}", self.call("ilocfarm", "help", name), shown)
 
     def test_completes(self):
+        self.make()
         for words, offered in COMPLETIONS:
-            done = self.call("bash", "-c", COMPLETE, f"{TOP}/man/ilocfarm.bash", *words)
+            done = self.call("bash", "-c", COMPLETE, "made/ilocfarm.bash", *words)
             self.expect(f"completions of {words}", done, (0, f"{offered}\n".encode(), b""))
 
     def test_completes_on_a_terminal(self):
-        os.symlink("man/ilocfarm.zsh", self.path("_ilocfarm"))
+        self.make()
+        os.symlink("made/ilocfarm.zsh", self.path("_ilocfarm"))
         for name, (words, source) in SHELLS.items():
             self.needs(name)
             with terminal() as (screen, slave):
@@ -136,8 +140,9 @@ class Manual(Place):
 
     def test_completes_in_fish(self):
         self.needs("fish")
+        self.make()
         for typed, offered in IN_FISH:
-            told = self.call("fish", "--no-config", "-c", f"source man/ilocfarm.fish; complete -C '{typed}'", HOME=self.folder)
+            told = self.call("fish", "--no-config", "-c", f"source made/ilocfarm.fish; complete -C '{typed}'", HOME=self.folder)
             self.expect(f"fish completes {typed}", told, (0, offered.encode(), b""))
 
     def test_tells_that_it_reads_a_terminal(self):
