@@ -1,4 +1,7 @@
 """Rows with their blocks and the verdicts due, and lines of schedules that are refused; memory has 9 at 4, else 0."""
+import os
+import re
+
 from forms import USUAL
 from harness.program import Run, ending, told
 from harness.suite import Check, table
@@ -25,27 +28,6 @@ FAULTS_FIRST = "output 1\noutput 8\n"
 # It faults on every memory.
 BIG_ADDRESS = "loadI 100000 => r0\nloadI 6 => r1\nloadI 7 => r2\nmult r1, r2 => r3\nstore r3 => r0\noutput 100000\n"
 PRODUCT = BIG_ADDRESS.replace("100000", "1024")
-TWO_ADDRESSES = """\
-loadI 1024 => r1
-loadI 7 => r2
-store r2 => r1
-loadI 1028 => r1
-loadI 9 => r2
-store r2 => r1
-output 1024
-output 1028
-[ loadI 1024 => r1 ; loadI 7 => r2 ]
-[ loadI 1028 => r1 ; nop ]
-[ store r2 => r1 ; loadI 9 => r2 ]
-[ store r2 => r1 ; nop ]
-[ nop ; nop ]
-[ nop ; nop ]
-[ nop ; nop ]
-[ nop ; nop ]
-[ output 1024 ; nop ]
-[ output 1028 ; nop ]
-"""
-
 # A block, somebody's operations that do the same, six cycles apart, and the verdict.
 SAME = {
     "itself": (LOADS_AND_STORES, LOADS_AND_STORES, "lawful"),
@@ -117,15 +99,6 @@ VERDICTS = {
                       "add r1, r1 => r3\nloadI 4 => r1\nstore r3 => r1\n", "differs", "word 4: 0 for 8"),
 }
 
-# Rows of a student, with operands exchanged; and others with two operations a row early besides.
-OPERANDS_EXCHANGED = ("loadI 1024 => r1\nload r1 => r2\nloadI 5 => r3\nsub r2, r3 => r4\nstore r4 => r1\noutput 1024\n"
-                      "[ loadI 1024 => r1 ; loadI 5 => r3 ]\n[ load r1 => r2 ]\n" + "[ ]\n" * 4
-                      + "[ sub r3, r2 => r4 ]\n[ store r4 => r1 ]\n" + "[ ]\n" * 4 + "[ output 1024 ]\n")
-THREE_FAULTS = ("loadI 1024 => r1\nload r1 => r2\nsub r2, r1 => r3\nmult r2, r3 => r4\naddI r4, 1 => r5\nstore r5 => r1\noutput 1024\n"
-                "[ loadI 1024 => r1 ]\n[ load r1 => r2 ]\n" + "[ ]\n" * 4
-                + "[ sub r1, r2 => r3 ]\n[ mult r2, r3 => r4 ]\n[ ]\n[ addI r4, 1 => r5 ]\n[ ]\n[ store r5 => r1 ]\n"
-                + "[ ]\n" * 3 + "[ output 1024 ]\n")
-
 # A block, somebody's operations, the verdict with `--outputs`, and what is listed below it.
 SHOWN = {
     "scratch_store": (SQUARE, SQUARE.replace("output", "loadI 2000 => r9\nstore r2 => r9\noutput"), "prints"),
@@ -153,200 +126,8 @@ SHOWN = {
     "fault_last": ("output 8\noutput 1\n", "output 8\n", "void", "the block faults: output 1"),
 }
 
-# Texts, and what is listed of each block.
-LISTED = {
-    "row_on_unit_0": ("output 4\n[ output 4 ; nop ]\n", "block 1 - lawful cycles 1 ours 1 least 1"),
-    "row_on_unit_1": ("output 4\n[ nop ; output 4 ]\ncycles 1\n", "block 1 - lawful cycles 1 ours 1 least 1"),
-    "second_claim": ("output 4\n[ output 4 ; nop ]\ncycles 1\ncycles 0\n",
-                     "block 1 - lawful cycles 1 ours 1 least 1 claimed 0"),
-    "both_units": ("output 0\n[ output 0 ; loadI 4 => r1 ]\n",
-                   "block 1 - same cycles 1 ours 1 least 1\n  added 1: row 0: loadI 4 => r1\n"
-                   "  row 0: loadI 4 => r1 like none of the block"),
-    # Our own rows have both outputs on unit 0, and aren't the only ones that keep the delay between the two.
-    "outputs_on_two_units": ("output 0\noutput 4\n[ output 0 ; nop ]\n[ nop ; output 4 ]\n",
-                             "block 1 - lawful cycles 2 ours 2 least 2"),
-    # An empty row before it takes a cycle, one after it takes none.
-    "empty_rows": ("output 4\n[ nop ; nop ]\n[ output 4 ; nop ]\n[ nop ; nop ]\ncycles 3\n",
-                   "block 1 - lawful cycles 2 ours 1 least 1 claimed 3"),
-    # What isn't used is left out, so that they take fewer cycles than any lawful schedule.
-    "unused_operations": ("loadI 4 => r1\nmult r1, r1 => r2\noutput 4\n[ output 4 ; nop ]\n",
-                          "block 1 - same cycles 1 ours 4 least 4\n  left out 2: loadI 4 => r1"),
-    "nop": ("nop\ncycles 0\n", "block 1 - lawful cycles 0 ours 0 least 0"),
-    # The word that is stored is there already.
-    "word_put_back": ("loadI 4 => r1\nload r1 => r2\nstore r2 => r1\noutput 4\n[ output 4 ; nop ]\ncycles 1\n",
-                      "block 1 - agrees cycles 1 ours 12 least 12\n  left out 3: loadI 4 => r1\n  see row 0: output 4"),
-    "outputs_on_both_units": ("output 4\noutput 8\n[ output 8 ; nop ]\n[ nop ; output 4 ]\n",
-                              "block 1 - differs cycles 2 ours 2 least 2\n  output 1: 0 for 9\n"
-                              "  row 0: output 8 before row 1: output 4\n  row 1: output 4 after row 0: output 8"),
-    "output_missing": ("output 4\noutput 8\n[ output 4 ; nop ]\ncycles 2\n",
-                       "block 1 - differs cycles 1 ours 2 least 2 claimed 2\n  output 2: none for 0\n"
-                       "  left out 1: output 8"),
-    "output_behind_the_last": ("output 8\n[ output 8 ; nop ]\n[ output 4 ; nop ]\n",
-                               "block 1 - differs cycles 2 ours 1 least 1\n  output 2: 9 for none\n"
-                               "  added 1: row 1: output 4\n"
-                               "  row 1: output 4 like none of the block"),
-    "store_missing": ("loadI 12 => r1\nsubI r1, 16 => r2\nstore r2 => r1\n",
-                      "block 1 - differs cycles 0 ours 7 least 7\n  no rows\n  word 12: 0 for -4\n"
-                      "  left out 3: loadI 12 => r1"),
-    "fault_beside_the_output": ("output 4\n[ output 4 ; loadI 5 => r1 ]\n[ load r1 => r1 ; nop ]\n",
-                                "block 1 - differs cycles 6 ours 1 least 1\n  fault\n"
-                                "  added 2: row 0: loadI 5 => r1\n"
-                                "  row 0: loadI 5 => r1 like none of the block\n"
-                                "  row 1: load r1 => r1 like none of the block"),
-    "fault_missing": ("output 5\n", "block 1 - void cycles 0 ours 1 least 1\n  no rows\n  the block faults: output 5\n"
-                      "  left out 1: output 5"),
-    # On the memory handed in both words are 0.
-    "output_of_another_word": ("output 65532\n[ output 65528 ; nop ]\n",
-                               "block 1 - differs cycles 1 ours 1 least 1\n  output 1: 0 for 2 with --at 65532 2\n"
-                               "  left out 1: output 65532\n  added 1: row 0: output 65528\n"
-                               "  row 0: output 65528 like none of the block"),
-    # Two addresses in one register, of which the second is there before the first is read.
-    "address_overwritten": (TWO_ADDRESSES, "block 1 - differs cycles 10 ours 10 least 10\n  output 1: 0 for 7\n"
-                            "  row 2: store r2 => r1 reads r1 of row 1: loadI 1028 => r1, no longer of row 0: loadI 1024 => r1"),
-    # A sum in a register that nobody reads; the one that reads another in its stead isn't to blame.
-    "result_never_read": ("loadI 4 => r1\nloadI 5 => r2\nadd r1, r2 => r3\nstore r3 => r1\n"
-                          "[ loadI 4 => r1 ; loadI 5 => r2 ]\n[ add r1, r2 => r4 ]\n[ store r3 => r1 ]\n",
-                          "block 1 - differs cycles 7 ours 7 least 7\n  word 4: 0 for 9\n"
-                          "  row 1: add r1, r2 => r4, whose result is never read"),
-    # A sum in a register that others read; the one that reads another in its stead isn't to blame.
-    "result_read_by_others": ("loadI 4 => r1\nloadI 5 => r2\nadd r1, r2 => r3\nstore r3 => r1\nstoreAI r2 => r1, 4\n"
-                              "[ loadI 4 => r1 ; loadI 5 => r2 ]\n[ add r1, r2 => r2 ]\n[ store r3 => r1 ]\n"
-                              "[ storeAI r2 => r1, 4 ]\n",
-                              "block 1 - differs cycles 8 ours 8 least 8\n  word 4: 0 for 9\n"
-                              "  row 3: storeAI r2 => r1, 4 reads r2 of row 1: add r1, r2 => r2, no longer of row 0: loadI 5 => r2"),
-    # One line says of a load and a store that they changed places.
-    "load_and_store_exchanged": ("loadI 4 => r1\nload r1 => r2\nstore r1 => r1\n"
-                                 "[ loadI 4 => r1 ]\n[ store r1 => r1 ]\n[ load r1 => r2 ]\n",
-                                 "block 1 - same cycles 7 ours 7 least 7\n  row 2: load r1 => r2 after row 1: store r1 => r1"),
-    "operands_exchanged": (OPERANDS_EXCHANGED,
-                           "block 1 - differs cycles 13 ours 13 least 13\n  output 1: 5 for -5\n"
-                           "  row 6: sub r3, r2 => r4 for sub r2, r3 => r4"),
-    # Each fault has a line, and nothing else: operands exchanged, a sum and an output that come too early.
-    "three_faults": (THREE_FAULTS, "block 1 - differs cycles 16 ours 17 least 17\n  output 1: 0 for 1\n"
-                     "  row 6: sub r1, r2 => r3 for sub r2, r1 => r3\n"
-                     "  row 9: addI r4, 1 => r5 reads r4, which row 7: mult r2, r3 => r4 brings in row 10\n"
-                     "  row 15: output 1024 while row 11: store r5 => r1 is under way to row 16"),
-    "product_known": (PRODUCT + "[ loadI 42 => r1 ; loadI 1024 => r0 ]\n[ store r1 => r0 ]\n" + "[ ]\n" * 4 + "[ output 1024 ]\n",
-                      "block 1 - same cycles 7 ours 10 least 10\n  left out 3: loadI 6 => r1\n  added 1: row 0: loadI 42 => r1\n"
-                      "  row 0: loadI 42 => r1 like none of the block\n"
-                      "  row 1: store r1 => r0 for store r3 => r0"),
-    "register_at_first": ("add r1, r1 => r2\nloadI 4 => r1\nstore r2 => r1\n"
-                          "[ loadI 4 => r1 ]\n[ add r1, r1 => r2 ]\n[ store r2 => r1 ]\n",
-                          "block 1 - differs cycles 7 ours 6 least 6\n  word 4: 8 for 0\n"
-                          "  row 1: add r1, r1 => r2 reads r1 of row 0: loadI 4 => r1, no longer of the start"),
-    "register_of_nobody": ("loadI 4 => r1\nstore r1 => r1\n[ loadI 4 => r1 ]\n[ store r2 => r1 ]\n",
-                           "block 1 - differs cycles 6 ours 6 least 6\n  word 4: 0 for 4\n"
-                           "  row 1: store r2 => r1 for store r1 => r1"),
-    "load_on_unit_1": ("loadI 4 => r1\nload r1 => r2\n[ loadI 4 => r1 ; nop ]\n[ nop ; load r1 => r2 ]\n",
-                       "block 1 - units cycles 6 ours 6 least 6\n  row 1: [ nop ; load r1 => r2 ]: a load or store on unit 1"),
-    "two_outputs_in_a_row": ("output 4\n[ output 4 ; output 8 ]\n[ mult r1, r1 => r2 ; nop ]\ncycles 1\n",
-                             "block 1 - units cycles 4 ours 1 least 1 claimed 1\n  row 0: [ output 4 ; output 8 ]: two outputs"),
-    # An operation alone is on its unit; one that is left out is a `nop`.
-    "single_operations": ("loadI 4 => r1\nload r1 => r2\nmult r2, r2 => r3\nmultI r3, 1 => r4\nstore r4 => r1\n"
-                          "[ loadI 4 => r1 ]\n[ load r1 => r2 ]\n" + "[ ]\n" * 4 + "[mult r2,r2=>r2]\n[]\n[ nop ]\n"
-                          "[\tmultI r2, 1 => r2 ] // 9\n[ ; ]\n[;]\n[ store r2 => r1 ]\n",
-                          "block 1 - lawful cycles 17 ours 17 least 17"),
-    "single_operation_on_a_line_of_its_own": ("output 4\n[output 4]", "block 1 - lawful cycles 1 ours 1 least 1"),
-    "halves_of_rows": ("loadI 4 => r1\noutput 4\n[ ; loadI 4 => r1 ]\n[ output 4 ; ]\n",
-                       "block 1 - lawful cycles 2 ours 1 least 1"),
-    "empty_row_at_once": ("nop\n[]", "block 1 - lawful cycles 0 ours 0 least 0"),
-    "product_before_a_semicolon": ("nop\n[ mult r1, r2 => r3 ; ]\n", "block 1 - units cycles 3 ours 0 least 0\n"
-                                                                      "  row 0: [ mult r1, r2 => r3 ; nop ]: a product on unit 0"),
-    "load_behind_a_semicolon": ("nop\n[ ; load r1 => r2 ]\n", "block 1 - units cycles 5 ours 0 least 0\n"
-                                                               "  row 0: [ nop ; load r1 => r2 ]: a load or store on unit 1"),
-    # Of a row that breaks more than one rule the first is named, in this order.
-    "two_memory_operations": ("nop\n[ load r1 => r2 ; storeAI r2 => r1, 4 ]\n", "block 1 - units cycles 5 ours 0 least 0\n"
-                              "  row 0: [ load r1 => r2 ; storeAI r2 => r1, 4 ]: two loads or stores"),
-    "two_products": ("nop\n[ multI r1, 2 => r2 ; mult r2, r2 => r3 ]\n", "block 1 - units cycles 3 ours 0 least 0\n"
-                     "  row 0: [ multI r1, 2 => r2 ; mult r2, r2 => r3 ]: two products"),
-    "both_on_the_wrong_unit": ("nop\n[ mult r1, r1 => r2 ; load r1 => r3 ]\n", "block 1 - units cycles 5 ours 0 least 0\n"
-                               "  row 0: [ mult r1, r1 => r2 ; load r1 => r3 ]: a product on unit 0"),
-    "output_beside_a_product": ("nop\n[ mult r1, r1 => r2 ; output 4 ]\n", "block 1 - units cycles 3 ours 0 least 0\n"
-                                "  row 0: [ mult r1, r1 => r2 ; output 4 ]: a product on unit 0"),
-    "no_head": ("output 0\n[output 0;nop]\ncycles 9\ntotal 3", "block 1 - lawful cycles 1 ours 1 least 1 claimed 9"),
-    "no_head_of_a_name": ("main:\noutput 0\n[output 0;nop]\ncycles 9\ntotal 3",
-                          "block 1 main lawful cycles 1 ours 1 least 1 claimed 9"),
-    "no_row": ("a: output 0\nb:", "block 1 a differs cycles 0 ours 1 least 1\n  no rows\n  output 1: none for 0\n"
-               "  left out 1: output 0", "block 2 b lawful cycles 0 ours 0 least 0"),
-    "no_row_and_a_total": ("a:\nb: nop\ntotal 0\n", "block 1 a lawful cycles 0 ours 0 least 0",
-                           "block 2 b lawful cycles 0 ours 0 least 0"),
-    "blanks_and_comments": ("output 0\r\n block 1 -//\n\tcycles\t05 // claimed\r\n// \x00\xff\n\n [\toutput 00 ;nop\r]//\r\n"
-                            "[nop;\rnop\t]\r\ncycles 1\n[ nop ; add r1,r02 =>r3 ]\n\n",
-                            "block 1 - same cycles 3 ours 1 least 1 claimed 1\n  added 1: row 2: add r1, r2 => r3\n"
-                            "  row 2: add r1, r2 => r3 like none of the block"),
-    "blanks_in_a_row_that_is_shown": ("nop\n [\tmult r1,r02 =>r3;nop\r]//\r\n",
-                                      "block 1 - units cycles 3 ours 0 least 0\n  row 0: [ mult r1, r2 => r3 ; nop ]: a product on unit 0"),
-    "row_of_another_block": ("A: output 4\nB: output 8\nblock 1 A\n[ output 4 ; nop ]\nblock 2 B\n[ output 4 ; nop ]\n",
-                             "block 1 A lawful cycles 1 ours 1 least 1",
-                             "block 2 B differs cycles 1 ours 1 least 1\n  output 1: 9 for 0\n"
-                             "  left out 1: output 8\n  added 1: row 0: output 4\n"
-                             "  row 0: output 4 like none of the block"),
-    "blocks_passed_over": ("a:\nb:\nc:\nblock 2 b\n[ nop ; output 4 ]\n", "block 1 a lawful cycles 0 ours 0 least 0",
-                           "block 2 b void cycles 1 ours 0 least 0\n  the block shows nothing\n  added 1: row 0: output 4\n"
-                           "  row 0: output 4 like none of the block",
-                           "block 3 c lawful cycles 0 ours 0 least 0"),
-    "largest_numbers": ("a:\ncycles 2147483647\ntotal 2147483647\n[ output 2147483647 ; nop ]",
-                        "block 1 a void cycles 1 ours 0 least 0 claimed 2147483647\n  the block shows nothing\n"
-                        "  added 1: row 0: output 2147483647\n"
-                        "  row 0: output 2147483647 like none of the block"),
-    "fault_left_out": (BIG_ADDRESS + "[ loadI 100000 => r0 ; nop ]\n[ output 100000 ; nop ]\n",
-                       "block 1 - void cycles 2 ours 10 least 10\n  the block faults: store r3 => r0\n"
-                       "  left out 4: loadI 6 => r1\n  see row 1: output 100000"),
-}
-
-# Lines among rows that can't be read, with what is wanted where each stops, and what is found there. Those of a block alone
-# would be read before the first row.
-OF_A_BLOCK = {"output 0": ("[", "output"), "nop": ("[", "nop"), "b:": ("[", "b")}
-STRAY = {
-    "hello": ("[", "hello"), "0: [ nop ; nop ]": ("[", "0"), "A: [ nop ; nop ]": ("[", "A"), "cycle 1: [ nop ; nop ]": ("[", "cycle"),
-    "]": ("[", "]"), "nop ]": ("[", "nop"), "; nop ]": ("[", ";"), "( nop ; nop )": ("[", "("), "/ [ nop ; nop ]": ("[", "/"),
-    "\x00[ nop ; nop ]": ("[", "?"), "\xff\xfe[ nop ; nop ]": ("[", "?"), "add r1, r2 => r3": ("[", "add"), "- - -": ("[", "-"),
-    "block": ("a number", "end of line"), "block 1": ("a name or -", "end of line"), "block1 a": ("[", "block1"),
-    "block 1a": ("a blank", "a"), "block a 1": ("a number", "a"), "block 1 --": ("end of line", "-"),
-    "block 1 9": ("a name or -", "9"), "block 1 a b": ("end of line", "b"), "block -1 a": ("a number", "-"),
-    "block a": ("a number", "a"), "block 1 1a": ("a name or -", "1a"), "block 1 a cycles 5": ("end of line", "cycles"),
-    "cycles": ("a number", "end of line"), "cycles5": ("[", "cycles5"), "cycles -5": ("a number", "-"),
-    "cycles 5 5": ("end of line", "5"), "cycles nine": ("a number", "nine"), "cycles: 5": ("a number", ":"),
-    "Cycles 5": ("[", "Cycles"), "total": ("a number", "end of line"), "total: 5": ("a number", ":"),
-}
-UNREAD = STRAY | OF_A_BLOCK | {
-    "[": ("an operation", "end of line"),
-    "[ nop ; nop": ("]", "end of line"),
-    "[ nop ; nop ; nop ]": ("]", ";"),
-    "[ nop nop ]": ("; or ]", "nop"),
-    "[ ; ; ]": ("]", ";"),
-    "[ nop": ("; or ]", "end of line"),
-    "[ ;": ("an operation", "end of line"),
-    "[ A: nop ; nop ]": ("an operation", "A"),
-    "[ nop // ; nop ]": ("; or ]", "//"),
-    " \t[ [ nop ] ]": ("an operation", "["),
-    "[ 5 ]": ("an operation", "5"),
-    "[ nop ] ]": ("end of line", "]"),
-    "[ nop ] nop": ("end of line", "nop"),
-    "[] [] // two": ("end of line", "["),
-    "[ nop , nop ]": ("; or ]", ","),
-    "[ r1 ]": ("an operation", "r1"),
-    "[ load r1 ]": ("=>", "]"),
-    "[ load => r1 ]": ("a register", "=>"),
-    "[ load rA => r1 ]": ("a register", "rA"),
-    "[ loadI r1 => r2 ]": ("a number", "r1"),
-    "[ output ]": ("a number", "]"),
-    "[ output -4 ]": ("a number", "-"),
-    "[ loadI 4 -> r1 ]": ("=>", "-"),
-    "[ add r1 r2 => r3 ; nop ]": ("a comma", "r2"),
-    "[ loadAI r1, r12 => r3 ; nop ]": ("a number", "r12"),
-    "[ load 12 => r1 ]": ("a register", "12"),
-    "[//]": ("an operation", "//"),
-    "[\x00]": ("an operation", "?"),
-    "[ mult r1, r2 => r3 add r1, r2 => r3 ]": ("; or ]", "add"),
-    "[ add r1, r2 => r3 r3 ; nop ]": ("; or ]", "r3"),
-    "[ nop ; nop ] [ nop ; nop ]": ("end of line", "["),
-    "[ output 99999999999 ; add r1 r2 => r3 ]": ("a number up to 2147483647", "99999999999"),
-    "[ jump r1 ; nop ]": ("an operation", "jump"),
-    "[ nop ; addi r1, 2 => r2 ]": ("an operation", "addi"),
-    "[ nop ; add r1 => r2 ]": ("a comma", "=>"),
-    "[ a_word_of_21_letters_ ]": ("an operation", "a_word_of_21_letters"),
-}
+# Lines that can't be read only among rows: alone after a block they would be of the block.
+OF_A_BLOCK = {"output 0", "nop", "b:", "add r1, r2 => r3"}
 TOO_LARGE = {"block 2147483648 b": "2147483648", "block 99999999999999999999 a": "99999999999999999999",
              "cycles 2147483648": "2147483648", "total 4294967296 // wide": "4294967296",
              "[ output 2147483648 ; nop ]": "2147483648", "[ output 2147483648 ]": "2147483648",
@@ -380,6 +161,30 @@ NOTHING_TO_JUDGE = ["", "\n", "// none", "total 0\n", "// none\n\ntotal 7 // sev
 EARLIEST = [("a:\nb:\nblock 2 b\n[ nop ; nop ]\nblock 1 a", 5, NONE), ("add r1 r2 => r3\n[ nop ; nop ]\nfoo", 1, BAD),
             ("a:\nfoo\nblock 2 a\n", 2, BAD), ("a:\nb:\ntotal 1\nfoo\nblock 3 c", 4, BAD), ("a:\ncycles 1\nfoo\nblock 3 c", 4, NONE),
             ("a:\noutput 2147483648\nfoo\n[ nop ; nop ]", 2, LARGE)]
+
+
+def text_of(name):
+    with open(os.path.join(os.path.dirname(os.path.abspath(__file__)), name), encoding="ascii", newline="") as file:
+        return file.read()
+
+
+def plain(text):
+    """What a text of these files stands for: `\\` and a line end for none, and bytes that can't be shown by their numbers."""
+    return text.encode().decode("unicode_escape")
+
+
+def listed_rows():
+    """Of each case of rows.cases its name with a text of blocks and rows, what `check` lists of it and, of some, what it does
+    with --json."""
+    for case in re.split(r"^= ", text_of("rows.cases"), flags=re.MULTILINE)[1:]:
+        name, rest = re.sub("^#.*\n", "", case, flags=re.MULTILINE).split("\n", 1)
+        text, *listings = re.split(r"^-\n", rest, flags=re.MULTILINE)
+        yield name, (plain(text), *(it.rstrip("\n") + "\n" for it in listings))
+
+
+LISTED = dict(listed_rows())
+# Lines among rows that can't be read, with what is wanted where each stops, and what is found there.
+UNREAD = {plain(line): said for line, *said in (it.split("\t") for it in text_of("unread.tsv").splitlines())}
 
 
 def spread(text, apart=6, product_unit=1):
@@ -425,7 +230,13 @@ def listed(name, text, *entries):
     found = [ENTRY.fullmatch(f"{it}\n".encode()) for it in entries]
     sums = [sum(int(it[number]) for it in found) for number in (4, 5, 6)]
     out = "".join(f"{it}\n" for it in [*entries, "total {} ours {} least {}".format(*sums)])
-    return Run(f"judged/{name}", WORDS, text.encode("latin-1"), out.encode(), b"", status_of(it[3].decode() for it in found))
+    return of_listing(name, text, out)
+
+
+def of_listing(name, text, out, in_json=""):
+    """A case of a text and what is listed of it, or what is with `--json`."""
+    words, status = [*WORDS, *["--json"] * bool(in_json)], status_of(it[3].decode() for it in ENTRY.finditer(out.encode("latin-1")))
+    return Run(f"judged/{name}", words, text.encode("latin-1"), (in_json or out).encode("latin-1"), b"", status)
 
 
 def only_lawful():
@@ -491,7 +302,7 @@ def judged_cases():
                  "output 1: 2 for 0 with --at 1032 2")
     yield judged("product_on_unit_0", SQUARE + spread(SQUARE, product_unit=0), "units",
                  "row 12: [ mult r2, r2 => r3 ; nop ]: a product on unit 0")
-    yield from (listed(f"listed_{name}", *it) for name, it in LISTED.items())
+    yield from (of_listing(f"listed_{name}", text, out) for name, (text, out, *_) in LISTED.items())
     yield Run("judged/our_rows_for_two_outputs", ["schedule"], b"output 0\noutput 4\n",
                b"block 1 -\n[ output 0 ; nop ]\n[ output 4 ; nop ]\ncycles 2\ntotal 2\n", b"", 0)
     yield from refusals()
@@ -504,7 +315,7 @@ def refusals():
         yield Run(f"judged/bad_start_{words[1]}", ["check", *words], b"a:", b"", b"ilocfarm: --at is not a multiple of 4\n", 2)
     for words in (["--workers", "2"], ["--load", "0"], ["--store", "17"], ["4294967296"]):
         yield Run(f"judged/refused_words_{'_'.join(words)}", ["check", *words], b"a:", b"", None, 2)
-    for line in UNREAD.keys() - OF_A_BLOCK.keys() - {"add r1, r2 => r3"}:
+    for line in UNREAD.keys() - OF_A_BLOCK:
         yield refused(f"unread_at_once: {line!r}", f"a: output 0\n{line}", f"line 2: {BAD}")
     for text in UNREAD_OF_NONE:
         yield refused(f"unread_of_none: {text!r}", text, f"line 3: {BAD}")
