@@ -1,75 +1,12 @@
 """What `lint` says of wrong lines, one by one; its hints; and its texts at the limits."""
-from harness.program import ending, told
-from harness.suite import Case, Check, table
+from harness.program import TOP, ending, told
+from harness.suite import Case, Check, rows_of, table
 from limits import MOST_BLOCKS, MOST_BYTES, MOST_OPERATIONS
 
-UTF_16 = "the text is in UTF-16: save it as UTF-8"
 # So many faults are listed.
 MOST_LISTED = 1000
-# A line, what is said of it, and how many bytes of it can be read.
-WRONG = [
-    (b"loadi 5 => r1", 'no such opcode "loadi": loadI?', 4),
-    (b"LOAD r1 => r2", 'no such opcode "LOAD": load?', 0),
-    (b"addd r1, r2 => r3", 'no such opcode "addd": add?', 3),
-    (b"ad r1, r2 => r3", 'no such opcode "ad": add?', 2),
-    (b"div r1, r2 => r3", "div isn't an operation of this language", 0),
-    (b"i2i r1 => r2", "i2i isn't an operation of this language", 0),
-    (b"cbr r1 -> L1, L2", "cbr isn't an operation of this language", 0),
-    (b"foo", 'no such opcode "foo"', 0),
-    (b"L1 add r1, r2 => r3", 'no such opcode "L1": a label ends with ":"', 0),
-    (b"1: nop", 'no such opcode "1"', 0),
-    (b"a: b: nop", 'no such opcode "b"', 3),
-    (b"nop nop", 'expected the end of the line, found "nop"', 4),
-    (b"add rA, r2 => r3", 'expected a register, found "rA"', 5),
-    (b"add r1 r2 => r3", 'expected ",", found "r2"', 7),
-    (b"add r1, r2, r3", 'expected "=>", found ","', 10),
-    (b"add r1, r2 = r3", 'expected "=>", found "="', 12),
-    (b"add r1, r2 -> r3", 'expected "=>", found "-"', 11),
-    (b"add r1, r2 => r3 r4", 'expected the end of the line, found "r4"', 17),
-    (b"add r1, r2 =>", "expected a register, found the end of the line", 13),
-    (b"add r1,", "expected a register, found the end of the line", 7),
-    (b"add", "expected a register, found the end of the line", 3),
-    (b"add,r1", 'expected a register, found ","', 3),
-    (b"add r1, 5 => r3", 'expected a register, found "5"', 8),
-    (b"addI r1, r2 => r3", 'expected a number, found "r2"', 9),
-    (b"addI r1, -5 => r3", 'expected a number, found "-"', 9),
-    (b"add r 1, r2 => r3", 'expected a register, found "r"', 5),
-    (b"add R1, r2 => r3", 'expected a register, found "R1"', 4),
-    (b"loadI r1 => r2", 'expected a number, found "r1"', 6),
-    (b"loadI 5, r1", 'expected "=>", found ","', 7),
-    (b"loadI 0x10 => r1", 'expected a number, found "0x10"', 7),
-    (b"loadI 5 => 6", 'expected a register, found "6"', 11),
-    (b"loadI 2147483648 => r1", "a number above 2147483647", 15),
-    (b"load r4294967296 => r1", "a number above 2147483647", 15),
-    (b"output 00000000000000002147483649", "a number above 2147483647", 32),
-    (b"loadI 99999999999 r1", "a number above 2147483647", 15),
-    (b"load r1 => r2x", 'expected a register, found "r2x"', 13),
-    (b"load r1, 4 => r2", 'expected "=>", found ","', 7),
-    (b"loadAI r1 => r2", 'expected ",", found "=>"', 10),
-    (b"store r1 => r2, 4", 'expected the end of the line, found ","', 14),
-    (b"storeAI r1, 4 => r2", 'expected "=>", found ","', 10),
-    (b"output r4", 'expected a number, found "r4"', 7),
-    (b"output", "expected a number, found the end of the line", 6),
-    (b"output 4 5", 'expected the end of the line, found "5"', 9),
-    (b"nop ; comment", 'expected the end of the line, found ";"', 4),
-    (b"# comment", 'expected an operation or "//", found "#"', 0),
-    (b"/ comment", 'expected an operation or "//", found "/"', 1),
-    (b"[ add r1, r2 => r3 ; nop ]", 'expected an operation or "//", found "["', 0),
-    (b"a : add r1, r2 => r", 'expected a register, found "r"', 19),
-    (b"=> r1", 'expected an operation or "//", found "=>"', 0),
-    (b"\tadd\tr1,\x0br2 => r3", 'expected a register, found "?"', 8),
-    (b"add r1, r2 => r3\xc3\xa9", 'expected the end of the line, found "?"', 16),
-    (b"\xef\xbb\xbfnop", "the text begins with a byte-order mark: save it without one", 0),
-    (b"\xff\xfen\0o\0p\0", UTF_16, 0),
-    (b"\xfe\xff\0n\0o\0p\0", UTF_16, 0),
-    (b"\0n\0o\0p\0", UTF_16, 0),
-    (b"n\0o\0p\0", UTF_16, 1),
-    (b"\0", UTF_16, 0),
-    (b"add r1\r, r2 r3\r", 'expected "=>", found "r3"', 12),
-    (b"nop \0", 'expected the end of the line, found "?"', 4),
-    (b"averylongwordthatisnoopcodeofanykind r1", 'no such opcode "averylongwordthatisnoopc.."', 1),
-    (b"nop" + b" " * 100 + b"x" * 100, 'expected the end of the line, found "xxxxxxxxxxxxxxxxxxxxxxxx.."', 103),
-]
+# Of each line of lint.tsv a line of text, what is said of it, and how many bytes of it can be read.
+WRONG = [(line.encode("latin-1"), what, int(at)) for line, what, at in rows_of(f"{TOP}/tests/cases/lint.tsv")]
 ALONE = b"hint: each operation has a label, so each is a block of its own\n"
 HINTS = [
     (b"loadI 4 => r1\nstore r1 => r1\n", b""),

@@ -34,6 +34,17 @@ class Check(Case):
             self.fail("\n".join(wrong[:SHOWN]) + (f"\nand {len(wrong) - SHOWN} more" if len(wrong) > SHOWN else ""))
 
 
+def plain(text):
+    """What a text in a file of cases stands for: `\\` and a line end for none, and bytes that can't be shown by their numbers."""
+    return text.encode().decode("unicode_escape")
+
+
+def rows_of(path):
+    """The rows of a table of cases, the first cell of each as it stands for a text."""
+    with open(path, encoding="ascii") as file:
+        return [[plain(first), *others] for first, *others in (it.rstrip("\n").split("\t") for it in file)]
+
+
 def table(cases):
     """By this unittest loads a module's cases that come of a table."""
     def load_tests(_, tests, __):

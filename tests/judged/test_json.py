@@ -4,7 +4,7 @@ import json
 from harness.program import Run, ending, told
 from harness.suite import Check, table
 from judged.students import RIGHT, WRONG
-from judged.test_rows import LISTED, SAME, SHOWN, UNLIKE, UNREAD, VERDICTS, WORDS, of_listing, spread
+from judged.test_rows import LISTED, SAME, SHOWN, UNLIKE, UNREAD, VERDICTS, WORDS, spread
 from judged.test_students import handed_in
 
 
@@ -63,8 +63,7 @@ def texts_of(*tables):
 
 
 def json_cases():
-    for name, (text, out, *said) in LISTED.items():
-        yield from (of_listing(f"json/{name}", text, out, it) for it in said)
+    yield from (it.case(f"json/{name}", it.in_json) for name, it in LISTED.items() if it.in_json)
     yield Run("judged/json/two_forms", ["check", "--json", "--csv"], b"a:", b"", b"ilocfarm: --csv and --json exclude each other\n", 2)
     yield Run("judged/json/other_commands", ["counts", "--json"], b"a:", b"", None, 2)
     yield Check("judged/json/tables", are_the_same, texts_of(SAME, VERDICTS, UNLIKE))

@@ -1,10 +1,10 @@
 """Rows with their blocks and the verdicts due, and lines of schedules that are refused; memory has 9 at 4, else 0."""
-import os
 import re
+from typing import NamedTuple
 
 from forms import USUAL
-from harness.program import Run, ending, told
-from harness.suite import Check, table
+from harness.program import TOP, Run, ending, told
+from harness.suite import Check, plain, rows_of, table
 from limits import MOST_BLOCKS, MOST_BYTES, MOST_OPERATIONS
 from oracle.book import MOST_FACTS
 from oracle.judge import ENTRY, NOT_SAME, entries_of, operations_of, status_of, total
@@ -163,28 +163,33 @@ EARLIEST = [("a:\nb:\nblock 2 b\n[ nop ; nop ]\nblock 1 a", 5, NONE), ("add r1 r
             ("a:\noutput 2147483648\nfoo\n[ nop ; nop ]", 2, LARGE)]
 
 
-def text_of(name):
-    with open(os.path.join(os.path.dirname(os.path.abspath(__file__)), name), encoding="ascii", newline="") as file:
-        return file.read()
+class Listed(NamedTuple):
+    """A text of blocks and rows, what `check` lists of it with these options and, of some, what it does with --json."""
+    text: str
+    options: list
+    out: str
+    in_json: str = ""
 
-
-def plain(text):
-    """What a text of these files stands for: `\\` and a line end for none, and bytes that can't be shown by their numbers."""
-    return text.encode().decode("unicode_escape")
+    def case(self, name, in_json=""):
+        words = [*WORDS, *self.options, *["--json"] * bool(in_json)]
+        status = status_of(it[3].decode() for it in ENTRY.finditer(self.out.encode("latin-1")))
+        return Run(f"judged/{name}", words, self.text.encode("latin-1"), (in_json or self.out).encode("latin-1"), b"", status)
 
 
 def listed_rows():
-    """Of each case of rows.cases its name with a text of blocks and rows, what `check` lists of it and, of some, what it does
-    with --json."""
-    for case in re.split(r"^= ", text_of("rows.cases"), flags=re.MULTILINE)[1:]:
-        name, rest = re.sub("^#.*\n", "", case, flags=re.MULTILINE).split("\n", 1)
+    """The cases of rows.cases, by name."""
+    with open(f"{TOP}/tests/judged/rows.cases", encoding="ascii") as file:
+        cases = re.split(r"^= ", file.read(), flags=re.MULTILINE)[1:]
+    for case in cases:
+        head, rest = re.sub("^#.*\n", "", case, flags=re.MULTILINE).split("\n", 1)
         text, *listings = re.split(r"^-\n", rest, flags=re.MULTILINE)
-        yield name, (plain(text), *(it.rstrip("\n") + "\n" for it in listings))
+        name, *options = head.split()
+        yield name, Listed(plain(text), options, *(it.rstrip("\n") + "\n" for it in listings))
 
 
 LISTED = dict(listed_rows())
 # Lines among rows that can't be read, with what is wanted where each stops, and what is found there.
-UNREAD = {plain(line): said for line, *said in (it.split("\t") for it in text_of("unread.tsv").splitlines())}
+UNREAD = {line: said for line, *said in rows_of(f"{TOP}/tests/judged/unread.tsv")}
 
 
 def spread(text, apart=6, product_unit=1):
@@ -230,13 +235,7 @@ def listed(name, text, *entries):
     found = [ENTRY.fullmatch(f"{it}\n".encode()) for it in entries]
     sums = [sum(int(it[number]) for it in found) for number in (4, 5, 6)]
     out = "".join(f"{it}\n" for it in [*entries, "total {} ours {} least {}".format(*sums)])
-    return of_listing(name, text, out)
-
-
-def of_listing(name, text, out, in_json=""):
-    """A case of a text and what is listed of it, or what is with `--json`."""
-    words, status = [*WORDS, *["--json"] * bool(in_json)], status_of(it[3].decode() for it in ENTRY.finditer(out.encode("latin-1")))
-    return Run(f"judged/{name}", words, text.encode("latin-1"), (in_json or out).encode("latin-1"), b"", status)
+    return Listed(text, [], out).case(name)
 
 
 def only_lawful():
@@ -302,7 +301,7 @@ def judged_cases():
                  "output 1: 2 for 0 with --at 1032 2")
     yield judged("product_on_unit_0", SQUARE + spread(SQUARE, product_unit=0), "units",
                  "row 12: [ mult r2, r2 => r3 ; nop ]: a product on unit 0")
-    yield from (of_listing(f"listed_{name}", text, out) for name, (text, out, *_) in LISTED.items())
+    yield from (it.case(f"listed_{name}") for name, it in LISTED.items())
     yield Run("judged/our_rows_for_two_outputs", ["schedule"], b"output 0\noutput 4\n",
                b"block 1 -\n[ output 0 ; nop ]\n[ output 4 ; nop ]\ncycles 2\ntotal 2\n", b"", 0)
     yield from refusals()

@@ -11,8 +11,8 @@ from hostile.test_texts import KINDS, changed_texts
 from judged.labs import Given
 from judged.students import RIGHT, WRONG, ours
 from oracle.drawn import lab_block, made_block
-from oracle.judge import AT, ENTRY, NOT_SAME, entries_of, proposed, request, wrong_ending
-from oracle.machine import cycles, words_from
+from oracle.judge import ENTRY, NOT_SAME, proposed, request, wrong_ending
+from oracle.machine import cycles
 from oracle.operations import text_of, words_for
 from oracle.scheduler import Schedule
 
@@ -67,37 +67,7 @@ def handed_in(seed, name, kind):
     return text
 
 
-def judging_cases():
-    for seed, (name, latencies) in enumerate(EACH_LATENCIES.items()):
-        text = handed_in(seed, name, ours)
-        yield listed(f"judging/ours_{name}", text, latencies)
-    for kind in WRONG:
-        yield from settled(kind)
-
-
-def listed(name, text, latencies, words=()):
-    """A case of a text for which all verdicts are known."""
-    return Check(name, wrongly_listed, text, latencies, words)
-
-
-def wrongly_listed(text, latencies, words):
-    return wrong_ending(ending(request(latencies, words), text), text, latencies, words)
-
-
-def settled(kind):
-    """A case of all blocks whose verdict the units, the book or the words of memory decide, if there are some."""
-    chance = random.Random(kind.__name__)
-    blocks, givens = given_blocks(7, "usual", 40)
-    rows = [kind(chance, given) for given in givens]
-    files = [text_of([ops]) + proposed(1, "B1", it) for ops, it in zip(blocks, rows) if it is not None]
-    for number, text in enumerate(files):
-        entry, = entries_of(text, USUAL, words_from(AT, WORDS))
-        if entry.settled():
-            yield listed(f"judging/{kind.__name__}_{number}", text, USUAL, WORDS)
-
-
 def judging_checks():
-    yield from judging_cases()
     yield Check("judging/own/stored", own_listings, stored_texts())
     yield Check("judging/own/made", own_listings, made_texts(FILES if TESTED.is_short else ALL_FILES))
     for kind in (*RIGHT, *WRONG):

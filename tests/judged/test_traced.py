@@ -7,7 +7,7 @@ from forms import USUAL
 from harness.program import TESTED, TOP, ending, stored, told
 from harness.suite import Check, table
 from judged.students import RIGHT, WRONG
-from judged.test_apart import CLASS, parts
+from judged.test_apart import parts
 from judged.test_rows import LISTED
 from judged.test_students import EACH_LATENCIES, LINES, WORDS, given_blocks, ours
 from oracle.drawn import made_block
@@ -23,28 +23,6 @@ SEEDS, ALL_SEEDS = 2, 20
 PASSED, FAILED = 0, 5
 # What `check` has below a verdict on rows that aren't traced.
 UNTRACED = re.compile(rb"^block .* (?:unread|units) cycles .*\n(  (?:line|row) .*)", re.M)
-# Ben's rows with 3 and 4 from 1024 on: he reads r2 a cycle before the load of it arrives.
-BEN = b"""\
-block 1 both
-issue 0 unit 0 loadI 1024 => r0
-write 1 r0 = 1024 was 0 from 0
-issue 1 unit 0 loadAI r0, 0 => r1 reads r0 = 1024, word 1024 = 3
-issue 2 unit 0 loadAI r0, 4 => r2 reads r0 = 1024, word 1028 = 4
-write 6 r1 = 3 was 0 from 1
-issue 6 unit 0 add r1, r2 => r3 reads r1 = 3, r2 = 0 until 7
-write 7 r2 = 4 was 0 from 2
-write 7 r3 = 3 was 0 from 6
-issue 7 unit 0 storeAI r3 => r0, 8 reads r3 = 3, r0 = 1024
-issue 7 unit 1 sub r1, r2 => r4 reads r1 = 3, r2 = 4
-write 8 r4 = -1 was 0 from 7
-issue 8 unit 0 storeAI r4 => r0, 12 reads r4 = -1, r0 = 1024
-write 12 word 1032 = 3 was 0 from 7
-write 13 word 1036 = -1 was 0 from 8
-issue 13 unit 0 output 1032 emits word 1032 = 3
-issue 14 unit 0 output 1036 emits word 1036 = -1
-"""
-
-
 def entry(number, rows, latencies):
     """The entry of a block, and whether its rows are traced."""
     bad = bad_row(rows)
@@ -80,13 +58,6 @@ def of_kind(kind):
             blocks, givens = given_blocks(seed, name)
             rows = [kind(chance, given) or ours(chance, given) for given in givens]
             yield from wrongly_traced(blocks, rows, latencies)
-
-
-def ben():
-    with open(f"{CLASS}/submissions/ben/both.rows", "rb") as file:
-        got = ending(["trace", "--task", f"{CLASS}/tasks/both.iloc", "3", "4"], file.read())
-    if got != (PASSED, BEN, b""):
-        yield told(got)
 
 
 def as_scheduled():
@@ -133,7 +104,6 @@ def in_either_slot():
 
 
 def traced_cases():
-    yield Check("traced/ben", ben)
     yield Check("traced/drawn", drawn)
     for kind in (*RIGHT, *WRONG):
         yield Check(f"traced/students/{kind.__name__}", of_kind, kind)
