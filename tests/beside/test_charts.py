@@ -4,6 +4,7 @@ import re
 import time
 from xml.etree import ElementTree
 
+from harness.browser import LEAST_CONTRAST, contrast
 from harness.place import Place
 from harness.program import TOP
 from oracle.drawn import lab_block
@@ -41,9 +42,8 @@ block 2 dot differs cycles 19 ours 22 least 20 claimed 8
   output 2: 7 for 8
 total 33 ours 36 least 33
 """
-# The grounds of pages, and the least contrast of a text to what it is on.
+# The grounds of pages.
 GROUNDS = {"light": "#ffffff", "dark": "#0d1117"}
-LEAST_CONTRAST = 4.5
 INKS = re.compile(r"\.ink \{ fill: (#\w{6}); \}.*@media \(prefers-color-scheme: dark\) \{ \.ink \{ fill: (#\w{6}); \}")
 ON_FILL = re.compile(r"\.on \{ fill: (#\w{6}); \}")
 CHAIN_OUTLINE = "#e5484d"
@@ -55,18 +55,6 @@ EDGE = re.compile(r'        b(\d+)_(\d+) -> b\1_(\d+) \[label="(\d+)"')
 
 def tooltips(root):
     return [it.find(f"{SVG}title").text for it in root.iter(f"{SVG}g")]
-
-
-def luminance(colour):
-    """As WCAG has it, of `#rrggbb` or `white`."""
-    parts = [int(colour[at:at + 2], 16) / 255 for at in (1, 3, 5)] if colour != "white" else [1, 1, 1]
-    red, green, blue = (it / 12.92 if it <= 0.04045 else ((it + 0.055) / 1.055) ** 2.4 for it in parts)
-    return 0.2126 * red + 0.7152 * green + 0.0722 * blue
-
-
-def contrast(one, other):
-    low, high = sorted(luminance(it) + 0.05 for it in (one, other))
-    return high / low
 
 
 def height(part):

@@ -4,10 +4,10 @@ from functools import cache
 
 from forms import USUAL
 from judged.labs import Given
-from judged.students import RIGHT, WRONG, ours
+from judged.students import RIGHT, WRONG
 from oracle.drawn import lab_block
 from oracle.judge import AT, MEMORIES, Entry, operations_of, proposed, why_void
-from oracle.machine import cycles, memories, outcome, signed, words_from
+from oracle.machine import memories, outcome, signed, words_from
 from oracle.operations import Op, text_of
 from oracle.reader import Block
 from oracle.scheduler import Schedule
@@ -85,6 +85,3 @@ def keeps_operations(made, rows):
 
 def text(rows, claim=None):
     return proposed(1, "B1", rows, claim)
-
-
-__all__ = ["KINDS", "RIGHT", "cycles", "handed_in", "keeps_operations", "ours", "students", "tasks", "text"]

@@ -6,7 +6,6 @@ from grading.test_class import BOTH, Graded
 from grading.test_hostile import RIGHT
 from harness.program import TESTED, TOP, needs
 
-SOLUTION = f"{TOP}/{BOTH}/both.iloc"
 # By name the program's lines, the verdict and the points.
 PROGRAMS = {
     "right": ("cat > given; cat rows", "lawful", 10),

@@ -4,7 +4,7 @@ import os
 import re
 
 from grading.test_class import BOTH, Graded
-from harness.browser import Browser
+from harness.browser import LEAST_CONTRAST, Browser, contrast
 from harness.program import TOP
 
 BEN = "examples/class/submissions/ben"
@@ -88,18 +88,8 @@ class Sites(Graded):
             self.expect("page as wide as the screen", browser.value("document.documentElement.scrollWidth <= innerWidth"), True)
             colours = browser.value("[...document.querySelectorAll('td, th')].map(it => "
                                     "[getComputedStyle(it).color, getComputedStyle(it).backgroundColor].join('; '))")
-            self.expect("texts of too little contrast", [it for it in set(colours) if ratio(it) < 4.5], [])
-            if folder := os.environ.get("SHOTS"):
-                browser.shot(f"{folder}/report-{width}-{scheme}.png")
+            faint = [it for it in set(colours) if contrast(*it.split("; ")) < LEAST_CONTRAST]
+            self.expect("texts of too little contrast", faint, [])
         tree = browser.tree()
         self.expect("rows", (sum(role == "row" for role, _ in tree), ("heading", "Grades") in tree), (10, True))
         self.expect("problems", browser.problems, [])
-
-
-def ratio(colours):
-    """The contrast of two colours `rgb(R, G, B)`, as WCAG has it."""
-    def luminance(colour):
-        parts = [int(it) / 255 for it in re.findall(r"\d+", colour)[:3]]
-        return sum(share * (it / 12.92 if it <= 0.04045 else ((it + 0.055) / 1.055) ** 2.4) for share, it in zip((0.2126, 0.7152, 0.0722), parts))
-    low, high = sorted(luminance(it) + 0.05 for it in colours.split("; "))
-    return high / low

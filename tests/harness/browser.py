@@ -1,7 +1,7 @@
-"""Drives Chromium through a pipe: no package, no port, no driver."""
-import base64
+"""Drives Chromium through a pipe, with no package, port or driver; and how well a text is read."""
 import json
 import os
+import re
 import shutil
 import subprocess
 import tempfile
@@ -11,6 +11,25 @@ PROGRAMS = ("chromium", "chromium-browser", "google-chrome")
 CODES = {"ArrowLeft": 37, "ArrowRight": 39, "Home": 36, "End": 35, "Tab": 9}
 FLAGS = ("--headless", "--no-sandbox", "--disable-gpu", "--hide-scrollbars", "--no-first-run", "--disable-dev-shm-usage",
          "--remote-debugging-pipe", "about:blank")
+
+
+# Of a text to what it is on.
+LEAST_CONTRAST = 4.5
+
+
+def luminance(colour):
+    """As WCAG has it, of `#rrggbb`, `rgb(R, G, B)` or `white`."""
+    numbers = [255] * 3 if colour == "white" else re.findall(r"\d+", colour)[:3]
+    if colour.startswith("#"):
+        numbers = bytes.fromhex(colour[1:])
+    parts = [int(it) / 255 for it in numbers]
+    return sum(share * (it / 12.92 if it <= 0.04045 else ((it + 0.055) / 1.055) ** 2.4)
+               for share, it in zip((0.2126, 0.7152, 0.0722), parts))
+
+
+def contrast(one, other):
+    low, high = sorted(luminance(it) + 0.05 for it in (one, other))
+    return high / low
 
 
 def program():
@@ -82,10 +101,6 @@ class Browser:
 
     def seen_on(self, media="", scheme="light"):
         self.call("Emulation.setEmulatedMedia", media=media, features=[{"name": "prefers-color-scheme", "value": scheme}])
-
-    def shot(self, path):
-        with open(path, "wb") as file:
-            file.write(base64.b64decode(self.call("Page.captureScreenshot", format="png")["data"]))
 
     def tree(self):
         """What a screen reader meets: role and name of each part."""
