@@ -4,6 +4,7 @@ import re
 import time
 from xml.etree import ElementTree
 
+from cases.test_stored import CASES, read
 from harness.browser import LEAST_CONTRAST, contrast
 from harness.place import Place
 from harness.program import TOP
@@ -11,32 +12,12 @@ from oracle.drawn import lab_block
 from oracle.operations import text_of
 
 SVG = "{http://www.w3.org/2000/svg}"
-# The stored case product_and_sum, whose listings there give cycles and reasons.
-BLOCK = b"""loadI 4 => r1
-loadI 8 => r2
-mult r1, r2 => r3
-load r1 => r4
-add r3, r4 => r5
-store r5 => r2
-output 8
-"""
+# A stored case, and its listing.
+BLOCK, EXPLAINED = (read(f"{CASES}/product_and_sum.{it}", None) for it in ("in", "explain.out"))
 ISSUED = ["loadI 4 => r0: unit 0, issued at 0, arrives at 1", "loadI 8 => r1: unit 1, issued at 0, arrives at 1",
           "load r0 => r3: unit 0, issued at 1, arrives at 6", "mult r0, r1 => r2: unit 1, issued at 1, arrives at 4",
           "add r2, r3 => r4: unit 0, issued at 6, arrives at 7", "store r4 => r1: unit 0, issued at 7, arrives at 12",
           "output 8: unit 0, issued at 12, arrives at 13"]
-EXPLAINED = b"""block 1 -
-0 cycle 0 unit 0 ready 0 after - priority 13 earliest 0 slack 0 held - loadI 4 => r1 ; loadI 4 => r0
-1 cycle 0 unit 1 ready 0 after - priority 11 earliest 0 slack 2 held - loadI 8 => r2 ; loadI 8 => r1
-2 cycle 1 unit 1 ready 1 after 0,1 priority 10 earliest 1 slack 2 held - mult r1, r2 => r3 ; mult r0, r1 => r2
-3 cycle 1 unit 0 ready 1 after 0 priority 12 earliest 1 slack 0 held - load r1 => r4 ; load r0 => r3
-4 cycle 6 unit 0 ready 6 after 3 priority 7 earliest 6 slack 0 held - add r3, r4 => r5 ; add r2, r3 => r4
-5 cycle 7 unit 0 ready 7 after 4 priority 6 earliest 7 slack 0 held - store r5 => r2 ; store r4 => r1
-6 cycle 12 unit 0 ready 12 after 5 priority 1 earliest 12 slack 0 held - output 8 ; output 8
-cycles 13 least 13 optimal
-chain 0 3 4 5 6
-path 0 +1 3 +5 4 +1 5 +5 6 +1
-total 13
-"""
 CHECKED = b"""block 1 sum lawful cycles 14 ours 14 least 13
 block 2 dot differs cycles 19 ours 22 least 20 claimed 8
   output 2: 7 for 8

@@ -15,19 +15,9 @@ from oracle.trace import trace
 WORDS = [3, 4_294_967_295, 8, 70, 5, 1_000_000]
 ODD = {"load": 1, "store": 2, "mult": 16}
 SHORT = {"load": 1, "store": 1, "mult": 1}
-STORES_7 = "loadI 1024 => r0\nloadI 7 => r1\nstore r1 => r0\noutput 1024\n"
 # All but the first two wait for others.
 SEVEN_OPERATIONS = ("loadI 4 => r1\nloadI 8 => r2\nmult r1, r2 => r3\nload r1 => r4\nadd r3, r4 => r5\n"
                     "store r5 => r2\noutput 8\n")
-PRODUCTS_BESIDE_A_LOAD = "add r1, r1 => r2\nmult r2, r2 => r3\nmult r3, r3 => r4\nload r1 => r5\n"
-IMMEDIATE_FORMS = ("loadI 1024 => r0\nloadI 7 => r1\nstoreAI r1 => r0, 8\nloadAI r0, 8 => r2\nmultI r2, 6 => r3\n"
-                   "subI r3, 2 => r4\nstoreAI r4 => r0, 12\noutput 1032\noutput 1036\n")
-# Blocks, latencies, and the priorities of the operations.
-PRIORITIES = [
-    (STORES_7, USUAL, [7, 7, 6, 1]), (SEVEN_OPERATIONS, USUAL, [13, 11, 10, 12, 7, 6, 1]),
-    (SEVEN_OPERATIONS, SHORT, [5, 5, 4, 4, 3, 2, 1]), (PRODUCTS_BESIDE_A_LOAD, USUAL, [7, 6, 3, 5]),
-    (IMMEDIATE_FORMS, USUAL, [22, 22, 21, 16, 11, 8, 7, 2, 1]),
-]
 # What `compare` lists before the cycles by each order, without a search and with one.
 COMPARED_TO = (("least",), ("least", "bound", "best"))
 FOUR_CONSTANTS = "loadI 1 => r1\nloadI 2 => r2\nloadI 3 => r3\nloadI 4 => r4\n"
@@ -128,10 +118,8 @@ def drawn_cases():
         chance = random.Random(f"latencies {seed}")
         latencies = {name: chance.randint(1, most) for name, most in (("load", 3), ("store", 16), ("mult", 16))}
         yield from made(f"drawn_{seed}", [made_block(chance) for _ in range(20)], latencies)
-    for number, (text, latencies, priorities) in enumerate(PRIORITIES):
-        yield known(f"priorities_{number}", text, latencies, priorities=priorities, ranks=priorities)
-    for number, (text, latencies, least) in enumerate(LEAST):
-        yield known(f"least_{number}", text, latencies, least=lambda least=least: least)
+    for number, it in enumerate(LEAST):
+        yield known(f"least_{number}", *it)
 
 
 def made(name, blocks, latencies):
@@ -161,11 +149,11 @@ def by_orders(name, blocks, latencies):
                      [command, "--priority", by, *words, "--at", "0", *map(str, WORDS)])
 
 
-def known(name, text, latencies, **told):
-    """A case of one block of which this is known, in place of what is worked out."""
+def known(name, text, latencies, least):
+    """A case of one block of which the least is known, in place of what is worked out."""
     block, = read(text.encode())
     schedule = Schedule(block.ops, latencies)
-    vars(schedule).update(told)
+    schedule.least = lambda: least
     lines = [f"block 1 {block.name}", *schedule.lines(), f"total {schedule.cycles()}", ""]
     return listed(f"drawn/{name}", text.encode(), "\n".join(lines).encode(), ["explain", *words_for(latencies)])
 

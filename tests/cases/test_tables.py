@@ -1,20 +1,16 @@
 """Tables of comma-separated values: what Python's csv, pandas and R read of them."""
 import csv
 import io
-import random
 import re
 import subprocess
 import unittest
 
 from cases import test_stored
-from forms import USUAL
 from harness.program import SECONDS, ending, needs
 from harness.suite import Check, table
-from oracle.drawn import lab_block
 from oracle.judge import ENTRY, NOT_SAME
-from oracle.operations import text_of
 from oracle.reader import read
-from oracle.scheduler import ORDERS, Schedule
+from oracle.scheduler import ORDERS
 
 CHECK_HEAD = ["block", "name", "verdict", "cycles", "ours", "least", "claimed"]
 UNNAMED = b"output 0\nempty:\nA: output 4\nA: load r1 => r2\n"
@@ -49,20 +45,6 @@ def columns(words, head):
             yield f"{found} in place of {head}"
         if [(row["block"], row["name"]) for row in rows] != [(str(k), name) for k, name in enumerate(names, 1)]:
             yield f"{rows} are not the blocks {names}"
-
-
-def cycles():
-    """Each number is that of the oracle, and each order of `compare` the column of `counts` by it."""
-    chance = random.Random(71)
-    blocks = [lab_block(chance) for _ in range(30)]
-    compared = rows_of(["compare", "--csv"], text_of(blocks))[1]
-    for by in ORDERS:
-        due = [str(Schedule(ops, USUAL, by).cycles()) for ops in blocks]
-        counted = rows_of(["counts", "--csv", "--priority", by], text_of(blocks))[1]
-        if [row["cycles"] for row in counted] != due or [row[by] for row in compared] != due:
-            yield f"{by}: other cycles"
-    if [row["least"] for row in compared] != [str(Schedule(ops, USUAL).least()) for ops in blocks]:
-        yield "another bound"
 
 
 def checked():
@@ -128,7 +110,6 @@ def table_checks():
     yield Check("tables/compare", columns, ["compare", "--csv"], ["block", "name", "least", *ORDERS])
     yield Check("tables/compare_searched", columns, ["compare", "--csv", "--nodes", "9"],
                 ["block", "name", "least", "bound", "best", *ORDERS])
-    yield Check("tables/cycles", cycles)
     yield Check("tables/check", checked)
     yield Check("tables/check_searched", searched)
     yield Check("tables/pandas", read_back, by_pandas)

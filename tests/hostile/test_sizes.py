@@ -169,9 +169,10 @@ def as_the_plain_program(name, make):
         if got.shown() != measure.run([baseline(), command], path, f"{folder()}/due").shown():
             yield f"{command}: status {got.status} or {front(got.output)[:60]!r} is other than the plain program's"
         yield from wrong
-    explained, wrong = measured(name, ["explain"], path)
-    if explained.shown()[::2] != got.shown()[::2]:
-        yield f"explain: status {explained.status} is other than that of {command}"
+    status, _, err = got.shown()
+    got, wrong = measured(name, ["explain"], path)
+    if got.shown()[::2] != (status, err):
+        yield f"explain: status {got.status} in place of {status}, or another line on standard error"
     yield from wrong
 
 
