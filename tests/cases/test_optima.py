@@ -85,7 +85,7 @@ def as_optimized(count):
 
 
 def checked(count):
-    """`check` has the best cycles and the bound after ours, in each form: with ample nodes both are the fewest cycles, which the
+    """`check` has the best cycles and the bound after ours, also in JSON: with ample nodes both are the fewest cycles, which the
     rows take that are handed in."""
     chance = random.Random("checked optima")
     for _ in range(0, count, TOGETHER):
@@ -95,7 +95,7 @@ def checked(count):
         found = [(it.cycles(), *[fewest(it)] * 2, it.least()) for it in schedules]
         words = ["--nodes", "1000", *words_for(latencies)]
         given = text_of(blocks) + listing_of(blocks, latencies)[1]
-        for due, form in ((verdicts(found), []), (verdict_table(found), ["--csv"]), (verdict_objects(found), ["--json"])):
+        for due, form in ((verdicts(found), []), (verdict_objects(found), ["--json"])):
             end = ending(["check", "--lawful", *words, *form], given)
             if end != (0, due, b""):
                 yield f"{[[*map(str, ops)] for ops in blocks]}, {latencies}: {end} in place of {due}"
@@ -109,11 +109,6 @@ def verdicts(found):
     """The listing of rows that take the best cycles, beside ours, the best, the bound and the least of each block."""
     lines = [f"block {k} B{k} lawful {numbers_of(*row)}" for k, row in enumerate(found, 1)]
     return "".join([*lines, numbers_of(*map(sum, zip(*found))).replace("cycles", "total")]).encode()
-
-
-def verdict_table(found):
-    rows = [f"{k},B{k},lawful,{best},{ours},{best},{bound},{least},{best}\n" for k, (ours, best, bound, least) in enumerate(found, 1)]
-    return "".join(["block,name,verdict,cycles,ours,best,bound,least,claimed\n", *rows]).encode()
 
 
 def verdict_objects(found):
