@@ -20,7 +20,7 @@ PATHED = re.compile(r"path (?:-|\d+(?: (?:[+=~]?\d+))*)")
 EXPLAINED = re.compile(r"(\d+) cycle (\d+) unit ([01]) ready (\d+) after (-|\d+(?:,\d+)*) priority (\d+) "
                        r"earliest \d+ slack \d+ held (?:-|free|\d+) (.+?) ; (.+)")
 NUMBER = re.compile(r"\d+")
-VERDICT = re.compile(r"block (\d+) (\S+) ([a-z]+) cycles \d+ ours \d+(?: best \d+ bound \d+)? least (\d+)(?: claimed \d+)?")
+VERDICT = re.compile(r"block (\d+) (\S+) ([a-z]+) cycles (\d+) ours (\d+)(?: best \d+ bound \d+)? least (\d+)(?: claimed \d+)?")
 WRONG_ROW = re.compile(r"(?:added \d+: |see |line \d+, )?row (\d+): .+")
 NOTHING = re.compile(r"total \d+.*")
 UNLAWFUL = re.compile(r"not lawful|undecided")
@@ -175,7 +175,7 @@ def read_blocks(lines):
         text = " ".join(COMMENT.sub("", line).split())
         if found := VERDICT.fullmatch(text):
             block = latest.get(count(found[1]), block)
-            block.judge(*found.groups()[1:])
+            block.judge(found[2], found[3], found[6])
         elif found := HEADER.fullmatch(text):
             blocks.append(block := Listed(count(found[1]), found[2]))
             latest[block.number] = block
