@@ -20,7 +20,8 @@ PATHED = re.compile(r"path (?:-|\d+(?: (?:[+=~]?\d+))*)")
 EXPLAINED = re.compile(r"(\d+) cycle (\d+) unit ([01]) ready (\d+) after (-|\d+(?:,\d+)*) priority (\d+) "
                        r"earliest \d+ slack \d+ held (?:-|free|\d+) (.+?) ; (.+)")
 NUMBER = re.compile(r"\d+")
-VERDICT = re.compile(r"block (\d+) (\S+) ([a-z]+) cycles (\d+) ours (\d+)(?: best \d+ bound \d+)? least (\d+)(?: claimed \d+)?")
+VERDICT = re.compile(r"block (\d+) (\S+) ([a-z]+) cycles (\d+) ours (\d+)(?: best \d+ bound \d+)? least (\d+)"
+                     r"(?: claimed \d+)?")
 WRONG_ROW = re.compile(r"(?:added \d+: |see |line \d+, )?row (\d+): .+")
 NOTHING = re.compile(r"total \d+.*")
 UNLAWFUL = re.compile(r"not lawful|undecided")

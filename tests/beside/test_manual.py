@@ -142,7 +142,8 @@ class Manual(Place):
         self.needs("fish")
         self.make()
         for typed, offered in IN_FISH:
-            told = self.call("fish", "--no-config", "-c", f"source made/ilocfarm.fish; complete -C '{typed}'", HOME=self.folder)
+            line = f"source made/ilocfarm.fish; complete -C '{typed}'"
+            told = self.call("fish", "--no-config", "-c", line, HOME=self.folder)
             self.expect(f"fish completes {typed}", told, (0, offered.encode(), b""))
 
     def test_tells_that_it_reads_a_terminal(self):

@@ -85,8 +85,8 @@ def as_optimized(count):
 
 
 def checked(count):
-    """`check` has the best cycles and the bound after ours, also in JSON: with ample nodes both are the fewest cycles, which the
-    rows take that are handed in."""
+    """`check` has the best cycles and the bound after ours, also in JSON: with ample nodes both are the fewest cycles, which
+    the rows take that are handed in."""
     chance = random.Random("checked optima")
     for _ in range(0, count, TOGETHER):
         latencies = odd_latencies(chance)

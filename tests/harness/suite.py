@@ -35,7 +35,8 @@ class Check(Case):
 
 
 def plain(text):
-    """What a text in a file of cases stands for: `\\` and a line end for none, and bytes that can't be shown by their numbers."""
+    """What a text in a file of cases stands for: bytes that can't be shown are there by their numbers, and `\\` before a line
+    end is for none."""
     return text.encode().decode("unicode_escape")
 
 

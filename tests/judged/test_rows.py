@@ -173,7 +173,8 @@ class Listed(NamedTuple):
     def case(self, name, in_json=""):
         words = [*WORDS, *self.options, *["--json"] * bool(in_json)]
         status = status_of(it[3].decode() for it in ENTRY.finditer(self.out.encode("latin-1")))
-        return Run(f"judged/{name}", words, self.text.encode("latin-1"), (in_json or self.out).encode("latin-1"), b"", status)
+        given, out = (it.encode("latin-1") for it in (self.text, in_json or self.out))
+        return Run(f"judged/{name}", words, given, out, b"", status)
 
 
 def listed_rows():
