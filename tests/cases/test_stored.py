@@ -14,7 +14,7 @@ From these follow more cases, since a rule of the program says so:
 """
 import os
 
-from harness.program import ALL, Run
+from harness.program import ALL, FARMED, Run
 from harness.suite import table
 
 CASES = os.path.join(os.path.dirname(os.path.abspath(__file__)), "stored")
@@ -85,7 +85,7 @@ def refused_by_all(case):
 
 
 def by_workers(case):
-    if case.words[0] in ("schedule", "counts", "compare", "optimize"):
+    if case.words[0] in FARMED:
         for workers in range(1, 9):
             yield again(case, f"workers_{workers}", [*case.words, "--workers", str(workers)])
 

@@ -15,7 +15,9 @@ TOP = os.path.dirname(os.path.dirname(os.path.dirname(os.path.abspath(__file__))
 TESTED = SimpleNamespace(program=f"{TOP}/out/ilocfarm", is_short=False)     # as tests/run was asked
 SECONDS = 120
 COMMANDS = ("run", "simulate", "schedule", "counts")     # of the plain Rust program too
-ALL = (*COMMANDS, "explain", "compare", "optimize", "check", "graph", "trace")
+FARMED = ("schedule", "counts", "compare", "optimize")   # whose blocks workers share
+ALONE = ("run", "simulate", "explain", "check", "graph", "trace")
+ALL = (*ALONE, *FARMED)
 
 
 def ending(words, given=b"", program=None, **how):

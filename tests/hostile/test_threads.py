@@ -5,13 +5,12 @@ import resource
 import shutil
 
 from bench import inputs
-from harness.program import TESTED, ending, folder, told
+from harness.program import ALL, ALONE, FARMED, TESTED, ending, folder, told
 from harness.suite import Check, table
 from limits import MOST_OPERATIONS
 from refusals.refuser import Asked, refusing
 from refusals.test_program import NO_WORKER, long_text
 
-FARMED, OTHERS = ("schedule", "counts", "compare", "optimize"), ("run", "simulate", "trace", "explain", "check", "graph")
 RUNS = 200
 STACK = 128 * 1024
 TINY = b"".join(b"B%d: loadI %d => r1\nmult r1, r1 => r2\n" % (k, k) for k in range(300))
@@ -21,7 +20,7 @@ NOBODY = 54_321
 
 def thread_checks():
     for check, commands in ((same_bytes, FARMED), (as_many_as_asked, FARMED), (as_many_that_read, FARMED), (one_processor, FARMED),
-                            (none_to_be_had, FARMED), (none_needed, OTHERS), (little_stack, (*FARMED, *OTHERS))):
+                            (none_to_be_had, FARMED), (none_needed, ALONE), (little_stack, ALL)):
         for command in commands:
             yield Check(f"threads/{check.__name__}/{command}", check, command)
 

@@ -12,7 +12,7 @@ from dataclasses import dataclass, field
 
 from bench import inputs
 from forms import USUAL
-from harness.program import TESTED, ending, stored, told
+from harness.program import ALONE, FARMED, TESTED, ending, stored, told
 from harness.suite import Check, table
 from oracle.judge import proposed
 from oracle.reader import read
@@ -105,18 +105,16 @@ def middling_rows():
 
 def runs(name, given, rows):
     yield Asked(["run", "--at", "0", "5", "6"], name, given)
-    yield Asked(["simulate"], name, given)
-    yield Asked(["trace"], name, given)
-    yield Asked(["explain"], name, given)
-    yield Asked(["graph"], name, given)
-    yield Asked(["lint"], name, given)
+    for command in ("lint", *ALONE):
+        if command not in ("run", "check"):
+            yield Asked([command], name, given)
     for form in ([], ["--json"], ["--nodes", "10"]):
         yield Asked(["check", "--at", "0", "5", "6", *form], name, given + rows)
     for command in ("check", "explain", "trace"):
         yield Asked([command, "--task", stored(f"{name}.iloc", given)], f"rows for {name}", rows)
     yield Asked(["counts", "--csv", "--workers", "1"], name, given, 1)
     yield Asked(["compare", "--nodes", "10", "--workers", "1"], name, given, 1)
-    for command in ("schedule", "counts", "compare", "optimize"):
+    for command in FARMED:
         for workers in (1, 8):
             yield Asked([command, "--workers", str(workers)], name, given, workers)
 
