@@ -7,7 +7,7 @@ from listing import HEADER, PASSED, VERDICT, Listed, Operation
 from svg import Unread
 
 READ = r"(?:r\d+|word \d+) = -?\d+(?: until \d+)?"
-ISSUE = re.compile(rf"(issue|fault) (\d+) unit ([01]) ([A-Za-z]+(?: [r\d,=> ]+?)?)(?: (?:reads|emits) {READ}(?:, {READ})*)?")
+ISSUE = re.compile(rf"(issue|fault) (\d+) unit ([01]) (\w+(?: [r\d,=> ]+?)?)(?: (?:reads|emits) {READ}(?:, {READ})*)?")
 WRITE = re.compile(r"write (\d+) (r\d+|word \d+) = -?\d+ was -?\d+ from (\d+)")
 NODE = re.compile(r'        b(\d+)_(\d+) \[label="\d+: (.+?)\\npriority \d+".*')
 EDGE = re.compile(r'        b(\d+)_(\d+) -> b\1_(\d+) \[label="(\d+)"\];')

@@ -44,7 +44,7 @@ class Block:
 
 
 def operation_of(text):
-    opcode, form = OPERATIONS.get(re.match(rb"[A-Za-z]*", text)[0], (None, None))
+    opcode, form = OPERATIONS.get(re.match(rb"\w*", text)[0], (None, None))
     found = form and form.fullmatch(text)
     return Op(opcode, [int(it) for it in found.groups()]) if found else None
 
