@@ -1,48 +1,37 @@
--- The names of heuristics.
+-- The names of heuristics: `priority_in`.
 use Rattle.std.proofs.Common.{◌≡◌, ◌∙◌, Bool, List, [], ◌∷◌, None, Option, Some, cond, false, refl, subst, sym, true}
-use Rattle.std.specs.Prelude.{MatchOption, find}
+use Rattle.std.specs.Prelude.{IfSome, MatchOption, find}
 use Rattle.std.specs.Str.{bytes_eq}
-use Rattle.std.proofs.lemmas.Bool.{false≢true}
+use Rattle.std.proofs.lemmas.Option.{none-some}
 use Rattle.std.proofs.lemmas.Slice.Eq.{bytes_eq-Decides}
 use Rattle.clap.specs.Words.{Text}
 use Rattle.iloc_sched.specs.declared.ranking.heuristic.Heuristic.{Heuristic}
-use Rattle.iloc_sched.specs.declared.ranking.heuristic.Heuristic.TheVariants.{Chain, Slack, Descendants, Successors, Latency, Order}
+use Rattle.iloc_sched.specs.declared.ranking.heuristic.Heuristic.TheVariants.{Chain}
 use Rattle.iloc_args.specs.Priority.{IsNoPriority, heuristics, priority_word}
 
--- the first of these whose name it is has that name; or none of them has
-abbrev Named : Text → Option Heuristic → List Heuristic → Type 0
-Named name (Some h) those = priority_word h ≡ name
-Named name None [] = Unit {0}
-Named name None (h ∷ those) = (priority_word h ≡ name → ⊥) × Named name None those
-
-found : (name : Text) (those : List Heuristic)
-    → Named name (find (λ (h : Heuristic). bytes_eq (priority_word h) name) those) those
-found name [] = tt
-found name (h ∷ those) = go (bytes_eq (priority_word h) name) refl (found name those)
+-- what is found passes
+found_passes : (p : Heuristic → Bool) (those : List Heuristic) → IfSome (find p those) (λ h. p h ≡ true)
+found_passes p [] = tt
+found_passes p (h ∷ those) = go (p h) refl (found_passes p those)
   where
-    go : (b : Bool) → bytes_eq (priority_word h) name ≡ b
-        → Named name (find (λ (x : Heuristic). bytes_eq (priority_word x) name) those) those
-        → Named name (cond b (Some h) (find (λ (x : Heuristic). bytes_eq (priority_word x) name) those)) (h ∷ those)
-    go true is rest = (bytes_eq-Decides (priority_word h) name).0 is
-    go false is rest = other (find (λ (x : Heuristic). bytes_eq (priority_word x) name) those) rest
-      where
-        other : (o : Option Heuristic) → Named name o those → Named name o (h ∷ those)
-        other (Some x) named = named
-        other None none = (λ same. false≢true (sym is ∙ (bytes_eq-Decides (priority_word h) name).1 same), none)
+    go : (b : Bool) → p h ≡ b → IfSome (find p those) (λ x. p x ≡ true) → IfSome (cond b (Some h) (find p those)) (λ x. p x ≡ true)
+    go true is rest = is
+    go false is rest = rest
 
-none_named : (name : Text) → Named name None heuristics → IsNoPriority name
-none_named name none Chain same = none.0 same
-none_named name none Slack same = none.1.0 same
-none_named name none Descendants same = none.1.1.0 same
-none_named name none Successors same = none.1.1.1.0 same
-none_named name none Latency same = none.1.1.1.1.0 same
-none_named name none Order same = none.1.1.1.1.1.0 same
+abbrev found_by : Text → Option Heuristic
+found_by name = find (λ (h : Heuristic). bytes_eq (priority_word h) name) heuristics
+
+-- each heuristic is found by its own word
+found_itself : (h : Heuristic) → found_by (priority_word h) ≡ Some h
+found_itself Chain = refl
+found_itself _ = refl
 
 -- what is found by a name is the heuristic of that name, or there is none
-pub named : (name : Text) (o : Option Heuristic) → o ≡ find (λ (h : Heuristic). bytes_eq (priority_word h) name) heuristics
+pub named : (name : Text) (o : Option Heuristic) → o ≡ found_by name
     → MatchOption o (IsNoPriority name) (λ h. priority_word h ≡ name)
-named name o is = go o (subst (λ x. Named name x heuristics) (sym is) (found name heuristics))
-  where
-    go : (o : Option Heuristic) → Named name o heuristics → MatchOption o (IsNoPriority name) (λ h. priority_word h ≡ name)
-    go (Some h) same = same
-    go None none = none_named name none
+named name None is = λ h same.
+    none-some h (is ∙ subst (λ (t : Text). found_by t ≡ Some h) same (found_itself h))
+named name (Some h) is =
+    let passes = subst (λ (o : Option Heuristic). IfSome o (λ x. bytes_eq (priority_word x) name ≡ true)) (sym is)
+    (found_passes (λ (x : Heuristic). bytes_eq (priority_word x) name) heuristics) in
+    (bytes_eq-Decides (priority_word h) name).0 passes
