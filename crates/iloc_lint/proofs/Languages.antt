@@ -1,7 +1,9 @@
 -- A line without a label, as a language of parts.
-use Rattle.std.proofs.Common.{◌≡◌, ◌∙◌, ℕ, ◌≤◌, ◌<◌, ◌+◌, max, false, ◌⊎◌, inl, inr, Option, Some, None, List, [], ◌∷◌, ◌++◌, length, map, take, drop, get_or, refl, sym, ap, subst, arith, append_assoc}
+use Rattle.std.proofs.Common.{◌≡◌, ◌∙◌, ℕ, Bool, ◌≤◌, ◌<◌, ◌+◌, max, cond, false, true, find, bytes_eq, ◌⊎◌, inl, inr, Option, Some, None, List, [], ◌∷◌, ◌++◌, length, map, take, drop, get_or, refl, sym, ap, subst, arith, append_assoc}
 use Rattle.std.specs.List.{AllByRecursion}
+use Rattle.std.specs.Prelude.{unwrap_or}
 use Rattle.std.proofs.lemmas.List.{take_more}
+use Rattle.std.proofs.lemmas.Option.{none-some}
 use Rattle.iloc_ops.specs.Limits.{MAX_NUMBER}
 use Rattle.iloc_ops.specs.declared.op.Op.{Op}
 use Rattle.iloc_ops.specs.declared.op.Op.TheVariants.{Nop}
@@ -13,7 +15,7 @@ use Rattle.iloc_ops.specs.Forms.Value.{Use, Definition, Constant}
 use Rattle.iloc_text.specs.Grammar.{◌⋅◌, Text, is_blank, Blanks, LeadText, ValueText, OperandsText, OptionalComment, Reads}
 use Rattle.iloc_text.specs.Steps.Opcodes.{operands_of}
 use Rattle.iloc_text.proofs.Operands.{with_number, filled}
-use Rattle.iloc_text.proofs.Names.{opcode-op_of, operands-op_of}
+use Rattle.iloc_text.proofs.Names.{opcode_found, opcode-op_of, operands-op_of}
 use Rattle.iloc_text.proofs.Parts.{starts}
 use Rattle.iloc_lint.specs.Steps.Longest.{Longest, PartText, Rest, Called, Bodies, lead_part, value_part, parts_in, parts, blanks_in, common_in}
 use Rattle.iloc_lint.proofs.Longest.{NoBlank, same, either, blanks_along, no_blanks, some_text, text_nothing, text_along, text_stop, comment_no_blank}
@@ -156,24 +158,18 @@ blanks_read_on w j = (
 
 -- Each opcode is among them
 
-named : (o : Opcode) (w : List ℕ) → Called o w → Bodies opcodes w
-named O.LoadI w h = inl h
-named O.Load w h = inr (inl h)
-named O.Store w h = inr (inr (inl h))
-named O.Add w h = inr (inr (inr (inl h)))
-named O.Sub w h = inr (inr (inr (inr (inl h))))
-named O.Mult w h = inr (inr (inr (inr (inr (inl h)))))
-named O.Lshift w h = inr (inr (inr (inr (inr (inr (inl h))))))
-named O.Rshift w h = inr (inr (inr (inr (inr (inr (inr (inl h)))))))
-named O.Output w h = inr (inr (inr (inr (inr (inr (inr (inr (inl h))))))))
-named O.Nop w h = inr (inr (inr (inr (inr (inr (inr (inr (inr (inl h)))))))))
-named O.AddI w h = inr (inr (inr (inr (inr (inr (inr (inr (inr (inr (inl h))))))))))
-named O.SubI w h = inr (inr (inr (inr (inr (inr (inr (inr (inr (inr (inr (inl h)))))))))))
-named O.MultI w h = inr (inr (inr (inr (inr (inr (inr (inr (inr (inr (inr (inr (inl h))))))))))))
-named O.LshiftI w h = inr (inr (inr (inr (inr (inr (inr (inr (inr (inr (inr (inr (inr (inl h)))))))))))))
-named O.RshiftI w h = inr (inr (inr (inr (inr (inr (inr (inr (inr (inr (inr (inr (inr (inr (inl h))))))))))))))
-named O.LoadAI w h = inr (inr (inr (inr (inr (inr (inr (inr (inr (inr (inr (inr (inr (inr (inr (inl h)))))))))))))))
-named O.StoreAI w h = inr (inr (inr (inr (inr (inr (inr (inr (inr (inr (inr (inr (inr (inr (inr (inr (inl h))))))))))))))))
+-- what the text of this opcode finds among these
+abbrev called_among : List Opcode → Opcode → Option Opcode
+called_among os o = find (λ (p : Opcode). bytes_eq (opcode_text p) (opcode_text o)) os
+
+named : (os : List Opcode) (o : Opcode) (w : List ℕ) → called_among os o ≡ Some o → Called o w → Bodies os w
+named [] o w found h = absurd (none-some o found)
+named (x ∷ os) o w found h = go (bytes_eq (opcode_text x) (opcode_text o)) found (λ later. named os o w later h)
+  where
+    go : (b : Bool) → cond b (Some x) (called_among os o) ≡ Some o → (called_among os o ≡ Some o → Bodies os w)
+        → Bodies (x ∷ os) w
+    go true same rest = inl (subst (λ (p : Opcode). Called p w) (sym (ap (λ s. unwrap_or s o) same)) h)
+    go false later rest = inr (rest later)
 
 commented : (os : List Opcode) (w : List ℕ) → OptionalComment w → Bodies os w
 commented [] w h = h
@@ -191,7 +187,7 @@ plain_bodies w (None, r) =
     with_rest (commented opcodes) w (nothing_between w (with_rest (with_rest nothing_between) w r.0))
 plain_bodies w (Some op, r) =
     with_rest
-    (λ v j. named (opcode op) v
+    (λ v j. named opcodes (opcode op) v (opcode_found op)
     (subst (λ ps. (Text (opcode_text (opcode op)) ⋅ Rest ps) v) (parts_of_op op)
     (with_rest (λ u k. operands_parts (operands op) u r.1 k) v (grouped_right v j)))) w
     (nothing_between w r.0)
