@@ -14,7 +14,8 @@ found_passes : (p : Heuristic → Bool) (those : List Heuristic) → IfSome (fin
 found_passes p [] = tt
 found_passes p (h ∷ those) = go (p h) refl (found_passes p those)
   where
-    go : (b : Bool) → p h ≡ b → IfSome (find p those) (λ x. p x ≡ true) → IfSome (cond b (Some h) (find p those)) (λ x. p x ≡ true)
+    go : (b : Bool) → p h ≡ b → IfSome (find p those) (λ x. p x ≡ true)
+        → IfSome (cond b (Some h) (find p those)) (λ x. p x ≡ true)
     go true is rest = is
     go false is rest = rest
 
