@@ -21,7 +21,7 @@ use Rattle.iloc_timed.specs.Timed.{Issued, issue, issued_before, executed_in, ti
 use Rattle.iloc_judge.specs.declared.comparison.Comparison.{Comparison}
 use Rattle.iloc_judge.specs.declared.comparison.Comparison.TheVariants as of
 use Rattle.iloc_judge.specs.declared.difference.Difference.{Difference}
-use Rattle.iloc_judge.specs.declared.difference.Difference.TheVariants.{Output, Word, Fault, NoFault}
+use Rattle.iloc_judge.specs.declared.difference.Difference.TheVariants.{Output}
 use Rattle.iloc_judge.specs.declared.verdict.Verdict.{Verdict}
 use Rattle.iloc_judge.specs.declared.verdict.Verdict.TheVariants.{Units, Lawful, Unlawful, Undecided}
 use Rattle.iloc_judge.specs.Comparison.{IsComparison}
@@ -111,9 +111,7 @@ few_counted outputs n m (O.Finished gots memory) (O.Finished wanteds end) (Outpu
     let within : index < length gots + length wanteds =
     apart_within gots wanteds index got wanted is.first is.second is.apart in
     omega arith
-few_counted outputs n m (O.Finished gots memory) (O.Finished wanteds end) (Word address got wanted) small few fewer is = tt
-few_counted outputs n m (O.Finished gots memory) (O.Finished wanteds end) Fault small few fewer is = tt
-few_counted outputs n m (O.Finished gots memory) (O.Finished wanteds end) NoFault small few fewer is = tt
+few_counted outputs n m (O.Finished gots memory) (O.Finished wanteds end) _ small few fewer is = tt
 
 difference_counted : (outputs : Bool) (lat : Latencies) (block ops : List Op) (rows : List Row) (memory : List ℤ) (difference : Difference)
     → length block ≤ MAX_OPS → length rows ≤ MAX_ROWS
@@ -125,14 +123,11 @@ difference_counted outputs lat block ops rows memory difference short few is =
 compared_listed : (outputs : Bool) (lat : Latencies) (memory : List ℤ) (block ops : List Op) (rows : List Row) (found : Comparison)
     → length block ≤ MAX_OPS → length rows ≤ MAX_ROWS → IsComparison outputs lat block ops rows memory found
     → CanBeCompared found
-compared_listed outputs lat memory block ops rows (of.Void why) short few is = tt
-compared_listed outputs lat memory block ops rows of.Same short few is = tt
-compared_listed outputs lat memory block ops rows of.Prints short few is = tt
-compared_listed outputs lat memory block ops rows of.Agrees short few is = tt
 compared_listed outputs lat memory block ops rows (of.Differs difference) short few is =
     difference_counted outputs lat block ops rows memory difference short few is.1
 compared_listed outputs lat memory block ops rows (of.DiffersOn probe difference) short few is =
     difference_counted outputs lat block ops rows (memory_of probe) difference short few is.2
+compared_listed outputs lat memory block ops rows _ short few is = tt
 
 pub verdict_listed : (outputs : Bool) (lat : Latencies) (memory : List ℤ) (block ops : List Op) (rows : List Row) (verdict : Verdict)
     → length block ≤ MAX_OPS → length rows ≤ MAX_ROWS → IsVerdict outputs lat block ops rows memory verdict

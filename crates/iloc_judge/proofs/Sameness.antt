@@ -51,7 +51,6 @@ compared_same : (lawful outputs : Bool) (lat : Latencies) (memory : List ℤ) (b
     (found : Comparison) → IsTable ops rows → IsComparison outputs lat block ops rows memory found
     → is_passing lawful (compared_kind found) ≡ true
     → DoTheSame outputs lat block ops rows × CanBeJudged outputs block memory × (lawful ≡ false)
-compared_same lawful outputs lat memory block ops rows (of.Void why) table right pass = absurd cc
 compared_same true outputs lat memory block ops rows of.Same table right pass = absurd cc
 compared_same false outputs lat memory block ops rows of.Same table right pass = (
   record { table = table; agree = λ words fits. alike_of_equal outputs (right.1 words fits) },
@@ -61,9 +60,7 @@ compared_same false outputs lat memory block ops rows of.Same table right pass =
 compared_same true outputs lat memory block ops rows of.Prints table right pass = absurd cc
 compared_same false outputs lat memory block ops rows of.Prints table right pass =
     (prints_do_the_same outputs lat block ops rows table right.1 right.2, right.0, refl)
-compared_same lawful outputs lat memory block ops rows of.Agrees table right pass = absurd cc
-compared_same lawful outputs lat memory block ops rows (of.Differs difference) table right pass = absurd cc
-compared_same lawful outputs lat memory block ops rows (of.DiffersOn probe difference) table right pass = absurd cc
+compared_same lawful outputs lat memory block ops rows _ table right pass = absurd cc
 
 -- what holds of rows that pass with this verdict
 abbrev PassesAs : (lawful outputs : Bool) → Latencies → List ℤ → List Op → List Op → List Row → Type 0

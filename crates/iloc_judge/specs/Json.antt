@@ -152,11 +152,9 @@ memory_member probe = codes ",\"memory\":" ++ memory_value probe
 -- why nothing can be said of rows; where they differ from their block, and on which memory, null for the one handed in
 abbrev pub comparison_members : Comparison → List ℕ
 comparison_members (of.Void why) = void_member why ++ codes ",\"difference\":null,\"memory\":null"
-comparison_members of.Same = no_difference
-comparison_members of.Prints = no_difference
-comparison_members of.Agrees = no_difference
 comparison_members (of.Differs difference) = difference_member difference ++ codes ",\"memory\":null"
 comparison_members (of.DiffersOn probe difference) = difference_member difference ++ memory_member probe
+comparison_members _ = no_difference
 
 -- Why rows aren't a schedule of their block by the book
 

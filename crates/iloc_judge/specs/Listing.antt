@@ -113,11 +113,9 @@ probe_told probe =
 
 abbrev pub comparison_told : Comparison → List ℕ
 comparison_told (of.Void why) = void_told why ++ codes "\n"
-comparison_told of.Same = []
-comparison_told of.Prints = []
-comparison_told of.Agrees = []
 comparison_told (of.Differs difference) = difference_told difference ++ codes "\n"
 comparison_told (of.DiffersOn probe difference) = difference_told difference ++ probe_told probe ++ codes "\n"
+comparison_told _ = []
 
 -- All of a verdict
 

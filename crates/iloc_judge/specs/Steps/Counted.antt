@@ -4,24 +4,19 @@ use Rattle.iloc_timed.specs.declared.row.Row.{Row}
 use Rattle.iloc_judge.specs.declared.comparison.Comparison.{Comparison}
 use Rattle.iloc_judge.specs.declared.comparison.Comparison.TheVariants as of
 use Rattle.iloc_judge.specs.declared.difference.Difference.{Difference}
-use Rattle.iloc_judge.specs.declared.difference.Difference.TheVariants.{Output, Word, Fault, NoFault}
+use Rattle.iloc_judge.specs.declared.difference.Difference.TheVariants.{Output}
 use Rattle.iloc_judge.specs.declared.verdict.Verdict.{Verdict}
 use Rattle.iloc_judge.specs.declared.verdict.Verdict.TheVariants.{Units, Lawful, Unlawful, Undecided}
 
 -- the number of an output fits 64 bits
 abbrev pub IsCounted : Difference → Type 0
 IsCounted (Output index got wanted) = index + 1 < 2 ^ 64
-IsCounted (Word address got wanted) = Unit {0}
-IsCounted Fault = Unit {0}
-IsCounted NoFault = Unit {0}
+IsCounted _ = Unit {0}
 
 abbrev pub CanBeCompared : Comparison → Type 0
-CanBeCompared (of.Void why) = Unit {0}
-CanBeCompared of.Same = Unit {0}
-CanBeCompared of.Prints = Unit {0}
-CanBeCompared of.Agrees = Unit {0}
 CanBeCompared (of.Differs difference) = IsCounted difference
 CanBeCompared (of.DiffersOn probe difference) = IsCounted difference
+CanBeCompared _ = Unit {0}
 
 -- a bad row is one of the rows, and the number of an output fits
 abbrev pub CanBeListed : List Row → Verdict → Type 0
