@@ -78,9 +78,8 @@ impl Waiting {
         ensures best { IsBest plan.now self.old beside result }
         ensures issues { IssuesAny plan.now self.old self.new cycle result }
     {
-        let rank = self.calendar.first(beside)?;
+        let rank = self.calendar.take_first(beside)?;
         let number = plan.order[rank as usize];
-        self.calendar.remove(rank);
         self.issue(plan, number as usize, cycle);
         let class = plan.class_of(number);
         Some(Choice { number, class })

@@ -62,14 +62,14 @@ same_under_way p w k f same under = record {
   };
 }
 
--- the first rank that is offered is that of the best operation
+-- a rank that is offered is that of an operation that can be issued, and the first is that of the best
 module _ (p : Plan) (w : Waiting) (f : ℕ) (beside : Class) (plan : IsPlan p) (under : IsUnderWay p w f) where
   pub none_is_best : IsFirst (offers w.calendar beside) None → IsBest p w beside None
   none_is_best none = λ j is. absurd (false≢true (sym (none (rank_of p j)) ∙ is.1))
 
-  module _ (r : ℕ) (first : IsFirst (offers w.calendar beside) (Some r)) where
+  module _ (r : ℕ) (offered : offers w.calendar beside r ≡ true) where
     pub is_ready : has w.calendar 32 r ≡ true
-    is_ready = (and_parts (has w.calendar 32 r) (not (has w.calendar (33 + place_of beside) r)) first.0).0
+    is_ready = (and_parts (has w.calendar 32 r) (not (has w.calendar (33 + place_of beside) r)) offered).0
 
     who : IsRanked p (length p.tables.now.ops.items) r
     who = under.calendar.ranked 32 r (omega arith) is_ready
@@ -106,12 +106,13 @@ module _ (p : Plan) (w : Waiting) (f : ℕ) (beside : Class) (plan : IsPlan p) (
       pub can_issue : CanIssue (graph_of p.tables.now.edges) (progress_of p.ranks.now w) f n
       can_issue = under.queued.only n (subst (λ m. n < m) (sym plan.graph.size) number_there) (ap (has w.calendar 32) rank_is ∙ is_ready)
 
-      pub is_best : (k : Class) → k ≡ class_at p.tables.now.ops.items n → IsBest p w beside (Some (record { number = n; class = k }))
-      is_best k class = (
-        (number_there, ap (offers w.calendar beside) rank_is ∙ first.0),
+      pub is_best : ((s : ℕ) → s < r → offers w.calendar beside s ≡ false) → (k : Class) → k ≡ class_at p.tables.now.ops.items n
+          → IsBest p w beside (Some (record { number = n; class = k }))
+      is_best none k class = (
+        (number_there, ap (offers w.calendar beside) rank_is ∙ offered),
         sym class,
         λ j is. by_lt (rank_of p j) (rank_of p n)
-            (λ before. absurd (false≢true (sym (first.1 (rank_of p j) (subst (λ s. rank_of p j < s) rank_is before)) ∙ is.1)))
+            (λ before. absurd (false≢true (sym (none (rank_of p j) (subst (λ s. rank_of p j < s) rank_is before)) ∙ is.1)))
             (λ after. after),
       )
 

@@ -26,9 +26,9 @@ puts_from c c' s k b adds = record {
   others = λ t r low apart. ap (λ x. eqb x 1) (adds.others t r low apart);
 }
 
-pub takes_from : (c c' : Calendar) (s k : ℕ) → TakesBit c.words.items c'.words.items s k → Puts c c' s k false
+pub takes_from : (c c' : Calendar) (s k : ℕ) → TakesBit c.words.items c'.words.items true s k → Puts c c' s k false
 takes_from c c' s k takes = record {
-  here = ap (λ x. eqb x 1) takes.here;
+  here = let gone : rank_bit c'.words.items s k ≡ 0 = omega (arith, takes.here) in ap (λ x. eqb x 1) gone;
   others = λ t r low apart. ap (λ x. eqb x 1) (takes.others t r low apart);
 }
 
@@ -223,8 +223,8 @@ module _ (v : Vec ℕ) (xs ws : List ℕ) (same : xs ≡ v.items) where
   pub adds_back : (b : Bool) (s k : ℕ) → AddsBit xs ws b s k → AddsBit v.items (with_items v ws).items b s k
   adds_back b s k adds = subst (λ ys. AddsBit v.items ys b s k) (sym (with_items_is v ws (long adds.size))) (subst (λ ys. AddsBit ys ws b s k) same adds)
 
-  pub takes_back : (s k : ℕ) → TakesBit xs ws s k → TakesBit v.items (with_items v ws).items s k
-  takes_back s k takes = subst (λ ys. TakesBit v.items ys s k) (sym (with_items_is v ws (long takes.size))) (subst (λ ys. TakesBit ys ws s k) same takes)
+  pub takes_back : (b : Bool) (s k : ℕ) → TakesBit xs ws b s k → TakesBit v.items (with_items v ws).items b s k
+  takes_back b s k takes = subst (λ ys. TakesBit v.items ys b s k) (sym (with_items_is v ws (long takes.size))) (subst (λ ys. TakesBit ys ws b s k) same takes)
 
   pub notes_back : (some block b n : ℕ) → NotesMoved xs ws some block b n → NotesMoved v.items (with_items v ws).items some block b n
   notes_back some block b n notes = subst (λ ys. NotesMoved v.items ys some block b n) (sym (with_items_is v ws (long notes.size)))

@@ -1,19 +1,21 @@
 -- A rank is added to a set or taken out, or words are searched, and the summary stays right.
-use Rattle.std.proofs.Common.{◌≡◌, ℕ, ◌+◌, ◌-◌, ◌*◌, ◌/◌, ◌%◌, ◌^◌, ◌<◌, ◌≤◌, List, length, set, min, max, Bool, ap, ap₂, sym, ◌∙◌, arith, w64, bit_and, bit_or, length-set}
+use Rattle.std.proofs.Common.{◌≡◌, ℕ, ◌+◌, ◌-◌, ◌*◌, ◌/◌, ◌%◌, ◌^◌, ◌<◌, ◌≤◌, List, length, set, min, max, Bool, true, false, ap, ap₂, sym, ◌∙◌, arith, bit_and, bit_or, length-set}
 use Rattle.std.specs.Int.{bit_at}
-use Rattle.std.proofs.lemmas.Nat.Bits.{bit_at_clear_same, bit_at_clear_other}
+use Rattle.std.proofs.lemmas.Nat.Bits.{bit_at-lt}
 use Rattle.iloc_sched.specs.Steps.RankSets.{word_at, rank_bit, open_bit, IsSummary, IsSearched, AddsBit, TakesBit}
+use Rattle.iloc_meaning.proofs.Cases.{by_bool}
 use Rattle.iloc_sched.proofs.Basics.Cases.{by_eq}
-use Rattle.iloc_sched.proofs.Ranks.WordBits.{one_if, or_same, or_other, or_some}
+use Rattle.iloc_sched.proofs.Ranks.Firsts.{none_open}
+use Rattle.iloc_sched.proofs.Ranks.WordBits.{one_if, and_same, and_other, or_same, or_other, or_some}
 use Rattle.iloc_sched.proofs.Ranks.Cells.{by_both, cell_same, cell_other, put_same, put_other}
 
 -- rank r is added to set s if b
 abbrev pub added : List ℕ → ℕ → ℕ → Bool → List ℕ
 added ws s r b = set ws (r / 64 * 37 + s) (bit_or (word_at ws s (r / 64)) (one_if b * 2 ^ (r % 64) % 2 ^ 64))
 
--- rank r is taken out of set s
-abbrev pub removed : List ℕ → ℕ → ℕ → List ℕ
-removed ws s r = set ws (r / 64 * 37 + s) (bit_and (word_at ws s (r / 64)) (2 ^ 64 - 1 - 1 * 2 ^ (r % 64) % 2 ^ 64))
+-- rank r is taken out of set s if b
+abbrev pub removed : List ℕ → ℕ → ℕ → Bool → List ℕ
+removed ws s r b = set ws (r / 64 * 37 + s) (bit_and (word_at ws s (r / 64)) (2 ^ 64 - 1 - one_if b * 2 ^ (r % 64) % 2 ^ 64))
 
 module _ (words : List ℕ) (s k : ℕ) (small : s < 37) (word : k / 64 * 37 + s < length words) where
   pub added_here : (b : Bool) → rank_bit (added words s k b) s k ≡ max (rank_bit words s k) (one_if b)
@@ -31,11 +33,11 @@ module _ (words : List ℕ) (s k : ℕ) (small : s < 37) (word : k / 64 * 37 + s
     size = length-set words (k / 64 * 37 + s) _;
   }
 
-  pub takes_bit : TakesBit words (removed words s k) s k
-  takes_bit = record {
-    here = put_same words s k _ small word ∙ bit_at_clear_same w64 (word_at words s (k / 64)) (k % 64) (omega arith);
+  pub takes_bit : (b : Bool) → TakesBit words (removed words s k b) b s k
+  takes_bit b = record {
+    here = put_same words s k _ small word ∙ and_same (word_at words s (k / 64)) (k % 64) (omega arith) b;
     others = put_other words s k _ small word
-        (λ i within apart. bit_at_clear_other w64 (word_at words s (k / 64)) (k % 64) (omega arith) i within apart);
+        (λ i within apart. and_other (word_at words s (k / 64)) (k % 64) (omega arith) b i within apart);
     words_kept = λ t w low apart. cell_other words s (k / 64) _ small t w low apart;
     size = length-set words (k / 64 * 37 + s) _;
   }
@@ -82,15 +84,40 @@ module _ (summary words words' : List ℕ) (right : IsSummary summary words) whe
       (λ other. let kept = adds.others (33 + c) r (omega arith) other in omega arith))
       adds.size
 
-  pub IsSummary-taken : (k : ℕ) → TakesBit words words' 32 k → IsSummary summary words'
+  pub IsSummary-taken : (k : ℕ) → TakesBit words words' true 32 k → IsSummary summary words'
   IsSummary-taken k takes = less_open
       (λ s w low. takes.words_kept s w (omega arith) (λ same _. absurd (omega arith)))
       (λ c r low.
       let kept = takes.others (33 + c) r (omega arith) (λ same _. absurd (omega arith)) in
       by_eq r k
-      (λ at. let gone : rank_bit words' 32 r ≡ 0 = ap (rank_bit words' 32) at ∙ takes.here in omega arith)
+      (λ at. let gone = ap (rank_bit words' 32) at ∙ takes.here in omega arith)
       (λ apart. let ready = takes.others 32 r (omega arith) (λ _ at. apart at) in omega arith))
       takes.size
+
+-- a word leaves the summary of a class if nothing is ready in it
+pub IsSummary-emptied : (summary summary' words : List ℕ) (j w : ℕ) (b : Bool) → j < 4 → IsSummary summary words
+    → (b ≡ true → word_at words 32 w ≡ 0) → TakesBit summary summary' b (33 + j) w → IsSummary summary' words
+IsSummary-emptied summary summary' words j w b small right none takes = record {
+  buckets = λ s v low. takes.others s v (omega arith) (λ same _. absurd (omega arith)) ∙ right.buckets s v low;
+  closed = λ c r low out. by_both (33 + c) (33 + j) (r / 64) w
+      (λ same at. by_bool b
+      (λ empty. none_open words c r (ap (word_at words 32) at ∙ none empty))
+      (λ kept. right.closed c r low (ap₂ (rank_bit summary) same at ∙ stays kept ∙ ap₂ (rank_bit summary') (sym same) (sym at) ∙ out)))
+      (λ other. right.closed c r low (sym (takes.others (33 + c) (r / 64) (omega arith) other) ∙ out));
+  there = λ c v low held. by_both (33 + c) (33 + j) v w
+      (λ same at. right.there c v low
+      (λ was.
+      let now = ap₂ (rank_bit summary') same at ∙ takes.here in
+      let before = ap₂ (rank_bit summary) same at in
+      held (omega arith)))
+      (λ other. right.there c v low (λ was. held (takes.others (33 + c) v (omega arith) other ∙ was)));
+}
+  where
+    stays : b ≡ false → rank_bit summary (33 + j) w ≡ rank_bit summary' (33 + j) w
+    stays kept =
+        let is = takes.here ∙ ap (λ x. min (rank_bit summary (33 + j) w) (1 - one_if x)) kept in
+        let bit = bit_at-lt (word_at summary (33 + j) (w / 64)) (w % 64) in
+        omega arith
 
 -- the words of a block were searched for what is open beside a class
 module _ (summary words : List ℕ) (k block some left : ℕ) (small : k < 4) (there : block * 37 + 37 ≤ length summary)

@@ -1,9 +1,9 @@
 -- One bit of a word.
 use Rattle.std.proofs.Common.{◌≡◌, ◌≢◌, ℕ, ◌-◌, ◌*◌, ◌%◌, ◌^◌, ◌<◌, set, min, max, Bool, true, false, eqb, ◌||◌, ap, ◌∙◌, inl, inr, arith, w64, bit_and, bit_or}
-use Rattle.std.specs.Int.{bit_at, from_bool}
+use Rattle.std.specs.Int.{bit_at, bit_not, from_bool}
 use Rattle.std.proofs.lemmas.Bool.{cases_eq, eq-eqb}
 use Rattle.std.proofs.lemmas.Nat.{one_shl, pow_pos, le_or_r, and_le_l}
-use Rattle.std.proofs.lemmas.Nat.Bits.{bit_at_set_same, bit_at_set_other, bit_at_clear_same, bit_at-lt, bit_at-zero}
+use Rattle.std.proofs.lemmas.Nat.Bits.{bit_at_set_same, bit_at_set_other, bit_at_clear_same, bit_at_clear_other, bit_at_and, bit_at_not, bit_at-lt, bit_at-zero}
 use lib.Bits.{or_zero_r}
 
 -- 1 for true, as `u64::from` gives it
@@ -25,6 +25,20 @@ or_other n k small false i apart = ap (λ m. bit_at (bit_or n m) i) (no_shift k)
 pub or_some : (n k : ℕ) → k < 64 → (b : Bool) → min 1 (bit_or n (one_if b * 2 ^ k % 2 ^ 64)) ≡ max (min 1 n) (one_if b)
 or_some n k small true = omega (arith, one_shl k 64 small, pow_pos k, le_or_r n (1 * 2 ^ k % 2 ^ 64))
 or_some n k small false = ap (λ m. min 1 (bit_or n m)) (no_shift k) ∙ ap (min 1) (or_zero_r n) ∙ omega arith
+
+-- n & !(b << k)
+and_all : (n k i : ℕ) → i < 64 → bit_at (bit_and n (2 ^ 64 - 1 - 0 * 2 ^ k % 2 ^ 64)) i ≡ bit_at n i
+and_all n k i within = ap (λ m. bit_at (bit_and n (2 ^ 64 - 1 - m)) i) (no_shift k) ∙ bit_at_and n (bit_not w64 0) i
+    ∙ ap (min (bit_at n i)) (bit_at_not w64 0 i (omega arith) within) ∙ omega (arith, bit_at-zero i, bit_at-lt n i)
+
+pub and_same : (n k : ℕ) → k < 64 → (b : Bool) → bit_at (bit_and n (2 ^ 64 - 1 - one_if b * 2 ^ k % 2 ^ 64)) k ≡ min (bit_at n k) (1 - one_if b)
+and_same n k small true = bit_at_clear_same w64 n k small ∙ omega arith
+and_same n k small false = and_all n k k small ∙ omega (arith, bit_at-lt n k)
+
+pub and_other : (n k : ℕ) → k < 64 → (b : Bool) → (i : ℕ) → i < 64 → i ≢ k
+    → bit_at (bit_and n (2 ^ 64 - 1 - one_if b * 2 ^ k % 2 ^ 64)) i ≡ bit_at n i
+and_other n k small true i within apart = bit_at_clear_other w64 n k small i within apart
+and_other n k small false i within apart = and_all n k i within
 
 pub test_added : (b : Bool) (x : ℕ) → x < 2 → eqb (max x (one_if b)) 1 ≡ (b || eqb x 1)
 test_added true x small = eq-eqb (max x 1) 1 (omega arith)

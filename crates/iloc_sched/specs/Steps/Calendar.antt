@@ -49,3 +49,8 @@ pub record Releases (c c' : Calendar) (b : ℕ) : Type 0 where
   pub union : (r : ℕ) → has c' 32 r ≡ (has c 32 r || has c b r)
   pub empty : (r : ℕ) → has c' b r ≡ false
   pub others : (s r : ℕ) → s < 37 → s ≢ 32 → s ≢ b → has c' s r ≡ has c s r
+
+-- the rank that is taken, if there is one, isn't ready any more, and nothing else changed
+abbrev pub Takes : Calendar → Calendar → Option ℕ → Type 0
+Takes c c' None = HasSameSets c c'
+Takes c c' (Some r) = Puts c c' 32 r false × KeepsRoom c c'

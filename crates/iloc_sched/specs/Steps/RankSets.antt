@@ -17,9 +17,9 @@ pub record AddsBit (words words' : List ℕ) (b : Bool) (s k : ℕ) : Type 0 whe
   pub words_kept : (t w : ℕ) → t < 37 → (t ≡ s → w ≡ k / 64 → ⊥) → word_at words' t w ≡ word_at words t w
   pub size : length words' ≡ length words
 
--- rank k is taken out of set s
-pub record TakesBit (words words' : List ℕ) (s k : ℕ) : Type 0 where
-  pub here : rank_bit words' s k ≡ 0
+-- rank k is taken out of set s if b
+pub record TakesBit (words words' : List ℕ) (b : Bool) (s k : ℕ) : Type 0 where
+  pub here : rank_bit words' s k ≡ min (rank_bit words s k) (1 - from_bool b)
   pub others : (t r : ℕ) → t < 37 → (t ≡ s → r ≡ k → ⊥) → rank_bit words' t r ≡ rank_bit words t r
   pub words_kept : (t w : ℕ) → t < 37 → (t ≡ s → w ≡ k / 64 → ⊥) → word_at words' t w ≡ word_at words t w
   pub size : length words' ≡ length words

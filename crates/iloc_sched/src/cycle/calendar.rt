@@ -9,7 +9,7 @@ ghost use Rattle.iloc_sched.specs.Steps.RankSets.{IsSummary, IsFirstWithin};
 use crate::cycle::class::Class;
 use crate::cycle::words::{
     add_if, fill_zeros, first_of_block, first_of_word, move_summary, move_word, move_words,
-    take_out,
+    take_out_if,
 };
 use iloc_ops::{MAX_OPS, NoMemory};
 use std::alloc::Global;
@@ -29,14 +29,18 @@ pub const KEPT_OUT: usize = READY + 1;
 /// How many sets there are.
 pub const SETS: usize = KEPT_OUT + 4;
 
+// The last is empty, since the rest keeps nothing out. Its summary says which words may have what is ready.
+const OF_REST: usize = SETS - 1;
+
 /// Sets of ranks. Where one word a set is enough there is no summary: with one, blocks of fifteen operations take 64 instructions
 /// more for each of them.
 #[derive(Debug, Drop)]
 pub struct Calendar {
     words: Vec<u64>,
     /// By bucket a bit for each of its words: whether it has any. By class a bit for each word that may have what is ready and
-    /// not kept out: it is set with what becomes ready, and cleared where a choice finds that the word has none. If each
-    /// choice passed over such words anew, 10,000 loads would take 1,400 instructions each, and not 315.
+    /// not kept out: it is set with what becomes ready, and cleared where a choice finds that the word has none, and that of
+    /// the rest where it takes the last. If each choice passed over such words anew, 10,000 loads would take 1,400
+    /// instructions each, and not 315.
     summary: Vec<u64>,
     /// How many words the summary of a set has.
     blocks: usize,
@@ -50,7 +54,7 @@ pub struct Calendar {
 impl Calendar {
     ghost use Rattle.std.specs.Prelude.{◌||◌, true, false};
     ghost use Rattle.iloc_sched.specs.Steps.Classes.{place_of};
-    ghost use Rattle.iloc_sched.specs.Steps.Calendar.{has, offers, IsWithin, HasRoom, KeepsRoom, HasSameSets, Puts, Releases, IsFirst};
+    ghost use Rattle.iloc_sched.specs.Steps.Calendar.{has, offers, IsWithin, HasRoom, KeepsRoom, HasSameSets, Puts, Releases, Takes, IsFirst};
 
     /// No rank, and capacity for none.
     pub fn new(alloc: Global) -> Calendar
@@ -80,12 +84,26 @@ impl Calendar {
 
     /// Takes a rank out of what is ready.
     #[inline(always)]
-    pub fn remove(&mut self, rank: u32)
+    fn remove(&mut self, rank: u32)
         requires { IsWithin self.old rank }
         ensures puts { Puts self.old self.new 32 rank false }
         ensures room { KeepsRoom self.old self.new }
     {
-        take_out(&mut self.words, READY, rank as usize);
+        take_out_if(&mut self.words, true, READY, rank as usize);
+    }
+
+    /// A word in which nothing is ready leaves the summary of the rest, so the first beside the rest is in the first word that
+    /// is looked at: that saves 1.0 mispredicted branches for each of 10,000 products in a chain, and 0.2 to 0.4 for each
+    /// operation of longer blocks, for at most 11 instructions.
+    #[inline(always)]
+    fn close_if_empty(&mut self, word: usize)
+        requires some { self.old.blocks ≢ 0 }
+        requires word { word * 37 + 37 ≤ length self.old.words.items }
+        requires block { word / 64 < self.old.blocks }
+        ensures same { HasSameSets self.old self.new }
+    {
+        let empty = self.words[word * SETS + READY] == 0;
+        take_out_if(&mut self.summary, empty, OF_REST, word);
     }
 
     /// Puts a rank into the bucket of a cycle, if it is ready then.
@@ -197,17 +215,25 @@ impl Calendar {
         None
     }
 
-    /// The first of what is ready and what an operation of the class doesn't keep out. The rest keeps nothing out.
+    /// Takes the first of what is ready and what an operation of the class doesn't keep out. The rest keeps nothing out. One test
+    /// serves both steps: with one for each, an operation of a block of fifteen has 0.14 mispredicted branches and 5
+    /// instructions more.
     #[inline(always)]
-    pub fn first(&mut self, beside: Class) -> Option<u32>
-        requires { HasRoom self.old 0 }
+    pub fn take_first(&mut self, beside: Class) -> Option<u32>
+        requires room { HasRoom self.old 0 }
+        requires within { (r : ℕ) → offers self.old beside r ≡ true → IsWithin self.old r }
         ensures first { IsFirst (offers self.old beside) result }
-        ensures same { HasSameSets self.old self.new }
+        ensures takes { Takes self.old self.new result }
     {
         if self.blocks == 0 {
-            first_of_word(&self.words, 0, beside.place())
+            let rank = first_of_word(&self.words, 0, beside.place())?;
+            self.remove(rank);
+            Some(rank)
         } else {
-            self.first_of_blocks(beside)
+            let rank = self.first_of_blocks(beside)?;
+            self.remove(rank);
+            self.close_if_empty(rank as usize / 64);
+            Some(rank)
         }
     }
 }

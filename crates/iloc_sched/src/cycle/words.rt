@@ -26,14 +26,14 @@ pub fn add_if(words: &mut [u64], condition: bool, set: usize, rank: usize)
     words[rank / 64 * SETS + set] |= u64::from(condition) << (rank % 64);
 }
 
-/// Takes a rank out of a set.
+/// Takes a rank out of a set if the condition holds. It takes no branch.
 #[inline(always)]
-pub fn take_out(words: &mut [u64], set: usize, rank: usize)
+pub fn take_out_if(words: &mut [u64], condition: bool, set: usize, rank: usize)
     requires set { set < 37 }
     requires there { rank / 64 * 37 + set < length words.old }
-    ensures { TakesBit words.old words.new set rank }
+    ensures { TakesBit words.old words.new condition set rank }
 {
-    words[rank / 64 * SETS + set] &= !(1 << (rank % 64));
+    words[rank / 64 * SETS + set] &= !(u64::from(condition) << (rank % 64));
 }
 
 /// Moves a word of a bucket to what is ready.

@@ -1,4 +1,4 @@
-use Rattle.std.proofs.Common.{◌*◌, ◌+◌, ◌<◌, ◌≤◌, sym, subst}
+use Rattle.std.proofs.Common.{◌*◌, ◌+◌, ◌<◌, ◌≤◌, true, sym, subst}
 use Rattle.iloc_sched.proofs.Ranks.Sets.{takes_from, takes_back}
 use Rattle.iloc_sched.proofs.Ranks.Summaries.{IsSummary-taken}
 use Rattle.iloc_sched.proofs.cycle.calendar.Calendar.remove.Goals as goal
@@ -6,7 +6,8 @@ use Rattle.iloc_sched.proofs.cycle.calendar.Calendar.remove.Goals as goal
 pub invariant_of-self : goal.invariant_of-self
 invariant_of-self c =
     let s = c.args.self.now in
-    let takes = takes_back s.words c.deref_mut.result.now c.take_out.new.words c.deref_mut.ensures.value 32 c.args.rank c.take_out.ensures in
+    let takes = takes_back s.words c.deref_mut.result.now c.take_out_if.new.words c.deref_mut.ensures.value true 32 c.args.rank
+    c.take_out_if.ensures in
     record {
       summarised = λ some. IsSummary-taken s.summary.items s.words.items _ (s.summarised some) c.args.rank takes;
       sized = s.sized;
@@ -18,4 +19,5 @@ invariant_of-self c =
 pub returns-clause-puts : goal.returns-clause-puts
 returns-clause-puts c =
     takes_from c.args.self.now _ 32 c.args.rank
-    (takes_back c.args.self.now.words c.deref_mut.result.now c.take_out.new.words c.deref_mut.ensures.value 32 c.args.rank c.take_out.ensures)
+    (takes_back c.args.self.now.words c.deref_mut.result.now c.take_out_if.new.words c.deref_mut.ensures.value true 32 c.args.rank
+    c.take_out_if.ensures)
