@@ -6,17 +6,20 @@ use Rattle.std.proofs.lemmas.List.{length-map, length-replicate, replicate_more}
 use Rattle.std.proofs.lemmas.List.FromFn.{get_or-map-range_with_len, map-range_with_len_more}
 use Rattle.std.specs.List.{range_with_len}
 use Rattle.iloc_meaning.proofs.Cases.{by_bool}
+use Rattle.iloc_sched.specs.declared.cycle.calendar.Calendar.{Calendar}
+use Rattle.iloc_sched.specs.declared.cycle.class.Class.{Class}
 use Rattle.iloc_sched.specs.declared.cycle.plan.Plan.{Plan}
 use Rattle.iloc_sched.specs.declared.cycle.waiting.OperationState.{OperationState}
 use Rattle.iloc_sched.specs.declared.cycle.waiting.Waiting.{Waiting}
-use Rattle.iloc_sched.specs.Steps.Calendar.{has, KeepsRoom, Puts}
+use Rattle.iloc_sched.specs.Steps.Calendar.{has, HasRoom, KeepsRoom, Puts}
+use Rattle.iloc_sched.specs.Steps.Classes.{place_of, excludes}
 use Rattle.iloc_sched.specs.Steps.Graph.{Graph, IsGraph}
 use Rattle.iloc_sched.specs.Steps.Progress.{Progress, Waits}
 use Rattle.iloc_sched.specs.Steps.Views.{graph_of, issued_in, unmet_in, earliest_in, issued_list, unmet_list, earliest_list, progress_of, IsSized}
-use Rattle.iloc_sched.specs.Steps.SoFar.{rank_of, IsPlan, IsCalendar, IsSoFar}
+use Rattle.iloc_sched.specs.Steps.SoFar.{class_at, rank_of, KeepsOut, IsPlan, IsCalendar, IsSoFar}
 use Rattle.iloc_sched.specs.Steps.Opening.{not_issued, IsOpening}
 use Rattle.iloc_sched.proofs.Basics.Cases.{by_eq, not_both}
-use Rattle.iloc_sched.proofs.Ranks.Calendars.{room_kept, ranks_apart, kept_put}
+use Rattle.iloc_sched.proofs.Ranks.Calendars.{place_small, room_kept, room_trans, ranks_apart, kept_put, keeps_out_more}
 use Rattle.iloc_sched.proofs.Ranks.Cells.{by_both, read_replicate}
 use Rattle.iloc_sched.proofs.Walking.UnmetEdges.{not_true, count_all}
 
@@ -32,11 +35,16 @@ or_false : (b : Bool) → (b || false) ≡ b
 or_false true = refl
 or_false false = refl
 
--- the states of one more operation
-module _ (p : Plan) (w v : Waiting) (n : ℕ) (state : OperationState) (plan : IsPlan p) (there : n < length p.tables.now.ops.items)
+-- the states of one more operation, of which it is noted what it keeps out in calendar m
+module _ (p : Plan) (w v : Waiting) (m : Calendar) (n : ℕ) (state : OperationState) (plan : IsPlan p) (there : n < length p.tables.now.ops.items)
     (so_far : IsOpening p w n) (states : v.states.items ≡ w.states.items ++ state ∷ []) (fresh : state.issued ≡ None)
     (unmet : state.wait.unmet ≡ (graph_of p.tables.now.edges).start (n + 1) - (graph_of p.tables.now.edges).start n)
-    (soon : state.wait.earliest ≡ 0) where
+    (soon : state.wait.earliest ≡ 0) (class : Class) (is : class ≡ class_at p.tables.now.ops.items n)
+    (noted : Puts w.calendar m (33 + place_of class) (rank_of p n) (excludes class class || has w.calendar (33 + place_of class) (rank_of p n)))
+    (room : KeepsRoom w.calendar m) where
+  same_below : (s r : ℕ) → s ≤ 32 → has m s r ≡ has w.calendar s r
+  same_below s r low = noted.others s r (omega (arith, place_small class)) (λ same _. absurd (omega arith))
+
   issued_more : issued_list v ≡ replicate (n + 1) not_issued
   issued_more = ap issued_in states ∙ pushed (λ (s : OperationState). s.issued) w.states.items state
       ∙ ap (λ o. issued_list w ++ o ∷ []) fresh ∙ ap (λ xs. xs ++ not_issued ∷ []) so_far.issued
@@ -52,8 +60,8 @@ module _ (p : Plan) (w v : Waiting) (n : ℕ) (state : OperationState) (plan : I
       ∙ ap (λ x. earliest_list w ++ x ∷ []) soon ∙ ap (λ xs. xs ++ 0 ∷ []) so_far.earliest
       ∙ replicate_more n 0
 
-  new_rank : has w.calendar 0 (rank_of p n) ≡ false
-  new_rank = by_bool (has w.calendar 0 (rank_of p n))
+  new_rank : has m 0 (rank_of p n) ≡ false
+  new_rank = same_below 0 (rank_of p n) (omega arith) ∙ by_bool (has w.calendar 0 (rank_of p n))
       (λ held.
       let was = (so_far.only 0 (rank_of p n) (omega arith) held).1 in
       let before : was.0 < n = was.1 in
@@ -64,23 +72,23 @@ module _ (p : Plan) (w v : Waiting) (n : ℕ) (state : OperationState) (plan : I
   -- it goes into the first bucket if it has no edge to wait for
   pub opening_more : (ready : Bool)
       → ready ≡ eqb ((graph_of p.tables.now.edges).start n) ((graph_of p.tables.now.edges).start (n + 1))
-      → Puts w.calendar v.calendar 0 (rank_of p n) (ready || has w.calendar 0 (rank_of p n))
-      → KeepsRoom w.calendar v.calendar → IsOpening p v (n + 1)
-  opening_more ready is puts keeps = record {
+      → Puts m v.calendar 0 (rank_of p n) (ready || has m 0 (rank_of p n)) → KeepsRoom m v.calendar → IsOpening p v (n + 1)
+  opening_more ready at_end puts keeps = record {
     issued = issued_more;
     unmet = unmet_more;
     earliest = earliest_more;
-    room = room_kept w.calendar v.calendar (length p.tables.now.ops.items) keeps so_far.room;
-    kept = kept_put p w.calendar v.calendar (length p.tables.now.ops.items) 0 (rank_of p n) _ (omega arith) puts so_far.kept;
+    room = room_kept w.calendar v.calendar (length p.tables.now.ops.items) (room_trans w.calendar m v.calendar room keeps) so_far.room;
+    kept = kept_put p m v.calendar (n + 1) 0 (rank_of p n) _ (omega arith) puts
+        (keeps_out_more p plan w.calendar m n class there so_far.kept is noted);
     roots = λ j below. by_eq j n
-        (λ same. ap (λ k. has v.calendar 0 (rank_of p k)) same ∙ puts.here ∙ ap (λ b. ready || b) new_rank ∙ or_false ready ∙ is
+        (λ same. ap (λ k. has v.calendar 0 (rank_of p k)) same ∙ puts.here ∙ ap (λ b. ready || b) new_rank ∙ or_false ready ∙ at_end
         ∙ ap (λ k. eqb ((graph_of p.tables.now.edges).start k) ((graph_of p.tables.now.edges).start (k + 1))) (sym same))
         (λ apart. puts.others 0 (rank_of p j) (omega arith) (λ _ same. apart (ranks_apart p plan j n (omega arith) there same))
-        ∙ so_far.roots j (omega arith));
+        ∙ same_below 0 (rank_of p j) (omega arith) ∙ so_far.roots j (omega arith));
     only = λ s r low held. by_both s 0 r (rank_of p n)
         (λ first same. (first, (n, omega arith, sym same)))
         (λ other.
-        let was = so_far.only s r low (sym (puts.others s r (omega arith) other) ∙ held) in
+        let was = so_far.only s r low (sym (puts.others s r (omega arith) other ∙ same_below s r low) ∙ held) in
         let before : was.1.0 < n = was.1.1 in
         (was.0, (was.1.0, omega arith, was.1.2)));
   }
@@ -113,6 +121,22 @@ opened graph w is none unmet earliest roots others = record {
       (λ apart. absurd (true≢false (sym held ∙ others b j small apart)));
 }
 
+-- none is made
+pub opening_none : (p : Plan) (w : Waiting) → w.states.items ≡ [] → HasRoom w.calendar (length p.tables.now.ops.items)
+    → ((s r : ℕ) → has w.calendar s r ≡ false) → IsOpening p w 0
+opening_none p w none room empty = record {
+  issued = ap issued_in none;
+  unmet = ap unmet_in none;
+  earliest = ap earliest_in none;
+  room = room;
+  kept = record {
+    each = λ k j below. absurd (omega arith);
+    only = λ k r held. absurd (true≢false (sym held ∙ empty (33 + place_of k) r));
+  };
+  roots = λ j below. absurd (omega arith);
+  only = λ s r low held. absurd (true≢false (sym held ∙ empty s r));
+}
+
 -- all states are made
 module _ (p : Plan) (w : Waiting) (plan : IsPlan p) (made : IsOpening p w (length p.tables.now.edges.heads.items)) where
   pub none_issued : (j : ℕ) → (progress_of p.ranks.now w).issued j ≡ None
@@ -139,7 +163,7 @@ module _ (p : Plan) (w : Waiting) (plan : IsPlan p) (made : IsOpening p w (lengt
     ranked = λ s r low held.
         let was = (made.only s r low held).1 in
         (was.0, subst (λ n. was.0 < n) plan.graph.size was.1, was.2);
-    kept = made.kept;
+    kept = subst (λ n. KeepsOut p n w.calendar) plan.graph.size made.kept;
   }
 
   pub none_ready : (r : ℕ) → has w.calendar 32 r ≡ false

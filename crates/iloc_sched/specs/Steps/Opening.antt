@@ -16,7 +16,7 @@ pub record IsOpening (p : Plan) (w : Waiting) (n : ℕ) : Type 0 where
   pub unmet : unmet_list w ≡ map (λ j. slice_index p.tables.now.edges.starts.items (j + 1) - slice_index p.tables.now.edges.starts.items j) (range_with_len 0 n)
   pub earliest : earliest_list w ≡ replicate n 0
   pub room : HasRoom w.calendar (length p.tables.now.ops.items)
-  pub kept : KeepsOut p (length p.tables.now.ops.items) w.calendar
+  pub kept : KeepsOut p n w.calendar
   pub roots : (j : ℕ) → j < n
       → has w.calendar 0 (rank_of p j) ≡ ((graph_of p.tables.now.edges).start j == (graph_of p.tables.now.edges).start (j + 1))
   pub only : (s r : ℕ) → s ≤ 32 → has w.calendar s r ≡ true → (s ≡ 0) × IsRanked p n r

@@ -1,31 +1,46 @@
-use Rattle.std.proofs.Common.{◌≡◌, ◌+◌, ◌-◌, ◌<◌, ◌≤◌, length, ap, None, nat_eq, refl, ◌∙◌, subst, arith}
+use Rattle.std.proofs.Common.{◌≡◌, ◌+◌, ◌-◌, ◌<◌, ◌≤◌, ◌||◌, length, ap, None, nat_eq, refl, ◌∙◌, subst, arith}
 use Rattle.iloc_sched.specs.declared.cycle.waiting.OperationState.{OperationState}
 use Rattle.iloc_sched.specs.declared.cycle.waiting.Waiting.{Waiting}
-use Rattle.iloc_sched.specs.Steps.Calendar.{HasRoom}
+use Rattle.iloc_sched.specs.Steps.Calendar.{has, HasRoom, Puts}
+use Rattle.iloc_sched.specs.Steps.Classes.{place_of}
 use Rattle.iloc_sched.specs.Steps.Opening.{IsOpening}
 use Rattle.iloc_sched.specs.Steps.SoFar.{rank_of}
 use Rattle.iloc_sched.specs.Steps.Views.{graph_of}
-use Rattle.iloc_sched.proofs.Walking.FirstStates.{opening_more, none_issued, all_opened, all_sized, all_calendar, none_ready}
+use Rattle.iloc_sched.proofs.Ranks.Calendars.{within_kept}
+use Rattle.iloc_sched.proofs.Walking.FirstStates.{opening_none, opening_more, none_issued, all_opened, all_sized, all_calendar, none_ready}
 use Rattle.iloc_sched.proofs.cycle.waiting.Waiting.open.Goals as goal
 
 pub clear-requires : goal.clear-requires
 clear-requires c = let short = c.args.plan.now.tables.now.edges.short in omega (arith, c.op_count-count.ensures)
 
-pub keep_classes_out-requires : goal.keep_classes_out-requires
-keep_classes_out-requires c = record {
-  plan = c.requires.plan;
-  room = subst (λ n. HasRoom c.clear.new.self n) (c.op_count-count.ensures ∙ c.requires.plan.graph.size) c.in_ok-clear.ensures.room;
-  empty = c.in_ok-clear.ensures.empty;
+pub loop-j-init : goal.loop-j-init
+loop-j-init c = record {
+  opening = opening_none c.args.plan.now (record { states = c.reserve.new.self; calendar = c.clear.new.self })
+      (c.in_ok-reserve.ensures.items ∙ c.clear-2.ensures.items)
+      (subst (λ n. HasRoom c.clear.new.self n) (c.op_count-count.ensures ∙ c.requires.plan.graph.size) c.in_ok-clear.ensures.room)
+      c.in_ok-clear.ensures.empty;
+  place = c.start-place.ensures;
+  size = c.in_ok-reserve.ensures.len ∙ c.clear-2.ensures.len;
+  capacity = omega (arith, c.in_ok-reserve.ensures.ok, c.reserve.ensures.len, c.clear-2.ensures.len);
 }
 
-pub put_if-requires : goal.put_if-requires
-put_if-requires c =
-    let p = c.args.plan.now in
+pub keep_out_if-requires : goal.keep_out_if-requires
+keep_out_if-requires c =
     let size = c.requires.plan.graph.size in
     let count = c.requires.plan.priorities in
     let all = c.op_count-count.ensures in
     let low = c.requires.plan.ranked.within c.loop-j.j (omega arith) in
-    c.loop-j.invariant.opening.room.ranks (rank_of p c.loop-j.j) (omega arith)
+    c.loop-j.invariant.opening.room.ranks (rank_of c.args.plan.now c.loop-j.j) (omega arith)
+
+pub put_if-requires : goal.put_if-requires
+put_if-requires c =
+    let r = rank_of c.args.plan.now c.loop-j.j in
+    let size = c.requires.plan.graph.size in
+    let count = c.requires.plan.priorities in
+    let all = c.op_count-count.ensures in
+    let low = c.requires.plan.ranked.within c.loop-j.j (omega arith) in
+    within_kept c.loop-j.self.calendar c.keep_out_if.new.self r c.keep_out_if.ensures.room
+    (c.loop-j.invariant.opening.room.ranks r (omega arith))
 
 pub overflow_sub-end : goal.overflow_sub-end
 overflow_sub-end c =
@@ -76,11 +91,16 @@ loop-j-preserved c =
     ap (λ n. n - c.loop-j.place) c.start-end.ensures ∙ ap (λ n. (graph_of e).start (j + 1) - n) at in
     let ready : nat_eq c.loop-j.place c.start-end.result ≡ nat_eq ((graph_of e).start j) ((graph_of e).start (j + 1)) =
     ap (λ n. nat_eq n c.start-end.result) at ∙ ap (λ n. nat_eq ((graph_of e).start j) n) c.start-end.ensures in
+    let k = c.class_of-class.result in
     let v : Waiting = record { states = c.push_reserved.new.self; calendar = c.put_if.new.self } in
     let below : j < length e.heads.items = omega (arith, c.op_count-count.ensures) in
     record {
-      opening = opening_more p c.loop-j.self v j state c.requires.plan (subst (λ n. j < n) c.requires.plan.graph.size below)
-          c.loop-j.invariant.opening c.push_reserved.ensures.items refl unmet refl (nat_eq c.loop-j.place c.start-end.result) ready
+      opening = opening_more p c.loop-j.self v c.keep_out_if.new.self j state c.requires.plan
+          (subst (λ n. j < n) c.requires.plan.graph.size below)
+          c.loop-j.invariant.opening c.push_reserved.ensures.items refl unmet refl k c.class_of-class.ensures
+          (subst (λ b. Puts c.loop-j.self.calendar c.keep_out_if.new.self (33 + place_of k) (rank_of p j)
+          (b || has c.loop-j.self.calendar (33 + place_of k) (rank_of p j))) c.is_limited.ensures c.keep_out_if.ensures.puts)
+          c.keep_out_if.ensures.room (nat_eq c.loop-j.place c.start-end.result) ready
           c.put_if.ensures.puts c.put_if.ensures.room;
       place = c.start-end.ensures;
       size = omega arith;
