@@ -60,8 +60,9 @@ pub fn write_op(line: &mut [u8], end: usize, op: &Op) -> usize
     write_text(line, start, opcode.text())
 }
 
-/// Writes the operands so that they end at `end`, the last of them first, and gives where they start. Apart from `form_of`
-/// it jumps by the form a second time: inlined, `schedule` mispredicts 0.75 to 0.85 branches less for each operation.
+/// Writes the operands so that they end at `end`, the last of them first, and gives where they start. Apart from
+/// `form_of` it jumps by the form a second time: inlined, `schedule` mispredicts 0.75 to 0.85 branches less for each
+/// operation.
 #[inline(always)]
 fn write_operands(line: &mut [u8], end: usize, operands: Operands) -> usize
     requires { (LONGEST_OPERATION ≤ end) × (end ≤ length line.old) }
@@ -127,15 +128,32 @@ fn write_immediate(line: &mut [u8], end: usize, left: Reg, value: u32, dest: Reg
 
 /// Writes `lead` and the number so that they end at `end`, and gives where they start.
 #[inline(always)]
-#[tactic(auto, using(crate::proofs::ShortDecimals::decimal_is_short))]
 fn write_operand(line: &mut [u8], end: usize, lead: &[u8], number: u32) -> usize
     requires { (length lead.now + 10 ≤ end) × (end ≤ length line.old) }
     ensures space { (result ≤ end) × (end ≤ result + (length lead.now + 10)) }
     ensures length { length line.new ≡ length line.old }
     ensures written { drop result line.new ≡ lead.now ++ (decimal number ++ drop end line.old) }
 {
-    let start = write_digits(u64::from(number), line, end);
+    let start = write_number(line, end, number);
     write_text(line, start, lead)
+}
+
+/// Writes the number so that it ends at `end`, and gives where it starts. With no branch on whether a number below 100
+/// has one digit or two, `schedule` mispredicts 0.1 branches less for each operation on tiny blocks and 0.4 on others.
+#[inline(always)]
+#[tactic(auto, using(crate::proofs::ShortDecimals::decimal_is_short))]
+fn write_number(line: &mut [u8], end: usize, number: u32) -> usize
+    requires { (10 ≤ end) × (end ≤ length line.old) }
+    ensures space { (result ≤ end) × (end ≤ result + 10) }
+    ensures length { length line.new ≡ length line.old }
+    ensures written { drop result line.new ≡ decimal number ++ drop end line.old }
+{
+    if number >= 100 {
+        return write_digits(u64::from(number), line, end);
+    }
+    // As its last two of three digits, where the first of the two may be a zero to leave out.
+    let start = write_digits(u64::from(number) + 100, line, end);
+    start + 1 + usize::from(number < 10)
 }
 
 /// Writes the text, and gives where it starts.
