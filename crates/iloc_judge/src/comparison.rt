@@ -6,7 +6,7 @@ use crate::difference::Difference;
 use crate::judgement::TwoRuns;
 use crate::refutation::effort::Effort;
 use crate::refutation::probe::Probe;
-use crate::refutation::{Refutation, difference_on, refute};
+use crate::refutation::{Refutation, Trial, difference_on, refute};
 use crate::task::{Judging, Task};
 use crate::void::{Void, why_void};
 use iloc_ops::NoMemory;
@@ -57,28 +57,18 @@ pub(crate) fn compared(
     if outputs_alone && runs.agree(alloc, true)? {
         return Ok(Comparison::Prints);
     }
-    let handed_in = memory.copy()?;
-    if let Some(difference) = difference_on(
-        alloc,
+    let trial = Trial {
         outputs_alone,
         block,
-        theirs,
+        schedule: theirs,
         latencies,
-        handed_in,
-    )? {
+    };
+    if let Some(difference) = difference_on(alloc, &trial, memory.copy()?)? {
         return Ok(Comparison::Differs(difference));
     }
     let effort = Effort::on_one_of(blocks, block, theirs);
     let clues = runs.clues(alloc, effort.span)?;
-    match refute(
-        alloc,
-        outputs_alone,
-        block,
-        theirs,
-        latencies,
-        &clues,
-        effort,
-    )? {
+    match refute(alloc, &trial, &clues, effort)? {
         Some(Refutation { probe, difference }) => Ok(Comparison::DiffersOn(probe, difference)),
         None => Ok(Comparison::Agrees),
     }

@@ -28,38 +28,41 @@ pub(crate) struct Refutation {
     pub(crate) difference: Difference,
 }
 
+/// A schedule that is run beside its block, on one memory after another.
+#[derive(Clone, Copy)]
+pub(crate) struct Trial<'a> {
+    pub(crate) outputs_alone: bool,
+    pub(crate) block: &'a Block,
+    pub(crate) schedule: &'a Schedule,
+    pub(crate) latencies: &'a Latencies,
+}
+
 /// Where a schedule's outcome on a memory differs from a block's: in more than memory, where outputs alone are compared.
 pub(crate) fn difference_on(
     alloc: Global,
-    outputs_alone: bool,
-    block: &Block,
-    schedule: &Schedule,
-    latencies: &Latencies,
+    trial: &Trial<'_>,
     memory: Memory,
 ) -> Result<Option<Difference>, NoMemory>
     ensures { IfOk result (λ found. MatchOption found
-        (AgreesOn outputs_alone latencies.now block.now.ops schedule.now.ops schedule.now.rows memory)
-        (DiffersAt outputs_alone latencies.now block.now.ops schedule.now.ops schedule.now.rows memory)) }
+        (AgreesOn trial.now.outputs_alone trial.now.latencies.now trial.now.block.now.ops
+        trial.now.schedule.now.ops trial.now.schedule.now.rows memory) (DiffersAt trial.now memory)) }
 {
-    let wanted = run_block(alloc, block, memory.copy()?)?;
-    let got = run_schedule(alloc, schedule, latencies, memory)?;
-    Ok(first_difference(outputs_alone, &got, &wanted))
+    let wanted = run_block(alloc, trial.block, memory.copy()?)?;
+    let got = run_schedule(alloc, trial.schedule, trial.latencies, memory)?;
+    Ok(first_difference(trial.outputs_alone, &got, &wanted))
 }
 
 /// The difference between a schedule's outcome and a block's on a made-up memory.
 fn refutation_on(
     alloc: Global,
-    outputs_alone: bool,
-    block: &Block,
-    schedule: &Schedule,
-    latencies: &Latencies,
+    trial: &Trial<'_>,
     probe: Probe,
 ) -> Result<Option<Refutation>, NoMemory>
-    ensures { IfOk result (λ found. IfSome found (λ it. DiffersAt outputs_alone latencies.now block.now.ops
-        schedule.now.ops schedule.now.rows (memory_of it.probe) it.difference)) }
+    ensures { IfOk result (λ found. IfSome found (λ it.
+        DiffersAt trial.now (memory_of it.probe) it.difference)) }
 {
     let memory = Memory::with_words(alloc, probe.at, &probe.words)?;
-    match difference_on(alloc, outputs_alone, block, schedule, latencies, memory)? {
+    match difference_on(alloc, trial, memory)? {
         Some(difference) => Ok(Some(Refutation { probe, difference })),
         None => Ok(None),
     }
@@ -68,35 +71,17 @@ fn refutation_on(
 /// Tries a few memories that are made up of what two runs mention, and shortens the first that shows a difference.
 pub(crate) fn refute(
     alloc: Global,
-    outputs_alone: bool,
-    block: &Block,
-    schedule: &Schedule,
-    latencies: &Latencies,
+    trial: &Trial<'_>,
     clues: &Clues,
     effort: Effort,
 ) -> Result<Option<Refutation>, NoMemory>
-    ensures { IfOk result (λ found. IfSome found (λ it. DiffersAt outputs_alone latencies.now block.now.ops
-        schedule.now.ops schedule.now.rows (memory_of it.probe) it.difference)) }
+    ensures { IfOk result (λ found. IfSome found (λ it.
+        DiffersAt trial.now (memory_of it.probe) it.difference)) }
 {
     for pattern in Pattern::ALL.into_iter().take(effort.tries) {
         let probe = Probe::of(alloc, pattern, clues)?;
-        if let Some(found) = refutation_on(
-            alloc,
-            outputs_alone,
-            block,
-            schedule,
-            latencies,
-            probe,
-        )? {
-            return Ok(Some(shortened(
-                alloc,
-                outputs_alone,
-                block,
-                schedule,
-                latencies,
-                found,
-                effort.reruns,
-            )?));
+        if let Some(found) = refutation_on(alloc, trial, probe)? {
+            return Ok(Some(shortened(alloc, trial, found, effort.reruns)?));
         }
     }
     Ok(None)

@@ -3,9 +3,8 @@ ghost use Rattle.std.specs.Prelude.{◌<◌, IfOk};
 ghost use Rattle.iloc_judge.specs.Memory.{memory_of};
 ghost use Rattle.iloc_judge.specs.Steps.Refuting.{DiffersAt};
 
-use crate::refutation::{Refutation, refutation_on};
-use iloc_ops::{Block, NoMemory};
-use iloc_timed::{Latencies, Schedule};
+use crate::refutation::{Refutation, Trial, refutation_on};
+use iloc_ops::NoMemory;
 use std::alloc::Global;
 
 /// How often 64 words, the most that are made up, are halved down to single words.
@@ -14,20 +13,15 @@ const HALVINGS: u32 = 6;
 /// Makes those of these words 0 without which there is a difference still, so many at a time.
 fn without_parts(
     alloc: Global,
-    outputs_alone: bool,
-    block: &Block,
-    schedule: &Schedule,
-    latencies: &Latencies,
+    trial: &Trial<'_>,
     found: Refutation,
     used: &[usize],
     at_a_time: usize,
     reruns: &mut usize,
 ) -> Result<Refutation, NoMemory>
     requires some { 0 < at_a_time }
-    requires differs { DiffersAt outputs_alone latencies.now block.now.ops schedule.now.ops schedule.now.rows
-        (memory_of found.probe) found.difference }
-    ensures { IfOk result (λ it. DiffersAt outputs_alone latencies.now block.now.ops schedule.now.ops schedule.now.rows
-        (memory_of it.probe) it.difference) }
+    requires differs { DiffersAt trial.now (memory_of found.probe) found.difference }
+    ensures { IfOk result (λ it. DiffersAt trial.now (memory_of it.probe) it.difference) }
 {
     let mut kept = found;
     for part in used.chunks(at_a_time) {
@@ -36,14 +30,7 @@ fn without_parts(
             continue;
         }
         *reruns -= 1;
-        if let Some(shorter) = refutation_on(
-            alloc,
-            outputs_alone,
-            block,
-            schedule,
-            latencies,
-            probe,
-        )? {
+        if let Some(shorter) = refutation_on(alloc, trial, probe)? {
             kept = shorter;
         }
     }
@@ -56,36 +43,21 @@ fn without_parts(
 /// For each word that matters block and rows are run again some 12 times.
 pub(crate) fn shortened(
     alloc: Global,
-    outputs_alone: bool,
-    block: &Block,
-    schedule: &Schedule,
-    latencies: &Latencies,
+    trial: &Trial<'_>,
     found: Refutation,
     most_reruns: usize,
 ) -> Result<Refutation, NoMemory>
-    requires { DiffersAt outputs_alone latencies.now block.now.ops schedule.now.ops schedule.now.rows
-        (memory_of found.probe) found.difference }
-    ensures { IfOk result (λ it. DiffersAt outputs_alone latencies.now block.now.ops schedule.now.ops schedule.now.rows
-        (memory_of it.probe) it.difference) }
+    requires { DiffersAt trial.now (memory_of found.probe) found.difference }
+    ensures { IfOk result (λ it. DiffersAt trial.now (memory_of it.probe) it.difference) }
 {
     let mut kept = found;
     let mut reruns = most_reruns;
     let used = kept.probe.used(alloc)?;
     for bits in (0..HALVINGS).rev() {
-        kept = without_parts(
-            alloc,
-            outputs_alone,
-            block,
-            schedule,
-            latencies,
-            kept,
-            &used,
-            1 << bits,
-            &mut reruns,
-        )?;
+        kept = without_parts(alloc, trial, kept, &used, 1 << bits, &mut reruns)?;
     }
     let probe = kept.probe.trimmed(alloc)?;
-    match refutation_on(alloc, outputs_alone, block, schedule, latencies, probe)? {
+    match refutation_on(alloc, trial, probe)? {
         Some(trimmed) => Ok(trimmed),
         None => Ok(kept),
     }
