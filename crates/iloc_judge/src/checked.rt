@@ -1,7 +1,7 @@
 //! What is found of the rows that are proposed for a block.
 ghost use Rattle.std.specs.Prelude.{ℕ, ◌≡◌, ◌++◌, List, IfOk, OnOk};
 ghost use Rattle.iloc_timed.specs.Schedule.{IsFirstBadRow};
-ghost use Rattle.iloc_judge.specs.Checked.{compared_kind, kind_of, passes, IsCheck};
+ghost use Rattle.iloc_judge.specs.Checked.{compared_kind, found, kind_of, passes, IsCheck};
 ghost use Rattle.iloc_judge.specs.Entry.{entry_as};
 ghost use Rattle.iloc_judge.specs.Kept.{keeps_operations as kept};
 ghost use Rattle.iloc_judge.specs.Listing.{lines_of};
@@ -85,6 +85,26 @@ fn kind_of(lawful: bool, verdict: &Verdict) -> VerdictKind
     }
 }
 
+/// What is found of a proposal with this verdict.
+pub(crate) fn found(
+    task: &Task<'_>,
+    proposal: &Proposal,
+    kind: VerdictKind,
+    keeps_operations: bool,
+) -> Result<Checked, NoMemory>
+    ensures { IfOk result (λ checked. checked ≡ found kind keeps_operations task.now.sought
+        task.now.latencies.now task.now.block.now.ops task.now.ours.now proposal.now) }
+{
+    Ok(Checked {
+        kind,
+        keeps_operations,
+        cycles: cycles_of(proposal.ops(), proposal.rows(), task.latencies),
+        ours: cycles(task.ours, task.latencies),
+        sought: task.sought,
+        least: task.graph.least()?,
+    })
+}
+
 /// Appends a line with this verdict on operations and rows, and what is said below it.
 fn push_lines(
     text: &mut Vec<u8>,
@@ -142,14 +162,7 @@ fn push_units(
         × (text.new.items ≡ text.old.items ++ entry)) }
 {
     let (ops, rows) = (proposal.ops(), proposal.rows());
-    let checked = Checked {
-        kind: VerdictKind::Units,
-        keeps_operations,
-        cycles: cycles_of(ops, rows, task.latencies),
-        ours: cycles(task.ours, task.latencies),
-        sought: task.sought,
-        least: task.graph.least()?,
-    };
+    let checked = found(task, proposal, VerdictKind::Units, keeps_operations)?;
     let verdict = Verdict::Units(row);
     push_entry(
         text,
@@ -191,16 +204,13 @@ pub fn push_check(
         return push_units(text, judging, task, &proposal, keeps_operations, row);
     }
     let claimed = proposal.claimed();
+    let found = found(task, &proposal, VerdictKind::Lawful, keeps_operations)?;
     let theirs = proposal.into_schedule();
     let (ops, rows) = (theirs.ops(), theirs.rows());
     let verdict = judge(alloc, judging, task, &theirs)?;
     let checked = Checked {
         kind: kind_of(options.lawful, &verdict),
-        keeps_operations,
-        cycles: cycles(&theirs, task.latencies),
-        ours: cycles(task.ours, task.latencies),
-        sought: task.sought,
-        least: task.graph.least()?,
+        ..found
     };
     push_entry(text, judging, claimed, ops, rows, &verdict, checked)?;
     Ok(checked)

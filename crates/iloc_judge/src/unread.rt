@@ -2,15 +2,14 @@
 ghost use Rattle.std.specs.Prelude.{ℕ, ◌≡◌, ◌++◌, List, Some, IfOk, OnOk};
 ghost use Rattle.iloc_judge.specs.Unread.{in_one_line, unread_as, unread_lines, unread_told, IsUnread, IsUnreadLine};
 
-use crate::checked::Checked;
 use crate::checked::verdict_line::{push_line, push_table_row};
+use crate::checked::{Checked, found};
 use crate::json::push_unread_json;
 use crate::task::{Form, Task};
 use crate::verdict::kind::VerdictKind;
 use iloc_lint::row_wording;
 use iloc_ops::{NoMemory, push_number};
 use iloc_rows::{Proposal, Unread};
-use iloc_timed::{cycles, cycles_of};
 use std::alloc::Global;
 
 /// Appends words without line ends.
@@ -104,16 +103,8 @@ pub fn push_unread(
         × IsUnread form task.now.latencies.now task.now.block.now.ops task.now.ours.now proposal.now checked entry
         × (text.new.items ≡ text.old.items ++ entry)) }
 {
-    let (ops, rows, claimed) = (proposal.ops(), proposal.rows(), proposal.claimed());
-    let checked = Checked {
-        kind: VerdictKind::Unread,
-        keeps_operations: false,
-        cycles: cycles_of(ops, rows, task.latencies),
-        ours: cycles(task.ours, task.latencies),
-        sought: task.sought,
-        least: task.graph.least()?,
-    };
+    let checked = found(task, proposal, VerdictKind::Unread, false)?;
     let words = row_wording(alloc, unread.text.as_bytes())?;
-    push_unread_as(text, form, checked, claimed, unread, &words)?;
+    push_unread_as(text, form, checked, proposal.claimed(), unread, &words)?;
     Ok(checked)
 }

@@ -1,6 +1,4 @@
-use Rattle.std.proofs.Common.{ap, refl, ◌∙◌}
-use Rattle.iloc_sched.specs.GraphOf.{GraphOf}
-use Rattle.iloc_sched.specs.Least.{least_of}
+use Rattle.std.proofs.Common.{refl}
 use Rattle.iloc_judge.specs.declared.checked.Checked.{Checked}
 use Rattle.iloc_judge.specs.Entry.{entry_as}
 use Rattle.iloc_judge.proofs.Counted.{verdict_listed}
@@ -17,25 +15,16 @@ push_entry-requires c =
 pub returns-clause-entry : goal.returns-clause-entry
 returns-clause-entry c =
     let p = c.args.proposal in
-    let task = c.args.task.now in
     let options = c.args.judging.now.options in
     let ops = c.into_schedule-theirs.ensures.ops in
     let rows = c.into_schedule-theirs.ensures.rows in
-    let bound = c.in_ok-least.ensures ∙ ap (λ (g : GraphOf). least_of g.latencies g.ops) task.drawn in
-    let checked : Checked = record {
-      kind = c.kind_of.result;
-      keeps_operations = c.in_ok-keeps_operations.keeps_operations;
-      cycles = c.cycles.result;
-      ours = c.cycles-2.result;
-      sought = c.args.task.now.sought;
-      least = c.in_ok-least.field-0;
-    } in (
+    let checked : Checked = record c.in_ok-found.found { kind = c.kind_of.result } in (
       entry_as options.lawful options.form p.claimed p.ops p.rows c.in_ok-verdict.verdict checked,
       record {
         verdict = c.in_ok-verdict.verdict;
         right = rw (ops, rows) at c.in_ok-verdict.ensures.right;
         own = rw (ops, rows) at c.in_ok-verdict.ensures.own;
-        is_found = rw (c.kind_of.ensures, c.in_ok-keeps_operations.ensures, c.ops.ensures, c.cycles.ensures, ops, rows, c.cycles-2.ensures, bound) refl;
+        is_found = rw (c.kind_of.ensures, c.in_ok-found.ensures, c.in_ok-keeps_operations.ensures, c.ops.ensures) refl;
         listed = refl;
       },
       rw (c.ops-ops.ensures.ops, c.rows-rows.ensures.rows, ops, rows, c.claimed-claimed.ensures) at c.in_ok-push_entry.ensures,

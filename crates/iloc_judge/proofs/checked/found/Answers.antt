@@ -1,0 +1,15 @@
+use Rattle.std.proofs.Common.{ap, refl, ◌∙◌}
+use Rattle.iloc_timed.proofs.Standing.{numbered_from}
+use Rattle.iloc_sched.specs.GraphOf.{GraphOf}
+use Rattle.iloc_sched.specs.Least.{least_of}
+use Rattle.iloc_judge.proofs.checked.found.Goals as goal
+
+pub cycles_of-requires-clause-numbered : goal.cycles_of-requires-clause-numbered
+cycles_of-requires-clause-numbered c =
+    rw (c.ops.ensures, c.rows.ensures.rows)
+    (numbered_from c.args.proposal.now.ops c.args.proposal.now.rows c.rows.ensures.in_range c.rows.ensures.once)
+
+pub returns : goal.returns
+returns c =
+    let bound = c.in_ok-least.ensures ∙ ap (λ (g : GraphOf). least_of g.latencies g.ops) c.args.task.now.drawn in
+    rw (c.cycles_of.ensures, c.ops.ensures, c.rows.ensures.rows, c.cycles.ensures, bound) refl
