@@ -101,11 +101,8 @@ verdict_members checked claimed =
 
 -- How rows compare with their block
 
-abbrev pub faults_value : Op → List ℕ
-faults_value op = codes "{\"kind\":\"faults\"" ++ op_member (codes "operation") op ++ codes "}"
-
 abbrev pub void_value : Void → List ℕ
-void_value (Faults op) = faults_value op
+void_value (Faults op) = codes "{\"kind\":\"faults\"" ++ op_member (codes "operation") op ++ codes "}"
 void_value ShowsNothing = codes "{\"kind\":\"shows_nothing\"}"
 
 -- what came and what was wanted, and the end of their object
@@ -146,14 +143,12 @@ void_member why = codes ",\"void\":" ++ void_value why
 abbrev pub difference_member : Difference → List ℕ
 difference_member difference = codes ",\"void\":null,\"difference\":" ++ difference_value difference
 
-abbrev pub memory_member : Probe → List ℕ
-memory_member probe = codes ",\"memory\":" ++ memory_value probe
-
 -- why nothing can be said of rows; where they differ from their block, and on which memory, null for the one handed in
 abbrev pub comparison_members : Comparison → List ℕ
 comparison_members (of.Void why) = void_member why ++ codes ",\"difference\":null,\"memory\":null"
 comparison_members (of.Differs difference) = difference_member difference ++ codes ",\"memory\":null"
-comparison_members (of.DiffersOn probe difference) = difference_member difference ++ memory_member probe
+comparison_members (of.DiffersOn probe difference) =
+    difference_member difference ++ codes ",\"memory\":" ++ memory_value probe
 comparison_members _ = no_difference
 
 -- Why rows aren't a schedule of their block by the book

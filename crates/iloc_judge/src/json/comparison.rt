@@ -10,23 +10,18 @@ use crate::comparison::Comparison;
 use crate::difference::Difference;
 use crate::refutation::probe::Probe;
 use crate::void::Void;
-use iloc_ops::{NoMemory, Op, push_number};
-
-/// Appends that a block faults at an operation.
-fn push_faults(text: &mut Vec<u8>, op: &Op) -> Result<(), NoMemory>
-    ensures { OnOk result (text.new.items ≡ text.old.items ++ json.faults_value op.now) }
-{
-    push_literal(text, "{\"kind\":\"faults\"")?;
-    push_op_member(text, "operation", op)?;
-    push_literal(text, "}")
-}
+use iloc_ops::{NoMemory, push_number};
 
 /// Appends why a block's outcome says nothing.
 fn push_void(text: &mut Vec<u8>, why: &Void) -> Result<(), NoMemory>
     ensures { OnOk result (text.new.items ≡ text.old.items ++ json.void_value why.now) }
 {
     match *why {
-        Void::Faults(op) => push_faults(text, &op),
+        Void::Faults(op) => {
+            push_literal(text, "{\"kind\":\"faults\"")?;
+            push_op_member(text, "operation", &op)?;
+            push_literal(text, "}")
+        }
         Void::ShowsNothing => push_literal(text, "{\"kind\":\"shows_nothing\"}"),
     }
 }
@@ -147,14 +142,6 @@ fn push_difference_member(text: &mut Vec<u8>, difference: &Difference) -> Result
     push_difference(text, difference)
 }
 
-/// Appends a memory that is made up, as a member.
-fn push_memory_member(text: &mut Vec<u8>, probe: &Probe) -> Result<(), NoMemory>
-    ensures { OnOk result (text.new.items ≡ text.old.items ++ json.memory_member probe.now) }
-{
-    push_literal(text, ",\"memory\":")?;
-    push_memory(text, probe)
-}
-
 /// Appends how rows compare with their block.
 pub(crate) fn push_comparison(text: &mut Vec<u8>, comparison: &Comparison) -> Result<(), NoMemory>
     requires { CanBeCompared comparison.now }
@@ -172,7 +159,8 @@ pub(crate) fn push_comparison(text: &mut Vec<u8>, comparison: &Comparison) -> Re
         }
         Comparison::DiffersOn(probe, difference) => {
             push_difference_member(text, difference)?;
-            push_memory_member(text, probe)
+            push_literal(text, ",\"memory\":")?;
+            push_memory(text, probe)
         }
     }
 }
