@@ -4,12 +4,7 @@ use Rattle.std.specs.Prelude.{get_or, replicate, slice_index_or}
 use Rattle.std.proofs.lemmas.List.{append_assoc, get_or-replicate, map-append}
 use Rattle.std.specs.List.{All, AllZip, range_with_len}
 use Rattle.std.proofs.lemmas.List.Elements.{All-nil, All-cons, All-head, All-tail, All-same, All-push}
-
--- a number more at the end
-pub range-more : (a n : ℕ) → range_with_len a (suc n) ≡ range_with_len a n ++ (a + n) ∷ []
-range-more a zero = ap (λ m. m ∷ []) (let e : a ≡ a + zero = omega arith in e)
-range-more a (suc n) = ap (λ t. a ∷ t) (range-more (a + 1) n
-    ∙ ap (λ m. range_with_len (a + 1) n ++ m ∷ []) (let e : a + 1 + n ≡ a + suc n = omega arith in e))
+use Rattle.iloc_sched.proofs.Bounds.SharedMembers.{range-snoc}
 
 module _ {S W : Type 0} (R : S → W → Type 0) where
   -- what holds of each routine tells of what it gave
@@ -62,7 +57,7 @@ module _ {S : Type 0} where
       ∙ (map-append f xs (x ∷ [])
       ∙ (ap (λ t. t ++ f x ∷ []) h
       ∙ (ap (λ k. range_with_len 0 n ++ k ∷ []) (let k : f x ≡ 0 + n = omega arith in k)
-      ∙ (sym (range-more 0 n) ∙ ap (λ k. range_with_len 0 k) (sym next)))))
+      ∙ (sym (range-snoc 0 n) ∙ ap (λ k. range_with_len 0 k) (sym next)))))
 
   -- one pass more is gathered
   pub gathered_more : {V : Type 0} (f : S → V) (g more whole : List V) (xs rest : List S) (x : S)

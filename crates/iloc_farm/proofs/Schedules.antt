@@ -1,9 +1,8 @@
 -- The greedy schedules of a file's blocks: there is one list of them, they keep the outcomes, and their cycles are few.
-use Rattle.std.proofs.Common.{◌≡◌, ℕ, zero, suc, ◌+◌, ◌*◌, ◌^◌, ◌<◌, ◌≤◌, List, [], ◌∷◌, ◌++◌, get_or, length, map, sum_by, not, Some, refl, arith, inl, inr}
+use Rattle.std.proofs.Common.{◌≡◌, ℕ, suc, ◌+◌, ◌*◌, ◌^◌, ◌<◌, ◌≤◌, List, [], ◌∷◌, length, map, sum_by, Some, refl, arith, inl, inr}
 use Rattle.std.specs.Prelude.{slice_get}
 use Rattle.std.specs.List.{AllByRecursion, range_with_len}
-use Rattle.std.proofs.lemmas.List.Sums.{sum_by-cons, length-filter, count_by-le-length}
-use Rattle.std.proofs.lemmas.List.FromFn.{length-map-range_with_len}
+use Rattle.std.proofs.lemmas.List.Sums.{sum_by-cons}
 use Rattle.iloc_ops.specs.Limits.{MAX_BLOCKS, MAX_OPS}
 use Rattle.iloc_ops.specs.declared.op.Op.{Op}
 use Rattle.iloc_ops.specs.declared.file.Block.{Block}
@@ -18,11 +17,11 @@ use Rattle.iloc_timed.specs.Schedule.{Table}
 use Rattle.iloc_timed.specs.Rows.{issue_cycle}
 use Rattle.iloc_timed.proofs.WholeRuns.{short_latency}
 use Rattle.iloc_sched.specs.declared.cycle.calendar.TheConstants.{LONGEST_DELAY}
-use Rattle.iloc_sched.specs.Renaming.{renamed, renamed_op, without_nops, numbering, is_nop}
 use Rattle.iloc_sched.specs.declared.ranking.heuristic.Heuristic.{Heuristic}
 use Rattle.iloc_sched.specs.Greedy.{IsGreedy, IsGreedyBy}
 use Rattle.iloc_sched.specs.Heuristics.{priorities_by}
 use Rattle.iloc_sched.specs.Priority.{priorities}
+use Rattle.iloc_sched.proofs.Renamed.RenamingLoop.{renamed_fits}
 use Rattle.iloc_sched.proofs.Bounds.BusyCycles.{busy_bound_by}
 use Rattle.iloc_sched.proofs.Basics.Members.{from_map}
 use Rattle.iloc_sched.proofs.Basics.Maxima.{fold_max_reached}
@@ -81,20 +80,13 @@ latencies_at_most lat (op ∷ ops) =
     let tail : sum_by (latency lat) ops ≤ LONGEST_DELAY * length ops = latencies_at_most lat ops in
     rw (sum_by-cons (latency lat) op ops) (omega arith)
 
-pub renamed_no_longer : (block : List Op) → length (renamed block) ≤ length block
-renamed_no_longer block =
-    let kept : length (without_nops block) ≤ length block =
-    rw (length-filter (λ op. not (is_nop op)) block) (count_by-le-length (λ op. not (is_nop op)) block) in
-    rw (length-map-range_with_len (renamed_op (without_nops block) (numbering (without_nops block))) 0
-    (length (without_nops block))) kept
-
 pub cycles_few_by : (prios : List ℕ) (lat : Latencies) (block : List Op) (s : Table)
     → IsGreedyBy prios lat block s.ops s.rows → length block ≤ MAX_OPS → cycles_of lat s ≤ most_cycles
 cycles_few_by prios lat block s greedy short =
     let busy : cycles lat s.ops s.rows ≤ sum_by (latency lat) s.ops =
     busy_bound_by prios lat block s.ops s.rows greedy in
     let most : sum_by (latency lat) s.ops ≤ LONGEST_DELAY * length s.ops = latencies_at_most lat s.ops in
-    let longest : length s.ops ≤ length block = rw greedy.lawful.names (renamed_no_longer block) in
+    let longest : length s.ops ≤ length block = rw greedy.lawful.names (renamed_fits block) in
     omega arith
 
 pub cycles_few : (lat : Latencies) (block : List Op) (s : Table) → IsGreedy lat block s.ops s.rows
