@@ -1,9 +1,8 @@
 -- What the commands list of a block, and that requests that ask alike list one text.
 use Rattle.std.proofs.Common.{◌≡◌, ℕ, ℤ, false, List, [], ◌++◌, Option, Some, None, Result, Ok, Err, OnOk, IfOk, refl, sym, ap, ap₂, ◌∙◌, subst}
 use Rattle.std.proofs.Common.{append_assoc, append-nil, ◌&&◌, Bool, true}
+use Rattle.std.proofs.Math.Path.{transport}
 use Rattle.std.specs.Prelude.{codes, is_none}
-use Rattle.std.specs.declared.alloc.Global.{Global}
-use Rattle.std.specs.declared.string.String.{String}
 use Rattle.iloc_ops.specs.declared.file.Block.{Block}
 use Rattle.iloc_ops.specs.declared.op.Op.{Op}
 use Rattle.iloc_fault.proofs.Places.{one_place}
@@ -27,7 +26,6 @@ use Rattle.iloc_trace.specs.Listing.{trace_lines}
 use Rattle.iloc_args.specs.declared.request.Request.{Request}
 use Rattle.iloc_args.specs.declared.request.Task.{Task}
 use Rattle.iloc_args.specs.declared.request.Task.TheVariants as task
-use Rattle.iloc_farm.specs.Apart.{Held}
 use Rattle.iloc_farm.specs.Commands.Compare.{IsCompareEntry, IsCompareListing, IsComparedCycles, compare_ending, compare_header, compare_line}
 use Rattle.iloc_farm.specs.Commands.Counts.{IsCountEntry, IsCountListing, count_ending, count_header, count_line}
 use Rattle.iloc_farm.specs.Commands.Explain.{IsExplainEntry}
@@ -40,13 +38,10 @@ use Rattle.iloc_farm.specs.Commands.Trace.{IsTraceEntry}
 use Rattle.iloc_farm.specs.Laws.{AskAlike, SimulatingListsRuns, searches}
 use Rattle.iloc_farm.specs.Listing.{block_head, bound_comment, cycles_of, entries, opening_as, outcome_entry, schedule_entry, shown_entry}
 use Rattle.iloc_farm.specs.Listing.{total_of_all, words_or_fault}
-use Rattle.iloc_farm.specs.Run.{IsListingFor, ListsAs, ListsFrom}
+use Rattle.iloc_farm.specs.Run.{IsListingFor}
 use Rattle.iloc_farm.specs.Schedules.{IsCount, IsGreedyAs, IsTheGreedy}
-use Rattle.iloc_farm.specs.Entries.{AreListed, ListsRead}
+use Rattle.iloc_farm.specs.Entries.{AreListed}
 use Rattle.iloc_farm.specs.Steps.Listed.{Adds}
-use Rattle.iloc_farm.specs.declared.commands.Finding.{Finding}
-use Rattle.iloc_farm.specs.declared.commands.Finding.TheVariants.{Passed}
-use Rattle.iloc_farm.specs.declared.commands.Listed.{Listed}
 use Rattle.iloc_farm.specs.declared.commands.compare.ComparedCycles.{ComparedCycles}
 use Rattle.iloc_farm.proofs.Comparisons.{one_comparison}
 use Rattle.iloc_farm.proofs.Entries.{lined_listing, listing_also, one_listing, one_listing_after}
@@ -231,10 +226,9 @@ one_memory r q alike = ap (λ at. words_from at r.words.items) alike.at ∙ ap (
 module _ (r q : Request) (alike : AskAlike r q) (k : ℕ) (b : Block) where
   run_same : (e e' : List ℕ) (f f' : Unit {0}) → IsRunEntry r k b e f → IsRunEntry q k b e' f' → (e ≡ e') × (f ≡ f')
   run_same e e' f f' is is' =
-      let P : Bool → Type 0 = λ asked. IsShownOf asked b.ops (initial_memory r) (outcome b.ops (initial_memory r)) is.text in
-      let Q : List ℤ → Type 0 = λ m. IsShownOf q.fault_place b.ops m (outcome b.ops m) is.text in
+      let memory = one_memory r q alike in
       let moved : IsShownOf q.fault_place b.ops (initial_memory q) (outcome b.ops (initial_memory q)) is.text =
-      subst Q (one_memory r q alike) (subst P alike.fault_place is.shows) in
+      transport (λ i. IsShownOf (alike.fault_place i) b.ops (memory i) (outcome b.ops (memory i)) is.text) is.shows in
       let same = one_shown q.fault_place b.ops (initial_memory q) (outcome b.ops (initial_memory q)) is.text is'.text moved
       is'.shows in
       (is.listed ∙ ap (λ text. block_head k b.name ++ codes "\n" ++ text) same ∙ sym is'.listed, refl)
@@ -248,9 +242,8 @@ module _ (r q : Request) (alike : AskAlike r q) (k : ℕ) (b : Block) where
   same_schedule : (s s' : Table) → IsTheGreedy r.priority r.latencies b s → IsTheGreedy q.priority q.latencies b s'
       → s ≡ s'
   same_schedule s s' is is' =
-      let P : Latencies → Type 0 = λ lat. IsTheGreedy r.priority lat b s in
-      let Q : Heuristic → Type 0 = λ heuristic. IsTheGreedy heuristic q.latencies b s in
-      let moved : IsTheGreedy q.priority q.latencies b s = subst Q alike.priority (subst P alike.latencies is) in
+      let moved : IsTheGreedy q.priority q.latencies b s =
+      transport (λ i. IsTheGreedy (alike.priority i) (alike.latencies i) b s) is in
       is'.only s moved.greedy
 
   cycles_same : (s s' : Table) (c c' : ℕ) → s ≡ s' → c ≡ cycles_of r.latencies s → c' ≡ cycles_of q.latencies s' → c ≡ c'
@@ -278,23 +271,20 @@ module _ (r q : Request) (alike : AskAlike r q) (k : ℕ) (b : Block) where
   compare_same : r.nodes ≡ None → (e e' : List ℕ) (c c' : ComparedCycles) → IsCompareEntry r k b e c
       → IsCompareEntry q k b e' c' → (e ≡ e') × (c ≡ c')
   compare_same settled e e' c c' is is' =
-      let P : Latencies → Type 0 = λ lat. IsComparedCycles lat r.nodes b c in
-      let Q : Option ℕ → Type 0 = λ nodes. IsComparedCycles q.latencies nodes b c in
-      let R : Option ℕ → Type 0 = λ nodes. IsComparedCycles q.latencies nodes b c' in
-      let same : c ≡ c' = one_comparison q.latencies b c c' (subst Q settled (subst P alike.latencies is.compares))
-      (subst R (sym alike.nodes ∙ settled) is'.compares) in
+      let also : q.nodes ≡ None = sym alike.nodes ∙ settled in
+      let same : c ≡ c' = one_comparison q.latencies b c c'
+      (transport (λ i. IsComparedCycles (alike.latencies i) (settled i) b c) is.compares)
+      (transport (λ i. IsComparedCycles q.latencies (also i) b c') is'.compares) in
       (is.listed ∙ (ap₂ (λ csv x. compare_line csv k b.name x) alike.csv same ∙ sym is'.listed), same)
 
   explain_same : (e e' : List ℕ) (c c' : ℕ) → IsExplainEntry r k b e c → IsExplainEntry q k b e' c'
       → (e ≡ e') × (c ≡ c')
   explain_same e e' c c' is is' =
       let same = same_schedule is.schedule is'.schedule is.greedy is'.greedy in
-      let P : Latencies → Type 0 = λ lat. IsExplanation r.priority lat b.ops is.schedule.ops is.schedule.rows is.schedule.ops is.text in
-      let Q : Heuristic → Type 0 = λ heuristic. IsExplanation heuristic q.latencies b.ops is.schedule.ops is.schedule.rows is.schedule.ops is.text in
-      let R : Table → Type 0 = λ s. IsExplanation q.priority q.latencies b.ops s.ops s.rows s.ops is.text in
       let text : is.text ≡ is'.text =
       one_explanation q.priority q.latencies b.ops is'.schedule.ops is'.schedule.rows is'.schedule.ops is.text is'.text
-      (subst R same (subst Q alike.priority (subst P alike.latencies is.explains))) is'.explains in (
+      (transport (λ i. let s : Table = same i in
+      IsExplanation (alike.priority i) (alike.latencies i) b.ops s.ops s.rows s.ops is.text) is.explains) is'.explains in (
         is.listed ∙ (ap (λ t. block_head k b.name ++ codes "\n" ++ t) text ∙ sym is'.listed),
         cycles_same is.schedule is'.schedule c c' same is.counted is'.counted,
       )
@@ -314,9 +304,8 @@ module _ (r q : Request) (alike : AskAlike r q) (k : ℕ) (b : Block) where
   graph_same : (e e' : List ℕ) (f f' : Unit {0}) → IsGraphEntry r k b e f → IsGraphEntry q k b e' f'
       → (e ≡ e') × (f ≡ f')
   graph_same e e' f f' is is' =
-      let P : Latencies → Type 0 = λ lat. IsCluster lat k b.name b.ops is.cluster in
-      let same : is.cluster ≡ is'.cluster =
-      one_cluster q.latencies k b.name b.ops is.cluster is'.cluster (subst P alike.latencies is.draws) is'.draws in
+      let same : is.cluster ≡ is'.cluster = one_cluster q.latencies k b.name b.ops is.cluster is'.cluster
+      (transport (λ i. IsCluster (alike.latencies i) k b.name b.ops is.cluster) is.draws) is'.draws in
       (is.listed ∙ (ap (λ c. opening_at k ++ c) same ∙ sym is'.listed), refl)
 
 -- a comparison without a search has no nodes
@@ -364,20 +353,3 @@ simulating_lists_runs request blocks text plain is =
       shows = subst P (sym plain) (shown_plainly false b.ops (initial_memory request) came (shown came) refl refl);
       listed = entry.plain;
     }) no_ending blocks text is
-
--- what is listed as a request with this task and this file, or none, asks is what the request lists
-pub listed_as : (held : Held) (request : Request) (old new : Option (List ℕ)) (finding : Finding) (text : List ℕ) (t : Task)
-    (file : Option (String Global)) → request.task ≡ t → request.task_file ≡ file
-    → ListsAs t file held request old new finding text → ListsFrom held request old new finding text
-listed_as held request old new finding text t file is named lists =
-    let P : Task → Type 0 = λ t. ListsAs t request.task_file held request old new finding text in
-    let Q : Option (String Global) → Type 0 = λ file. ListsAs t file held request old new finding text in
-    subst P (sym is) (subst Q (sym named) lists)
-
--- so is what is listed of a file that was read, where no other file is named
-pub file_listed : (held : Held) (request : Request) (old new : Option (List ℕ)) (text : List ℕ) (listed : Listed) (t : Task)
-    → request.task ≡ t → request.task_file ≡ None → ListsAs t None held request old new Passed text
-    → listed ≡ record { text = text; finding = Passed } → ListsFrom held request old new listed.finding listed.text
-file_listed held request old new text listed t is none lists made =
-    let R : Listed → Type 0 = λ l. ListsAs t None held request old new l.finding l.text in
-    listed_as held request old new listed.finding listed.text t None is none (subst R (sym made) lists)

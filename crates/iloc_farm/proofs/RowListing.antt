@@ -1,27 +1,16 @@
--- What is proposed for blocks, listed block by block, and that this is what the request lists.
-use Rattle.std.proofs.Common.{◌≡◌, ℕ, ◌+◌, Bool, List, [], ◌∷◌, ◌++◌, length, None, Option, Some, refl, sym, ap, ◌∙◌, subst, arith, append_assoc, append-nil}
-use Rattle.std.specs.String.{string_bytes}
-use Rattle.std.specs.declared.alloc.Global.{Global}
-use Rattle.std.specs.declared.string.String.{String}
+-- What is proposed for blocks, listed block by block.
+use Rattle.std.proofs.Common.{◌≡◌, ℕ, ◌+◌, Bool, List, [], ◌∷◌, ◌++◌, length, refl, sym, ap, ◌∙◌, subst, arith, append_assoc, append-nil}
 use Rattle.std.specs.List.{All, list_all, zip}
 use Rattle.std.proofs.lemmas.List.Elements.{All-nil, All-push}
 use Rattle.std.proofs.lemmas.List.{length-append}
 use Rattle.iloc_ops.specs.declared.file.Block.{Block}
 use Rattle.iloc_rows.specs.declared.proposal.Proposed.{Proposed}
-use Rattle.iloc_args.specs.declared.request.Request.{Request}
-use Rattle.iloc_args.specs.declared.request.Task.TheVariants as task
-use Rattle.iloc_farm.specs.Apart.{Held}
-use Rattle.iloc_farm.specs.Commands.Check.{Checks}
-use Rattle.iloc_farm.specs.Commands.ExplainRows.{Explains}
-use Rattle.iloc_farm.specs.Commands.TraceRows.{Traces}
 use Rattle.iloc_farm.specs.Entries.{AreEntries}
 use Rattle.iloc_farm.specs.Fault.{finding_of}
 use Rattle.iloc_farm.specs.Rows.{ListsRows}
-use Rattle.iloc_farm.specs.Run.{Lists, ListsApart, ListsFrom, ListsSubmission}
 use Rattle.iloc_farm.specs.Steps.Listed.{Adds, AreListedTo}
 use Rattle.iloc_farm.specs.declared.commands.Finding.{Finding}
 use Rattle.iloc_farm.proofs.Entries.{entries_long, one_more}
-use Rattle.iloc_farm.proofs.Listers.{listed_as}
 
 -- two lists, the next of each and what is left
 pub both_next : {A B : Type 0} (xs xs' : List A) (ys ys' : List B) (x : A) (y : B) → xs ≡ x ∷ xs' → ys ≡ y ∷ ys'
@@ -98,32 +87,3 @@ all_listed lists fits opening ending passes blocks left proposals others text wh
       whole = ended ∙ ap (λ t. t ++ ending found) so_far.grown.added;
       judged = is;
     }
-
--- What was listed of rows is what the request lists
-
-module _ (held : Held) (request : Request) (old new : Option (List ℕ)) (finding : Finding) (text : List ℕ) where
-  pub whole_checked : request.task ≡ task.Check → request.task_file ≡ None
-      → Lists (ListsSubmission (Checks request)) old new finding text → ListsFrom held request old new finding text
-  whole_checked is none lists = listed_as held request old new finding text task.Check None is none lists
-
-  module _ (name : String Global) (lent : List ℕ) (named : request.task_file ≡ Some name) (same : lent ≡ string_bytes name)
-    where
-      of_name : (says : List Block → List Proposed → Finding → List ℕ → Type 0)
-          → ListsApart says (held lent) old new finding text → ListsApart says (held (string_bytes name)) old new finding text
-      of_name says lists =
-          let P : List ℕ → Type 0 = λ bytes. ListsApart says (held bytes) old new finding text in subst P same lists
-
-      pub apart_checked : request.task ≡ task.Check → ListsApart (Checks request) (held lent) old new finding text
-          → ListsFrom held request old new finding text
-      apart_checked is lists =
-          listed_as held request old new finding text task.Check (Some name) is named (of_name (Checks request) lists)
-
-      pub apart_explained : request.task ≡ task.Explain → ListsApart (Explains request) (held lent) old new finding text
-          → ListsFrom held request old new finding text
-      apart_explained is lists =
-          listed_as held request old new finding text task.Explain (Some name) is named (of_name (Explains request) lists)
-
-      pub apart_traced : request.task ≡ task.Trace → ListsApart (Traces request) (held lent) old new finding text
-          → ListsFrom held request old new finding text
-      apart_traced is lists =
-          listed_as held request old new finding text task.Trace (Some name) is named (of_name (Traces request) lists)

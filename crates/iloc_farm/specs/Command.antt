@@ -48,3 +48,12 @@ of_files lists = record {
 -- one that lists no file
 abbrev pub of_no_file : Command
 of_no_file = of_files (λ _ _ _. ⊥)
+
+-- one that says this of rows: for the input's blocks or, where a request names a file, for that file's
+abbrev pub of_rows : (Request → List Block → List Proposed → Finding → List ℕ → Type 0) → Command
+of_rows says = record of_no_file { input = OfRows; takes_task = true; says = says }
+
+-- one that lists files so, but where a request names a file says this of rows for that file's blocks
+abbrev pub of_files_or_rows : (Request → List Block → List ℕ → Type 0)
+    → (Request → List Block → List Proposed → Finding → List ℕ → Type 0) → Command
+of_files_or_rows lists says = record (of_files lists) { takes_task = true; says = says }

@@ -1,10 +1,11 @@
 //! The commands: what each lists of what is read, and what it finds.
 ghost use Rattle.std.specs.Prelude.{◌≡◌};
 ghost use Rattle.iloc_farm.specs.Apart.{Held};
-ghost use Rattle.iloc_farm.specs.Command.{Shared, of_files};
+ghost use Rattle.iloc_farm.specs.Command.{Shared, of_files, of_files_or_rows, of_rows};
 ghost use Rattle.iloc_farm.specs.Commands.{command_of};
 ghost use Rattle.iloc_farm.specs.Entries.{IsListingOf};
 ghost use Rattle.iloc_farm.specs.Fault.{finding_of, finding_of_text, status_of_finding};
+ghost use Rattle.iloc_farm.specs.Rows.{ListsProposed};
 ghost use Rattle.iloc_farm.specs.Steps.Coming.{ComesTo};
 
 mod check;
@@ -26,11 +27,13 @@ use crate::farmed::{FarmedLister, listed_by_workers};
 use crate::fault::RunFault;
 use crate::lister::{Lister, listed_as_read};
 use crate::listing::text::Listing;
+use crate::rows::{RowLister, listed_apart, listed_whole};
 use crate::texts::Texts;
-use check::checked;
+use check::CheckLister;
 use compare::CompareLister;
 use counts::CountLister;
-use explain::explained;
+use explain::ExplainLister;
+use explain_rows::RowsExplainer;
 use graph::GraphLister;
 use iloc_args::{Request, Task};
 use iloc_board::Receipt;
@@ -43,7 +46,8 @@ use std::alloc::Global;
 use std::io::Read;
 use std::sync::Wait;
 use std::thread::Threads;
-use trace::traced;
+use trace::TraceLister;
+use trace_rows::RowsTracer;
 
 /// What a run found out about the schedules that it judged.
 #[derive(Clone, Copy, Debug, Drop, PartialEq, Eq)]
@@ -139,6 +143,43 @@ where
     Ok((Listed::of_file(text), Some(receipt)))
 }
 
+/// What a command lists of the reader's rows: for their own blocks or, where the request names a file, for that file's.
+fn of_rows<L: RowLister, T: Texts, R: Read>(
+    alloc: Global,
+    texts: &T,
+    reader: &mut R,
+    request: &Request,
+) -> Result<(Listed, Option<Receipt>), RunFault>
+    ensures { ComesTo (of_rows (ListsProposed L.lists L.opening L.ending L.passes)) (T.held texts.now) request.now
+        (R.remaining reader.old) (R.remaining reader.new) result }
+{
+    match &request.task_file {
+        None => Ok((listed_whole::<L, R>(alloc, reader, request)?, None)),
+        Some(name) => {
+            let listed = listed_apart::<L, T, R>(alloc, texts, name.as_str(), reader, request)?;
+            Ok((listed, None))
+        }
+    }
+}
+
+/// What a command lists of the reader's file or, where the request names a file, of rows for that file's blocks.
+fn of_file_or_rows<F: Lister, L: RowLister, T: Texts, R: Read>(
+    alloc: Global,
+    texts: &T,
+    reader: &mut R,
+    request: &Request,
+) -> Result<(Listed, Option<Receipt>), RunFault>
+    ensures { ComesTo (of_files_or_rows (λ asked. IsListingOf (F.lists asked) F.ending)
+        (ListsProposed L.lists L.opening L.ending L.passes)) (T.held texts.now) request.now
+        (R.remaining reader.old) (R.remaining reader.new) result }
+{
+    if request.task_file.is_some() {
+        of_rows::<L, T, R>(alloc, texts, reader, request)
+    } else {
+        alone::<F, R>(alloc, reader, request)
+    }
+}
+
 /// What the request lists of what the reader gives and, where it names a file of blocks, of that text; and the receipt for the
 /// work of those who made its entries, if they were workers.
 pub(crate) fn list<H: Threads + Wait + Sync, T: Texts, R: Read>(
@@ -154,14 +195,18 @@ pub(crate) fn list<H: Threads + Wait + Sync, T: Texts, R: Read>(
     match request.task {
         Task::Run => alone::<RunLister, R>(alloc, reader, request),
         Task::Simulate => alone::<SimulateLister, R>(alloc, reader, request),
-        Task::Trace => Ok((traced(alloc, texts, reader, request)?, None)),
+        Task::Trace => of_file_or_rows::<TraceLister, RowsTracer, T, R>(
+            alloc, texts, reader, request,
+        ),
         Task::Schedule => shared::<ScheduleLister, H, R>(rt, alloc, reader, request),
         Task::Counts => shared::<CountLister, H, R>(rt, alloc, reader, request),
         Task::Compare => shared::<CompareLister, H, R>(rt, alloc, reader, request),
         Task::Optimize => shared::<OptimizeLister, H, R>(rt, alloc, reader, request),
-        Task::Explain => Ok((explained(alloc, texts, reader, request)?, None)),
+        Task::Explain => of_file_or_rows::<ExplainLister, RowsExplainer, T, R>(
+            alloc, texts, reader, request,
+        ),
         Task::Graph => alone::<GraphLister, R>(alloc, reader, request),
-        Task::Check => Ok((checked(alloc, texts, reader, request)?, None)),
+        Task::Check => of_rows::<CheckLister, T, R>(alloc, texts, reader, request),
         Task::Lint => Ok((linted(alloc, reader)?, None)),
     }
 }

@@ -22,7 +22,7 @@ use Rattle.iloc_farm.specs.Schedules.{IsTheGreedy}
 use Rattle.iloc_farm.specs.declared.commands.Finding.{Finding}
 use Rattle.iloc_args.specs.declared.request.Request.{Request}
 use Rattle.iloc_rows.specs.EitherSlot.{placed}
-use Rattle.iloc_farm.specs.Command.{Command, OfRows, of_no_file}
+use Rattle.iloc_farm.specs.Command.{Command, of_rows}
 use Rattle.iloc_farm.specs.Commands.Optimize.{IsSoughtIf}
 use Rattle.iloc_farm.specs.Commands.Run.{initial_memory}
 
@@ -130,4 +130,4 @@ Checks request blocks proposals finding text =
     (placed request.either_slot proposals) finding text
 
 abbrev pub check_command : Command
-check_command = record of_no_file { input = OfRows; takes_task = true; says = Checks }
+check_command = of_rows Checks

@@ -1,12 +1,12 @@
 -- `explain` lists why each block's schedule takes its cycles.
-use Rattle.std.specs.Prelude.{◌≡◌, ℕ, true, List, ◌++◌, codes}
+use Rattle.std.specs.Prelude.{◌≡◌, ℕ, List, ◌++◌, codes}
 use Rattle.iloc_ops.specs.declared.file.Block.{Block}
 use Rattle.iloc_timed.specs.Schedule.{Table}
 use Rattle.iloc_explain.specs.Listing.{IsExplanation}
 use Rattle.iloc_args.specs.declared.request.Request.{Request}
 use Rattle.iloc_farm.specs.Listing.{block_head, cycles_of, total_of_all}
 use Rattle.iloc_farm.specs.Schedules.{IsTheGreedy}
-use Rattle.iloc_farm.specs.Command.{Command, of_files}
+use Rattle.iloc_farm.specs.Command.{Command, of_files_or_rows}
 use Rattle.iloc_farm.specs.Commands.ExplainRows.{Explains}
 use Rattle.iloc_farm.specs.Entries.{IsListingOf}
 
@@ -20,7 +20,4 @@ pub record IsExplainEntry (request : Request) (k : ℕ) (b : Block) (entry : Lis
   pub counted : cycles ≡ cycles_of request.latencies schedule
 
 abbrev pub explain_command : Command
-explain_command = record (of_files (λ request. IsListingOf (IsExplainEntry request) total_of_all)) {
-  takes_task = true;
-  says = Explains;
-}
+explain_command = of_files_or_rows (λ request. IsListingOf (IsExplainEntry request) total_of_all) Explains

@@ -1,5 +1,5 @@
 -- `trace` lists what each block's schedule does on the timed machine.
-use Rattle.std.specs.Prelude.{◌≡◌, ℕ, true, List, ◌++◌, codes}
+use Rattle.std.specs.Prelude.{◌≡◌, ℕ, List, ◌++◌, codes}
 use Rattle.iloc_ops.specs.declared.file.Block.{Block}
 use Rattle.iloc_timed.specs.Schedule.{Table}
 use Rattle.iloc_trace.specs.Events.{events}
@@ -9,7 +9,7 @@ use Rattle.iloc_farm.specs.Commands.Run.{initial_memory, no_ending}
 use Rattle.iloc_farm.specs.Commands.TraceRows.{Traces}
 use Rattle.iloc_farm.specs.Listing.{block_head}
 use Rattle.iloc_farm.specs.Schedules.{IsTheGreedy}
-use Rattle.iloc_farm.specs.Command.{Command, of_files}
+use Rattle.iloc_farm.specs.Command.{Command, of_files_or_rows}
 use Rattle.iloc_farm.specs.Entries.{IsListingOf}
 
 -- the entry of block k: its number and its name, and what its greedy schedule does on the request's memory
@@ -20,7 +20,4 @@ pub record IsTraceEntry (request : Request) (k : ℕ) (b : Block) (entry : List 
       ++ trace_lines (events request.latencies (initial_memory request) schedule.ops schedule.rows)
 
 abbrev pub trace_command : Command
-trace_command = record (of_files (λ request. IsListingOf (IsTraceEntry request) no_ending)) {
-  takes_task = true;
-  says = Traces;
-}
+trace_command = of_files_or_rows (λ request. IsListingOf (IsTraceEntry request) no_ending) Traces

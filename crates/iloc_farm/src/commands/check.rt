@@ -1,23 +1,19 @@
 //! `check`: what is said of the schedules that others proposed for blocks.
-ghost use Rattle.std.specs.Prelude.{ℕ, ◌≡◌, ◌<◌, ◌≤◌, ◌^◌, ◌++◌, List, length, IfErr, IfOk, OnOk};
+ghost use Rattle.std.specs.Prelude.{ℕ, ◌≡◌, ◌<◌, ◌≤◌, ◌^◌, ◌++◌, List, length, IfOk, OnOk};
 ghost use Rattle.std.specs.List.{All};
 ghost use Rattle.std.specs.Option.{option_copied};
-ghost use Rattle.iloc_args.specs.declared.request.Task.TheVariants as task;
 ghost use Rattle.iloc_farm.specs.Commands.Check as listed;
 ghost use Rattle.iloc_farm.specs.Commands.Check.{IsSaid, form_of, options_of};
-ghost use Rattle.iloc_farm.specs.Run.{EndsReading, ListsFrom};
 ghost use Rattle.iloc_farm.specs.Steps.Checking.{IsSmall as IsSmallCheck};
 ghost use Rattle.iloc_ops.specs.Limits.{MAX_BLOCKS};
 
+use crate::commands::Finding;
 use crate::commands::optimize::sought_if;
 use crate::commands::totals::Totals;
-use crate::commands::{Finding, Listed};
-use crate::fault::RunFault;
 use crate::lister::initial_memory;
 use crate::listing::json::push_json_head;
 use crate::listing::table::push_head;
-use crate::rows::{RowLister, listed_apart, listed_whole};
-use crate::texts::Texts;
+use crate::rows::RowLister;
 use iloc_args::Request;
 use iloc_judge::{CheckOptions, Checked, Form, Judging, Task, push_check, push_unread};
 use iloc_meaning::Memory;
@@ -27,7 +23,6 @@ use iloc_sched::{Graph, Heuristic, Scheduler};
 use iloc_text::{Block, Name, NoMemory};
 use iloc_timed::MAX_ROWS;
 use std::alloc::Global;
-use std::io::Read;
 
 /// What a table begins with.
 const HEADER: &[u8] = b"block,name,verdict,cycles,ours,least,claimed\n";
@@ -223,27 +218,5 @@ impl RowLister for CheckLister {
     fn finding(request: &Request, found: &[Checked]) -> Finding {
         let lawful = request.lawful;
         Finding::of(found.iter().all(|checked| checked.passes(lawful)))
-    }
-}
-
-/// What is said of the rows that are proposed for blocks: for those of the input or, where the request names a file, for
-/// those of that file alone.
-pub(crate) fn checked<T: Texts, R: Read>(
-    alloc: Global,
-    texts: &T,
-    reader: &mut R,
-    request: &Request,
-) -> Result<Listed, RunFault>
-    requires { request.now.task ≡ task.Check }
-    ensures ok { IfOk result (λ listed. ListsFrom (T.held texts.now) request.now
-        (R.remaining reader.old) (R.remaining reader.new) listed.finding listed.text) }
-    ensures err { IfErr result (EndsReading (T.held texts.now) request.now
-        (R.remaining reader.old) (R.remaining reader.new)) }
-{
-    match &request.task_file {
-        None => listed_whole::<CheckLister, R>(alloc, reader, request),
-        Some(name) => {
-            listed_apart::<CheckLister, T, R>(alloc, texts, name.as_str(), reader, request)
-        },
     }
 }

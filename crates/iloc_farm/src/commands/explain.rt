@@ -1,21 +1,11 @@
 //! `explain`: why blocks' schedules take their cycles.
-ghost use Rattle.std.specs.Prelude.{◌≡◌, IfErr, IfOk};
-ghost use Rattle.iloc_args.specs.declared.request.Task.TheVariants as task;
-ghost use Rattle.iloc_farm.specs.Run.{EndsReading, ListsFrom};
-
-use crate::commands::Listed;
-use crate::commands::explain_rows::RowsExplainer;
-use crate::fault::RunFault;
-use crate::lister::{Lister, listed_as_read};
+use crate::lister::Lister;
 use crate::listing::{count_of, push_block_head, push_total_of};
-use crate::rows::listed_apart;
-use crate::texts::Texts;
 use iloc_args::Request;
 use iloc_explain::push_explanation;
 use iloc_sched::{Graph, Scheduler};
 use iloc_text::{Block, NoMemory};
 use std::alloc::Global;
-use std::io::Read;
 
 /// Schedules each block, and lists why its schedule takes its cycles.
 #[derive(Drop)]
@@ -66,30 +56,5 @@ impl Lister for ExplainLister {
 
     fn push_ending(text: &mut Vec<u8>, found: &[u32]) -> Result<(), NoMemory> {
         push_total_of(text, found)
-    }
-}
-
-/// Why the blocks of an input take their cycles: by our schedules or, where the request names a file, by the rows that the
-/// input proposes for that file's blocks.
-pub(crate) fn explained<T: Texts, R: Read>(
-    alloc: Global,
-    texts: &T,
-    reader: &mut R,
-    request: &Request,
-) -> Result<Listed, RunFault>
-    requires { request.now.task ≡ task.Explain }
-    ensures ok { IfOk result (λ listed. ListsFrom (T.held texts.now) request.now
-        (R.remaining reader.old) (R.remaining reader.new) listed.finding listed.text) }
-    ensures err { IfErr result (EndsReading (T.held texts.now) request.now
-        (R.remaining reader.old) (R.remaining reader.new)) }
-{
-    match &request.task_file {
-        None => {
-            let text = listed_as_read::<ExplainLister, R>(alloc, reader, request)?;
-            Ok(Listed::of_file(text))
-        }
-        Some(name) => {
-            listed_apart::<RowsExplainer, T, R>(alloc, texts, name.as_str(), reader, request)
-        }
     }
 }

@@ -29,3 +29,13 @@ returns-in-Optimize g c =
 pub returns-in-Graph : goal.returns-in-Graph
 returns-in-Graph g c =
     as_asked task.Graph _ c.args.request.now _ _ _ c.in-Graph.is (c.alone-in-Graph.ensures (g.T.Texts.held c.args.texts.now))
+
+pub returns-in-Trace : goal.returns-in-Trace
+returns-in-Trace g c = as_asked task.Trace _ c.args.request.now _ _ _ c.in-Trace.is c.of_file_or_rows.ensures
+
+pub returns-in-Explain : goal.returns-in-Explain
+returns-in-Explain g c =
+    as_asked task.Explain _ c.args.request.now _ _ _ c.in-Explain.is c.of_file_or_rows-in-Explain.ensures
+
+pub returns-in-Check : goal.returns-in-Check
+returns-in-Check g c = as_asked task.Check _ c.args.request.now _ _ _ c.in-Check.is c.of_rows.ensures
