@@ -14,7 +14,7 @@ use Rattle.iloc_meaning.specs.Arithmetic.{wrapped, constant}
 use Rattle.iloc_meaning.specs.Effect.{at_address, effect}
 use Rattle.iloc_meaning.specs.Outcome.{has_fault, is_fault, outcome}
 use Rattle.iloc_meaning.specs.Registers.{value_of}
-use Rattle.iloc_meaning.specs.Steps.MachineState.{Follows}
+use Rattle.iloc_meaning.specs.MachineState.{Follows}
 use Rattle.iloc_meaning.specs.Trace.{before, op_at, register_after, then_executed, word_after}
 use Rattle.iloc_meaning.proofs.Cases.{by_bool}
 use Rattle.iloc_meaning.proofs.Runs.{fault_stays, next}

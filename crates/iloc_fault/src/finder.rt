@@ -1,38 +1,14 @@
 //! Finding where a block faults.
-ghost use Rattle.std.specs.Prelude.{◌≡◌, ◌≢◌, List, ℤ, IfOk, MatchOption};
+ghost use Rattle.std.specs.Prelude.{◌≡◌, ◌≢◌, IfOk, MatchOption};
 ghost use Rattle.iloc_meaning.specs.Outcome.{outcome};
 ghost use Rattle.iloc_meaning.specs.declared.outcome.Outcome.TheVariants.{Fault};
-ghost use Rattle.iloc_meaning.specs.Steps.MachineState.{Follows, After};
-ghost use Rattle.iloc_meaning.specs.Trace.{Executed, then_executed};
 ghost use Rattle.iloc_fault.specs.Place.{IsFaultPlace};
 
 use crate::place::{FaultPlace, reached};
-use iloc_meaning::{Effect, MachineState, Memory};
-use iloc_ops::{Block, NoMemory, Op, defines};
+use iloc_meaning::{MachineState, Memory};
+use iloc_ops::{Block, NoMemory, Op};
 use std::alloc::Global;
 use std::marker::Model;
-
-/// Takes one operation. Answers whether the run goes on: it ends at a fault.
-fn step(state: &mut MachineState, op: &Op) -> Result<bool, NoMemory>
-    ensures first { state.new.memory.first ≡ state.old.memory.first }
-    ensures after { IfOk result (λ goes_on. (memory : List ℤ) (trace : List Executed) →
-        Follows memory trace state.old →
-        After goes_on memory (then_executed memory op.now trace) state.new) }
-{
-    match Effect::of(op, &state.registers, state.memory.memory()) {
-        Effect::Faults => return Ok(false),
-        Effect::Gives(result) => {
-            let Some(register) = defines(op) else {
-                unreachable!()
-            };
-            state.registers.set(register, result)?;
-        }
-        Effect::Writes { address, word } => state.memory.set(address, word)?,
-        Effect::Emits(word) => state.outputs.push(word)?,
-        Effect::Nothing => {}
-    }
-    Ok(true)
-}
 
 /// The place of the first operation that faults where these run from the start, on the memory that was first passed in, if one
 /// does.
@@ -44,7 +20,7 @@ fn first_fault(state: &mut MachineState, ops: &[Op]) -> Result<Option<FaultPlace
     state.restart();
     for (operation, op) in ops.iter().enumerate() {
         let address = reached(op, &state.registers).unwrap_or(0);
-        if !step(state, op)? {
+        if !state.step(op)? {
             return Ok(Some(FaultPlace { operation, address }));
         }
     }

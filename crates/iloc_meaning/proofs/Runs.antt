@@ -12,7 +12,7 @@ use Rattle.iloc_meaning.specs.declared.outcome.Outcome.TheVariants.{Fault}
 use Rattle.iloc_meaning.specs.Trace.{then_executed, before}
 use Rattle.iloc_meaning.specs.Outcome.{has_fault, outcome}
 use Rattle.iloc_meaning.specs.Registers.{value_of}
-use Rattle.iloc_meaning.specs.Steps.MachineState.{Follows}
+use Rattle.iloc_meaning.specs.MachineState.{Follows}
 
 pub with_words_same : (memory : List ℤ) → memory ≡ with_words memory (word_at memory)
 with_words_same memory =

@@ -12,7 +12,7 @@ use Rattle.iloc_meaning.specs.Trace.{Executed, register_after, word_after, then_
 use Rattle.iloc_meaning.specs.Outcome.{has_fault, emitted}
 use Rattle.iloc_meaning.specs.Scratch.{ScratchView}
 use Rattle.iloc_meaning.specs.Registers.{Values, value_of, ChangesOnly}
-use Rattle.iloc_meaning.specs.Steps.MachineState.{Follows}
+use Rattle.iloc_meaning.specs.MachineState.{Follows}
 use Rattle.iloc_meaning.proofs.Cases.{by_bool}
 use Rattle.iloc_meaning.proofs.MemoryWords.{word_at-with_words, set-with_words}
 use Rattle.iloc_meaning.proofs.Effects.{effect_same, has_no_result, defined-no_result, writes_well, writes_well-effect}

@@ -28,8 +28,7 @@ pub struct MachineState {
 impl MachineState {
     ghost use Rattle.iloc_ops.specs.declared.op.Reg.{Reg};
     ghost use Rattle.iloc_meaning.specs.Registers.{value_of};
-    ghost use Rattle.iloc_meaning.specs.MachineState.{leaves};
-    ghost use Rattle.iloc_meaning.specs.Steps.MachineState.{Follows, After};
+    ghost use Rattle.iloc_meaning.specs.MachineState.{After, Follows, leaves};
     ghost use Rattle.iloc_meaning.specs.Trace.{Executed, then_executed};
 
     /// Promise: a run without operations, at its end: all registers 0, this memory, no output.
@@ -61,8 +60,10 @@ impl MachineState {
     }
 
     /// Takes one operation. Answers whether the run goes on: it ends at a fault.
+    ///
+    /// Promise: a state that follows a trace follows it with this operation too, or the operation faults.
     #[inline(always)]
-    fn step(&mut self, op: &Op) -> Result<bool, NoMemory>
+    pub fn step(&mut self, op: &Op) -> Result<bool, NoMemory>
         ensures first { self.new.memory.first ≡ self.old.memory.first }
         ensures after { IfOk result (λ goes_on. (memory : List ℤ) (trace : List Executed) →
             Follows memory trace self.old →

@@ -1,4 +1,4 @@
-use Rattle.iloc_meaning.specs.Steps.MachineState.{Follows}
+use Rattle.iloc_meaning.specs.MachineState.{Follows}
 use Rattle.iloc_meaning.specs.Trace.{before}
 use Rattle.iloc_fault.proofs.finder.first_fault.Given as goal
 
