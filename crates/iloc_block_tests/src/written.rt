@@ -2,7 +2,8 @@
 //! reference that a function makes.
 ghost use Rattle.std.specs.Prelude.{◌≤◌, length, IfOk};
 
-use iloc_text::{Block, MAX_OPS, Op, read_file};
+use iloc_ops::{Block, MAX_OPS, Op};
+use iloc_text::read_file;
 use iloc_timed::{BuildFault, Latencies, MAX_ROWS, Row, Schedule};
 use std::alloc::{AllocError, Global};
 use std::test::Fail;

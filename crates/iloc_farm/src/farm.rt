@@ -7,8 +7,8 @@ ghost use Rattle.iloc_farm.specs.Schedules.{AreGreedyAs, AreTheOnlyGreedyAs, Kee
 use crate::fault::FarmFault;
 use crate::workers::farm_out;
 use iloc_board::{Done, Gate, Jobs, NoDesk, NoMemory};
+use iloc_ops::{Block, IlocFile};
 use iloc_sched::{Heuristic, schedule_as};
-use iloc_text::{Block, IlocFile};
 use iloc_timed::{Latencies, MAX_ROWS, Schedule, cycles};
 use std::alloc::Global;
 use std::marker::Model;

@@ -14,7 +14,7 @@ use crate::reading::read_blocks;
 use crate::workers::farm_out;
 use iloc_args::Request;
 use iloc_board::{AtDesk, FreeGate, Jobs, NoMemory, Receipt};
-use iloc_text::{Block, Blocks, NoMemory as NoText};
+use iloc_ops::{Block, Blocks, NoMemory as NoText};
 use std::alloc::Global;
 use std::io::Read;
 use std::marker::{Model, PhantomData};

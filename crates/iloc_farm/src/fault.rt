@@ -3,8 +3,9 @@ ghost use Rattle.std.specs.Prelude.{◌≡◌};
 ghost use Rattle.iloc_farm.specs.Fault.{run_status_of};
 
 use crate::listing::writing::WriteFailed;
+use iloc_ops::NoMemory;
 use iloc_rows::RowsFault;
-use iloc_text::{InputFault, NoMemory, ReadFault, StreamFault};
+use iloc_text::{InputFault, ReadFault, StreamFault};
 use std::alloc::{AllocError, AllocFailed};
 use std::error::Error;
 use std::fmt::{self, Display, Formatter};

@@ -12,8 +12,9 @@ use crate::fault::RunFault;
 use crate::listing::text::Listing;
 use iloc_args::Request;
 use iloc_meaning::Memory;
+use iloc_ops::{Block, NoMemory};
 use iloc_text::laws::files_are_within_limits;
-use iloc_text::{Block, NoMemory, TakeBlocks, read_blocks_from};
+use iloc_text::{TakeBlocks, read_blocks_from};
 use std::alloc::Global;
 use std::io::Read;
 

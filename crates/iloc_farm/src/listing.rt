@@ -16,7 +16,7 @@ pub(crate) mod writing;
 
 use crate::listing::table::push_count;
 use iloc_meaning::Outcome;
-use iloc_text::{IlocFile, Name, NoMemory, Op, push_number, write_text};
+use iloc_ops::{IlocFile, Name, NoMemory, Op, push_number, write_text};
 use iloc_timed::{Latencies, MAX_ROWS, Row, Schedule, cycles, push_row_line};
 use itoa::write_digits;
 use std::alloc::Global;

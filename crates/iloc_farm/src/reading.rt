@@ -9,7 +9,8 @@ pub(crate) mod task;
 
 use crate::fault::RunFault;
 use iloc_args::Request;
-use iloc_text::{Blocks, read_file_from};
+use iloc_ops::Blocks;
+use iloc_text::read_file_from;
 use parts::read_by_threads;
 use std::alloc::Global;
 use std::io::Read;

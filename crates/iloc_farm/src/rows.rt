@@ -22,9 +22,10 @@ use crate::listing::text::Listing;
 use crate::reading::task::submission_apart;
 use crate::texts::Texts;
 use iloc_args::Request;
+use iloc_ops::{Block, NoMemory};
 use iloc_rows::laws::{placed_rows_are_within_limits, submissions_are_within_limits};
 use iloc_rows::{Proposal, RowsFault, Submission, read_submission};
-use iloc_text::{Block, NoMemory, read_text_from};
+use iloc_text::read_text_from;
 use std::alloc::Global;
 use std::io::Read;
 

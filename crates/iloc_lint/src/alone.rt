@@ -4,7 +4,8 @@ ghost use Rattle.iloc_ops.specs.Limits.{MAX_INPUT};
 ghost use Rattle.iloc_text.specs.Files.{HasNoLineEnd};
 ghost use Rattle.iloc_lint.specs.Steps.Alone.{Says, unread_of};
 
-use iloc_text::{Block, NoMemory, Op, ReadFault, TakeBlocks, read_blocks};
+use iloc_ops::{Block, NoMemory, Op};
+use iloc_text::{ReadFault, TakeBlocks, read_blocks};
 use std::alloc::Global;
 
 /// What a line says.

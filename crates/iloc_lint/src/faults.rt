@@ -6,7 +6,8 @@ ghost use Rattle.iloc_lint.specs.Refused.{AreKept};
 
 use crate::counts::Counts;
 use crate::refused::Refusals;
-use iloc_text::{MAX_INPUT, NoMemory, ReadFault, split_line};
+use iloc_ops::{MAX_INPUT, NoMemory};
+use iloc_text::{ReadFault, split_line};
 use std::alloc::Global;
 
 /// What is wrong with a text, and how much the rest of it holds.

@@ -3,7 +3,7 @@ ghost use Rattle.std.specs.Prelude.{◌≡◌, ◌++◌, List, ℕ, OnOk, flat_m
 ghost use Rattle.iloc_lint.specs.Listing.{hint_line};
 
 use crate::shown::push_shown;
-use iloc_text::NoMemory;
+use iloc_ops::NoMemory;
 use std::alloc::Global;
 
 /// What is worth a look, with the numbers of a line and a register.

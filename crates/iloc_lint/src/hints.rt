@@ -5,8 +5,8 @@ ghost use Rattle.iloc_text.specs.Files.{HasNoLineEnd};
 
 use crate::alone::{Content, Unknown, read_alone};
 use crate::hint::Hint;
-use iloc_ops::{NoMemory, Op, defines, uses};
-use iloc_text::{MAX_INPUT, split_line};
+use iloc_ops::{MAX_INPUT, NoMemory, Op, defines, uses};
+use iloc_text::split_line;
 use std::alloc::Global;
 use std::collections::BTreeMap;
 use std::mem;

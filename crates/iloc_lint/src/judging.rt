@@ -6,7 +6,8 @@ ghost use Rattle.iloc_lint.specs.Steps.Counted.{Adds, Count, Judged, grown};
 
 use crate::alone::{Content, Unknown, read_alone};
 use crate::counts::Counts;
-use iloc_text::{MAX_BLOCKS, MAX_OPS, NoMemory, Op, ReadFault};
+use iloc_ops::{MAX_BLOCKS, MAX_OPS, NoMemory, Op};
+use iloc_text::ReadFault;
 use std::alloc::Global;
 
 /// How many operations these are.

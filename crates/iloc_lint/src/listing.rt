@@ -10,7 +10,8 @@ use crate::place::place_of;
 use crate::refused::{MOST_LISTED, Refused};
 use crate::shown::push_shown;
 use crate::wording::{ABOVE_LIMIT, wording};
-use iloc_text::{NoMemory, ReadFault, push_column, push_number};
+use iloc_ops::{NoMemory, push_column, push_number};
+use iloc_text::ReadFault;
 use std::alloc::Global;
 
 /// So many bytes of a line are shown.

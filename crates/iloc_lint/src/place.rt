@@ -4,8 +4,8 @@ ghost use Rattle.std.specs.Char.{is_ascii_digit};
 ghost use Rattle.iloc_lint.specs.Place.{IsPlace};
 ghost use Rattle.iloc_lint.specs.Steps.Longest.{Called, Longest, NumberAt, PartAt, RegisterAt, Rest, SignAt, alternate, blanks_in, comment_in, common_in, digits_in, label_in, parts, word_in};
 
-use iloc_ops::{OPCODES, Opcode, Operands, form_of, op_of};
-use iloc_text::{MAX_NUMBER, is_blank, is_word_byte};
+use iloc_ops::{MAX_NUMBER, OPCODES, Opcode, Operands, form_of, op_of};
+use iloc_text::{is_blank, is_word_byte};
 
 /// A part of an operation after its opcode.
 #[derive(Clone, Copy, Drop, PartialEq, Eq)]

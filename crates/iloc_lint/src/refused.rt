@@ -4,7 +4,8 @@ ghost use Rattle.iloc_lint.specs.Faults.{Refusal};
 ghost use Rattle.iloc_lint.specs.Refused.{AreKept};
 ghost use Rattle.iloc_lint.specs.Steps.Noted.{refusals};
 
-use iloc_text::{NoMemory, ReadFault};
+use iloc_ops::NoMemory;
+use iloc_text::ReadFault;
 use std::alloc::Global;
 
 /// So many are listed.

@@ -5,8 +5,7 @@ ghost use Rattle.iloc_lint.specs.Row.{IsLeft, IsNext, IsRowWording};
 use crate::place::{Part, blanks_at, part_at, parts_of, word_at};
 use crate::shown::push_shown;
 use crate::wording::opcode_of;
-use iloc_ops::Opcode;
-use iloc_text::NoMemory;
+use iloc_ops::{NoMemory, Opcode};
 use std::alloc::Global;
 
 /// The longest part of a word that is shown.

@@ -2,7 +2,7 @@
 ghost use Rattle.std.specs.Prelude.{◌≡◌, ◌++◌, OnOk};
 ghost use Rattle.iloc_lint.specs.Listing.{shown, shown_byte};
 
-use iloc_text::NoMemory;
+use iloc_ops::NoMemory;
 
 /// A byte as it is shown.
 fn shown_byte(byte: u8) -> u8

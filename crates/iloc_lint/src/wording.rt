@@ -3,8 +3,8 @@ ghost use Rattle.std.specs.Prelude.{◌≤◌, ◌<◌, length};
 
 use crate::place::{Part, Place, blanks_at, label_at, operands_at, place_of, word_at};
 use crate::shown::push_shown;
-use iloc_ops::{OPCODES, Opcode};
-use iloc_text::{NoMemory, is_word_byte};
+use iloc_ops::{NoMemory, OPCODES, Opcode};
+use iloc_text::is_word_byte;
 use std::alloc::Global;
 
 /// Opcodes of the book and of other machines that this language doesn't have.

@@ -3,7 +3,8 @@ ghost use Rattle.std.specs.Prelude.{◌≡◌, ◌≤◌, MatchBool, length};
 ghost use Rattle.iloc_text.specs.ScheduleLines.{IsScheduleLine, said_of};
 ghost use Rattle.iloc_rows.specs.Steps.Ends.{is_nothing, IsCutOf};
 
-use iloc_text::{MAX_INPUT, ParseFault, ScheduleLine, read_schedule_line, split_line};
+use iloc_ops::MAX_INPUT;
+use iloc_text::{ParseFault, ScheduleLine, read_schedule_line, split_line};
 
 /// A text, cut before its first schedule line.
 #[derive(Clone, Copy)]

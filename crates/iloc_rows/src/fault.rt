@@ -1,7 +1,8 @@
 //! Why a text with rows is refused.
 ghost use Rattle.std.specs.Prelude.{◌≡◌};
 
-use iloc_text::{NoMemory, ReadFault};
+use iloc_ops::NoMemory;
+use iloc_text::ReadFault;
 use std::alloc::AllocFailed;
 use std::error::Error;
 use std::fmt::{self, Display, Formatter};

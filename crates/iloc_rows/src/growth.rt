@@ -13,7 +13,8 @@ use crate::fault::RowsFault;
 use crate::proposal::{LineText, Proposed, RowOps, Rows, Unread};
 use crate::proposing::Proposing;
 use crate::told::ToldLine;
-use iloc_text::{Block, MAX_OPS, Name, NoMemory, Op, ReadFault, ScheduleLine};
+use iloc_ops::{Block, MAX_OPS, Name, NoMemory, Op};
+use iloc_text::{ReadFault, ScheduleLine};
 use iloc_timed::{MAX_ROWS, Row};
 use std::alloc::Global;
 

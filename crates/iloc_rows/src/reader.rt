@@ -10,7 +10,8 @@ use crate::fault::RowsFault;
 use crate::proposal::Proposals;
 use crate::proposing::Proposing;
 use crate::told::read_told_line;
-use iloc_text::{Block, Blocks, MAX_INPUT, ReadFault, read_file, split_line};
+use iloc_ops::{Block, Blocks, MAX_INPUT};
+use iloc_text::{ReadFault, read_file, split_line};
 use std::alloc::Global;
 
 /// Blocks, and what is proposed for each.

@@ -1,8 +1,6 @@
 //! Laws of the language, as contracts of functions that do nothing.
 ghost use Rattle.iloc_text.specs.Laws.{LinesHaveOneReading, ScheduleLinesSayOneThing, SpellingsReadBack, TextsHaveAnAnswer, TextsHaveOneAnswer, FilesAreWithinLimits};
 
-pub use iloc_ops::laws::{limits_are_these, renaming_maps_uses, renaming_replaces_the_definition};
-
 /// Promise: a line has at most one reading.
 pub fn lines_have_one_reading()
     ensures { LinesHaveOneReading }

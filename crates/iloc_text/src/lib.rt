@@ -14,8 +14,7 @@ mod text_parts;
 
 pub use fault::{InputFault, ReadFault, StreamFault};
 pub use iloc_ops::{
-    Block, Blocks, IlocFile, LONGEST_OPERATION, MAX_BLOCKS, MAX_INPUT, MAX_NUMBER, MAX_OPS, Name,
-    NoMemory, Op, Ops, Reg, defines, push_column, push_number, push_op, uses, write_op, write_text,
+    Block, Blocks, IlocFile, Name, NoMemory, Op, Ops, Reg, defines, push_number, push_op, uses,
 };
 pub use line::ParseFault;
 pub use line::scan::{is_blank, is_word_byte};

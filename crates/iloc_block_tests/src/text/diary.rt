@@ -1,5 +1,6 @@
 //! A taker that writes down what it is handed.
-use iloc_text::{Block, NoMemory, TakeBlocks, push_number, push_op};
+use iloc_ops::{Block, NoMemory, push_number, push_op};
+use iloc_text::TakeBlocks;
 use std::alloc::Global;
 
 /// Writes down what it is handed, a line for each block: its number, its name and its operations.

@@ -1,5 +1,6 @@
 use crate::asserted::assert_list;
-use iloc_text::{Block, Blocks, Name, Op, Ops, read_file};
+use iloc_ops::{Block, Blocks, Name, Op, Ops};
+use iloc_text::read_file;
 use std::test::Fail;
 
 #[test]

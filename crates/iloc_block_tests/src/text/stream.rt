@@ -1,7 +1,8 @@
 use crate::asserted::assert_list;
 use crate::text::diary::Diary;
+use iloc_ops::MAX_INPUT;
 use iloc_text::{
-    InputFault, MAX_INPUT, ReadFault, StreamFault, read_blocks_from, read_file_from, read_text_from,
+    InputFault, ReadFault, StreamFault, read_blocks_from, read_file_from, read_text_from,
 };
 use std::io::{Error, ErrorKind, Read, Result as IoResult};
 use std::test::Fail;

@@ -3,9 +3,8 @@ ghost use Rattle.std.specs.Prelude.{◌≡◌, []};
 use super::diary::Diary;
 use super::stream::giving;
 use crate::asserted::assert_list;
-use iloc_text::{
-    MAX_BLOCKS, NoMemory, ReadFault, ReadParts, StreamFault, TextPart, read_file_in_parts,
-};
+use iloc_ops::{MAX_BLOCKS, NoMemory};
+use iloc_text::{ReadFault, ReadParts, StreamFault, TextPart, read_file_in_parts};
 use std::alloc::Global;
 use std::collections::VecDeque;
 use std::test::Fail;

@@ -17,10 +17,10 @@ use crate::rows::RowLister;
 use iloc_args::Request;
 use iloc_judge::{CheckOptions, Checked, Form, Judging, Task, push_check, push_unread};
 use iloc_meaning::Memory;
+use iloc_ops::{Block, Name, NoMemory};
 use iloc_optimum::Optimizer;
 use iloc_rows::Proposal;
 use iloc_sched::{Graph, Heuristic, Scheduler};
-use iloc_text::{Block, Name, NoMemory};
 use iloc_timed::MAX_ROWS;
 use std::alloc::Global;
 

@@ -15,9 +15,9 @@ use crate::listing::table::{push_field, push_head, push_opening};
 use crate::listing::text::Listing;
 use crate::listing::{count_of, push_numbered};
 use iloc_args::{HEURISTICS, Request, priority_name};
+use iloc_ops::{Block, Blocks, Name, NoMemory};
 use iloc_optimum::{Optimizer, Sought};
 use iloc_sched::{Graph, Heuristic, Scheduler};
-use iloc_text::{Block, Blocks, Name, NoMemory};
 use std::alloc::Global;
 
 /// What a table begins with.

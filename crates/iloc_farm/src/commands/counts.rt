@@ -8,8 +8,8 @@ use crate::listing::table::{push_count, push_opening};
 use crate::listing::text::Listing;
 use crate::listing::{count_of, push_total_of};
 use iloc_args::Request;
+use iloc_ops::{Block, Blocks, NoMemory};
 use iloc_sched::{Graph, Scheduler};
-use iloc_text::{Block, Blocks, NoMemory};
 use std::alloc::Global;
 
 /// What a table begins with.

@@ -3,8 +3,8 @@ use crate::lister::Lister;
 use crate::listing::{count_of, push_block_head, push_total_of};
 use iloc_args::Request;
 use iloc_explain::push_explanation;
+use iloc_ops::{Block, NoMemory};
 use iloc_sched::{Graph, Scheduler};
-use iloc_text::{Block, NoMemory};
 use std::alloc::Global;
 
 /// Schedules each block, and lists why its schedule takes its cycles.

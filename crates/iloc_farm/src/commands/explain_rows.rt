@@ -10,9 +10,9 @@ use crate::listing::{push_block_head, push_total};
 use crate::rows::RowLister;
 use iloc_args::Request;
 use iloc_judge::{ExplainedRows, Task, push_rows_explanation};
+use iloc_ops::{Block, NoMemory};
 use iloc_rows::Proposal;
 use iloc_sched::{Graph, Scheduler};
-use iloc_text::{Block, NoMemory};
 use iloc_timed::MAX_ROWS;
 use std::alloc::Global;
 

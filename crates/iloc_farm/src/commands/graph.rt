@@ -5,8 +5,8 @@ ghost use Rattle.iloc_farm.specs.Commands.Graph.{opening_at};
 use crate::lister::Lister;
 use iloc_args::Request;
 use iloc_graph::{push_closing, push_cluster, push_opening};
+use iloc_ops::{Block, NoMemory};
 use iloc_sched::Graph;
-use iloc_text::{Block, NoMemory};
 use std::alloc::Global;
 
 /// Draws each block.

@@ -8,9 +8,9 @@ use crate::farmed::FarmedLister;
 use crate::listing::scheduled::{EntryMaker, with_total};
 use crate::listing::text::{Listing, ScheduleEntry};
 use iloc_args::Request;
+use iloc_ops::{Block, Blocks, NoMemory};
 use iloc_optimum::{Optimizer, Sought};
 use iloc_sched::Graph;
-use iloc_text::{Block, Blocks, NoMemory};
 use std::alloc::Global;
 
 /// What a search with so many nodes finds of a block's cycles, if there is to be one.

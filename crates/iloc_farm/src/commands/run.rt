@@ -15,8 +15,7 @@ use crate::listing::{push_block_head, push_outcome};
 use iloc_args::Request;
 use iloc_fault::{FaultFinder, FaultPlace};
 use iloc_meaning::Interpreter;
-use iloc_ops::{Op, push_number, push_op};
-use iloc_text::{Block, NoMemory};
+use iloc_ops::{Block, NoMemory, Op, push_number, push_op};
 use std::alloc::Global;
 
 /// Where a block faults that does so on the request's memory.

@@ -6,8 +6,8 @@ use crate::farmed::FarmedLister;
 use crate::listing::scheduled::{EntryMaker, with_total};
 use crate::listing::text::{Listing, ScheduleEntry};
 use iloc_args::Request;
+use iloc_ops::{Block, Blocks, NoMemory};
 use iloc_sched::{Graph, Scheduler};
-use iloc_text::{Block, Blocks, NoMemory};
 use std::alloc::Global;
 
 /// Schedules each block, and lists its schedule.

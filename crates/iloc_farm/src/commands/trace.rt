@@ -2,8 +2,8 @@
 use crate::lister::{Lister, initial_memory};
 use crate::listing::push_block_head;
 use iloc_args::Request;
+use iloc_ops::{Block, NoMemory};
 use iloc_sched::{Graph, Scheduler};
-use iloc_text::{Block, NoMemory};
 use iloc_trace::Tracer;
 use std::alloc::Global;
 

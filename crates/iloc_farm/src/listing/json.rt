@@ -5,7 +5,7 @@ ghost use Rattle.iloc_farm.specs.Commands.Check as listed;
 
 use crate::listing::push_numbered;
 use iloc_judge::push_quoted;
-use iloc_text::{Name, NoMemory};
+use iloc_ops::{Name, NoMemory};
 
 /// Appends the name of a block as a member of JSON.
 fn push_json_name(text: &mut Vec<u8>, name: &Name) -> Result<(), NoMemory>

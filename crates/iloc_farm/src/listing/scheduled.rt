@@ -8,7 +8,7 @@ ghost use Rattle.iloc_farm.specs.Listing as listed;
 use crate::listing::text::{FoldedText, Listing, ScheduleEntry};
 use crate::listing::{count_of, push_numbered, push_schedule, push_total};
 use bytes::BytesMut;
-use iloc_text::{Block, NoMemory};
+use iloc_ops::{Block, NoMemory};
 use iloc_timed::{Latencies, Schedule};
 use std::alloc::Global;
 

@@ -5,8 +5,7 @@ ghost use Rattle.iloc_farm.specs.Commands.Counts.{count_line};
 ghost use Rattle.iloc_farm.specs.Listing as listed;
 
 use crate::listing::{push_block_head, push_numbered};
-use iloc_ops::{NoMemory, push_column};
-use iloc_text::Name;
+use iloc_ops::{Name, NoMemory, push_column};
 
 /// Appends the header of a table, if one is asked for.
 pub(crate) fn push_opening(text: &mut Vec<u8>, csv: bool, header: &[u8]) -> Result<(), NoMemory>

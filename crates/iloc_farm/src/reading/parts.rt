@@ -4,7 +4,8 @@ ghost use Rattle.iloc_text.specs.Files.{AreWithinLimits, Denotes};
 ghost use Rattle.iloc_text.specs.Parts.{IsReadApart};
 ghost use Rattle.iloc_text.specs.Streams.{EndsStream, ReadsText};
 
-use iloc_text::{IlocFile, NoMemory, ReadParts, StreamFault, TextPart, read_file_in_parts};
+use iloc_ops::{IlocFile, NoMemory};
+use iloc_text::{ReadParts, StreamFault, TextPart, read_file_in_parts};
 use std::alloc::Global;
 use std::collections::VecDeque;
 use std::io::Read;

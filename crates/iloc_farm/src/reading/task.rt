@@ -6,9 +6,10 @@ ghost use Rattle.iloc_farm.specs.Causes.{IsCaused, of_rows_apart, of_task};
 
 use crate::fault::{FarmFault, RunFault, TaskFault};
 use crate::texts::Texts;
+use iloc_ops::Blocks;
 use iloc_rows::laws::submissions_apart_are_within_limits;
 use iloc_rows::{RowsFault, Submission, read_rows, read_task};
-use iloc_text::{Blocks, InputFault, ReadFault, read_text_from};
+use iloc_text::{InputFault, ReadFault, read_text_from};
 use std::alloc::Global;
 use std::io::{ErrorKind, Read};
 

@@ -4,7 +4,7 @@ ghost use Rattle.iloc_timed.specs.Rows.{keeps_units, kind_in};
 ghost use Rattle.iloc_rows.specs.EitherSlot.{AllKeepUnits, IsFirstThatBreaks, in_either_slot, placed, with_either_slot};
 
 use super::{Proposal, Proposals, Proposed, Rows};
-use iloc_text::Op;
+use iloc_ops::Op;
 use iloc_timed::{Kind, Row};
 
 /// The kind of the operation in a slot.
